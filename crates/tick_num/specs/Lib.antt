@@ -1,0 +1,4 @@
+pub mod Items
+pub mod Parameters
+pub mod Signals
+pub mod Words

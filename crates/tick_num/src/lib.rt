@@ -1,0 +1,20 @@
+//! The small numbers of the machine, each in its range, and the words that every layer shares.
+#![tactic(auto)]
+
+mod ids;
+mod item;
+mod params;
+mod prio;
+mod res;
+mod sig_code;
+mod sig_set;
+mod tick;
+
+pub use ids::{ObjId, Tid};
+pub use item::{Item, ItemId};
+pub use params::Params;
+pub use prio::Prio;
+pub use res::Res;
+pub use sig_code::SigCode;
+pub use sig_set::SigSet;
+pub use tick::Tick;
