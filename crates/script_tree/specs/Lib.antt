@@ -1,0 +1,4 @@
+pub mod Names
+pub mod Block
+pub mod Tree
+pub mod Weight

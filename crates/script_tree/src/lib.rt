@@ -1,0 +1,14 @@
+//! What a script of tasks says, as plain data. A body is a tree of steps; declarations stand in their order.
+#![tactic(auto)]
+
+mod body;
+mod call;
+mod decl;
+mod name;
+mod policy;
+
+pub use body::{Body, Step};
+pub use call::{Call, Operand};
+pub use decl::{Decl, Decls, Kind, Script};
+pub use name::Name;
+pub use policy::{Policy, Protocol};
