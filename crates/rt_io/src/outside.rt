@@ -1,0 +1,62 @@
+// The outside as the project sees it.
+ghost use Rattle.std.specs.Prelude.{◌≡◌, ◌≤◌, List, ℕ, Option, MatchResult};
+ghost use Rattle.std.specs.Io.{ReadsAtMost};
+ghost use Rattle.std.specs.Io.KnownBytes.{ReadConsumes};
+ghost use Rattle.rt_io.specs.Causes.{GrewBy, HasCause};
+ghost use Rattle.rt_io.specs.Bytes.{WritesAll};
+
+use std::error::Error;
+use std::fmt;
+
+/// The outside did not do what was asked of it.
+#[derive(Clone, Copy, Debug, PartialEq, Eq)]
+pub struct Failed;
+
+impl fmt::Display for Failed {
+    fn fmt<W: fmt::Write>(&self, f: &mut fmt::Formatter<W>) -> fmt::Result {
+        f.write_str("a read or a write failed")
+    }
+}
+
+impl Error for Failed {}
+
+/// Bytes that are read from their front.
+pub trait Source {
+    /// The bytes that are left, where the source tells them.
+    ghost rest: { Self → Option (List ℕ) };
+
+    /// How many bytes were given so far. Every source tells it; it stops at the last value of a u64.
+    ghost taken: { Self → ℕ };
+
+    /// How often a read has failed. It never falls, and stops at the last value of a u64.
+    ghost faults: { Self → ℕ };
+
+    /// Moves bytes from the front of the rest into the front of `buf`, and answers how many.
+    ///
+    /// `Ok(0)` for a buffer with room is the end. `Err` comes only where `faults` rose, and takes no byte; `Ok` leaves
+    /// `faults` as it is.
+    fn read(&mut self, buf: &mut [u8]) -> Result<usize, Failed>
+        ensures bound { ReadsAtMost result buf.new }
+        ensures bytes { ReadConsumes (rest self.old) (rest self.new) result buf.new }
+        ensures count { MatchResult result
+            (λ n. GrewBy n (taken self.old) (taken self.new))
+            (λ _. taken self.new ≡ taken self.old) }
+        ensures cause { HasCause (faults self.old) (faults self.new) result };
+}
+
+/// Bytes that are written behind the ones before.
+pub trait Sink {
+    /// All that was written, where the sink tells it.
+    ghost text: { Self → Option (List ℕ) };
+
+    /// How often a write has failed. It never falls, and stops at the last value of a u64.
+    ghost faults: { Self → ℕ };
+
+    /// Appends all of `bytes`.
+    ///
+    /// `Err` comes only where `faults` rose, and then a part from the front of `bytes` was appended; `Ok` leaves `faults`
+    /// as it is.
+    fn write(&mut self, bytes: &[u8]) -> Result<(), Failed>
+        ensures written { WritesAll (text self.old) (text self.new) result bytes.now }
+        ensures cause { HasCause (faults self.old) (faults self.new) result };
+}
