@@ -1,0 +1,88 @@
+// The lines of a text, each with its number.
+ghost use Rattle.std.specs.Prelude.{◌≡◌, ◌≤◌, ◌<◌, ◌+◌, ◌∷◌, [], ◌==◌, not, length, MatchOption};
+ghost use Rattle.std.specs.List.{prefix_len};
+ghost use Rattle.script_lex.specs.Lines.{lines_of};
+
+use crate::Line;
+use std::marker::Model;
+
+/// The greatest length of a text, in bytes.
+pub const MAX_TEXT: usize = 67_108_864;
+
+// How many bytes stand before the first line end.
+fn line_len(text: &[u8]) -> usize
+    ensures len { result ≡ prefix_len (λ c. not (c == 10)) text.now }
+    ensures bound { result ≤ length text.now }
+{
+    text.iter().take_while(|c| **c != b'\n').count()
+}
+
+// The first line without its end, and what follows that end.
+fn first_line(text: &[u8]) -> (&[u8], &[u8])
+    requires { 0 < length text.now }
+    ensures lines { lines_of text.now ≡ result.0.now ∷ lines_of result.1.now }
+    ensures shorter { length result.1.now < length text.now }
+    ensures bound { length result.0.now ≤ length text.now }
+{
+    let len = line_len(text);
+    if len < text.len() {
+        (&text[..len], &text[len + 1..])
+    } else {
+        (&text[..len], &text[len..])
+    }
+}
+
+/// The lines of a text that are still ahead. Contracts see the list of them, and the number of the
+/// first; the lines of a text are numbered from 1.
+#[derive(Drop)]
+pub struct Lines<'a> {
+    rest: &'a [u8],
+    number: u32,
+}
+
+impl<'a> Model for Lines<'a> {
+    ghost use Rattle.std.specs.Prelude.{◌≤◌, ◌<◌, ◌+◌, length};
+    ghost use Rattle.script_lex.specs.Lines.{lines_of, Ahead};
+
+    ghost Value = { Ahead };
+
+    ghost view = { λ l. record { number = l.number; lines = lines_of l.rest.now } };
+
+    ghost invariant = { λ l. (0 < l.number) × (l.number + length l.rest.now ≤ 67_108_865) };
+}
+
+impl<'a> Lines<'a> {
+    /// All lines of a text of at most [`MAX_TEXT`] bytes.
+    pub fn new(text: &'a [u8]) -> Lines<'a>
+        requires { length text.now ≤ 67_108_864 }
+        ensures { result ≡ record { number = 1; lines = lines_of text.now } }
+    {
+        Lines {
+            rest: text,
+            number: 1,
+        }
+    }
+
+    /// The number of the next line, or of one past the last.
+    pub fn next_number(&self) -> u32
+        ensures { result ≡ self.now.number }
+    {
+        self.number
+    }
+
+    /// The next line; `None` exactly at the end of the text, where nothing changes.
+    pub fn next_line(&mut self) -> Option<Line<'a>>
+        ensures line { MatchOption result (self.old.lines ≡ []) (λ l. self.old.lines ≡ l.bytes.now ∷ self.new.lines) }
+        ensures number { MatchOption result (self.new ≡ self.old)
+            (λ l. (l.number ≡ self.old.number) × (self.new.number ≡ self.old.number + 1)) }
+    {
+        if self.rest.is_empty() {
+            return None;
+        }
+        let (bytes, rest) = first_line(self.rest);
+        let number = self.number;
+        self.rest = rest;
+        self.number = number + 1;
+        Some(Line { number, bytes })
+    }
+}
