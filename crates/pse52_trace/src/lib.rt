@@ -1,6 +1,17 @@
-//! The text of a trace: what each event prints.
+//! The text of a trace: what each event prints, and a tracer that prints it.
+//!
+//! docs/TRACE.md explains each line to its reader.
 #![tactic(auto)]
 
+mod call_name;
 mod event;
+mod line;
+mod names;
+mod report;
+mod tracer;
 
 pub use event::{CallName, Event};
+pub use line::line_len;
+pub use names::Names;
+pub use report::{BudgetView, Report};
+pub use tracer::Tracer;

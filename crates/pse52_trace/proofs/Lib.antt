@@ -1,0 +1,3 @@
+pub mod Lines
+pub mod Prints
+pub mod Tells

@@ -1,0 +1,88 @@
+// The names of the threads.
+ghost use Rattle.std.specs.Prelude.{◌≡◌, ◌≤◌, ◌<◌, List, ℕ, [], length, replicate, slice_set, IfOk};
+ghost use Rattle.pse52_trace.specs.Text.{name_at};
+
+use arrayvec::ArrayVec;
+use std::alloc::{AllocError, Global};
+use std::marker::Model;
+use tick_num::Tid;
+
+// A name of at most 32 bytes, as its bytes.
+#[derive(Drop)]
+struct Name {
+    text: ArrayVec<u8, 32>,
+}
+
+impl Model for Name {
+    ghost use Rattle.std.specs.Prelude.{List, ℕ};
+
+    ghost Value = { List ℕ };
+
+    ghost view = { λ n. n.text.items };
+}
+
+impl Name {
+    fn of(bytes: &[u8]) -> Name
+        requires { length bytes.now ≤ 32 }
+        ensures { result ≡ bytes.now }
+    {
+        let mut text = ArrayVec::new();
+        let _ = text.try_extend_from_slice(bytes);
+        Name { text }
+    }
+
+    fn bytes(&self) -> &[u8]
+        ensures value { result.now ≡ self.now }
+        ensures short { length result.now ≤ 32 }
+    {
+        self.text.as_slice()
+    }
+}
+
+/// A name for each thread. It is seen as the list of the names, by the threads' numbers.
+#[derive(Drop)]
+pub struct Names {
+    list: Vec<Name>,
+}
+
+impl Model for Names {
+    ghost use Rattle.std.specs.Prelude.{List, ℕ};
+
+    ghost Value = { List (List ℕ) };
+
+    ghost view = { λ n. n.list.items };
+}
+
+impl Names {
+    /// An empty name for each of so many threads. No later call takes memory.
+    pub fn open(alloc: Global, threads: u16) -> Result<Names, AllocError>
+        requires { threads ≤ 256 }
+        ensures { IfOk result (λ names. names ≡ replicate threads []) }
+    {
+        let mut list = Vec::new(alloc);
+        for _ in 0..threads {
+            list.push(Name::of(b""))?;
+        }
+        Ok(Names { list })
+    }
+
+    /// Names a thread, by 1 to 32 bytes.
+    pub fn set(&mut self, t: Tid, name: &[u8])
+        requires known { t < length self.old }
+        requires some { 1 ≤ length name.now }
+        requires short { length name.now ≤ 32 }
+        ensures { self.new ≡ slice_set self.old t name.now }
+    {
+        self.list[t.get() as usize] = Name::of(name);
+    }
+
+    /// The name of a thread, which is empty where none was set.
+    pub fn get(&self, t: Tid) -> &[u8]
+        requires { t < length self.now }
+        ensures value { result.now ≡ name_at self.now t }
+        ensures short { length result.now ≤ 32 }
+    {
+        let name = &self.list[t.get() as usize];
+        name.bytes()
+    }
+}

@@ -1,0 +1,23 @@
+// What the closing line of a thread tells.
+
+/// The totals of a thread at the end of a run.
+#[derive(Clone, Copy, Debug, PartialEq, Eq)]
+pub struct Report {
+    /// How many ticks the thread has run.
+    pub ticks: u64,
+    /// The budget of its sporadic server, where it is live and has one.
+    pub budget: Option<BudgetView>,
+}
+
+/// The budget of a sporadic server, in ticks. `high` equals `init` plus `refilled` minus `capacity`.
+#[derive(Clone, Copy, Debug, PartialEq, Eq)]
+pub struct BudgetView {
+    /// How many ticks the thread has run at its high priority.
+    pub high: u64,
+    /// The initial budget.
+    pub init: u64,
+    /// The sum of the amounts refilled.
+    pub refilled: u64,
+    /// The capacity that is left.
+    pub capacity: u64,
+}

@@ -1,0 +1,73 @@
+// A tracer prints the lines of a run, one write a line.
+ghost use Rattle.std.specs.Prelude.{◌≡◌, ◌<◌, ◌∷◌, [], false, length};
+ghost use Rattle.pse52_trace.specs.Text.{IsNamed, line, report_line};
+ghost use Rattle.pse52_trace.specs.Prints.{Prints};
+ghost use Rattle.pse52_trace.specs.Tells.{Tells};
+
+use crate::line::{line_of, report_line_of};
+use crate::{Event, Names, Report};
+use rt_io::Sink;
+use tick_num::{Tick, Tid};
+
+/// Prints to a sink until a write fails. Each line is one write, and no call takes memory.
+#[derive(Drop)]
+pub struct Tracer<'a, K> {
+    sink: &'a mut K,
+    failed: bool,
+}
+
+impl<'a, K: Sink> Tracer<'a, K> {
+    /// A tracer that has printed nothing yet.
+    pub fn new(sink: &'a mut K) -> Tracer<'a, K>
+        ensures same_reference { result.sink.ghost_name ≡ sink.entry.ghost_name }
+        ensures fresh { result.failed ≡ false }
+        ensures same_sink { result.sink.now ≡ sink.old }
+    {
+        Tracer {
+            sink,
+            failed: false,
+        }
+    }
+
+    /// Whether a write of this tracer has failed. From then on it writes nothing more.
+    pub fn failed(&self) -> bool
+        ensures { result ≡ self.now.failed }
+    {
+        self.failed
+    }
+
+    // Writes a text at once.
+    fn write(&mut self, text: &[u8])
+        ensures { Prints K.text K.faults self.old self.new text.now }
+    {
+        if self.failed {
+            return;
+        }
+        match self.sink.write(text) {
+            Ok(()) => return,
+            Err(_) => {
+                self.failed = true;
+                return;
+            }
+        }
+    }
+
+    /// Prints the line of an event, by one write.
+    pub fn put(&mut self, now: Tick, e: &Event, names: &Names)
+        requires { IsNamed names.now e.now }
+        ensures printed { Prints K.text K.faults self.old self.new (line names.now now e.now) }
+        ensures told { Tells K.text K.faults names.now self.old self.new (record { time = now; event = e.now } ∷ []) }
+    {
+        let line = line_of(now, e, names);
+        self.write(line.bytes());
+    }
+
+    /// Prints the closing line of a thread, by one write.
+    pub fn put_report(&mut self, t: Tid, report: &Report, names: &Names)
+        requires { t < length names.now }
+        ensures { Prints K.text K.faults self.old self.new (report_line names.now t report.now) }
+    {
+        let line = report_line_of(t, report, names);
+        self.write(line.bytes());
+    }
+}
