@@ -1,0 +1,2 @@
+pub use Rattle.thread_lists.specs.Threads
+pub mod Lists

@@ -1,0 +1,2 @@
+//! The lists of runnable threads, one for each priority.
+#![tactic(auto)]

@@ -1,0 +1,204 @@
+//! The sporadic server of a thread: its capacity, its activation time and its replenishments.
+//!
+//! Times are instants in ticks; capacities, amounts and totals are numbers of ticks. The rules are those of SCHED_SPORADIC in
+//! IEEE 1003.1-2017, XSH 2.8.4; `specs/Server.antt` states them. No call takes memory.
+#![tactic(auto)]
+
+ghost use Rattle.std.specs.Prelude.{◌≡◌, ◌+◌, ◌^◌, ◌<◌, ◌≤◌, length, IsTrue};
+ghost use Rattle.sporadic_server.specs.Server.{AddsUp, new_server, is_high, assigned, charge_ticks, activate, plan, replenishment, refill, oldest_pending, next_due, set_high, totals};
+ghost use Rattle.sporadic_server.specs.Calls.{BudgetLaw};
+
+use arrayvec::ArrayVec;
+use std::marker::Model;
+use tick_num::{Params, Prio, Tick};
+
+/// An amount of capacity that comes back at an instant.
+#[derive(Clone, Copy, Debug, Default, PartialEq, Eq)]
+pub struct Replenish {
+    pub amount: u64,
+    pub due: Tick,
+}
+
+/// What is told of a server when a run ends.
+#[derive(Clone, Copy, Debug, PartialEq, Eq)]
+pub struct BudgetLine {
+    /// The ticks that were run at the high priority since the server was new.
+    pub high: u64,
+    /// The initial budget.
+    pub init: u64,
+    /// The sum of the amounts that were refilled since the server was new.
+    pub refilled: u64,
+    /// The capacity that is left.
+    pub capacity: u64,
+}
+
+/// The server of one thread under SCHED_SPORADIC.
+#[derive(Drop)]
+pub struct Server {
+    params: Params,
+    capacity: u64,
+    activation: Tick,
+    consumed: u64,
+    // the oldest first; at most SS_REPL_MAX, which is 16
+    pending: ArrayVec<Replenish, 16>,
+    high_total: u64,
+    refilled_total: u64,
+}
+
+impl Model for Server {
+    ghost use Rattle.sporadic_server.specs.Server.{ServerState};
+
+    ghost Value = { ServerState };
+
+    ghost use Rattle.sporadic_server.specs.ServerView.{server_state, IsInside};
+
+    ghost view = { server_state };
+
+    ghost invariant = { IsInside };
+}
+
+impl Server {
+    /// A server with its whole budget as its capacity, activated now, with nothing pending and its totals at 0.
+    pub fn new(p: Params, now: Tick) -> Server
+        requires { now ≤ 10 ^ 18 }
+        ensures { result ≡ new_server p now }
+    {
+        let budget = p.budget;
+        Server {
+            params: p,
+            capacity: budget,
+            activation: now,
+            consumed: 0,
+            pending: ArrayVec::new(),
+            high_total: 0,
+            refilled_total: 0,
+        }
+    }
+
+    /// Whether the assigned priority is the high one: there is capacity, and room for one more pending replenishment.
+    pub fn is_high(&self) -> bool
+        ensures { result ≡ is_high self.now }
+    {
+        self.capacity > 0 && self.pending.len() < self.params.max as usize
+    }
+
+    /// The assigned priority: the high one or the low one.
+    pub fn assigned(&self) -> Prio
+        ensures { result ≡ assigned self.now }
+    {
+        if self.is_high() {
+            self.params.high
+        } else {
+            self.params.low
+        }
+    }
+
+    /// The ticks that may still be run at the high priority before a refill.
+    pub fn capacity(&self) -> u64
+        ensures { result ≡ self.now.capacity }
+    {
+        self.capacity
+    }
+
+    /// The ticks that were run at the high priority and that no replenishment has been planned for.
+    pub fn consumed(&self) -> u64
+        ensures { result ≡ self.now.consumed }
+    {
+        self.consumed
+    }
+
+    /// The pending replenishments, the oldest first.
+    pub fn pending(&self) -> &[Replenish]
+        ensures { result.now ≡ self.now.pending }
+    {
+        self.pending.as_slice()
+    }
+
+    /// The totals since the server was new.
+    pub fn totals(&self) -> BudgetLine
+        ensures value { result ≡ totals self.now }
+        ensures adds_up { AddsUp self.now }
+    {
+        BudgetLine {
+            high: self.high_total,
+            init: self.params.budget,
+            refilled: self.refilled_total,
+            capacity: self.capacity,
+        }
+    }
+
+    /// Runs k ticks at the high priority, at once: the server is as after k single ticks.
+    #[tactic(auto, using(crate::proofs::Laws::charge_ticks_is))]
+    pub fn charge(&mut self, k: u64)
+        requires high { IsTrue (is_high self.old) }
+        requires within { k ≤ self.old.capacity }
+        requires small { self.old.high_total + k ≤ 10 ^ 18 }
+        ensures { self.new ≡ charge_ticks k self.old }
+    {
+        self.capacity -= k;
+        self.consumed += k;
+        self.high_total += k;
+    }
+
+    /// Posts the activation time.
+    pub fn activate(&mut self, now: Tick)
+        requires unused { self.old.consumed ≡ 0 }
+        requires small { now ≤ 10 ^ 18 }
+        ensures { self.new ≡ activate now self.old }
+    {
+        self.activation = now;
+    }
+
+    /// Plans that what was consumed comes back one period after the activation time.
+    pub fn plan(&mut self) -> Replenish
+        requires used { 1 ≤ self.old.consumed }
+        requires room { length self.old.pending < self.old.params.max }
+        ensures value { result ≡ replenishment self.old }
+        ensures after { self.new ≡ plan self.old }
+    {
+        let amount = self.consumed;
+        let due = self.activation.after(self.params.period).unwrap();
+        self.pending.push(Replenish { amount, due });
+        self.consumed = 0;
+        Replenish { amount, due }
+    }
+
+    /// Carries out the oldest pending replenishment, and gives it. None exactly where none is pending.
+    #[tactic(auto, using(crate::proofs::Laws::refill_from_is))]
+    pub fn refill(&mut self) -> Option<Replenish>
+        ensures value { result ≡ oldest_pending self.old }
+        ensures after { self.new ≡ refill self.old }
+    {
+        if self.pending.is_empty() {
+            return None;
+        }
+        let oldest = self.pending.remove(0);
+        self.capacity += oldest.amount;
+        self.refilled_total += oldest.amount;
+        Some(oldest)
+    }
+
+    /// When the oldest pending replenishment is due. None exactly where none is pending.
+    pub fn next_due(&self) -> Option<Tick>
+        ensures { result ≡ next_due self.now }
+    {
+        self.pending.first().map(|oldest| oldest.due)
+    }
+
+    /// Changes the high priority alone.
+    pub fn set_high(&mut self, p: Prio)
+        requires { self.old.params.low < p }
+        ensures { self.new ≡ set_high p self.old }
+    {
+        self.params.high = p;
+    }
+}
+
+/// Whatever calls are made of a new server, one after another, nothing of its budget is lost or gained: capacity, pending amounts
+/// and consumed ticks add up to it, each tick at the high priority came from it or from a refill, and no refill is cut off.
+pub fn budget_law()
+    ensures { BudgetLaw }
+{}
+
+#[cfg(test)]
+mod tests;
