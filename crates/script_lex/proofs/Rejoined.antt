@@ -50,9 +50,9 @@ stops : (ws : List (List ℕ)) → Stops (after_blanks ws)
 stops [] = tt
 stops (w ∷ ws) = refl
 
-mutual_word : (w : List ℕ) (ws : List (List ℕ)) → IsWord w → words_of (w ++ after_blanks ws) ≡ w ∷ words_of (after_blanks ws)
-mutual_word [] ws h = absurd h
-mutual_word (c ∷ cs) ws h = word_then c cs (after_blanks ws) h (stops ws)
+first_word_back : (w : List ℕ) (ws : List (List ℕ)) → IsWord w → words_of (w ++ after_blanks ws) ≡ w ∷ words_of (after_blanks ws)
+first_word_back [] ws h = absurd h
+first_word_back (c ∷ cs) ws h = word_then c cs (after_blanks ws) h (stops ws)
 
 blank_first : (bs : List ℕ) → words_of (32 ∷ bs) ≡ words_of bs
 unfolding words_of
@@ -64,8 +64,8 @@ no_words = refl
 
 words_of-after : (ws : List (List ℕ)) → Each IsWord ws → words_of (after_blanks ws) ≡ ws
 words_of-after [] h = no_words
-words_of-after (w ∷ ws) h = blank_first (w ++ after_blanks ws) ∙ (mutual_word w ws h.0 ∙ ap (λ r. w ∷ r) (words_of-after ws h.1))
+words_of-after (w ∷ ws) h = blank_first (w ++ after_blanks ws) ∙ (first_word_back w ws h.0 ∙ ap (λ r. w ∷ r) (words_of-after ws h.1))
 
 pub words_of-joined : (ws : List (List ℕ)) → Each IsWord ws → words_of (joined_words ws) ≡ ws
 words_of-joined [] h = no_words
-words_of-joined (w ∷ ws) h = mutual_word w ws h.0 ∙ ap (λ r. w ∷ r) (words_of-after ws h.1)
+words_of-joined (w ∷ ws) h = first_word_back w ws h.0 ∙ ap (λ r. w ∷ r) (words_of-after ws h.1)
