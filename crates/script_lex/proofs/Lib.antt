@@ -1,3 +1,4 @@
 pub mod Split
 pub mod Rejoined
 pub mod Places
+pub mod Slices

@@ -1,23 +1,23 @@
 -- The place of the first word of a line.
-use Rattle.std.proofs.Common.{◌≡◌, ◌≤◌, ◌<◌, ℕ, suc, ◌+◌, List, [], ◌∷◌, length, take, drop, refl, sym, ◌∙◌, ap, subst, arith, Bool, true, false, not, length-drop}
+use Rattle.std.proofs.Common.{◌≡◌, ◌<◌, ℕ, suc, ◌+◌, List, [], ◌∷◌, length, take, drop, refl, sym, ◌∙◌, ap, subst, arith, Bool, true, false, not, length-drop}
 use Rattle.std.proofs.lemmas.List.Folds.{length-prefix_len}
 use Rattle.std.specs.List.{prefix_len}
 use Rattle.script_lex.specs.Words.{is_blank, starts_of, places_of}
 use Rattle.script_lex.proofs.Split.{passes, stops, in_word}
 
-blank_skips : (after : Bool) (at c : ℕ) (cs : List ℕ) → is_blank c ≡ true → starts_of after at (c ∷ cs) ≡ starts_of true (at + 1) cs
+pub blank_skips : (after : Bool) (at c : ℕ) (cs : List ℕ) → is_blank c ≡ true → starts_of after at (c ∷ cs) ≡ starts_of true (at + 1) cs
 unfolding starts_of
 blank_skips after at c cs e = rw e refl
 
-ink_skips : (at c : ℕ) (cs : List ℕ) → is_blank c ≡ false → starts_of false at (c ∷ cs) ≡ starts_of false (at + 1) cs
+pub ink_skips : (at c : ℕ) (cs : List ℕ) → is_blank c ≡ false → starts_of false at (c ∷ cs) ≡ starts_of false (at + 1) cs
 unfolding starts_of
 ink_skips at c cs e = rw e refl
 
-word_begins : (at c : ℕ) (cs : List ℕ) → is_blank c ≡ false → starts_of true at (c ∷ cs) ≡ at ∷ starts_of false (at + 1) cs
+pub word_begins : (at c : ℕ) (cs : List ℕ) → is_blank c ≡ false → starts_of true at (c ∷ cs) ≡ at ∷ starts_of false (at + 1) cs
 unfolding starts_of
 word_begins at c cs e = rw e refl
 
-nothing_begins : (after : Bool) (at : ℕ) → starts_of after at [] ≡ []
+pub nothing_begins : (after : Bool) (at : ℕ) → starts_of after at [] ≡ []
 unfolding starts_of
 nothing_begins after at = refl
 

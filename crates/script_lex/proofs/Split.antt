@@ -1,5 +1,5 @@
 -- The first line of a text and the first word of a line.
-use Rattle.std.proofs.Common.{◌≡◌, ◌≤◌, ◌<◌, ℕ, suc, ◌+◌, ◌-◌, List, [], ◌∷◌, length, take, drop, refl, sym, ◌∙◌, ap, subst, arith, Bool, true, false, not}
+use Rattle.std.proofs.Common.{◌≡◌, ◌≤◌, ◌<◌, ℕ, suc, ◌+◌, List, [], ◌∷◌, length, take, drop, refl, sym, ◌∙◌, ap, subst, arith, Bool, true, false, not}
 use Rattle.std.specs.Prelude.{◌==◌}
 use Rattle.std.proofs.Common.{length-drop}
 use Rattle.std.proofs.Math.ListN.{drop_of_length-le}
@@ -37,15 +37,15 @@ pub word_more : (c d : ℕ) (ds : List ℕ) → is_blank c ≡ false → is_blan
 unfolding words_of
 word_more c d ds e f = rw (e, f) refl
 
-word_ends : (c d : ℕ) (ds : List ℕ) → is_blank c ≡ false → is_blank d ≡ true → words_of (c ∷ d ∷ ds) ≡ (c ∷ []) ∷ words_of (d ∷ ds)
+pub word_ends : (c d : ℕ) (ds : List ℕ) → is_blank c ≡ false → is_blank d ≡ true → words_of (c ∷ d ∷ ds) ≡ (c ∷ []) ∷ words_of (d ∷ ds)
 unfolding words_of
 word_ends c d ds e f = rw (e, f) refl
 
-word_alone : (c : ℕ) → is_blank c ≡ false → words_of (c ∷ []) ≡ (c ∷ []) ∷ words_of []
+pub word_alone : (c : ℕ) → is_blank c ≡ false → words_of (c ∷ []) ≡ (c ∷ []) ∷ words_of []
 unfolding words_of
 word_alone c e = rw e refl
 
-word_skips : (c : ℕ) (cs : List ℕ) → is_blank c ≡ true → words_of (c ∷ cs) ≡ words_of cs
+pub word_skips : (c : ℕ) (cs : List ℕ) → is_blank c ≡ true → words_of (c ∷ cs) ≡ words_of cs
 unfolding words_of
 word_skips c cs e = rw e refl
 

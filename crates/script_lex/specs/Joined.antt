@@ -1,5 +1,6 @@
 -- A text made of lines, and a line made of words.
-use Rattle.std.specs.Prelude.{ℕ, List, [], ◌∷◌, ◌++◌}
+use Rattle.std.specs.Prelude.{ℕ, ◌==◌, ◌&&◌, nat_le, not, Bool, false, List, [], ◌∷◌, ◌++◌}
+use Rattle.std.specs.List.{list_all}
 
 -- each line with its end
 abbrev pub joined_lines : List (List ℕ) → List ℕ
@@ -15,3 +16,12 @@ after_blanks (w ∷ ws) = 32 ∷ (w ++ after_blanks ws)
 abbrev pub joined_words : List (List ℕ) → List ℕ
 joined_words [] = []
 joined_words (w ∷ ws) = w ++ after_blanks ws
+
+-- a printed byte that begins no comment
+abbrev pub is_word_byte : ℕ → Bool
+is_word_byte c = nat_le 33 c && (nat_le c 126 && not (c == 35))
+
+-- what a line can have as a word
+abbrev pub is_word : List ℕ → Bool
+is_word [] = false
+is_word (c ∷ cs) = list_all is_word_byte (c ∷ cs)

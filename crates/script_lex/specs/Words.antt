@@ -1,5 +1,5 @@
 -- The words of a line. The text format is this project's own.
-use Rattle.std.specs.Prelude.{ℕ, ◌==◌, ◌&&◌, ◌||◌, ◌+◌, nat_le, not, Bool, true, false, if◌then◌else◌, List, [], ◌∷◌}
+use Rattle.std.specs.Prelude.{ℕ, ◌≡◌, ◌==◌, ◌&&◌, ◌||◌, ◌+◌, nat_le, not, Bool, true, false, if◌then◌else◌, List, [], ◌∷◌, length, take, drop}
 use Rattle.std.specs.List.{take_while, list_all}
 
 -- a tab or a blank
@@ -48,6 +48,13 @@ line_words line = words_of (before_comment line)
 
 abbrev pub line_places : List ℕ → List ℕ
 line_places line = places_of 0 (before_comment line)
+
+-- each word is the slice of the line that begins at its place
+abbrev pub StandAt : List ℕ → List (List ℕ) → List ℕ → Type 0
+StandAt line [] [] = Unit {0}
+StandAt line [] (p ∷ ps) = ⊥
+StandAt line (w ∷ ws) [] = ⊥
+StandAt line (w ∷ ws) (p ∷ ps) = (take (length w) (drop p line) ≡ w) × StandAt line ws ps
 
 -- the words that are ahead in a line, and the place of each
 pub record WordsAhead : Type 0 where

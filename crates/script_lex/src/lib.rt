@@ -11,3 +11,6 @@ mod words;
 pub use line::Line;
 pub use lines::{Lines, MAX_TEXT};
 pub use words::{Word, Words};
+
+#[cfg(test)]
+mod tests;

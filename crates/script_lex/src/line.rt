@@ -36,7 +36,7 @@ fn are_allowed(line: &[u8]) -> bool
 }
 
 impl<'a> Line<'a> {
-    ghost use Rattle.script_lex.specs.Words.{has_bad_byte, line_words, line_places};
+    ghost use Rattle.script_lex.specs.Words.{has_bad_byte, line_words, line_places, StandAt};
 
     /// Whether the line has a byte other than a tab, a blank and the printed bytes 33 to 126,
     /// in its comment too.
@@ -50,6 +50,7 @@ impl<'a> Line<'a> {
     pub fn words(&self) -> Words<'a>
         ensures words { result.words ≡ line_words self.now.bytes.now }
         ensures places { result.places ≡ line_places self.now.bytes.now }
+        ensures slices { StandAt self.now.bytes.now result.words result.places }
     {
         Words::of(before_comment(self.bytes))
     }
