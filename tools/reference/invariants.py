@@ -1,0 +1,110 @@
+"""What holds of each state of the machine between two ticks."""
+from __future__ import annotations
+
+from typing import TYPE_CHECKING
+
+from script import Rr, Sporadic
+from state import FrameKind, Plain, SigCode, Thread, ThreadState, WaitKind
+
+if TYPE_CHECKING:
+    from kernel import Kernel
+
+
+def check(kernel: "Kernel") -> None:
+    """Raises AssertionError where something that always holds does not."""
+    check_lists(kernel)
+    check_mutexes(kernel)
+    for thread in kernel.threads:
+        check_server(kernel, thread)
+        check_thread(kernel, thread)
+    check_waits(kernel)
+    check_records(kernel)
+
+
+def check_lists(kernel: "Kernel") -> None:
+    """A runnable thread stands once, on the list of its execution priority; no other stands on any."""
+    for thread in kernel.threads:
+        places = [priority for priority, members in kernel.lists.items() for number in members if number == thread.number]
+        assert places == ([kernel.exec(thread)] if thread.is_ready else []), (kernel.now, thread.name, places)
+
+
+def check_mutexes(kernel: "Kernel") -> None:
+    """A free mutex is counted 0 and awaited by nobody; following waits and owners never comes back."""
+    for number, mutex in enumerate(kernel.mutexes):
+        waiters = [thread for thread in kernel.threads if kernel.awaited_mutex(thread) is mutex]
+        assert (mutex.count == 0) == (mutex.owner is None), (kernel.now, number)
+        assert mutex.owner is not None or not waiters, (kernel.now, number)
+    for thread in kernel.threads:
+        seen, mutex = {thread.number}, kernel.awaited_mutex(thread)
+        while mutex is not None:
+            assert mutex.owner not in seen, (kernel.now, thread.name)
+            seen.add(mutex.owner)
+            mutex = kernel.awaited_mutex(kernel.threads[mutex.owner])
+        if thread.waits_in(WaitKind.COND, WaitKind.CONTENTION):
+            assert all(mutex.owner != thread.number for mutex in kernel.mutexes), (kernel.now, thread.name)
+
+
+def check_server(kernel: "Kernel", thread: Thread) -> None:
+    """Capacity, what is pending and what is consumed add up to the budget; the due ticks rise."""
+    server = thread.server
+    assert (server is not None) == (thread.is_live and isinstance(thread.policy, Sporadic)), (kernel.now, thread.name)
+    if server is None:
+        return
+    budget, period = server.parameters.budget, server.parameters.period
+    dues = [planned.due for planned in server.pending]
+    amounts = [planned.amount for planned in server.pending]
+    assert server.capacity >= 0 and server.capacity + sum(amounts) + server.consumed == budget, (kernel.now, thread.name)
+    assert server.high_total == budget + server.refilled_total - server.capacity, (kernel.now, thread.name)
+    assert all(amount >= 1 for amount in amounts) and len(amounts) <= server.parameters.limit, (kernel.now, thread.name)
+    assert dues == sorted(set(dues)) and all(due < kernel.time + period for due in dues), (kernel.now, thread.name)
+    assert server.activation <= kernel.time and server.high == thread.policy.high, (kernel.now, thread.name)
+    if server.consumed > 0:
+        assert thread.is_ready and server.is_high and server.activation < kernel.time, (kernel.now, thread.name)
+
+
+def check_thread(kernel: "Kernel", thread: Thread) -> None:
+    """A blocked thread waits for one thing; frames stand in their order; slices are below the quantum."""
+    at = (kernel.now, thread.name)
+    assert (thread.wait is not None) == (thread.state is ThreadState.BLOCKED), at
+    assert not isinstance(thread.policy, Rr) or thread.slice < kernel.quantum, at
+    kinds = [frame.kind for frame in thread.frames]
+    order = [kind for kind in FrameKind if kind in kinds]
+    assert kinds == order and (kinds[:1] == [FrameKind.MAIN]) == thread.is_live, at
+    assert len(thread.cleanups) <= 8, at
+    if thread.is_live and not thread.ending and thread.frames[0].unit is not Plain.FINISH:
+        pushed = sum(1 for level in thread.frames[0].levels if hasattr(level.opener, "cleanup"))
+        pending_push = thread.frames[0].left > 0 and getattr(thread.frames[0].unit, "word", "") in ("push", "pop")
+        assert pending_push or len(thread.cleanups) == pushed, at
+
+
+def check_waits(kernel: "Kernel") -> None:
+    """Nobody waits for what is there."""
+    for thread in kernel.threads:
+        at = (kernel.now, thread.name)
+        if thread.waits_in(WaitKind.SEM):
+            assert kernel.sems[thread.wait.target] == 0, at
+        if thread.waits_in(WaitKind.RECEIVE):
+            assert not kernel.queues[thread.wait.target].messages, at
+        if thread.waits_in(WaitKind.SEND):
+            queue = kernel.queues[thread.wait.target]
+            assert len(queue.messages) == queue.kind.depth, at
+    bound = {(thread.wait.target, thread.wait.mutex) for thread in kernel.threads if thread.waits_in(WaitKind.COND)}
+    assert len({cond for cond, _ in bound}) == len(bound), kernel.now
+
+
+def check_records(kernel: "Kernel") -> None:
+    """At most 64 sent signals, one per timer and one per queue are pending; serials are distinct and few."""
+    sent = [record for record in kernel.records if record.code in (SigCode.USER, SigCode.QUEUE)]
+    assert len(sent) <= 64, kernel.now
+    for source in ("timer", "queue"):
+        sources = [getattr(record, source) for record in kernel.records if getattr(record, source) is not None]
+        assert len(sources) == len(set(sources)), (kernel.now, source)
+    for record in kernel.records:
+        assert record.queue is None or kernel.queues[record.queue].registration is None, kernel.now
+    serials = [record.serial for record in kernel.records]
+    serials += [thread.wait.serial for thread in kernel.threads if thread.wait is not None and thread.wait.serial is not None]
+    assert len(serials) == len(set(serials)) and all(serial < kernel.next_serial for serial in serials), kernel.now
+    waiting = sum(1 for thread in kernel.threads if thread.waits_in(WaitKind.COND))
+    frames = sum(1 for thread in kernel.threads if thread.in_signal_frame)
+    paid = 2 * kernel.time + len(kernel.records) - len(sent) + frames + 1
+    assert kernel.next_serial + waiting <= paid, kernel.now

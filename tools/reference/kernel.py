@@ -1,0 +1,251 @@
+"""The state of the machine, and the changes of which the effects of calls and due items are made."""
+from __future__ import annotations
+
+from forms import ObjectKind
+from script import Call, Fifo, Operand, Res, Rr, Script, Sporadic
+from state import (
+    CANCELED, CondEnd, Event, FrameKind, Mutex, Queue, Record, Server, Thread, ThreadState, Timer, Wait, WaitKind)
+from units import new_frame
+
+Snapshot = list[tuple[bool, int]]
+
+
+class Kernel:
+    """The state: plain lists of threads, objects and pending signals, and what happened so far."""
+
+    def __init__(self, script: Script) -> None:
+        self.now = 0
+        self.time = 0
+        self.last_dispatch: int | str | None = None
+        self.next_serial = 0
+        self.killed: int | None = None
+        self.quantum = script.quantum
+        self.lists: dict[int, list[int]] = {priority: [] for priority in range(1, 256)}
+        self.threads = [Thread(number, named.name, named.kind.policy, named.kind.start, named.kind.body)
+                        for number, named in enumerate(script.objects(ObjectKind.THREAD))]
+        self.handlers = [named.kind.body for named in script.objects(ObjectKind.HANDLER)]
+        self.cleanups = [named.kind.body for named in script.objects(ObjectKind.CLEANUP)]
+        self.mutexes = [Mutex(named.kind) for named in script.objects(ObjectKind.MUTEX)]
+        self.sems = [named.kind.value for named in script.objects(ObjectKind.SEM)]
+        self.queues = [Queue(named.kind) for named in script.objects(ObjectKind.QUEUE)]
+        self.timers = [Timer(named.kind) for named in script.objects(ObjectKind.TIMER)]
+        self.actions = script.actions()
+        self.records: list[Record] = []
+        self.events: list[Event] = []
+        self.direct: list[int] = []
+
+    # What happened
+
+    def emit(self, *words: str | int) -> None:
+        self.events.append(Event(self.time, words))
+
+    def take_serial(self) -> int:
+        self.next_serial += 1
+        return self.next_serial - 1
+
+    # Priorities
+
+    def assigned(self, thread: Thread) -> int:
+        """The priority of the thread itself: for a sporadic one high or low, by its server."""
+        if not isinstance(thread.policy, Sporadic):
+            return thread.policy.priority
+        if thread.is_live and thread.server.is_high:
+            return thread.server.high
+        return thread.policy.low
+
+    def base(self, thread: Thread) -> int:
+        """The greatest of the assigned priority and the ceilings of the mutexes that the thread owns."""
+        ceilings = [mutex.kind.ceiling for mutex in self.mutexes
+                    if mutex.owner == thread.number and mutex.kind.ceiling is not None]
+        return max([self.assigned(thread), *ceilings])
+
+    def exec(self, thread: Thread) -> int:
+        """The execution priority: the greatest base of the thread and of all that wait, along inherit mutexes, for it."""
+        found, open_ = {thread.number}, [thread.number]
+        while open_:
+            owner = open_.pop()
+            for other in self.threads:
+                mutex = self.awaited_mutex(other)
+                if mutex is not None and mutex.kind.inherit and mutex.owner == owner and other.number not in found:
+                    found.add(other.number)
+                    open_.append(other.number)
+        return max(self.base(self.threads[number]) for number in found)
+
+    def awaited_mutex(self, thread: Thread) -> Mutex | None:
+        """The mutex that the thread waits or contends for."""
+        if thread.waits_in(WaitKind.MUTEX, WaitKind.CONTENTION):
+            return self.mutexes[thread.wait.target]
+        return None
+
+    def owns_boosting(self, thread: Thread) -> bool:
+        return any(mutex.owner == thread.number and mutex.kind.boosting for mutex in self.mutexes)
+
+    # The lists
+
+    def snapshot(self) -> Snapshot:
+        """Of each thread whether it is runnable, and its execution priority."""
+        return [(thread.is_ready, self.exec(thread)) for thread in self.threads]
+
+    def move_later(self, thread: Thread) -> None:
+        """A direct move: the thread goes to the tail of its list when the effect is whole."""
+        if thread.number in self.direct:
+            self.direct.remove(thread.number)
+        self.direct.append(thread.number)
+
+    def settle(self, before: Snapshot) -> None:
+        """Carries out the moves of what happened since `before`: direct ones, then those whose priority changed."""
+        after = self.snapshot()
+        for thread in self.threads:
+            if not thread.is_ready:
+                self.take_from_lists(thread.number)
+        direct = [number for number in self.direct if after[number][0]]
+        for number in direct:
+            self.take_from_lists(number)
+            self.lists[after[number][1]].append(number)
+        for number, ((was_ready, old), (is_ready, new)) in enumerate(zip(before, after)):
+            if was_ready and is_ready and old != new and number not in direct:
+                self.take_from_lists(number)
+                self.lists[new].insert(len(self.lists[new]) if new > old else 0, number)
+        self.direct = []
+
+    def take_from_lists(self, number: int) -> None:
+        for members in self.lists.values():
+            if number in members:
+                members.remove(number)
+
+    def head(self) -> int | None:
+        """The first thread of the highest list that is not empty."""
+        return next((members[0] for _, members in sorted(self.lists.items(), reverse=True) if members), None)
+
+    # Waiting
+
+    def best_waiter(self, target: int | None, *kinds: WaitKind) -> Thread | None:
+        """Of the threads that wait for an object, the one of greatest priority and, among equals, least serial."""
+        waiters = [thread for thread in self.threads if thread.waits_in(*kinds) and thread.wait.target == target]
+        return min(waiters, key=lambda thread: (-self.exec(thread), thread.wait.serial), default=None)
+
+    def block(self, thread: Thread, wait: Wait) -> None:
+        """The thread waits; a wait for an object takes a serial, a sleep and a join take none."""
+        if wait.kind not in (WaitKind.SLEEP, WaitKind.JOIN):
+            wait.serial = self.take_serial()
+        thread.state = ThreadState.BLOCKED
+        thread.wait = wait
+
+    def returns(self, thread: Thread, call: Call, res: Res = Res.ZERO, value: int = 0) -> None:
+        """The call ends with this result and value."""
+        thread.frame.result = res
+        thread.frame.value = value
+        self.emit("return", thread.name, call.word, res.value, value)
+
+    def wake(self, thread: Thread, res: Res = Res.ZERO, value: int = 0) -> None:
+        """A blocked thread becomes runnable, and its call ends."""
+        call = thread.wait.call
+        self.make_ready(thread)
+        self.returns(thread, call, res, value)
+        self.activate_woken(thread)
+
+    def wake_cancelled(self, thread: Thread) -> None:
+        """A blocked thread becomes runnable and begins to end."""
+        self.make_ready(thread)
+        self.begin_ending(thread)
+        self.activate_woken(thread)
+
+    def make_ready(self, thread: Thread) -> None:
+        thread.state = ThreadState.READY
+        thread.wait = None
+        thread.slice = 0
+        self.move_later(thread)
+
+    def activate_woken(self, thread: Thread) -> None:
+        if thread.server is not None and thread.server.is_high:
+            self.activate(thread)
+
+    def activate(self, thread: Thread) -> None:
+        """The present instant is the activation time of the thread's server."""
+        thread.server.activation = self.time
+        self.emit("activate", thread.name, thread.server.capacity)
+
+    # Mutexes
+
+    def acquire(self, thread: Thread, mutex: Mutex) -> None:
+        mutex.owner = thread.number
+        mutex.count = 1
+
+    def release(self, number: int) -> None:
+        """The mutex goes to its best waiter, or is free."""
+        mutex = self.mutexes[number]
+        best = self.best_waiter(number, WaitKind.MUTEX, WaitKind.CONTENTION)
+        if best is None:
+            mutex.owner, mutex.count = None, 0
+        else:
+            self.acquire(best, mutex)
+            self.end_mutex_wait(best)
+
+    def contend(self, thread: Thread, end: CondEnd) -> None:
+        """A thread leaves its condition and asks for its mutex again."""
+        number, call = thread.wait.mutex, thread.wait.call
+        mutex = self.mutexes[number]
+        thread.wait = Wait(WaitKind.CONTENTION, call, target=number, end=end)
+        if mutex.owner is None:
+            self.acquire(thread, mutex)
+            self.end_mutex_wait(thread)
+        else:
+            thread.wait.serial = self.take_serial()
+
+    def end_mutex_wait(self, thread: Thread) -> None:
+        """A thread that now owns the mutex for which it waited or contended wakes."""
+        if thread.wait.end is CondEnd.CANCELLED:
+            self.wake_cancelled(thread)
+        else:
+            self.wake(thread, Res.TIMEDOUT if thread.wait.end is CondEnd.TIMEDOUT else Res.ZERO)
+
+    # Threads
+
+    def value_of(self, thread: Thread, operand: Operand) -> int:
+        return thread.frame.register if operand.number is None else operand.number
+
+    def start(self, thread: Thread, mask: int) -> None:
+        """A dormant thread begins with its main frame and, where it is sporadic, a new server."""
+        thread.state = ThreadState.READY
+        thread.start = None
+        thread.slice = 0
+        thread.mask = mask
+        thread.frames = [new_frame(FrameKind.MAIN, thread.body)]
+        self.move_later(thread)
+        self.emit("start", thread.name)
+        if isinstance(thread.policy, Sporadic):
+            thread.server = Server(thread.policy, self.time)
+            self.activate(thread)
+
+    def cancel_acts(self, thread: Thread) -> bool:
+        """Whether a request would act in this thread at a cancellation point."""
+        return thread.requested and thread.enabled and not thread.ending
+
+    def begin_ending(self, thread: Thread) -> None:
+        """A cancellation request acts: the thread is ending."""
+        self.emit("cancel", thread.name)
+        thread.ending = True
+        thread.exit_value = CANCELED
+
+    def finish(self, thread: Thread) -> None:
+        """The main frame is done: the thread is ended. Mutexes that it owns stay owned."""
+        thread.state = ThreadState.ENDED
+        thread.frames = []
+        thread.server = None
+        self.emit("exit", thread.name)
+        self.records = [record for record in self.records if record.target != thread.number]
+        if thread.joiner.waiting is not None:
+            joiner = self.threads[thread.joiner.waiting]
+            thread.joiner.waiting, thread.joiner.joined = None, True
+            self.wake(joiner, Res.ZERO, thread.exit_value)
+
+    def set_priority(self, thread: Thread, priority: int) -> None:
+        """A new priority for the thread; for a sporadic one it is the high one, and its server goes on."""
+        match thread.policy:
+            case Fifo():
+                thread.policy = Fifo(priority)
+            case Rr():
+                thread.policy = Rr(priority)
+            case Sporadic() as parameters:
+                thread.policy = Sporadic(priority, parameters.low, parameters.period, parameters.budget, parameters.limit)
+                thread.server.high = priority
