@@ -1,2 +1,3 @@
-pub mod Words
+mod Examples
 pub mod Places
+pub mod Words

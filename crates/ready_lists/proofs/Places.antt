@@ -1,14 +1,13 @@
 -- Where threads stand after a change of the lists, and that the bitmap marks the lists that are not empty.
-use Rattle.std.proofs.Common.{◌≡◌, ◌≢◌, ℕ, zero, suc, ◌+◌, ◌-◌, ◌<◌, ◌≤◌, Bool, true, false, not, ◌==◌, nat_lt, List, [], ◌∷◌, ◌++◌, length, get_or, set, drop, map, eqb, filter, refl, arith, ap, sym, ◌∙◌, if◌then◌else◌, inl, inr, add-one}
+use Rattle.std.proofs.Common.{◌≡◌, ℕ, zero, suc, ◌+◌, ◌-◌, ◌<◌, ◌≤◌, Bool, true, false, not, ◌==◌, nat_lt, List, [], ◌∷◌, ◌++◌, length, get_or, set, refl, arith, ap, sym, ◌∙◌, if◌then◌else◌, inl, inr}
 use Rattle.std.specs.Option.{option_or}
 use Rattle.std.specs.Prelude.{Some, None, slice_get, Option, IfSome}
 use Rattle.std.proofs.Math.ListN.{length-set}
 use Rattle.std.proofs.lemmas.List.{get_or_default, get_or-set_same, get_or-set_other}
-use Rattle.std.proofs.Math.Seq.{drop-cons}
 use Rattle.std.proofs.lemmas.Grind.{common_steps}
 use Rattle.std.proofs.lemmas.Bool.Decides.{nat_tests, eqb_tells}
 use Rattle.thread_lists.specs.Threads.{times, stands_in, without_thread}
-use Rattle.thread_lists.proofs.Standing.{times-append, times_gone, times_stays, times_le, absent, absent_back, present, without_absent}
+use Rattle.thread_lists.proofs.Standing.{times-append, times_gone, times_le, absent, absent_back, present, without_absent}
 use Rattle.ready_lists.specs.Bits.{is_set, ChangesBit, IsHighestSet, NoneIsSet}
 use Rattle.ready_lists.specs.Lists.{ReadyLists, AreReadyLists, without, highest, prio_from, prio_of, times_in_all}
 

@@ -6,6 +6,7 @@
 
 ghost use Rattle.std.specs.Prelude.{◌≡◌, ◌<◌, ◌≤◌, IfOk, IfSome};
 ghost use Rattle.ready_lists.specs.Lists.{AreReadyLists, empty_lists, without, to_tail, to_head, highest, prio_of};
+ghost use Rattle.ready_lists.specs.Ends.{put_at};
 
 mod bitmap;
 
@@ -14,6 +15,13 @@ use std::alloc::{AllocError, Global};
 use std::marker::Model;
 use thread_lists::ThreadList;
 use tick_num::{Prio, Tid};
+
+// The ends of a list.
+#[derive(Clone, Copy)]
+enum End {
+    Head,
+    Tail,
+}
 
 /// The runnable threads, each at most once, on a list for each priority.
 #[derive(Drop)]
@@ -58,10 +66,7 @@ impl Ready {
         requires { t < self.old.threads }
         ensures { self.new ≡ record self.old { lists = to_tail t p self.old.lists } }
     {
-        self.remove(t);
-        let place = p.get() - 1;
-        self.lists[place as usize].push_back(t);
-        self.occupied.set(place, true);
+        self.put(t, p, End::Tail);
     }
 
     /// Takes the thread from wherever it stands, and makes it the head of the list of this priority.
@@ -69,20 +74,31 @@ impl Ready {
         requires { t < self.old.threads }
         ensures { self.new ≡ record self.old { lists = to_head t p self.old.lists } }
     {
+        self.put(t, p, End::Head);
+    }
+
+    fn put(&mut self, t: Tid, p: Prio, end: End)
+        requires { t < self.old.threads }
+        ensures { self.new ≡ record self.old { lists = put_at end t p self.old.lists } }
+    {
         self.remove(t);
         let place = p.get() - 1;
-        self.lists[place as usize].push_front(t);
         self.occupied.set(place, true);
+        let list = &mut self.lists[place as usize];
+        match end {
+            End::Head => list.push_front(t),
+            End::Tail => list.push_back(t),
+        }
     }
 
     /// Takes the thread from the list on which it stands, if there is one.
     pub fn remove(&mut self, t: Tid)
         ensures { self.new ≡ record self.old { lists = without t self.old.lists } }
     {
-        let Some(p) = self.prio_of(t) else {
+        let Some(old) = self.prio_of(t) else {
             return;
         };
-        let place = p.get() - 1;
+        let place = old.get() - 1;
         let list = &mut self.lists[place as usize];
         list.remove(t);
         let taken = !list.is_empty();

@@ -1,4 +1,4 @@
-use Rattle.std.proofs.Common.{◌≡◌, ◌<◌, ◌∙◌, [], arith, length, rules, subst, sym}
+use Rattle.std.proofs.Common.{subst, sym}
 use Rattle.ready_lists.specs.Lists.{AreReadyLists}
 use Rattle.ready_lists.proofs.Places.{head_found, highest_unmarked, head_known}
 use Rattle.ready_lists.proofs.Ready.highest.Goals as goal

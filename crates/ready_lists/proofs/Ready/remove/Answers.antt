@@ -1,5 +1,5 @@
-use Rattle.std.proofs.Common.{◌≡◌, ◌-◌, ◌<◌, ◌∙◌, not, refl, Some, ap, arith, length, set, sym}
-use Rattle.ready_lists.specs.Lists.{ReadyLists, AreReadyLists, prio_of, without}
+use Rattle.std.proofs.Common.{◌≡◌, ◌-◌, ◌∙◌, not, refl, Some, ap, length, set, sym}
+use Rattle.ready_lists.specs.Lists.{ReadyLists, prio_of, without}
 use Rattle.ready_lists.proofs.Places.{already_gone, removed, place_within, taken_is, marked_after, without_ok}
 use Rattle.ready_lists.proofs.Ready.remove.Goals as goal
 
