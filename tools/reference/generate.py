@@ -13,6 +13,7 @@ from random import Random
 
 from forms import RESULTS, Stage
 from mutate import refused
+from scenes import SCENES, Part
 
 __all__ = ["accepted", "refused"]
 
@@ -43,11 +44,28 @@ class ScriptWriter:
             (Stage.TIMERS, 0.5), (Stage.QUEUES, 0.6), (Stage.WHOLE, 0.6)]
         self.topics = {topic for topic, share in topics if topic <= stage and draw.random() < share}
         self.topics |= {stage} & {topic for topic, _ in topics}
+        self.handled = draw.choice(self.signals)
         self.steps_left = draw.choice((12, 25, 40, 60))
+        self.parts = self.played()
+
+    def played(self) -> dict[str, list[Part]]:
+        """The parts of some scenes, given out to the threads."""
+        draw = self.draw
+        scenes = [scene for stage, some in SCENES.items() if stage <= self.stage for scene in some]
+        newest = SCENES.get(self.stage, ())
+        chosen = draw.sample(scenes, min(len(scenes), draw.choice((0, 1, 1, 2, 2, 3))))
+        if newest and draw.random() < 0.5:
+            chosen.append(draw.choice(newest))
+        found: dict[str, list[Part]] = {name: [] for name in self.threads}
+        for scene in chosen:
+            players = draw.sample(self.threads, len(self.threads))
+            for k, part in enumerate(scene(self)):
+                found[players[k % len(players)]].append(part)
+        return found
 
     def script(self) -> str:
         draw = self.draw
-        parts = [self.thread(name) for name in self.threads] + [self.object(name) for name in self.mutexes]
+        parts = [self.thread(name) for name in reversed(self.threads)] + [self.object(name) for name in self.mutexes]
         parts += [[f"cond {name}"] for name in self.conds]
         parts += [[f"sem {name} {draw.choice((0, 0, 1, 2, 32_767))}"] for name in self.sems]
         parts += [self.queue(name) for name in self.queues]
@@ -73,7 +91,12 @@ class ScriptWriter:
         draw = self.draw
         dormant = self.stage >= Stage.LANGUAGE and self.threads[0] != name and draw.random() < 0.25
         begin = "dormant" if dormant else f"at {draw.choice((0, 0, 0, 1, 2, 3, 5, 8))}"
-        body = self.block("thread", 1, draw.randint(1, 7))
+        parts = self.parts[name]
+        body = self.block("thread", 1, draw.randint(0, 2) if parts else draw.randint(1, 7))
+        for part in parts:
+            body += [*part, *self.block("thread", 1, draw.choice((0, 0, 1, 2)))]
+        if dormant and self.stage >= Stage.THREADS and draw.random() < 0.7:
+            self.parts[self.threads[0]].insert(0, [f"create {name}"])
         return [f"thread {name} {self.policy()} {begin}", *body, "end"]
 
     def priority(self) -> int:
@@ -101,7 +124,8 @@ class ScriptWriter:
         if self.stage < Stage.SIGNALS:
             return []
         ways = [f"run {name}" for name in self.handlers] * 3 + ["ignore"] + ["kill"] * (self.draw.random() < 0.3)
-        found = ((signal, self.draw.choice(ways)) for signal in self.signals)
+        found = [(signal, self.draw.choice(ways)) for signal in self.signals if signal != self.handled]
+        found.append((self.handled, f"run {self.draw.choice(self.handlers)}"))
         return [[f"action rt{signal} {way}"] for signal, way in found if way != "kill"]
 
     # Steps

@@ -1,0 +1,172 @@
+"""Scenes: parts for several threads that meet at one object, from which generated scripts are made.
+
+A scene gives some parts, each a list of lines for the body of another thread.
+"""
+from __future__ import annotations
+
+from typing import TYPE_CHECKING, Callable
+
+from forms import Stage
+
+if TYPE_CHECKING:
+    from generate import ScriptWriter
+
+Part = list[str]
+Scene = Callable[["ScriptWriter"], list[Part]]
+
+
+def busy(writer: "ScriptWriter", most: int = 3) -> Part:
+    """A few ticks of work, or none."""
+    ticks = writer.draw.randint(0, most)
+    return [f"run {ticks}"] if ticks else []
+
+
+def pause(writer: "ScriptWriter") -> Part:
+    """A short sleep, or none."""
+    if writer.stage < Stage.WAITING or writer.draw.random() < 0.4:
+        return []
+    return [f"nanosleep {writer.draw.randint(1, 6)}"]
+
+
+def critical_section(writer: "ScriptWriter", mutex: str, inner: Part) -> Part:
+    lock = f"lock {mutex}"
+    if writer.stage >= Stage.WAITING and writer.draw.random() < 0.25:
+        lock = f"timedlock {mutex} {writer.draw.randint(3, 30)}"
+    return [lock, *inner, f"unlock {mutex}"]
+
+
+def one_mutex(writer: "ScriptWriter") -> list[Part]:
+    """Some threads with critical sections of one mutex."""
+    mutex = writer.mutex()
+    return [[*pause(writer), *critical_section(writer, mutex, [*busy(writer, 5), *busy(writer)]), *busy(writer, 1)]
+            for _ in range(writer.draw.randint(2, 4))]
+
+
+def chain_of_mutexes(writer: "ScriptWriter") -> list[Part]:
+    """Each thread owns one mutex and asks for the next; the last at times asks for the first."""
+    mutexes = list(writer.mutexes)
+    if len(mutexes) < 2:
+        return one_mutex(writer)
+    parts = [critical_section(writer, mutexes[0], busy(writer, 8))]
+    for below, own in zip(mutexes, mutexes[1:] + mutexes[:1]):
+        inner = [*busy(writer), *critical_section(writer, below, busy(writer))]
+        parts.append([*pause(writer), *critical_section(writer, own, inner)])
+    return parts
+
+
+def priorities_change(writer: "ScriptWriter") -> list[Part]:
+    """One thread works while another changes its scheduling."""
+    thread = writer.draw.choice(writer.threads)
+    changes = [f"setprio {thread} {writer.priority()}", f"setsched {thread} {writer.policy()}",
+               f"setprio {thread} {writer.priority()}"]
+    change = [line for line in changes if writer.draw.random() < 0.7]
+    return [[*busy(writer, 5), *busy(writer, 5)], [*pause(writer), *change, *busy(writer, 2)], [*busy(writer, 5)]]
+
+
+def condition(writer: "ScriptWriter") -> list[Part]:
+    """Waiters of one condition, and a thread that wakes one or all."""
+    draw, cond, mutex = writer.draw, writer.draw.choice(writer.conds), writer.mutex()
+    parts: list[Part] = []
+    for _ in range(draw.randint(1, 3)):
+        wait = draw.choice((f"wait {cond} {mutex}", f"wait {cond} {mutex}", f"timedwait {cond} {mutex} {draw.randint(0, 20)}"))
+        parts.append([f"lock {mutex}", *guarded(writer, [wait]), *busy(writer, 2), f"unlock {mutex}"])
+    wake = draw.choice((f"signal {cond}", f"broadcast {cond}"))
+    inner = [f"nanosleep {draw.randint(1, 6)}", wake, *busy(writer, 2)]
+    rounds = [f"loop {draw.randint(1, 3)}", *inner, "end"]
+    parts.append([f"nanosleep {draw.randint(1, 6)}", f"lock {mutex}", wake, *busy(writer, 2), f"unlock {mutex}"]
+                 if draw.random() < 0.5 else rounds)
+    return parts
+
+
+def semaphore(writer: "ScriptWriter") -> list[Part]:
+    """Waiters of one semaphore, and a thread that posts."""
+    draw, sem = writer.draw, writer.draw.choice(writer.sems)
+    waiters = [[*busy(writer, 1), *guarded(writer, [draw.choice((
+        f"sem_wait {sem}", f"sem_wait {sem}", f"sem_timedwait {sem} {draw.randint(0, 25)}"))]), *busy(writer, 2)]
+        for _ in range(draw.randint(1, 3))]
+    return [*waiters, [*pause(writer), f"sem_post {sem}", *busy(writer, 2), f"sem_post {sem}"]]
+
+
+def waiting_for_signals(writer: "ScriptWriter") -> list[Part]:
+    """Threads that wait for signals or have them handled, and one that sends them."""
+    draw, signal, thread = writer.draw, writer.signal(), writer.draw.choice(writer.threads)
+    wait = draw.choice((f"sigwaitinfo {signal}", "sigwaitinfo all", f"sigtimedwait {signal} {draw.randint(0, 12)}"))
+    sends = [f"kill {signal}", f"tkill {thread} {signal}", f"sigqueue {signal} {writer.operand()}"]
+    masked = [f"sigmask block {signal}"] if draw.random() < 0.6 else []
+    return [[*masked, *guarded(writer, [wait]), *busy(writer, 1)],
+            [*masked, draw.choice(sends), draw.choice(sends), *busy(writer, 1), draw.choice(sends)],
+            [*masked, *busy(writer, 3), f"sigmask unblock {signal}", *pause(writer)]]
+
+
+def handled_waits(writer: "ScriptWriter") -> list[Part]:
+    """Threads in waits that a handled signal ends."""
+    draw, signal = writer.draw, f"rt{writer.handled}"
+    waits = [f"nanosleep {draw.randint(3, 12)}", f"clock_nanosleep {draw.randint(5, 30)}"]
+    waits += [word for sem in writer.sems for word in (f"sem_wait {sem}", f"sem_timedwait {sem} 40")]
+    waits += [word for queue in writer.queues for word in (
+        f"mq_receive {queue}", f"mq_timedreceive {queue} 40", f"mq_send {queue} 1 1 1", f"mq_timedsend {queue} 1 1 1 40")]
+    waits += ["sigwaitinfo none", "sigtimedwait none 30"]
+    sleepers = [[*busy(writer, 1), *guarded(writer, [draw.choice(waits)]), "take", *busy(writer, 1)] for _ in range(2)]
+    send = draw.choice((f"kill {signal}", f"tkill {writer.threads[0]} {signal}", f"sigqueue {signal} 12"))
+    return [*sleepers, [*pause(writer), *busy(writer, 2), send, *busy(writer, 1), send]]
+
+
+def periodic(writer: "ScriptWriter") -> list[Part]:
+    """A thread that works each time a timer expires, and a load beside it."""
+    draw, timer, signal = writer.draw, writer.draw.choice(writer.timers), writer.signal()
+    interval = draw.choice((1, 2, 4, 6))
+    body = [f"sigwaitinfo {draw.choice((signal, 'all'))}", *busy(writer, 3), f"timer_getoverrun {timer}"]
+    first = draw.choice((f"rel {draw.randint(1, 5)}", f"abs {draw.randint(1, 12)}"))
+    return [[f"sigmask block {draw.choice((signal, 'all'))}", f"timer_settime {timer} {first} {interval}",
+             f"loop {draw.randint(2, 4)}", *body, "end", f"timer_gettime {timer}"], busy(writer, 9)]
+
+
+def queue_of_messages(writer: "ScriptWriter") -> list[Part]:
+    """Senders and receivers of one queue, one of them with a notification at times."""
+    draw, queue = writer.draw, writer.draw.choice(writer.queues)
+    send = lambda: draw.choice((  # noqa: E731
+        f"mq_send {queue} 4 {draw.randint(0, 2)} {writer.operand()}",
+        f"mq_timedsend {queue} 4 {draw.randint(0, 2)} {draw.randint(1, 99)} {draw.randint(0, 30)}"))
+    receive = lambda: draw.choice((  # noqa: E731
+        f"mq_receive {queue}", f"mq_receive {queue}", f"mq_timedreceive {queue} {draw.randint(0, 30)}"))
+    notify = [f"mq_notify {queue} {writer.signal()} {draw.randint(0, 9)}"] if draw.random() < 0.6 else []
+    return [[*notify, send(), send(), *busy(writer, 1), *guarded(writer, [send()]), send()],
+            [*pause(writer), *notify, receive(), *busy(writer, 2), *guarded(writer, [receive()]), receive()],
+            [*busy(writer, 2), draw.choice((send, receive))(), *notify]]
+
+
+def served(writer: "ScriptWriter") -> list[Part]:
+    """Work and sleeps of threads, some of which have servers."""
+    draw = writer.draw
+    return [[f"loop {draw.randint(2, 4)}", f"run {draw.randint(1, 4)}", *pause(writer), "end"] for _ in range(3)]
+
+
+def cancelled(writer: "ScriptWriter") -> list[Part]:
+    """A thread in a cancellation point with cleanups pushed, one that cancels it, and one that joins."""
+    draw, thread = writer.draw, writer.draw.choice(writer.threads)
+    points = ["testcancel", f"nanosleep {draw.randint(2, 9)}", "sigwaitinfo none", f"join {draw.choice(writer.threads)}"]
+    points += [f"sem_wait {sem}" for sem in writer.sems] + [f"mq_receive {queue}" for queue in writer.queues]
+    inner = [draw.choice(points), *busy(writer, 2), draw.choice(points)]
+    ways = [["setcancel disable", *inner, "setcancel enable", "testcancel"], inner, inner, ["exit reg"]]
+    return [[*guarded(writer, draw.choice(ways), 0.9), *busy(writer, 1)],
+            [*pause(writer), f"cancel {thread}", *busy(writer, 1)],
+            [f"join {thread}", "take", *busy(writer, 1)]]
+
+
+def guarded(writer: "ScriptWriter", inner: Part, share: float = 0.3) -> Part:
+    """The lines, at times between a push and a pop of a cleanup."""
+    if writer.stage < Stage.WHOLE or writer.draw.random() >= share:
+        return inner
+    return [f"push {writer.draw.choice(writer.cleanups)}", *inner, f"pop {writer.draw.randint(0, 1)}"]
+
+
+SCENES: dict[Stage, tuple[Scene, ...]] = {
+    Stage.THREADS: (priorities_change,),
+    Stage.MUTEXES: (one_mutex, chain_of_mutexes),
+    Stage.WAITING: (condition, condition, semaphore),
+    Stage.SIGNALS: (waiting_for_signals, handled_waits),
+    Stage.TIMERS: (periodic,),
+    Stage.QUEUES: (queue_of_messages, queue_of_messages),
+    Stage.SERVERS: (served,),
+    Stage.WHOLE: (cancelled, cancelled),
+}
