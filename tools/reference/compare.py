@@ -1,6 +1,7 @@
 """Runs a built program and the reference over generated scripts, and compares bytes and exit status.
 
-    python3 tools/reference/compare.py PROGRAM [--stage STAGE] [--first N] [--count N] [--refused] [--jobs N] [--keep FOLDER]
+    python3 tools/reference/compare.py PROGRAM [--stage STAGE] [--first N] [--count N]
+                                       [--refused] [--jobs N] [--keep FOLDER]
 
 PROGRAM is a command line that takes `run N` and a script on standard input.
 Prints each difference and a last line 'N compared, M differ'. Exit status 1
@@ -41,7 +42,8 @@ class Task:
         text, horizon = self.script(seed)
         want_status, want = answer(text, horizon, self.stage)
         try:
-            done = subprocess.run([*self.program, "run", str(horizon)], input=text, capture_output=True, timeout=SECONDS)
+            words = [*self.program, "run", str(horizon)]
+            done = subprocess.run(words, input=text, capture_output=True, timeout=SECONDS)
         except subprocess.TimeoutExpired:
             return f"seed {seed} horizon {horizon}: no answer after {SECONDS} seconds"
         if (done.returncode, done.stdout) == (want_status, want):
@@ -56,7 +58,7 @@ def first_difference(have_status: int, have: bytes, want_status: int, want: byte
         if mine != other:
             return f"line {number}: have {mine!r} want {other!r}"
     if have != want:
-        return f"line {min(len(have_lines), len(want_lines)) + 1}: {len(have_lines) - 1} lines, want {len(want_lines) - 1}"
+        return f"length: have {len(have)} bytes want {len(want)}"
     return f"status: have {have_status} want {int(want_status)}"
 
 

@@ -18,6 +18,10 @@ from scenes import SCENES, Part
 __all__ = ["accepted", "refused"]
 
 _GREATEST = 10**18
+_SHARES: dict[Stage, float] = {
+    Stage.THREADS: 0.5, Stage.MUTEXES: 0.7, Stage.WAITING: 0.7, Stage.SIGNALS: 0.6, Stage.TIMERS: 0.5,
+    Stage.QUEUES: 0.6, Stage.WHOLE: 0.6}
+"""How often a topic occurs in the steps of a script."""
 
 
 class ScriptWriter:
@@ -29,24 +33,23 @@ class ScriptWriter:
         self.lines: list[str] = []
         draw = self.draw
         self.threads = [f"t{k}" for k in range(draw.choice((1, 2, 2, 3, 3, 3, 4, 4, 5)))]
-        some = lambda letter, most, since: [  # noqa: E731
-            f"{letter}{k}" for k in range(draw.randint(1, most))] if stage >= since else []
-        self.mutexes = some("m", 3, Stage.MUTEXES)
-        self.conds = some("c", 2, Stage.WAITING)
-        self.sems = some("s", 2, Stage.WAITING)
-        self.timers = some("k", 2, Stage.TIMERS)
-        self.queues = some("q", 2, Stage.QUEUES)
-        self.handlers = some("h", 2, Stage.LANGUAGE)
-        self.cleanups = some("u", 2, Stage.LANGUAGE)
+        self.mutexes = self.some_names("m", 3, Stage.MUTEXES)
+        self.conds = self.some_names("c", 2, Stage.WAITING)
+        self.sems = self.some_names("s", 2, Stage.WAITING)
+        self.timers = self.some_names("k", 2, Stage.TIMERS)
+        self.queues = self.some_names("q", 2, Stage.QUEUES)
+        self.handlers = self.some_names("h", 2, Stage.LANGUAGE)
+        self.cleanups = self.some_names("u", 2, Stage.LANGUAGE)
         self.signals = sorted(draw.sample(range(32), draw.randint(2, 4)))
-        topics: list[tuple[Stage, float]] = [
-            (Stage.THREADS, 0.5), (Stage.MUTEXES, 0.7), (Stage.WAITING, 0.7), (Stage.SIGNALS, 0.6),
-            (Stage.TIMERS, 0.5), (Stage.QUEUES, 0.6), (Stage.WHOLE, 0.6)]
-        self.topics = {topic for topic, share in topics if topic <= stage and draw.random() < share}
-        self.topics |= {stage} & {topic for topic, _ in topics}
+        self.topics = {topic for topic, share in _SHARES.items() if topic <= stage and draw.random() < share}
+        self.topics |= {stage} & set(_SHARES)
         self.handled = draw.choice(self.signals)
         self.steps_left = draw.choice((12, 25, 40, 60))
         self.parts = self.played()
+
+    def some_names(self, letter: str, most: int, since: Stage) -> list[str]:
+        """Names of one kind of object, none before the stage that builds it."""
+        return [f"{letter}{k}" for k in range(self.draw.randint(1, most))] if self.stage >= since else []
 
     def played(self) -> dict[str, list[Part]]:
         """The parts of some scenes, given out to the threads."""
@@ -239,7 +242,8 @@ class ScriptWriter:
     def accepting(self) -> list[str]:
         draw = self.draw
         mask = f"sigmask {draw.choice(('block', 'set', 'unblock'))} {self.signal_set()}"
-        accept = draw.choice((f"sigwaitinfo {self.signal_set()}", f"sigtimedwait {self.signal_set()} {draw.randint(0, 9)}"))
+        accept = draw.choice((
+            f"sigwaitinfo {self.signal_set()}", f"sigtimedwait {self.signal_set()} {draw.randint(0, 9)}"))
         return draw.choice(([accept], [mask], [mask, accept], [mask, *self.sending(), accept]))
 
     def timing(self) -> list[str]:

@@ -68,7 +68,8 @@ def condition(writer: "ScriptWriter") -> list[Part]:
     draw, cond, mutex = writer.draw, writer.draw.choice(writer.conds), writer.mutex()
     parts: list[Part] = []
     for _ in range(draw.randint(1, 3)):
-        wait = draw.choice((f"wait {cond} {mutex}", f"wait {cond} {mutex}", f"timedwait {cond} {mutex} {draw.randint(0, 20)}"))
+        timed = f"timedwait {cond} {mutex} {draw.randint(0, 20)}"
+        wait = draw.choice((f"wait {cond} {mutex}", f"wait {cond} {mutex}", timed))
         parts.append([f"lock {mutex}", *guarded(writer, [wait]), *busy(writer, 2), f"unlock {mutex}"])
     wake = draw.choice((f"signal {cond}", f"broadcast {cond}"))
     inner = [f"nanosleep {draw.randint(1, 6)}", wake, *busy(writer, 2)]
@@ -103,8 +104,9 @@ def handled_waits(writer: "ScriptWriter") -> list[Part]:
     draw, signal = writer.draw, f"rt{writer.handled}"
     waits = [f"nanosleep {draw.randint(3, 12)}", f"clock_nanosleep {draw.randint(5, 30)}"]
     waits += [word for sem in writer.sems for word in (f"sem_wait {sem}", f"sem_timedwait {sem} 40")]
-    waits += [word for queue in writer.queues for word in (
-        f"mq_receive {queue}", f"mq_timedreceive {queue} 40", f"mq_send {queue} 1 1 1", f"mq_timedsend {queue} 1 1 1 40")]
+    for queue in writer.queues:
+        waits += [f"mq_receive {queue}", f"mq_timedreceive {queue} 40"]
+        waits += [f"mq_send {queue} 1 1 1", f"mq_timedsend {queue} 1 1 1 40"]
     waits += ["sigwaitinfo none", "sigtimedwait none 30"]
     sleepers = [[*busy(writer, 1), *guarded(writer, [draw.choice(waits)]), "take", *busy(writer, 1)] for _ in range(2)]
     send = draw.choice((f"kill {signal}", f"tkill {writer.threads[0]} {signal}", f"sigqueue {signal} 12"))
@@ -124,15 +126,23 @@ def periodic(writer: "ScriptWriter") -> list[Part]:
 def queue_of_messages(writer: "ScriptWriter") -> list[Part]:
     """Senders and receivers of one queue, one of them with a notification at times."""
     draw, queue = writer.draw, writer.draw.choice(writer.queues)
-    send = lambda: draw.choice((  # noqa: E731
-        f"mq_send {queue} 4 {draw.randint(0, 2)} {writer.operand()}",
-        f"mq_timedsend {queue} 4 {draw.randint(0, 2)} {draw.randint(1, 99)} {draw.randint(0, 30)}"))
-    receive = lambda: draw.choice((  # noqa: E731
-        f"mq_receive {queue}", f"mq_receive {queue}", f"mq_timedreceive {queue} {draw.randint(0, 30)}"))
+    sends = [send(writer, queue) for _ in range(5)]
+    receives = [receive(writer, queue) for _ in range(3)]
     notify = [f"mq_notify {queue} {writer.signal()} {draw.randint(0, 9)}"] if draw.random() < 0.6 else []
-    return [[*notify, send(), send(), *busy(writer, 1), *guarded(writer, [send()]), send()],
-            [*pause(writer), *notify, receive(), *busy(writer, 2), *guarded(writer, [receive()]), receive()],
-            [*busy(writer, 2), draw.choice((send, receive))(), *notify]]
+    return [[*notify, *sends[:2], *busy(writer, 1), *guarded(writer, sends[2:3]), sends[3]],
+            [*pause(writer), *notify, receives[0], *busy(writer, 2), *guarded(writer, receives[1:2]), receives[2]],
+            [*busy(writer, 2), draw.choice((sends[4], receives[0])), *notify]]
+
+
+def send(writer: "ScriptWriter", queue: str) -> str:
+    draw, urgency = writer.draw, writer.draw.randint(0, 2)
+    return draw.choice((f"mq_send {queue} 4 {urgency} {writer.operand()}",
+                        f"mq_timedsend {queue} 4 {urgency} {draw.randint(1, 99)} {draw.randint(0, 30)}"))
+
+
+def receive(writer: "ScriptWriter", queue: str) -> str:
+    timed = f"mq_timedreceive {queue} {writer.draw.randint(0, 30)}"
+    return writer.draw.choice((f"mq_receive {queue}", f"mq_receive {queue}", timed))
 
 
 def served(writer: "ScriptWriter") -> list[Part]:
@@ -144,7 +154,8 @@ def served(writer: "ScriptWriter") -> list[Part]:
 def cancelled(writer: "ScriptWriter") -> list[Part]:
     """A thread in a cancellation point with cleanups pushed, one that cancels it, and one that joins."""
     draw, thread = writer.draw, writer.draw.choice(writer.threads)
-    points = ["testcancel", f"nanosleep {draw.randint(2, 9)}", "sigwaitinfo none", f"join {draw.choice(writer.threads)}"]
+    points = ["testcancel", f"nanosleep {draw.randint(2, 9)}", "sigwaitinfo none"]
+    points += [f"join {draw.choice(writer.threads)}"]
     points += [f"sem_wait {sem}" for sem in writer.sems] + [f"mq_receive {queue}" for queue in writer.queues]
     inner = [draw.choice(points), *busy(writer, 2), draw.choice(points)]
     ways = [["setcancel disable", *inner, "setcancel enable", "testcancel"], inner, inner, ["exit reg"]]

@@ -31,7 +31,7 @@ def acceptor(kernel: Kernel, record: Record) -> Thread | None:
     waiters = [thread for thread in kernel.threads
                if thread.waits_in(WaitKind.SIGNAL) and thread.wait.signals >> record.signal & 1
                and record.target in (None, thread.number)]
-    return min(waiters, key=lambda thread: (-kernel.exec(thread), thread.wait.serial), default=None)
+    return kernel.best_of(waiters)
 
 
 def outcome_of(kernel: Kernel, record: Record) -> Outcome:
