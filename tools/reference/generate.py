@@ -13,7 +13,7 @@ from random import Random
 
 from forms import RESULTS, Stage
 from mutate import refused
-from scenes import SCENES, Part
+from scenes import CAST, SCENES, SELF, Part
 
 __all__ = ["accepted", "refused"]
 
@@ -94,13 +94,16 @@ class ScriptWriter:
         draw = self.draw
         dormant = self.stage >= Stage.LANGUAGE and self.threads[0] != name and draw.random() < 0.25
         begin = "dormant" if dormant else f"at {draw.choice((0, 0, 0, 1, 2, 3, 5, 8))}"
-        parts = self.parts[name]
+        parts = [[line.replace(SELF, name) for line in part] for part in self.parts[name]]
+        casts = [line[len(CAST):] for part in parts for line in part if line.startswith(CAST)]
+        policy = casts[0] if casts else self.policy()
+        parts = [[line for line in part if not line.startswith(CAST)] for part in parts]
         body = self.block("thread", 1, draw.randint(0, 2) if parts else draw.randint(1, 7))
         for part in parts:
             body += [*part, *self.block("thread", 1, draw.choice((0, 0, 1, 2)))]
         if dormant and self.stage >= Stage.THREADS and draw.random() < 0.7:
             self.parts[self.threads[0]].insert(0, [f"create {name}"])
-        return [f"thread {name} {self.policy()} {begin}", *body, "end"]
+        return [f"thread {name} {policy} {begin}", *body, "end"]
 
     def priority(self) -> int:
         return self.draw.choice((2, 3, 3, 4, 5, 5, 5, 6, 7, 8, 9, 255))

@@ -1,6 +1,9 @@
 """Scenes: parts for several threads that meet at one object, from which generated scripts are made.
 
 A scene gives some parts, each a list of lines for the body of another thread.
+A line `as POLICY` in a part is no line of the body: it casts the thread that
+plays the part, which gets that policy. The word SELF stands for that thread's
+name.
 """
 from __future__ import annotations
 
@@ -11,6 +14,8 @@ from forms import Stage
 if TYPE_CHECKING:
     from generate import ScriptWriter
 
+CAST = "as "
+SELF = "SELF"
 Part = list[str]
 Scene = Callable[["ScriptWriter"], list[Part]]
 
@@ -61,6 +66,17 @@ def priorities_change(writer: "ScriptWriter") -> list[Part]:
                f"setprio {thread} {writer.priority()}"]
     change = [line for line in changes if writer.draw.random() < 0.7]
     return [[*busy(writer, 5), *busy(writer, 5)], [*pause(writer), *change, *busy(writer, 2)], [*busy(writer, 5)]]
+
+
+def slices(writer: "ScriptWriter") -> list[Part]:
+    """Round robin threads of one priority, and a thread that preempts and reschedules one of them in mid slice."""
+    draw, priority, thread = writer.draw, writer.draw.randint(3, 6), writer.draw.choice(writer.threads)
+    inner = [f"setsched {SELF} rr {priority}"] if draw.random() < 0.3 else []
+    workers = [[f"as rr {priority}", f"run {draw.randint(1, 9)}", *inner, *busy(writer, 9)] for _ in range(2)]
+    change = draw.choice((f"setsched {thread} rr {priority}", f"setsched {SELF} rr {priority}",
+                          f"setprio {thread} {priority + 1}", f"setsched {thread} fifo {priority}"))
+    above = [*pause(writer), *busy(writer, 4), change, *pause(writer), *busy(writer, 2), change]
+    return [*workers, [f"as fifo {draw.choice((priority, 9))}", *above]]
 
 
 def condition(writer: "ScriptWriter") -> list[Part]:
@@ -151,6 +167,29 @@ def served(writer: "ScriptWriter") -> list[Part]:
     return [[f"loop {draw.randint(2, 4)}", f"run {draw.randint(1, 4)}", *pause(writer), "end"] for _ in range(3)]
 
 
+def server_at_a_mutex(writer: "ScriptWriter") -> list[Part]:
+    """A server whose budget ends as it asks for a mutex, while the owner has an equal beside it."""
+    draw, mutex, priority = writer.draw, writer.mutex(), writer.draw.randint(3, 5)
+    budget = draw.randint(1, 3)
+    server = f"as sporadic {draw.randint(6, 9)} {draw.randint(1, 2)} {budget + draw.randint(2, 9)} {budget} 1"
+    owner = [f"as fifo {priority}", f"lock {mutex}", "yield", *busy(writer, 3), f"unlock {mutex}", "run 2"]
+    work = [f"run {budget - 1}"] if budget > 1 else []
+    return [owner, [f"as fifo {priority}", *busy(writer, 4), "yield", "run 1"],
+            [server, *pause(writer), *work, f"lock {mutex}", *busy(writer, 4), f"unlock {mutex}", "run 2"]]
+
+
+def new_server(writer: "ScriptWriter") -> list[Part]:
+    """A server that is made anew, with the same parameters, in the tick that uses up its budget or near it."""
+    draw = writer.draw
+    budget = draw.randint(1, 4)
+    high, low, period = draw.randint(6, 9), draw.randint(1, 5), budget + draw.randint(0, 9)
+    policy = f"sporadic {high} {low} {period} {budget} {draw.randint(1, 2)}"
+    work = [f"run {budget - 1}"] if budget > 1 else []
+    again = f"setsched {SELF} {policy}"
+    return [[CAST + policy, *work, again, *busy(writer, 2), *work, draw.choice((again, "yield")), *busy(writer, 5)],
+            [*busy(writer, 5), *pause(writer), *busy(writer, 5)]]
+
+
 def cancelled(writer: "ScriptWriter") -> list[Part]:
     """A thread in a cancellation point with cleanups pushed, one that cancels it, and one that joins."""
     draw, thread = writer.draw, writer.draw.choice(writer.threads)
@@ -172,12 +211,12 @@ def guarded(writer: "ScriptWriter", inner: Part, share: float = 0.3) -> Part:
 
 
 SCENES: dict[Stage, tuple[Scene, ...]] = {
-    Stage.THREADS: (priorities_change,),
+    Stage.THREADS: (priorities_change, slices),
     Stage.MUTEXES: (one_mutex, chain_of_mutexes),
     Stage.WAITING: (condition, condition, semaphore),
     Stage.SIGNALS: (waiting_for_signals, handled_waits),
     Stage.TIMERS: (periodic,),
     Stage.QUEUES: (queue_of_messages, queue_of_messages),
-    Stage.SERVERS: (served,),
+    Stage.SERVERS: (served, server_at_a_mutex, new_server),
     Stage.WHOLE: (cancelled, cancelled),
 }
