@@ -13,7 +13,7 @@ from random import Random
 
 from forms import RESULTS, Stage
 from mutate import refused
-from scenes import CAST, SCENES, SELF, Part
+from scenes import CAST, PEER, SCENES, SELF, Part
 
 __all__ = ["accepted", "refused"]
 
@@ -63,7 +63,7 @@ class ScriptWriter:
         for scene in chosen:
             players = draw.sample(self.threads, len(self.threads))
             for k, part in enumerate(scene(self)):
-                found[players[k % len(players)]].append(part)
+                found[players[k % len(players)]].append([named(line, players) for line in part])
         return found
 
     def script(self) -> str:
@@ -279,6 +279,13 @@ class ScriptWriter:
         draw = self.draw
         inner = self.block("thread", 9, draw.randint(0, 3))
         return [f"push {draw.choice(self.cleanups)}", *inner, f"pop {draw.randint(0, 1)}"]
+
+
+def named(line: str, players: list[str]) -> str:
+    """The line with the names of the threads that play the parts."""
+    for part in range(4):
+        line = line.replace(f"{PEER}{part}", players[part % len(players)])
+    return line
 
 
 def accepted(seed: int, stage: Stage = Stage.WHOLE) -> tuple[bytes, int]:

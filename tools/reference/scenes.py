@@ -3,7 +3,7 @@
 A scene gives some parts, each a list of lines for the body of another thread.
 A line `as POLICY` in a part is no line of the body: it casts the thread that
 plays the part, which gets that policy. The word SELF stands for that thread's
-name.
+name, PEER0 for the name of the thread that plays the first part, and so on.
 """
 from __future__ import annotations
 
@@ -16,6 +16,7 @@ if TYPE_CHECKING:
 
 CAST = "as "
 SELF = "SELF"
+PEER = "PEER"
 Part = list[str]
 Scene = Callable[["ScriptWriter"], list[Part]]
 
@@ -57,6 +58,17 @@ def chain_of_mutexes(writer: "ScriptWriter") -> list[Part]:
         inner = [*busy(writer), *critical_section(writer, below, busy(writer))]
         parts.append([*pause(writer), *critical_section(writer, own, inner)])
     return parts
+
+
+def lent_priority_waits(writer: "ScriptWriter") -> list[Part]:
+    """A waiter with a lent priority stands before one with a higher priority of its own."""
+    if len(writer.mutexes) < 2 or writer.stage < Stage.WAITING:
+        return chain_of_mutexes(writer)
+    first, second = writer.draw.sample(writer.mutexes, 2)
+    return [["as fifo 2", *critical_section(writer, first, ["run 8", *busy(writer, 3)])],
+            ["as fifo 3", "nanosleep 1", *critical_section(writer, second, critical_section(writer, first, ["run 1"]))],
+            ["as fifo 5", f"nanosleep {writer.draw.randint(1, 3)}", *critical_section(writer, first, busy(writer))],
+            ["as fifo 9", f"nanosleep {writer.draw.randint(2, 4)}", *critical_section(writer, second, busy(writer))]]
 
 
 def priorities_change(writer: "ScriptWriter") -> list[Part]:
@@ -110,7 +122,8 @@ def waiting_for_signals(writer: "ScriptWriter") -> list[Part]:
     wait = draw.choice((f"sigwaitinfo {signal}", "sigwaitinfo all", f"sigtimedwait {signal} {draw.randint(0, 12)}"))
     sends = [f"kill {signal}", f"tkill {thread} {signal}", f"sigqueue {signal} {writer.operand()}"]
     masked = [f"sigmask block {signal}"] if draw.random() < 0.6 else []
-    return [[*masked, *guarded(writer, [wait]), *busy(writer, 1)],
+    waits = [*pause(writer), *guarded(writer, [wait]), *busy(writer, 1)]
+    return [[*(masked if draw.random() < 0.7 else []), *waits],
             [*masked, draw.choice(sends), draw.choice(sends), *busy(writer, 1), draw.choice(sends)],
             [*masked, *busy(writer, 3), f"sigmask unblock {signal}", *pause(writer)]]
 
@@ -137,6 +150,16 @@ def periodic(writer: "ScriptWriter") -> list[Part]:
     first = draw.choice((f"rel {draw.randint(1, 5)}", f"abs {draw.randint(1, 12)}"))
     return [[f"sigmask block {draw.choice((signal, 'all'))}", f"timer_settime {timer} {first} {interval}",
              f"loop {draw.randint(2, 4)}", *body, "end", f"timer_gettime {timer}"], busy(writer, 9)]
+
+
+def overruns(writer: "ScriptWriter") -> list[Part]:
+    """A thread that works longer than the interval of its timer, and at times sets it anew."""
+    draw, timer = writer.draw, writer.draw.choice(writer.timers)
+    again = draw.choice(([], [f"timer_settime {timer} rel {draw.randint(0, 3)} {draw.randint(0, 2)}"]))
+    accept = [draw.choice(("sigwaitinfo all", "sigtimedwait all 4")), f"timer_getoverrun {timer}"]
+    return [["as fifo 8", "sigmask block all", f"timer_settime {timer} rel 1 {draw.randint(1, 2)}",
+             f"run {draw.randint(3, 7)}", *again, *busy(writer, 4), *accept, *again, *busy(writer, 4), *accept],
+            ["sigmask block all", *busy(writer, 9)]]
 
 
 def queue_of_messages(writer: "ScriptWriter") -> list[Part]:
@@ -192,15 +215,37 @@ def new_server(writer: "ScriptWriter") -> list[Part]:
 
 def cancelled(writer: "ScriptWriter") -> list[Part]:
     """A thread in a cancellation point with cleanups pushed, one that cancels it, and one that joins."""
-    draw, thread = writer.draw, writer.draw.choice(writer.threads)
+    draw, victim = writer.draw, draw_peer(writer, 0)
     points = ["testcancel", f"nanosleep {draw.randint(2, 9)}", "sigwaitinfo none"]
     points += [f"join {draw.choice(writer.threads)}"]
     points += [f"sem_wait {sem}" for sem in writer.sems] + [f"mq_receive {queue}" for queue in writer.queues]
     inner = [draw.choice(points), *busy(writer, 2), draw.choice(points)]
     ways = [["setcancel disable", *inner, "setcancel enable", "testcancel"], inner, inner, ["exit reg"]]
     return [[*guarded(writer, draw.choice(ways), 0.9), *busy(writer, 1)],
-            [*pause(writer), f"cancel {thread}", *busy(writer, 1)],
-            [f"join {thread}", "take", *busy(writer, 1)]]
+            [*pause(writer), f"cancel {victim}", *busy(writer, 1)],
+            [f"join {victim}", "take", *busy(writer, 1)]]
+
+
+def draw_peer(writer: "ScriptWriter", part: int) -> str:
+    """The thread that plays a part of the scene, or at times any thread."""
+    return f"{PEER}{part}" if writer.draw.random() < 0.8 else writer.draw.choice(writer.threads)
+
+
+def cancelled_at_a_mutex(writer: "ScriptWriter") -> list[Part]:
+    """A thread is cancelled while it waits or contends for a mutex, and comes to a cancellation point later."""
+    draw, mutex, cond = writer.draw, writer.mutex(), writer.draw.choice(writer.conds)
+    waits = draw.choice(([f"wait {cond} {mutex}"], [f"timedwait {cond} {mutex} 4"], busy(writer)))
+    victim = [f"lock {mutex}", *guarded(writer, waits, 0.6), f"unlock {mutex}", "testcancel", "run 2"]
+    owner = [*pause(writer), f"lock {mutex}", *busy(writer, 2), f"broadcast {cond}", "run 4", f"unlock {mutex}"]
+    return [victim, owner, [f"nanosleep {draw.randint(1, 5)}", f"cancel {draw_peer(writer, 0)}", *busy(writer, 2)]]
+
+
+def cancelled_joiner(writer: "ScriptWriter") -> list[Part]:
+    """A joiner is cancelled, and another thread joins in its place."""
+    draw, joined = writer.draw, f"{PEER}1"
+    return [guarded(writer, [f"join {joined}", "run 1"], 0.5),
+            [f"nanosleep {draw.randint(3, 9)}", f"exit {draw.randint(0, 9)}"],
+            [f"nanosleep {draw.randint(1, 4)}", f"cancel {PEER}0", f"join {joined}", "take", *busy(writer, 2)]]
 
 
 def guarded(writer: "ScriptWriter", inner: Part, share: float = 0.3) -> Part:
@@ -212,11 +257,11 @@ def guarded(writer: "ScriptWriter", inner: Part, share: float = 0.3) -> Part:
 
 SCENES: dict[Stage, tuple[Scene, ...]] = {
     Stage.THREADS: (priorities_change, slices),
-    Stage.MUTEXES: (one_mutex, chain_of_mutexes),
+    Stage.MUTEXES: (one_mutex, chain_of_mutexes, lent_priority_waits),
     Stage.WAITING: (condition, condition, semaphore),
     Stage.SIGNALS: (waiting_for_signals, handled_waits),
-    Stage.TIMERS: (periodic,),
+    Stage.TIMERS: (periodic, overruns),
     Stage.QUEUES: (queue_of_messages, queue_of_messages),
     Stage.SERVERS: (served, server_at_a_mutex, new_server),
-    Stage.WHOLE: (cancelled, cancelled),
+    Stage.WHOLE: (cancelled, cancelled_at_a_mutex, cancelled_joiner),
 }
