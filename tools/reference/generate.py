@@ -120,7 +120,7 @@ class ScriptWriter:
                 return f"{kind} {self.priority()}"
 
     def object(self, name: str) -> list[str]:
-        protocol = self.draw.choice(("none", "inherit", "inherit", "inherit", f"protect {self.priority()}"))
+        protocol = self.draw.choice(("none", "inherit", "inherit", "inherit", *[f"protect {self.priority()}"] * 2))
         return [f"mutex {name} {protocol}{self.draw.choice(('', '', ' recursive'))}"]
 
     def queue(self, name: str) -> list[str]:

@@ -60,6 +60,20 @@ def chain_of_mutexes(writer: "ScriptWriter") -> list[Part]:
     return parts
 
 
+def ring_of_mutexes(writer: "ScriptWriter") -> list[Part]:
+    """Each of two threads owns a mutex and asks for the other's: the second to ask closes a ring."""
+    if len(writer.mutexes) < 2:
+        return one_mutex(writer)
+    first, second = writer.draw.sample(writer.mutexes, 2)
+    rest = ["nanosleep 2"] if writer.stage >= Stage.WAITING else ["yield"]
+    ask = f"lock {first}"
+    if writer.stage >= Stage.WAITING and writer.draw.random() < 0.4:
+        ask = f"timedlock {first} {writer.draw.randint(0, 9)}"
+    return [["as fifo 4", f"lock {first}", *rest, *critical_section(writer, second, []), f"unlock {first}"],
+            ["as fifo 4", f"lock {second}", *rest, ask, f"unlock {first}", f"unlock {second}"],
+            ["as fifo 2", *critical_section(writer, first, critical_section(writer, second, busy(writer)))]]
+
+
 def lent_priority_waits(writer: "ScriptWriter") -> list[Part]:
     """A waiter with a lent priority stands before one with a higher priority of its own."""
     if len(writer.mutexes) < 2 or writer.stage < Stage.WAITING:
@@ -168,9 +182,11 @@ def queue_of_messages(writer: "ScriptWriter") -> list[Part]:
     sends = [send(writer, queue) for _ in range(5)]
     receives = [receive(writer, queue) for _ in range(3)]
     notify = [f"mq_notify {queue} {writer.signal()} {draw.randint(0, 9)}"] if draw.random() < 0.6 else []
+    accept = [f"sigtimedwait all {draw.randint(0, 3)}"]
     return [[*notify, *sends[:2], *busy(writer, 1), *guarded(writer, sends[2:3]), sends[3]],
             [*pause(writer), *notify, receives[0], *busy(writer, 2), *guarded(writer, receives[1:2]), receives[2]],
-            [*busy(writer, 2), draw.choice((sends[4], receives[0])), *notify]]
+            [*busy(writer, 2), draw.choice((sends[4], receives[0])), *notify],
+            ["sigmask block all", *notify, sends[4], *notify, receives[0], *accept, *notify]]
 
 
 def send(writer: "ScriptWriter", queue: str) -> str:
@@ -257,7 +273,7 @@ def guarded(writer: "ScriptWriter", inner: Part, share: float = 0.3) -> Part:
 
 SCENES: dict[Stage, tuple[Scene, ...]] = {
     Stage.THREADS: (priorities_change, slices),
-    Stage.MUTEXES: (one_mutex, chain_of_mutexes, lent_priority_waits),
+    Stage.MUTEXES: (one_mutex, chain_of_mutexes, ring_of_mutexes, lent_priority_waits),
     Stage.WAITING: (condition, condition, semaphore),
     Stage.SIGNALS: (waiting_for_signals, handled_waits),
     Stage.TIMERS: (periodic, overruns),
