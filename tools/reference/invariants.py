@@ -3,7 +3,7 @@ from __future__ import annotations
 
 from typing import TYPE_CHECKING
 
-from script import Rr, Sporadic
+from script import Guard, Rr, Sporadic
 from state import FrameKind, Plain, Replenishment, Server, SigCode, Thread, ThreadState, WaitKind
 
 if TYPE_CHECKING:
@@ -98,9 +98,8 @@ def check_thread(kernel: "Kernel", thread: Thread) -> None:
     assert kinds == order and (kinds[:1] == [FrameKind.MAIN]) == thread.is_live, at
     assert len(thread.cleanups) <= 8, at
     if thread.is_live and not thread.ending and thread.frames[0].unit is not Plain.FINISH:
-        pushed = sum(1 for level in thread.frames[0].levels if hasattr(level.opener, "cleanup"))
-        pending_push = thread.frames[0].left > 0 and getattr(thread.frames[0].unit, "word", "") in ("push", "pop")
-        assert pending_push or len(thread.cleanups) == pushed, at
+        pushed = sum(1 for level in thread.frames[0].levels if isinstance(level.opener, Guard))
+        assert len(thread.cleanups) == pushed, at
 
 
 def check_waits(kernel: "Kernel") -> None:

@@ -13,7 +13,11 @@ Snapshot = list[tuple[bool, int]]
 
 
 class Kernel:
-    """The state: plain lists of threads, objects and pending signals, and what happened so far."""
+    """The state: plain lists of threads, objects and pending signals, and what happened so far.
+
+    `now` is the instant; `time` is the time of what happens, which within a
+    tick is the instant that ends it.
+    """
 
     def __init__(self, script: Script) -> None:
         self.now = 0
