@@ -61,7 +61,8 @@ fn agreeing_in(patterns: &[Pattern], words: &Words<'_>) -> bool
 {
     match patterns {
         [] => false,
-        [pattern, rest @ ..] => (pattern.built && agrees(pattern.places, words.again())) || agreeing_in(rest, words),
+        [pattern, rest @ ..] => (pattern.built && agrees(pattern.places, words.again()))
+            || agreeing_in(rest, words),
     }
 }
 

@@ -4,8 +4,9 @@ ghost use Rattle.script_table.specs.Patterns.{row_of, rows_of};
 ghost use Rattle.script_table.specs.Table.{declaration_patterns, step_patterns, call_patterns, patterns};
 
 use crate::{
-    ActionForm, Bar, BlockForm, BodyForm, CallForm, CloseForm, Form, MessageCall, MutexCall, NameKind,
-    ObjectForm, Pattern, Place, SemCall, SignalCall, StepForm, Table, ThreadCall, TimeCall,
+    ActionForm, Bar, BlockForm, BodyForm, CallForm, CloseForm, Form, MessageCall, MutexCall,
+    NameKind, ObjectForm, Pattern, Place, SemCall, SignalCall, StepForm, Table, ThreadCall,
+    TimeCall,
 };
 
 // The greatest number of a script.
@@ -33,7 +34,7 @@ macro_rules! pattern {
 }
 
 static DECLARATIONS: [Pattern; 22] = [
-    pattern!(Form::Quantum, Nowhere, true, b"quantum" (1, GREATEST)),
+    pattern!(Form::Quantum, Nowhere, true, b"quantum"(1, GREATEST)),
     pattern!(Form::Body(BodyForm::FifoAt), Nowhere, true, b"thread" (new Thread) b"fifo" P b"at" N),
     pattern!(Form::Body(BodyForm::FifoDormant), Nowhere, true, b"thread" (new Thread) b"fifo" P b"dormant"),
     pattern!(Form::Body(BodyForm::RrAt), Nowhere, false, b"thread" (new Thread) b"rr" P b"at" N),
@@ -58,13 +59,23 @@ static DECLARATIONS: [Pattern; 22] = [
 ];
 
 static STEPS: [Pattern; 12] = [
-    pattern!(Form::Step(StepForm::Run), Nowhere, true, b"run" (1, GREATEST)),
+    pattern!(
+        Form::Step(StepForm::Run),
+        Nowhere,
+        true,
+        b"run"(1, GREATEST)
+    ),
     pattern!(Form::Step(StepForm::Set), Nowhere, true, b"set" N),
     pattern!(Form::Step(StepForm::Add), Nowhere, true, b"add" N),
     pattern!(Form::Step(StepForm::Take), Nowhere, true, b"take"),
     pattern!(Form::Block(BlockForm::If), Nowhere, true, b"if" R),
     pattern!(Form::Block(BlockForm::Unless), Nowhere, true, b"unless" R),
-    pattern!(Form::Block(BlockForm::Loop), Nowhere, true, b"loop" (1, GREATEST)),
+    pattern!(
+        Form::Block(BlockForm::Loop),
+        Nowhere,
+        true,
+        b"loop"(1, GREATEST)
+    ),
     pattern!(Form::Block(BlockForm::Forever), Nowhere, true, b"forever"),
     pattern!(Form::Block(BlockForm::Push), HandlersAndCleanups, false, b"push" (of Cleanup)),
     pattern!(Form::Close(CloseForm::End), Nowhere, true, b"end"),
@@ -73,11 +84,21 @@ static STEPS: [Pattern; 12] = [
 ];
 
 static CALLS: [Pattern; 45] = [
-    pattern!(Form::Call(CallForm::Thread(ThreadCall::Yield)), Nowhere, true, b"yield"),
+    pattern!(
+        Form::Call(CallForm::Thread(ThreadCall::Yield)),
+        Nowhere,
+        true,
+        b"yield"
+    ),
     pattern!(Form::Call(CallForm::Thread(ThreadCall::Create)), Nowhere, false, b"create" (of Thread)),
     pattern!(Form::Call(CallForm::Thread(ThreadCall::Join)), HandlersAndCleanups, false, b"join" (of Thread)),
     pattern!(Form::Call(CallForm::Thread(ThreadCall::Cancel)), Nowhere, false, b"cancel" (of Thread)),
-    pattern!(Form::Call(CallForm::Thread(ThreadCall::Testcancel)), HandlersAndCleanups, false, b"testcancel"),
+    pattern!(
+        Form::Call(CallForm::Thread(ThreadCall::Testcancel)),
+        HandlersAndCleanups,
+        false,
+        b"testcancel"
+    ),
     pattern!(Form::Call(CallForm::Thread(ThreadCall::SetcancelEnable)), Nowhere, false, b"setcancel" b"enable"),
     pattern!(Form::Call(CallForm::Thread(ThreadCall::SetcancelDisable)), Nowhere, false, b"setcancel" b"disable"),
     pattern!(Form::Call(CallForm::Thread(ThreadCall::Exit)), HandlersAndCleanups, false, b"exit" V),
@@ -100,7 +121,12 @@ static CALLS: [Pattern; 45] = [
     pattern!(Form::Call(CallForm::Sem(SemCall::Post)), Nowhere, false, b"sem_post" (of Sem)),
     pattern!(Form::Call(CallForm::Time(TimeCall::Nanosleep)), HandlersAndCleanups, false, b"nanosleep" N),
     pattern!(Form::Call(CallForm::Time(TimeCall::ClockNanosleep)), HandlersAndCleanups, false, b"clock_nanosleep" V),
-    pattern!(Form::Call(CallForm::Time(TimeCall::Gettime)), Nowhere, false, b"gettime"),
+    pattern!(
+        Form::Call(CallForm::Time(TimeCall::Gettime)),
+        Nowhere,
+        false,
+        b"gettime"
+    ),
     pattern!(Form::Call(CallForm::Time(TimeCall::TimerSettimeRel)), Nowhere, false, b"timer_settime" (of Timer) b"rel" N N),
     pattern!(Form::Call(CallForm::Time(TimeCall::TimerSettimeAbs)), Nowhere, false, b"timer_settime" (of Timer) b"abs" V N),
     pattern!(Form::Call(CallForm::Time(TimeCall::TimerGettime)), Nowhere, false, b"timer_gettime" (of Timer)),

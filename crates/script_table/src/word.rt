@@ -43,7 +43,11 @@ fn signal_number(digits: &[u8]) -> Option<u8>
     ensures range { IfSome result (λ sig. sig ≤ 31) }
 {
     match digits {
-        [digit] => if is_digit(*digit) { Some(*digit - b'0') } else { None },
+        [digit] => if is_digit(*digit) {
+            Some(*digit - b'0')
+        } else {
+            None
+        },
         [tens, digit] => two_digits(*tens, *digit),
         _ => None,
     }

@@ -48,5 +48,5 @@ pub taken_in : (es new : List Entry) (n : ℕ) (kind : NameKind) (name : List �
     new ≡ es ++ record { name = name; kind = kind; line = n; number = number } ∷ [] → new ≡ with_name es n kind name
 taken_in es new n kind name number none is_number is =
     let same : new ≡ es ++ record { name = name; kind = kind; line = n; number = count_of (counts_from no_counts es) kind } ∷ [] =
-        subst (λ (k : ℕ). new ≡ es ++ record { name = name; kind = kind; line = n; number = k } ∷ []) is_number is in
+    subst (λ (k : ℕ). new ≡ es ++ record { name = name; kind = kind; line = n; number = k } ∷ []) is_number is in
     same ∙ ap (λ (o : Option Entry). cond (is_some o) es (es ++ record { name = name; kind = kind; line = n; number = count_of (counts_from no_counts es) kind } ∷ [])) none

@@ -4,7 +4,9 @@ ghost use Rattle.script_table.specs.Patterns.{same_closer, same_kind, is_barred}
 ghost use Rattle.script_table.specs.Structure.{body_kind, closer_of, closed_by, not_here, step_faults, close_faults, inner, opened, tail_of, is_nil};
 ghost use Rattle.script_table.specs.Faults.{least_kind, when};
 
-use script_table::{Bar, BlockForm, BodyForm, CloseForm, Closer, FaultKind, Form, NameKind, Opening};
+use script_table::{
+    Bar, BlockForm, BodyForm, CloseForm, Closer, FaultKind, Form, NameKind, Opening,
+};
 use std::alloc::{AllocError, Global};
 use std::marker::Model;
 

@@ -4,9 +4,13 @@ ghost use Rattle.script_table.specs.Calls.{thread_call, mutex_call, sem_call, ti
 
 use crate::Call;
 use crate::names::Names;
-use crate::operands::{amount, fifo, number_in, object, operand, priority, rr, signal, signals, sporadic, thread};
+use crate::operands::{
+    amount, fifo, number_in, object, operand, priority, rr, signal, signals, sporadic, thread,
+};
 use script_lex::Words;
-use script_table::{CallForm, MessageCall, MutexCall, NameKind, SemCall, SignalCall, ThreadCall, TimeCall};
+use script_table::{
+    CallForm, MessageCall, MutexCall, NameKind, SemCall, SignalCall, ThreadCall, TimeCall,
+};
 
 fn thread_call(names: &Names<'_>, form: ThreadCall, words: &Words<'_>) -> Option<Call>
     ensures { result ≡ thread_call names.now form words.now.words }
@@ -88,7 +92,12 @@ fn time_call(names: &Names<'_>, form: TimeCall, words: &Words<'_>) -> Option<Cal
             amount(4, words)?,
         ),
         TimeCall::TimerGettime => Call::TimerGettime(object(NameKind::Timer, names, 1, words)?),
-        TimeCall::TimerGetoverrun => Call::TimerGetoverrun(object(NameKind::Timer, names, 1, words)?),
+        TimeCall::TimerGetoverrun => Call::TimerGetoverrun(object(
+            NameKind::Timer,
+            names,
+            1,
+            words,
+        )?),
     })
 }
 

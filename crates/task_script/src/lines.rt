@@ -7,10 +7,10 @@ ghost use Rattle.script_table.specs.Patterns.{rows_of};
 ghost use Rattle.script_table.specs.Structure.{line_faults, said_line, said_from, behind_line, phase_one};
 ghost use Rattle.task_script.specs.Ends.{EndsBy};
 
+use crate::ScriptEnd;
 use crate::blocks::Blocks;
 use crate::line::line_fault;
 use crate::statement::Statement;
-use crate::ScriptEnd;
 use script_lex::{Line, Lines};
 use script_table::{FaultKind, Table, pattern_of};
 use std::alloc::Global;

@@ -3,7 +3,9 @@ ghost use Rattle.std.specs.Prelude.{◌≡◌};
 ghost use Rattle.script_table.specs.Meaning.{kind_of_object, object_decl, action_decl, kind_of_body, body_decl, plain_step, runs_cleanup, block_step};
 
 use crate::names::Names;
-use crate::operands::{GREATEST, amount, answer, fifo, name, number_in, object, priority, rr, signal, sporadic};
+use crate::operands::{
+    GREATEST, amount, answer, fifo, name, number_in, object, priority, rr, signal, sporadic,
+};
 use crate::{Body, Decl, Kind, Protocol, Step};
 use script_lex::Words;
 use script_table::{ActionForm, BlockForm, BodyForm, CloseForm, NameKind, ObjectForm, StepForm};

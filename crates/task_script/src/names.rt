@@ -91,14 +91,7 @@ impl<'a> Names<'a> {
         }
         let _ = self.index.len();
         let number = self.counts.of(kind);
-        self.index.insert(
-            name,
-            Declaration {
-                kind,
-                line,
-                number,
-            },
-        )?;
+        self.index.insert(name, Declaration { kind, line, number })?;
         self.counts.add(kind);
         Ok(())
     }

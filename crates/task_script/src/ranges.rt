@@ -13,7 +13,9 @@ use crate::operands::{GREATEST, held, is_within};
 use crate::statement::Statement;
 use crate::tally::Tally;
 use script_lex::Words;
-use script_table::{BodyForm, CallForm, FaultKind, Form, Place, ThreadCall, is_register, lesser_first};
+use script_table::{
+    BodyForm, CallForm, FaultKind, Form, Place, ThreadCall, is_register, lesser_first,
+};
 
 fn ranging(place: &Place, word: &[u8]) -> Option<FaultKind>
     ensures { result ≡ ranging (spot_of place.now) word.now }

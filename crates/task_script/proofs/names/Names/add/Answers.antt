@@ -14,7 +14,7 @@ use Rattle.task_script.proofs.names.Names.add.Goals.{In_ok-insert}
 pub add-requires : goal.add-requires
 add-requires c =
     let few : length (map entry_of_pair c.self.inside.index.entries) < 2 ^ 63 =
-        subst (λ n. n < 2 ^ 63) (c.len.ensures.len ∙ sym (length-map c.self.inside.index.entries entry_of_pair)) c.len.ensures.small in
+    subst (λ n. n < 2 ^ 63) (c.len.ensures.len ∙ sym (length-map c.self.inside.index.entries entry_of_pair)) c.len.ensures.small in
     count_fits (map entry_of_pair c.self.inside.index.entries) c.args.kind c.self.inside.counts (2 ^ 63) c.self.invariant few
 
 -- the entries once the name is in
