@@ -1,0 +1,13 @@
+pub mod Faults
+pub mod Words
+pub mod Patterns
+pub mod Table
+pub mod LineFaults
+pub mod Structure
+pub mod Names
+pub mod Ranges
+pub mod Operands
+pub mod Calls
+pub mod Meaning
+pub mod Build
+pub mod Read

@@ -1,0 +1,161 @@
+// The forms of lines: one for each pattern.
+
+/// What a line of a script is.
+#[derive(Clone, Copy, Debug, PartialEq, Eq)]
+pub enum Form {
+    Quantum,
+    /// A declaration of an object without a body.
+    Object(ObjectForm),
+    /// What a signal does.
+    Action(ActionForm),
+    /// A declaration that opens a body.
+    Body(BodyForm),
+    Step(StepForm),
+    Call(CallForm),
+    /// A step that opens a block.
+    Block(BlockForm),
+    /// A line that closes a block or a body.
+    Close(CloseForm),
+}
+
+#[derive(Clone, Copy, Debug, PartialEq, Eq)]
+pub enum ObjectForm {
+    MutexNone,
+    MutexNoneRecursive,
+    MutexInherit,
+    MutexInheritRecursive,
+    MutexProtect,
+    MutexProtectRecursive,
+    Cond,
+    Sem,
+    Queue,
+    QueueNonblock,
+    Timer,
+}
+
+#[derive(Clone, Copy, Debug, PartialEq, Eq)]
+pub enum ActionForm {
+    Ignore,
+    Run,
+}
+
+#[derive(Clone, Copy, Debug, PartialEq, Eq)]
+pub enum BodyForm {
+    FifoAt,
+    FifoDormant,
+    RrAt,
+    RrDormant,
+    SporadicAt,
+    SporadicDormant,
+    Handler,
+    Cleanup,
+}
+
+#[derive(Clone, Copy, Debug, PartialEq, Eq)]
+pub enum StepForm {
+    Run,
+    Set,
+    Add,
+    Take,
+}
+
+#[derive(Clone, Copy, Debug, PartialEq, Eq)]
+pub enum BlockForm {
+    If,
+    Unless,
+    Loop,
+    Forever,
+    Push,
+}
+
+#[derive(Clone, Copy, Debug, PartialEq, Eq)]
+pub enum CloseForm {
+    End,
+    /// `pop 0`: the cleanup handler does not run.
+    Pop,
+    /// `pop 1`: the cleanup handler runs.
+    PopRun,
+}
+
+#[derive(Clone, Copy, Debug, PartialEq, Eq)]
+pub enum CallForm {
+    Thread(ThreadCall),
+    Mutex(MutexCall),
+    Sem(SemCall),
+    Time(TimeCall),
+    Signal(SignalCall),
+    Message(MessageCall),
+}
+
+/// Calls on threads, their scheduling and their cancellation.
+#[derive(Clone, Copy, Debug, PartialEq, Eq)]
+pub enum ThreadCall {
+    Yield,
+    Create,
+    Join,
+    Cancel,
+    Testcancel,
+    SetcancelEnable,
+    SetcancelDisable,
+    Exit,
+    Setprio,
+    SetschedFifo,
+    SetschedRr,
+    SetschedSporadic,
+}
+
+/// Calls on mutexes and conditions.
+#[derive(Clone, Copy, Debug, PartialEq, Eq)]
+pub enum MutexCall {
+    Lock,
+    Timedlock,
+    Trylock,
+    Unlock,
+    Wait,
+    Timedwait,
+    Signal,
+    Broadcast,
+}
+
+#[derive(Clone, Copy, Debug, PartialEq, Eq)]
+pub enum SemCall {
+    Wait,
+    Timedwait,
+    Trywait,
+    Getvalue,
+    Post,
+}
+
+/// Calls on clocks and timers.
+#[derive(Clone, Copy, Debug, PartialEq, Eq)]
+pub enum TimeCall {
+    Nanosleep,
+    ClockNanosleep,
+    Gettime,
+    TimerSettimeRel,
+    TimerSettimeAbs,
+    TimerGettime,
+    TimerGetoverrun,
+}
+
+#[derive(Clone, Copy, Debug, PartialEq, Eq)]
+pub enum SignalCall {
+    Kill,
+    Tkill,
+    Sigqueue,
+    SigmaskBlock,
+    SigmaskUnblock,
+    SigmaskSet,
+    Sigwaitinfo,
+    Sigtimedwait,
+}
+
+/// Calls on message queues.
+#[derive(Clone, Copy, Debug, PartialEq, Eq)]
+pub enum MessageCall {
+    Send,
+    Timedsend,
+    Receive,
+    Timedreceive,
+    Notify,
+}

@@ -1,0 +1,19 @@
+//! The patterns of a script's lines, what single words say, and the kinds of faults.
+#![tactic(auto)]
+
+mod fault;
+mod form;
+mod line;
+mod pattern;
+mod table;
+mod word;
+
+pub use fault::{FaultKind, lesser_first};
+pub use form::{
+    ActionForm, BlockForm, BodyForm, CallForm, CloseForm, Form, MessageCall, MutexCall, ObjectForm,
+    SemCall, SignalCall, StepForm, ThreadCall, TimeCall,
+};
+pub use line::{agreeing, pattern_of, spelling_fault};
+pub use pattern::{Bar, Closer, NameKind, Opening, Pattern, Place, Table};
+pub use table::patterns;
+pub use word::{answer_of, capped_value, is_number, is_register, set_of, signal_of};

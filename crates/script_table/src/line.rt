@@ -1,0 +1,160 @@
+// The pattern of a line.
+ghost use Rattle.std.specs.Prelude.{◌≡◌, ◌∷◌, [], map};
+ghost use Rattle.std.specs.Option.{option_map};
+ghost use Rattle.script_table.specs.Faults.{least_kind};
+ghost use Rattle.script_table.specs.Patterns.{spot_of, row_of, rows_of};
+ghost use Rattle.script_table.specs.LineFaults.{stands, agrees, fits, agreeing, fitting, spelling, place_faults, fitting_some, unless};
+ghost use Rattle.script_tree.specs.Names.{is_name};
+
+use crate::fault::lesser_first;
+use crate::word::{answer_of, is_number, is_register, set_of, signal_of};
+use crate::{FaultKind, Pattern, Place, Table};
+use script_lex::Words;
+use script_tree::Name;
+
+fn stands(place: &Place, word: &[u8]) -> bool
+    ensures { result ≡ stands (spot_of place.now) word.now }
+{
+    match place {
+        Place::Keyword(keyword) => word == *keyword,
+        Place::Answer => answer_of(word).is_some(),
+        _ => true,
+    }
+}
+
+fn agrees(places: &[Place], mut words: Words<'_>) -> bool
+    ensures { result ≡ agrees (map spot_of places.now) words.entry.words }
+{
+    match places {
+        [] => true,
+        [place, rest @ ..] => match words.next_word() {
+            None => true,
+            Some(word) => stands(place, word.bytes) && agrees(rest, words),
+        },
+    }
+}
+
+fn fits(places: &[Place], mut words: Words<'_>) -> bool
+    ensures { result ≡ fits (map spot_of places.now) words.entry.words }
+{
+    match places {
+        [] => words.next_word().is_none(),
+        [place, rest @ ..] => match words.next_word() {
+            None => false,
+            Some(word) => stands(place, word.bytes) && fits(rest, words),
+        },
+    }
+}
+
+// The same, where the first word is known.
+fn fits_first(places: &[Place], first: &[u8], words: &Words<'_>) -> bool
+    ensures { result ≡ fits (map spot_of places.now) (first.now ∷ words.now.words) }
+{
+    match places {
+        [] => false,
+        [place, rest @ ..] => stands(place, first) && fits(rest, words.again()),
+    }
+}
+
+fn agreeing_in(patterns: &[Pattern], words: &Words<'_>) -> bool
+    ensures { result ≡ agreeing (map row_of patterns.now) words.now.words }
+{
+    match patterns {
+        [] => false,
+        [pattern, rest @ ..] => (pattern.built && agrees(pattern.places, words.again()))
+            || agreeing_in(rest, words),
+    }
+}
+
+fn fitting_in(
+    patterns: &'static [Pattern],
+    first: &[u8],
+    words: &Words<'_>,
+) -> Option<&'static Pattern>
+    ensures { option_map (λ p. row_of p.now) result ≡ fitting (map row_of patterns.now) (first.now ∷ words.now.words) }
+{
+    match patterns {
+        [] => None,
+        [pattern, rest @ ..] => if pattern.built && fits_first(pattern.places, first, words) {
+            Some(pattern)
+        } else {
+            fitting_in(rest, first, words)
+        },
+    }
+}
+
+fn fitting(table: &Table, first: &[u8], words: &Words<'_>) -> Option<&'static Pattern>
+    ensures { option_map (λ p. row_of p.now) result ≡ fitting (rows_of table.now) (first.now ∷ words.now.words) }
+{
+    if let Some(pattern) = fitting_in(table.declarations, first, words) {
+        return Some(pattern);
+    }
+    if let Some(pattern) = fitting_in(table.steps, first, words) {
+        return Some(pattern);
+    }
+    fitting_in(table.calls, first, words)
+}
+
+/// Whether a built pattern of the table agrees with a line of these words: each of its keywords stands at its place, or the line is
+/// too short to have that place.
+pub fn agreeing(table: &Table, words: &Words<'_>) -> bool
+    ensures { result ≡ agreeing (rows_of table.now) words.now.words }
+{
+    agreeing_in(table.declarations, words)
+        || (agreeing_in(table.steps, words) || agreeing_in(table.calls, words))
+}
+
+/// The built pattern of the table that agrees with a line of these words and has their number; `None` exactly where there is none.
+pub fn pattern_of(table: &Table, words: &Words<'_>) -> Option<&'static Pattern>
+    ensures { option_map (λ p. row_of p.now) result ≡ fitting_some (rows_of table.now) words.now.words }
+{
+    let mut rest = words.again();
+    match rest.next_word() {
+        None => None,
+        Some(first) => fitting(table, first.bytes, &rest),
+    }
+}
+
+fn is_name(word: &[u8]) -> bool
+    ensures { result ≡ is_name word.now }
+{
+    Name::try_new(word).is_some()
+}
+
+fn unless(holds: bool, kind: FaultKind) -> Option<FaultKind>
+    ensures { result ≡ unless holds kind }
+{
+    if holds { None } else { Some(kind) }
+}
+
+fn spelling(place: &Place, word: &[u8]) -> Option<FaultKind>
+    ensures { result ≡ spelling (spot_of place.now) word.now }
+{
+    match place {
+        Place::Keyword(_) => None,
+        Place::Answer => None,
+        Place::Number { .. } => unless(is_number(word), FaultKind::BadNumber),
+        Place::Operand => unless(is_number(word) || is_register(word), FaultKind::BadNumber),
+        Place::Declares(_) => unless(is_name(word), FaultKind::BadName),
+        Place::Uses(_) => unless(is_name(word), FaultKind::BadName),
+        Place::Signal => unless(signal_of(word).is_some(), FaultKind::BadName),
+        Place::Acts => unless(signal_of(word).is_some(), FaultKind::BadName),
+        Place::Signals => unless(set_of(word).is_some(), FaultKind::BadName),
+    }
+}
+
+/// The least kind of what is misspelled at these places; `None` exactly where each word is spelled as its place wants.
+pub fn spelling_fault(places: &[Place], mut words: Words<'_>) -> Option<FaultKind>
+    ensures { result ≡ least_kind (place_faults spelling (map spot_of places.now) words.entry.words) }
+{
+    match places {
+        [] => None,
+        [place, rest @ ..] => match words.next_word() {
+            None => None,
+            Some(word) => {
+                let here = spelling(place, word.bytes);
+                lesser_first(here, spelling_fault(rest, words))
+            }
+        },
+    }
+}

@@ -1,0 +1,8 @@
+pub mod Least
+pub mod KindOrder
+pub mod PhaseOne
+pub mod LineReads
+pub mod Phases
+pub mod Whole
+pub mod Bounded
+pub mod NameEntries

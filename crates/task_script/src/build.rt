@@ -1,0 +1,217 @@
+// The script that statements say.
+ghost use Rattle.std.specs.Prelude.{◌≡◌, ◌∷◌, ◌++◌, [], IfOk, MatchOption, option_to_list, unwrap_or};
+ghost use Rattle.std.specs.Option.{option_map};
+ghost use Rattle.script_tree.specs.declared.body.Step.TheVariants as step;
+ghost use Rattle.script_table.specs.Patterns.{greatest};
+ghost use Rattle.script_table.specs.Operands.{number_in};
+ghost use Rattle.script_table.specs.Calls.{call_of};
+ghost use Rattle.script_table.specs.Build.{Opened, Built, put_step, with_decl, with_step, close_one, closed, opens, after_form, after, nothing_built, built_from, script_of_built, script_of};
+
+use crate::calls::call_of;
+use crate::meaning::{action_decl, block_step, body_decl, object_decl, plain_step, runs_cleanup};
+use crate::names::Names;
+use crate::operands::{GREATEST, number_in};
+use crate::statement::Statement;
+use crate::{Body, Decl, Decls, Script, Step};
+use script_lex::Words;
+use script_table::{CallForm, Form};
+use std::alloc::{AllocError, Global};
+use std::marker::Model;
+
+// A body or block that is open.
+#[derive(Drop)]
+struct OpenBlock<'a> {
+    form: Form,
+    words: Words<'a>,
+    steps: Vec<Step>,
+}
+
+impl<'a> Model for OpenBlock<'a> {
+    ghost use Rattle.script_table.specs.Build.{Opened};
+    ghost use Rattle.script_tree.specs.contracts.body.Body as body;
+    ghost use Rattle.std.specs.Coded.{codes};
+
+    ghost Value = { Opened };
+
+    ghost coded = { Prim.hlevel (codes, body.the_row.coded) };
+
+    ghost view = { λ o. record { form = o.form; words = o.words.words; steps = o.steps.items } };
+}
+
+impl<'a> OpenBlock<'a> {
+    fn new(alloc: Global, form: Form, words: Words<'a>) -> OpenBlock<'a>
+        ensures { result ≡ record { form = form; words = words.entry.words; steps = [] } }
+    {
+        OpenBlock {
+            form,
+            words,
+            steps: Vec::new(alloc),
+        }
+    }
+
+    fn with(mut self, step: Step) -> Result<OpenBlock<'a>, AllocError>
+        ensures { IfOk result (λ o. o ≡ record self.entry { steps = self.entry.steps ++ step ∷ [] }) }
+    {
+        self.steps.push(step)?;
+        Ok(self)
+    }
+}
+
+// The quantum, what is open and what is declared.
+#[derive(Drop)]
+struct Builder<'a> {
+    quantum: u64,
+    blocks: Vec<OpenBlock<'a>>,
+    decls: Vec<Decl>,
+}
+
+impl<'a> Model for Builder<'a> {
+    ghost use Rattle.std.specs.Prelude.{reverse};
+    ghost use Rattle.script_table.specs.Build.{Built};
+    ghost use Rattle.script_tree.specs.contracts.body.Body as body;
+    ghost use Rattle.std.specs.Coded.{codes};
+
+    ghost Value = { Built };
+
+    ghost coded = { Prim.hlevel (codes, body.the_row.coded) };
+
+    ghost view = { λ b. record { quantum = b.quantum; blocks = reverse b.blocks.items; decls = b.decls.items } };
+}
+
+impl<'a> Builder<'a> {
+    fn new(alloc: Global) -> Builder<'a>
+        ensures { result ≡ nothing_built }
+    {
+        Builder {
+            quantum: 10,
+            blocks: Vec::new(alloc),
+            decls: Vec::new(alloc),
+        }
+    }
+
+    fn open(&mut self, block: OpenBlock<'a>) -> Result<(), AllocError>
+        ensures { IfOk result (λ _. self.new ≡ record self.old { blocks = block.entry ∷ self.old.blocks }) }
+    {
+        self.blocks.push(block)?;
+        Ok(())
+    }
+
+    fn pop(&mut self) -> Option<OpenBlock<'a>>
+        ensures { MatchOption result ((self.old.blocks ≡ []) × (self.new ≡ self.old))
+            (λ o. (self.old.blocks ≡ o ∷ self.new.blocks) × (self.new ≡ record self.old { blocks = self.new.blocks })) }
+    {
+        self.blocks.pop()
+    }
+
+    fn declare(&mut self, decl: Option<Decl>) -> Result<(), AllocError>
+        ensures { IfOk result (λ _. self.new ≡ with_decl self.old decl) }
+    {
+        if let Some(decl) = decl {
+            self.decls.push(decl)?;
+        }
+        Ok(())
+    }
+
+    fn put(&mut self, step: Option<Step>) -> Result<(), AllocError>
+        ensures { IfOk result (λ _. self.new ≡ with_step self.old step) }
+    {
+        let Some(step) = step else { return Ok(()) };
+        match self.pop() {
+            None => Ok(()),
+            Some(block) => self.open(block.with(step)?),
+        }
+    }
+
+    fn close_one(
+        &mut self,
+        names: &Names<'_>,
+        run: bool,
+        form: Form,
+        words: &Words<'_>,
+        steps: Vec<Step>,
+    ) -> Result<(), AllocError>
+        ensures { IfOk result (λ _. self.new ≡ close_one names.now self.old run form words.now.words steps.items) }
+    {
+        match form {
+            Form::Body(form) => self.declare(body_decl(form, words, Body::new(steps))),
+            Form::Block(form) => self.put(block_step(names, form, words, run, Body::new(steps))),
+            _ => Ok(()),
+        }
+    }
+
+    fn close(&mut self, names: &Names<'_>, run: bool) -> Result<(), AllocError>
+        ensures { IfOk result (λ _. self.new ≡ closed names.now self.old run self.old.blocks) }
+    {
+        match self.pop() {
+            None => Ok(()),
+            Some(block) => {
+                let OpenBlock { form, words, steps } = block;
+                self.close_one(names, run, form, &words, steps)
+            }
+        }
+    }
+
+    fn set_quantum(&mut self, words: &Words<'_>)
+        ensures { self.new ≡ record self.old { quantum = unwrap_or (number_in 1 greatest 1 words.now.words) self.old.quantum } }
+    {
+        if let Some(quantum) = number_in(1, GREATEST, 1, words) {
+            self.quantum = quantum;
+        }
+    }
+
+    fn make(
+        &mut self,
+        names: &Names<'_>,
+        form: CallForm,
+        words: &Words<'_>,
+    ) -> Result<(), AllocError>
+        ensures { IfOk result (λ _. self.new ≡ with_step self.old (option_map step.Make (call_of names.now form words.now.words))) }
+    {
+        match call_of(names, form, words) {
+            None => Ok(()),
+            Some(call) => self.put(Some(Step::Make(call))),
+        }
+    }
+
+    fn take(
+        &mut self,
+        alloc: Global,
+        names: &Names<'_>,
+        s: &Statement<'a>,
+    ) -> Result<(), AllocError>
+        ensures { IfOk result (λ _. self.new ≡ after names.now self.old s.now) }
+    {
+        let words = s.words();
+        match s.form() {
+            Form::Quantum => {
+                self.set_quantum(&words);
+                Ok(())
+            }
+            Form::Object(form) => self.declare(object_decl(form, &words)),
+            Form::Action(form) => self.declare(action_decl(names, form, &words)),
+            Form::Body(form) => self.open(OpenBlock::new(alloc, Form::Body(form), words)),
+            Form::Block(form) => self.open(OpenBlock::new(alloc, Form::Block(form), words)),
+            Form::Step(form) => self.put(plain_step(form, &words)),
+            Form::Call(form) => self.make(names, form, &words),
+            Form::Close(form) => self.close(names, runs_cleanup(form)),
+        }
+    }
+}
+
+/// The script that the statements say.
+pub(crate) fn script_of(
+    alloc: Global,
+    names: &Names<'_>,
+    statements: &[Statement<'_>],
+) -> Result<Script, AllocError>
+    ensures { IfOk result (λ s. s ≡ script_of names.now statements.now) }
+{
+    let mut builder = Builder::new(alloc);
+    for s in statements {
+        builder.take(alloc, names, s)?;
+    }
+    Ok(Script {
+        quantum: builder.quantum,
+        decls: Decls::new(builder.decls),
+    })
+}

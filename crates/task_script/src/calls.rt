@@ -1,0 +1,158 @@
+// The call that a line makes.
+ghost use Rattle.std.specs.Prelude.{◌≡◌};
+ghost use Rattle.script_table.specs.Calls.{thread_call, mutex_call, sem_call, time_call, signal_call, message_call, call_of};
+
+use crate::Call;
+use crate::names::Names;
+use crate::operands::{
+    amount, fifo, number_in, object, operand, priority, rr, signal, signals, sporadic, thread,
+};
+use script_lex::Words;
+use script_table::{
+    CallForm, MessageCall, MutexCall, NameKind, SemCall, SignalCall, ThreadCall, TimeCall,
+};
+
+fn thread_call(names: &Names<'_>, form: ThreadCall, words: &Words<'_>) -> Option<Call>
+    ensures { result ≡ thread_call names.now form words.now.words }
+{
+    Some(match form {
+        ThreadCall::Yield => Call::Yield,
+        ThreadCall::Create => Call::Create(thread(names, 1, words)?),
+        ThreadCall::Join => Call::Join(thread(names, 1, words)?),
+        ThreadCall::Cancel => Call::Cancel(thread(names, 1, words)?),
+        ThreadCall::Testcancel => Call::Testcancel,
+        ThreadCall::SetcancelEnable => Call::Setcancel(true),
+        ThreadCall::SetcancelDisable => Call::Setcancel(false),
+        ThreadCall::Exit => Call::Exit(operand(1, words)?),
+        ThreadCall::Setprio => Call::Setprio(thread(names, 1, words)?, priority(2, words)?),
+        ThreadCall::SetschedFifo => Call::Setsched(thread(names, 1, words)?, fifo(3, words)?),
+        ThreadCall::SetschedRr => Call::Setsched(thread(names, 1, words)?, rr(3, words)?),
+        ThreadCall::SetschedSporadic => Call::Setsched(thread(names, 1, words)?, sporadic(words)?),
+    })
+}
+
+fn mutex_call(names: &Names<'_>, form: MutexCall, words: &Words<'_>) -> Option<Call>
+    ensures { result ≡ mutex_call names.now form words.now.words }
+{
+    Some(match form {
+        MutexCall::Lock => Call::Lock(object(NameKind::Mutex, names, 1, words)?),
+        MutexCall::Timedlock => Call::Timedlock {
+            mutex: object(NameKind::Mutex, names, 1, words)?,
+            at: operand(2, words)?,
+        },
+        MutexCall::Trylock => Call::Trylock(object(NameKind::Mutex, names, 1, words)?),
+        MutexCall::Unlock => Call::Unlock(object(NameKind::Mutex, names, 1, words)?),
+        MutexCall::Wait => Call::Wait(
+            object(NameKind::Cond, names, 1, words)?,
+            object(NameKind::Mutex, names, 2, words)?,
+        ),
+        MutexCall::Timedwait => Call::Timedwait {
+            cond: object(NameKind::Cond, names, 1, words)?,
+            mutex: object(NameKind::Mutex, names, 2, words)?,
+            at: operand(3, words)?,
+        },
+        MutexCall::Signal => Call::Signal(object(NameKind::Cond, names, 1, words)?),
+        MutexCall::Broadcast => Call::Broadcast(object(NameKind::Cond, names, 1, words)?),
+    })
+}
+
+fn sem_call(names: &Names<'_>, form: SemCall, words: &Words<'_>) -> Option<Call>
+    ensures { result ≡ sem_call names.now form words.now.words }
+{
+    let sem = object(NameKind::Sem, names, 1, words)?;
+    Some(match form {
+        SemCall::Wait => Call::SemWait(sem),
+        SemCall::Timedwait => Call::SemTimedwait {
+            sem,
+            at: operand(2, words)?,
+        },
+        SemCall::Trywait => Call::SemTrywait(sem),
+        SemCall::Getvalue => Call::SemGetvalue(sem),
+        SemCall::Post => Call::SemPost(sem),
+    })
+}
+
+fn time_call(names: &Names<'_>, form: TimeCall, words: &Words<'_>) -> Option<Call>
+    ensures { result ≡ time_call names.now form words.now.words }
+{
+    Some(match form {
+        TimeCall::Nanosleep => Call::Nanosleep(amount(1, words)?),
+        TimeCall::ClockNanosleep => Call::ClockNanosleep {
+            at: operand(1, words)?,
+        },
+        TimeCall::Gettime => Call::Gettime,
+        TimeCall::TimerSettimeRel => Call::TimerSettimeRel(
+            object(NameKind::Timer, names, 1, words)?,
+            amount(3, words)?,
+            amount(4, words)?,
+        ),
+        TimeCall::TimerSettimeAbs => Call::TimerSettimeAbs(
+            object(NameKind::Timer, names, 1, words)?,
+            operand(3, words)?,
+            amount(4, words)?,
+        ),
+        TimeCall::TimerGettime => Call::TimerGettime(object(NameKind::Timer, names, 1, words)?),
+        TimeCall::TimerGetoverrun => Call::TimerGetoverrun(object(
+            NameKind::Timer,
+            names,
+            1,
+            words,
+        )?),
+    })
+}
+
+fn signal_call(names: &Names<'_>, form: SignalCall, words: &Words<'_>) -> Option<Call>
+    ensures { result ≡ signal_call names.now form words.now.words }
+{
+    Some(match form {
+        SignalCall::Kill => Call::Kill(signal(1, words)?),
+        SignalCall::Tkill => Call::Tkill(thread(names, 1, words)?, signal(2, words)?),
+        SignalCall::Sigqueue => Call::Sigqueue(signal(1, words)?, operand(2, words)?),
+        SignalCall::SigmaskBlock => Call::SigmaskBlock(signals(2, words)?),
+        SignalCall::SigmaskUnblock => Call::SigmaskUnblock(signals(2, words)?),
+        SignalCall::SigmaskSet => Call::SigmaskSet(signals(2, words)?),
+        SignalCall::Sigwaitinfo => Call::Sigwaitinfo(signals(1, words)?),
+        SignalCall::Sigtimedwait => Call::Sigtimedwait(signals(1, words)?, amount(2, words)?),
+    })
+}
+
+fn message_call(names: &Names<'_>, form: MessageCall, words: &Words<'_>) -> Option<Call>
+    ensures { result ≡ message_call names.now form words.now.words }
+{
+    let queue = object(NameKind::Queue, names, 1, words)?;
+    Some(match form {
+        MessageCall::Send => Call::MqSend(
+            queue,
+            number_in(0, 65_536, 2, words)? as u32,
+            number_in(0, 31, 3, words)? as u8,
+            operand(4, words)?,
+        ),
+        MessageCall::Timedsend => Call::MqTimedsend {
+            queue,
+            len: number_in(0, 65_536, 2, words)? as u32,
+            prio: number_in(0, 31, 3, words)? as u8,
+            value: operand(4, words)?,
+            at: operand(5, words)?,
+        },
+        MessageCall::Receive => Call::MqReceive(queue),
+        MessageCall::Timedreceive => Call::MqTimedreceive {
+            queue,
+            at: operand(2, words)?,
+        },
+        MessageCall::Notify => Call::MqNotify(queue, signal(2, words)?, operand(3, words)?),
+    })
+}
+
+/// The call that a line of this form makes.
+pub(crate) fn call_of(names: &Names<'_>, form: CallForm, words: &Words<'_>) -> Option<Call>
+    ensures { result ≡ call_of names.now form words.now.words }
+{
+    match form {
+        CallForm::Thread(form) => thread_call(names, form, words),
+        CallForm::Mutex(form) => mutex_call(names, form, words),
+        CallForm::Sem(form) => sem_call(names, form, words),
+        CallForm::Time(form) => time_call(names, form, words),
+        CallForm::Signal(form) => signal_call(names, form, words),
+        CallForm::Message(form) => message_call(names, form, words),
+    }
+}

@@ -1,0 +1,139 @@
+// What lines declare, and the least fault of phase 2.
+ghost use Rattle.std.specs.Prelude.{ℕ, ◌≡◌, ◌≤◌, ◌∷◌, ◌++◌, [], map, None, Some, IfOk, MatchResult, MatchOption, length};
+ghost use Rattle.std.specs.Option.{option_map};
+ghost use Rattle.script_table.specs.Faults.{least, least_kind};
+ghost use Rattle.script_table.specs.Patterns.{spot_of};
+ghost use Rattle.script_table.specs.LineFaults.{place_faults};
+ghost use Rattle.script_table.specs.Structure.{IsRising};
+ghost use Rattle.script_table.specs.Names.{nothing_declared, declaring, declared_at, declared, naming, name_faults, phase_two};
+ghost use Rattle.task_script.specs.Ends.{answered};
+
+use crate::ScriptEnd;
+use crate::names::Names;
+use crate::statement::Statement;
+use script_lex::Words;
+use script_table::{FaultKind, NameKind, Place, lesser_first};
+use std::alloc::Global;
+use std::marker::Model;
+
+/// All names, and the signals that have an action.
+#[derive(Drop)]
+pub(crate) struct Declared<'a> {
+    names: Names<'a>,
+    actions: Names<'a>,
+}
+
+impl<'a> Model for Declared<'a> {
+    ghost use Rattle.script_table.specs.Names.{Declared as DeclaredNames};
+
+    ghost Value = { DeclaredNames };
+
+    ghost view = { λ d. record { names = d.names; actions = d.actions } };
+}
+
+impl<'a> Declared<'a> {
+    pub(crate) fn new(alloc: Global) -> Declared<'a>
+        ensures { result ≡ nothing_declared }
+    {
+        Declared {
+            names: Names::new(alloc),
+            actions: Names::new(alloc),
+        }
+    }
+
+    pub(crate) fn names(&self) -> &Names<'a>
+        ensures { result.now ≡ self.now.names }
+    {
+        &self.names
+    }
+
+    fn naming(&self, line: u32, place: &Place, word: &[u8]) -> Option<FaultKind>
+        ensures { result ≡ naming self.now line (spot_of place.now) word.now }
+    {
+        match place {
+            Place::Declares(_) => self.names.duplicate(line, word),
+            Place::Uses(kind) => self.names.used(*kind, word),
+            Place::Acts => self.actions.duplicate(line, word),
+            _ => None,
+        }
+    }
+
+    fn place_fault(&self, line: u32, places: &[Place], mut words: Words<'_>) -> Option<FaultKind>
+        ensures { result ≡ least_kind (place_faults (naming self.now line) (map spot_of places.now) words.entry.words) }
+    {
+        match places {
+            [] => None,
+            [place, rest @ ..] => match words.next_word() {
+                None => None,
+                Some(word) => {
+                    let here = self.naming(line, place, word.bytes);
+                    lesser_first(here, self.place_fault(line, rest, words))
+                }
+            },
+        }
+    }
+
+    fn declare_word(&mut self, line: u32, place: &Place, word: &'a [u8]) -> Result<(), ScriptEnd>
+        ensures { MatchResult result (λ _. self.new ≡ declaring self.old line (spot_of place.now) word.now) (λ e. e ≡ ScriptEnd.OutOfMemory) }
+    {
+        match place {
+            Place::Declares(kind) => {
+                self.names.add(line, *kind, word)?;
+                Ok(())
+            }
+            Place::Acts => {
+                self.actions.add(line, NameKind::Handler, word)?;
+                Ok(())
+            }
+            _ => Ok(()),
+        }
+    }
+
+    fn declare(
+        &mut self,
+        line: u32,
+        places: &[Place],
+        mut words: Words<'a>,
+    ) -> Result<(), ScriptEnd>
+        ensures { MatchResult result (λ _. self.new ≡ declared_at self.old line (map spot_of places.now) words.entry.words) (λ e. e ≡ ScriptEnd.OutOfMemory) }
+    {
+        match places {
+            [] => Ok(()),
+            [place, rest @ ..] => match words.next_word() {
+                None => Ok(()),
+                Some(word) => {
+                    self.declare_word(line, place, word.bytes)?;
+                    self.declare(line, rest, words)
+                }
+            },
+        }
+    }
+}
+
+/// All that the lines declare.
+pub(crate) fn declarations<'a>(
+    alloc: Global,
+    statements: &[Statement<'a>],
+) -> Result<Declared<'a>, ScriptEnd>
+    ensures { MatchResult result (λ d. d ≡ declared statements.now) (λ e. e ≡ ScriptEnd.OutOfMemory) }
+{
+    let mut all = Declared::new(alloc);
+    for s in statements {
+        all.declare(s.line(), s.places(), s.words())?;
+    }
+    Ok(all)
+}
+
+/// The least fault of phase 2.
+pub(crate) fn check_names(all: &Declared<'_>, statements: &[Statement<'_>]) -> Result<(), ScriptEnd>
+    requires { (last : ℕ) × IsRising last statements.now }
+    ensures { MatchResult result (λ _. least (phase_two all.now statements.now) ≡ None)
+        (λ e. option_map answered (least (phase_two all.now statements.now)) ≡ Some e) }
+{
+    for s in statements {
+        if let Some(kind) = all.place_fault(s.line(), s.places(), s.words()) {
+            return Err(ScriptEnd::Fault(s.line(), kind));
+        }
+    }
+    Ok(())
+}

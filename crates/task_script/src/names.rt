@@ -1,0 +1,140 @@
+// Names in order of declaration.
+ghost use Rattle.std.specs.Prelude.{◌≡◌, ◌==◌, [], IfOk};
+ghost use Rattle.std.specs.Option.{option_map};
+ghost use Rattle.script_table.specs.Patterns.{kind_number, same_kind};
+ghost use Rattle.script_table.specs.Names.{entry_of, with_name, duplicate, used};
+ghost use Rattle.script_table.specs.Operands.{number_of_kind};
+ghost use Rattle.task_script.specs.NameMap.{entry_named};
+
+use crate::counts::Counts;
+use indexmap::IndexMap;
+use script_table::{FaultKind, NameKind};
+use std::alloc::{AllocFailed, Global};
+use std::marker::Model;
+
+fn kind_number(kind: NameKind) -> u8
+    ensures { result ≡ kind_number kind }
+{
+    match kind {
+        NameKind::Thread => 0,
+        NameKind::Mutex => 1,
+        NameKind::Cond => 2,
+        NameKind::Sem => 3,
+        NameKind::Queue => 4,
+        NameKind::Timer => 5,
+        NameKind::Handler => 6,
+        NameKind::Cleanup => 7,
+    }
+}
+
+fn same_kind(a: NameKind, b: NameKind) -> bool
+    ensures { result ≡ same_kind a b }
+{
+    kind_number(a) == kind_number(b)
+}
+
+/// How a name was declared: as what, on which line, and as which of its kind.
+#[derive(Clone, Copy)]
+pub(crate) struct Declaration {
+    pub kind: NameKind,
+    pub line: u32,
+    pub number: u64,
+}
+
+/// The names that lines declare, in order of declaration. Contracts see the list of them.
+#[derive(Drop)]
+pub(crate) struct Names<'a> {
+    index: IndexMap<&'a [u8], Declaration>,
+    counts: Counts,
+}
+
+impl<'a> Model for Names<'a> {
+    ghost use Rattle.std.specs.Prelude.{◌≡◌, List, map};
+    ghost use Rattle.script_table.specs.Names.{Entry, counts_from, no_counts};
+    ghost use Rattle.task_script.specs.NameMap.{entry_of_pair};
+
+    ghost Value = { List Entry };
+
+    ghost view = { λ n. map entry_of_pair n.index.entries };
+
+    ghost invariant = { λ n. n.counts ≡ counts_from no_counts (map entry_of_pair n.index.entries) };
+}
+
+impl<'a> Names<'a> {
+    pub(crate) fn new(alloc: Global) -> Names<'a>
+        ensures { result ≡ [] }
+    {
+        Names {
+            index: IndexMap::new(alloc),
+            counts: Counts::new(),
+        }
+    }
+
+    // The declaration of a name.
+    fn get(&self, name: &[u8]) -> Option<Declaration>
+        ensures { option_map (entry_named name.now) result ≡ entry_of self.now name.now }
+    {
+        self.index.get(name).copied()
+    }
+
+    /// Takes in a name, where it is new.
+    pub(crate) fn add(
+        &mut self,
+        line: u32,
+        kind: NameKind,
+        name: &'a [u8],
+    ) -> Result<(), AllocFailed<(&'a [u8], Declaration)>>
+        ensures { IfOk result (λ _. self.new ≡ with_name self.old line kind name.now) }
+    {
+        if let Some(_) = self.get(name) {
+            return Ok(());
+        }
+        let _ = self.index.len();
+        let number = self.counts.of(kind);
+        self.index.insert(name, Declaration { kind, line, number })?;
+        self.counts.add(kind);
+        Ok(())
+    }
+
+    /// The fault of a line that declares a name which an earlier one declares.
+    pub(crate) fn duplicate(&self, line: u32, name: &[u8]) -> Option<FaultKind>
+        ensures { result ≡ duplicate line (entry_of self.now name.now) }
+    {
+        match self.get(name) {
+            None => None,
+            Some(d) => if d.line < line {
+                Some(FaultKind::DuplicateName)
+            } else {
+                None
+            },
+        }
+    }
+
+    /// The fault of a use of a name.
+    pub(crate) fn used(&self, kind: NameKind, name: &[u8]) -> Option<FaultKind>
+        ensures { result ≡ used kind (entry_of self.now name.now) }
+    {
+        match self.get(name) {
+            None => Some(FaultKind::UnknownName),
+            Some(d) => if same_kind(d.kind, kind) {
+                None
+            } else {
+                Some(FaultKind::WrongKind)
+            },
+        }
+    }
+
+    /// The number of the thing that a name stands for, among those of its kind.
+    pub(crate) fn number_of(&self, kind: NameKind, name: &[u8]) -> Option<u16>
+        ensures { result ≡ number_of_kind kind (entry_of self.now name.now) }
+    {
+        match self.get(name) {
+            None => None,
+            Some(d) => if same_kind(d.kind, kind) && d.number < 256 {
+                Some(d.number as u16)
+            } else {
+                None
+            },
+        }
+    }
+}

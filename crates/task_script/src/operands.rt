@@ -1,0 +1,179 @@
+// What the word at a place says.
+ghost use Rattle.std.specs.Prelude.{◌≡◌, ◌≤◌, ◌+◌, ◌^◌, min, [], IfSome};
+ghost use Rattle.script_table.specs.Ranges.{word, held, is_within};
+ghost use Rattle.script_table.specs.Operands.{number_in, amount_at, priority_at, operand_at, signal_at, signals_at, answer_at, name_at, named_at, server_of, server_at, fifo_at, rr_at, sporadic_at};
+ghost use Rattle.script_table.specs.declared.pattern.NameKind.TheVariants as kind;
+
+use crate::names::Names;
+use crate::{Name, Operand, Policy};
+use script_lex::Words;
+use script_table::{NameKind, answer_of, capped_value, is_register, set_of, signal_of};
+use tick_num::{ObjId, Params, Prio, Res, SigSet, Tid};
+
+/// The greatest number of a script.
+pub(crate) const GREATEST: u64 = 1_000_000_000_000_000_000;
+
+pub(crate) fn word<'a>(k: usize, words: &Words<'a>) -> &'a [u8]
+    ensures { result.now ≡ word k words.now.words }
+{
+    let mut rest = words.again();
+    let mut left = k;
+    while let Some(found) = rest.next_word() {
+        if left == 0 {
+            return found.bytes;
+        }
+        left -= 1;
+    }
+    b"".as_slice()
+}
+
+/// A number, or one past the greatest where it is above that.
+pub(crate) fn held(k: usize, words: &Words<'_>) -> u128
+    ensures { result ≡ held k words.now.words }
+{
+    capped_value(word(k, words), GREATEST)
+}
+
+/// Whether the value of digits lies in a range.
+pub(crate) fn is_within(low: u64, high: u64, word: &[u8]) -> bool
+    ensures { result ≡ is_within low high word.now }
+{
+    let value = capped_value(word, high);
+    low as u128 <= value && value <= high as u128
+}
+
+pub(crate) fn number_in(low: u64, high: u64, k: usize, words: &Words<'_>) -> Option<u64>
+    ensures number { result ≡ number_in low high k words.now.words }
+    ensures range { IfSome result (λ n. (low ≤ n) × (n ≤ high)) }
+{
+    let value = capped_value(word(k, words), high);
+    if low as u128 <= value && value <= high as u128 {
+        Some(value as u64)
+    } else {
+        None
+    }
+}
+
+pub(crate) fn amount(k: usize, words: &Words<'_>) -> Option<u64>
+    ensures { result ≡ amount_at k words.now.words }
+{
+    number_in(0, GREATEST, k, words)
+}
+
+pub(crate) fn priority(k: usize, words: &Words<'_>) -> Option<Prio>
+    ensures { result ≡ priority_at k words.now.words }
+{
+    match number_in(1, 255, k, words) {
+        None => None,
+        Some(level) => Prio::try_new(level as u8),
+    }
+}
+
+pub(crate) fn operand(k: usize, words: &Words<'_>) -> Option<Operand>
+    ensures { result ≡ operand_at k words.now.words }
+{
+    if is_register(word(k, words)) {
+        return Some(Operand::Reg);
+    }
+    match amount(k, words) {
+        None => None,
+        Some(n) => Some(Operand::Num(n)),
+    }
+}
+
+pub(crate) fn signal(k: usize, words: &Words<'_>) -> Option<u8>
+    ensures { result ≡ signal_at k words.now.words }
+{
+    signal_of(word(k, words))
+}
+
+pub(crate) fn signals(k: usize, words: &Words<'_>) -> Option<SigSet>
+    ensures { result ≡ signals_at k words.now.words }
+{
+    set_of(word(k, words))
+}
+
+pub(crate) fn answer(k: usize, words: &Words<'_>) -> Option<Res>
+    ensures { result ≡ answer_at k words.now.words }
+{
+    answer_of(word(k, words))
+}
+
+pub(crate) fn name(k: usize, words: &Words<'_>) -> Option<Name>
+    ensures { result ≡ name_at k words.now.words }
+{
+    Name::try_new(word(k, words))
+}
+
+pub(crate) fn thread(names: &Names<'_>, k: usize, words: &Words<'_>) -> Option<Tid>
+    ensures { result ≡ named_at kind.Thread names.now k words.now.words }
+{
+    match names.number_of(NameKind::Thread, word(k, words)) {
+        None => None,
+        Some(number) => Tid::try_new(number),
+    }
+}
+
+pub(crate) fn object(
+    kind: NameKind,
+    names: &Names<'_>,
+    k: usize,
+    words: &Words<'_>,
+) -> Option<ObjId>
+    ensures { result ≡ named_at kind names.now k words.now.words }
+{
+    match names.number_of(kind, word(k, words)) {
+        None => None,
+        Some(number) => ObjId::try_new(number),
+    }
+}
+
+fn server_of(high: Prio, low: Prio, period: u64, budget: u64, max: u64) -> Option<Params>
+    requires { (period ≤ 10 ^ 18) × (1 ≤ max) × (max ≤ 16) }
+    ensures { result ≡ server_of high low period budget max }
+{
+    if low < high && (1 <= budget && budget <= period) {
+        Params::try_new(high, low, period, budget, max as u8)
+    } else {
+        None
+    }
+}
+
+// The parameters of a sporadic server, at the words 3 to 7.
+fn server(words: &Words<'_>) -> Option<Params>
+    ensures { result ≡ server_at words.now.words }
+{
+    let high = priority(3, words)?;
+    let low = priority(4, words)?;
+    let period = number_in(0, GREATEST, 5, words)?;
+    let budget = amount(6, words)?;
+    let max = number_in(1, 16, 7, words)?;
+    server_of(high, low, period, budget, max)
+}
+
+pub(crate) fn fifo(k: usize, words: &Words<'_>) -> Option<Policy>
+    ensures { result ≡ fifo_at k words.now.words }
+{
+    match priority(k, words) {
+        None => None,
+        Some(level) => Some(Policy::Fifo(level)),
+    }
+}
+
+pub(crate) fn rr(k: usize, words: &Words<'_>) -> Option<Policy>
+    ensures { result ≡ rr_at k words.now.words }
+{
+    match priority(k, words) {
+        None => None,
+        Some(level) => Some(Policy::Rr(level)),
+    }
+}
+
+pub(crate) fn sporadic(words: &Words<'_>) -> Option<Policy>
+    ensures { result ≡ sporadic_at words.now.words }
+{
+    match server(words) {
+        None => None,
+        Some(params) => Some(Policy::Sporadic(params)),
+    }
+}

@@ -1,0 +1,125 @@
+// Ranges and limits, and the least fault of phase 3.
+ghost use Rattle.std.specs.Prelude.{◌≡◌, ◌≤◌, ◌<◌, ◌^◌, ◌∷◌, ◌++◌, ◌&&◌, not, [], map, None, Some, MatchResult, length};
+ghost use Rattle.std.specs.Option.{option_map};
+ghost use Rattle.script_table.specs.Faults.{least, least_kind, when};
+ghost use Rattle.script_table.specs.Patterns.{spot_of};
+ghost use Rattle.script_table.specs.LineFaults.{place_faults};
+ghost use Rattle.script_table.specs.Structure.{IsRising};
+ghost use Rattle.script_table.specs.Ranges.{ranging, sets_server, is_server, server_faults, tallied, is_too_many, range_faults, phase_three, no_tally};
+ghost use Rattle.task_script.specs.Ends.{answered};
+
+use crate::ScriptEnd;
+use crate::operands::{GREATEST, held, is_within};
+use crate::statement::Statement;
+use crate::tally::Tally;
+use script_lex::Words;
+use script_table::{
+    BodyForm, CallForm, FaultKind, Form, Place, ThreadCall, is_register, lesser_first,
+};
+
+fn ranging(place: &Place, word: &[u8]) -> Option<FaultKind>
+    ensures { result ≡ ranging (spot_of place.now) word.now }
+{
+    match place {
+        Place::Number { low, high } => if is_within(*low, *high, word) {
+            None
+        } else {
+            Some(FaultKind::NumberRange)
+        },
+        Place::Operand => if is_register(word) || is_within(0, GREATEST, word) {
+            None
+        } else {
+            Some(FaultKind::NumberRange)
+        },
+        _ => None,
+    }
+}
+
+fn place_fault(places: &[Place], mut words: Words<'_>) -> Option<FaultKind>
+    ensures { result ≡ least_kind (place_faults ranging (map spot_of places.now) words.entry.words) }
+{
+    match places {
+        [] => None,
+        [place, rest @ ..] => match words.next_word() {
+            None => None,
+            Some(word) => {
+                let here = ranging(place, word.bytes);
+                lesser_first(here, place_fault(rest, words))
+            }
+        },
+    }
+}
+
+fn sets_server(form: Form) -> bool
+    ensures { result ≡ sets_server form }
+{
+    match form {
+        Form::Body(BodyForm::SporadicAt) => true,
+        Form::Body(BodyForm::SporadicDormant) => true,
+        Form::Call(CallForm::Thread(ThreadCall::SetschedSporadic)) => true,
+        _ => false,
+    }
+}
+
+// Whether the parameters of a sporadic server fit one another.
+fn is_server(words: &Words<'_>) -> bool
+    ensures { result ≡ is_server words.now.words }
+{
+    let high = held(3, words);
+    let low = held(4, words);
+    let period = held(5, words);
+    let budget = held(6, words);
+    let max = held(7, words);
+    (1 <= budget && budget <= period) && ((1 <= max && max <= 16) && low < high)
+}
+
+fn server_fault(form: Form, words: &Words<'_>) -> Option<FaultKind>
+    ensures { result ≡ least_kind (server_faults form words.now.words) }
+{
+    if sets_server(form) && !is_server(words) {
+        Some(FaultKind::ServerRange)
+    } else {
+        None
+    }
+}
+
+fn many_fault(tally: &Tally, form: Form) -> Option<FaultKind>
+    ensures { result ≡ least_kind (when (is_too_many tally.now form) FaultKind.TooMany) }
+{
+    if tally.is_too_many(form) {
+        Some(FaultKind::TooMany)
+    } else {
+        None
+    }
+}
+
+fn statement_fault(tally: &Tally, s: &Statement<'_>) -> Option<FaultKind>
+    ensures { result ≡ least_kind (range_faults tally.now s.now) }
+{
+    lesser_first(
+        place_fault(s.places(), s.words()),
+        lesser_first(
+            server_fault(s.form(), &s.words()),
+            many_fault(tally, s.form()),
+        ),
+    )
+}
+
+/// The least fault of phase 3; `last` is the number of the line behind the last.
+pub(crate) fn check_ranges(last: u32, statements: &[Statement<'_>]) -> Result<(), ScriptEnd>
+    requires { IsRising last statements.now }
+    ensures { MatchResult result (λ _. least (phase_three last no_tally statements.now) ≡ None)
+        (λ e. option_map answered (least (phase_three last no_tally statements.now)) ≡ Some e) }
+{
+    let mut tally = Tally::new();
+    for s in statements {
+        tally.add(s.form());
+        if let Some(kind) = statement_fault(&tally, s) {
+            return Err(ScriptEnd::Fault(s.line(), kind));
+        }
+    }
+    if tally.has_no_thread() {
+        return Err(ScriptEnd::Fault(last, FaultKind::NoThread));
+    }
+    Ok(())
+}
