@@ -11,7 +11,7 @@ add_name-t-requires-clause-room c =
     let decls = c.items-decl-items.result.now in
     let front = filter_map thread_of (take c.loop-decl.decl-index decls) in
     let room = subst (λ d. length front + length (option_to_list (thread_of d)) ≤ length (filter_map thread_of decls)) (sym c.decl-item.is)
-      (threads_room decls c.loop-decl.decl-index c.decl-item.result c.loop-decl-test.true) in
+    (threads_room decls c.loop-decl.decl-index c.decl-item.result c.loop-decl-test.true) in
     let all : c.args.threads ≡ length (filter_map thread_of decls) = c.requires.all ∙ ap (λ ds. length (filter_map thread_of ds)) (sym c.items-decl-items.ensures) in
     let long = names_length decls c.loop-decl.decl-index c.loop-decl.t c.args.threads c.loop-decl.names c.loop-decl.invariant.count c.loop-decl.invariant.names all in
     omega (arith, room, long, c.loop-decl.invariant.count, all)
@@ -30,14 +30,14 @@ loop-decl-preserved c =
     let next = filter_map thread_of (take (c.loop-decl.decl-index + 1) decls) in
     let new = option_to_list (thread_of c.decl-item.result) in
     let at : next ≡ front ++ new = subst (λ d. next ≡ front ++ option_to_list (thread_of d)) (sym c.decl-item.is)
-      (threads_more decls c.loop-decl.decl-index c.decl-item.result c.loop-decl-test.true) in
+    (threads_more decls c.loop-decl.decl-index c.decl-item.result c.loop-decl-test.true) in
     let room = subst (λ d. length front + length (option_to_list (thread_of d)) ≤ length (filter_map thread_of decls)) (sym c.decl-item.is)
-      (threads_room decls c.loop-decl.decl-index c.decl-item.result c.loop-decl-test.true) in
+    (threads_room decls c.loop-decl.decl-index c.decl-item.result c.loop-decl-test.true) in
     let all : c.args.threads ≡ length (filter_map thread_of decls) = c.requires.all ∙ ap (λ ds. length (filter_map thread_of ds)) (sym c.items-decl-items.ensures) in
     let long = ap length at ∙ length-append front new in
     let named = names_next front (thread_of c.decl-item.result) c.loop-decl.t c.args.threads c.loop-decl.invariant.count (omega (arith, room, all, c.loop-decl.invariant.count)) in
     let same : map name_of (front ++ new) ++ replicate (c.args.threads - (c.loop-decl.t + length new)) [] ≡ map name_of next ++ replicate (c.args.threads - c.add_name-t.result) [] =
-      rw (at, c.add_name-t.ensures.next) refl in
+    rw (at, c.add_name-t.ensures.next) refl in
     record {
       count = omega (arith, c.add_name-t.ensures.next, c.loop-decl.invariant.count, long);
       names = c.add_name-t.ensures.names ∙ (ap (λ ns. with_name ns c.loop-decl.t (thread_of c.decl-item.result)) c.loop-decl.invariant.names ∙ (named ∙ same));

@@ -11,6 +11,6 @@ pub invariant_of-result : goal.invariant_of-result
 invariant_of-result c =
     let sound = sound_opening c.args.script.now c.requires in
     let long : length c.in_ok-threads.threads.items ≡ length (threads_of c.args.script.now) =
-      ap length c.in_ok-threads.ensures ∙ length-map (threads_of c.args.script.now) (dormant {P = Cursor}) in
+    ap length c.in_ok-threads.ensures ∙ length-map (threads_of c.args.script.now) (dormant {P = Cursor}) in
     let count : vec_len c.in_ok-threads.threads ≡ length (threads_of c.args.script.now) = grind (arith, long, c.in_ok-threads.threads.ok) in
     rw (c.in_ok-code.ensures.flat_form, c.in_ok-names.ensures, c.in_ok-ready.ensures, c.default.ensures, c.len-2.ensures, count, c.in_ok-threads.ensures) sound
