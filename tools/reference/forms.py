@@ -135,7 +135,7 @@ _TABLE: list[tuple[Stage, Role, list[str]]] = [
     (Stage.MUTEXES, Role.DECLARATION, [
         f"mutex <name> {protocol}{last}"
         for protocol in ("none", "inherit", "protect <priority>") for last in ("", " recursive")]),
-    (Stage.MUTEXES, Role.STEP, each("lock", ("<mutex>",)) + ["trylock <mutex>", "unlock <mutex>"]),
+    (Stage.MUTEXES, Role.STEP, ["lock <mutex>", "trylock <mutex>", "unlock <mutex>"]),
     (Stage.WAITING, Role.DECLARATION, ["cond <name>", "sem <name> <count>"]),
     (Stage.WAITING, Role.STEP, [
         "timedlock <mutex> <operand>", "wait <cond> <mutex>", "timedwait <cond> <mutex> <operand>",

@@ -13,10 +13,15 @@ from random import Random
 
 from forms import RESULTS, Stage
 from mutate import refused
+from scenes import CAST, PEER, SCENES, SELF, Part
 
 __all__ = ["accepted", "refused"]
 
 _GREATEST = 10**18
+_SHARES: dict[Stage, float] = {
+    Stage.THREADS: 0.5, Stage.MUTEXES: 0.7, Stage.WAITING: 0.7, Stage.SIGNALS: 0.6, Stage.TIMERS: 0.5,
+    Stage.QUEUES: 0.6, Stage.WHOLE: 0.6}
+"""How often a topic occurs in the steps of a script."""
 
 
 class ScriptWriter:
@@ -28,26 +33,42 @@ class ScriptWriter:
         self.lines: list[str] = []
         draw = self.draw
         self.threads = [f"t{k}" for k in range(draw.choice((1, 2, 2, 3, 3, 3, 4, 4, 5)))]
-        some = lambda letter, most, since: [  # noqa: E731
-            f"{letter}{k}" for k in range(draw.randint(1, most))] if stage >= since else []
-        self.mutexes = some("m", 3, Stage.MUTEXES)
-        self.conds = some("c", 2, Stage.WAITING)
-        self.sems = some("s", 2, Stage.WAITING)
-        self.timers = some("k", 2, Stage.TIMERS)
-        self.queues = some("q", 2, Stage.QUEUES)
-        self.handlers = some("h", 2, Stage.LANGUAGE)
-        self.cleanups = some("u", 2, Stage.LANGUAGE)
+        self.mutexes = self.some_names("m", 3, Stage.MUTEXES)
+        self.conds = self.some_names("c", 2, Stage.WAITING)
+        self.sems = self.some_names("s", 2, Stage.WAITING)
+        self.timers = self.some_names("k", 2, Stage.TIMERS)
+        self.queues = self.some_names("q", 2, Stage.QUEUES)
+        self.handlers = self.some_names("h", 2, Stage.LANGUAGE)
+        self.cleanups = self.some_names("u", 2, Stage.LANGUAGE)
         self.signals = sorted(draw.sample(range(32), draw.randint(2, 4)))
-        topics: list[tuple[Stage, float]] = [
-            (Stage.THREADS, 0.5), (Stage.MUTEXES, 0.7), (Stage.WAITING, 0.7), (Stage.SIGNALS, 0.6),
-            (Stage.TIMERS, 0.5), (Stage.QUEUES, 0.6), (Stage.WHOLE, 0.6)]
-        self.topics = {topic for topic, share in topics if topic <= stage and draw.random() < share}
-        self.topics |= {stage} & {topic for topic, _ in topics}
+        self.topics = {topic for topic, share in _SHARES.items() if topic <= stage and draw.random() < share}
+        self.topics |= {stage} & set(_SHARES)
+        self.handled = draw.choice(self.signals)
         self.steps_left = draw.choice((12, 25, 40, 60))
+        self.parts = self.played()
+
+    def some_names(self, letter: str, most: int, since: Stage) -> list[str]:
+        """Names of one kind of object, none before the stage that builds it."""
+        return [f"{letter}{k}" for k in range(self.draw.randint(1, most))] if self.stage >= since else []
+
+    def played(self) -> dict[str, list[Part]]:
+        """The parts of some scenes, given out to the threads."""
+        draw = self.draw
+        scenes = [scene for stage, some in SCENES.items() if stage <= self.stage for scene in some]
+        newest = SCENES.get(self.stage, ())
+        chosen = draw.sample(scenes, min(len(scenes), draw.choice((0, 1, 1, 2, 2, 3))))
+        if newest and draw.random() < 0.5:
+            chosen.append(draw.choice(newest))
+        found: dict[str, list[Part]] = {name: [] for name in self.threads}
+        for scene in chosen:
+            players = draw.sample(self.threads, len(self.threads))
+            for k, part in enumerate(scene(self)):
+                found[players[k % len(players)]].append([named(line, players) for line in part])
+        return found
 
     def script(self) -> str:
         draw = self.draw
-        parts = [self.thread(name) for name in self.threads] + [self.object(name) for name in self.mutexes]
+        parts = [self.thread(name) for name in reversed(self.threads)] + [self.object(name) for name in self.mutexes]
         parts += [[f"cond {name}"] for name in self.conds]
         parts += [[f"sem {name} {draw.choice((0, 0, 1, 2, 32_767))}"] for name in self.sems]
         parts += [self.queue(name) for name in self.queues]
@@ -73,8 +94,16 @@ class ScriptWriter:
         draw = self.draw
         dormant = self.stage >= Stage.LANGUAGE and self.threads[0] != name and draw.random() < 0.25
         begin = "dormant" if dormant else f"at {draw.choice((0, 0, 0, 1, 2, 3, 5, 8))}"
-        body = self.block("thread", 1, draw.randint(1, 7))
-        return [f"thread {name} {self.policy()} {begin}", *body, "end"]
+        parts = [[line.replace(SELF, name) for line in part] for part in self.parts[name]]
+        casts = [line[len(CAST):] for part in parts for line in part if line.startswith(CAST)]
+        policy = casts[0] if casts else self.policy()
+        parts = [[line for line in part if not line.startswith(CAST)] for part in parts]
+        body = self.block("thread", 1, draw.randint(0, 2) if parts else draw.randint(1, 7))
+        for part in parts:
+            body += [*part, *self.block("thread", 1, draw.choice((0, 0, 1, 2)))]
+        if dormant and self.stage >= Stage.THREADS and draw.random() < 0.7:
+            self.parts[self.threads[0]].insert(0, [f"create {name}"])
+        return [f"thread {name} {policy} {begin}", *body, "end"]
 
     def priority(self) -> int:
         return self.draw.choice((2, 3, 3, 4, 5, 5, 5, 6, 7, 8, 9, 255))
@@ -91,7 +120,7 @@ class ScriptWriter:
                 return f"{kind} {self.priority()}"
 
     def object(self, name: str) -> list[str]:
-        protocol = self.draw.choice(("none", "inherit", "inherit", "inherit", f"protect {self.priority()}"))
+        protocol = self.draw.choice(("none", "inherit", "inherit", "inherit", *[f"protect {self.priority()}"] * 2))
         return [f"mutex {name} {protocol}{self.draw.choice(('', '', ' recursive'))}"]
 
     def queue(self, name: str) -> list[str]:
@@ -101,7 +130,8 @@ class ScriptWriter:
         if self.stage < Stage.SIGNALS:
             return []
         ways = [f"run {name}" for name in self.handlers] * 3 + ["ignore"] + ["kill"] * (self.draw.random() < 0.3)
-        found = ((signal, self.draw.choice(ways)) for signal in self.signals)
+        found = [(signal, self.draw.choice(ways)) for signal in self.signals if signal != self.handled]
+        found.append((self.handled, f"run {self.draw.choice(self.handlers)}"))
         return [[f"action rt{signal} {way}"] for signal, way in found if way != "kill"]
 
     # Steps
@@ -215,7 +245,8 @@ class ScriptWriter:
     def accepting(self) -> list[str]:
         draw = self.draw
         mask = f"sigmask {draw.choice(('block', 'set', 'unblock'))} {self.signal_set()}"
-        accept = draw.choice((f"sigwaitinfo {self.signal_set()}", f"sigtimedwait {self.signal_set()} {draw.randint(0, 9)}"))
+        accept = draw.choice((
+            f"sigwaitinfo {self.signal_set()}", f"sigtimedwait {self.signal_set()} {draw.randint(0, 9)}"))
         return draw.choice(([accept], [mask], [mask, accept], [mask, *self.sending(), accept]))
 
     def timing(self) -> list[str]:
@@ -248,6 +279,13 @@ class ScriptWriter:
         draw = self.draw
         inner = self.block("thread", 9, draw.randint(0, 3))
         return [f"push {draw.choice(self.cleanups)}", *inner, f"pop {draw.randint(0, 1)}"]
+
+
+def named(line: str, players: list[str]) -> str:
+    """The line with the names of the threads that play the parts."""
+    for part in range(4):
+        line = line.replace(f"{PEER}{part}", players[part % len(players)])
+    return line
 
 
 def accepted(seed: int, stage: Stage = Stage.WHOLE) -> tuple[bytes, int]:

@@ -3,8 +3,8 @@ from __future__ import annotations
 
 from typing import TYPE_CHECKING
 
-from script import Rr, Sporadic
-from state import FrameKind, Plain, SigCode, Thread, ThreadState, WaitKind
+from script import Guard, Rr, Sporadic
+from state import FrameKind, Plain, Replenishment, Server, SigCode, Thread, ThreadState, WaitKind
 
 if TYPE_CHECKING:
     from kernel import Kernel
@@ -23,9 +23,11 @@ def check(kernel: "Kernel") -> None:
 
 def check_lists(kernel: "Kernel") -> None:
     """A runnable thread stands once, on the list of its execution priority; no other stands on any."""
+    exec_priorities = kernel.exec_priorities()
     for thread in kernel.threads:
-        places = [priority for priority, members in kernel.lists.items() for number in members if number == thread.number]
-        assert places == ([kernel.exec(thread)] if thread.is_ready else []), (kernel.now, thread.name, places)
+        places = [priority for priority, members in kernel.lists.items() for _ in range(members.count(thread.number))]
+        wanted = [exec_priorities[thread.number]] if thread.is_ready else []
+        assert places == wanted, (kernel.now, thread.name, places)
 
 
 def check_mutexes(kernel: "Kernel") -> None:
@@ -53,13 +55,37 @@ def check_server(kernel: "Kernel", thread: Thread) -> None:
     budget, period = server.parameters.budget, server.parameters.period
     dues = [planned.due for planned in server.pending]
     amounts = [planned.amount for planned in server.pending]
-    assert server.capacity >= 0 and server.capacity + sum(amounts) + server.consumed == budget, (kernel.now, thread.name)
+    assert server.capacity >= 0, (kernel.now, thread.name)
+    assert server.capacity + sum(amounts) + server.consumed == budget, (kernel.now, thread.name)
     assert server.high_total == budget + server.refilled_total - server.capacity, (kernel.now, thread.name)
-    assert all(amount >= 1 for amount in amounts) and len(amounts) <= server.parameters.limit, (kernel.now, thread.name)
+    assert keeps_budget(server), (kernel.now, thread.name)
+    assert min(amounts, default=1) >= 1 and len(amounts) <= server.parameters.limit, (kernel.now, thread.name)
     assert dues == sorted(set(dues)) and all(due < kernel.time + period for due in dues), (kernel.now, thread.name)
     assert server.activation <= kernel.time and server.high == thread.policy.high, (kernel.now, thread.name)
     if server.consumed > 0:
         assert thread.is_ready and server.is_high and server.activation < kernel.time, (kernel.now, thread.name)
+
+
+def keeps_budget(server: Server) -> bool:
+    """The budget law over all that happened to the server since it was new.
+
+    What is refilled or pending is what was planned, in order; a refill comes at
+    the later of the plan's due tick and the plan's time; a plan has the high
+    ticks since the last activation, and is due one period after it.
+    """
+    history = server.history
+    planned = [plan for _, plan in history.plans]
+    refilled = [refill for _, refill in history.refills]
+    in_order = refilled + server.pending == planned and len(history.high_ticks) == server.high_total
+    in_time = all(at == max(plan.due, made) for (at, _), (made, plan) in zip(history.refills, history.plans))
+    return in_order and in_time and all(is_due_to_activation(server, made, plan) for made, plan in history.plans)
+
+
+def is_due_to_activation(server: Server, made: int, plan: Replenishment) -> bool:
+    """Whether the plan has the high ticks since the last activation before it, and its due tick."""
+    activation = max(at for at in server.history.activations if at < made)
+    used = sum(1 for tick in server.history.high_ticks if activation <= tick < made)
+    return plan.amount == used >= 1 and plan.due == activation + server.parameters.period
 
 
 def check_thread(kernel: "Kernel", thread: Thread) -> None:
@@ -72,9 +98,8 @@ def check_thread(kernel: "Kernel", thread: Thread) -> None:
     assert kinds == order and (kinds[:1] == [FrameKind.MAIN]) == thread.is_live, at
     assert len(thread.cleanups) <= 8, at
     if thread.is_live and not thread.ending and thread.frames[0].unit is not Plain.FINISH:
-        pushed = sum(1 for level in thread.frames[0].levels if hasattr(level.opener, "cleanup"))
-        pending_push = thread.frames[0].left > 0 and getattr(thread.frames[0].unit, "word", "") in ("push", "pop")
-        assert pending_push or len(thread.cleanups) == pushed, at
+        pushed = sum(1 for level in thread.frames[0].levels if isinstance(level.opener, Guard))
+        assert len(thread.cleanups) == pushed, at
 
 
 def check_waits(kernel: "Kernel") -> None:
@@ -102,7 +127,8 @@ def check_records(kernel: "Kernel") -> None:
     for record in kernel.records:
         assert record.queue is None or kernel.queues[record.queue].registration is None, kernel.now
     serials = [record.serial for record in kernel.records]
-    serials += [thread.wait.serial for thread in kernel.threads if thread.wait is not None and thread.wait.serial is not None]
+    waits = [thread.wait for thread in kernel.threads if thread.wait is not None]
+    serials += [wait.serial for wait in waits if wait.serial is not None]
     assert len(serials) == len(set(serials)) and all(serial < kernel.next_serial for serial in serials), kernel.now
     waiting = sum(1 for thread in kernel.threads if thread.waits_in(WaitKind.COND))
     frames = sum(1 for thread in kernel.threads if thread.in_signal_frame)

@@ -1,6 +1,8 @@
 """The state of the machine, and the changes of which the effects of calls and due items are made."""
 from __future__ import annotations
 
+from dataclasses import replace
+
 from forms import ObjectKind
 from script import Call, Fifo, Operand, Res, Rr, Script, Sporadic
 from state import (
@@ -11,7 +13,11 @@ Snapshot = list[tuple[bool, int]]
 
 
 class Kernel:
-    """The state: plain lists of threads, objects and pending signals, and what happened so far."""
+    """The state: plain lists of threads, objects and pending signals, and what happened so far.
+
+    `now` is the instant; `time` is the time of what happens, which within a
+    tick is the instant that ends it.
+    """
 
     def __init__(self, script: Script) -> None:
         self.now = 0
@@ -60,16 +66,27 @@ class Kernel:
         return max([self.assigned(thread), *ceilings])
 
     def exec(self, thread: Thread) -> int:
-        """The execution priority: the greatest base of the thread and of all that wait, along inherit mutexes, for it."""
-        found, open_ = {thread.number}, [thread.number]
-        while open_:
-            owner = open_.pop()
-            for other in self.threads:
-                mutex = self.awaited_mutex(other)
-                if mutex is not None and mutex.kind.inherit and mutex.owner == owner and other.number not in found:
-                    found.add(other.number)
-                    open_.append(other.number)
-        return max(self.base(self.threads[number]) for number in found)
+        """The execution priority of one thread."""
+        return self.exec_priorities()[thread.number]
+
+    def exec_priorities(self) -> list[int]:
+        """Of each thread the greatest base of itself and of all that wait, along inherit mutexes, for it."""
+        found = [0] * len(self.threads)
+        for thread in self.threads:
+            base = self.base(thread)
+            for number in self.lends_to(thread):
+                found[number] = max(found[number], base)
+        return found
+
+    def lends_to(self, thread: Thread) -> list[int]:
+        """The thread, the owner of the inherit mutex for which it waits, and so on from owner to owner."""
+        path: list[int] = []
+        at: int | None = thread.number
+        while at is not None and at not in path:
+            path.append(at)
+            mutex = self.awaited_mutex(self.threads[at])
+            at = mutex.owner if mutex is not None and mutex.kind.inherit else None
+        return path
 
     def awaited_mutex(self, thread: Thread) -> Mutex | None:
         """The mutex that the thread waits or contends for."""
@@ -84,7 +101,7 @@ class Kernel:
 
     def snapshot(self) -> Snapshot:
         """Of each thread whether it is runnable, and its execution priority."""
-        return [(thread.is_ready, self.exec(thread)) for thread in self.threads]
+        return [(thread.is_ready, priority) for thread, priority in zip(self.threads, self.exec_priorities())]
 
     def move_later(self, thread: Thread) -> None:
         """A direct move: the thread goes to the tail of its list when the effect is whole."""
@@ -95,9 +112,8 @@ class Kernel:
     def settle(self, before: Snapshot) -> None:
         """Carries out the moves of what happened since `before`: direct ones, then those whose priority changed."""
         after = self.snapshot()
-        for thread in self.threads:
-            if not thread.is_ready:
-                self.take_from_lists(thread.number)
+        for members in self.lists.values():
+            members[:] = [number for number in members if after[number][0]]
         direct = [number for number in self.direct if after[number][0]]
         for number in direct:
             self.take_from_lists(number)
@@ -115,14 +131,18 @@ class Kernel:
 
     def head(self) -> int | None:
         """The first thread of the highest list that is not empty."""
-        return next((members[0] for _, members in sorted(self.lists.items(), reverse=True) if members), None)
+        return next((self.lists[priority][0] for priority in range(255, 0, -1) if self.lists[priority]), None)
 
     # Waiting
 
     def best_waiter(self, target: int | None, *kinds: WaitKind) -> Thread | None:
         """Of the threads that wait for an object, the one of greatest priority and, among equals, least serial."""
         waiters = [thread for thread in self.threads if thread.waits_in(*kinds) and thread.wait.target == target]
-        return min(waiters, key=lambda thread: (-self.exec(thread), thread.wait.serial), default=None)
+        return self.best_of(waiters)
+
+    def best_of(self, waiters: list[Thread]) -> Thread | None:
+        exec_priorities = self.exec_priorities()
+        return min(waiters, key=lambda thread: (-exec_priorities[thread.number], thread.wait.serial), default=None)
 
     def block(self, thread: Thread, wait: Wait) -> None:
         """The thread waits; a wait for an object takes a serial, a sleep and a join take none."""
@@ -162,7 +182,7 @@ class Kernel:
 
     def activate(self, thread: Thread) -> None:
         """The present instant is the activation time of the thread's server."""
-        thread.server.activation = self.time
+        thread.server.activate(self.time)
         self.emit("activate", thread.name, thread.server.capacity)
 
     # Mutexes
@@ -247,5 +267,5 @@ class Kernel:
             case Rr():
                 thread.policy = Rr(priority)
             case Sporadic() as parameters:
-                thread.policy = Sporadic(priority, parameters.low, parameters.period, parameters.budget, parameters.limit)
+                thread.policy = replace(parameters, high=priority)
                 thread.server.high = priority

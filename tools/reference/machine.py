@@ -85,7 +85,7 @@ class Machine(Kernel):
     def refill(self, thread: Thread) -> None:
         server = thread.server
         was_high = server.is_high
-        done = server.refill()
+        done = server.refill(self.now)
         self.emit("refill", thread.name, done.amount, server.capacity)
         if server.is_high and not was_high and thread.is_ready:
             self.activate(thread)
@@ -142,7 +142,7 @@ class Machine(Kernel):
         if isinstance(thread.policy, Rr):
             thread.slice += 1
         if thread.server is not None and thread.server.is_high:
-            thread.server.charge()
+            thread.server.charge(self.now)
             return thread.server
         return None
 
@@ -191,5 +191,5 @@ class Machine(Kernel):
                 self.move_later(thread)
 
     def plan(self, thread: Thread) -> None:
-        planned = thread.server.plan()
+        planned = thread.server.plan(self.time)
         self.emit("plan", thread.name, planned.amount, planned.due)

@@ -19,14 +19,14 @@ STRANGE_NUMBERS = ("-1", "+1", "1x", "0x1", "1.0", "1e3", "reg", "", "00", "007"
                    str(_GREATEST), str(_GREATEST + 1), "0" * 40 + "5", "9" * 60, "18446744073709551616", "rt1")
 STRANGE_SIGNALS = ("rt32", "rt01", "rt", "rt-1", "rt1,", ",rt1", "rt1,,rt2", "RT1", "all", "none", "rt31", "rt1,rt1",
                    "rt0,rt32", "1", "all,rt1", "sig1")
-STRANGE_LINES = ("frob", "end", "end end", "pop 0", "pop 1", "pop", "pop 2", "if", "if 00", "if FOO", "unless 1", "loop",
-                 "loop 0", "run", "run 0", "run 1 1", "run x", "thread", "quantum 5", "quantum 0", "quantum", "version 2",
-                 "version 3", "yield", "yield yield", "handler z", "cleanup z", "Run 1", "thread z fifo 5", "set reg",
-                 "thread z fifo 5 at", "thread z fifo 5 at 0", "thread z fifo 5 dormant", "thread z rr 5 at 0",
-                 "thread z fifo 0 at 0", "thread z fifo 256 at 0", "thread z foo 5 at 0", "thread z fifo five at 0",
-                 "thread z fifo 5 dormant 0", "thread z fifo 5 at 1 2", "forever", "forever 1", "take 1", "add", "# x",
-                 "", "  ", "\t", "run 1 # one", "run 1# one", "run\t1", "lock m", "nanosleep reg", "strict", "\x7f",
-                 "# \x01", "caf\xe9", "run 1\r", "\x00")
+STRANGE_LINES = (
+    "frob", "end", "end end", "pop 0", "pop 1", "pop", "pop 2", "if", "if 00", "if FOO", "unless 1", "loop", "loop 0",
+    "run", "run 0", "run 1 1", "run x", "Run 1", "thread", "quantum 5", "quantum 0", "quantum", "version 2",
+    "version 3", "yield", "yield yield", "handler z", "cleanup z", "set reg", "thread z fifo 5", "thread z fifo 5 at",
+    "thread z fifo 5 at 0", "thread z fifo 5 dormant", "thread z rr 5 at 0", "thread z fifo 0 at 0",
+    "thread z fifo 256 at 0", "thread z foo 5 at 0", "thread z fifo five at 0", "thread z fifo 5 dormant 0",
+    "thread z fifo 5 at 1 2", "forever", "forever 1", "take 1", "add", "# x", "", "  ", "\t", "run 1 # one",
+    "run 1# one", "run\t1", "lock m", "nanosleep reg", "strict", "\x7f", "# \x01", "caf\xe9", "run 1\r", "\x00")
 
 
 def refused(seed: int, stage: Stage = Stage.WHOLE) -> bytes:
@@ -171,25 +171,26 @@ def late(draw: Random, stage: Stage) -> Text:
 
 def number_passed(draw: Random, lines: Text) -> Text:
     """A number becomes one at an edge of a range or past it."""
-    spots = [(at, place) for at, line in enumerate(lines) for place, word in enumerate(line.split(" ")) if word.isdigit()]
-    if not spots:
+    edges = ("0", "256", "00", "65", "32", "32768", "65537", str(_GREATEST), str(_GREATEST + 1), "9" * 50)
+    return one_word_changed(draw, lines, str.isdigit, edges)
+
+
+def one_word_changed(draw: Random, lines: Text, wanted: Callable[[str], bool], others: tuple[str, ...]) -> Text:
+    """One of the wanted words becomes one of the others."""
+    places = [(at, place) for at, line in enumerate(lines)
+              for place, word in enumerate(line.split(" ")) if wanted(word)]
+    if not places:
         return lines
-    at, place = draw.choice(spots)
+    at, place = draw.choice(places)
     words = lines[at].split(" ")
-    words[place] = draw.choice(("0", "256", "00", "65", "32", "32768", "65537", str(_GREATEST), str(_GREATEST + 1), "9" * 50))
+    words[place] = draw.choice(others)
     return lines[:at] + [" ".join(words)] + lines[at + 1:]
 
 
 def name_swapped(draw: Random, lines: Text) -> Text:
     """A name becomes another name of the text or one that is not declared."""
     names = [line.split()[1] for line in lines if declares(line)]
-    spots = [(at, place) for at, line in enumerate(lines) for place, word in enumerate(line.split(" ")) if word in names]
-    if not spots:
-        return lines
-    at, place = draw.choice(spots)
-    words = lines[at].split(" ")
-    words[place] = draw.choice(names + ["nope"])
-    return lines[:at] + [" ".join(words)] + lines[at + 1:]
+    return one_word_changed(draw, lines, lambda word: word in names, (*names, "nope"))
 
 
 def declares(line: str) -> bool:
@@ -198,26 +199,34 @@ def declares(line: str) -> bool:
 
 
 def part_twice(draw: Random, lines: Text) -> Text:
-    heads = [line for line in lines if line.split()[:1] and line.split()[0] in ("action", "mutex", "cond", "sem", "quantum")]
+    """A declaration stands a second time."""
+    heads = [line for line in lines if first_word(line) in ("action", "mutex", "cond", "sem", "quantum")]
     return [*lines, draw.choice(heads)] if heads else [*lines, "handler t0", "end"]
 
 
+def first_word(line: str) -> str:
+    return (line.split() or [""])[0]
+
+
 def end_lost(draw: Random, lines: Text) -> Text:
-    ends = [at for at, line in enumerate(lines) if line.split()[:1] in (["end"], ["pop"])]
+    """The last closing line is left out."""
+    ends = [at for at, line in enumerate(lines) if first_word(line) in ("end", "pop")]
     return lines[:ends[-1]] + lines[ends[-1] + 1:] if ends else lines
 
 
 def cut_off(draw: Random, lines: Text) -> Text:
+    """The text ends early, at times."""
     return lines[:draw.randint(0, len(lines))] if draw.random() < 0.5 else lines
 
 
 def threads_lost(draw: Random, lines: Text) -> Text:
-    """Every thread becomes a handler, with what it holds that may stand there."""
-    kept = [line for line in lines if line.split()[:1] not in (["thread"], ["end"])]
-    return ["handler z", "end"] + [line for line in kept if declares(line) and line.split()[0] not in ("handler", "cleanup")]
+    """The objects alone are left, and no thread."""
+    kept = [line for line in lines if declares(line) and first_word(line) not in ("thread", "handler", "cleanup")]
+    return ["handler z", "end", *kept]
 
 
 def server_changed(draw: Random, lines: Text) -> Text:
+    """A parameter of a server changes, so that it may not fit the others."""
     spots = [at for at, line in enumerate(lines) if " sporadic " in line]
     if not spots:
         return number_passed(draw, lines)

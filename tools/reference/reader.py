@@ -27,6 +27,7 @@ _GROUPS: dict[ObjectKind, str] = {
     kind: _BODIES if kind in (ObjectKind.HANDLER, ObjectKind.CLEANUP) else kind.value for kind in ObjectKind}
 LIMITS: dict[str, int] = {"thread": 64, "mutex": 64, "cond": 64, "sem": 64, "queue": 16, "timer": 32, _BODIES: 64}
 
+_BAD_BYTE = re.compile(rb"[^\t -~]")
 _NAME = re.compile(r"[a-z][a-z0-9_]{0,31}\Z")
 _NUMBER = re.compile(r"[0-9]+\Z")
 _SIGNAL = re.compile(r"rt([0-9]|[12][0-9]|3[01])\Z")
@@ -95,7 +96,8 @@ def lines_of(text: bytes) -> list[bytes]:
 
 
 def has_bad_byte(line: bytes) -> bool:
-    return any(byte != 9 and not 32 <= byte <= 126 for byte in line)
+    """Whether the line has a byte other than a tab and the printing characters."""
+    return _BAD_BYTE.search(line) is not None
 
 
 def words_of(line: bytes) -> list[str]:

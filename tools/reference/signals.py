@@ -9,7 +9,13 @@ from state import GREATEST_PENDING, FrameKind, Record, SigCode, Thread, WaitKind
 from units import new_frame
 
 _DEFERRING = (WaitKind.MUTEX, WaitKind.CONTENTION, WaitKind.COND, WaitKind.JOIN)
-KILLS = "kills"
+
+
+class Fate(Enum):
+    """The actions of a signal beside a handler."""
+
+    KILL = "the process ends"
+    IGNORE = "nothing"
 
 
 class Outcome(Enum):
@@ -21,9 +27,12 @@ class Outcome(Enum):
     QUEUED = "queued"
 
 
-def action_of(kernel: Kernel, signal: int) -> int | None | str:
-    """The number of the signal's handler, None where it is ignored, KILLS where it ends the process."""
-    return kernel.actions.get(signal, KILLS)
+def action_of(kernel: Kernel, signal: int) -> int | Fate:
+    """The number of the signal's handler, or its fate where it has none."""
+    if signal not in kernel.actions:
+        return Fate.KILL
+    handler = kernel.actions[signal]
+    return Fate.IGNORE if handler is None else handler
 
 
 def acceptor(kernel: Kernel, record: Record) -> Thread | None:
@@ -31,13 +40,13 @@ def acceptor(kernel: Kernel, record: Record) -> Thread | None:
     waiters = [thread for thread in kernel.threads
                if thread.waits_in(WaitKind.SIGNAL) and thread.wait.signals >> record.signal & 1
                and record.target in (None, thread.number)]
-    return min(waiters, key=lambda thread: (-kernel.exec(thread), thread.wait.serial), default=None)
+    return kernel.best_of(waiters)
 
 
 def outcome_of(kernel: Kernel, record: Record) -> Outcome:
     if acceptor(kernel, record) is not None:
         return Outcome.ACCEPTED
-    if action_of(kernel, record.signal) is None:
+    if action_of(kernel, record.signal) is Fate.IGNORE:
         return Outcome.DISCARDED
     users = [pending for pending in kernel.records if pending.code in (SigCode.USER, SigCode.QUEUE)]
     if record.code in (SigCode.USER, SigCode.QUEUE) and len(users) >= GREATEST_PENDING:
@@ -94,13 +103,13 @@ def sweep(kernel: Kernel) -> None:
 def sweep_thread(kernel: Kernel, thread: Thread) -> None:
     open_records = [record for record in records_for(kernel, thread) if not thread.mask >> record.signal & 1]
     if thread.waits_in(*_DEFERRING):
-        open_records = [record for record in open_records if action_of(kernel, record.signal) == KILLS]
+        open_records = [record for record in open_records if action_of(kernel, record.signal) is Fate.KILL]
     record = select(open_records)
     if record is None:
         return
     kernel.records.remove(record)
     action = action_of(kernel, record.signal)
-    if action == KILLS:
+    if action is Fate.KILL:
         kernel.killed = record.signal
         kernel.emit("killed", f"rt{record.signal}")
         return

@@ -96,6 +96,16 @@ class Replenishment:
     due: int
 
 
+@dataclass
+class History:
+    """What happened to a server since it was new, for checks alone: the high ticks, and each kind of change."""
+
+    high_ticks: list[int] = field(default_factory=list)
+    activations: list[int] = field(default_factory=list)
+    plans: list[tuple[int, Replenishment]] = field(default_factory=list)
+    refills: list[tuple[int, Replenishment]] = field(default_factory=list)
+
+
 class Server:
     """A sporadic server: what is left of its budget, what was used since its activation, what comes back when."""
 
@@ -108,28 +118,36 @@ class Server:
         self.pending: list[Replenishment] = []
         self.high_total = 0
         self.refilled_total = 0
+        self.history = History()
 
     @property
     def is_high(self) -> bool:
         return self.capacity > 0 and len(self.pending) < self.parameters.limit
 
-    def charge(self) -> None:
+    def charge(self, tick: int) -> None:
         self.capacity -= 1
         self.consumed += 1
         self.high_total += 1
+        self.history.high_ticks.append(tick)
 
-    def plan(self) -> Replenishment:
+    def activate(self, now: int) -> None:
+        self.activation = now
+        self.history.activations.append(now)
+
+    def plan(self, now: int) -> Replenishment:
         """The consumed ticks come back one period after the activation."""
         planned = Replenishment(self.consumed, self.activation + self.parameters.period)
         self.pending.append(planned)
         self.consumed = 0
+        self.history.plans.append((now, planned))
         return planned
 
-    def refill(self) -> Replenishment:
+    def refill(self, now: int) -> Replenishment:
         """Carries out the oldest pending replenishment."""
         done = self.pending.pop(0)
         self.capacity = min(self.capacity + done.amount, self.parameters.budget)
         self.refilled_total += done.amount
+        self.history.refills.append((now, done))
         return done
 
 

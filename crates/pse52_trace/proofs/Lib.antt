@@ -1,3 +1,4 @@
+mod Examples
 pub mod Lines
 pub mod Prints
 pub mod Tells

@@ -1,5 +1,5 @@
 -- The events of several calls, one after another.
-use Rattle.std.proofs.Common.{◌≡◌, ℕ, List, [], ◌∷◌, ◌++◌, refl, sym, ◌∙◌, ap, subst, append-nil, Option, Bool, true}
+use Rattle.std.proofs.Common.{◌≡◌, ℕ, List, [], ◌∷◌, ◌++◌, sym, ◌∙◌, ap, subst, append-nil, Option, true}
 use Rattle.pse52_trace.specs.Text.{Entry, line, lines}
 use Rattle.pse52_trace.specs.Prints.{Prints}
 use Rattle.pse52_trace.specs.Tells.{Tells}

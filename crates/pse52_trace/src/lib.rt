@@ -15,3 +15,6 @@ pub use line::line_len;
 pub use names::Names;
 pub use report::{BudgetView, Report};
 pub use tracer::Tracer;
+
+#[cfg(test)]
+mod tests;

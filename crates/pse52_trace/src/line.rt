@@ -9,7 +9,7 @@ use itoa::Buffer;
 use std::marker::Model;
 use tick_num::{Tick, Tid};
 
-/// How long the line of an event is, in bytes: at most 256.
+/// How long the line of an event is, in bytes: at most 256, whatever its names and numbers.
 pub fn line_len(now: Tick, e: &Event, names: &Names) -> usize
     requires { IsNamed names.now e.now }
     ensures length { result ≡ length (line names.now now e.now) }
@@ -56,13 +56,12 @@ impl Line {
         self.text.as_slice()
     }
 
-    // Adds one byte.
-    fn byte(&mut self, byte: u8)
-        requires { length self.old + 1 ≤ 256 }
-        ensures value { self.new ≡ self.old ++ byte ∷ [] }
-        ensures longer { length self.new ≡ length self.old + 1 }
+    // Adds the line end.
+    fn end(&mut self)
+        requires { length self.old < 256 }
+        ensures { self.new ≡ self.old ++ 10 ∷ [] }
     {
-        self.text.push(byte);
+        self.text.push(b'\n');
     }
 
     // Adds a blank and a word.
@@ -171,7 +170,7 @@ pub(crate) fn line_of(now: Tick, e: &Event, names: &Names) -> Line
         }
         Event::End => line.word(b"end"),
     }
-    line.byte(b'\n');
+    line.end();
     line
 }
 
@@ -187,6 +186,6 @@ pub(crate) fn report_line_of(t: Tid, report: &Report, names: &Names) -> Line
     if let Some(budget) = &report.budget {
         line.budget(budget);
     }
-    line.byte(b'\n');
+    line.end();
     line
 }

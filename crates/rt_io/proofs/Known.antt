@@ -1,5 +1,6 @@
 -- Bytes that are told, and counts, through several reads or writes.
-use Rattle.std.proofs.Common.{◌≡◌, ℕ, ◌+◌, ◌≤◌, List, [], ◌++◌, length, refl, sym, ◌∙◌, ap, append_assoc, append-nil, length-append, arith, Option, Some, None}
+use Rattle.std.proofs.Common.{ℕ, ◌+◌, ◌≤◌, List, [], ◌++◌, length, refl, sym, ◌∙◌, ap, append_assoc, append-nil, length-append, take, drop, subst, arith, Option, Some, None}
+use Rattle.std.proofs.Math.Seq.{take-add}
 use Rattle.std.specs.Io.KnownBytes.{Appends, Consumes}
 use Rattle.rt_io.specs.Causes.{GrewBy}
 use Rattle.rt_io.specs.Whole.{TookAtMost}
@@ -42,3 +43,9 @@ took_more a b c before between now m n xs moved count rest fits = record {
   moved = consumes_more a b c xs rest.bytes moved rest.moved;
   count = rw (length-append xs rest.bytes) (grew_more (length xs) (length rest.bytes) before between now count rest.count);
 }
+
+-- the first i bytes were written, and then j more of them
+pub appends_on : (a b c : Option (List ℕ)) (bytes : List ℕ) (i j : ℕ) → Appends a b (take i bytes) → Appends b c (take j (drop i bytes))
+    → Appends a c (take (i + j) bytes)
+appends_on a b c bytes i j first second =
+    subst (λ t. Appends a c t) (sym (take-add i j bytes)) (appends_more a b c (take i bytes) (take j (drop i bytes)) first second)

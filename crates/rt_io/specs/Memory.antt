@@ -1,5 +1,5 @@
 -- Sources and sinks in memory, as their callers see them. They are this project's own.
-use Rattle.std.specs.Prelude.{◌≡◌, ◌==◌, ℕ, Bool, List, ◌++◌, ◌+◌, ◌&&◌, not, if◌then◌else◌, min, drop, length, nat_le}
+use Rattle.std.specs.Prelude.{◌==◌, ℕ, Bool, List, ◌++◌, ◌+◌, ◌&&◌, not, if◌then◌else◌, min, drop, length, nat_le}
 use Rattle.std.specs.List.{list_any}
 use Rattle.rt_io.specs.Causes.{raised}
 

@@ -1,11 +1,14 @@
 // The trusted edge: the readers and writers of std, with their faults counted.
-ghost use Rattle.std.specs.Prelude.{◌≡◌, None, IsErr};
+ghost use Rattle.std.specs.Prelude.{◌≡◌, IsErr};
+ghost use Rattle.std.specs.Io.KnownBytes.{Keeps};
 ghost use Rattle.rt_io.specs.Causes.{HasCause};
 
 use crate::{Failed, Sink, Source};
 use std::io::{Read, Write};
 
-/// A reader of std as a source. It tells nothing of its bytes.
+/// A reader of std as a source.
+///
+/// It tells of its bytes what the reader tells: nothing where they come from a file, a pipe or a terminal.
 #[derive(Drop)]
 pub struct StdSource<R> {
     inner: R,
@@ -16,6 +19,7 @@ pub struct StdSource<R> {
 impl<R: Read> StdSource<R> {
     /// A source over `inner` that has given nothing yet.
     pub fn new(inner: R) -> StdSource<R>
+        ensures rest { ⟦<StdSource<R> as Source>⟧.rest result ≡ R.remaining inner }
         ensures taken { ⟦<StdSource<R> as Source>⟧.taken result ≡ 0 }
         ensures faults { ⟦<StdSource<R> as Source>⟧.faults result ≡ 0 }
     {
@@ -28,7 +32,7 @@ impl<R: Read> StdSource<R> {
 }
 
 impl<R: Read> Source for StdSource<R> {
-    ghost rest = { λ _. None };
+    ghost rest = { λ s. R.remaining s.inner };
 
     ghost taken = { λ s. s.taken };
 
@@ -49,7 +53,9 @@ impl<R: Read> Source for StdSource<R> {
     }
 }
 
-/// A writer of std as a sink. It tells nothing of its text.
+/// A writer of std as a sink.
+///
+/// It tells of its text what the writer tells: nothing where it goes to a file, a pipe or a terminal.
 #[derive(Drop)]
 pub struct StdSink<W> {
     inner: W,
@@ -59,14 +65,16 @@ pub struct StdSink<W> {
 impl<W: Write> StdSink<W> {
     /// A sink over `inner` to which nothing was written yet.
     pub fn new(inner: W) -> StdSink<W>
-        ensures { ⟦<StdSink<W> as Sink>⟧.faults result ≡ 0 }
+        ensures text { ⟦<StdSink<W> as Sink>⟧.text result ≡ W.contents inner }
+        ensures faults { ⟦<StdSink<W> as Sink>⟧.faults result ≡ 0 }
     {
         StdSink { inner, faults: 0 }
     }
 
     /// Sends on what the writer holds back. A flush that fails is a fault.
     pub fn flush(&mut self) -> Result<(), Failed>
-        ensures { HasCause (⟦<StdSink<W> as Sink>⟧.faults self.old) (⟦<StdSink<W> as Sink>⟧.faults self.new) result }
+        ensures text { Keeps (⟦<StdSink<W> as Sink>⟧.text self.old) (⟦<StdSink<W> as Sink>⟧.text self.new) }
+        ensures cause { HasCause (⟦<StdSink<W> as Sink>⟧.faults self.old) (⟦<StdSink<W> as Sink>⟧.faults self.new) result }
     {
         match self.inner.flush() {
             Ok(()) => Ok(()),
@@ -77,6 +85,7 @@ impl<W: Write> StdSink<W> {
     // Counts a fault and answers it.
     fn fail(&mut self) -> Result<(), Failed>
         ensures failed { IsErr result }
+        ensures text { self.new.inner ≡ self.old.inner }
         ensures cause { HasCause self.old.faults self.new.faults result }
     {
         self.faults = self.faults.saturating_add(1);
@@ -85,7 +94,7 @@ impl<W: Write> StdSink<W> {
 }
 
 impl<W: Write> Sink for StdSink<W> {
-    ghost text = { λ _. None };
+    ghost text = { λ s. W.contents s.inner };
 
     ghost faults = { λ s. s.faults };
 
@@ -101,3 +110,6 @@ impl<W: Write> Sink for StdSink<W> {
         Ok(())
     }
 }
+
+#[cfg(test)]
+mod tests;

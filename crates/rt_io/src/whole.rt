@@ -21,6 +21,11 @@ pub enum ReadEnd {
 }
 
 impl fmt::Display for ReadEnd {
+    ghost use Rattle.std.specs.Prelude.{Some};
+    ghost use Rattle.rt_io.specs.Whole.{text_of};
+
+    ghost output = { λ e. Some (text_of e) };
+
     fn fmt<W: fmt::Write>(&self, f: &mut fmt::Formatter<W>) -> fmt::Result {
         f.write_str(match self {
             ReadEnd::ReadFault => "a read failed",
@@ -102,4 +107,41 @@ pub fn read_whole<S: Source>(alloc: Global, source: &mut S, limit: u64) -> Resul
         }
     }
     Err(ReadEnd::TooLong)
+}
+
+#[cfg(test)]
+mod tests {
+    use super::*;
+    use crate::{MemSource, SureSource};
+    use std::test::Fail;
+
+    #[test]
+    fn a_source_is_read_to_its_end_or_past_the_limit(rt: HostRuntime) -> Result<(), Fail> {
+        let alloc = rt.alloc();
+        for (size, limit, is_whole) in [
+            (0, 0, true),
+            (1, 0, false),
+            (9000, 9000, true),
+            (9000, 8999, false),
+        ] {
+            let mut source = SureSource::new(vec![in alloc; b'a'; size]?);
+            match read_whole(alloc, &mut source, limit) {
+                Ok(bytes) => assert_eq!(rt; (bytes.len(), is_whole), (size, true)),
+                Err(end) => assert_eq!(rt; (end, is_whole), (ReadEnd::TooLong, false)),
+            }
+        }
+        Ok(())
+    }
+
+    #[test]
+    fn the_second_read_fails(rt: HostRuntime) -> Result<(), Fail> {
+        let alloc = rt.alloc();
+        let mut source = MemSource::new(vec![in alloc; b'a'; 9000]?, vec![in alloc; 2u64; 1]?);
+        assert_eq!(rt;
+            read_whole(alloc, &mut source, 9000).err(),
+            Some(ReadEnd::ReadFault)
+        );
+        assert_eq!(rt; read_whole(alloc, &mut source, 9000)?.len(), 4904);
+        Ok(())
+    }
 }

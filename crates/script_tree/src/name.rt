@@ -39,6 +39,11 @@ impl Model for Name {
     ghost Value = { List ℕ };
 
     ghost view = { λ n. n.text.items };
+
+    ghost use Rattle.std.specs.Prelude.{◌≡◌, true};
+    ghost use Rattle.script_tree.specs.Names.{is_name};
+
+    ghost invariant = { λ n. is_name n.text.items ≡ true };
 }
 
 impl Name {
@@ -54,9 +59,10 @@ impl Name {
         Some(Name { text })
     }
 
-    /// Its bytes, at most 32.
+    /// Its bytes, 1 to 32.
     pub fn bytes(&self) -> &[u8]
         ensures value { result.now ≡ self.now }
+        ensures named { is_name result.now ≡ true }
         ensures short { length result.now ≤ 32 }
     {
         self.text.as_slice()

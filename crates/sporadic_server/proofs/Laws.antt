@@ -32,28 +32,37 @@ pub refill_from_is : (rs left : List Replenish) (s : ServerState) (x : Replenish
 refill_from_is [] left s x sum some first rest = absurd (omega arith)
 refill_from_is (r ∷ rs) left s x sum some first rest = grind (arith, common_steps)
 
+-- what is left of the pending ones when the oldest is taken out
+pub record Rest (rs left : List Replenish) (x : Replenish) : Type 0 where
+  pub sums : x.amount + sum_by (λ r. r.amount) left ≡ sum_by (λ r. r.amount) rs
+  pub lengths : length left + 1 ≡ length rs
+  pub above_zero : All (λ r. 1 ≤ r.amount) rs → All (λ r. 1 ≤ r.amount) left
+
+pub rest_of : (rs left : List Replenish) (x : Replenish) → 0 < length rs → x ≡ get_or rs 0 x → left ≡ remove rs 0 → Rest rs left x
+rest_of [] left x some first rest = absurd (omega arith)
+rest_of (r ∷ rs) left x some first rest =
+    let head : x ≡ r = first in
+    let tail : left ≡ rs = rest in
+    rw (head, tail) (record {
+      sums = grind (arith, common_steps);
+      lengths = grind (arith, common_steps);
+      above_zero = λ each k d lt. each (suc k) d (omega arith);
+    })
+
 refill_keeps : (rs : List Replenish) (s : ServerState) → rs ≡ s.pending → IsServer s → IsServer (refill_from rs s)
 refill_keeps [] s e ok = ok
 refill_keeps (r ∷ rs) s e ok =
-    let sums : r.amount + sum_by (λ x. x.amount) rs ≡ sum_by (λ x. x.amount) s.pending = rw (← e) (grind (arith, common_steps)) in
-    let lengths : length rs + 1 ≡ length s.pending = rw (← e) (grind (arith, common_steps)) in
-    let each : All (λ x. 1 ≤ x.amount) (r ∷ rs) =
-    subst (λ (ps : List Replenish). All (λ x. 1 ≤ x.amount) ps) (sym e) ok.amounts_above_zero in
+    let rest = rest_of (r ∷ rs) rs r (omega arith) refl refl in
+    let sums : r.amount + sum_by (λ x. x.amount) rs ≡ sum_by (λ x. x.amount) s.pending = rw (← e) rest.sums in
+    let lengths : length rs + 1 ≡ length s.pending = rw (← e) rest.lengths in
     record {
       parameters = ok.parameters;
       adds_up = record { budget = omega arith; totals = omega arith };
       activation_small = ok.activation_small;
       high_small = ok.high_small;
       few_pending = omega arith;
-      amounts_above_zero = λ k d lt. each (suc k) d (omega arith);
+      amounts_above_zero = rest.above_zero (subst (λ (ps : List Replenish). All (λ x. 1 ≤ x.amount) ps) (sym e) ok.amounts_above_zero);
     }
-
--- what the code of `refill` leaves is a server
-pub refill_ok : (left : List Replenish) (s : ServerState) (x : Replenish) → IsServer s →
-    0 < length s.pending → x ≡ get_or s.pending 0 x → left ≡ remove s.pending 0 →
-    IsServer (record s { capacity = s.capacity + x.amount; pending = left; refilled_total = s.refilled_total + x.amount })
-refill_ok left s x ok some first rest =
-    rw (refill_from_is s.pending left s x ok.adds_up.budget some first rest) (refill_keeps s.pending s refl ok)
 
 kept : (call : ServerCall) (s : ServerState) → IsServer s → MayCall call s → IsServer (after_call call s)
 kept (Charge k) s ok may = rw (charge_ticks_is k s) (record {

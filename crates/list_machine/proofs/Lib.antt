@@ -1,0 +1,5 @@
+pub mod Steps
+pub mod Closing
+pub mod Alike
+pub mod FlatAlike
+pub mod Worked

@@ -1,0 +1,13 @@
+pub mod State
+pub mod Program
+pub mod Parts
+pub mod Items
+pub mod Dispatch
+pub mod Units
+pub mod Ticks
+pub mod Script
+pub mod Text
+pub mod Tree
+pub mod Same
+pub mod Flat
+pub mod Runnable

@@ -1,0 +1,4 @@
+mod Steps
+mod Blocks
+mod Decls
+pub mod Bounds

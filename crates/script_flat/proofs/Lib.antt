@@ -1,0 +1,6 @@
+pub mod Lands
+pub mod Places
+pub mod Agrees
+pub mod Safe
+pub mod Flattens
+pub mod Opens

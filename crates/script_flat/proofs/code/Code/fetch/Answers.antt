@@ -1,0 +1,34 @@
+use Rattle.std.proofs.Common.{arith, ap, ◌∙◌, sym, subst, length, drop, ◌≡◌, ◌≤◌}
+use Rattle.script_flat.specs.Fetch.{ops_of, fetched, found_in}
+use Rattle.script_flat.specs.Ready.{IsReady}
+use Rattle.script_flat.proofs.Agrees.{fetches, stays_placed}
+use Rattle.script_flat.proofs.Safe.{placed_ready, placed_within}
+use Rattle.script_flat.proofs.code.Code.fetch.Goals as goal
+
+pub search-requires-clause-ready : goal.search-requires-clause-ready
+search-requires-clause-ready c =
+    subst (λ ops. IsReady (drop c.args.at.now.pc ops) c.args.at.now) (sym c.ops.ensures) (placed_ready c.args.self.now c.args.at.now c.requires)
+
+pub search-requires-clause-within : goal.search-requires-clause-within
+search-requires-clause-within c =
+    let h = placed_within c.args.self.now c.args.at.now c.requires in omega (arith, ap length c.ops.ensures)
+
+pub search-requires-clause-short : goal.search-requires-clause-short
+search-requires-clause-short c =
+    let h = placed_within c.args.self.now c.args.at.now c.requires in omega (arith, ap length c.ops.ensures)
+
+pub returns-clause-next : goal.returns-clause-next
+returns-clause-next c =
+    fetches c.args.self.now c.args.at.now c.search.result.0 c.search.result.1
+    (ap (λ ops. found_in (drop c.args.at.now.pc ops) 0 c.args.at.now) (sym c.ops.ensures) ∙ c.search.ensures)
+
+pub returns-clause-placed : goal.returns-clause-placed
+returns-clause-placed c =
+    stays_placed c.args.self.now c.args.at.now c.search.result.0 c.search.result.1
+    (ap (λ ops. found_in (drop c.args.at.now.pc ops) 0 c.args.at.now) (sym c.ops.ensures) ∙ c.search.ensures) c.requires
+
+pub returns-clause-few : goal.returns-clause-few
+returns-clause-few c =
+    let placed = stays_placed c.args.self.now c.args.at.now c.search.result.0 c.search.result.1
+    (ap (λ ops. found_in (drop c.args.at.now.pc ops) 0 c.args.at.now) (sym c.ops.ensures) ∙ c.search.ensures) c.requires in
+    (placed_ready c.args.self.now c.search.result.0 placed).few

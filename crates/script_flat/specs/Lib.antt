@@ -1,0 +1,5 @@
+pub mod Fetch
+pub mod Flat
+pub mod Next
+pub mod Ready
+pub mod Stands

@@ -1,0 +1,246 @@
+// The flat code, and the next unit of a body.
+ghost use Rattle.std.specs.Prelude.{◌≡◌, ℕ, ◌+◌, ◌≤◌, ◌<◌, ◌^◌, [], ◌∷◌, ◌++◌, drop, length, slice_get, slice_index, All, IfOk, OnOk, Some};
+ghost use Rattle.script_tree.specs.Block.{Block};
+ghost use Rattle.script_tree.specs.Tree.{step_count};
+ghost use Rattle.script_flat.specs.Next.{Place, body_start, register_limit};
+ghost use Rattle.script_flat.specs.Flat.{IsFlattenable, bodies_of, body_list, flat, flat_form, with_decl};
+ghost use Rattle.script_flat.specs.Fetch.{carried_out, after_pass, innermost, found_in, ops_of, started, fetched};
+ghost use Rattle.script_flat.specs.Ready.{IsReady};
+ghost use Rattle.script_flat.specs.Stands.{IsBody, Stands, IsPlaced, Fetches};
+
+use crate::flatten::flatten;
+use crate::op::{Effect, capped, holds};
+use crate::{Cursor, Op, Unit};
+use arrayvec::ArrayVec;
+use script_tree::{Body, Decl, Kind, Script};
+use std::alloc::{AllocError, Global};
+use std::marker::Model;
+use tick_num::{ObjId, Res, Tid};
+
+/// The bodies of a script as flat code. Contracts see it as the operations of each body, and the numbers of the bodies of the
+/// threads, handlers and cleanup handlers.
+#[derive(Drop)]
+pub struct Code {
+    bodies: Vec<Vec<Op>>,
+    threads: Vec<u16>,
+    handlers: Vec<u16>,
+    cleanups: Vec<u16>,
+}
+
+impl Model for Code {
+    ghost use Rattle.std.specs.Prelude.{List, map};
+    ghost use Rattle.script_flat.specs.Flat.{Bodies};
+    ghost use Rattle.script_flat.specs.declared.op.Op.{Op};
+
+    ghost Value = { Bodies (List Op) };
+
+    ghost view = { λ c. record { all = map (λ body. body.items) c.bodies.items; threads = c.threads.items; handlers = c.handlers.items; cleanups = c.cleanups.items } };
+}
+
+impl Code {
+    /// The flat code of a script, whose bodies are numbered in the order of their declarations.
+    pub fn open(alloc: Global, script: &Script) -> Result<Code, AllocError>
+        requires { IsFlattenable (bodies_of script.now.decls).all }
+        ensures flat_form { IfOk result (λ code. code ≡ flat_form (bodies_of script.now.decls)) }
+
+        // Each body of the script is there under its number.
+        ensures bodies { IfOk result (λ code. (n : ℕ) → (body : Block)
+            → slice_get (bodies_of script.now.decls).all n ≡ Some body → IsBody code n body) }
+    {
+        let mut code = Code {
+            bodies: Vec::new(alloc),
+            threads: Vec::new(alloc),
+            handlers: Vec::new(alloc),
+            cleanups: Vec::new(alloc),
+        };
+        for decl in script.decls.items() {
+            code.declare(alloc, decl)?;
+        }
+        Ok(code)
+    }
+
+    // Takes the body of a declaration, where it has one.
+    fn declare(&mut self, alloc: Global, decl: &Decl) -> Result<(), AllocError>
+        requires room { length self.old.all + length (body_list decl.now) ≤ 2 ^ 16 }
+        requires short { All (λ body. step_count body ≤ 65536) (body_list decl.now) }
+        ensures { OnOk result (self.new ≡ with_decl (flat 0) decl.now self.old) }
+    {
+        match decl {
+            Decl::Named(_, kind) => match kind {
+                Kind::Thread { body, .. } => {
+                    let number = self.add(alloc, body)?;
+                    self.threads.push(number)?;
+                    Ok(())
+                }
+                Kind::Handler { body } => {
+                    let number = self.add(alloc, body)?;
+                    self.handlers.push(number)?;
+                    Ok(())
+                }
+                Kind::Cleanup { body } => {
+                    let number = self.add(alloc, body)?;
+                    self.cleanups.push(number)?;
+                    Ok(())
+                }
+                _ => Ok(()),
+            },
+            Decl::Action(..) => Ok(()),
+        }
+    }
+
+    // Takes a body and gives its number.
+    fn add(&mut self, alloc: Global, body: &Body) -> Result<u16, AllocError>
+        requires room { length self.old.all < 2 ^ 16 }
+        requires short { step_count body.now ≤ 65536 }
+        ensures number { IfOk result (λ number. number ≡ length self.old.all) }
+        ensures body { OnOk result (self.new ≡ record self.old { all = self.old.all ++ flat 0 body.now ∷ [] }) }
+    {
+        let number = self.bodies.len() as u16;
+        let mut ops = Vec::new(alloc);
+        flatten(body, &mut ops)?;
+        self.bodies.reserve(1)?;
+        self.bodies.push_reserved(ops);
+        Ok(number)
+    }
+
+    /// The number of a thread's body.
+    pub fn thread_body(&self, t: Tid) -> u16
+        requires { t < length self.now.threads }
+        ensures { result ≡ slice_index self.now.threads t }
+    {
+        self.threads[t.get() as usize]
+    }
+
+    /// The number of a handler's body.
+    pub fn handler_body(&self, h: ObjId) -> u16
+        requires { h < length self.now.handlers }
+        ensures { result ≡ slice_index self.now.handlers h }
+    {
+        self.handlers[h.get() as usize]
+    }
+
+    /// The number of a cleanup handler's body.
+    pub fn cleanup_body(&self, u: ObjId) -> u16
+        requires { u < length self.now.cleanups }
+        ensures { result ≡ slice_index self.now.cleanups u }
+    {
+        self.cleanups[u.get() as usize]
+    }
+
+    /// The beginning of a body, with the register and the last call's value set to `value`, and the result zero.
+    pub fn start(&self, body: u16, value: u64) -> Cursor
+        requires exists { body < length self.now.all }
+        requires in_limit { value ≤ register_limit }
+        ensures cursor { result ≡ started body value }
+        ensures stands { (tree : Block) → IsBody self.now body tree → Stands tree body_start result }
+        ensures placed { (tree : Block) → IsBody self.now body tree → IsPlaced self.now result }
+    {
+        Cursor {
+            body,
+            pc: 0,
+            register: value,
+            result: Res::Zero,
+            value,
+            counts: ArrayVec::new(),
+        }
+    }
+
+    // The operations of a body.
+    fn ops(&self, body: u16) -> &[Op]
+        requires { body < length self.now.all }
+        ensures { result.now ≡ ops_of self.now body }
+    {
+        self.bodies[body as usize].as_slice()
+    }
+
+    /// The next unit of the body that the cursor stands in, and the cursor after it: the operations that take no time are carried
+    /// out on the way. At a body's end the unit is always `Finish`. No memory is taken. The cursor is one that `start` or `fetch`
+    /// gave; its result and its value may have been replaced.
+    pub fn fetch(&self, at: &Cursor) -> (Cursor, Unit)
+        requires { IsPlaced self.now at.now }
+        ensures fetched { result ≡ fetched self.now at.now }
+
+        // It is the next unit of the tree, whichever tree the flat form is of.
+        ensures next { (tree : Block) → (place : Place) → IsBody self.now at.now.body tree → Stands tree place at.now
+            → Fetches tree place at.now result.0 result.1 }
+
+        ensures placed { IsPlaced self.now result.0 }
+        ensures few { length result.0.counts.items ≤ 15 }
+    {
+        search(self.ops(at.body), at)
+    }
+}
+
+// The first unit of the operations ahead of a cursor, and the cursor after it.
+fn search(ops: &[Op], at: &Cursor) -> (Cursor, Unit)
+    requires ready { IsReady (drop at.now.pc ops.now) at.now }
+    requires within { at.now.pc ≤ length ops.now }
+    requires short { length ops.now < 2 ^ 32 }
+    ensures { found_in (drop at.now.pc ops.now) 0 at.now ≡ result }
+{
+    let mut next = at.duplicate();
+    while let Some(op) = ops.get(next.pc as usize) {
+        next.pc += 1;
+        match next.carry_out(op) {
+            Effect::Gives(unit) => return (next, unit),
+            Effect::Skips(skip) => next.pc += skip,
+        }
+    }
+    (next, Unit::Finish)
+}
+
+impl Cursor {
+    // The end of a pass of the innermost counted loop.
+    fn end_pass(&mut self, first: u32) -> Effect
+        requires { length self.old.counts.items ≤ 15 }
+        ensures { after_pass first (innermost self.old.counts.items) self.old ≡ (self.new, result) }
+    {
+        match self.counts.pop() {
+            Some(passes) if passes > 1 => {
+                self.counts.push(passes - 1);
+                self.pc = first;
+                Effect::Gives(Unit::Jump)
+            }
+            _ => Effect::Skips(0),
+        }
+    }
+
+    // Carries out an operation, behind which the cursor stands.
+    fn carry_out(&mut self, op: &Op) -> Effect
+        requires { length self.old.counts.items ≤ 15 }
+        ensures { carried_out op.now self.old ≡ (self.new, result) }
+    {
+        match *op {
+            Op::Run(n) => Effect::Gives(Unit::Run(n)),
+            Op::Make(call) => Effect::Gives(Unit::Make(call)),
+            Op::Set(n) => {
+                self.register = capped(n);
+                Effect::Skips(0)
+            }
+            Op::Add(n) => {
+                self.register = capped(self.register.saturating_add(n));
+                Effect::Skips(0)
+            }
+            Op::Take => {
+                self.register = capped(self.value);
+                Effect::Skips(0)
+            }
+            Op::Test { res, equal, skip } => {
+                Effect::Skips(if holds(res, equal, self.result) {
+                    0
+                } else {
+                    skip
+                })
+            }
+            Op::Begin(times) => {
+                self.counts.push(times);
+                Effect::Skips(0)
+            }
+            Op::Repeat { first } => self.end_pass(first),
+            Op::Again { first } => {
+                self.pc = first;
+                Effect::Gives(Unit::Jump)
+            }
+        }
+    }
+}

@@ -1,0 +1,40 @@
+// Places in the flat code.
+ghost use Rattle.std.specs.Prelude.{◌≡◌};
+
+use arrayvec::ArrayVec;
+use tick_num::Res;
+
+/// A place in a body of the flat code, with what a frame keeps beside it.
+#[derive(Drop)]
+pub struct Cursor {
+    /// The number of the body.
+    pub body: u16,
+    /// The number of the operation ahead, in its body.
+    pub pc: u32,
+    /// The register, at most 2·10^18.
+    pub register: u64,
+    /// The result of the frame's last call.
+    pub result: Res,
+    /// The value of the frame's last call.
+    pub value: u64,
+    /// The passes left of each counted loop round the place, the innermost last, the current pass included.
+    pub counts: ArrayVec<u64, 16>,
+}
+
+impl Cursor {
+    /// The same place. No memory is taken.
+    pub fn duplicate(&self) -> Cursor
+        ensures { result ≡ self.now }
+    {
+        let mut counts = ArrayVec::new();
+        let _ = counts.try_extend_from_slice(self.counts.as_slice());
+        Cursor {
+            body: self.body,
+            pc: self.pc,
+            register: self.register,
+            result: self.result,
+            value: self.value,
+            counts,
+        }
+    }
+}

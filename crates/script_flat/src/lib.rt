@@ -1,0 +1,13 @@
+//! The flat code of a script, and the next unit of a body.
+#![tactic(auto)]
+
+mod code;
+mod cursor;
+mod flatten;
+mod op;
+mod unit;
+
+pub use code::Code;
+pub use cursor::Cursor;
+pub use op::Op;
+pub use unit::Unit;

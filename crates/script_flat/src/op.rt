@@ -1,0 +1,53 @@
+// Operations of the flat code.
+ghost use Rattle.std.specs.Prelude.{◌≡◌};
+ghost use Rattle.script_flat.specs.Next.{capped, holds};
+
+use crate::Unit;
+use script_tree::Call;
+use tick_num::{Res, Tick};
+
+/// An operation of the flat code. A body's operations are numbered from 0.
+#[derive(Clone, Copy, Debug, PartialEq, Eq)]
+pub enum Op {
+    /// Runs for so many ticks.
+    Run(u64),
+    /// Makes a call; a guarded block makes `Push` and `Pop`.
+    Make(Call),
+    /// Sets the register.
+    Set(u64),
+    /// Adds to the register.
+    Add(u64),
+    /// Sets the register to the last call's value.
+    Take,
+    /// Passes over the next `skip` operations, unless the last result is `res` (`equal`), or another one.
+    Test { res: Res, equal: bool, skip: u32 },
+    /// Begins a loop of so many passes.
+    Begin(u64),
+    /// Ends a pass of the innermost counted loop: jumps back to its first operation where passes are left.
+    Repeat { first: u32 },
+    /// Jumps back.
+    Again { first: u32 },
+}
+
+/// What carrying out an operation comes to.
+#[derive(Clone, Copy)]
+pub(crate) enum Effect {
+    /// A unit.
+    Gives(Unit),
+    /// No time: so many of the operations that follow are passed over.
+    Skips(u32),
+}
+
+/// The value of a register that is to be n.
+pub(crate) fn capped(n: u64) -> u64
+    ensures { result ≡ capped n }
+{
+    n.min(Tick::LAST)
+}
+
+/// Whether a test holds after a call with this result.
+pub(crate) fn holds(named: Res, equal: bool, last: Res) -> bool
+    ensures { result ≡ holds named equal last }
+{
+    (last == named) == equal
+}

@@ -1,0 +1,4 @@
+pub mod Signals
+pub mod Writes
+pub mod Text
+pub mod Counts

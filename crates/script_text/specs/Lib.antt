@@ -1,0 +1,5 @@
+pub mod Words
+pub mod Names
+pub mod Canon
+pub mod Line
+pub mod Writes

@@ -1,0 +1,113 @@
+// The lines of bodies.
+ghost use Rattle.std.specs.Prelude.{◌≡◌, ◌∷◌, ◌++◌, [], codes};
+ghost use Rattle.tick_num.specs.Words.{res_text};
+ghost use Rattle.script_tree.specs.Tree.{block_of};
+ghost use Rattle.script_text.specs.Line.{line_text};
+ghost use Rattle.script_text.specs.Canon.{test_words, loop_words, pop_words, end_words, block_lines, text_of};
+ghost use Rattle.script_text.specs.Writes.{Writes};
+
+use crate::Sort;
+use crate::call::call_line;
+use crate::line::Word::{Keyword, Name, Number};
+use crate::line::{Line, line_of};
+use crate::names::object;
+use rt_io::{Failed, Sink};
+use script_tree::{Body, Decl, Step};
+use tick_num::Res;
+
+/// Writes a line at once.
+pub(crate) fn write_line<K: Sink>(sink: &mut K, line: Line) -> Result<(), Failed>
+    ensures { Writes K.text K.faults sink.old sink.new result line.items }
+{
+    sink.write(line.as_slice())
+}
+
+/// The line that closes a body, and a block that is no guarded one.
+pub(crate) fn end_line() -> Line
+    ensures { result.items ≡ line_text end_words }
+{
+    line_of(&[Keyword(b"end")])
+}
+
+// The line that closes a guarded block.
+fn pop_line(run: bool) -> Line
+    ensures { result.items ≡ line_text (pop_words run) }
+{
+    if run {
+        line_of(&[Keyword(b"pop"), Keyword(b"1")])
+    } else {
+        line_of(&[Keyword(b"pop"), Keyword(b"0")])
+    }
+}
+
+fn test_line(res: Res, equal: bool) -> Line
+    ensures { result.items ≡ line_text (test_words res equal) }
+{
+    let answer = Keyword(res.text().as_bytes());
+    if equal {
+        line_of(&[Keyword(b"if"), answer])
+    } else {
+        line_of(&[Keyword(b"unless"), answer])
+    }
+}
+
+fn loop_line(times: Option<u64>) -> Line
+    ensures { result.items ≡ line_text (loop_words times) }
+{
+    match times {
+        Some(n) => line_of(&[Keyword(b"loop"), Number(n)]),
+        None => line_of(&[Keyword(b"forever")]),
+    }
+}
+
+/// Writes a block between the line that opens it and the line that closes it.
+#[cycle(blocks)]
+pub(crate) fn write_block<K: Sink>(
+    sink: &mut K,
+    decls: &[Decl],
+    opening: Line,
+    body: &Body,
+    closing: Line,
+) -> Result<(), Failed>
+    ensures { Writes K.text K.faults sink.old sink.new result
+        (opening.items ++ (text_of (block_lines decls.now body.now) ++ closing.items)) }
+{
+    write_line(sink, opening)?;
+    write_body(sink, decls, body)?;
+    write_line(sink, closing)
+}
+
+// Writes the lines of a step.
+#[cycle(blocks)]
+fn write_step<K: Sink>(sink: &mut K, decls: &[Decl], step: &Step) -> Result<(), Failed>
+    ensures { Writes K.text K.faults sink.old sink.new result
+        (text_of (block_lines decls.now (block_of (step.now ∷ [])))) }
+{
+    match step {
+        Step::Run(ticks) => write_line(sink, line_of(&[Keyword(b"run"), Number(*ticks)])),
+        Step::Make(call) => write_line(sink, call_line(decls, call)),
+        Step::Set(n) => write_line(sink, line_of(&[Keyword(b"set"), Number(*n)])),
+        Step::Add(n) => write_line(sink, line_of(&[Keyword(b"add"), Number(*n)])),
+        Step::Take => write_line(sink, line_of(&[Keyword(b"take")])),
+        Step::Test { res, equal, body } => {
+            write_block(sink, decls, test_line(*res, *equal), body, end_line())
+        }
+        Step::Loop { times, body } => write_block(sink, decls, loop_line(*times), body, end_line()),
+        Step::Guard { cleanup, body, run } => {
+            let name = Name(object(decls, Sort::Cleanup, *cleanup));
+            let opening = line_of(&[Keyword(b"push"), name]);
+            write_block(sink, decls, opening, body, pop_line(*run))
+        }
+    }
+}
+
+/// Writes the lines of a body's steps, one write a line.
+#[cycle(blocks)]
+pub(crate) fn write_body<K: Sink>(sink: &mut K, decls: &[Decl], body: &Body) -> Result<(), Failed>
+    ensures { Writes K.text K.faults sink.old sink.new result (text_of (block_lines decls.now body.now)) }
+{
+    for step in body.steps() {
+        write_step(sink, decls, step)?;
+    }
+    Ok(())
+}

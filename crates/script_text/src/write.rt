@@ -1,0 +1,41 @@
+// The text of a script.
+ghost use Rattle.std.specs.Prelude.{◌≡◌};
+ghost use Rattle.rt_io.specs.Bytes.{WritesAll};
+ghost use Rattle.rt_io.specs.Causes.{HasCause};
+ghost use Rattle.script_text.specs.Line.{line_text};
+ghost use Rattle.script_text.specs.Canon.{quantum_words, decls_lines, text_of, canon};
+ghost use Rattle.script_text.specs.Writes.{Writes};
+
+use crate::body::write_line;
+use crate::decl::write_decl;
+use crate::line::Word::{Keyword, Number};
+use crate::line::{Line, line_of};
+use rt_io::{Failed, Sink};
+use script_tree::{Decl, Script};
+
+fn quantum_line(quantum: u64) -> Line
+    ensures { result.items ≡ line_text (quantum_words quantum) }
+{
+    line_of(&[Keyword(b"quantum"), Number(quantum)])
+}
+
+fn write_decls<K: Sink>(sink: &mut K, decls: &[Decl]) -> Result<(), Failed>
+    ensures { Writes K.text K.faults sink.old sink.new result (text_of (decls_lines decls.now decls.now)) }
+{
+    for decl in decls {
+        write_decl(sink, decls, decl)?;
+    }
+    Ok(())
+}
+
+/// Writes the canonical text of a script, one write a line.
+///
+/// `Err` comes only where the sink's count of faults rose in this call, and then a part from the front
+/// of the text was appended. It takes no memory.
+pub fn write_script<K: Sink>(script: &Script, sink: &mut K) -> Result<(), Failed>
+    ensures written { WritesAll (K.text sink.old) (K.text sink.new) result (canon script.now) }
+    ensures cause { HasCause (K.faults sink.old) (K.faults sink.new) result }
+{
+    write_line(sink, quantum_line(script.quantum))?;
+    write_decls(sink, script.decls.items())
+}

@@ -1,0 +1,283 @@
+"""Scenes: parts for several threads that meet at one object, from which generated scripts are made.
+
+A scene gives some parts, each a list of lines for the body of another thread.
+A line `as POLICY` in a part is no line of the body: it casts the thread that
+plays the part, which gets that policy. The word SELF stands for that thread's
+name, PEER0 for the name of the thread that plays the first part, and so on.
+"""
+from __future__ import annotations
+
+from typing import TYPE_CHECKING, Callable
+
+from forms import Stage
+
+if TYPE_CHECKING:
+    from generate import ScriptWriter
+
+CAST = "as "
+SELF = "SELF"
+PEER = "PEER"
+Part = list[str]
+Scene = Callable[["ScriptWriter"], list[Part]]
+
+
+def busy(writer: "ScriptWriter", most: int = 3) -> Part:
+    """A few ticks of work, or none."""
+    ticks = writer.draw.randint(0, most)
+    return [f"run {ticks}"] if ticks else []
+
+
+def pause(writer: "ScriptWriter") -> Part:
+    """A short sleep, or none."""
+    if writer.stage < Stage.WAITING or writer.draw.random() < 0.4:
+        return []
+    return [f"nanosleep {writer.draw.randint(1, 6)}"]
+
+
+def critical_section(writer: "ScriptWriter", mutex: str, inner: Part) -> Part:
+    lock = f"lock {mutex}"
+    if writer.stage >= Stage.WAITING and writer.draw.random() < 0.25:
+        lock = f"timedlock {mutex} {writer.draw.randint(3, 30)}"
+    return [lock, *inner, f"unlock {mutex}"]
+
+
+def one_mutex(writer: "ScriptWriter") -> list[Part]:
+    """Some threads with critical sections of one mutex."""
+    mutex = writer.mutex()
+    return [[*pause(writer), *critical_section(writer, mutex, [*busy(writer, 5), *busy(writer)]), *busy(writer, 1)]
+            for _ in range(writer.draw.randint(2, 4))]
+
+
+def chain_of_mutexes(writer: "ScriptWriter") -> list[Part]:
+    """Each thread owns one mutex and asks for the next; the last at times asks for the first."""
+    mutexes = list(writer.mutexes)
+    if len(mutexes) < 2:
+        return one_mutex(writer)
+    parts = [critical_section(writer, mutexes[0], busy(writer, 8))]
+    for below, own in zip(mutexes, mutexes[1:] + mutexes[:1]):
+        inner = [*busy(writer), *critical_section(writer, below, busy(writer))]
+        parts.append([*pause(writer), *critical_section(writer, own, inner)])
+    return parts
+
+
+def ring_of_mutexes(writer: "ScriptWriter") -> list[Part]:
+    """Each of two threads owns a mutex and asks for the other's: the second to ask closes a ring."""
+    if len(writer.mutexes) < 2:
+        return one_mutex(writer)
+    first, second = writer.draw.sample(writer.mutexes, 2)
+    rest = ["nanosleep 2"] if writer.stage >= Stage.WAITING else ["yield"]
+    ask = f"lock {first}"
+    if writer.stage >= Stage.WAITING and writer.draw.random() < 0.4:
+        ask = f"timedlock {first} {writer.draw.randint(0, 9)}"
+    return [["as fifo 4", f"lock {first}", *rest, *critical_section(writer, second, []), f"unlock {first}"],
+            ["as fifo 4", f"lock {second}", *rest, ask, f"unlock {first}", f"unlock {second}"],
+            ["as fifo 2", *critical_section(writer, first, critical_section(writer, second, busy(writer)))]]
+
+
+def lent_priority_waits(writer: "ScriptWriter") -> list[Part]:
+    """A waiter with a lent priority stands before one with a higher priority of its own."""
+    if len(writer.mutexes) < 2 or writer.stage < Stage.WAITING:
+        return chain_of_mutexes(writer)
+    first, second = writer.draw.sample(writer.mutexes, 2)
+    return [["as fifo 2", *critical_section(writer, first, ["run 8", *busy(writer, 3)])],
+            ["as fifo 3", "nanosleep 1", *critical_section(writer, second, critical_section(writer, first, ["run 1"]))],
+            ["as fifo 5", f"nanosleep {writer.draw.randint(1, 3)}", *critical_section(writer, first, busy(writer))],
+            ["as fifo 9", f"nanosleep {writer.draw.randint(2, 4)}", *critical_section(writer, second, busy(writer))]]
+
+
+def priorities_change(writer: "ScriptWriter") -> list[Part]:
+    """One thread works while another changes its scheduling."""
+    thread = writer.draw.choice(writer.threads)
+    changes = [f"setprio {thread} {writer.priority()}", f"setsched {thread} {writer.policy()}",
+               f"setprio {thread} {writer.priority()}"]
+    change = [line for line in changes if writer.draw.random() < 0.7]
+    return [[*busy(writer, 5), *busy(writer, 5)], [*pause(writer), *change, *busy(writer, 2)], [*busy(writer, 5)]]
+
+
+def slices(writer: "ScriptWriter") -> list[Part]:
+    """Round robin threads of one priority, and a thread that preempts and reschedules one of them in mid slice."""
+    draw, priority, thread = writer.draw, writer.draw.randint(3, 6), writer.draw.choice(writer.threads)
+    inner = [f"setsched {SELF} rr {priority}"] if draw.random() < 0.3 else []
+    workers = [[f"as rr {priority}", f"run {draw.randint(1, 9)}", *inner, *busy(writer, 9)] for _ in range(2)]
+    change = draw.choice((f"setsched {thread} rr {priority}", f"setsched {SELF} rr {priority}",
+                          f"setprio {thread} {priority + 1}", f"setsched {thread} fifo {priority}"))
+    above = [*pause(writer), *busy(writer, 4), change, *pause(writer), *busy(writer, 2), change]
+    return [*workers, [f"as fifo {draw.choice((priority, 9))}", *above]]
+
+
+def condition(writer: "ScriptWriter") -> list[Part]:
+    """Waiters of one condition, and a thread that wakes one or all."""
+    draw, cond, mutex = writer.draw, writer.draw.choice(writer.conds), writer.mutex()
+    parts: list[Part] = []
+    for _ in range(draw.randint(1, 3)):
+        timed = f"timedwait {cond} {mutex} {draw.randint(0, 20)}"
+        wait = draw.choice((f"wait {cond} {mutex}", f"wait {cond} {mutex}", timed))
+        parts.append([f"lock {mutex}", *guarded(writer, [wait]), *busy(writer, 2), f"unlock {mutex}"])
+    wake = draw.choice((f"signal {cond}", f"broadcast {cond}"))
+    inner = [f"nanosleep {draw.randint(1, 6)}", wake, *busy(writer, 2)]
+    rounds = [f"loop {draw.randint(1, 3)}", *inner, "end"]
+    parts.append([f"nanosleep {draw.randint(1, 6)}", f"lock {mutex}", wake, *busy(writer, 2), f"unlock {mutex}"]
+                 if draw.random() < 0.5 else rounds)
+    return parts
+
+
+def semaphore(writer: "ScriptWriter") -> list[Part]:
+    """Waiters of one semaphore, and a thread that posts."""
+    draw, sem = writer.draw, writer.draw.choice(writer.sems)
+    waiters = [[*busy(writer, 1), *guarded(writer, [draw.choice((
+        f"sem_wait {sem}", f"sem_wait {sem}", f"sem_timedwait {sem} {draw.randint(0, 25)}"))]), *busy(writer, 2)]
+        for _ in range(draw.randint(1, 3))]
+    return [*waiters, [*pause(writer), f"sem_post {sem}", *busy(writer, 2), f"sem_post {sem}"]]
+
+
+def waiting_for_signals(writer: "ScriptWriter") -> list[Part]:
+    """Threads that wait for signals or have them handled, and one that sends them."""
+    draw, signal, thread = writer.draw, writer.signal(), writer.draw.choice(writer.threads)
+    wait = draw.choice((f"sigwaitinfo {signal}", "sigwaitinfo all", f"sigtimedwait {signal} {draw.randint(0, 12)}"))
+    sends = [f"kill {signal}", f"tkill {thread} {signal}", f"sigqueue {signal} {writer.operand()}"]
+    masked = [f"sigmask block {signal}"] if draw.random() < 0.6 else []
+    waits = [*pause(writer), *guarded(writer, [wait]), *busy(writer, 1)]
+    return [[*(masked if draw.random() < 0.7 else []), *waits],
+            [*masked, draw.choice(sends), draw.choice(sends), *busy(writer, 1), draw.choice(sends)],
+            [*masked, *busy(writer, 3), f"sigmask unblock {signal}", *pause(writer)]]
+
+
+def handled_waits(writer: "ScriptWriter") -> list[Part]:
+    """Threads in waits that a handled signal ends."""
+    draw, signal = writer.draw, f"rt{writer.handled}"
+    waits = [f"nanosleep {draw.randint(3, 12)}", f"clock_nanosleep {draw.randint(5, 30)}"]
+    waits += [word for sem in writer.sems for word in (f"sem_wait {sem}", f"sem_timedwait {sem} 40")]
+    for queue in writer.queues:
+        waits += [f"mq_receive {queue}", f"mq_timedreceive {queue} 40"]
+        waits += [f"mq_send {queue} 1 1 1", f"mq_timedsend {queue} 1 1 1 40"]
+    waits += ["sigwaitinfo none", "sigtimedwait none 30"]
+    sleepers = [[*busy(writer, 1), *guarded(writer, [draw.choice(waits)]), "take", *busy(writer, 1)] for _ in range(2)]
+    send = draw.choice((f"kill {signal}", f"tkill {writer.threads[0]} {signal}", f"sigqueue {signal} 12"))
+    return [*sleepers, [*pause(writer), *busy(writer, 2), send, *busy(writer, 1), send]]
+
+
+def periodic(writer: "ScriptWriter") -> list[Part]:
+    """A thread that works each time a timer expires, and a load beside it."""
+    draw, timer, signal = writer.draw, writer.draw.choice(writer.timers), writer.signal()
+    interval = draw.choice((1, 2, 4, 6))
+    body = [f"sigwaitinfo {draw.choice((signal, 'all'))}", *busy(writer, 3), f"timer_getoverrun {timer}"]
+    first = draw.choice((f"rel {draw.randint(1, 5)}", f"abs {draw.randint(1, 12)}"))
+    return [[f"sigmask block {draw.choice((signal, 'all'))}", f"timer_settime {timer} {first} {interval}",
+             f"loop {draw.randint(2, 4)}", *body, "end", f"timer_gettime {timer}"], busy(writer, 9)]
+
+
+def overruns(writer: "ScriptWriter") -> list[Part]:
+    """A thread that works longer than the interval of its timer, and at times sets it anew."""
+    draw, timer = writer.draw, writer.draw.choice(writer.timers)
+    again = draw.choice(([], [f"timer_settime {timer} rel {draw.randint(0, 3)} {draw.randint(0, 2)}"]))
+    accept = [draw.choice(("sigwaitinfo all", "sigtimedwait all 4")), f"timer_getoverrun {timer}"]
+    return [["as fifo 8", "sigmask block all", f"timer_settime {timer} rel 1 {draw.randint(1, 2)}",
+             f"run {draw.randint(3, 7)}", *again, *busy(writer, 4), *accept, *again, *busy(writer, 4), *accept],
+            ["sigmask block all", *busy(writer, 9)]]
+
+
+def queue_of_messages(writer: "ScriptWriter") -> list[Part]:
+    """Senders and receivers of one queue, one of them with a notification at times."""
+    draw, queue = writer.draw, writer.draw.choice(writer.queues)
+    sends = [send(writer, queue) for _ in range(5)]
+    receives = [receive(writer, queue) for _ in range(3)]
+    notify = [f"mq_notify {queue} {writer.signal()} {draw.randint(0, 9)}"] if draw.random() < 0.6 else []
+    accept = [f"sigtimedwait all {draw.randint(0, 3)}"]
+    return [[*notify, *sends[:2], *busy(writer, 1), *guarded(writer, sends[2:3]), sends[3]],
+            [*pause(writer), *notify, receives[0], *busy(writer, 2), *guarded(writer, receives[1:2]), receives[2]],
+            [*busy(writer, 2), draw.choice((sends[4], receives[0])), *notify],
+            ["sigmask block all", *notify, sends[4], *notify, receives[0], *accept, *notify]]
+
+
+def send(writer: "ScriptWriter", queue: str) -> str:
+    draw, urgency = writer.draw, writer.draw.randint(0, 2)
+    return draw.choice((f"mq_send {queue} 4 {urgency} {writer.operand()}",
+                        f"mq_timedsend {queue} 4 {urgency} {draw.randint(1, 99)} {draw.randint(0, 30)}"))
+
+
+def receive(writer: "ScriptWriter", queue: str) -> str:
+    timed = f"mq_timedreceive {queue} {writer.draw.randint(0, 30)}"
+    return writer.draw.choice((f"mq_receive {queue}", f"mq_receive {queue}", timed))
+
+
+def served(writer: "ScriptWriter") -> list[Part]:
+    """Work and sleeps of threads, some of which have servers."""
+    draw = writer.draw
+    return [[f"loop {draw.randint(2, 4)}", f"run {draw.randint(1, 4)}", *pause(writer), "end"] for _ in range(3)]
+
+
+def server_at_a_mutex(writer: "ScriptWriter") -> list[Part]:
+    """A server whose budget ends as it asks for a mutex, while the owner has an equal beside it."""
+    draw, mutex, priority = writer.draw, writer.mutex(), writer.draw.randint(3, 5)
+    budget = draw.randint(1, 3)
+    server = f"as sporadic {draw.randint(6, 9)} {draw.randint(1, 2)} {budget + draw.randint(2, 9)} {budget} 1"
+    owner = [f"as fifo {priority}", f"lock {mutex}", "yield", *busy(writer, 3), f"unlock {mutex}", "run 2"]
+    work = [f"run {budget - 1}"] if budget > 1 else []
+    return [owner, [f"as fifo {priority}", *busy(writer, 4), "yield", "run 1"],
+            [server, *pause(writer), *work, f"lock {mutex}", *busy(writer, 4), f"unlock {mutex}", "run 2"]]
+
+
+def new_server(writer: "ScriptWriter") -> list[Part]:
+    """A server that is made anew, with the same parameters, in the tick that uses up its budget or near it."""
+    draw = writer.draw
+    budget = draw.randint(1, 4)
+    high, low, period = draw.randint(6, 9), draw.randint(1, 5), budget + draw.randint(0, 9)
+    policy = f"sporadic {high} {low} {period} {budget} {draw.randint(1, 2)}"
+    work = [f"run {budget - 1}"] if budget > 1 else []
+    again = f"setsched {SELF} {policy}"
+    return [[CAST + policy, *work, again, *busy(writer, 2), *work, draw.choice((again, "yield")), *busy(writer, 5)],
+            [*busy(writer, 5), *pause(writer), *busy(writer, 5)]]
+
+
+def cancelled(writer: "ScriptWriter") -> list[Part]:
+    """A thread in a cancellation point with cleanups pushed, one that cancels it, and one that joins."""
+    draw, victim = writer.draw, draw_peer(writer, 0)
+    points = ["testcancel", f"nanosleep {draw.randint(2, 9)}", "sigwaitinfo none"]
+    points += [f"join {draw.choice(writer.threads)}"]
+    points += [f"sem_wait {sem}" for sem in writer.sems] + [f"mq_receive {queue}" for queue in writer.queues]
+    inner = [draw.choice(points), *busy(writer, 2), draw.choice(points)]
+    ways = [["setcancel disable", *inner, "setcancel enable", "testcancel"], inner, inner, ["exit reg"]]
+    return [[*guarded(writer, draw.choice(ways), 0.9), *busy(writer, 1)],
+            [*pause(writer), f"cancel {victim}", *busy(writer, 1)],
+            [f"join {victim}", "take", *busy(writer, 1)]]
+
+
+def draw_peer(writer: "ScriptWriter", part: int) -> str:
+    """The thread that plays a part of the scene, or at times any thread."""
+    return f"{PEER}{part}" if writer.draw.random() < 0.8 else writer.draw.choice(writer.threads)
+
+
+def cancelled_at_a_mutex(writer: "ScriptWriter") -> list[Part]:
+    """A thread is cancelled while it waits or contends for a mutex, and comes to a cancellation point later."""
+    draw, mutex, cond = writer.draw, writer.mutex(), writer.draw.choice(writer.conds)
+    waits = draw.choice(([f"wait {cond} {mutex}"], [f"timedwait {cond} {mutex} 4"], busy(writer)))
+    victim = [f"lock {mutex}", *guarded(writer, waits, 0.6), f"unlock {mutex}", "testcancel", "run 2"]
+    owner = [*pause(writer), f"lock {mutex}", *busy(writer, 2), f"broadcast {cond}", "run 4", f"unlock {mutex}"]
+    return [victim, owner, [f"nanosleep {draw.randint(1, 5)}", f"cancel {draw_peer(writer, 0)}", *busy(writer, 2)]]
+
+
+def cancelled_joiner(writer: "ScriptWriter") -> list[Part]:
+    """A joiner is cancelled, and another thread joins in its place."""
+    draw, joined = writer.draw, f"{PEER}1"
+    return [guarded(writer, [f"join {joined}", "run 1"], 0.5),
+            [f"nanosleep {draw.randint(3, 9)}", f"exit {draw.randint(0, 9)}"],
+            [f"nanosleep {draw.randint(1, 4)}", f"cancel {PEER}0", f"join {joined}", "take", *busy(writer, 2)]]
+
+
+def guarded(writer: "ScriptWriter", inner: Part, share: float = 0.3) -> Part:
+    """The lines, at times between a push and a pop of a cleanup."""
+    if writer.stage < Stage.WHOLE or writer.draw.random() >= share:
+        return inner
+    return [f"push {writer.draw.choice(writer.cleanups)}", *inner, f"pop {writer.draw.randint(0, 1)}"]
+
+
+SCENES: dict[Stage, tuple[Scene, ...]] = {
+    Stage.THREADS: (priorities_change, slices),
+    Stage.MUTEXES: (one_mutex, chain_of_mutexes, ring_of_mutexes, lent_priority_waits),
+    Stage.WAITING: (condition, condition, semaphore),
+    Stage.SIGNALS: (waiting_for_signals, handled_waits),
+    Stage.TIMERS: (periodic, overruns),
+    Stage.QUEUES: (queue_of_messages, queue_of_messages),
+    Stage.SERVERS: (served, server_at_a_mutex, new_server),
+    Stage.WHOLE: (cancelled, cancelled_at_a_mutex, cancelled_joiner),
+}

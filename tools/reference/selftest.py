@@ -1,0 +1,108 @@
+"""Runs the worked examples and generated scripts against the reference.
+
+    python3 tools/reference/selftest.py [--generated N]
+
+Each example NAME of tests/worked has NAME.task and one of: NAME.trace, the
+whole text of its run; NAME.has, lines that its run has; NAME.refused, the line
+of its fault; NAME.canonical, its canonical text. NAME.horizon is the horizon.
+Examples whose horizon is too far for a machine that ticks are passed over.
+With --generated, N generated scripts of each stage run with all checks on, and
+their canonical texts are read again. Exit status 1 where something differs.
+"""
+from __future__ import annotations
+
+import argparse
+import pathlib
+import sys
+
+import generate
+from forms import Stage
+from reader import read
+from script import canonical_text
+from simulate import Status, answer, horizon_of
+
+WORKED = pathlib.Path(__file__).resolve().parents[2] / "tests" / "worked"
+FARTHEST = 1_000_000
+
+
+def examples() -> list[tuple[str, Stage]]:
+    """The examples of the index with their stages."""
+    lines = (WORKED / "INDEX.txt").read_text().splitlines()
+    words = [line.split() for line in lines if not line.startswith("#")]
+    return [(name, Stage.named(stage)) for name, stage, *_ in words]
+
+
+def difference(name: str, stage: Stage) -> str | None:
+    """What the reference gives where that is not the expected text; None where it agrees or is passed over."""
+    path = WORKED / name
+    text = path.with_suffix(".task").read_bytes()
+    if path.with_suffix(".canonical").exists():
+        script, fault = read(text, stage)
+        have = f"{fault}" if script is None else canonical_text(script)
+        return None if have == path.with_suffix(".canonical").read_text() else have
+    horizon = int(path.with_suffix(".horizon").read_text())
+    if horizon > FARTHEST:
+        return None
+    status, have_bytes = answer(text, horizon, stage, checked=True)
+    if path.with_suffix(".has").exists():
+        wanted = path.with_suffix(".has").read_bytes().splitlines()
+        return None if set(wanted) <= set(have_bytes.splitlines()) else have_bytes.decode()
+    is_refused = path.with_suffix(".refused").exists()
+    want = path.with_suffix(".refused" if is_refused else ".trace").read_bytes()
+    agrees = have_bytes == want and status is (Status.REFUSED if is_refused else Status.DONE)
+    return None if agrees else have_bytes.decode()
+
+
+def large_texts() -> list[tuple[str, bytes, Status, bytes]]:
+    """Texts at the limits that are too large to be kept as files."""
+    just_enough = b"thread a fifo 5 at 0\n" + b"yield\n" * 65_536 + b"end\n"
+    one_more = b"thread a fifo 5 at 0\n" + b"yield\n" * 65_537 + b"end\n"
+    return [
+        ("as many line ends as bytes may be", b"\n" * 1_048_576, Status.REFUSED, b"refused 1048577 14 NoThread\n"),
+        ("one line end more", b"\n" * 1_048_577, Status.TOO_LONG, b"too long\n"),
+        ("one step too many", one_more, Status.REFUSED, b"refused 65538 13 TooMany\n"),
+        ("as many steps as may be", just_enough, Status.DONE,
+         b"0 start a\n0 dispatch a 5\n1 return a yield 0 0\n1 end\nthread a ticks 1\n")]
+
+
+def no_commands() -> list[list[str]]:
+    return [[], ["run"], ["run", "1x"], ["run", "1000000000000000001"], ["run", "1", "2"], ["walk", "1"], ["--help"]]
+
+
+def generated_differ(count: int) -> int:
+    """Runs generated scripts with all checks on; the number of those whose canonical text is not read as itself."""
+    found = 0
+    for stage in Stage:
+        for seed in range(count):
+            text, horizon = generate.accepted(seed, stage)
+            answer(text, horizon, stage, checked=True)
+            canonical = canonical_text(read(text, stage)[0])
+            again, _ = read(canonical.encode(), max(stage, Stage.LANGUAGE))
+            found += again is None or canonical_text(again) != canonical
+            assert read(generate.refused(seed, stage), stage)[0] is None
+    return found
+
+
+def main() -> int:
+    parser = argparse.ArgumentParser(description="Runs the worked examples against the reference.")
+    parser.add_argument("--generated", type=int, default=0)
+    arguments = parser.parse_args()
+    wrong: list[str] = []
+    compared = 0
+    for name, stage in examples():
+        compared += 1
+        have = difference(name, stage)
+        wrong += [f"{name}: the reference gives\n{have}"] if have is not None else []
+    for name, text, want_status, want in large_texts():
+        compared += 1
+        wrong += [f"{name}: another answer"] if answer(text, 1) != (want_status, want) else []
+    for words in no_commands():
+        compared += 1
+        wrong += [f"{words} is taken for a command"] if horizon_of(words) is not None else []
+    wrong += ["a canonical text is not read as itself"] * generated_differ(arguments.generated)
+    print(*wrong, f"{compared} compared, {len(wrong)} differ", sep="\n")
+    return 1 if wrong else 0
+
+
+if __name__ == "__main__":
+    sys.exit(main())
