@@ -8,3 +8,4 @@ pub mod Standing
 pub mod SettledPlaces
 pub mod Coming
 pub mod ItemsEnd
+pub mod Examples
