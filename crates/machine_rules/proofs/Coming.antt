@@ -1,7 +1,7 @@
 -- What is still to come at an instant, counted, and that no effect adds to it.
-use Rattle.std.proofs.Common.{Bool, List, None, Option, Some, [], ap, arith, false, length, refl, suc, sym, true, zero, ℕ, ◌+◌, ◌<◌, ◌≤◌, ◌∷◌, ◌++◌, ◌≡◌}
-use Rattle.std.specs.Prelude.{is_none, not, option_and_then, option_map, slice_get, slice_index_or, ◌&&◌, if◌then◌else◌}
-use mathlib.Core.Path.{ap₂, subst, ◌∙◌}
+use Rattle.std.proofs.Common.{Bool, List, None, Option, Some, [], ap, arith, false, length, refl, suc, true, zero, ℕ, ◌+◌, ◌≤◌, ◌∷◌, ◌≡◌}
+use Rattle.std.specs.Prelude.{is_none, option_and_then, option_map, slice_index_or, ◌&&◌, if◌then◌else◌}
+use mathlib.Core.Path.{ap₂, ◌∙◌}
 use Rattle.tick_num.specs.declared.res.Res.{Res}
 use Rattle.tick_num.specs.declared.res.Res.TheVariants as res
 use Rattle.script_tree.specs.declared.policy.Policy.{Policy}
@@ -26,7 +26,7 @@ use Rattle.machine_rules.specs.Conditions.{contends_for}
 use Rattle.machine_rules.specs.Signals.{acceptor, becomes_pending, delivers, generates, generates_for, is_ignore, tells_overrun, with_overrun_told}
 use Rattle.machine_rules.specs.Timers.{armed_again, expires, is_pending_from, next_expiry, overrun_once_more, record_of_timer}
 use Rattle.machine_rules.specs.DueItems.{has_come, pending_count, start_in}
-use Rattle.machine_rules.proofs.Kept.{Kept, kept}
+use Rattle.machine_rules.proofs.Kept.{Kept}
 use Rattle.machine_rules.proofs.KeptByCalls.{generates_kept}
 use Rattle.machine_rules.proofs.Reading.{changed-keeps}
 

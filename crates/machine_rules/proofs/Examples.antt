@@ -6,3 +6,4 @@ pub mod Mutexes
 pub mod Signals
 pub mod Messages
 pub mod Counts
+pub mod Cleanups

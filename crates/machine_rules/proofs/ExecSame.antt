@@ -1,9 +1,8 @@
 -- What leaves every execution priority as it is.
 use Rattle.std.proofs.Common.{ap, refl, ℕ, ◌≡◌}
-use Rattle.machine_rules.specs.Lists.{changed_at}
 use Rattle.machine_rules.specs.State.{Machine, Thread}
 use Rattle.machine_rules.specs.Threads.{no_thread}
-use Rattle.machine_rules.specs.Priorities.{Claim, claim_of, claims, exec, exec_in}
+use Rattle.machine_rules.specs.Priorities.{claim_of, exec, exec_in}
 use Rattle.machine_rules.specs.Turns.{with_thread}
 use Rattle.machine_rules.proofs.Reading.{changed-map}
 

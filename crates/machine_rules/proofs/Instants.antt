@@ -1,6 +1,5 @@
 -- A settling changes the lists alone, and a tick moves the instant by one.
-use Rattle.std.proofs.Common.{Bool, List, None, Option, Some, [], ap, false, refl, suc, true, zero, ℕ, ◌+◌, ◌∷◌, ◌≡◌}
-use Rattle.std.specs.Prelude.{if◌then◌else◌, not}
+use Rattle.std.proofs.Common.{Bool, List, None, Option, Some, [], ap, refl, suc, zero, ℕ, ◌+◌, ◌∷◌, ◌≡◌}
 use mathlib.Core.Path.{◌∙◌}
 use Rattle.tick_num.specs.declared.res.Res.TheVariants as res
 use Rattle.pse52_trace.specs.declared.event.Event.TheVariants as event
@@ -9,16 +8,15 @@ use Rattle.sporadic_server.specs.Server.{ServerState}
 use Rattle.machine_rules.specs.declared.signal.SigAction.{SigAction}
 use Rattle.machine_rules.specs.declared.signal.SigAction.TheVariants as action
 use Rattle.machine_rules.specs.Bodies.{Bodies}
-use Rattle.machine_rules.specs.State.{Machine, SignalRecord, Thread, Waiting}
+use Rattle.machine_rules.specs.State.{Machine, SignalRecord, Waiting}
 use Rattle.machine_rules.specs.Threads.{action_of, can_run, thread_at, thread_numbers, top_left, waiting_of}
 use Rattle.machine_rules.specs.Settling.{settled}
-use Rattle.machine_rules.specs.Turns.{Turn, becomes, changes, changes_pending, moves, moves_if, settles_since, tells}
+use Rattle.machine_rules.specs.Turns.{Turn, becomes, changes, changes_pending, settles_since, tells}
 use Rattle.machine_rules.specs.Servers.{has_high, plans, plans_for}
-use Rattle.machine_rules.specs.Mutexes.{moves_unless_boosted}
 use Rattle.machine_rules.specs.Signals.{without_record}
 use Rattle.machine_rules.specs.Delivery.{acts, interrupts, sweeps, sweeps_all, sweeps_thread, taken_by_sweep, takes_record, ticks_left}
 use Rattle.machine_rules.specs.Units.{InUnit, in_unit}
-use Rattle.machine_rules.specs.Ticks.{TickEnd, completes, completes_at, ends_tick, exhausting, later, nothing, planning, runs, slicing, tick_charged, tick_end, tick_ends, unit_ticked, without_slice}
+use Rattle.machine_rules.specs.Ticks.{TickEnd, completes_at, ends_tick, exhausting, later, nothing, planning, runs, slicing, tick_charged, tick_end, tick_ends, unit_ticked, without_slice}
 use Rattle.machine_rules.proofs.Kept.{Kept, kept, wakes_kept}
 use Rattle.machine_rules.proofs.KeptByCalls.{delivers_kept, moves_if_kept, moves_unless_boosted_kept, unit_effect_kept}
 

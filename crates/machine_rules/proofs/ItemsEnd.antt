@@ -22,8 +22,7 @@ use Rattle.machine_rules.specs.Conditions.{contends_for, released_mutex}
 use Rattle.machine_rules.specs.Signals.{delivers, without_record}
 use Rattle.machine_rules.specs.Delivery.{acts, interrupts, sweeps, sweeps_all, sweeps_thread, taken_by_sweep, takes_record, ticks_left}
 use Rattle.machine_rules.specs.DueItems.{due_items, due_of, first_item, handles, has_come, instant, item_bound, item_done, item_then, items_done, items_of_threads, next_item, refill_due, start_due, start_in, timeout_due, timer_due, times_out, times_out_of}
-use Rattle.machine_rules.proofs.Coming.{alarm, alarms, bit, changed_loads, coming, contends_falls, count, expires_falls, load, loads, overrun_falls, owes, refills_falls, starts_falls, wakes_falls}
-use Rattle.machine_rules.proofs.Instants.{settled_only}
+use Rattle.machine_rules.proofs.Coming.{alarm, alarms, bit, changed_loads, coming, contends_falls, count, expires_falls, loads, overrun_falls, owes, refills_falls, starts_falls, wakes_falls}
 
 -- ---- the next item is due
 

@@ -1,6 +1,6 @@
 -- Runs that join: so many ticks and then more are all of them, and their events stand one behind the other.
 use Rattle.std.proofs.Common.{List, [], ap, append_assoc, arith, refl, suc, sym, zero, ℕ, ◌+◌, ◌++◌, ◌∷◌, ◌≡◌}
-use mathlib.Core.Path.{ap₂, ◌∙◌}
+use mathlib.Core.Path.{◌∙◌}
 use Rattle.machine_rules.specs.Bodies.{Bodies}
 use Rattle.machine_rules.specs.State.{Machine}
 use Rattle.machine_rules.specs.Runs.{Ran, follow, tick_of, ticks}

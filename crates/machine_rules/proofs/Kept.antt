@@ -1,17 +1,14 @@
 -- What no effect changes: the instant, the last dispatch, the kill, the quantum, the lists and the actions.
-use Rattle.std.proofs.Common.{Bool, List, None, Option, Some, [], ap, false, refl, suc, true, zero, ℕ, ◌∷◌, ◌≡◌}
+use Rattle.std.proofs.Common.{Bool, List, None, Option, Some, false, refl, true, ℕ, ◌≡◌}
 use Rattle.std.specs.Prelude.{if◌then◌else◌}
-use mathlib.Core.Path.{◌∙◌}
 use Rattle.tick_num.specs.declared.res.Res.{Res}
-use Rattle.tick_num.specs.declared.res.Res.TheVariants as res
 use Rattle.pse52_trace.specs.declared.event.Event.{Event}
-use Rattle.pse52_trace.specs.declared.event.Event.TheVariants as event
 use Rattle.sporadic_server.specs.Server.{ServerState}
 use Rattle.machine_rules.specs.declared.dispatch.LastDispatch.{LastDispatch}
 use Rattle.machine_rules.specs.declared.signal.SigAction.{SigAction}
 use Rattle.machine_rules.specs.declared.thread.CondEnd.{CondEnd}
 use Rattle.machine_rules.specs.declared.thread.CondEnd.TheVariants as cond_end
-use Rattle.machine_rules.specs.State.{Machine, Wait, for_condition, for_end, for_message, for_mutex, for_mutex_again, for_room, for_semaphore, for_signal, for_time}
+use Rattle.machine_rules.specs.State.{Machine, Wait, for_mutex_again}
 use Rattle.machine_rules.specs.Waiters.{Waiter, best_waiter}
 use Rattle.machine_rules.specs.Turns.{By, Turn, changes_mutex}
 use Rattle.machine_rules.specs.Servers.{activates_if, activates_server}

@@ -1,6 +1,6 @@
 -- No call changes what is kept.
-use Rattle.std.proofs.Common.{Bool, List, None, Option, Some, [], arith, false, length, refl, suc, true, zero, ℕ, ◌+◌, ◌∷◌, ◌≡◌}
-use Rattle.std.specs.Prelude.{not, option_and_then, slice_index_or, ◌&&◌}
+use Rattle.std.proofs.Common.{Bool, None, Option, Some, arith, false, length, refl, suc, true, zero, ℕ, ◌+◌, ◌≡◌}
+use Rattle.std.specs.Prelude.{not, option_and_then, ◌&&◌}
 use mathlib.Core.Path.{◌∙◌}
 use Rattle.tick_num.specs.Signals.{has_signal}
 use Rattle.tick_num.specs.declared.res.Res.TheVariants as res
@@ -15,11 +15,10 @@ use Rattle.machine_rules.specs.declared.frame.FrameKind.TheVariants as frame
 use Rattle.machine_rules.specs.declared.thread.CondEnd.{CondEnd}
 use Rattle.machine_rules.specs.declared.thread.CondEnd.TheVariants as cond_end
 use Rattle.machine_rules.specs.Bodies.{Bodies}
-use Rattle.machine_rules.specs.State.{Joiner, Message, Registration, SignalRecord, Wait, Waiting, for_condition, for_end, for_message, for_mutex, for_mutex_again, for_room, for_semaphore, for_signal, for_time, has_joined, nobody, waits_to_join}
+use Rattle.machine_rules.specs.State.{Joiner, Message, Registration, SignalRecord, Wait, Waiting, for_condition, for_end, for_message, for_mutex, for_mutex_again, has_joined, nobody, waits_to_join}
 use Rattle.machine_rules.specs.Threads.{number_of, queue_at, thread_at, top_kind, waiting_of}
 use Rattle.machine_rules.specs.Waiters.{Waiter, best_waiter, waiters}
-use Rattle.machine_rules.specs.Turns.{By, Turn, becomes, changes, changes_pending, changes_queue, moves, moves_if, returns, tells}
-use Rattle.machine_rules.specs.Servers.{activates_if}
+use Rattle.machine_rules.specs.Turns.{By, Turn, changes, changes_pending, changes_queue, moves, moves_if, returns, tells}
 use Rattle.machine_rules.specs.Waking.{started, starts, wakes}
 use Rattle.machine_rules.specs.Mutexes.{moves_unless_boosted, owns_boosting, trylock_answer, unlocks}
 use Rattle.machine_rules.specs.Conditions.{contends, contends_for, released_mutex, signals_best_of, signals_waiter, waits, waits_on_condition}
@@ -28,10 +27,10 @@ use Rattle.machine_rules.specs.Signals.{acceptor, delivers, generates, generates
 use Rattle.machine_rules.specs.Timers.{sleeps_until}
 use Rattle.machine_rules.specs.Queues.{asks_notification, blocks_unless_nonblock, enters, fired_by_message, message_of, next_message, notifies, receives_on, record_of_notification, registered, sends_message, sends_to, takes_over, value_at, waits_to_send, with_message, without_message}
 use Rattle.machine_rules.specs.Lives.{creates, finishes_in, joins, wakes_joiner, with_joiner, without_life, without_target}
-use Rattle.machine_rules.specs.Cancellation.{acts_if_blocked, cancels, leaves, leaves_wait, pops_cleanup}
+use Rattle.machine_rules.specs.Cancellation.{acts_if_blocked, cancels, leaves, leaves_wait}
 use Rattle.machine_rules.specs.Scheduling.{sets_policy, sets_priority}
 use Rattle.machine_rules.specs.Calls.{call_effect, makes_call, unit_effect}
-use Rattle.machine_rules.proofs.Kept.{activates_if_kept, activates_server_kept, if_kept, kept, locks_kept, locks_on_kept, releases_kept, returns_from_wait_kept, wakes_cancelled_kept, wakes_kept}
+use Rattle.machine_rules.proofs.Kept.{activates_if_kept, activates_server_kept, kept, locks_kept, locks_on_kept, releases_kept, returns_from_wait_kept, wakes_cancelled_kept, wakes_kept}
 
 -- ---- conditions
 

@@ -9,3 +9,6 @@ pub mod SettledPlaces
 pub mod Coming
 pub mod ItemsEnd
 pub mod Examples
+pub mod Behind
+pub mod BehindCalls
+pub mod BehindTicks

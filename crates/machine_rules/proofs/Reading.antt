@@ -1,7 +1,6 @@
 -- Reading a member back after a change.
-use Rattle.std.proofs.Common.{Bool, List, [], ap, arith, false, length, refl, suc, true, zero, ℕ, ◌<◌, ◌∷◌, ◌≡◌}
+use Rattle.std.proofs.Common.{List, [], ap, arith, false, length, refl, suc, zero, ℕ, ◌<◌, ◌∷◌, ◌≡◌}
 use Rattle.std.specs.Prelude.{map, slice_index_or, ◌==◌}
-use mathlib.Core.Path.{◌∙◌}
 use Rattle.machine_rules.specs.Lists.{changed_at}
 use Rattle.machine_rules.specs.State.{Machine, Mutex, Queue, Thread, Timer}
 use Rattle.machine_rules.specs.Threads.{mutex_at, no_mutex, no_queue, no_thread, no_timer, queue_at, thread_at, timer_at}

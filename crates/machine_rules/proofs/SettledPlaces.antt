@@ -1,10 +1,10 @@
 -- A settling puts each runnable thread where its execution priority says, and takes all others off the lists.
-use Rattle.std.proofs.Common.{Bool, List, [], ap, arith, false, length, refl, suc, sym, true, zero, ℕ, ◌+◌, ◌<◌, ◌≤◌, ◌∷◌, ◌++◌, ◌≡◌}
-use Rattle.std.specs.Prelude.{filter, map, not, slice_index_or, ◌-◌, ◌==◌, ◌&&◌, if◌then◌else◌}
+use Rattle.std.proofs.Common.{Bool, List, [], ap, arith, false, length, refl, suc, sym, true, zero, ℕ, ◌+◌, ◌<◌, ◌≤◌, ◌∷◌, ◌≡◌}
+use Rattle.std.specs.Prelude.{filter, not, ◌-◌, ◌==◌, ◌&&◌, if◌then◌else◌}
 use Rattle.std.specs.List.{range_with_len}
 use mathlib.Core.Path.{subst, ◌∙◌}
 use Rattle.thread_lists.specs.Threads.{stands_in, times}
-use Rattle.ready_lists.specs.Lists.{list_of, to_head, to_tail}
+use Rattle.ready_lists.specs.Lists.{list_of, to_tail}
 use Rattle.machine_rules.specs.State.{Machine}
 use Rattle.machine_rules.specs.Threads.{can_run, thread_numbers}
 use Rattle.machine_rules.specs.Priorities.{exec}

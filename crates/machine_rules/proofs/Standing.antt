@@ -1,6 +1,6 @@
 -- How often a thread stands on a list, where others are put and taken.
 use Rattle.std.proofs.Common.{Bool, List, [], ap, arith, false, length, refl, suc, sym, true, zero, ℕ, ◌+◌, ◌<◌, ◌∷◌, ◌++◌, ◌≡◌}
-use Rattle.std.specs.Prelude.{filter, map, not, slice_index_or, slice_set, ◌-◌, ◌==◌, if◌then◌else◌}
+use Rattle.std.specs.Prelude.{filter, map, slice_index_or, ◌-◌, ◌==◌, if◌then◌else◌}
 use mathlib.Core.Path.{◌∙◌}
 use Rattle.thread_lists.specs.Threads.{times, without_thread}
 use Rattle.ready_lists.specs.Lists.{to_head, to_tail, without}

@@ -1,8 +1,7 @@
 -- The law of the budget: what the events of a run say of a sporadic thread's server. XSH 2.8.4 SCHED_SPORADIC; the law itself is
 -- this project's own.
-use Rattle.std.specs.Prelude.{All, Bool, List, None, Option, Some, [], drop, false, filter_map, length, map, max, option_map, suc, take, true, zero, ℕ, ◌≡◌, ◌≤◌, ◌+◌, ◌==◌, ◌&&◌, ◌∷◌, ◌++◌, if◌then◌else◌}
+use Rattle.std.specs.Prelude.{All, Bool, List, None, Option, Some, [], drop, false, filter_map, length, map, max, suc, take, true, zero, ℕ, ◌≡◌, ◌≤◌, ◌+◌, ◌==◌, ◌&&◌, ◌∷◌, ◌++◌, if◌then◌else◌}
 use Rattle.std.specs.List.{sum}
-use Rattle.script_tree.specs.declared.call.Call.{Call}
 use Rattle.script_tree.specs.declared.call.Call.TheVariants as call
 use Rattle.script_flat.specs.declared.unit.Unit.{Unit}
 use Rattle.script_flat.specs.declared.unit.Unit.TheVariants as unit

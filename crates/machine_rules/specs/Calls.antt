@@ -1,13 +1,11 @@
 -- The table of calls: the effect of each, before the moves.
-use Rattle.std.specs.Prelude.{Bool, None, Some, ℕ, ◌+◌, ◌&&◌, if◌then◌else◌}
+use Rattle.std.specs.Prelude.{None, Some, ℕ, ◌+◌, ◌&&◌, if◌then◌else◌}
 use Rattle.tick_num.specs.declared.res.Res.TheVariants as res
 use Rattle.script_tree.specs.declared.call.Call.{Call}
 use Rattle.script_tree.specs.declared.call.Call.TheVariants as call
-use Rattle.script_tree.specs.declared.call.Operand.{Operand}
 use Rattle.script_flat.specs.declared.unit.Unit.{Unit}
 use Rattle.script_flat.specs.declared.unit.Unit.TheVariants as unit
 use Rattle.machine_rules.specs.Bodies.{Bodies}
-use Rattle.machine_rules.specs.State.{Message, Registration}
 use Rattle.machine_rules.specs.Threads.{number_of, thread_at}
 use Rattle.machine_rules.specs.Turns.{By, Turn, returns}
 use Rattle.machine_rules.specs.Mutexes.{locks, tries_lock, unlocks}

@@ -1,7 +1,6 @@
 -- What a script declares, kind by kind, each in order of declaration: so its threads and objects are numbered. Scripts are this
 -- project's own.
-use Rattle.std.specs.Prelude.{Bool, List, None, Option, Some, [], filter_map, fold, replicate, slice_set, ℕ, ◌∷◌}
-use Rattle.std.specs.Option.{option_or}
+use Rattle.std.specs.Prelude.{List, None, Option, Some, [], filter_map, fold, replicate, slice_set, ℕ}
 use Rattle.script_tree.specs.Block.{Block}
 use Rattle.script_tree.specs.declared.decl.Decl.{Decl}
 use Rattle.script_tree.specs.declared.decl.Decl.TheVariants as decl

@@ -1,5 +1,5 @@
 -- Eventful instants, between which nothing but the running of one thread goes on. All of it is this project's own.
-use Rattle.std.specs.Prelude.{Bool, List, None, Option, Some, false, filter, is_some, length, suc, zero, ℕ, ◌+◌, ◌-◌, ◌==◌, ◌&&◌, ◌||◌}
+use Rattle.std.specs.Prelude.{Bool, None, Option, Some, false, filter, is_some, length, suc, zero, ℕ, ◌+◌, ◌-◌, ◌==◌, ◌&&◌, ◌||◌}
 use Rattle.std.specs.List.{range_with_len}
 use Rattle.machine_rules.specs.Bodies.{Bodies}
 use Rattle.machine_rules.specs.State.{Machine, Thread}

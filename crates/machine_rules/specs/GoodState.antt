@@ -1,8 +1,6 @@
 -- What holds of the machine at every instant. The parts follow from the rules; that they are these is this project's own.
-use Rattle.std.specs.Prelude.{All, Bool, List, None, Option, Some, [], false, filter, filter_map, is_some, length, map, nat_lt, true, ℕ, ◌≡◌, ◌≤◌, ◌<◌, ◌+◌, ◌*◌, ◌==◌, ◌&&◌, ◌∷◌, ◌++◌, if◌then◌else◌}
+use Rattle.std.specs.Prelude.{All, Bool, List, None, Option, Some, [], false, filter, filter_map, is_some, length, map, true, ℕ, ◌≡◌, ◌≤◌, ◌<◌, ◌+◌, ◌*◌, ◌==◌, ◌&&◌, ◌∷◌, ◌++◌, if◌then◌else◌}
 use Rattle.std.specs.List.{IsDistinct, AllAdjacentBelow}
-use Rattle.tick_num.specs.declared.sig_code.SigCode.{SigCode}
-use Rattle.tick_num.specs.Parameters.{Parameters}
 use Rattle.script_tree.specs.declared.policy.Policy.{Policy}
 use Rattle.script_tree.specs.declared.policy.Policy.TheVariants as policy
 use Rattle.sporadic_server.specs.declared.Replenish.{Replenish}
@@ -10,11 +8,10 @@ use Rattle.sporadic_server.specs.Server.{ServerState, is_high, pending_total}
 use Rattle.thread_lists.specs.Threads.{times}
 use Rattle.ready_lists.specs.Lists.{list_of}
 use Rattle.machine_rules.specs.declared.frame.BodyOf.{BodyOf}
-use Rattle.machine_rules.specs.declared.frame.FrameKind.{FrameKind}
 use Rattle.machine_rules.specs.Lists.{is}
 use Rattle.machine_rules.specs.Bodies.{Bodies}
-use Rattle.machine_rules.specs.State.{Frame, Machine, SignalRecord, Thread, Wait, Waiting, for_condition, for_end, for_message, for_mutex, for_mutex_again, for_room, for_semaphore, for_signal, for_time}
-use Rattle.machine_rules.specs.Threads.{can_run, catches_signal, is_live, is_main, lives, mutex_at, queue_at, semaphore_at, thread_at, waiting_in}
+use Rattle.machine_rules.specs.State.{Frame, Machine, SignalRecord, Wait, Waiting, for_condition, for_end, for_mutex_again, for_time}
+use Rattle.machine_rules.specs.Threads.{can_run, catches_signal, is_main, lives, mutex_at, queue_at, semaphore_at, thread_at, waiting_in}
 use Rattle.machine_rules.specs.Priorities.{exec, mutex_awaited_by}
 use Rattle.machine_rules.specs.Waiters.{somebody_waits, waits_so}
 use Rattle.machine_rules.specs.Turns.{turn_of}

@@ -30,3 +30,4 @@ pub mod Machine
 pub mod Eventful
 pub mod Budget
 pub mod GoodState
+pub mod Promises

@@ -1,5 +1,5 @@
 -- Plain lists whose members are named by number. All of it is this project's own.
-use Rattle.std.specs.Prelude.{Bool, List, None, Option, Some, [], false, filter, length, max, nat_lt, true, ℕ, zero, suc, ◌+◌, ◌==◌, ◌∷◌, ◌++◌, if◌then◌else◌, slice_index_or, slice_set, take, drop}
+use Rattle.std.specs.Prelude.{Bool, List, None, Option, Some, [], false, length, max, true, ℕ, ◌+◌, ◌==◌, ◌∷◌, ◌++◌, if◌then◌else◌, slice_index_or, slice_set, take, drop}
 use Rattle.std.specs.List.{range_with_len}
 
 -- the list with one member changed; where there is no such member, the list as it is

@@ -1,6 +1,6 @@
 -- Creation, joining and the end of threads: pthread_create, pthread_join, pthread_exit. This project's own are the ESRCH of a join
 -- of a thread that never started, its EINVAL, and that a mutex stays owned when its owner ends.
-use Rattle.std.specs.Prelude.{Bool, List, None, Option, [], drop, false, filter, not, true, ℕ, ◌==◌, if◌then◌else◌}
+use Rattle.std.specs.Prelude.{Bool, List, None, [], drop, false, filter, not, true, ℕ, ◌==◌, if◌then◌else◌}
 use Rattle.tick_num.specs.Signals.{every_signal}
 use Rattle.tick_num.specs.declared.res.Res.TheVariants as res
 use Rattle.pse52_trace.specs.declared.event.Event.TheVariants as event
@@ -8,7 +8,7 @@ use Rattle.machine_rules.specs.declared.frame.FrameKind.{FrameKind}
 use Rattle.machine_rules.specs.declared.frame.FrameKind.TheVariants as frame
 use Rattle.machine_rules.specs.Lists.{is}
 use Rattle.machine_rules.specs.Bodies.{Bodies}
-use Rattle.machine_rules.specs.State.{Joiner, Machine, SignalRecord, Thread, ended, for_end, has_joined, nobody, waits_to_join}
+use Rattle.machine_rules.specs.State.{Joiner, SignalRecord, Thread, ended, for_end, has_joined, nobody, waits_to_join}
 use Rattle.machine_rules.specs.Threads.{catches_signal, is_dormant, lives, thread_at, top_kind}
 use Rattle.machine_rules.specs.Turns.{By, Turn, changes, changes_pending, returns, tells, ◌▷◌}
 use Rattle.machine_rules.specs.Waking.{blocks_unordered, ending_with, starts, wakes}

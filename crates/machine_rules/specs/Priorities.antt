@@ -7,7 +7,7 @@ use Rattle.script_tree.specs.declared.policy.Protocol.TheVariants as protocol
 use Rattle.sporadic_server.specs.Server.{ServerState, assigned}
 use Rattle.machine_rules.specs.Lists.{greatest, is, numbers_where}
 use Rattle.machine_rules.specs.State.{Machine, Mutex, Thread, Wait, Waiting, for_mutex, for_mutex_again}
-use Rattle.machine_rules.specs.Threads.{thread_at, waiting_in}
+use Rattle.machine_rules.specs.Threads.{waiting_in}
 
 -- The priority that the policy alone gives. A sporadic thread has that of its server, XSH 2.8.4 SCHED_SPORADIC, and the low
 -- one while it is not live and has no server (this project's own).

@@ -1,6 +1,6 @@
 -- The sporadic servers of threads: XSH 2.8.4 SCHED_SPORADIC. When a replenishment is planned, and that a thread is activated
 -- as it starts, wakes at its high priority or gets that priority back by a refill, are this project's own.
-use Rattle.std.specs.Prelude.{Bool, None, Option, Some, false, is_some, not, option_map, true, unwrap_or, ℕ, ◌&&◌, if◌then◌else◌}
+use Rattle.std.specs.Prelude.{Bool, None, Option, Some, false, is_some, not, option_map, true, ℕ, ◌&&◌, if◌then◌else◌}
 use Rattle.script_tree.specs.declared.policy.Policy.{Policy}
 use Rattle.script_tree.specs.declared.policy.Policy.TheVariants as policy
 use Rattle.pse52_trace.specs.declared.event.Event.TheVariants as event

@@ -1,5 +1,5 @@
 -- The moves of one effect or item.
-use Rattle.std.specs.Prelude.{Bool, List, [], filter, map, nat_lt, not, ℕ, ◌&&◌, ◌∷◌, if◌then◌else◌}
+use Rattle.std.specs.Prelude.{List, [], filter, map, nat_lt, not, ℕ, ◌&&◌, ◌∷◌, if◌then◌else◌}
 use Rattle.thread_lists.specs.Threads.{stands_in}
 use Rattle.ready_lists.specs.Lists.{to_head, to_tail}
 use Rattle.machine_rules.specs.State.{Machine}

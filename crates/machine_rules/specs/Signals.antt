@@ -9,10 +9,10 @@ use Rattle.pse52_trace.specs.declared.event.Event.TheVariants as event
 use Rattle.machine_rules.specs.declared.signal.SigAction.{SigAction}
 use Rattle.machine_rules.specs.declared.signal.SigAction.TheVariants as action
 use Rattle.machine_rules.specs.Lists.{first_by}
-use Rattle.machine_rules.specs.State.{Machine, SignalRecord, Thread, Timer, Wait, for_signal}
+use Rattle.machine_rules.specs.State.{Machine, SignalRecord, Timer, Wait, for_signal}
 use Rattle.machine_rules.specs.Threads.{action_of}
 use Rattle.machine_rules.specs.Waiters.{Waiter, is_served_before, waiters}
-use Rattle.machine_rules.specs.Turns.{By, Turn, becomes, changes, changes_pending, changes_timer, returns, takes_serial, tells, ◌▷◌}
+use Rattle.machine_rules.specs.Turns.{By, Turn, changes, changes_pending, changes_timer, returns, takes_serial, tells, ◌▷◌}
 use Rattle.machine_rules.specs.Waking.{blocks, wakes}
 
 -- ---- records

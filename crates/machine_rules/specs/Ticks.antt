@@ -1,5 +1,5 @@
 -- One tick of the machine: the due items, the dispatch, and a tick of the head.
-use Rattle.std.specs.Prelude.{Bool, List, None, Option, Some, [], false, nat_lt, option_map, suc, true, zero, ℕ, ◌+◌, ◌-◌, ◌==◌, ◌&&◌, ◌∷◌, if◌then◌else◌}
+use Rattle.std.specs.Prelude.{Bool, List, None, Option, Some, [], false, nat_lt, option_map, suc, zero, ℕ, ◌+◌, ◌-◌, ◌==◌, ◌&&◌, ◌∷◌, if◌then◌else◌}
 use Rattle.script_tree.specs.declared.policy.Policy.{Policy}
 use Rattle.script_tree.specs.declared.policy.Policy.TheVariants as policy
 use Rattle.pse52_trace.specs.declared.event.Event.TheVariants as event
@@ -87,6 +87,10 @@ ends_tick nothing t s = s
 abbrev pub tick_ends : {P : Type 0} → Bool → ℕ → Turn P → Turn P
 tick_ends was_high t s = s ▷ ends_tick (tick_end was_high s.machine.quantum (thread_at s.machine t)) t ▷ settles_since s.machine
 
+abbrev pub unless_killed : {P : Type 0} → Option ℕ → (Turn P → Turn P) → Turn P → Turn P
+unless_killed None next s = next s
+unless_killed (Some signal) next s = s
+
 -- ---- a tick of the head
 
 module _ {P : Type 0} (bodies : Bodies P) where
@@ -109,10 +113,6 @@ module _ {P : Type 0} (bodies : Bodies P) where
 
   abbrev pub runs_head : Turn P → Turn P
   runs_head s = s ▷ dispatches (head s.machine) ▷ runs (head s.machine)
-
-  abbrev pub unless_killed : Option ℕ → (Turn P → Turn P) → Turn P → Turn P
-  unless_killed None next s = next s
-  unless_killed (Some signal) next s = s
 
   abbrev pub goes_on : Turn P → Turn P
   goes_on s = unless_killed s.machine.killed runs_head s

@@ -1,6 +1,6 @@
 -- Sleeping, the clock, and interval timers: XSH 2.8.5, nanosleep, clock_nanosleep, clock_gettime, timer_settime, timer_gettime,
 -- timer_getoverrun. Both clocks count ticks.
-use Rattle.std.specs.Prelude.{Bool, List, None, Option, Some, min, suc, zero, ℕ, ◌+◌, ◌-◌, if◌then◌else◌}
+use Rattle.std.specs.Prelude.{Bool, None, Option, Some, min, suc, zero, ℕ, ◌+◌, ◌-◌, if◌then◌else◌}
 use Rattle.std.specs.List.{list_any}
 use Rattle.tick_num.specs.declared.res.Res.TheVariants as res
 use Rattle.tick_num.specs.declared.sig_code.SigCode.TheVariants as code
