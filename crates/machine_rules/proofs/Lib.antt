@@ -12,3 +12,4 @@ pub mod Examples
 pub mod Behind
 pub mod BehindCalls
 pub mod BehindTicks
+pub mod Counting
