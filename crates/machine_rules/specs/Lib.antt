@@ -1,5 +1,6 @@
 pub mod Lists
 pub mod State
+pub mod Kinds
 pub mod Bodies
 pub mod Threads
 pub mod Priorities

@@ -34,8 +34,7 @@ posts_to (Some w) by k s = s ▷ returns by res.Zero 0 ▷ wakes w.thread res.Ze
 posts_to None by k s =
     if semaphore_at s.machine k == semaphore_limit then returns by res.Overflow 0 s else (s ▷ changes_semaphore k suc ▷ returns by res.Zero 0)
 
--- sem_post: the best waiter wakes, or the value grows; EOVERFLOW at the greatest value (XSH names it since 2008; the test is
--- this project's own)
+-- sem_post: the best waiter wakes, or the value grows. EOVERFLOW at the greatest value is this project's own.
 abbrev pub posts : {P : Type 0} → By → ℕ → Turn P → Turn P
 posts by k s = posts_to (best_waiter s.machine (waits_on_semaphore k)) by k s
 
