@@ -1,0 +1,360 @@
+// Texts that are refused, with the line and the kind of their least fault. What is expected comes from the reference simulator in
+// tools/reference, which reads by another program.
+use crate::{FaultKind, ScriptEnd, read_script};
+use std::alloc::Global;
+
+struct Case {
+    line: u32,
+    text: &'static [u8],
+}
+
+macro_rules! case {
+    ($line:literal $text:literal) => {
+        Case { line: $line, text: $text }
+    };
+}
+
+// The least fault of a text that has one.
+fn least_fault(alloc: Global, text: &[u8]) -> Option<(u32, FaultKind)> {
+    if text.len() > 1_048_576 {
+        return None;
+    }
+    match read_script(alloc, text) {
+        Err(ScriptEnd::Fault(line, kind)) => Some((line, kind)),
+        _ => None,
+    }
+}
+
+// Whether each of the texts is refused with its line and this kind.
+fn are_refused(alloc: Global, kind: FaultKind, cases: &[Case]) -> bool {
+    for case in cases {
+        if least_fault(alloc, case.text) != Some((case.line, kind)) {
+            return false;
+        }
+    }
+    true
+}
+
+static BAD_BYTE: [Case; 19] = [
+    case!(1 b"\x00"),
+    case!(1 b"\x0d\n"),
+    case!(1 b"caf\xe9\n"),
+    case!(1 b"frob \x80\n"),
+    case!(1 b"# \x80\nfrob\n"),
+    case!(3 b"thread a fifo 5 at 0\nend\n\x0c"),
+    case!(2 b"thread a fifo 5 at 0\nend \x1f\n"),
+    case!(2 b"thread a fifo 5 at 0\n\x0b\nend\n"),
+    case!(3 b"thread a fifo 5 at 0\nend\n\xff\n"),
+    case!(1 b"thread a fifo 5 at 0\x0d\nend\x0d\n"),
+    case!(2 b"thread a fifo 5 at 0\nrun 1\x0d\nend\n"),
+    case!(2 b"thread a fifo 5 at 0\nrun \x001\nend\n"),
+    case!(2 b"thread a fifo 5 at 0\nrun 1 # \x7f\nend\n"),
+    case!(1 b"\x00\nhandler 1\nrun 2\ntake\nend\nthread a fifo 5 at 0\nrun 1\nend\n"),
+    case!(1 b"run 1\x0d\ncleanup w\nsigmask set rt0,rt32\nend\nthread a fifo 5 at 0\nrun 1\nend\n"),
+    case!(8 b"thread t0 fifo 7 at 5\nadd 3\nadd 6\nrun 1\nset 4\nadd 20\nrun 5\nrun 5\x1f\nend\ncleanup u0\nsig1\nhandler h0\nend\nthread t1 fifo 2 at 0\nyield\nrun 5\nrun 1\nif 0\nend\nquantum 5\nend"),
+    case!(5 b"quantum 4\nhandler h0\nyield\nend\n\x7f\nthread t1 fifo 4 at 1\ntake\nrun 1\nset 4\nadd 20\ntkill A rt\nend\ncleanup u0\nyield\nrun 1\nend\nthread t0 fifo 4 at 2\nset 4\nadd 20\nend\ncleanup u\x081\nend\n\n"),
+    case!(5 b"handler h1\nend\nquantum 4\nthread t0 fifo 9 at 2\n\x7fyield\nset 4\nrun\nadd 20\nyield\nrun 1\nloop 5\nend\nrun 5\nyield\nend\ncleanup u0\nrun 5\nset 1000000000000000000\nadd 1\nend\nhandler h0\nyield\nset 4\nadd 20\nend\n"),
+    case!(12 b"cleanup u0\nloop 2\nrun 5\nloop 2\nend\nend\nyield\nend\ncleanup u1\nend\nhandler h1\ne\x80nd\nhandler h0\nadd 9\nyield\nset 4\nadd 20\nend\nthread t1 fifo 5 at 3\ntimer_settime 2 abs 1000000000000000000 256\nloop 2\nyield\nend\n1a\nyield\nend\n"),
+];
+
+#[test]
+fn bad_byte(rt: HostRuntime) {
+    assert!(rt; are_refused(rt.alloc(), FaultKind::BadByte, &BAD_BYTE));
+}
+
+static UNKNOWN_WORD: [Case; 19] = [
+    case!(1 b"a\tb\n"),
+    case!(1 b"strict\n"),
+    case!(1 b"frob\n# \x80\n"),
+    case!(1 b"thread a rr 5 at 0\nend\n"),
+    case!(1 b"thread a lifo 5 at 0\nend\n"),
+    case!(1 b"thread a fifo 5 on 0\nend\n"),
+    case!(1 b"QUANTUM 5\ncleanup u0\nend\n"),
+    case!(2 b"thread a fifo 5 at 0\nRUN\nend\n"),
+    case!(2 b"thread a fifo 5 at 0\nfrob\nend\n"),
+    case!(3 b"thread a fifo 5 at 0\nend\npop 0\n"),
+    case!(2 b"thread a fifo 5 at 0\npop 0\nend\n"),
+    case!(2 b"thread a fifo 5 at 0\nRun 1\nend\n"),
+    case!(2 b"thread a fifo 5 at 0\nlock m\nend\n"),
+    case!(2 b"thread a fifo 5 at 0\nexit 0\nend\n"),
+    case!(1 b"cond c\nthread a fifo 5 at 0\nend\n"),
+    case!(2 b"thread a fifo 5 at 0\ncreate a\nend\n"),
+    case!(2 b"thread a fifo 5 at 0\nkill rt1\nend\n"),
+    case!(1 b"version 2\nthread a fifo 5 at 0\nend\n"),
+    case!(2 b"thread a fifo 5 at 0\nif 00\nend\nend\n"),
+];
+
+#[test]
+fn unknown_word(rt: HostRuntime) {
+    assert!(rt; are_refused(rt.alloc(), FaultKind::UnknownWord, &UNKNOWN_WORD));
+}
+
+static WORD_COUNT: [Case; 19] = [
+    case!(1 b"thread\n"),
+    case!(1 b"quantum\n"),
+    case!(1 b"thread a\n"),
+    case!(1 b"take take\n"),
+    case!(1 b"handler\nend\n"),
+    case!(1 b"thread a fifo\n"),
+    case!(1 b"thread a fifo 5\n"),
+    case!(1 b"cleanup h h\nend\n"),
+    case!(1 b"thread a fifo 5 at\n"),
+    case!(1 b"thread a fifo 5 at 0 0\n"),
+    case!(1 b"thread fifo fifo 5 at\nend\n"),
+    case!(1 b"thread a fifo 5 #at 0\nend\n"),
+    case!(2 b"thread a fifo 5 at 0\nend end\n"),
+    case!(1 b"thread a fifo 5 dormant 1\nend\n"),
+    case!(2 b"thread a fifo 5 at 0\nrun\nend\n"),
+    case!(2 b"thread a fifo 5 at 0\nset\nend\n"),
+    case!(2 b"thread a fifo 5 at 0\ntake 1\nend\n"),
+    case!(2 b"thread a fifo 5 at 0\nthread\nend\n"),
+    case!(2 b"thread a fifo 5 at 0\nif\nend\nend\n"),
+];
+
+#[test]
+fn word_count(rt: HostRuntime) {
+    assert!(rt; are_refused(rt.alloc(), FaultKind::WordCount, &WORD_COUNT));
+}
+
+static BAD_NUMBER: [Case; 19] = [
+    case!(1 b"add x\n"),
+    case!(1 b"loop x\n"),
+    case!(1 b"quantum x\n"),
+    case!(1 b"thread a fifo x at 0\nend\n"),
+    case!(1 b"thread a fifo 5 at -1\nend\n"),
+    case!(1 b"thread a fifo 5 at +1\nend\n"),
+    case!(1 b"thread a fifo 0x5 at 0\nend\n"),
+    case!(1 b"thread aB fifo five at 0\nend\n"),
+    case!(2 b"thread a fifo 5 at 0\nset -1\nend\n"),
+    case!(2 b"thread a fifo 5 at 0\nrun reg\nend\n"),
+    case!(2 b"thread a fifo 5 at 0\nrun 1.5\nend\n"),
+    case!(2 b"thread a fifo 5 at 0\nset reg\nend\n"),
+    case!(2 b"thread a fifo 5 at 0\nloop x\nend\nend\n"),
+    case!(2 b"thread a fifo 5 at 0\nthread b fifo x at 0\nend\n"),
+    case!(4 b"thread a fifo 5 at 0\nrun 0\nend\nthread b fifo x at 0\nend\n"),
+    case!(4 b"thread a fifo 5 at 0\nrun 1\nend\nrun x\nyield\nhandler w\nexit reg\nend\n"),
+    case!(1 b"thread z fifo five at 0\nquantum 1\nquantum 2\nthread a fifo 5 at 0\nrun 1\nend\n\n"),
+    case!(1 b"thread z fifo five at 0\nthread a fifo 5 at 0\nrun 1\nend\nif\nhandler w\nmq_receive z\nend\nquantum 0\n"),
+    case!(5 b"handler h1\nend\nquantum 5\nthread t0 fifo 9 at 2\nrun x\nset 37\nloop 1\n# note\nend \nend\nhandler h0\nend\ncleanup u0\nend"),
+];
+
+#[test]
+fn bad_number(rt: HostRuntime) {
+    assert!(rt; are_refused(rt.alloc(), FaultKind::BadNumber, &BAD_NUMBER));
+}
+
+static NUMBER_RANGE: [Case; 19] = [
+    case!(1 b"quantum 0\n"),
+    case!(1 b"thread a fifo 0 at 0\nend\n"),
+    case!(1 b"quantum 1000000000000000001\n"),
+    case!(1 b"thread a fifo 256 at 0\nend\n"),
+    case!(2 b"thread a fifo 5 at 0\nrun 0\nend\n"),
+    case!(2 b"thread a fifo 5 at 0\nrun 00\nend\n"),
+    case!(2 b"thread a fifo 5 at 0\nloop 0\nend\nend\n"),
+    case!(1 b"quantum 0\nquantum 5\nthread a fifo 5 at 0\nend\n"),
+    case!(2 b"quantum 5\nquantum 0\nthread a fifo 5 at 0\nend\n"),
+    case!(2 b"thread a fifo 5 at 0\nrun 1000000000000000001\nend\n"),
+    case!(2 b"thread a fifo 5 at 0\nset 1000000000000000001\nend\n"),
+    case!(1 b"thread aaaaaaaaaaaaaaaaaaaaaaaaaaaaaaaa fifo 0 at 0\nend\n"),
+    case!(2 b"thread a fifo 5 at 0\nloop 1000000000000000001\nend\nend\n"),
+    case!(2 b"thread a fifo 5 at 0\nadd 1000000000000000000000000000000\nend\n"),
+    case!(3 b"thread a fifo 255 at 0\nend\nthread b fifo 1 at 1000000000000000001\nend\n"),
+    case!(2 b"thread a fifo 5 at 0\nrun 999999999999999999999999999999999999999999999999999999999999\nend\n"),
+    case!(8 b"handler h1\nyield\nset 0\nset 1000000000000000000\nadd 1000000000000000000\nadd 1\nend\nthread t0 fifo 256 at 0\nadd 3\nend\nhandler h0\nend\nthread t1 fifo 4 at 0\nyield\nend\ncleanup u0\nset 65\nadd 20\nset 39\nrun 5\nend\n\n"),
+    case!(32 b"thread a fifo 5 at 0\nloop 1\nloop 1\nloop 1\nloop 1\nloop 1\nloop 1\nloop 1\nloop 1\nloop 1\nloop 1\nloop 1\nloop 1\nloop 1\nloop 1\nloop 1\nend\nend\nend\nend\nend\nend\nend\nend\nend\nend\nend\nend\nend\nend\nend\nrun 0\nend\n"),
+    case!(16 b"thread t0 fifo 4 at 0\nset 1000000000000000000\nadd 1000000000000000000\nadd 1\nset 4\nadd 20\nyield\nend\nquantum 5\nhandler h0\nyield\nif EINVAL\nend\nyield\nend\nthread t1 fifo 1000000000000000000 dormant\nrun 5# x\nend\ncleanup u0\nyield\nend\n\n"),
+];
+
+#[test]
+fn number_range(rt: HostRuntime) {
+    assert!(rt; are_refused(rt.alloc(), FaultKind::NumberRange, &NUMBER_RANGE));
+}
+
+static BAD_NAME: [Case; 19] = [
+    case!(1 b"handler 5\nend\n"),
+    case!(1 b"thread A fifo 5 at 0\nend\n"),
+    case!(1 b"thread 1a fifo 5 at 0\nend\n"),
+    case!(1 b"thread _a fifo 5 at 0\nend\n"),
+    case!(1 b"thread a-b fifo 5 at 0\nend\n"),
+    case!(2 b"thread a fifo 5 at 0\nhandler 1\nend\n"),
+    case!(1 b"handler x,y\nend\nthread a fifo 5 at 0\nrun 1\nend"),
+    case!(1 b"thread a.b fifo 1 at 0\nend\nthread z fifo 5 dormant 0\n"),
+    case!(1 b"thread aaaaaaaaaaaaaaaaaaaaaaaaaaaaaaaaa fifo 5 at 0\nend\n"),
+    case!(1 b"cleanup %\nrun 2\nend\nstrict\nthread a fifo 5 at 0\nrun 1\nend\n\n"),
+    case!(4 b"thread a fifo 5 at 0\nrun 1\nend\nthread a.b fifo 1 at 0\nend\nyield\nif 00\n\n"),
+    case!(4 b"thread a fifo 5 at 0\nrun 1\nend\nthread 1 fifo 3 at 1000000000000000001\nend\ntake 1\n"),
+    case!(1 b"handler A\nend\nend\nthread z fifo 5\nthread a fifo 5 at 0\nrun 1\nend\n\t\nquantum 5\n"),
+    case!(1 b"thread 1 fifo 1000000000000000001 dormant\nif\nyield\nend\nthread z fifo five at 0\nyield\n"),
+    case!(1 b"cleanup _a\ntake 1\nrun 1\nrun\t1\nquantum 0\nend\nthread a fifo 5 at 0\nrun 1\nend\ncleanup z\n"),
+    case!(1 b"thread 1 fifo 3 dormant\nrun 1\nrun 2\nadd 1000000000000000000\nrun 2\nend\nhandler w\nlock a0_\nend"),
+    case!(1 b"cleanup 1a\nrun 2\npop\nthread a fifo 5 at 0\nrun 1\nend\nhandler w\nexit 1000000000000000001\nend\ntake 1"),
+    case!(5 b"\t\nthread a fifo 5 at 0\nrun 1\nend\nhandler aaaaaaaaaaaaaaaaaaaaaaaaaaaaaaaaa\nyield\ncaf\xe9\nend\ntake 1"),
+    case!(4 b"thread a fifo 5 at 0\nrun 1\nend\nthread a-b fifo 3 at 0\nset 1000000000000000001\nrun 1\nif\nrun 1 1\nend\n"),
+];
+
+#[test]
+fn bad_name(rt: HostRuntime) {
+    assert!(rt; are_refused(rt.alloc(), FaultKind::BadName, &BAD_NAME));
+}
+
+static DUPLICATE_NAME: [Case; 19] = [
+    case!(3 b"handler a\nend\ncleanup a\nend\n"),
+    case!(3 b"handler a\nend\nthread a fifo 5 at 0\nend\n"),
+    case!(3 b"thread a fifo 5 at 0\nend\nthread a fifo 0 at 0\nend\n"),
+    case!(3 b"thread a fifo 5 at 0\nend\ncleanup a\nend\nhandler a\nend\n"),
+    case!(4 b"thread a fifo 5 at 0\nrun 1\nend\nthread a fifo 5 at 0\nend\n"),
+    case!(4 b"thread a fifo 5 at 0\nrun 0\nend\nthread a fifo 0 at 0\nend\n"),
+    case!(5 b"thread a fifo 5 at 0\nloop 0\nend\nend\nthread a fifo 5 at 0\nend\n"),
+    case!(3 b"handler h0\nend\nthread h0 fifo 4 at 0\nif ETIMEDOUT\nend\nunless 0\nyield\nif EOVERFLOW\nend\nrun 1\nyield\nend\nend\ncleanup u0\nend"),
+    case!(15 b"cleanup u0\nset 24\nloop 2\nend\ntake\nend\n\thandler  h0# x\nend\nthread t0 fifo 5 at 2\n yield\n\n# note\nrun 1# x\nend\nhandler t0\nend\n"),
+    case!(19 b"thread t0 fifo 6 at 2\nset 4\nadd 20\nset 15\nrun 1\nrun 1\nrun 3\nunless 0\nloop 2\nloop 5\nend\nyield\nrun 5\ntake\nend\nyield\nend\nend\nhandler t0\nend\ncleanup u0\n\tend \nquantum 2\nquantum 2\nquantum 2\n\n"),
+    case!(29 b"handler h0\nloop 1\ntake\nrun 1\nloop 2\nrun 1\nend\nend\nyield\nrun 5\nend\nthread t0 fifo 8 at 3\nrun 32\nset 4\nadd 20\nunless EDEADLK\nyield\n\tloop \t 2\n\nyield\nend\nyield\nyield\nend\nend\ncleanup u0\nrun 1\nend\nhandler t0\nend"),
+    case!(16 b"cleanup u0\nyield\nadd 7\nset 1000000000000000000\nadd 1000000000000000000\nadd 1\nend\nthread t0 fifo 3 at 1\nset 1000000000000000000\nadd 1000000000000000000\nadd 1\nrun 5\nadd 5\nrun 1\nend\nhandler u0\nyield\nset 4\nadd 20\nrun 5\nend\n"),
+    case!(15 b"thread t1 fifo 6 at 8\nadd 8\nrun 1\nend\nthread \t t0 \t fifo \t 3 \t at \t 0\n\nloop 3\nend\nyield\nend\nhandler h1\nrun 1\nadd 8\nend\ncleanup h1\nend\ncleanup u0\nloop 3\nif 0\nend\nend\nend\nhandler h0\nif 0\nrun 2\nend\nrun\t1\nrun 1\nend\n"),
+    case!(34 b"thread a fifo 5 at 0\nloop 1\nloop 1\nloop 1\nloop 1\nloop 1\nloop 1\nloop 1\nloop 1\nloop 1\nloop 1\nloop 1\nloop 1\nloop 1\nloop 1\nloop 1\nrun 1\nend\nend\nend\nend\nend\nend\nend\nend\nend\nend\nend\nend\nend\nend\nend\nend\nthread a fifo 5 at 0\nend\n"),
+    case!(27 b"cleanup u0\nloop 4\ntake\nyield\nrun 5\nset 1000000000000000000\nadd 1000000000000000000\nadd 1\nend\nend\nthread t0 fifo 9 at 0\nyield\nrun 3\n\tloop\t3\nend\nend\nthread t1 fifo 9 at 1\nrun 1\nend\nhandler h0\nloop 5\nset 23\nyield\nend\nyield\nend\nhandler t0\nend\n"),
+    case!(28 b"cleanup u1\nend\nhandler h0\nend\n\tcleanup\tu0# x\nend\nthread t0 fifo 5 at 0\nyield\nrun 1\nset 34\nyield\nset 1000000000000000000\nadd 1000000000000000000\nadd 32\nyield\nloop 2\nyield\nyield\nloop 3\nloop 2\nforever\nend\nend\nend\nend\n# note\nend# x\nhandler t0\nend\n"),
+    case!(35 b"thread a fifo 5 at 0\nforever\nforever\nforever\nforever\nforever\nforever\nforever\nforever\nforever\nforever\nforever\nforever\nforever\nforever\nforever\nforever\nend\nend\nend\nend\nend\nend\nend\nend\nend\nend\nend\nend\nend\nend\nend\nend\nend\nthread a fifo 5 at 0\nend\n"),
+    case!(18 b"handler h0\nset 4\nadd 20\nset 4\nadd 20\nend\nquantum 65\ncleanup u0\nend\nthread t0 fifo 3 at 5\nyield\nforever\nend\nforever\nadd 4\nend\nend\nthread h0 fifo 3 at 3\nunless ESRCH\nset 1000000000000000000\nadd 1000000000000000000\nadd 1\nrun 5\n end \nrun 1\ntake\nyield\nadd 7\nyield\nend\n\n"),
+    case!(29 b"thread t3 fifo 3 at 5\nend\nthread t2 fifo 5 dormant\nyield\nyield\nloop 5\nend\nend\ncleanup u0\nend\nhandler h1\nend\nthread t1 fifo 3 at 0\nrun 1\nend\nthread h0 fifo 5 at 0\nloop 1\nyield\nrun 2\nend\nyield\nyield\nset 17\nrun 2\nyield\nend\nthread t4 fifo 9 at 256\nend\nhandler h0\nend\nhandler t0\nend"),
+];
+
+#[test]
+fn duplicate_name(rt: HostRuntime) {
+    assert!(rt; are_refused(rt.alloc(), FaultKind::DuplicateName, &DUPLICATE_NAME));
+}
+
+static NOT_HERE: [Case; 19] = [
+    case!(1 b"take\n"),
+    case!(1 b"run 1\n"),
+    case!(1 b"yield\n"),
+    case!(1 b"set 5\n"),
+    case!(1 b"if 0\nend\n"),
+    case!(1 b"yield\n\x01\n"),
+    case!(1 b"loop 1\nend\n"),
+    case!(1 b"forever\nend\n"),
+    case!(1 b"run 1\nend\nthread\n"),
+    case!(3 b"thread a fifo 5 at 0\nend\nif 0\n"),
+    case!(2 b"#thread a fifo 5 at 0\nrun 1\nend\n"),
+    case!(2 b"thread a fifo 5 at 0\nquantum 5\nend\n"),
+    case!(2 b"thread a fifo 5 at 0\nhandler h\nend\nend\n"),
+    case!(2 b"thread a fifo 5 at 0\ncleanup u\nend\nend\n"),
+    case!(3 b"thread a fifo 5 at 0\nend\nyield\nend\nfrob x\n"),
+    case!(5 b"thread a fifo 5 at 0\nloop 1\nend\nend\nloop 1\n"),
+    case!(2 b"thread a fifo 5 at 0\nthread b fifo 5 at 0\nend\nend\n"),
+    case!(1 b"run 1# one\nhandler w\njoin z\nend\nthread a fifo 5 at 0\nrun 1\nend\nquantum\n\n"),
+    case!(10 b"thread t4 fifo 4 at 5\nset 4\nadd 20\nend\ncleanup u0\nend\nhandler h0\nunless EAGAIN\nend\nthread t0 fifo 255 at 0\nset 4\nadd 20\nend\ncleanup u1\nend\n"),
+];
+
+#[test]
+fn not_here(rt: HostRuntime) {
+    assert!(rt; are_refused(rt.alloc(), FaultKind::NotHere, &NOT_HERE));
+}
+
+static STRAY_CLOSE: [Case; 19] = [
+    case!(1 b"end\n"),
+    case!(1 b"end\nrun x\n"),
+    case!(4 b"\nhandler h0\nend\nend\n"),
+    case!(3 b"quantum 5#5\nquantum 6\nend\n"),
+    case!(3 b"thread a fifo 5 at 0\nend\nend\n"),
+    case!(4 b"thread a fifo 5 at 0\nrun 1\nend\nend"),
+    case!(6 b"thread a fifo 5 at 0\nloop 1\nrun 1\nend\nend\nend\n"),
+    case!(4 b"thread a fifo 5 at 0\nrun\t1\t\t\n\t end # done\nend\n"),
+    case!(8 b"handler h0\nend\nquantum 5\ncleanup u0\nend\nhandler h1\nend\nend\n"),
+    case!(6 b"thread t0 fifo 8 at 1\nyield\nend\nhandler h0\nend\nend\nquantum 1\n\n"),
+    case!(1 b"end\nhandler 1\nend\nthread a fifo 5 at 0\nrun 1\nend\nRun 1\nrun 1 1\n"),
+    case!(4 b"handler z\nadd 1000000000000000001\nend\nend\ncleanup w\njoin z\nend\n# \x01"),
+    case!(5 b"thread t3 fifo 5 at 3\nend\nhandler h0\nend\nend\nthread t2 fifo 4 dormant\nend\nhandler h1\nend\n\n"),
+    case!(1 b"end\n\tthread \t t1 \t fifo \t 2 \t dormant\nif EPERM\nloop 2\nend\nend\nend\ncleanup u0\nquantum 1\n"),
+    case!(7 b"thread nope fifo 255 dormant\nrun 0\nrun 1\nrun 1\nrun 2\nend\nend\nthread a fifo 5 at 0\nrun 1\nend\n"),
+    case!(3 b"cleanup a\nend\nend\ncleanup w\nsigmask block rt31\nend\nthread a fifo 5 at 0\nrun 1\nend\nunless 1\n\n"),
+    case!(2 b"quantum 2\nend\nyield\n# note\ntake \nthread t0 fifo 4 at rt31\nhandler h0\nend\ncleanup u0\ntake\nend\n"),
+    case!(1 b"end\ncleanup a\nthread z foo 5 at 0\nthread z fifo 5 dormant 0\nrun 2\nend\nend\nthread a fifo 5 at 0\nrun 1\nend\n"),
+    case!(3 b"handler a\nend\nend\ncleanup w\ntimedwait a aaaaaaaaaaaaaaaaaaaaaaaaaaaaaaaa reg\nend\nend end\nthread a fifo 5 at 0\nrun 1\nend\n\n"),
+];
+
+#[test]
+fn stray_close(rt: HostRuntime) {
+    assert!(rt; are_refused(rt.alloc(), FaultKind::StrayClose, &STRAY_CLOSE));
+}
+
+static UNCLOSED: [Case; 19] = [
+    case!(2 b"handler h\n"),
+    case!(2 b"handler z\n"),
+    case!(2 b"thread a fifo 5 at 0"),
+    case!(2 b"thread a fifo 5 at 0\n"),
+    case!(2 b"thread t0 fifo 255 at 8"),
+    case!(4 b"cleanup u\nloop 2\nend\n"),
+    case!(2 b"thread a fifo 5 dormant\n"),
+    case!(4 b"thread a fifo 5 at 0\nif 0\nend\n"),
+    case!(5 b"thread a fifo 5 at 0\n\n\nrun 1\n"),
+    case!(4 b"thread a fifo 5 at 0\nloop 1\nend\n"),
+    case!(4 b"thread a fifo 5 at 0\nforever\nend\n"),
+    case!(4 b"thread a fifo 5 at 0\nend\nhandler h\n"),
+    case!(4 b"thread a fifo 5 at 0\nend\nthread b fifo 5 dormant\n"),
+    case!(5 b"thread b fifo 256 at 0\nrun 0\nend\nthread a fifo 5 at 0\n"),
+    case!(6 b"thread a fifo 5 at 0\nunless ETIMEDOUT\nforever\nend\nend\n"),
+    case!(11 b"cleanup u0\nrun 5\nset 31\nadd 8\nend\nhandler h0\nadd 5\nforever\nyield\nrun 1\n"),
+    case!(17 b"thread t2 fifo 255 at 0\nyield\nrun 2\nrun 3\nloop 5\nloop 1\nend\nloop 5\nyield\nrun 3\nend\nend\nend \nthread t4 fifo 5 at 0\nloop 1\nyield\n"),
+    case!(14 b"thread t1 fifo 3 at 2\nend\nthread t2 fifo 8 dormant\nend\nhandler h0\nend\ncleanup u0\nend\nquantum 3\nthread t0 fifo 5 at 5\ntake\nyield\nadd 8\n"),
+    case!(20 b"quantum 3\nthread t1 fifo 3 at 0\nrun 3\nrun 5\nyield\nadd 9\nyield\nrun 1\nend\nthread t0 fifo 255 at 0\nadd 9\nrun 0\nrun 3\nyield\nend\nthread t1 fifo 255 dormant\nyield\nyield\nif EBUSY\n"),
+];
+
+#[test]
+fn unclosed(rt: HostRuntime) {
+    assert!(rt; are_refused(rt.alloc(), FaultKind::Unclosed, &UNCLOSED));
+}
+
+static TOO_MANY: [Case; 19] = [
+    case!(2 b"quantum 5\nquantum 5\nthread a fifo 5 at 0\nend\n"),
+    case!(2 b"quantum 1\nquantum 2\nthread a fifo 5 at 0\nrun 1\nend"),
+    case!(2 b"quantum 1\nquantum 2\nthread a fifo 5 at 0\nrun 1\nend\n"),
+    case!(2 b"quantum 1\nquantum 2\nthread a fifo 5 at 0\nrun 1\nend\n\n"),
+    case!(4 b"thread a fifo 5 at 0\nend\nquantum 1\nquantum 2\nquantum 3\n"),
+    case!(17 b"thread a fifo 5 at 0\nif 0\nif 0\nif 0\nif 0\nif 0\nif 0\nif 0\nif 0\nif 0\nif 0\nif 0\nif 0\nif 0\nif 0\nif 0\nif 0\nif 0\nend\nend\nend\nend\nend\nend\nend\nend\nend\nend\nend\nend\nend\nend\nend\nend\nend\nend\n"),
+    case!(17 b"thread a fifo 5 at 0\nloop 1\nloop 1\nloop 1\nloop 1\nloop 1\nloop 1\nloop 1\nloop 1\nloop 1\nloop 1\nloop 1\nloop 1\nloop 1\nloop 1\nloop 1\nloop 1\nend\nend\nend\nend\nend\nend\nend\nend\nend\nend\nend\nend\nend\nend\nend\nend\nend\n"),
+    case!(18 b"quantum 5\nhandler h\nloop 1\nloop 1\nloop 1\nloop 1\nloop 1\nloop 1\nloop 1\nloop 1\nloop 1\nloop 1\nloop 1\nloop 1\nloop 1\nloop 1\nloop 1\nloop 1\nend\nend\nend\nend\nend\nend\nend\nend\nend\nend\nend\nend\nend\nend\nend\nend\nend\n"),
+    case!(17 b"thread a fifo 5 at 0\nforever\nforever\nif 0\nif 0\nforever\nif 0\nforever\nif 0\nif 0\nunless EINTR\nif 0\nforever\nloop 1\nforever\nloop 1\nunless EINTR\nend\nend\nend\nend\nend\nend\nend\nend\nend\nend\nend\nend\nend\nend\nend\nend\nend\n"),
+    case!(17 b"thread a fifo 5 at 0\nloop 1\nforever\nif 0\nif 0\nif 0\nloop 1\nforever\nloop 1\nif 0\nunless EINTR\nif 0\nforever\nif 0\nif 0\nloop 1\nloop 1\nloop 1\nend\nend\nend\nend\nend\nend\nend\nend\nend\nend\nend\nend\nend\nend\nend\nend\nend\nend"),
+    case!(17 b"thread a fifo 5 at 0\nif 0\nforever\nif 0\nunless EINTR\nloop 1\nforever\nloop 1\nif 0\nif 0\nif 0\nloop 1\nunless EINTR\nif 0\nunless EINTR\nforever\nloop 1\nend\nend\nend\nend\nend\nend\nend\nend\nend\nend\nend\nend\nend\nend\nend\nend\nend"),
+    case!(17 b"thread a fifo 5 at 0\nloop 1\nunless EINTR\nforever\nforever\nloop 1\nloop 1\nif 0\nloop 1\nif 0\nloop 1\nforever\nunless EINTR\nif 0\nforever\nforever\nloop 1\nend\nend\nend\nend\nend\nend\nend\nend\nend\nend\nend\nend\nend\nend\nend\nend\nend\n"),
+    case!(17 b"thread a fifo 5 at 0\nif 0\nloop 1\nloop 1\nloop 1\nloop 1\nloop 1\nunless EINTR\nif 0\nunless EINTR\nif 0\nforever\nloop 1\nunless EINTR\nif 0\nif 0\nunless EINTR\nend\nend\nend\nend\nend\nend\nend\nend\nend\nend\nend\nend\nend\nend\nend\nend\nend"),
+    case!(17 b"thread a fifo 5 at 0\nif 0\nforever\nforever\nloop 1\nunless EINTR\nforever\nloop 1\nforever\nloop 1\nunless EINTR\nif 0\nforever\nunless EINTR\nif 0\nif 0\nif 0\nend\nend\nend\nend\nend\nend\nend\nend\nend\nend\nend\nend\nend\nend\nend\nend\nend\n"),
+    case!(17 b"thread a fifo 5 at 0\nif 0\nif 0\nloop 1\nunless EINTR\nforever\nif 0\nforever\nunless EINTR\nloop 1\nloop 1\nforever\nif 0\nloop 1\nunless EINTR\nforever\nloop 1\nend\nend\nend\nend\nend\nend\nend\nend\nend\nend\nend\nend\nend\nend\nend\nend\nend\n"),
+    case!(17 b"thread a fifo 5 at 0\nif 0\nloop 1\nforever\nloop 1\nunless EINTR\nforever\nloop 1\nloop 1\nunless EINTR\nif 0\nif 0\nloop 1\nloop 1\nloop 1\nloop 1\nif 0\nloop 1\nend\nend\nend\nend\nend\nend\nend\nend\nend\nend\nend\nend\nend\nend\nend\nend\nend\nend"),
+    case!(17 b"thread a fifo 5 at 0\nif 0\nloop 1\nif 0\nforever\nunless EINTR\nunless EINTR\nforever\nloop 1\nforever\nif 0\nunless EINTR\nloop 1\nloop 1\nif 0\nunless EINTR\nif 0\nend\nend\nend\nend\nend\nend\nend\nend\nend\nend\nend\nend\nend\nend\nend\nend\nend\n"),
+    case!(17 b"thread a fifo 5 at 0\nunless EINTR\nloop 1\nforever\nunless EINTR\nloop 1\nforever\nunless EINTR\nif 0\nunless EINTR\nloop 1\nif 0\nforever\nforever\nif 0\nif 0\nif 0\nend\nend\nend\nend\nend\nend\nend\nend\nend\nend\nend\nend\nend\nend\nend\nend\nend\n"),
+    case!(17 b"thread a fifo 5 at 0\nunless EINTR\nforever\nunless EINTR\nif 0\nloop 1\nif 0\nunless EINTR\nif 0\nforever\nif 0\nloop 1\nunless EINTR\nforever\nforever\nif 0\nloop 1\nend\nend\nend\nend\nend\nend\nend\nend\nend\nend\nend\nend\nend\nend\nend\nend\nend\n"),
+];
+
+#[test]
+fn too_many(rt: HostRuntime) {
+    assert!(rt; are_refused(rt.alloc(), FaultKind::TooMany, &TOO_MANY));
+}
+
+static NO_THREAD: [Case; 19] = [
+    case!(1 b""),
+    case!(2 b" "),
+    case!(2 b"#"),
+    case!(2 b"\n"),
+    case!(3 b"\n\n"),
+    case!(3 b"# \n#"),
+    case!(2 b"\t\t\n"),
+    case!(4 b"\n\n\n"),
+    case!(2 b"quantum 5"),
+    case!(2 b"quantum 5\n"),
+    case!(3 b"handler z\nend"),
+    case!(3 b"cleanup a\nend"),
+    case!(3 b"handler h\nend\n"),
+    case!(3 b"handler z\nend\n"),
+    case!(3 b"handler nope\nend"),
+    case!(2 b"# only a comment\n"),
+    case!(4 b"handler z\nend\n\n"),
+    case!(3 b"handler nope\nend\n"),
+    case!(4 b"handler nope\nend\n\n"),
+];
+
+#[test]
+fn no_thread(rt: HostRuntime) {
+    assert!(rt; are_refused(rt.alloc(), FaultKind::NoThread, &NO_THREAD));
+}
