@@ -6,7 +6,7 @@ ghost use Rattle.std.specs.Prelude.{◌≡◌};
 use pse52_tool::{Status, run_tool};
 use rt_io::{Sink, Source, StdSink, StdSource};
 use std::alloc::Global;
-use std::io::{BufReader, BufWriter};
+use std::io::{BufReader, BufWriter, ErrorKind};
 use std::marker::Brand;
 use std::process::ExitCode;
 use std::sync::ledger::{Blank, Ledger};
@@ -29,21 +29,33 @@ fn run_counted<S: Source, K: Sink, L: Ledger>(
     run_tool(alloc, words, source, sink, &mut steps)
 }
 
-// The words after the program's name.
+// The words after the program's name. Where one is not UTF-8 they are no command, as no words are.
 fn words(rt: &HostRuntime) -> io::Result<Vec<String>> {
     let mut words = Vec::new(rt.alloc());
-    for word in env::args(rt)?.skip(1) {
-        words.push(word)?;
+    match env::args(rt) {
+        Ok(all) => {
+            for word in all.skip(1) {
+                words.push(word)?;
+            }
+            Ok(words)
+        }
+        Err(e) if e.kind() == ErrorKind::InvalidData => Ok(words),
+        Err(e) => Err(e),
     }
-    Ok(words)
 }
 
-// Reads and writes through buffers. What a buffer held back and could not be written is a fault of writing.
+// Reads and writes through buffers. What a buffer held back and could not write is a fault of writing.
 fn run(rt: &HostRuntime) -> io::Result<Status> {
     let words = words(rt)?;
     let mut source = StdSource::new(BufReader::new(rt.alloc(), rt.reader())?);
     let mut sink = StdSink::new(BufWriter::new(rt.alloc(), io::writer(rt))?);
-    let status = run_counted::<_, _, Brand>(rt.alloc(), words.as_slice(), &mut source, &mut sink, Blank::new(1));
+    let status = run_counted::<_, _, Brand>(
+        rt.alloc(),
+        words.as_slice(),
+        &mut source,
+        &mut sink,
+        Blank::new(1),
+    );
     match sink.flush() {
         Ok(()) => Ok(status),
         Err(_) => Ok(Status::WriteFault),
