@@ -1,6 +1,6 @@
 -- Programs that run alike have the same trace.
-use Rattle.std.proofs.Common.{◌≡◌, ◌<◌, ℕ, zero, suc, ◌+◌, ◌-◌, List, [], ◌∷◌, ◌++◌, refl, sym, ◌∙◌, ap, subst, arith, Option, Some, None, length, Bool, true, false, not, if◌then◌else◌}
-use Rattle.std.specs.Prelude.{slice_set, slice_index_or, position, ◌==◌, ◌&&◌, map}
+use Rattle.std.proofs.Common.{◌≡◌, ◌<◌, ℕ, zero, suc, ◌+◌, ◌-◌, List, [], ◌∷◌, refl, sym, ◌∙◌, ap, subst, arith, Option, Some, None, length, Bool, true, false, not, if◌then◌else◌}
+use Rattle.std.specs.Prelude.{slice_set, position, ◌==◌, map}
 use Rattle.std.specs.List.{prefix_len}
 use Rattle.std.proofs.lemmas.List.Quantifiers.{position-Some}
 use Rattle.std.proofs.lemmas.List.{length-set, length-map}
@@ -11,21 +11,16 @@ use Rattle.script_tree.specs.declared.decl.Script.{Script}
 use Rattle.script_flat.specs.declared.unit.Unit.{Unit}
 use Rattle.script_flat.specs.declared.unit.Unit.TheVariants as unit
 use Rattle.script_flat.specs.Next.{ticks_of}
-use Rattle.ready_lists.specs.Lists.{to_tail, without, highest}
-use Rattle.list_machine.specs.declared.LastDispatch.{LastDispatch}
-use Rattle.list_machine.specs.declared.ThreadState.TheVariants.{Ready, Ended}
-use Rattle.pse52_trace.specs.Text.{line, lines, report_line}
-use Rattle.pse52_trace.specs.declared.event.Event.TheVariants as event
-use Rattle.pse52_trace.specs.declared.event.CallName.TheVariants as name
-use Rattle.list_machine.specs.State.{Frame, Thread, State, thread_in, thread_at, with_thread, no_thread, prio_of}
+use Rattle.ready_lists.specs.Lists.{without, highest}
+use Rattle.list_machine.specs.State.{Frame, Thread, State, thread_in, thread_at, with_thread, no_thread}
 use Rattle.list_machine.specs.Program.{Program}
 use Rattle.list_machine.specs.Parts.{Part, quiet, tells, follow}
-use Rattle.list_machine.specs.Items.{awake, started, started_if, is_due, first_due, one_item, items_handled, instant}
+use Rattle.list_machine.specs.Items.{started, started_if, is_due, first_due, one_item, items_handled, instant}
 use Rattle.list_machine.specs.Dispatch.{head, is_same, dispatch_of, dispatch_event, dispatched}
-use Rattle.list_machine.specs.Units.{counted, charged, idled, over, ended, with_answer, on_top, answered, yielded, made, effect, completed_by, completed, frame_ticked, worked, unit_ticked, head_ticked}
+use Rattle.list_machine.specs.Units.{charged, ended, with_answer, on_top, yielded, made, effect, completed, frame_ticked, worked, unit_ticked, head_ticked}
 use Rattle.list_machine.specs.Ticks.{head_runs, tick, ticks}
 use Rattle.list_machine.specs.Script.{Declared, threads_of, names_of}
-use Rattle.list_machine.specs.Text.{dormant, opening, machine, report_of, reports, closing, trace}
+use Rattle.list_machine.specs.Text.{dormant, opening, machine, reports, closing, trace}
 use Rattle.list_machine.specs.Same.{RunAlike, SameFrame, SameFrames, SameThread, SameThreads, SameState, SamePart}
 
 module _ {P Q : Type 0} (S : P → Q → Type 0) where

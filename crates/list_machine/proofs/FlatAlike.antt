@@ -1,23 +1,20 @@
 -- The flat code of a script runs as its trees do.
-use Rattle.std.proofs.Common.{◌≡◌, ◌≤◌, ◌<◌, ℕ, zero, suc, ◌+◌, ◌*◌, ◌^◌, List, [], ◌∷◌, ◌++◌, refl, sym, ◌∙◌, ap, subst, arith, Option, Some, None, length, append-nil, append_assoc}
-use Rattle.std.specs.Prelude.{map, slice_get, slice_index_or, unwrap_or, All}
+use Rattle.std.proofs.Common.{◌≡◌, ◌≤◌, ◌<◌, ℕ, zero, suc, List, [], ◌∷◌, ◌++◌, refl, sym, ◌∙◌, ap, subst, arith, Some, length, append-nil, append_assoc}
+use Rattle.std.specs.Prelude.{map, slice_get, slice_index_or, unwrap_or}
 use Rattle.std.specs.List.{filter_map}
-use Rattle.script_tree.specs.Block.{Block, Nothing}
+use Rattle.script_tree.specs.Block.{Block}
 use Rattle.script_tree.specs.Tree.{step_count}
 use Rattle.script_tree.specs.declared.decl.Script.{Script}
 use Rattle.script_tree.specs.declared.decl.Decl.{Decl}
 use Rattle.script_tree.specs.declared.decl.Decl.TheVariants.{Named, Action}
 use Rattle.script_tree.specs.declared.decl.Kind.TheVariants.{Thread, Handler, Cleanup, Mutex, Cond, Sem, Queue, Timer}
-use Rattle.script_flat.specs.declared.cursor.Cursor.{Cursor}
-use Rattle.script_flat.specs.declared.op.Op.{Op}
 use Rattle.script_flat.specs.Next.{next}
-use Rattle.script_flat.specs.Flat.{Bodies, flat, nesting, no_bodies, with_decl, with_decls, bodies_of, flat_form, IsFlattenable}
+use Rattle.script_flat.specs.Flat.{Bodies, flat, nesting, no_bodies, with_decl, with_decls, bodies_of, IsFlattenable}
 use Rattle.script_flat.specs.Fetch.{fetched}
 use Rattle.script_flat.specs.Stands.{IsBody, Stands}
 use Rattle.script_flat.proofs.Agrees.{fetched_agrees}
-use Rattle.list_machine.specs.Program.{Program}
 use Rattle.list_machine.specs.Script.{Declared, thread_of, threads_of}
-use Rattle.list_machine.specs.Tree.{Spot, body_of, body_or_nothing, program_of, trace}
+use Rattle.list_machine.specs.Tree.{body_of, body_or_nothing, program_of, trace}
 use Rattle.list_machine.specs.Text as text
 use Rattle.list_machine.specs.Flat.{code_of, program, StandsFor}
 use Rattle.list_machine.specs.Same.{RunAlike}

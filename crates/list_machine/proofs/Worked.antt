@@ -1,8 +1,8 @@
 -- Worked examples, by computing.
-use Rattle.std.specs.Prelude.{ℕ, ◌≡◌, List, [], ◌∷◌, ◌++◌, Option, None, Some, codes, refl, true, false}
+use Rattle.std.specs.Prelude.{ℕ, ◌≡◌, List, [], ◌∷◌, ◌++◌, Some, codes, refl, true, false}
 use Rattle.std.specs.Fmt.{digits}
 use Rattle.tick_num.specs.declared.res.Res.TheVariants as res
-use Rattle.script_tree.specs.Block.{Block, Nothing, Running, Making, Setting, Adding, Taking, Testing, Looping}
+use Rattle.script_tree.specs.Block.{Block, Nothing, Running, Making, Setting, Testing, Looping}
 use Rattle.script_tree.specs.declared.call.Call.TheVariants.{Yield}
 use Rattle.script_tree.specs.declared.decl.Script.{Script}
 use Rattle.script_tree.specs.declared.decl.Decl.{Decl}

@@ -1,5 +1,5 @@
 -- The program of the flat code of a script (this project's own).
-use Rattle.std.specs.Prelude.{ℕ, ◌≡◌, List, [], slice_index}
+use Rattle.std.specs.Prelude.{◌≡◌, List, slice_index}
 use Rattle.script_tree.specs.declared.decl.Script.{Script}
 use Rattle.script_flat.specs.declared.cursor.Cursor.{Cursor}
 use Rattle.script_flat.specs.declared.op.Op.{Op}

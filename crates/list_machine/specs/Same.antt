@@ -1,7 +1,6 @@
 -- Two programs that run alike: their places stand for one another, so their machines do the same (this project's own).
-use Rattle.std.specs.Prelude.{ℕ, ◌≡◌, ◌<◌, List, [], ◌∷◌, Option}
+use Rattle.std.specs.Prelude.{ℕ, ◌≡◌, ◌<◌, List, [], ◌∷◌}
 use Rattle.tick_num.specs.declared.res.Res.TheVariants.{Zero}
-use Rattle.list_machine.specs.declared.ThreadState.{ThreadState}
 use Rattle.list_machine.specs.State.{Frame, Thread, State}
 use Rattle.list_machine.specs.Program.{Program}
 use Rattle.list_machine.specs.Parts.{Part}

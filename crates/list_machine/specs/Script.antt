@@ -1,11 +1,11 @@
 -- What the machine reads of a script.
-use Rattle.std.specs.Prelude.{ℕ, List, [], map, Option, None, Some, slice_get}
+use Rattle.std.specs.Prelude.{ℕ, List, map, Option, None, Some}
 use Rattle.std.specs.List.{filter_map}
-use Rattle.script_tree.specs.Block.{Block, Nothing}
+use Rattle.script_tree.specs.Block.{Block}
 use Rattle.script_tree.specs.declared.policy.Policy.{Policy}
 use Rattle.script_tree.specs.declared.decl.Script.{Script}
 use Rattle.script_tree.specs.declared.decl.Decl.{Decl}
-use Rattle.script_tree.specs.declared.decl.Decl.TheVariants.{Named, Action}
+use Rattle.script_tree.specs.declared.decl.Decl.TheVariants.{Named}
 use Rattle.script_tree.specs.declared.decl.Kind.TheVariants.{Thread}
 
 -- a thread as it is declared

@@ -1,3 +1,4 @@
 pub mod Statuses
 pub mod Command
 pub mod Answer
+pub mod HeadRuns

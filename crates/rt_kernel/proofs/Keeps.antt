@@ -1,6 +1,6 @@
 -- The parts of a tick keep a kernel sound.
-use Rattle.std.proofs.Common.{◌≡◌, ◌≤◌, ◌<◌, ◌+◌, ℕ, zero, suc, List, [], ◌∷◌, length, refl, ◌∙◌, subst, sym, arith, Some}
-use Rattle.std.specs.Prelude.{slice_set, slice_index, slice_index_or, map, All}
+use Rattle.std.proofs.Common.{◌≡◌, ◌≤◌, ◌<◌, ℕ, zero, suc, List, [], ◌∷◌, length, refl, ◌∙◌, sym, arith}
+use Rattle.std.specs.Prelude.{slice_index, slice_index_or, map}
 use Rattle.std.proofs.lemmas.List.Elements.{All-set}
 use Rattle.std.proofs.lemmas.List.{length-set, length-map}
 use Rattle.script_flat.specs.declared.cursor.Cursor.{Cursor}

@@ -1,11 +1,9 @@
 -- The threads of the first declarations, one more at a time.
-use Rattle.std.proofs.Common.{◌≡◌, ◌≤◌, ◌<◌, ℕ, zero, suc, ◌+◌, ◌-◌, List, [], ◌∷◌, ◌++◌, refl, sym, ◌∙◌, ap, subst, arith, Option, Some, None, length, take, drop, get_or, append-nil, append_assoc, replicate, length-append}
+use Rattle.std.proofs.Common.{◌≡◌, ◌≤◌, ◌<◌, ℕ, zero, suc, ◌+◌, ◌-◌, List, [], ◌∷◌, ◌++◌, refl, sym, ◌∙◌, ap, arith, Option, Some, None, length, take, get_or, append-nil, append_assoc, replicate, length-append}
 use Rattle.std.specs.Prelude.{map, option_to_list, slice_set}
 use Rattle.std.specs.List.{filter_map}
 use Rattle.script_tree.specs.declared.decl.Decl.{Decl}
 use Rattle.list_machine.specs.Script.{Declared, thread_of}
-use Rattle.list_machine.specs.State.{Thread}
-use Rattle.list_machine.specs.Text.{dormant}
 use Rattle.std.proofs.lemmas.List.{map-append, length-map, length-replicate}
 use Rattle.rt_kernel.specs.Opening.{with_name}
 

@@ -1,4 +1,4 @@
-use Rattle.std.proofs.Common.{◌≡◌, ◌≤◌, ◌++◌, ◌-◌, [], length, take, replicate}
+use Rattle.std.proofs.Common.{◌≡◌, ◌++◌, ◌-◌, [], length, take, replicate}
 use Rattle.std.specs.Prelude.{map}
 use Rattle.std.specs.List.{filter_map}
 use Rattle.list_machine.specs.Script.{Declared, thread_of}

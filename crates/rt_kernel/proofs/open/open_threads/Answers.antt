@@ -1,4 +1,4 @@
-use Rattle.std.proofs.Common.{◌≡◌, refl}
+use Rattle.std.proofs.Common.{refl}
 use Rattle.std.proofs.lemmas.List.{map-append}
 use Rattle.rt_kernel.proofs.Opening.{threads_more}
 use Rattle.rt_kernel.proofs.open.open_threads.Goals as goal

@@ -1,4 +1,4 @@
-use Rattle.std.proofs.Common.{◌≡◌, refl}
+use Rattle.std.proofs.Common.{refl}
 use Rattle.pse52_trace.proofs.Tells.{tells_nothing, tells_both}
 use Rattle.list_machine.proofs.Steps.{no_items, items_more}
 use Rattle.rt_kernel.proofs.kernel.Kernel.handle_due.Goals as goal

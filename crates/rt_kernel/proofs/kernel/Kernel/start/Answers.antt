@@ -1,4 +1,4 @@
-use Rattle.std.proofs.Common.{◌≡◌, ◌<◌, length, subst, sym}
+use Rattle.std.proofs.Common.{◌<◌, length, subst, sym}
 use Rattle.rt_kernel.specs.Simulated.{Simulated}
 use Rattle.rt_kernel.proofs.Keeps.{body_known, sound_started}
 use Rattle.rt_kernel.proofs.kernel.Kernel.start.Goals as goal
