@@ -132,10 +132,10 @@ module _ {P : Type 0} where
 pub head_runs : (script : Script) (k : ℕ) → HeadRuns script k
 head_runs script k = record {
   counted = λ u lt.
-    let p = program_of script in
-    let start = opening {P = Spot} script in
-    let m = (ticks p k start).to in
-    let long : length m.threads ≡ length (threads_of script) = ticks_length p k start ∙ length-map (threads_of script) (dormant {P = Spot}) in
-    let one = tick_counts p m u (omega (arith, long, lt)) in
-    rw ticks_more one;
+      let p = program_of script in
+      let start = opening {P = Spot} script in
+      let m = (ticks p k start).to in
+      let long : length m.threads ≡ length (threads_of script) = ticks_length p k start ∙ length-map (threads_of script) (dormant {P = Spot}) in
+      let one = tick_counts p m u (omega (arith, long, lt)) in
+      rw ticks_more one;
 }

@@ -30,4 +30,4 @@ head_at script k = head (instant (program_of script) (machine script k).to).to
 -- tick k counts for the head, and for no other thread
 pub record HeadRuns (script : Script) (k : ℕ) : Type 0 where
   pub counted : (u : ℕ) → u < length (threads_of script) →
-    ticks_run (machine script (k + 1)).to u ≡ ticks_run (machine script k).to u + share_of (head_at script k) u
+      ticks_run (machine script (k + 1)).to u ≡ ticks_run (machine script k).to u + share_of (head_at script k) u

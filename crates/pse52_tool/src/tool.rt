@@ -8,7 +8,9 @@ ghost use Rattle.script_table.specs.Read.{read};
 ghost use Rattle.list_machine.specs.Tree.{trace};
 ghost use Rattle.list_machine.specs.Runnable.{IsRunnable};
 ghost use Rattle.rt_kernel.specs.Simulated.{run_text};
+ghost use Rattle.script_tree.specs.declared.decl.Script.{Script};
 ghost use Rattle.pse52_tool.specs.Command.{command};
+ghost use Rattle.pse52_tool.specs.HeadRuns.{HeadRuns};
 ghost use Rattle.pse52_tool.specs.Answer.{answer, run_answer, usage_line, Told, SinkFaults, IsLine};
 
 use crate::Status;
@@ -136,6 +138,7 @@ fn run_text<K: Sink, L: Ledger>(
 /// `TooLong`, by the bytes read; then `Refused`, where the script has a fault; then the run. `OutOfMemory` may come in place of
 /// any but `Usage`, before anything is written; a fault of the source or the sink is answered only where its count of faults
 /// rose in this call.
+#[tactic(auto, using(crate::proofs::HeadRuns::head_runs))]
 pub fn run_tool<S: Source, K: Sink, L: Ledger>(
     alloc: Global,
     words: &[String],
@@ -146,6 +149,9 @@ pub fn run_tool<S: Source, K: Sink, L: Ledger>(
     // Where the source tells its bytes, the status and the text are those of the answer to the words and the bytes.
     ensures told { IfSome (S.rest source.old) (λ bytes.
         Told result (answer (map string_bytes words.now) bytes) (K.text sink.old) (K.text sink.new)) }
+
+    // In the run of any script, each tick counts for the head of the highest list that is not empty, and for no other thread.
+    ensures head_runs { (script : Script) → (k : ℕ) → HeadRuns script k }
 
     // The words decide alone whether there is a command.
     ensures usage { result ≡ Status.Usage → command (map string_bytes words.now) ≡ None }
