@@ -1,4 +1,4 @@
--- Names: what is declared, and the faults of phase 2.
+-- Names: what is declared, and the faults of phase 2. This project's own.
 use Rattle.std.specs.Prelude.{ℕ, ◌+◌, nat_lt, if◌then◌else◌, List, [], ◌∷◌, ◌++◌, Option, None, Some, is_some, find}
 use Rattle.std.specs.Str.{bytes_eq}
 use Rattle.script_table.specs.declared.fault.FaultKind.{FaultKind}

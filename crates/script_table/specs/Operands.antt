@@ -1,4 +1,4 @@
--- What the word at a place says, where it says what the place wants.
+-- What the word at a place says, where it says what the place wants. This project's own.
 use Rattle.std.specs.Prelude.{ℕ, ◌&&◌, nat_lt, nat_le, if◌then◌else◌, List, Option, None, Some}
 use Rattle.std.specs.Option.{option_map}
 use Rattle.tick_num.specs.Parameters.{Parameters}

@@ -1,4 +1,4 @@
--- Blocks, statements, and the faults of phase 1.
+-- Blocks, statements, and the faults of phase 1. This project's own.
 use Rattle.std.specs.Prelude.{ℕ, ◌+◌, ◌≤◌, not, Bool, true, false, List, [], ◌∷◌, ◌++◌, Option, None, Some, option_to_list}
 use Rattle.std.specs.Option.{option_map}
 use Rattle.script_lex.specs.Words.{line_words, has_bad_byte}
