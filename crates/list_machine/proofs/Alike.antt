@@ -4,7 +4,6 @@ use Rattle.std.specs.Prelude.{slice_set, slice_index_or, position, ◌==◌, ◌
 use Rattle.std.specs.List.{prefix_len}
 use Rattle.std.proofs.lemmas.List.Quantifiers.{position-Some}
 use Rattle.std.proofs.lemmas.List.{length-set, length-map}
-
 use Rattle.tick_num.specs.declared.res.Res.TheVariants.{Zero}
 use Rattle.script_tree.specs.declared.call.Call.{Call}
 use Rattle.script_tree.specs.declared.call.Call.TheVariants as call
@@ -145,9 +144,10 @@ module _ {P Q : Type 0} (S : P → Q → Type 0) (p : Program P) (q : Program Q)
   unfolding items_handled
   same_items zero m w all same = (all, same_quiet S m w same)
   same_items (suc k) m w all same =
-      let before = same_items k m w all same in
-      (started_length (first_due (items_handled p k m).to) (items_handled p k m).to ∙ before.0,
-      same_follow S _ _ (one_item p) (one_item q) before.1 (same_item _ _ before.0 before.1.to))
+      let before = same_items k m w all same in (
+        started_length (first_due (items_handled p k m).to) (items_handled p k m).to ∙ before.0,
+        same_follow S _ _ (one_item p) (one_item q) before.1 (same_item _ _ before.0 before.1.to),
+      )
 
   instant_same : (m : State P) (w : State Q) → length m.threads ≡ n → SameState S m w → (length (instant p m).to.threads ≡ n) × SamePart S (instant p m) (instant q w)
   instant_same m w all same =
@@ -301,9 +301,10 @@ module _ {P Q : Type 0} (S : P → Q → Type 0) (p : Program P) (q : Program Q)
   same_tick : (m : State P) (w : State Q) → length m.threads ≡ n → SameState S m w → (length (tick p m).to.threads ≡ n) × SamePart S (tick p m) (tick q w)
   same_tick m w all same =
       let first = instant_same m w all same in
-      let second = same_follow S _ _ dispatched dispatched first.1 (same_dispatched _ _ first.1.to) in
-      (head_length (head (dispatched (instant p m).to).to) (dispatched (instant p m).to).to ∙ (dispatched_length (instant p m).to ∙ first.0),
-      same_follow S _ _ (head_runs p) (head_runs q) second (same_runs _ _ second.to))
+      let second = same_follow S _ _ dispatched dispatched first.1 (same_dispatched _ _ first.1.to) in (
+        head_length (head (dispatched (instant p m).to).to) (dispatched (instant p m).to).to ∙ (dispatched_length (instant p m).to ∙ first.0),
+        same_follow S _ _ (head_runs p) (head_runs q) second (same_runs _ _ second.to),
+      )
 
   same_ticks : (k : ℕ) (m : State P) (w : State Q) → length m.threads ≡ n → SameState S m w → (length (ticks p k m).to.threads ≡ n) × SamePart S (ticks p k m) (ticks q k w)
   unfolding ticks

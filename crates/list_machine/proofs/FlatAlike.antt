@@ -61,7 +61,7 @@ numbered_all [] b ds is = rw append-nil is
 numbered_all (Named name (Thread policy start body) ∷ decls) b ds is =
     let d : Declared = record { name = name; policy = policy; start = start; body = body } in
     let h = numbered_all decls (with_decl tree (Named name (Thread policy start body)) b) (ds ++ d ∷ [])
-      (numbered_last (b.all ++ body ∷ []) b.threads ds (length b.all) d (numbered_front b.all (body ∷ []) b.threads ds is) (get_last b.all body)) in
+    (numbered_last (b.all ++ body ∷ []) b.threads ds (length b.all) d (numbered_front b.all (body ∷ []) b.threads ds is) (get_last b.all body)) in
     rw append_assoc at h
 numbered_all (Named name (Handler body) ∷ decls) b ds is =
     numbered_all decls (with_decl tree (Named name (Handler body)) b) ds (numbered_front b.all (body ∷ []) b.threads ds is)
@@ -102,12 +102,14 @@ module _ (script : Script) (ok : IsFlattenable (bodies_of script.decls).all) whe
       let bodies = bodies_of script.decls in
       let n = slice_index_or bodies.threads t 0 in
       let at = numbered_at bodies.all bodies.threads (threads_of script) t (numbered_all script.decls no_bodies [] tt) lt in
-      let known = known_at bodies.all n (body_of script t) at.1 in
-      (at.0, record {
-        flat_form = get_map (flat 0) bodies.all n (body_of script t) at.1;
-        short = subst (λ b. step_count b ≤ 65536) known.1 (ok.short n (body_of script t) known.0);
-        nested = subst (λ b. nesting b ≤ 15) known.1 (ok.nested n (body_of script t) known.0);
-      })
+      let known = known_at bodies.all n (body_of script t) at.1 in (
+        at.0,
+        record {
+          flat_form = get_map (flat 0) bodies.all n (body_of script t) at.1;
+          short = subst (λ b. step_count b ≤ 65536) known.1 (ok.short n (body_of script t) known.0);
+          nested = subst (λ b. nesting b ≤ 15) known.1 (ok.nested n (body_of script t) known.0);
+        },
+      )
 
   flat_first : (t : ℕ) → t < length (threads_of script) → StandsFor (code_of script) ((program (code_of script)).first t) ((program_of script).first t)
   flat_first t lt = record {
@@ -122,19 +124,19 @@ module _ (script : Script) (ok : IsFlattenable (bodies_of script.decls).all) whe
   flat_alike = record {
     first = flat_first;
     unit = λ c s same.
-      let f = fetched_agrees (code_of script) c s.body s.place same.is_body same.stands in
-      f.unit ∙ rw (same.register, same.result, same.value) refl;
+        let f = fetched_agrees (code_of script) c s.body s.place same.is_body same.stands in
+        f.unit ∙ rw (same.register, same.result, same.value) refl;
     next = λ c s same.
-      let f = fetched_agrees (code_of script) c s.body s.place same.is_body same.stands in
-      record {
-        is_body = subst (λ n. IsBody (code_of script) n s.body) (sym f.body_same) same.is_body;
-        stands = subst (λ r. Stands s.body (next s.body s.place r s.result s.value).place (fetched (code_of script) c).0) same.register
-          (subst (λ r. Stands s.body (next s.body s.place c.register r s.value).place (fetched (code_of script) c).0) same.result
-          (subst (λ v. Stands s.body (next s.body s.place c.register c.result v).place (fetched (code_of script) c).0) same.value f.stands));
-        register = f.register ∙ rw (same.register, same.result, same.value) refl;
-        result = f.result ∙ same.result;
-        value = f.value ∙ same.value;
-      };
+        let f = fetched_agrees (code_of script) c s.body s.place same.is_body same.stands in
+        record {
+          is_body = subst (λ n. IsBody (code_of script) n s.body) (sym f.body_same) same.is_body;
+          stands = subst (λ r. Stands s.body (next s.body s.place r s.result s.value).place (fetched (code_of script) c).0) same.register
+              (subst (λ r. Stands s.body (next s.body s.place c.register r s.value).place (fetched (code_of script) c).0) same.result
+              (subst (λ v. Stands s.body (next s.body s.place c.register c.result v).place (fetched (code_of script) c).0) same.value f.stands));
+          register = f.register ∙ rw (same.register, same.result, same.value) refl;
+          result = f.result ∙ same.result;
+          value = f.value ∙ same.value;
+        };
     answered = λ c s same. record {
       is_body = same.is_body;
       stands = record { at = same.stands.at; passes = same.stands.passes; register = same.stands.register };

@@ -92,6 +92,10 @@ printed_all a b due ok still written same = record {
   later = omega arith;
 }
 
+-- what was due under another name
+pub printed_same : (a b : Outlet) (bytes due : List ℕ) → bytes ≡ due → Printed a b bytes → Printed a b due
+printed_same a b bytes due same printed = subst (λ t. Printed a b t) same printed
+
 -- nothing was due, to a tracer
 pub prints_nothing : {K : Type 0} (text : K → Option (List ℕ)) (faults : K → ℕ) (a : Tracer K) → Prints text faults a a []
 prints_nothing text faults a = record { same_sink = refl; printed = printed_nothing _ }

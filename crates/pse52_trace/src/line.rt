@@ -15,7 +15,9 @@ pub fn line_len(now: Tick, e: &Event, names: &Names) -> usize
     ensures length { result ≡ length (line names.now now e.now) }
     ensures short { result ≤ 256 }
 {
-    line_of(now, e, names).len()
+    let mut line = Line::new();
+    line.set_event(now, e, names);
+    line.len()
 }
 
 // A line, or the beginning of one, of at most 256 bytes. It is seen as its bytes.
@@ -33,14 +35,87 @@ impl Model for Line {
 }
 
 impl Line {
-    // A line that begins with these bytes.
-    fn beginning_with(bytes: &[u8]) -> Line
-        requires { length bytes.now ≤ 256 }
-        ensures { result ≡ bytes.now }
+    pub(crate) fn new() -> Line
+        ensures { result ≡ [] }
     {
-        let mut text = ArrayVec::new();
-        let _ = text.try_extend_from_slice(bytes);
-        Line { text }
+        Line {
+            text: ArrayVec::new(),
+        }
+    }
+
+    // Becomes the line of an event.
+    pub(crate) fn set_event(&mut self, now: Tick, e: &Event, names: &Names)
+        requires { IsNamed names.now e.now }
+        ensures { self.new ≡ line names.now now e.now }
+    {
+        self.begin(Buffer::new().format(now.get()).as_bytes());
+        match e {
+            Event::Dispatch(t, prio) => {
+                self.of_thread(b"dispatch", names.get(*t));
+                self.number(prio.get() as u64);
+            }
+            Event::Idle => self.word(b"idle"),
+            Event::Start(t) => self.of_thread(b"start", names.get(*t)),
+            Event::Return(t, call, res, value) => {
+                self.of_thread(b"return", names.get(*t));
+                self.word(call.word().as_bytes());
+                self.word(res.text().as_bytes());
+                self.number(*value);
+            }
+            Event::Deliver(t, sig, code, value) => {
+                self.of_thread(b"deliver", names.get(*t));
+                self.signal(*sig);
+                self.word(code.text().as_bytes());
+                self.number(*value);
+            }
+            Event::Activate(t, capacity) => {
+                self.of_thread(b"activate", names.get(*t));
+                self.number(*capacity);
+            }
+            Event::Exhaust(t) => self.of_thread(b"exhaust", names.get(*t)),
+            Event::Plan(t, amount, due) => {
+                self.of_thread(b"plan", names.get(*t));
+                self.number(*amount);
+                self.number(due.get());
+            }
+            Event::Refill(t, amount, capacity) => {
+                self.of_thread(b"refill", names.get(*t));
+                self.number(*amount);
+                self.number(*capacity);
+            }
+            Event::Cancel(t) => self.of_thread(b"cancel", names.get(*t)),
+            Event::Exit(t) => self.of_thread(b"exit", names.get(*t)),
+            Event::Killed(sig) => {
+                self.word(b"killed");
+                self.signal(*sig);
+            }
+            Event::End => self.word(b"end"),
+        }
+        self.end();
+    }
+
+    // Becomes the closing line of a thread.
+    pub(crate) fn set_report(&mut self, t: Tid, report: &Report, names: &Names)
+        requires { t < length names.now }
+        ensures { self.new ≡ report_line names.now t report.now }
+    {
+        self.begin(b"thread");
+        self.word(names.get(t));
+        self.word(b"ticks");
+        self.number(report.ticks);
+        if let Some(budget) = &report.budget {
+            self.budget(budget);
+        }
+        self.end();
+    }
+
+    // Becomes one word.
+    fn begin(&mut self, word: &[u8])
+        requires { length word.now ≤ 256 }
+        ensures { self.new ≡ word.now }
+    {
+        self.text.clear();
+        let _ = self.text.try_extend_from_slice(word);
     }
 
     fn len(&self) -> usize
@@ -120,72 +195,4 @@ impl Line {
         self.word(b"capacity");
         self.number(budget.capacity);
     }
-}
-
-// The line of an event.
-pub(crate) fn line_of(now: Tick, e: &Event, names: &Names) -> Line
-    requires { IsNamed names.now e.now }
-    ensures { result ≡ line names.now now e.now }
-{
-    let mut line = Line::beginning_with(Buffer::new().format(now.get()).as_bytes());
-    match e {
-        Event::Dispatch(t, prio) => {
-            line.of_thread(b"dispatch", names.get(*t));
-            line.number(prio.get() as u64);
-        }
-        Event::Idle => line.word(b"idle"),
-        Event::Start(t) => line.of_thread(b"start", names.get(*t)),
-        Event::Return(t, call, res, value) => {
-            line.of_thread(b"return", names.get(*t));
-            line.word(call.word().as_bytes());
-            line.word(res.text().as_bytes());
-            line.number(*value);
-        }
-        Event::Deliver(t, sig, code, value) => {
-            line.of_thread(b"deliver", names.get(*t));
-            line.signal(*sig);
-            line.word(code.text().as_bytes());
-            line.number(*value);
-        }
-        Event::Activate(t, capacity) => {
-            line.of_thread(b"activate", names.get(*t));
-            line.number(*capacity);
-        }
-        Event::Exhaust(t) => line.of_thread(b"exhaust", names.get(*t)),
-        Event::Plan(t, amount, due) => {
-            line.of_thread(b"plan", names.get(*t));
-            line.number(*amount);
-            line.number(due.get());
-        }
-        Event::Refill(t, amount, capacity) => {
-            line.of_thread(b"refill", names.get(*t));
-            line.number(*amount);
-            line.number(*capacity);
-        }
-        Event::Cancel(t) => line.of_thread(b"cancel", names.get(*t)),
-        Event::Exit(t) => line.of_thread(b"exit", names.get(*t)),
-        Event::Killed(sig) => {
-            line.word(b"killed");
-            line.signal(*sig);
-        }
-        Event::End => line.word(b"end"),
-    }
-    line.end();
-    line
-}
-
-// The closing line of a thread.
-pub(crate) fn report_line_of(t: Tid, report: &Report, names: &Names) -> Line
-    requires { t < length names.now }
-    ensures { result ≡ report_line names.now t report.now }
-{
-    let mut line = Line::beginning_with(b"thread");
-    line.word(names.get(t));
-    line.word(b"ticks");
-    line.number(report.ticks);
-    if let Some(budget) = &report.budget {
-        line.budget(budget);
-    }
-    line.end();
-    line
 }

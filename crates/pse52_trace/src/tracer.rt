@@ -4,7 +4,7 @@ ghost use Rattle.pse52_trace.specs.Text.{IsNamed, line, report_line};
 ghost use Rattle.pse52_trace.specs.Prints.{Prints};
 ghost use Rattle.pse52_trace.specs.Tells.{Tells};
 
-use crate::line::{line_of, report_line_of};
+use crate::line::Line;
 use crate::{Event, Names, Report};
 use rt_io::Sink;
 use tick_num::{Tick, Tid};
@@ -14,6 +14,7 @@ use tick_num::{Tick, Tid};
 pub struct Tracer<'a, K> {
     sink: &'a mut K,
     failed: bool,
+    line: Line,
 }
 
 impl<'a, K: Sink> Tracer<'a, K> {
@@ -26,6 +27,7 @@ impl<'a, K: Sink> Tracer<'a, K> {
         Tracer {
             sink,
             failed: false,
+            line: Line::new(),
         }
     }
 
@@ -36,14 +38,14 @@ impl<'a, K: Sink> Tracer<'a, K> {
         self.failed
     }
 
-    // Writes a text at once.
-    fn write(&mut self, text: &[u8])
-        ensures { Prints K.text K.faults self.old self.new text.now }
+    // Writes the line at once, unless a write has failed.
+    fn write_line(&mut self)
+        ensures { Prints K.text K.faults self.old self.new self.old.line }
     {
         if self.failed {
             return;
         }
-        match self.sink.write(text) {
+        match self.sink.write(self.line.bytes()) {
             Ok(()) => return,
             Err(_) => {
                 self.failed = true;
@@ -58,8 +60,8 @@ impl<'a, K: Sink> Tracer<'a, K> {
         ensures printed { Prints K.text K.faults self.old self.new (line names.now now e.now) }
         ensures told { Tells K.text K.faults names.now self.old self.new (record { time = now; event = e.now } ∷ []) }
     {
-        let line = line_of(now, e, names);
-        self.write(line.bytes());
+        self.line.set_event(now, e, names);
+        self.write_line();
     }
 
     /// Prints the closing line of a thread, by one write.
@@ -67,7 +69,7 @@ impl<'a, K: Sink> Tracer<'a, K> {
         requires { t < length names.now }
         ensures { Prints K.text K.faults self.old self.new (report_line names.now t report.now) }
     {
-        let line = report_line_of(t, report, names);
-        self.write(line.bytes());
+        self.line.set_report(t, report, names);
+        self.write_line();
     }
 }

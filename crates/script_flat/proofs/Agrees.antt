@@ -1,15 +1,14 @@
 -- What is fetched is the next unit of the tree.
-use Rattle.std.proofs.Common.{◌≡◌, ℕ, zero, suc, ◌+◌, ◌≤◌, ◌*◌, ◌^◌, min, Option, None, Some, Bool, true, false, if◌then◌else◌, List, [], ◌∷◌, ◌++◌, length, drop, slice_get, slice_index_or, refl, ap, sym, subst, ◌∙◌, append-nil, arith, add-zero}
+use Rattle.std.proofs.Common.{◌≡◌, ℕ, zero, suc, ◌+◌, ◌≤◌, Option, None, Some, Bool, true, false, if◌then◌else◌, List, [], ◌∷◌, ◌++◌, drop, slice_get, slice_index_or, refl, ap, sym, subst, ◌∙◌, append-nil, arith, add-zero}
 use Rattle.tick_num.specs.declared.res.Res.{Res}
 use Rattle.script_tree.specs.Block.{Block, Nothing, Running, Making, Setting, Adding, Taking, Testing, Looping, Guarding}
 use Rattle.script_flat.specs.declared.cursor.Cursor.{Cursor}
 use Rattle.script_flat.specs.declared.op.Op.{Op}
 use Rattle.script_flat.specs.declared.unit.Unit as unit
-use Rattle.script_flat.specs.declared.unit.Unit.TheVariants.{Finish}
-use Rattle.script_flat.specs.Next.{Place, At, In, Outcome, Due, Ended, Next, next, or_finish, register_limit, capped, holds, later, later_by, and_then, in_test, in_loop, in_guard, end_of_pass, passes_of, rest_of, steps_from, step_number, from_head, from_inside, from_place}
-use Rattle.script_flat.specs.Flat.{Bodies, flat, op_number, nesting}
-use Rattle.script_flat.specs.Fetch.{found_in, ops_of, fetched}
-use Rattle.script_flat.specs.Stands.{head_ops, step_at, op_at, counts_at, IsBody, Stands, IsPlaced, Fetches}
+use Rattle.script_flat.specs.Next.{Place, At, In, Outcome, Due, Ended, next, or_finish, register_limit, capped, holds, later, later_by, and_then, in_test, in_loop, in_guard, end_of_pass, passes_of, steps_from, step_number, from_head, from_inside, from_place}
+use Rattle.script_flat.specs.Flat.{Bodies, flat, op_number}
+use Rattle.script_flat.specs.Fetch.{found_in, fetched}
+use Rattle.script_flat.specs.Stands.{step_at, op_at, counts_at, IsBody, Stands, IsPlaced, Fetches}
 use Rattle.script_flat.proofs.Lands.{placed, landed}
 use Rattle.script_flat.proofs.Places.{ops_from, drop-flat, places_land}
 

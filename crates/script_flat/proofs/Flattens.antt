@@ -1,7 +1,7 @@
 -- The operations of a list of steps, one step after another.
-use Rattle.std.proofs.Common.{◌≡◌, ℕ, zero, suc, ◌+◌, ◌-◌, ◌<◌, ◌≤◌, ◌^◌, Bool, Option, None, Some, List, [], ◌∷◌, ◌++◌, length, drop, get_or, drop-cons, add-one, slice_set, refl, ap, sym, ◌∙◌, append_assoc, append-nil, add-zero, length-append, arith}
+use Rattle.std.proofs.Common.{◌≡◌, ℕ, zero, suc, ◌+◌, ◌-◌, ◌<◌, ◌≤◌, Bool, None, Some, List, [], ◌∷◌, ◌++◌, length, drop, get_or, drop-cons, add-one, slice_set, refl, ap, sym, ◌∙◌, append_assoc, append-nil, add-zero, length-append, arith}
 use Rattle.tick_num.specs.declared.res.Res.{Res}
-use Rattle.script_tree.specs.Block.{Block, Nothing, Running, Making, Setting, Adding, Taking, Testing, Looping, Guarding}
+use Rattle.script_tree.specs.Block.{Block, Nothing, Testing}
 use Rattle.script_tree.specs.Tree.{block_of, step_count}
 use Rattle.script_tree.specs.declared.body.Body.TheDeep.{deep-Step}
 use Rattle.script_tree.specs.declared.call.Call.TheVariants as call
@@ -75,19 +75,20 @@ pub flattens_more : (before : List Op) (steps : List Step) (ops new : List Op) (
 flattens_more before steps ops new i s h past at e =
     let split = drop_at_step steps i s past at in
     let n : length new ≡ length ops + op_number (block_of (s ∷ [])) =
-      let k = ap length e in
-      let l = length-flat (block_of (s ∷ [])) (length ops) in
-      omega (arith, length-append ops (flat (length ops) (block_of (s ∷ [])))) in
+    let k = ap length e in
+    let l = length-flat (block_of (s ∷ [])) (length ops) in
+    omega (arith, length-append ops (flat (length ops) (block_of (s ∷ [])))) in
     let count = ap (λ xs. op_number (block_of xs)) split in
     let sum = op_number-cons s (drop (i + 1) steps) in
     let room = h.room in
     record {
       all = ap (λ k. new ++ flat k (block_of (drop (i + 1) steps))) n
-        ∙ (ap (λ xs. xs ++ flat (length ops + op_number (block_of (s ∷ []))) (block_of (drop (i + 1) steps))) e
-        ∙ (append_assoc ops (flat (length ops) (block_of (s ∷ []))) (flat (length ops + op_number (block_of (s ∷ []))) (block_of (drop (i + 1) steps)))
-        ∙ (ap (λ xs. ops ++ xs) (sym (flat-cons s (drop (i + 1) steps) (length ops)))
-        ∙ (ap (λ xs. ops ++ flat (length ops) (block_of xs)) (sym split) ∙ h.all))));
-      room = omega arith }
+          ∙ (ap (λ xs. xs ++ flat (length ops + op_number (block_of (s ∷ []))) (block_of (drop (i + 1) steps))) e
+          ∙ (append_assoc ops (flat (length ops) (block_of (s ∷ []))) (flat (length ops + op_number (block_of (s ∷ []))) (block_of (drop (i + 1) steps)))
+          ∙ (ap (λ xs. ops ++ xs) (sym (flat-cons s (drop (i + 1) steps) (length ops)))
+          ∙ (ap (λ xs. ops ++ flat (length ops) (block_of xs)) (sym split) ∙ h.all))));
+      room = omega arith;
+    }
 
 -- a test whose block is appended behind its placeholder
 pub test_done : (ops marked new : List Op) (placeholder : Op) (res : Res) (equal : Bool) (body : Block)
@@ -96,10 +97,10 @@ pub test_done : (ops marked new : List Op) (placeholder : Op) (res : Res) (equal
 test_done ops marked new placeholder res equal body e f =
     let n : length marked ≡ length ops + 1 = omega (arith, ap length e, length-append ops (placeholder ∷ [])) in
     let whole : new ≡ ops ++ placeholder ∷ flat (length ops + 1) body =
-      f ∙ (ap (λ k. marked ++ flat k body) n ∙ (ap (λ xs. xs ++ flat (length ops + 1) body) e ∙ append_assoc ops (placeholder ∷ []) (flat (length ops + 1) body))) in
+    f ∙ (ap (λ k. marked ++ flat k body) n ∙ (ap (λ xs. xs ++ flat (length ops + 1) body) e ∙ append_assoc ops (placeholder ∷ []) (flat (length ops + 1) body))) in
     let skip : (length new - length ops) - 1 ≡ op_number body =
-      let l = length-flat body (length ops + 1) in
-      omega (arith, ap length whole, length-append ops (placeholder ∷ flat (length ops + 1) body)) in
+    let l = length-flat body (length ops + 1) in
+    omega (arith, ap length whole, length-append ops (placeholder ∷ flat (length ops + 1) body)) in
     ap (λ k. slice_set new (length ops) (op.Test res equal k)) skip
     ∙ (ap (λ xs. slice_set xs (length ops) (op.Test res equal (op_number body))) whole
     ∙ (slice_set-append_seam ops placeholder (op.Test res equal (op_number body)) (flat (length ops + 1) body)

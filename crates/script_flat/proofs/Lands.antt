@@ -1,5 +1,5 @@
 -- The units that are found in the flat code are those of the tree.
-use Rattle.std.proofs.Common.{◌≡◌, ℕ, zero, suc, ◌+◌, ◌-◌, Option, None, Some, Bool, true, false, if◌then◌else◌, List, [], ◌∷◌, ◌++◌, length, take, drop, slice_get, refl, ap, sym, ◌∙◌, append_assoc, length-append, arith, add-zero}
+use Rattle.std.proofs.Common.{◌≡◌, ℕ, zero, suc, ◌+◌, ◌-◌, None, Some, Bool, true, false, if◌then◌else◌, List, [], ◌∷◌, ◌++◌, length, take, slice_get, refl, ap, sym, ◌∙◌, append_assoc, length-append, arith, add-zero}
 use Rattle.std.proofs.Math.Seq.{take-append_seam}
 use Rattle.script_tree.specs.Block.{Block, Nothing, Running, Making, Setting, Adding, Taking, Testing, Looping, Guarding}
 use Rattle.script_tree.specs.declared.call.Call.TheVariants as call
@@ -7,13 +7,12 @@ use Rattle.tick_num.specs.declared.res.Res.{Res}
 use Rattle.script_flat.specs.declared.cursor.Cursor.{Cursor}
 use Rattle.script_flat.specs.declared.op.Op.{Op}
 use Rattle.script_flat.specs.declared.op.Op.TheVariants as op
-use Rattle.script_flat.specs.declared.op.Effect.TheVariants.{Gives, Skips}
 use Rattle.script_flat.specs.declared.unit.Unit as unit
-use Rattle.script_flat.specs.declared.unit.Unit.TheVariants.{Make, Jump, Finish}
-use Rattle.script_flat.specs.Next.{Place, At, In, Outcome, Due, Ended, capped, holds, later, later_by, and_then, in_test, in_loop, in_guard, end_of_pass, passes_of, rest_of, steps_from, from_head, from_inside, from_place}
+use Rattle.script_flat.specs.declared.unit.Unit.TheVariants.{Make, Jump}
+use Rattle.script_flat.specs.Next.{At, In, Outcome, Due, Ended, capped, holds, later, later_by, and_then, in_test, in_loop, in_guard, end_of_pass, rest_of, steps_from, from_head}
 use Rattle.script_flat.specs.Flat.{flat, op_number}
-use Rattle.script_flat.specs.Fetch.{moved_on, innermost, outer, after_pass, carried_out, or_search, found_in}
-use Rattle.script_flat.specs.Stands.{head_ops, step_at, number_inside, op_at, counts_inside, counts_at}
+use Rattle.script_flat.specs.Fetch.{moved_on, innermost, outer, after_pass, or_search, found_in}
+use Rattle.script_flat.specs.Stands.{head_ops, step_at, op_at, counts_at}
 
 -- The innermost count.
 pub slice_get-append_seam : (xs : List ℕ) (n : ℕ) (ys : List ℕ) → slice_get (xs ++ n ∷ ys) (length xs) ≡ Some n

@@ -4,3 +4,4 @@ pub mod Agrees
 pub mod Safe
 pub mod Flattens
 pub mod Opens
+pub mod Examples

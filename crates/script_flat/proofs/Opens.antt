@@ -1,5 +1,5 @@
 -- The flat form of a script, one declaration after another.
-use Rattle.std.proofs.Common.{◌≡◌, ℕ, zero, suc, ◌+◌, ◌<◌, ◌≤◌, ◌^◌, Option, None, Some, List, [], ◌∷◌, ◌++◌, length, map, drop, drop-cons, get_or, add-one, slice_get, All, refl, ap, sym, subst, ◌∙◌, append_assoc, append-nil, length-append, arith}
+use Rattle.std.proofs.Common.{◌≡◌, ℕ, zero, suc, ◌+◌, ◌<◌, ◌≤◌, Some, List, [], ◌∷◌, ◌++◌, length, map, drop, drop-cons, get_or, add-one, slice_get, All, refl, ap, sym, subst, ◌∙◌, append_assoc, append-nil, length-append, arith}
 use Rattle.std.proofs.lemmas.List.{get_or_append_left, get_or-append-add}
 use Rattle.std.proofs.Math.ListN.{drop_of_length-le}
 use Rattle.std.proofs.lemmas.Option.{get_or_from_slice_get, slice_get_within}
@@ -81,9 +81,10 @@ holds_at P xs n x h e = subst P (get_or_from_slice_get xs n x x e) (h n x (slice
 pub is_body_of_script : (bodies : Bodies Block) (code : Bodies (List Op)) (n : ℕ) (body : Block) → code ≡ flat_form bodies → IsFlattenable bodies.all
     → slice_get bodies.all n ≡ Some body → IsBody code n body
 is_body_of_script bodies code n body e h at = record {
-    flat_form = ap (λ (c : Bodies (List Op)). slice_get c.all n) e ∙ slice_get-map_flat bodies.all n body at;
-    short = holds_at (λ body. step_count body ≤ 65536) bodies.all n body h.short at;
-    nested = holds_at (λ body. nesting body ≤ 15) bodies.all n body h.nested at }
+  flat_form = ap (λ (c : Bodies (List Op)). slice_get c.all n) e ∙ slice_get-map_flat bodies.all n body at;
+  short = holds_at (λ body. step_count body ≤ 65536) bodies.all n body h.short at;
+  nested = holds_at (λ body. nesting body ≤ 15) bodies.all n body h.nested at;
+}
 
 -- Of a script's declarations, all but these are taken.
 pub record Opens (decls : List Decl) (code : Bodies (List Op)) (left : List Decl) : Type 0 where
@@ -106,13 +107,14 @@ opens_at_first decls h =
     record {
       taken = with_decls-flat_form decls no_bodies;
       room = omega (arith, ap length e);
-      short = subst (All (λ body. step_count body ≤ 65536)) e h.short }
+      short = subst (All (λ body. step_count body ≤ 65536)) e h.short;
+    }
 
 pub opens_empty : (decls items : List Decl) (code : Bodies (List Op)) → IsFlattenable (bodies_of decls).all → items ≡ decls
     → code.all ≡ [] → code.threads ≡ [] → code.handlers ≡ [] → code.cleanups ≡ [] → Opens decls code items
 opens_empty decls items code h e all threads handlers cleanups =
     subst (λ code. Opens decls code items) (sym (empty_code code all threads handlers cleanups))
-      (subst (Opens decls no_bodies) (sym e) (opens_at_first decls h))
+    (subst (Opens decls no_bodies) (sym e) (opens_at_first decls h))
 
 All-front : (P : Block → Type 0) (xs ys : List Block) → All P (xs ++ ys) → All P xs
 All-front P xs ys h =
@@ -139,7 +141,8 @@ opens_next decls items code i d h past at =
     record {
       room = omega (arith, ap length split, length-append (body_list d) (bodies_in (drop (i + 1) items)));
       short = All-front (λ body. step_count body ≤ 65536) (body_list d) (bodies_in (drop (i + 1) items))
-        (subst (All (λ body. step_count body ≤ 65536)) split h.short) }
+          (subst (All (λ body. step_count body ≤ 65536)) split h.short);
+    }
 
 length-with_decl : (decl : Decl) (code : Bodies (List Op)) → length (with_decl (flat 0) decl code).all ≡ length code.all + length (body_list decl)
 length-with_decl (Named name (Thread policy start body)) code = length-append code.all (flat 0 body ∷ [])
@@ -164,7 +167,8 @@ opens_more decls items code new i d h past at e =
       taken = ap (with_decls (flat 0) (drop (i + 1) items)) e ∙ (ap (λ ds. with_decls (flat 0) ds code) (sym split) ∙ h.taken);
       room = omega (arith, ap length bodies, length-append (body_list d) (bodies_in (drop (i + 1) items)));
       short = All-back (λ body. step_count body ≤ 65536) (body_list d) (bodies_in (drop (i + 1) items))
-        (subst (All (λ body. step_count body ≤ 65536)) bodies h.short) }
+          (subst (All (λ body. step_count body ≤ 65536)) bodies h.short);
+    }
 
 -- the body of a declaration is short
 pub short_body : (decl : Decl) (body : Block) → body_list decl ≡ body ∷ [] → All (λ body. step_count body ≤ 65536) (body_list decl) → step_count body ≤ 65536

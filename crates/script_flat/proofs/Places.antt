@@ -1,13 +1,12 @@
 -- A place of a tree in the flat code: the operations ahead of it, and what they come to.
-use Rattle.std.proofs.Common.{◌≡◌, ℕ, zero, suc, ◌+◌, Option, None, Some, Bool, List, [], ◌∷◌, ◌++◌, length, drop, refl, ap, sym, ◌∙◌, append_assoc, length-append, arith, add-zero}
+use Rattle.std.proofs.Common.{◌≡◌, ℕ, zero, suc, ◌+◌, None, Some, List, [], ◌∷◌, ◌++◌, length, drop, refl, ap, sym, ◌∙◌, append_assoc, length-append, arith}
 use Rattle.std.proofs.Math.Seq.{drop-append_seam}
 use Rattle.script_tree.specs.Block.{Block, Nothing, Running, Making, Setting, Adding, Taking, Testing, Looping, Guarding}
 use Rattle.script_tree.specs.declared.call.Call.TheVariants as call
 use Rattle.script_flat.specs.declared.cursor.Cursor.{Cursor}
 use Rattle.script_flat.specs.declared.op.Op.{Op}
 use Rattle.script_flat.specs.declared.op.Op.TheVariants as op
-use Rattle.script_flat.specs.declared.unit.Unit as unit
-use Rattle.script_flat.specs.Next.{Place, At, In, Outcome, rest_of, steps_from, from_head, from_inside, from_place}
+use Rattle.script_flat.specs.Next.{Place, At, In, rest_of, steps_from, from_head, from_inside, from_place}
 use Rattle.script_flat.specs.Flat.{flat, op_number}
 use Rattle.script_flat.specs.Fetch.{found_in}
 use Rattle.script_flat.specs.Stands.{head_ops, step_at, number_inside, op_at, counts_inside, counts_at}

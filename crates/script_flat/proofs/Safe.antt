@@ -1,6 +1,6 @@
 -- The search through the operations of a body is safe: a test passes over no more operations than there are, and the counted loops
 -- round an operation are those that have passes left.
-use Rattle.std.proofs.Common.{◌≡◌, ℕ, zero, suc, ◌+◌, ◌-◌, ◌≤◌, ◌<◌, ◌^◌, ◌*◌, max, Option, None, Some, Bool, true, false, if◌then◌else◌, List, [], ◌∷◌, ◌++◌, length, drop, take, refl, ap, sym, subst, ◌∙◌, append_assoc, append-nil, length-append, length-take, length-drop, get_or, drop-cons, add-one, arith, add-zero}
+use Rattle.std.proofs.Common.{◌≡◌, ℕ, zero, suc, ◌+◌, ◌-◌, ◌≤◌, ◌<◌, ◌*◌, Option, None, Some, Bool, true, false, if◌then◌else◌, List, [], ◌∷◌, ◌++◌, length, drop, refl, ap, sym, subst, ◌∙◌, append_assoc, append-nil, length-append, length-take, length-drop, get_or, drop-cons, add-one, arith, add-zero}
 use Rattle.std.proofs.lemmas.List.{drop-drop}
 use Rattle.std.proofs.Math.ListN.{drop_of_length-le}
 use Rattle.std.proofs.Math.Seq.{drop-append_seam}
@@ -17,10 +17,10 @@ use Rattle.script_flat.specs.declared.unit.Unit.TheVariants.{Finish}
 use Rattle.script_flat.specs.Next.{Place, At, In, rest_of, steps_from, holds}
 use Rattle.script_flat.specs.Flat.{Bodies, flat, op_number, nesting}
 use Rattle.script_flat.specs.Fetch.{moved_on, innermost, outer, after_pass, carried_out, or_search, found_in, ops_of}
-use Rattle.script_flat.specs.Stands.{head_ops, step_at, op_at, counts_inside, counts_at, IsBody, Stands, IsPlaced}
+use Rattle.script_flat.specs.Stands.{step_at, op_at, counts_inside, counts_at, IsPlaced}
 use Rattle.script_flat.specs.Ready.{open_loops, IsSafe, IsReady}
-use Rattle.script_flat.proofs.Lands.{placed, length-flat, found_in-append, forever_ops, loop_ops}
-use Rattle.script_flat.proofs.Places.{ops_inside, ops_from, drop-flat, Behind, behind-place}
+use Rattle.script_flat.proofs.Lands.{length-flat, forever_ops, loop_ops}
+use Rattle.script_flat.proofs.Places.{ops_inside, ops_from, drop-flat, behind-place}
 use Rattle.script_flat.proofs.Agrees.{ops_of-body}
 
 pub IsSafe-tail : (o : Op) (ops : List Op) → IsSafe (o ∷ ops) → IsSafe ops

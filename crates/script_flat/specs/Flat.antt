@@ -1,12 +1,11 @@
 -- The flat form of a script: the operations of each body, one after another. This project's own.
-use Rattle.std.specs.Prelude.{ℕ, ◌+◌, ◌≤◌, ◌<◌, ◌^◌, max, Option, None, Some, List, [], ◌∷◌, ◌++◌, length, map, All}
+use Rattle.std.specs.Prelude.{ℕ, ◌+◌, ◌≤◌, ◌^◌, max, None, Some, List, [], ◌∷◌, ◌++◌, length, map, All}
 use Rattle.script_tree.specs.Block.{Block, Nothing, Running, Making, Setting, Adding, Taking, Testing, Looping, Guarding}
 use Rattle.script_tree.specs.Tree.{step_count}
 use Rattle.script_tree.specs.declared.call.Call.TheVariants as call
 use Rattle.script_tree.specs.declared.decl.Decl.{Decl}
-use Rattle.script_tree.specs.declared.decl.Decl.TheVariants.{Named, Action}
-use Rattle.script_tree.specs.declared.decl.Kind.{Kind}
-use Rattle.script_tree.specs.declared.decl.Kind.TheVariants.{Thread, Handler, Cleanup, Mutex, Cond, Sem, Queue, Timer}
+use Rattle.script_tree.specs.declared.decl.Decl.TheVariants.{Named}
+use Rattle.script_tree.specs.declared.decl.Kind.TheVariants.{Thread, Handler, Cleanup}
 use Rattle.script_flat.specs.declared.op.Op.{Op}
 use Rattle.script_flat.specs.declared.op.Op.TheVariants.{Run, Make, Set, Add, Take, Test, Begin, Repeat, Again}
 

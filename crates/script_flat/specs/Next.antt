@@ -1,5 +1,5 @@
 -- The next unit of a body, by cases on its tree of steps. Task bodies are this project's own: the standard has none.
-use Rattle.std.specs.Prelude.{ℕ, zero, suc, ◌+◌, ◌*◌, ◌^◌, ◌==◌, min, Option, None, Some, Bool, true, false, if◌then◌else◌}
+use Rattle.std.specs.Prelude.{ℕ, zero, suc, ◌+◌, ◌*◌, ◌^◌, ◌==◌, min, Option, None, Some, Bool, if◌then◌else◌}
 use Rattle.std.specs.Bool.{beq}
 use Rattle.tick_num.specs.declared.res.Res.{Res}
 use Rattle.tick_num.specs.declared.res.Res.TheVariants as res

@@ -1,11 +1,11 @@
 -- Which cursors of the flat code stand for which places of a tree.
-use Rattle.std.specs.Prelude.{ℕ, zero, suc, ◌≡◌, ◌+◌, ◌≤◌, Option, None, Some, List, [], ◌∷◌, ◌++◌, slice_get}
-use Rattle.script_tree.specs.Block.{Block, Nothing, Running, Making, Setting, Adding, Taking, Testing, Looping, Guarding}
+use Rattle.std.specs.Prelude.{ℕ, zero, suc, ◌≡◌, ◌+◌, ◌≤◌, None, Some, List, [], ◌∷◌, ◌++◌, slice_get}
+use Rattle.script_tree.specs.Block.{Block, Nothing, Testing, Looping, Guarding}
 use Rattle.script_tree.specs.Tree.{step_count}
 use Rattle.script_flat.specs.declared.cursor.Cursor.{Cursor}
 use Rattle.script_flat.specs.declared.op.Op.{Op}
 use Rattle.script_flat.specs.declared.unit.Unit as unit
-use Rattle.script_flat.specs.Next.{Place, At, In, Next, next, rest_of, steps_from, register_limit}
+use Rattle.script_flat.specs.Next.{Place, At, In, next, rest_of, steps_from, register_limit}
 use Rattle.script_flat.specs.Flat.{Bodies, flat, op_number, nesting}
 
 -- how many operations the first step of a block has

@@ -190,6 +190,15 @@ fn search(ops: &[Op], at: &Cursor) -> (Cursor, Unit)
 }
 
 impl Cursor {
+    // Jumps back.
+    fn jump(&mut self, first: u32) -> Effect
+        ensures place { self.new ≡ record self.old { pc = first } }
+        ensures unit { result ≡ Effect.Gives Unit.Jump }
+    {
+        self.pc = first;
+        Effect::Gives(Unit::Jump)
+    }
+
     // The end of a pass of the innermost counted loop.
     fn end_pass(&mut self, first: u32) -> Effect
         requires { length self.old.counts.items ≤ 15 }
@@ -198,8 +207,7 @@ impl Cursor {
         match self.counts.pop() {
             Some(passes) if passes > 1 => {
                 self.counts.push(passes - 1);
-                self.pc = first;
-                Effect::Gives(Unit::Jump)
+                self.jump(first)
             }
             _ => Effect::Skips(0),
         }
@@ -237,10 +245,7 @@ impl Cursor {
                 Effect::Skips(0)
             }
             Op::Repeat { first } => self.end_pass(first),
-            Op::Again { first } => {
-                self.pc = first;
-                Effect::Gives(Unit::Jump)
-            }
+            Op::Again { first } => self.jump(first),
         }
     }
 }

@@ -1,4 +1,4 @@
-use Rattle.std.proofs.Common.{rules, ◌<◌, length, sym, ltb→lt}
+use Rattle.std.proofs.Common.{rules}
 use Rattle.script_flat.proofs.Safe.{search_goes_on}
 use Rattle.script_flat.proofs.code.search.Goals as goal
 

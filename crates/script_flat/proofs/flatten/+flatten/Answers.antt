@@ -1,4 +1,4 @@
-use Rattle.std.proofs.Common.{rules, arith, ◌≡◌, ◌+◌, ◌-◌, ◌<◌, slice_set, length, ap, length-append, ◌∙◌, sym, ◌++◌, ◌∷◌, []}
+use Rattle.std.proofs.Common.{rules, arith, ◌≡◌, ◌-◌, slice_set, length, ap, length-append, ◌∙◌, sym, ◌++◌, ◌∷◌, []}
 use Rattle.script_tree.specs.Tree.{block_of}
 use Rattle.script_flat.specs.declared.op.Op.{Op}
 use Rattle.script_flat.specs.declared.op.Op.TheVariants as op
@@ -11,14 +11,16 @@ pub flatten-flatten_step-requires : goal.flatten-flatten_step-requires
 flatten-flatten_step-requires t c =
     let steps = c.steps-step-items.result.now in
     let deep = deep-at c.steps-step-items.result.now c.loop-step.step-index c.step-item.result c.loop-step-test.true c.step-item.is in
-    let all = ap op_number c.steps-step-items.ensures in
-    (search rules, room_for c.args.ops.now.items c.steps-step-items.result.now c.loop-step.ops.items c.loop-step.step-index c.step-item.result _
-      c.loop-step.invariant c.loop-step-test.true c.step-item.is (omega arith))
+    let all = ap op_number c.steps-step-items.ensures in (
+      search rules,
+      room_for c.args.ops.now.items c.steps-step-items.result.now c.loop-step.ops.items c.loop-step.step-index c.step-item.result _
+          c.loop-step.invariant c.loop-step-test.true c.step-item.is (omega arith),
+    )
 
 pub flatten-loop-step-preserved : goal.flatten-loop-step-preserved
 flatten-loop-step-preserved t c =
     flattens_more c.args.ops.now.items c.steps-step-items.result.now c.loop-step.ops.items c.flatten_step.new.ops.items c.loop-step.step-index
-      c.step-item.result c.loop-step.invariant c.loop-step-test.true c.step-item.is c.in_ok-flatten_step.ensures
+    c.step-item.result c.loop-step.invariant c.loop-step-test.true c.step-item.is c.in_ok-flatten_step.ensures
 
 pub flatten_step-overflow_cast-skip : goal.flatten_step-overflow_cast-skip
 flatten_step-overflow_cast-skip t c =
@@ -35,5 +37,5 @@ flatten_step-returns-in_ok-flatten-in-Test t c =
     ap (λ n. slice_set c.flatten.new.ops.items n (op.Test c.in-Test.res c.in-Test.equal ((c.len.result - n) - 1))) at
     ∙ (ap (λ n. slice_set c.flatten.new.ops.items (length c.args.ops.now.items) (op.Test c.in-Test.res c.in-Test.equal ((n - length c.args.ops.now.items) - 1))) len
     ∙ (test_done c.args.ops.now.items c.append-in-Test.new.ops.items c.flatten.new.ops.items _ c.in-Test.res c.in-Test.equal c.in-Test.body
-        c.in_ok-append-in-Test.ensures c.in_ok-flatten-in-Test.ensures
+    c.in_ok-append-in-Test.ensures c.in_ok-flatten-in-Test.ensures
     ∙ ap (λ s. c.args.ops.now.items ++ flat (length c.args.ops.now.items) (block_of (s ∷ []))) (sym c.in-Test.is)))

@@ -1,6 +1,4 @@
-use Rattle.std.proofs.Common.{◌≡◌, ◌+◌, ◌++◌, length, drop}
-use Rattle.script_tree.specs.Tree.{block_of}
-use Rattle.script_flat.specs.Flat.{flat, op_number}
+use Rattle.std.proofs.Common.{drop}
 use Rattle.script_flat.proofs.Flattens.{Flattens}
 use Rattle.script_flat.proofs.flatten.+flatten.Given as goal
 

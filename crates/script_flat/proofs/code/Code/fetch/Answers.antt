@@ -1,5 +1,5 @@
-use Rattle.std.proofs.Common.{arith, ap, ◌∙◌, sym, subst, length, drop, ◌≡◌, ◌≤◌}
-use Rattle.script_flat.specs.Fetch.{ops_of, fetched, found_in}
+use Rattle.std.proofs.Common.{arith, ap, ◌∙◌, sym, subst, length, drop}
+use Rattle.script_flat.specs.Fetch.{found_in}
 use Rattle.script_flat.specs.Ready.{IsReady}
 use Rattle.script_flat.proofs.Agrees.{fetches, stays_placed}
 use Rattle.script_flat.proofs.Safe.{placed_ready, placed_within}

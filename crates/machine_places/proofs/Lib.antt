@@ -1,0 +1,5 @@
+pub mod CarriedReads
+pub mod CarriedEffects
+pub mod CarriedCalls
+pub mod CarriedTicks
+pub mod CarriedTrace

@@ -1,0 +1,99 @@
+-- The instant counts the ticks: an item leaves it, a tick moves it by one, and a process that has ended stays as it is.
+use Rattle.std.proofs.Common.{Bool, List, None, Option, Some, [], ap, arith, false, refl, suc, sym, true, zero, ℕ, ◌+◌, ◌∷◌, ◌≡◌}
+use Rattle.std.specs.Prelude.{◌&&◌, if◌then◌else◌}
+use mathlib.Core.Path.{subst, ◌∙◌}
+use Rattle.tick_num.specs.declared.item.Item.{Item}
+use Rattle.tick_num.specs.declared.item.Item.TheVariants as item
+use Rattle.tick_num.specs.declared.res.Res.TheVariants as res
+use Rattle.script_tree.specs.declared.decl.Script.{Script}
+use Rattle.pse52_trace.specs.declared.event.Event.{Event}
+use Rattle.pse52_trace.specs.declared.event.Event.TheVariants as event
+use Rattle.sporadic_server.specs.Server.{ServerState, oldest_pending, refill}
+use Rattle.machine_rules.specs.declared.thread.CondEnd.TheVariants as cond_end
+use Rattle.machine_rules.specs.Bodies.{Bodies}
+use Rattle.machine_rules.specs.State.{Machine, Wait, Waiting, for_condition, for_end, for_message, for_mutex, for_mutex_again, for_room, for_semaphore, for_signal, for_time}
+use Rattle.machine_rules.specs.Threads.{can_run, thread_at, timer_at, waiting_of}
+use Rattle.machine_rules.specs.Turns.{Turn, changes, changes_timer, settles_since, tells, turn_of}
+use Rattle.machine_rules.specs.Servers.{amount_of, refills_for, regains_high, with_server}
+use Rattle.machine_rules.specs.Timers.{is_pending_from, overrun_once_more, record_of_timer, signals_expiry}
+use Rattle.machine_rules.specs.DueItems.{due_items, first_item, handles, instant, item_bound, item_done, item_then, items_done, next_item, times_out, times_out_of}
+use Rattle.machine_rules.specs.Dispatch.{dispatch_event, dispatches, head, is_same, tells_unless}
+use Rattle.machine_rules.specs.Ticks.{goes_on, runs_head, tick, unless_killed}
+use Rattle.machine_rules.specs.Runs.{Ran, follow, opening, tick_of, ticks}
+use Rattle.machine_rules.proofs.Kept.{Kept, activates_if_kept, if_kept, kept, wakes_kept}
+use Rattle.machine_rules.proofs.KeptByCalls.{contends_kept, generates_kept, starts_kept}
+use Rattle.machine_rules.proofs.Instants.{runs_now, sweeps_now}
+
+-- ---- an item leaves the instant
+
+refills_for_kept : {P : Type 0} (t : ℕ) (server : Option ServerState) (s : Turn P) → kept (refills_for t server s) ≡ kept s
+refills_for_kept t None s = refl
+refills_for_kept t (Some server) s =
+    let e = event.Refill t (amount_of (oldest_pending server)) (refill server).capacity in
+    activates_if_kept (regains_high server && can_run s.machine t) t (tells e (changes t (with_server refill) s))
+
+times_out_of_kept : {P : Type 0} (wait : Wait) (t : ℕ) (s : Turn P) → kept (times_out_of wait t s) ≡ kept s
+times_out_of_kept (for_condition c k) t s = contends_kept t cond_end.Timedout s
+times_out_of_kept for_time t s = wakes_kept t res.Zero 0 s
+times_out_of_kept (for_signal set) t s = wakes_kept t res.Again 0 s
+times_out_of_kept _ t s = wakes_kept t res.Timedout 0 s
+
+times_out_kept : {P : Type 0} (w : Option Waiting) (t : ℕ) (s : Turn P) → kept (times_out w t s) ≡ kept s
+times_out_kept None t s = refl
+times_out_kept (Some w) t s = times_out_of_kept w.wait t s
+
+signals_expiry_kept : {P : Type 0} (k : ℕ) (s : Turn P) → kept (signals_expiry k s) ≡ kept s
+signals_expiry_kept k s = if_kept (is_pending_from k s.machine) _ _ s refl (generates_kept (record_of_timer k (timer_at s.machine k)) s)
+
+tells_unless_kept : {P : Type 0} (b : Bool) (e : Event) (s : Turn P) → kept (tells_unless b e s) ≡ kept s
+tells_unless_kept true e s = refl
+tells_unless_kept false e s = refl
+
+dispatch_now : {P : Type 0} (to : Option ℕ) (s : Turn P) → (dispatches to s).machine.now ≡ s.machine.now
+dispatch_now to s = ap (λ (k : Kept). k.now) (tells_unless_kept (is_same s.machine.last to) (dispatch_event s.machine to) s)
+
+module _ {P : Type 0} (bodies : Bodies P) where
+  pub handles_kept : (i : Item) (s : Turn P) → kept (handles bodies i s) ≡ kept s
+  handles_kept (item.Refill t) s = refills_for_kept t (thread_at s.machine t).server s
+  handles_kept (item.Start t) s = starts_kept bodies t 0 s
+  handles_kept (item.Timeout t) s = times_out_kept (waiting_of s.machine t) t s
+  handles_kept (item.Timer k) s = signals_expiry_kept k s
+
+  item_done_now : (i : Item) (s : Turn P) → (item_done bodies i s).machine.now ≡ s.machine.now
+  item_done_now i s = sweeps_now bodies (settles_since s.machine (handles bodies i s)) ∙ ap (λ (k : Kept). k.now) (handles_kept i s)
+
+  item_then_now : (o : Option Item) (rest : Turn P → Turn P) → ((s : Turn P) → (rest s).machine.now ≡ s.machine.now) → (s : Turn P) →
+      (item_then bodies o rest s).machine.now ≡ s.machine.now
+  item_then_now None rest h s = refl
+  item_then_now (Some i) rest h s = h (item_done bodies i s) ∙ item_done_now i s
+
+  items_done_now : (most : ℕ) (s : Turn P) → (items_done bodies most s).machine.now ≡ s.machine.now
+  items_done_now zero s = refl
+  items_done_now (suc most) s = item_then_now (next_item s.machine) (items_done bodies most) (items_done_now most) s
+
+  pub instant_now : (s : Turn P) → (instant bodies s).machine.now ≡ s.machine.now
+  instant_now s = items_done_now (item_bound s.machine) s
+
+  -- ---- a tick moves it by one
+
+  unless_killed_now : (killed : Option ℕ) (s : Turn P) → killed ≡ None → (unless_killed killed (runs_head bodies) s).machine.now ≡ s.machine.now + 1
+  unless_killed_now None s e = runs_now bodies (head s.machine) (dispatches (head s.machine) s) ∙ ap (λ (n : ℕ). n + 1) (dispatch_now (head s.machine) s)
+  unless_killed_now (Some signal) s e = absurd (grind arith)
+
+  -- where no item of the instant ends the process
+  pub tick_now : (s : Turn P) → (instant bodies s).machine.killed ≡ None → (tick bodies s).machine.now ≡ s.machine.now + 1
+  tick_now s e =
+      let ready = instant bodies s in
+      unless_killed_now ready.machine.killed ready e ∙ ap (λ (n : ℕ). n + 1) (instant_now s)
+
+  -- ---- a process that has ended stays as it is
+
+  ended_items : (most : ℕ) (signal : ℕ) (s : Turn P) → s.machine.killed ≡ Some signal → items_done bodies most s ≡ s
+  ended_items zero signal s e = refl
+  ended_items (suc most) signal s e = ap (λ (o : Option ℕ). item_then bodies (first_item o (due_items s.machine)) (items_done bodies most) s) e
+
+  pub ended_stays : (signal : ℕ) (m : Machine P) → m.killed ≡ Some signal → tick_of bodies m ≡ record { machine = m; events = [] }
+  ended_stays signal m e =
+      let s = turn_of m in
+      ap (λ (x : Turn P). record { machine = (goes_on bodies x).machine; events = (goes_on bodies x).events }) (ended_items (item_bound m) signal s e)
+      ∙ ap (λ (o : Option ℕ). record { machine = (unless_killed o (runs_head bodies) s).machine; events = (unless_killed o (runs_head bodies) s).events }) e

@@ -1,0 +1,15 @@
+pub mod Reading
+pub mod Joined
+pub mod Kept
+pub mod KeptByCalls
+pub mod Instants
+pub mod ExecSame
+pub mod Standing
+pub mod SettledPlaces
+pub mod Coming
+pub mod ItemsEnd
+pub mod Examples
+pub mod Behind
+pub mod BehindCalls
+pub mod BehindTicks
+pub mod Counting

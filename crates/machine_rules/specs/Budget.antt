@@ -1,0 +1,159 @@
+-- The law of the budget: what the events of a run say of a sporadic thread's server. XSH 2.8.4 SCHED_SPORADIC; the law itself is
+-- this project's own.
+use Rattle.std.specs.Prelude.{All, Bool, List, None, Option, Some, [], drop, false, filter_map, length, map, max, suc, take, true, zero, ℕ, ◌≡◌, ◌≤◌, ◌+◌, ◌==◌, ◌&&◌, ◌∷◌, ◌++◌, if◌then◌else◌}
+use Rattle.std.specs.List.{sum}
+use Rattle.script_tree.specs.declared.call.Call.TheVariants as call
+use Rattle.script_flat.specs.declared.unit.Unit.{Unit}
+use Rattle.script_flat.specs.declared.unit.Unit.TheVariants as unit
+use Rattle.pse52_trace.specs.declared.event.Event.{Event}
+use Rattle.pse52_trace.specs.declared.event.Event.TheVariants as event
+use Rattle.pse52_trace.specs.Text.{Entry}
+use Rattle.sporadic_server.specs.declared.Replenish.{Replenish}
+use Rattle.sporadic_server.specs.Server.{ServerState, pending_total}
+use Rattle.machine_rules.specs.Bodies.{Bodies}
+use Rattle.machine_rules.specs.State.{Machine}
+use Rattle.machine_rules.specs.Threads.{lives, thread_at}
+use Rattle.machine_rules.specs.Turns.{Turn, turn_of, ◌▷◌}
+use Rattle.machine_rules.specs.Servers.{has_high}
+use Rattle.machine_rules.specs.DueItems.{instant}
+use Rattle.machine_rules.specs.Dispatch.{dispatches, head}
+use Rattle.machine_rules.specs.Units.{in_unit}
+use Rattle.machine_rules.specs.Runs.{tick_of, ticks}
+
+-- ---- the account of a server
+
+-- what is entered in it: a tick at the high priority, or an event of the thread, with its time
+pub data Posting : Type 0 where
+  used : Posting
+  activated : ℕ → Posting
+  -- the amount, and when it is due
+  planned : ℕ → Replenish → Posting
+  refilled : ℕ → ℕ → Posting
+
+abbrev pub posted_if : Bool → Posting → List Posting → List Posting
+posted_if true posting account = account ++ posting ∷ []
+posted_if false posting account = account
+
+-- An event of the thread is entered, and its start begins a new account.
+abbrev pub posted : ℕ → ℕ → Event → List Posting → List Posting
+posted t time (event.Start u) account = if u == t then [] else account
+posted t time (event.Activate u capacity) account = posted_if (u == t) (activated time) account
+posted t time (event.Plan u amount due) account = posted_if (u == t) (planned time (record { amount = amount; due = due })) account
+posted t time (event.Refill u amount capacity) account = posted_if (u == t) (refilled time amount) account
+posted t time other account = account
+
+abbrev pub all_posted : ℕ → List Entry → List Posting → List Posting
+all_posted t [] account = account
+all_posted t (e ∷ entries) account = all_posted t entries (posted t e.time e.event account)
+
+-- whether a unit gives the thread a new server: a setsched of it
+abbrev pub renews : ℕ → Unit → Bool
+renews t (unit.Make (call.Setsched u policy)) = u == t
+renews t other = false
+
+module _ {P : Type 0} (bodies : Bodies P) where
+  -- the machine as its head begins its tick: the items are handled, and the dispatch is made
+  abbrev pub at_dispatch : Machine P → Turn P
+  at_dispatch m = let ready = instant bodies (turn_of m) in ready ▷ dispatches (head ready.machine)
+
+  -- the tick of the head is entered, and a setsched of the thread begins a new account
+  abbrev pub posted_tick : ℕ → Option ℕ → Machine P → List Posting → List Posting
+  posted_tick t None m account = account
+  posted_tick t (Some u) m account =
+      if renews t (in_unit bodies (thread_at m u)).unit then (if lives m t then [] else account)
+      else posted_if (u == t && has_high (thread_at m t).server) used account
+
+  abbrev pub posted_unless_ended : Option ℕ → ℕ → Machine P → List Posting → List Posting
+  posted_unless_ended (Some signal) t m account = all_posted t (instant bodies (turn_of m)).events account
+  posted_unless_ended None t m account =
+      let begun = at_dispatch m in
+      all_posted t (drop (length begun.events) (tick_of bodies m).events) (posted_tick t (head begun.machine) begun.machine (all_posted t begun.events account))
+
+  -- the account after one tick more
+  abbrev pub ticked_account : ℕ → Machine P → List Posting → List Posting
+  ticked_account t m account = posted_unless_ended (instant bodies (turn_of m)).machine.killed t m account
+
+  -- the account of a thread's server after n ticks, since that server was new
+  abbrev pub account : ℕ → Machine P → ℕ → List Posting
+  account t start zero = []
+  account t start (suc n) = ticked_account t (ticks bodies n start).machine (account t start n)
+
+-- ---- what is read off an account
+
+abbrev pub used_one : Posting → ℕ
+used_one used = 1
+used_one (activated time) = 0
+used_one (planned time r) = 0
+used_one (refilled time amount) = 0
+
+abbrev pub high_ticks : List Posting → ℕ
+high_ticks account = sum (map used_one account)
+
+-- a plan, with the instant from which on it can be carried out: when it is due, or when it is made if that is later
+pub record Plan : Type 0 where
+  pub amount : ℕ
+  pub due : ℕ
+  pub from : ℕ
+
+abbrev pub plan_in : Posting → Option Plan
+plan_in used = None
+plan_in (activated time) = None
+plan_in (planned time r) = Some (record { amount = r.amount; due = r.due; from = max r.due time })
+plan_in (refilled time amount) = None
+
+abbrev pub plans_in : List Posting → List Plan
+plans_in account = filter_map plan_in account
+
+abbrev pub refill_amount : Posting → Option ℕ
+refill_amount used = None
+refill_amount (activated time) = None
+refill_amount (planned time r) = None
+refill_amount (refilled time amount) = Some amount
+
+abbrev pub refill_amounts : List Posting → List ℕ
+refill_amounts account = filter_map refill_amount account
+
+abbrev pub refill_time : Posting → Option ℕ
+refill_time used = None
+refill_time (activated time) = None
+refill_time (planned time r) = None
+refill_time (refilled time amount) = Some time
+
+abbrev pub refill_times : List Posting → List ℕ
+refill_times account = filter_map refill_time account
+
+-- The replenishments as they should have been planned: the high ticks since the last activation, one period after it.
+abbrev pub owed_since : ℕ → ℕ → ℕ → List Posting → List Replenish
+owed_since period count since [] = []
+owed_since period count since (used ∷ rest) = owed_since period (count + 1) since rest
+owed_since period count since (activated time ∷ rest) = owed_since period 0 time rest
+owed_since period count since (planned time r ∷ rest) = record { amount = count; due = since + period } ∷ owed_since period count since rest
+owed_since period count since (refilled time amount ∷ rest) = owed_since period count since rest
+
+abbrev pub owed : ℕ → List Posting → List Replenish
+owed period account = owed_since period 0 0 account
+
+abbrev pub replenishment_in : Plan → Replenish
+replenishment_in p = record { amount = p.amount; due = p.due }
+
+-- ---- the law
+
+pub record KeepsAccount (s : ServerState) (account : List Posting) : Type 0 where
+  -- the high ticks are the initial budget and all refilled amounts, but for the capacity
+  pub high : high_ticks account + s.capacity ≡ s.params.budget + sum (refill_amounts account)
+  -- the totals are those of the account
+  pub high_total : s.high_total ≡ high_ticks account
+  pub refilled_total : s.refilled_total ≡ sum (refill_amounts account)
+  -- the initial budget is the capacity, what is pending, and what is consumed
+  pub budget : s.capacity + pending_total s + s.consumed ≡ s.params.budget
+  -- what was refilled and what is pending is what was planned, in order
+  pub in_order : refill_amounts account ++ map (λ (r : Replenish). r.amount) s.pending ≡ map (λ (p : Plan). p.amount) (plans_in account)
+  -- each refill came when its plan was due, or at once where that had passed
+  pub on_time : refill_times account ≡ take (length (refill_times account)) (map (λ (p : Plan). p.from) (plans_in account))
+  -- each plan is of what was consumed since the activation, and due one period after it
+  pub as_owed : map replenishment_in (plans_in account) ≡ owed s.params.period account
+  pub not_empty : All (λ (p : Plan). 1 ≤ p.amount) (plans_in account)
+
+-- the law at instant n of a run from an opening state, of each live sporadic thread
+pub record KeepsBudgets {P : Type 0} (bodies : Bodies P) (start : Machine P) (n : ℕ) : Type 0 where
+  pub each : (t : ℕ) (s : ServerState) → (thread_at (ticks bodies n start).machine t).server ≡ Some s → KeepsAccount s (account bodies t start n)

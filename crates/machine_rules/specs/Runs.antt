@@ -1,0 +1,55 @@
+-- A run: the opening state, and n ticks from it.
+use Rattle.std.specs.Prelude.{List, None, [], map, suc, zero, ℕ, ◌++◌}
+use Rattle.script_tree.specs.declared.decl.Script.{Script}
+use Rattle.pse52_trace.specs.Text.{Entry}
+use Rattle.ready_lists.specs.Lists.{empty_lists}
+use Rattle.machine_rules.specs.declared.dispatch.LastDispatch.TheVariants as last
+use Rattle.machine_rules.specs.Bodies.{Bodies}
+use Rattle.machine_rules.specs.State.{Machine, Thread, dormant}
+use Rattle.machine_rules.specs.Threads.{no_thread}
+use Rattle.machine_rules.specs.Declarations.{ThreadDecl, actions_of, mutexes_of, queues_of, semaphores_of, threads_of, timers_of}
+use Rattle.machine_rules.specs.Turns.{Turn, turn_of}
+use Rattle.machine_rules.specs.Ticks.{tick}
+
+-- a dormant thread, with nothing masked and cancellation enabled
+abbrev pub thread_opened : {P : Type 0} → ThreadDecl → Thread P
+thread_opened d = record no_thread { status = dormant d.start; policy = d.policy }
+
+-- All threads are dormant, all mutexes free, and nothing is pending.
+abbrev pub opening : {P : Type 0} → Script → Machine P
+opening script = record {
+  now = 0;
+  last = last.NoTick;
+  next_serial = 0;
+  killed = None;
+  quantum = script.quantum;
+  lists = empty_lists;
+  threads = map thread_opened (threads_of script);
+  mutexes = mutexes_of script;
+  semaphores = semaphores_of script;
+  queues = queues_of script;
+  timers = timers_of script;
+  actions = actions_of script;
+  pending = [];
+}
+
+-- what came of some ticks: the machine after them, and what happened
+pub record Ran (P : Type 0) : Type 0 where
+  pub machine : Machine P
+  pub events : List Entry
+
+abbrev pub ran : {P : Type 0} → Turn P → Ran P
+ran s = record { machine = s.machine; events = s.events }
+
+-- some ticks, and more from the machine that they leave
+abbrev pub follow : {P : Type 0} → Ran P → (Machine P → Ran P) → Ran P
+follow first more = let second = more first.machine in record { machine = second.machine; events = first.events ++ second.events }
+
+module _ {P : Type 0} (bodies : Bodies P) where
+  abbrev pub tick_of : Machine P → Ran P
+  tick_of m = ran (tick bodies (turn_of m))
+
+  -- n ticks
+  abbrev pub ticks : ℕ → Machine P → Ran P
+  ticks zero m = record { machine = m; events = [] }
+  ticks (suc n) m = follow (ticks n m) tick_of

@@ -1,0 +1,18 @@
+//! The list machine as definitions, in specs/: what the simulator does at each tick, for every call and every due item.
+//! docs/MACHINE.md explains them. Code and definitions share the plain words of this crate.
+#![tactic(auto)]
+
+mod call;
+mod dispatch;
+mod frame;
+mod signal;
+mod thread;
+
+pub use call::{call_name, is_cancellation_point};
+pub use dispatch::LastDispatch;
+pub use frame::{BodyOf, FrameKind};
+pub use signal::SigAction;
+pub use thread::{CondEnd, ThreadState, WaitKind};
+
+#[cfg(test)]
+mod tests;

@@ -1,0 +1,10 @@
+// What signals do.
+use tick_num::ObjId;
+
+/// The action of a signal, fixed by the script: `SIG_DFL`, which ends the process, `SIG_IGN`, or a signal-catching function.
+#[derive(Clone, Copy, Debug, PartialEq, Eq)]
+pub enum SigAction {
+    Kill,
+    Ignore,
+    Handler(ObjId),
+}

@@ -1,0 +1,75 @@
+-- What the tool answers to the words of the command line and the bytes of the source.
+use Rattle.std.specs.Prelude.{ℕ, ◌≡◌, nat_lt, if◌then◌else◌, List, [], ◌∷◌, ◌++◌, length, codes, decimal, Option, None, Some, Result, Ok, Err}
+use Rattle.std.specs.Io.KnownBytes.{Appends, Keeps}
+use Rattle.rt_io.specs.Causes.{Rose}
+use Rattle.rt_io.specs.Bytes.{AppendsPart}
+use Rattle.script_tree.specs.declared.decl.Script.{Script}
+use Rattle.script_table.specs.Faults.{Fault, number_of, name_of}
+use Rattle.script_table.specs.Table.{patterns}
+use Rattle.script_table.specs.Read.{read}
+use Rattle.list_machine.specs.Tree.{trace}
+use Rattle.pse52_tool.specs.declared.status.Status.{Status}
+use Rattle.pse52_tool.specs.declared.status.Status.TheVariants.{Done, Usage, Refused, TooLong, ReadFault, WriteFault, OutOfMemory}
+use Rattle.pse52_tool.specs.Command.{command}
+
+-- a status, and the text that goes with it
+pub record Answer : Type 0 where
+  pub status : Status
+  pub text : List ℕ
+
+-- how many bytes a script may have
+abbrev pub script_limit : ℕ
+script_limit = 1_048_576
+
+abbrev pub usage_line : List ℕ
+usage_line = codes "usage: pse52 COMMAND NUMBERS\n"
+
+abbrev pub too_long_line : List ℕ
+too_long_line = codes "too long\n"
+
+-- the line of a fault: where it is, and its number and its name
+abbrev pub refused_line : ℕ → ℕ → List ℕ → List ℕ
+refused_line line number name = codes "refused " ++ decimal line ++ codes " " ++ decimal number ++ codes " " ++ name ++ codes "\n"
+
+abbrev pub fault_line : Fault → List ℕ
+fault_line f = refused_line f.line (number_of f.kind) (name_of f.kind)
+
+-- a script is run, and a text that is none is refused
+abbrev pub run_answer : ℕ → Result Script Fault → Answer
+run_answer n (Err fault) = record { status = Refused; text = fault_line fault }
+run_answer n (Ok script) = record { status = Done; text = trace script n }
+
+abbrev pub command_answer : Option ℕ → List ℕ → Answer
+command_answer None bytes = record { status = Usage; text = usage_line }
+command_answer (Some n) bytes =
+    if nat_lt script_limit (length bytes) then record { status = TooLong; text = too_long_line }
+    else run_answer n (read patterns bytes)
+
+abbrev pub answer : List (List ℕ) → List ℕ → Answer
+answer words bytes = command_answer (command words) bytes
+
+-- What a status says of the sink's text: with a fault of reading and with want of memory nothing was written, with a
+-- fault of writing a part of the text due, and else it is the answer's status and all of its text.
+abbrev pub Told : Status → Answer → Option (List ℕ) → Option (List ℕ) → Type 0
+Told ReadFault a old new = Keeps old new
+Told OutOfMemory a old new = Keeps old new
+Told WriteFault a old new = AppendsPart old new a.text
+Told Done a old new = (a.status ≡ Done) × Appends old new a.text
+Told Usage a old new = (a.status ≡ Usage) × Appends old new a.text
+Told Refused a old new = (a.status ≡ Refused) × Appends old new a.text
+Told TooLong a old new = (a.status ≡ TooLong) × Appends old new a.text
+
+-- a fault of writing is told only where the sink's count rose, and nothing else raises it
+pub record SinkFaults (status : Status) (before now : ℕ) : Type 0 where
+  pub fault : status ≡ WriteFault → Rose before now
+  pub no_fault : (status ≡ WriteFault → ⊥) → now ≡ before
+
+-- a status that comes with one line
+abbrev pub IsLine : Status → Type 0
+IsLine Usage = Unit {0}
+IsLine Refused = Unit {0}
+IsLine TooLong = Unit {0}
+IsLine Done = ⊥
+IsLine ReadFault = ⊥
+IsLine WriteFault = ⊥
+IsLine OutOfMemory = ⊥

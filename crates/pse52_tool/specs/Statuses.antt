@@ -1,0 +1,13 @@
+-- The exit statuses of the program.
+use Rattle.std.specs.Prelude.{ℕ}
+use Rattle.pse52_tool.specs.declared.status.Status.{Status}
+use Rattle.pse52_tool.specs.declared.status.Status.TheVariants.{Done, Usage, Refused, TooLong, ReadFault, WriteFault, OutOfMemory}
+
+abbrev pub status_number : Status → ℕ
+status_number Done = 0
+status_number Usage = 1
+status_number Refused = 2
+status_number TooLong = 3
+status_number ReadFault = 4
+status_number WriteFault = 5
+status_number OutOfMemory = 6

@@ -1,0 +1,14 @@
+//! The tool: one call from the words and the bytes in to the trace out.
+#![tactic(auto)]
+
+mod command;
+mod message;
+mod status;
+mod tool;
+
+pub use rt_kernel::{Kernel, RunEnd};
+pub use status::Status;
+pub use tool::run_tool;
+
+#[cfg(test)]
+mod tests;

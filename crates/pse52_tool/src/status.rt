@@ -1,0 +1,40 @@
+// What became of a command.
+ghost use Rattle.std.specs.Prelude.{◌≡◌, ◌≤◌};
+ghost use Rattle.pse52_tool.specs.Statuses.{status_number};
+
+/// What became of a command, and with it the exit status of the program.
+#[derive(Clone, Copy, Debug, PartialEq, Eq)]
+pub enum Status {
+    /// The command was carried out to its end.
+    Done,
+    /// The words are no command.
+    Usage,
+    /// The script has a fault.
+    Refused,
+    /// The source has more than 1,048,576 bytes.
+    TooLong,
+    /// A read failed.
+    ReadFault,
+    /// A write failed.
+    WriteFault,
+    /// There was no memory; nothing was written.
+    OutOfMemory,
+}
+
+impl Status {
+    /// The exit status of the program, 0 to 6.
+    pub fn number(self) -> u8
+        ensures number { result ≡ status_number self }
+        ensures small { result ≤ 6 }
+    {
+        match self {
+            Status::Done => 0,
+            Status::Usage => 1,
+            Status::Refused => 2,
+            Status::TooLong => 3,
+            Status::ReadFault => 4,
+            Status::WriteFault => 5,
+            Status::OutOfMemory => 6,
+        }
+    }
+}

@@ -1,0 +1,184 @@
+// The top call.
+ghost use Rattle.std.specs.Prelude.{◌≡◌, ◌≤◌, ◌<◌, ◌^◌, ◌⊎◌, List, ℕ, Option, None, Some, true, false, Ok, length, map, string_bytes, IfSome, IsSome, OnOk, OnErr};
+ghost use Rattle.std.specs.Io.KnownBytes.{Appends, IsAtEnd};
+ghost use Rattle.rt_io.specs.Causes.{Rose, GrewBy};
+ghost use Rattle.pse52_trace.specs.Prints.{Prints};
+ghost use Rattle.script_table.specs.Table.{patterns};
+ghost use Rattle.script_table.specs.Read.{read};
+ghost use Rattle.list_machine.specs.Tree.{trace};
+ghost use Rattle.list_machine.specs.Runnable.{IsRunnable};
+ghost use Rattle.rt_kernel.specs.Simulated.{run_text};
+ghost use Rattle.pse52_tool.specs.Command.{command};
+ghost use Rattle.pse52_tool.specs.Answer.{answer, run_answer, usage_line, Told, SinkFaults, IsLine};
+
+use crate::Status;
+use crate::command::command;
+use crate::message::refused_line;
+use pse52_trace::Tracer;
+use rt_io::{ReadEnd, Sink, Source, read_whole};
+use rt_kernel::{Kernel, RunEnd};
+use std::alloc::{AllocError, Global};
+use std::sync::ledger::Ledger;
+use step_counter::Steps;
+use task_script::{Script, ScriptEnd, read_script};
+use tick_num::Tick;
+
+// How many bytes a script may have.
+const LIMIT: u64 = 1_048_576;
+
+// Runs a kernel from its first instant to the horizon, and prints the trace.
+fn run_kernel<K: Sink, L: Ledger>(
+    kernel: &mut Kernel,
+    horizon: Tick,
+    out: &mut Tracer<'_, K>,
+    steps: &mut Steps<L>,
+)
+    requires fresh { kernel.old.state.now ≡ 0 }
+    requires limit { horizon ≤ 10 ^ 18 }
+    requires unfailed { out.old.failed ≡ false }
+    ensures { Prints K.text K.faults out.old out.new (run_text kernel.old horizon) }
+{
+    match kernel.run_until(horizon, out, steps) {
+        RunEnd::Ended => kernel.report(out),
+        RunEnd::Stopped => return,
+    }
+}
+
+// Runs a script from its first instant to the horizon, and prints its trace. From the open kernel on, nothing takes memory.
+fn print_trace<K: Sink, L: Ledger>(
+    alloc: Global,
+    script: &Script,
+    horizon: Tick,
+    out: &mut Tracer<'_, K>,
+    steps: &mut Steps<L>,
+) -> Result<(), AllocError>
+    requires runnable { IsRunnable script.now }
+    requires limit { horizon ≤ 10 ^ 18 }
+    requires unfailed { out.old.failed ≡ false }
+    ensures printed { OnOk result (Prints K.text K.faults out.old out.new (trace script.now horizon)) }
+    ensures unchanged { OnErr result (out.new ≡ out.old) }
+{
+    let mut kernel = Kernel::open(alloc, script)?;
+    run_kernel(&mut kernel, horizon, out, steps);
+    Ok(())
+}
+
+// Runs a script and prints its trace.
+fn run_script<K: Sink, L: Ledger>(
+    alloc: Global,
+    script: &Script,
+    horizon: Tick,
+    sink: &mut K,
+    steps: &mut Steps<L>,
+) -> Status
+    requires runnable { IsRunnable script.now }
+    requires limit { horizon ≤ 10 ^ 18 }
+    ensures told { Told result (record { status = Status.Done; text = trace script.now horizon }) (K.text sink.old) (K.text sink.new) }
+    ensures faults { SinkFaults result (K.faults sink.old) (K.faults sink.new) }
+    ensures read { result ≡ Status.ReadFault → ⊥ }
+    ensures unchanged { result ≡ Status.OutOfMemory → sink.new ≡ sink.old }
+{
+    let mut out = Tracer::new(sink);
+    if print_trace(alloc, script, horizon, &mut out, steps).is_err() {
+        return Status::OutOfMemory;
+    }
+    if out.failed() {
+        Status::WriteFault
+    } else {
+        Status::Done
+    }
+}
+
+// Writes one line, and answers whether it was written.
+fn put_line<K: Sink>(sink: &mut K, text: &[u8], status: Status) -> Status
+    requires { IsLine status }
+    ensures status { (result ≡ status) ⊎ (result ≡ Status.WriteFault) }
+    ensures told { Told result (record { status = status; text = text.now }) (K.text sink.old) (K.text sink.new) }
+    ensures faults { SinkFaults result (K.faults sink.old) (K.faults sink.new) }
+    ensures read { result ≡ Status.ReadFault → ⊥ }
+    ensures memory { result ≡ Status.OutOfMemory → ⊥ }
+{
+    match sink.write(text) {
+        Ok(()) => status,
+        Err(_) => Status::WriteFault,
+    }
+}
+
+// Reads a script, runs it and prints its trace.
+fn run_text<K: Sink, L: Ledger>(
+    alloc: Global,
+    text: &[u8],
+    horizon: Tick,
+    sink: &mut K,
+    steps: &mut Steps<L>,
+) -> Status
+    requires short { length text.now ≤ 1_048_576 }
+    requires limit { horizon ≤ 10 ^ 18 }
+    ensures told { Told result (run_answer horizon (read patterns text.now)) (K.text sink.old) (K.text sink.new) }
+    ensures faults { SinkFaults result (K.faults sink.old) (K.faults sink.new) }
+    ensures read { result ≡ Status.ReadFault → ⊥ }
+    ensures unchanged { result ≡ Status.OutOfMemory → sink.new ≡ sink.old }
+{
+    match read_script(alloc, text) {
+        Ok(script) => run_script(alloc, &script, horizon, sink, steps),
+        Err(ScriptEnd::Fault(line, kind)) => {
+            let message = refused_line(line, kind);
+            put_line(sink, message.as_slice(), Status::Refused)
+        }
+        Err(ScriptEnd::OutOfMemory) => Status::OutOfMemory,
+    }
+}
+
+/// Carries out the command of the words: reads the source, and writes to the sink.
+///
+/// `run N` reads the source whole, at most 1,048,576 bytes, and runs its script to tick N; the text is the trace of the list
+/// machine. `Usage` comes exactly where the words are no command, whose decision takes no memory; then `ReadFault` or
+/// `TooLong`, by the bytes read; then `Refused`, where the script has a fault; then the run. `OutOfMemory` may come in place of
+/// any but `Usage`, before anything is written; a fault of the source or the sink is answered only where its count of faults
+/// rose in this call.
+pub fn run_tool<S: Source, K: Sink, L: Ledger>(
+    alloc: Global,
+    words: &[String],
+    source: &mut S,
+    sink: &mut K,
+    steps: &mut Steps<L>,
+) -> Status
+    // Where the source tells its bytes, the status and the text are those of the answer to the words and the bytes.
+    ensures told { IfSome (S.rest source.old) (λ bytes.
+        Told result (answer (map string_bytes words.now) bytes) (K.text sink.old) (K.text sink.new)) }
+
+    // The words decide alone whether there is a command.
+    ensures usage { result ≡ Status.Usage → command (map string_bytes words.now) ≡ None }
+    ensures usage_text { result ≡ Status.Usage → Appends (K.text sink.old) (K.text sink.new) usage_line }
+    ensures no_command { command (map string_bytes words.now) ≡ None
+        → ((result ≡ Status.Usage) ⊎ (result ≡ Status.WriteFault)) × (source.new ≡ source.old) }
+
+    // Too long means that one byte more than the limit was taken, and refused or done that all were.
+    ensures too_long { result ≡ Status.TooLong → GrewBy 1_048_577 (S.taken source.old) (S.taken source.new) }
+    ensures read_whole { (result ≡ Status.Refused) ⊎ (result ≡ Status.Done) → IsAtEnd (S.rest source.new) }
+
+    // A fault is answered only where it was counted, and no other is.
+    ensures read_fault { result ≡ Status.ReadFault → Rose (S.faults source.old) (S.faults source.new) }
+    ensures source_faults { (result ≡ Status.ReadFault → ⊥) → S.faults source.new ≡ S.faults source.old }
+    ensures sink_faults { SinkFaults result (K.faults sink.old) (K.faults sink.new) }
+
+    // A fault of reading and want of memory leave the sink as it was.
+    ensures unchanged { (result ≡ Status.ReadFault) ⊎ (result ≡ Status.OutOfMemory) → sink.new ≡ sink.old }
+
+    // Where nothing fails, the answer is given, or there was no memory.
+    ensures complete { (bytes : List ℕ) → S.rest source.old ≡ Some bytes
+        → (Rose (S.faults source.old) (S.faults source.new) → ⊥) → (Rose (K.faults sink.old) (K.faults sink.new) → ⊥)
+        → ((result ≡ (answer (map string_bytes words.now) bytes).status)
+        × Appends (K.text sink.old) (K.text sink.new) (answer (map string_bytes words.now) bytes).text)
+        ⊎ ((result ≡ Status.OutOfMemory) × IsSome (command (map string_bytes words.now)) × (sink.new ≡ sink.old)) }
+{
+    let Some(horizon) = command(words) else {
+        return put_line(sink, b"usage: pse52 COMMAND NUMBERS\n", Status::Usage);
+    };
+    match read_whole(alloc, source, LIMIT) {
+        Ok(bytes) => run_text(alloc, bytes.as_slice(), horizon, sink, steps),
+        Err(ReadEnd::ReadFault) => Status::ReadFault,
+        Err(ReadEnd::TooLong) => put_line(sink, b"too long\n", Status::TooLong),
+        Err(ReadEnd::OutOfMemory) => Status::OutOfMemory,
+    }
+}

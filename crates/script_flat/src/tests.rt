@@ -1,0 +1,189 @@
+// Small bodies and their units in order.
+ghost use Rattle.std.specs.Prelude.{◌≡◌, ◌≤◌, [], ◌∷◌, IfOk};
+ghost use Rattle.script_tree.specs.Block.{Nothing};
+ghost use Rattle.script_tree.specs.Tree.{step_count};
+ghost use Rattle.script_flat.specs.Flat.{nesting};
+ghost use Rattle.script_flat.specs.Stands.{IsBody, IsPlaced};
+
+use crate::{Code, Cursor, Unit};
+use script_tree::{Body, Call, Decl, Decls, Kind, Name, Policy, Script, Step};
+use std::alloc::Global;
+use std::test::Fail;
+use tick_num::{ObjId, Prio, Res, Tid};
+
+// The code of a script whose declarations are a thread, a handler and a cleanup handler with these bodies.
+fn code_of(alloc: Global, thread: Body, handler: Body, cleanup: Body) -> Result<Code, Fail>
+    requires short { (step_count thread ≤ 65536) × (step_count handler ≤ 65536) × (step_count cleanup ≤ 65536) }
+    requires nested { (nesting thread ≤ 15) × (nesting handler ≤ 15) × (nesting cleanup ≤ 15) }
+    ensures threads { IfOk result (λ code. code.threads ≡ 0 ∷ []) }
+    ensures handlers { IfOk result (λ code. code.handlers ≡ 1 ∷ []) }
+    ensures cleanups { IfOk result (λ code. code.cleanups ≡ 2 ∷ []) }
+    ensures bodies { IfOk result (λ code. IsBody code 0 thread × IsBody code 1 handler × IsBody code 2 cleanup) }
+{
+    let policy = Policy::Fifo(Prio::try_new(5).ok_or("no priority")?);
+    let a = Name::try_new(b"a").ok_or("no name")?;
+    let h = Name::try_new(b"h").ok_or("no name")?;
+    let u = Name::try_new(b"u").ok_or("no name")?;
+    let items = vec![in alloc;
+        Decl::Named(
+            a,
+            Kind::Thread {
+                policy,
+                start: Some(0),
+                body: thread
+            }
+        ),
+        Decl::Named(h, Kind::Handler { body: handler }),
+        Decl::Named(u, Kind::Cleanup { body: cleanup }),
+    ]?;
+    let decls = Decls::new(items);
+    let script = Script { quantum: 10, decls };
+    let code = Code::open(alloc, &script)?;
+    Ok(code)
+}
+
+// The first units from a cursor on, so many, where each call leaves that answer and that value, and then the register.
+fn units(
+    alloc: Global,
+    code: &Code,
+    from: Cursor,
+    answer: Res,
+    value: u64,
+    count: u8,
+) -> Result<(Vec<Unit>, u64), Fail>
+    requires { IsPlaced code.now from }
+{
+    let mut cursor = from;
+    let mut units = Vec::new(alloc);
+    for _ in 0..count {
+        let (next, unit) = code.fetch(&cursor);
+        units.extend_from_slice(&[unit])?;
+        cursor = next;
+        cursor.result = answer;
+        cursor.value = value;
+    }
+    Ok((units, cursor.register))
+}
+
+fn nothing(alloc: Global) -> Result<Body, Fail>
+    ensures { IfOk result (λ body. body ≡ Nothing) }
+{
+    let steps = vec![in alloc]?;
+    Ok(Body::new(steps))
+}
+
+// set 7; loop 2; run 1; end; yield; if 0; run 2; end; unless 0; run 9; end
+#[test]
+fn the_body_of_a_thread(rt: HostRuntime) -> Result<(), Fail> {
+    let alloc = rt.alloc();
+    let thread = Body::new(vec![in alloc;
+        Step::Set(7),
+        Step::Loop {
+            times: Some(2),
+            body: Body::new(vec![in alloc; Step::Run(1)]?)
+        },
+        Step::Make(Call::Yield),
+        Step::Test {
+            res: Res::Zero,
+            equal: true,
+            body: Body::new(vec![in alloc; Step::Run(2)]?)
+        },
+        Step::Test {
+            res: Res::Zero,
+            equal: false,
+            body: Body::new(vec![in alloc; Step::Run(9)]?)
+        },
+    ]?);
+    let code = code_of(alloc, thread, nothing(alloc)?, nothing(alloc)?)?;
+    let number = code.thread_body(Tid::default());
+    let (first, register) = units(alloc, &code, code.start(number, 0), Res::Zero, 0, 7)?;
+    assert_eq!(rt;
+        first.as_slice(),
+        [
+            Unit::Run(1),
+            Unit::Jump,
+            Unit::Run(1),
+            Unit::Make(Call::Yield),
+            Unit::Run(2),
+            Unit::Finish,
+            Unit::Finish
+        ]
+        .as_slice()
+    );
+    assert_eq!(rt; register, 7);
+
+    // after a call that timed out the other test holds
+    let (other, _) = units(alloc, &code, code.start(number, 0), Res::Timedout, 0, 6)?;
+    assert_eq!(rt;
+        other.as_slice(),
+        [
+            Unit::Run(1),
+            Unit::Jump,
+            Unit::Run(1),
+            Unit::Make(Call::Yield),
+            Unit::Run(9),
+            Unit::Finish
+        ]
+        .as_slice()
+    );
+    Ok(())
+}
+
+// forever; add 20; end, with the value of its signal, 5
+#[test]
+fn the_body_of_a_handler(rt: HostRuntime) -> Result<(), Fail> {
+    let alloc = rt.alloc();
+    let handler = Body::new(vec![in alloc;
+        Step::Loop {
+            times: None,
+            body: Body::new(vec![in alloc; Step::Add(20)]?)
+        },
+    ]?);
+    let code = code_of(alloc, nothing(alloc)?, handler, nothing(alloc)?)?;
+    let start = code.start(code.handler_body(ObjId::default()), 5);
+    let (first, register) = units(alloc, &code, start, Res::Zero, 0, 3)?;
+    assert_eq!(rt;
+        first.as_slice(),
+        [Unit::Jump, Unit::Jump, Unit::Jump].as_slice()
+    );
+    assert_eq!(rt; register, 65);
+    Ok(())
+}
+
+// loop 1; end; push u; take; run 3; pop 1; loop 3; end, after a call whose value is above the limit of a register
+#[test]
+fn the_body_of_a_cleanup_handler(rt: HostRuntime) -> Result<(), Fail> {
+    let alloc = rt.alloc();
+    let cleanup = Body::new(vec![in alloc;
+        Step::Loop {
+            times: Some(1),
+            body: nothing(alloc)?
+        },
+        Step::Guard {
+            cleanup: ObjId::default(),
+            body: Body::new(vec![in alloc; Step::Take, Step::Run(3)]?),
+            run: true
+        },
+        Step::Loop {
+            times: Some(3),
+            body: nothing(alloc)?
+        },
+    ]?);
+    let code = code_of(alloc, nothing(alloc)?, nothing(alloc)?, cleanup)?;
+    let start = code.start(code.cleanup_body(ObjId::default()), 0);
+    let (first, register) = units(alloc, &code, start, Res::Zero, 3_000_000_000_000_000_000, 6)?;
+    assert_eq!(rt;
+        first.as_slice(),
+        [
+            Unit::Make(Call::Push(ObjId::default())),
+            Unit::Run(3),
+            Unit::Make(Call::Pop(true)),
+            Unit::Jump,
+            Unit::Jump,
+            Unit::Finish
+        ]
+        .as_slice()
+    );
+    assert_eq!(rt; register, 2_000_000_000_000_000_000);
+    Ok(())
+}
