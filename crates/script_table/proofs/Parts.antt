@@ -1,10 +1,10 @@
 -- The first part of a word before a comma.
-use Rattle.std.proofs.Common.{◌≡◌, ◌≤◌, ◌<◌, ℕ, suc, ◌+◌, ◌-◌, List, [], ◌∷◌, length, take, drop, refl, sym, ◌∙◌, ap, subst, arith, Bool, true, false, not}
+use Rattle.std.proofs.Common.{◌≡◌, ◌≤◌, ◌<◌, ℕ, suc, ◌+◌, ◌-◌, List, [], ◌∷◌, length, take, drop, refl, sym, subst, arith, Bool, true, false, not}
 use Rattle.std.specs.Prelude.{◌==◌}
 use Rattle.std.proofs.Common.{length-drop}
 use Rattle.std.proofs.Math.Seq.{take-length}
 use Rattle.std.specs.List.{prefix_len}
-use Rattle.script_table.specs.Words.{parts_of, onto_part}
+use Rattle.script_table.specs.Words.{parts_of}
 
 abbrev len : List ℕ → ℕ
 len word = prefix_len (λ c. not (c == 44)) word

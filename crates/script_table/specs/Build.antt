@@ -1,4 +1,4 @@
--- The script that statements say.
+-- The script that statements say. This project's own.
 use Rattle.std.specs.Prelude.{ℕ, Bool, List, [], ◌∷◌, ◌++◌, Option, None, Some, unwrap_or, option_to_list}
 use Rattle.std.specs.Option.{option_map}
 use Rattle.script_tree.specs.Tree.{block_of}

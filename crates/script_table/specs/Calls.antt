@@ -1,5 +1,5 @@
--- The call that a line makes.
-use Rattle.std.specs.Prelude.{ℕ, List, true, false, Option, None, Some}
+-- The call that a line makes: the calls of IEEE 1003.1-2017 by this project's own words for them.
+use Rattle.std.specs.Prelude.{ℕ, List, true, false, Option, Some}
 use Rattle.std.specs.Option.{option_map}
 use Rattle.script_tree.specs.declared.call.Call.{Call}
 use Rattle.script_tree.specs.declared.call.Call.TheVariants as calls

@@ -1,4 +1,4 @@
--- The pattern of a line, and the faults of phase 1 that a line has by itself.
+-- The pattern of a line, and the faults of phase 1 that a line has by itself. This project's own.
 use Rattle.std.specs.Prelude.{ℕ, ◌&&◌, ◌||◌, Bool, true, false, if◌then◌else◌, List, [], ◌∷◌, Option, None, Some, is_some, find, option_to_list, ◌++◌}
 use Rattle.std.specs.Str.{bytes_eq}
 use Rattle.std.specs.List.{list_any}

@@ -1,4 +1,4 @@
--- What a line declares, and which step it is.
+-- What a line declares, and which step it is. This project's own.
 use Rattle.std.specs.Prelude.{ℕ, Bool, true, false, List, Option, None, Some}
 use Rattle.std.specs.Option.{option_map}
 use Rattle.tick_num.specs.declared.res.Res.{Res}

@@ -1,4 +1,4 @@
--- What the word at a place says, where it says what the place wants.
+-- What the word at a place says, where it says what the place wants. This project's own.
 use Rattle.std.specs.Prelude.{ℕ, ◌&&◌, nat_lt, nat_le, if◌then◌else◌, List, Option, None, Some}
 use Rattle.std.specs.Option.{option_map}
 use Rattle.tick_num.specs.Parameters.{Parameters}
@@ -9,7 +9,6 @@ use Rattle.script_tree.specs.declared.policy.Policy.TheVariants.{Fifo, Rr, Spora
 use Rattle.script_tree.specs.declared.call.Operand.{Operand}
 use Rattle.script_tree.specs.declared.call.Operand.TheVariants.{Num, Reg}
 use Rattle.script_table.specs.declared.pattern.NameKind.{NameKind}
-use Rattle.script_table.specs.declared.pattern.NameKind.TheVariants as kind
 use Rattle.script_table.specs.Words.{value_of, is_register, signal_of, set_of, answer_of}
 use Rattle.script_table.specs.Patterns.{same_kind, greatest}
 use Rattle.script_table.specs.Names.{Entry, entry_of}

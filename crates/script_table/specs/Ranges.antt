@@ -1,5 +1,5 @@
--- Ranges and limits: the faults of phase 3.
-use Rattle.std.specs.Prelude.{ℕ, ◌+◌, ◌-◌, ◌==◌, ◌<◌, ◌&&◌, ◌||◌, nat_lt, nat_le, min, not, Bool, true, false, if◌then◌else◌, List, [], ◌∷◌, ◌++◌, Option, None, Some}
+-- Ranges and limits: the faults of phase 3. The parameters of a server are those of IEEE 1003.1-2017, XSH 2.8.4; the limits are this project's own.
+use Rattle.std.specs.Prelude.{ℕ, ◌+◌, ◌-◌, ◌==◌, ◌&&◌, ◌||◌, nat_lt, nat_le, min, not, Bool, true, false, List, [], ◌∷◌, ◌++◌, Option, None}
 use Rattle.std.specs.List.{slice_index_or}
 use Rattle.script_table.specs.declared.fault.FaultKind.{FaultKind}
 use Rattle.script_table.specs.declared.fault.FaultKind.TheVariants.{NumberRange, TooMany, NoThread, ServerRange}
@@ -16,7 +16,7 @@ use Rattle.script_table.specs.declared.pattern.Closer.{Closer}
 use Rattle.script_table.specs.declared.pattern.Closer.TheVariants as closer
 use Rattle.script_table.specs.Faults.{Fault, faults_at, when}
 use Rattle.script_table.specs.Words.{value_of, is_register}
-use Rattle.script_table.specs.Patterns.{Spot, Keyword, Answer, Number, Operand, Declares, Uses, Signal, Acts, Signals, greatest}
+use Rattle.script_table.specs.Patterns.{Spot, Number, Operand, greatest}
 use Rattle.script_table.specs.LineFaults.{place_faults, unless}
 use Rattle.script_table.specs.Structure.{Said, body_kind, closer_of, closed_by}
 use Rattle.script_table.specs.Names.{Counts, no_counts, counted}

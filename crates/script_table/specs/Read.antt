@@ -1,4 +1,4 @@
--- The script of a text, or its least fault.
+-- The script of a text, or its least fault. This project's own.
 use Rattle.std.specs.Prelude.{ℕ, ◌+◌, List, [], ◌++◌, length, Option, None, Some, Result, Ok, Err}
 use Rattle.script_lex.specs.Lines.{lines_of}
 use Rattle.script_tree.specs.declared.decl.Script.{Script}

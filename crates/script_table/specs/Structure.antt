@@ -1,4 +1,4 @@
--- Blocks, statements, and the faults of phase 1.
+-- Blocks, statements, and the faults of phase 1. This project's own.
 use Rattle.std.specs.Prelude.{ℕ, ◌+◌, ◌≤◌, not, Bool, true, false, List, [], ◌∷◌, ◌++◌, Option, None, Some, option_to_list}
 use Rattle.std.specs.Option.{option_map}
 use Rattle.script_lex.specs.Words.{line_words, has_bad_byte}
@@ -6,8 +6,6 @@ use Rattle.script_table.specs.declared.fault.FaultKind.{FaultKind}
 use Rattle.script_table.specs.declared.fault.FaultKind.TheVariants.{BadByte, NotHere, StrayClose, Unclosed}
 use Rattle.script_table.specs.declared.form.Form.{Form}
 use Rattle.script_table.specs.declared.form.Form.TheVariants as form
-use Rattle.script_table.specs.declared.form.ObjectForm.{ObjectForm}
-use Rattle.script_table.specs.declared.form.ObjectForm.TheVariants as object
 use Rattle.script_table.specs.declared.form.BodyForm.{BodyForm}
 use Rattle.script_table.specs.declared.form.BodyForm.TheVariants as body
 use Rattle.script_table.specs.declared.form.BlockForm.{BlockForm}

@@ -1,5 +1,5 @@
 -- What a single word says: numbers, signals, sets of signals, answers of calls. Their spelling is this project's own.
-use Rattle.std.specs.Prelude.{ℕ, ◌+◌, ◌-◌, ◌*◌, ◌==◌, ◌&&◌, nat_le, min, not, Bool, if◌then◌else◌, List, [], ◌∷◌, length, fold, Option, None, Some, codes}
+use Rattle.std.specs.Prelude.{ℕ, ◌+◌, ◌-◌, ◌*◌, ◌==◌, ◌&&◌, nat_le, not, Bool, if◌then◌else◌, List, [], ◌∷◌, length, fold, Option, None, Some, codes}
 use Rattle.std.specs.List.{list_all}
 use Rattle.std.specs.Str.{bytes_eq}
 use Rattle.tick_num.specs.declared.res.Res.{Res}

@@ -5,7 +5,6 @@ use Rattle.std.specs.Option.{option_map}
 use Rattle.script_lex.specs.Words.{has_bad_byte, line_words}
 use Rattle.script_table.specs.declared.fault.FaultKind.{FaultKind}
 use Rattle.script_table.specs.declared.fault.FaultKind.TheVariants.{BadByte, Unclosed}
-use Rattle.script_table.specs.declared.form.Form.{Form}
 use Rattle.script_table.specs.declared.pattern.Opening.{Opening}
 use Rattle.task_script.specs.declared.end.ScriptEnd.{ScriptEnd}
 use Rattle.task_script.specs.declared.end.ScriptEnd.TheVariants as end

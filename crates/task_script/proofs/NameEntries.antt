@@ -1,6 +1,6 @@
 -- Looking a name up among the entries of a map.
 use Rattle.std.proofs.Common.{◌≡◌, ℕ, List, [], ◌∷◌, ◌++◌, Bool, true, false, subst, Option, None, Some, refl, sym, ◌∙◌, ap, map, rules}
-use Rattle.std.specs.Prelude.{cond, find, is_some}
+use Rattle.std.specs.Prelude.{cond, is_some}
 use Rattle.std.specs.Option.{option_map}
 use Rattle.std.specs.Borrow.{Bor}
 use Rattle.std.specs.Str.{bytes_eq}
