@@ -1,0 +1,16 @@
+// What is written as lines is read back.
+ghost use Rattle.std.specs.Prelude.{ℕ, List};
+ghost use Rattle.script_table.specs.Patterns.{Row};
+ghost use Rattle.script_text.specs.Canon.{Words};
+ghost use Rattle.canonical_law.specs.Laws.{IsSound, KeepsPattern, AreWords, ReadBack};
+
+/// Lines of words read back from their text, each with its words, and none has a bad byte.
+pub fn lines_read_back()
+    ensures { (lines : List Words) → AreWords lines → ReadBack lines }
+{}
+
+/// A line that has a pattern and no fault of its own, written anew with its canonical words, has the same
+/// pattern, no fault of its own, and its canonical words.
+pub fn lines_keep_their_patterns()
+    ensures { (row : Row) (line : List ℕ) → IsSound row line → KeepsPattern row line }
+{}
