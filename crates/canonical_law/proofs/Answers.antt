@@ -1,5 +1,5 @@
 -- Answers of calls are read back from their texts.
-use Rattle.std.proofs.Common.{◌≡◌, refl, Option, Some}
+use Rattle.std.proofs.Common.{◌≡◌, refl, Some}
 use Rattle.tick_num.specs.declared.res.Res.{Res}
 use Rattle.tick_num.specs.declared.res.Res.TheVariants as res
 use Rattle.tick_num.specs.Words.{res_text}

@@ -1,6 +1,6 @@
 -- A set that a word names has 32 signals at most.
-use Rattle.std.proofs.Common.{◌≡◌, ◌≤◌, ◌<◌, ◌^◌, ◌*◌, ◌-◌, ℕ, ◌+◌, List, [], ◌∷◌, refl, sym, ◌∙◌, ap, subst, Bool, true, false, arith, rules, Option, None, Some}
-use Rattle.std.specs.Prelude.{◌&&◌, ◌==◌, nat_le, bit_or, codes, if◌then◌else◌}
+use Rattle.std.proofs.Common.{◌≡◌, ◌≤◌, ◌<◌, ◌^◌, ◌*◌, ◌-◌, ℕ, ◌+◌, List, [], ◌∷◌, refl, Bool, true, false, arith, rules, Option, None, Some}
+use Rattle.std.specs.Prelude.{◌&&◌, ◌==◌, nat_le, codes, if◌then◌else◌}
 use Rattle.std.specs.Str.{bytes_eq}
 use Rattle.std.proofs.lemmas.Nat.{or_lt, pow_below}
 use Rattle.script_lex.proofs.Rejoined.{both}

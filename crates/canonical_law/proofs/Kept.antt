@@ -1,18 +1,18 @@
 -- The canonical words of a line keep its pattern, and have no fault where the line has none.
-use Rattle.std.proofs.Common.{◌≡◌, ◌≤◌, ◌<◌, ◌^◌, ℕ, List, [], ◌∷◌, ◌++◌, refl, sym, ◌∙◌, ap, subst, Bool, true, false, arith, rules, Option, None, Some}
+use Rattle.std.proofs.Common.{◌≡◌, ◌≤◌, ◌<◌, ◌^◌, ℕ, List, [], ◌∷◌, ◌++◌, refl, Bool, true, false, arith, rules, Option, None, Some}
 use Rattle.std.specs.Prelude.{◌&&◌, ◌||◌, nat_le, is_some, decimal, unwrap_or, option_to_list, if◌then◌else◌}
 use Rattle.std.specs.List.{list_all}
 use Rattle.script_lex.proofs.Rejoined.{both}
 use Rattle.script_table.specs.declared.fault.FaultKind.{FaultKind}
-use Rattle.script_table.specs.declared.fault.FaultKind.TheVariants.{BadNumber, NumberRange, BadName}
+use Rattle.script_table.specs.declared.fault.FaultKind.TheVariants.{NumberRange, BadName}
 use Rattle.script_table.specs.Patterns.{Spot, Keyword, Answer, Number, Operand, Declares, Uses, Signal, Acts, Signals, greatest}
-use Rattle.script_table.specs.Words.{is_number, value_of, is_register, set_of}
+use Rattle.script_table.specs.Words.{value_of, is_register, set_of}
 use Rattle.script_table.specs.LineFaults.{stands, fits, place_faults, unless, spelling}
 use Rattle.script_table.specs.Ranges.{is_within, ranging}
 use Rattle.script_text.specs.Words.{set_word}
 use Rattle.canonical_law.specs.Canonical.{canonical_word, canonical_words}
 use Rattle.canonical_law.specs.Apart.{is_bounded}
-use Rattle.canonical_law.proofs.Decimals.{are_digits, is_number-decimal, is_register-decimal, value_of-decimal, is_within-decimal}
+use Rattle.canonical_law.proofs.Decimals.{are_digits, is_number-decimal, is_register-decimal, is_within-decimal}
 use Rattle.script_lex.specs.Joined.{is_word}
 use Rattle.std.proofs.lemmas.Fmt.{decimal_nonempty}
 use Rattle.canonical_law.proofs.Sets.{set_of-set_word, is_word-set_word}

@@ -7,3 +7,4 @@ pub mod Bounds
 pub mod Written
 pub mod Kept
 pub mod LineLaws
+pub mod Places

@@ -1,5 +1,5 @@
 -- A sound line keeps its pattern.
-use Rattle.std.proofs.Common.{◌≡◌, ℕ, List, [], ◌∷◌, refl, sym, ◌∙◌, ap, subst, Bool, true, false, Option, None, Some}
+use Rattle.std.proofs.Common.{◌≡◌, ℕ, List, [], ◌∷◌, refl, ◌∙◌, ap, true, false, None, Some}
 use Rattle.std.specs.Prelude.{◌&&◌, map, not}
 use Rattle.std.specs.List.{list_all}
 use Rattle.script_lex.specs.Words.{has_bad_byte, line_words}

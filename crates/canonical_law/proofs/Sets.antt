@@ -1,6 +1,6 @@
 -- Sets of signals are read back from their words.
-use Rattle.std.proofs.Common.{◌≡◌, ◌≤◌, ◌<◌, ◌^◌, ◌*◌, ◌-◌, ◌/◌, ◌%◌, ℕ, zero, suc, ◌+◌, List, [], ◌∷◌, ◌++◌, length, refl, sym, ◌∙◌, ap, subst, Bool, true, false, not, arith, rules, Option, None, Some, eqb-true, eq-eqb, append-nil, append_assoc, add-one}
-use Rattle.std.specs.Prelude.{map, fold, ◌&&◌, ◌==◌, bit_or, codes, if◌then◌else◌}
+use Rattle.std.proofs.Common.{◌≡◌, ◌≤◌, ◌<◌, ◌^◌, ◌*◌, ◌/◌, ◌%◌, ℕ, zero, suc, ◌+◌, List, [], ◌∷◌, ◌++◌, refl, sym, ◌∙◌, ap, subst, Bool, true, false, not, arith, rules, Option, None, Some, eqb-true, eq-eqb, append-nil}
+use Rattle.std.specs.Prelude.{map, ◌==◌, bit_or}
 use Rattle.std.specs.List.{list_all}
 use Rattle.std.specs.Int.Bits.{or_shifted_r}
 use Rattle.std.proofs.lemmas.List.{map_push}

@@ -1,12 +1,9 @@
 -- What a line has as words, and what is written for them, can stand in a line as words.
-use Rattle.std.proofs.Common.{◌≡◌, ◌≤◌, ◌<◌, ◌^◌, ℕ, zero, suc, ◌+◌, List, [], ◌∷◌, ◌++◌, length, get_or, refl, sym, ◌∙◌, ap, subst, Bool, true, false, not, arith, rules, Option, None, Some}
-use Rattle.std.specs.Prelude.{◌&&◌, ◌==◌, nat_le, map, decimal, unwrap_or, is_some, if◌then◌else◌, codes}
-use Rattle.std.specs.Fmt.{digits}
-use Rattle.std.specs.List.{list_all, take_while, range_with_len, filter}
-use Rattle.std.proofs.lemmas.Fmt.{decimal_nonempty}
-use Rattle.std.proofs.lemmas.List.Folds.{list_all-append}
+use Rattle.std.proofs.Common.{◌≡◌, ◌<◌, ℕ, List, [], ◌∷◌, length, refl, Bool, true, false, not, arith, rules}
+use Rattle.std.specs.Prelude.{◌&&◌, ◌==◌}
+use Rattle.std.specs.List.{list_all}
 use Rattle.std.proofs.lemmas.List.Sums.{take_while-cons}
-use Rattle.script_lex.specs.Words.{is_blank, is_allowed, has_bad_byte, before_comment, onto_first, onto_word, words_of, line_words}
+use Rattle.script_lex.specs.Words.{is_blank, is_allowed, has_bad_byte, before_comment, onto_first, words_of, line_words}
 use Rattle.script_lex.specs.Joined.{is_word_byte, is_word}
 use Rattle.script_lex.proofs.Rejoined.{both}
 use Rattle.script_lex.proofs.Split.{no_words, word_more, word_ends, word_alone, word_skips}

@@ -1,8 +1,8 @@
 -- Patterns that no line has both. The script language is this project's own.
-use Rattle.std.specs.Prelude.{ℕ, ◌^◌, ◌&&◌, ◌||◌, nat_le, not, Bool, true, false, List, [], ◌∷◌}
+use Rattle.std.specs.Prelude.{◌&&◌, ◌||◌, nat_le, not, Bool, true, false, List, [], ◌∷◌}
 use Rattle.std.specs.List.{list_all}
 use Rattle.std.specs.Str.{bytes_eq}
-use Rattle.script_table.specs.Patterns.{Spot, Keyword, Answer, Number, Operand, Declares, Uses, Signal, Acts, Signals, Row, greatest}
+use Rattle.script_table.specs.Patterns.{Spot, Keyword, Number, Row, greatest}
 
 -- two keywords that differ
 abbrev pub differ : Spot → Spot → Bool

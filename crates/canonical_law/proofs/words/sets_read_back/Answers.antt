@@ -1,4 +1,4 @@
-use Rattle.std.proofs.Common.{arith, ◌<◌, ◌^◌}
+use Rattle.std.proofs.Common.{arith}
 use Rattle.canonical_law.proofs.Sets.{set_of-set_word}
 use Rattle.canonical_law.proofs.words.sets_read_back.Goals as goal
 
