@@ -1,18 +1,18 @@
 -- The canonical words of a line keep its pattern, and have no fault where the line has none.
-use Rattle.std.proofs.Common.{◌≡◌, ◌≤◌, ◌<◌, ◌^◌, ℕ, List, [], ◌∷◌, ◌++◌, refl, Bool, true, false, arith, rules, Option, None, Some}
+use Rattle.std.proofs.Common.{◌≡◌, ◌≤◌, ◌<◌, ◌^◌, ℕ, zero, suc, List, [], ◌∷◌, ◌++◌, refl, Bool, true, false, arith, rules, Option, None, Some}
 use Rattle.std.specs.Prelude.{◌&&◌, ◌||◌, nat_le, is_some, decimal, unwrap_or, option_to_list, if◌then◌else◌}
 use Rattle.std.specs.List.{list_all}
 use Rattle.script_lex.proofs.Rejoined.{both}
 use Rattle.script_table.specs.declared.fault.FaultKind.{FaultKind}
 use Rattle.script_table.specs.declared.fault.FaultKind.TheVariants.{NumberRange, BadName}
-use Rattle.script_table.specs.Patterns.{Spot, Keyword, Answer, Number, Operand, Declares, Uses, Signal, Acts, Signals, greatest}
+use Rattle.script_table.specs.Patterns.{Spot, Keyword, Answer, Number, Operand, Declares, Uses, Signal, Acts, Signals, Row, greatest}
 use Rattle.script_table.specs.Words.{value_of, is_register, set_of}
 use Rattle.script_table.specs.LineFaults.{stands, fits, place_faults, unless, spelling}
-use Rattle.script_table.specs.Ranges.{is_within, ranging}
+use Rattle.script_table.specs.Ranges.{is_within, ranging, word, sets_server, server_faults}
 use Rattle.script_text.specs.Words.{set_word}
 use Rattle.canonical_law.specs.Canonical.{canonical_word, canonical_words}
-use Rattle.canonical_law.specs.Apart.{is_bounded}
-use Rattle.canonical_law.proofs.Decimals.{are_digits, is_number-decimal, is_register-decimal, is_within-decimal}
+use Rattle.canonical_law.specs.Apart.{is_bounded, number_at, has_parameters}
+use Rattle.canonical_law.proofs.Decimals.{value_of-decimal, are_digits, is_number-decimal, is_register-decimal, is_within-decimal}
 use Rattle.script_lex.specs.Joined.{is_word}
 use Rattle.std.proofs.lemmas.Fmt.{decimal_nonempty}
 use Rattle.canonical_law.proofs.Sets.{set_of-set_word, is_word-set_word}
@@ -150,3 +150,51 @@ words_kept (spot ∷ spots) (word ∷ words) bound clean e =
     let one = word_kept spot word b.0 (record { spelled = s.0; ranged = r.0 }) w.0 in
     let rest = words_kept spots words b.1 (record { spelled = s.1; ranged = r.1 }) w.1 in
     rw (one, rest) refl
+
+-- the value of a number is kept
+pub value_kept : (k : ℕ) (spots : List Spot) (words : List (List ℕ)) → number_at k spots ≡ true → list_all is_bounded spots ≡ true → AreClean spots words
+    → value_of (word k (canonical_words spots words)) ≡ value_of (word k words)
+value_kept k [] words at bound clean = absurd (let f : false ≡ true = at in cc)
+value_kept k (spot ∷ spots) [] at bound clean = refl
+value_kept zero (Number low high ∷ spots) (w ∷ words) at bound clean =
+    let b = both (nat_le high greatest) (list_all is_bounded spots) bound in
+    let r = none_first (ranging (Number low high) w) (place_faults ranging spots words) clean.ranged in
+    let h = within_parts low high (value_of w) (holds (is_within low high w) NumberRange r.0) in
+    let top : high ≤ greatest = search rules in
+    let above = h.1 in
+    value_of-decimal (value_of w) (omega arith)
+value_kept zero (Keyword k ∷ spots) words at bound clean = absurd (let f : false ≡ true = at in cc)
+value_kept zero (Answer ∷ spots) words at bound clean = absurd (let f : false ≡ true = at in cc)
+value_kept zero (Operand ∷ spots) words at bound clean = absurd (let f : false ≡ true = at in cc)
+value_kept zero (Declares kind ∷ spots) words at bound clean = absurd (let f : false ≡ true = at in cc)
+value_kept zero (Uses kind ∷ spots) words at bound clean = absurd (let f : false ≡ true = at in cc)
+value_kept zero (Signal ∷ spots) words at bound clean = absurd (let f : false ≡ true = at in cc)
+value_kept zero (Acts ∷ spots) words at bound clean = absurd (let f : false ≡ true = at in cc)
+value_kept zero (Signals ∷ spots) words at bound clean = absurd (let f : false ≡ true = at in cc)
+value_kept (suc k) (spot ∷ spots) (w ∷ words) at bound clean =
+    let b = both (is_bounded spot) (list_all is_bounded spots) bound in
+    let s = none_first (spelling spot w) (place_faults spelling spots words) clean.spelled in
+    let r = none_first (ranging spot w) (place_faults ranging spots words) clean.ranged in
+    value_kept k spots words at b.1 (record { spelled = s.1; ranged = r.1 })
+
+-- the faults of a sporadic server are kept
+server_case : (b : Bool) (row : Row) (words : List (List ℕ)) → sets_server row.form ≡ b → has_parameters row ≡ true → list_all is_bounded row.places ≡ true → AreClean row.places words
+    → server_faults row.form (canonical_words row.places words) ≡ server_faults row.form words
+server_case false row words is has bound clean = rw is refl
+server_case true row words is has bound clean =
+    let places = row.places in
+    let all : (number_at 3 places && (number_at 4 places && (number_at 5 places && (number_at 6 places && number_at 7 places)))) ≡ true = rw is at has in
+    let a = both (number_at 3 places) (number_at 4 places && (number_at 5 places && (number_at 6 places && number_at 7 places))) all in
+    let b = both (number_at 4 places) (number_at 5 places && (number_at 6 places && number_at 7 places)) a.1 in
+    let c = both (number_at 5 places) (number_at 6 places && number_at 7 places) b.1 in
+    let d = both (number_at 6 places) (number_at 7 places) c.1 in
+    let high = value_kept 3 places words a.0 bound clean in
+    let low = value_kept 4 places words b.0 bound clean in
+    let period = value_kept 5 places words c.0 bound clean in
+    let budget = value_kept 6 places words d.0 bound clean in
+    let max = value_kept 7 places words d.1 bound clean in
+    simp (high, low, period, budget, max)
+
+pub server_kept : (row : Row) (words : List (List ℕ)) → has_parameters row ≡ true → list_all is_bounded row.places ≡ true → AreClean row.places words
+    → server_faults row.form (canonical_words row.places words) ≡ server_faults row.form words
+server_kept row words has bound clean = server_case (sets_server row.form) row words refl has bound clean

@@ -8,3 +8,4 @@ pub mod Written
 pub mod Kept
 pub mod LineLaws
 pub mod Places
+pub mod Limits

@@ -18,7 +18,7 @@ use Rattle.canonical_law.proofs.Apart.{patterns_apart, patterns_bounded, fitting
 use Rattle.canonical_law.proofs.Kept.{fits_kept, are_clean_kept, words_kept}
 use Rattle.canonical_law.proofs.Written.{line_words_are_words}
 
-some_found : (rows : List Row) (words : List (List ℕ)) (row : Row) → fitting_some rows words ≡ Some row → fitting rows words ≡ Some row
+pub some_found : (rows : List Row) (words : List (List ℕ)) (row : Row) → fitting_some rows words ≡ Some row → fitting rows words ≡ Some row
 some_found rows [] row e = absurd (let f : None ≡ Some row = e in cc)
 some_found rows (w ∷ ws) row e = e
 

@@ -1,6 +1,6 @@
 -- Canonical lines have no fault of phase 1 where the lines have none.
 use Rattle.std.proofs.Common.{◌≡◌, ℕ, ◌+◌, List, [], ◌∷◌, ◌++◌, refl, sym, ◌∙◌, ap, subst, Bool, true, false, Option, None, Some}
-use Rattle.std.specs.Prelude.{option_to_list}
+use Rattle.std.specs.Prelude.{◌&&◌, option_to_list}
 use Rattle.script_lex.specs.Words.{has_bad_byte, line_words}
 use Rattle.script_table.specs.declared.fault.FaultKind.{FaultKind}
 use Rattle.script_table.specs.declared.fault.FaultKind.TheVariants.{BadByte}
@@ -10,8 +10,14 @@ use Rattle.script_table.specs.Patterns.{Row}
 use Rattle.script_table.specs.Table.{patterns}
 use Rattle.script_table.specs.LineFaults.{faults_by}
 use Rattle.script_table.specs.Structure.{Said, said_line, said_from, row_of_line, Open, place_of_row, line_faults, opened_by, behind_line, unclosed, phase_one}
-use Rattle.canonical_law.specs.Laws.{canonical_line, canonical_of, canonical_lines, IsRanged, AreRanged, patterns_of}
-use Rattle.canonical_law.proofs.LineLaws.{keeps_pattern}
+use Rattle.canonical_law.specs.Laws.{IsSound, canonical_line, canonical_of, canonical_lines, IsRanged, AreRanged, IsAnew, AreAnew}
+use Rattle.std.specs.List.{list_all}
+use Rattle.script_table.specs.LineFaults.{fits}
+use Rattle.script_table.specs.Ranges.{server_faults}
+use Rattle.canonical_law.specs.Apart.{is_bounded, has_parameters}
+use Rattle.canonical_law.proofs.Apart.{found_passes, patterns_bounded, patterns_have_parameters}
+use Rattle.canonical_law.proofs.Kept.{server_kept}
+use Rattle.canonical_law.proofs.LineLaws.{keeps_pattern, some_found}
 
 no_lines : (n : ℕ) (open' : Open) → phase_one patterns n open' [] ≡ faults_at 1 n (unclosed open')
 unfolding phase_one
@@ -26,7 +32,7 @@ no_kinds : (n : ℕ) (kinds : List FaultKind) → faults_at 1 n kinds ≡ [] →
 no_kinds n [] e = refl
 no_kinds n (k ∷ ks) e = absurd (let f : (fault 1 n k ∷ faults_at 1 n ks) ≡ [] = e in cc)
 
-both_none : {X : Type 0} (xs ys : List X) → xs ++ ys ≡ [] → (xs ≡ []) × (ys ≡ [])
+pub both_none : {X : Type 0} (xs ys : List X) → xs ++ ys ≡ [] → (xs ≡ []) × (ys ≡ [])
 both_none [] ys e = (refl, e)
 both_none (x ∷ xs) ys e = absurd (let f : (x ∷ (xs ++ ys)) ≡ [] = e in cc)
 
@@ -85,10 +91,6 @@ places_kept (line ∷ lines) openings n e ranged m =
     let rest = subst (λ o. phase_one patterns (n + 1) o lines ≡ []) after split.1 in
     by_row (row_of_line patterns line) openings line lines refl none ranged.0 (places_kept lines (opened_by (row_of_line patterns line) openings) (n + 1) rest ranged.1) m
 
-rows_append : (xs ys : List Said) → patterns_of (xs ++ ys) ≡ patterns_of xs ++ patterns_of ys
-rows_append [] ys = refl
-rows_append (x ∷ xs) ys = ap (λ rows. x.row ∷ rows) (rows_append xs ys)
-
 nothing_said : (n : ℕ) → said_from patterns n [] ≡ []
 unfolding said_from
 nothing_said n = refl
@@ -97,34 +99,47 @@ one_said : (n : ℕ) (line : List ℕ) (lines : List (List ℕ)) → said_from p
 unfolding said_from
 one_said n line lines = refl
 
-row_said : (n : ℕ) (line : List ℕ) (row : Option Row) → row_of_line patterns line ≡ row → patterns_of (said_line patterns n line) ≡ option_to_list row
-row_said n line None is = rw is refl
-row_said n line (Some row) is = rw is refl
+pub said_none : (n : ℕ) (line : List ℕ) (lines : List (List ℕ)) → row_of_line patterns line ≡ None → said_from patterns n (line ∷ lines) ≡ said_from patterns (n + 1) lines
+said_none n line lines is = one_said n line lines ∙ rw is refl
 
--- the patterns of a line and those of the lines behind it
-rows_said : (n : ℕ) (line : List ℕ) (lines : List (List ℕ)) (row : Option Row) → row_of_line patterns line ≡ row
-    → patterns_of (said_from patterns n (line ∷ lines)) ≡ option_to_list row ++ patterns_of (said_from patterns (n + 1) lines)
-rows_said n line lines row is =
-    ap patterns_of (one_said n line lines) ∙ rows_append (said_line patterns n line) (said_from patterns (n + 1) lines)
-    ∙ ap (λ rows. rows ++ patterns_of (said_from patterns (n + 1) lines)) (row_said n line row is)
+pub said_some : (n : ℕ) (line : List ℕ) (lines : List (List ℕ)) (row : Row) → row_of_line patterns line ≡ Some row
+    → said_from patterns n (line ∷ lines) ≡ record { line = n; row = row; words = line_words line } ∷ said_from patterns (n + 1) lines
+said_some n line lines row is = one_said n line lines ∙ rw is refl
 
-order_by_row : (row : Option Row) (openings : List Opening) (line : List ℕ) (lines : List (List ℕ)) (n : ℕ)
+-- the statement of a line and that of its canonical line
+anew_one : (n m : ℕ) (row : Row) (line : List ℕ) → IsSound row line → IsAnew (record { line = n; row = row; words = line_words line }) (record { line = m; row = row; words = line_words (canonical_line row line) })
+anew_one n m row line sound =
+    let kept = keeps_pattern row line sound in
+    let found = some_found patterns (line_words line) row sound.pattern in
+    let test : Row → Bool = λ r. r.built && fits r.places (line_words line) in
+    let bounded : list_all is_bounded row.places ≡ true = found_passes test (λ r. list_all is_bounded r.places) patterns row found patterns_bounded in
+    let has : has_parameters row ≡ true = found_passes test has_parameters patterns row found patterns_have_parameters in
+    record {
+      pattern = refl;
+      words = kept.words;
+      ranged = kept.sound.ranged;
+      server = ap (server_faults row.form) kept.words ∙ server_kept row (line_words line) has bounded (record { spelled = sound.spelled; ranged = sound.ranged });
+    }
+
+anew_by_row : (row : Option Row) (openings : List Opening) (line : List ℕ) (lines : List (List ℕ)) (n : ℕ)
     → row_of_line patterns line ≡ row → line_faults patterns (Some openings) line ≡ [] → IsRanged row line
-    → ((m : ℕ) → patterns_of (said_from patterns m (canonical_lines lines)) ≡ patterns_of (said_from patterns (n + 1) lines))
-    → (m : ℕ) → patterns_of (said_from patterns m (canonical_of row line ++ canonical_lines lines)) ≡ patterns_of (said_from patterns n (line ∷ lines))
-order_by_row None openings line lines n is none ranged rest m = rest m ∙ sym (rows_said n line lines None is)
-order_by_row (Some row) openings line lines n is none ranged rest m =
+    → ((m : ℕ) → AreAnew (said_from patterns (n + 1) lines) (said_from patterns m (canonical_lines lines)))
+    → (m : ℕ) → AreAnew (said_from patterns n (line ∷ lines)) (said_from patterns m (canonical_of row line ++ canonical_lines lines))
+anew_by_row None openings line lines n is none ranged rest m =
+    subst (λ ss. AreAnew ss (said_from patterns m (canonical_lines lines))) (sym (said_none n line lines is)) (rest m)
+anew_by_row (Some row) openings line lines n is none ranged rest m =
     let place : InPlace (Some row) openings line = subst (λ r. InPlace r openings line) is (in_place openings line none) in
-    let kept = keeps_pattern row line (record { pattern = is; bytes = place.bytes; spelled = place.own; ranged = ranged }) in
-    rows_said m (canonical_line row line) (canonical_lines lines) (Some row) kept.sound.pattern
-    ∙ ap (λ rows. row ∷ rows) (rest (m + 1)) ∙ sym (rows_said n line lines (Some row) is)
+    let sound : IsSound row line = record { pattern = is; bytes = place.bytes; spelled = place.own; ranged = ranged } in
+    let kept = keeps_pattern row line sound in
+    rw (said_some n line lines row is, said_some m (canonical_line row line) (canonical_lines lines) row kept.sound.pattern)
+    (anew_one n m row line sound, rest (m + 1))
 
-pub order_kept : (lines : List (List ℕ)) (openings : List Opening) (n : ℕ) → phase_one patterns n (Some openings) lines ≡ [] → AreRanged lines
-    → (m : ℕ) → patterns_of (said_from patterns m (canonical_lines lines)) ≡ patterns_of (said_from patterns n lines)
-order_kept [] openings n e ranged m = ap patterns_of (nothing_said m) ∙ sym (ap patterns_of (nothing_said n))
-order_kept (line ∷ lines) openings n e ranged m =
+pub anew_kept : (lines : List (List ℕ)) (openings : List Opening) (n : ℕ) → phase_one patterns n (Some openings) lines ≡ [] → AreRanged lines
+    → (m : ℕ) → AreAnew (said_from patterns n lines) (said_from patterns m (canonical_lines lines))
+anew_kept [] openings n e ranged m = rw (nothing_said n, nothing_said m) tt
+anew_kept (line ∷ lines) openings n e ranged m =
     let split = both_none (faults_at 1 n (line_faults patterns (Some openings) line)) (phase_one patterns (n + 1) (behind_line patterns (Some openings) line) lines) (sym (one_line n (Some openings) line lines) ∙ e) in
     let none = no_kinds n (line_faults patterns (Some openings) line) split.0 in
     let after = behind_clean openings line (row_of_line patterns line) refl none in
     let rest = subst (λ o. phase_one patterns (n + 1) o lines ≡ []) after split.1 in
-    order_by_row (row_of_line patterns line) openings line lines n refl none ranged.0 (order_kept lines (opened_by (row_of_line patterns line) openings) (n + 1) rest ranged.1) m
+    anew_by_row (row_of_line patterns line) openings line lines n refl none ranged.0 (anew_kept lines (opened_by (row_of_line patterns line) openings) (n + 1) rest ranged.1) m

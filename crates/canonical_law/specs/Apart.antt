@@ -1,7 +1,8 @@
 -- Patterns that no line has both. The script language is this project's own.
-use Rattle.std.specs.Prelude.{◌&&◌, ◌||◌, nat_le, not, Bool, true, false, List, [], ◌∷◌}
+use Rattle.std.specs.Prelude.{ℕ, ◌&&◌, ◌||◌, nat_le, zero, suc, not, Bool, true, false, List, [], ◌∷◌}
 use Rattle.std.specs.List.{list_all}
 use Rattle.std.specs.Str.{bytes_eq}
+use Rattle.script_table.specs.Ranges.{sets_server}
 use Rattle.script_table.specs.Patterns.{Spot, Keyword, Number, Row, greatest}
 
 -- two keywords that differ
@@ -28,3 +29,16 @@ is_bounded other = true
 
 abbrev pub all_bounded : List Row → Bool
 all_bounded rows = list_all (λ r. list_all is_bounded r.places) rows
+
+-- a number stands at this place
+abbrev pub number_at : ℕ → List Spot → Bool
+number_at k [] = false
+number_at zero (Number low high ∷ spots) = true
+number_at zero (other ∷ spots) = false
+number_at (suc k) (spot ∷ spots) = number_at k spots
+
+-- where a line sets the parameters of a sporadic server, its words 3 to 7 are numbers
+abbrev pub has_parameters : Row → Bool
+has_parameters row =
+    not (sets_server row.form) ||
+    (number_at 3 row.places && (number_at 4 row.places && (number_at 5 row.places && (number_at 6 row.places && number_at 7 row.places))))

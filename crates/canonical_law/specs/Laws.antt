@@ -9,7 +9,7 @@ use Rattle.script_lex.specs.Joined.{joined_words, is_word}
 use Rattle.script_table.specs.Patterns.{Row, greatest}
 use Rattle.script_table.specs.Table.{patterns}
 use Rattle.script_table.specs.LineFaults.{place_faults, spelling}
-use Rattle.script_table.specs.Ranges.{ranging}
+use Rattle.script_table.specs.Ranges.{ranging, server_faults, phase_three, no_tally}
 use Rattle.script_table.specs.Structure.{Said, said_from, row_of_line, phase_one}
 use Rattle.script_text.specs.Canon.{Words, text_of}
 use Rattle.canonical_law.specs.Canonical.{canonical_words}
@@ -62,11 +62,26 @@ abbrev pub AreRanged : List (List ℕ) → Type 0
 AreRanged [] = Unit {0}
 AreRanged (line ∷ lines) = IsRanged (row_of_line patterns line) line × AreRanged lines
 
--- the patterns of statements, in their order
-abbrev pub patterns_of : List Said → List Row
-patterns_of ss = map (λ s. s.row) ss
+-- a statement that was written anew: the same pattern, canonical words, no number out of range, and the same faults of a sporadic server
+pub record IsAnew (old new : Said) : Type 0 where
+  pub pattern : new.row ≡ old.row
+  pub words : new.words ≡ canonical_words old.row.places old.words
+  pub ranged : place_faults ranging new.row.places new.words ≡ []
+  pub server : server_faults new.row.form new.words ≡ server_faults old.row.form old.words
 
--- the canonical lines have no fault of phase 1, and the patterns of the lines in the same order
-pub record KeepsPlaces (lines : List (List ℕ)) : Type 0 where
-  pub clean : phase_one patterns 1 (Some []) (canonical_lines lines) ≡ []
-  pub order : patterns_of (said_from patterns 1 (canonical_lines lines)) ≡ patterns_of (said_from patterns 1 lines)
+-- one after another
+abbrev pub AreAnew : List Said → List Said → Type 0
+AreAnew [] [] = Unit {0}
+AreAnew [] (t ∷ ts) = ⊥
+AreAnew (s ∷ ss) [] = ⊥
+AreAnew (s ∷ ss) (t ∷ ts) = IsAnew s t × AreAnew ss ts
+
+-- lines without a fault of phase 1, none of whose numbers and limits are exceeded
+pub record HasNoFault (lines : List (List ℕ)) : Type 0 where
+  pub places : phase_one patterns 1 (Some []) lines ≡ []
+  pub limits : (n : ℕ) → phase_three n no_tally (said_from patterns 1 lines) ≡ []
+
+-- the canonical lines have no such fault, and say the same statements anew, in the same order
+pub record KeepsStatements (lines : List (List ℕ)) : Type 0 where
+  pub clean : HasNoFault (canonical_lines lines)
+  pub anew : AreAnew (said_from patterns 1 lines) (said_from patterns 1 (canonical_lines lines))

@@ -1,10 +1,8 @@
 // What is written as lines is read back.
-ghost use Rattle.std.specs.Prelude.{◌≡◌, ℕ, List, [], Some};
+ghost use Rattle.std.specs.Prelude.{ℕ, List};
 ghost use Rattle.script_table.specs.Patterns.{Row};
-ghost use Rattle.script_table.specs.Table.{patterns};
-ghost use Rattle.script_table.specs.Structure.{phase_one};
 ghost use Rattle.script_text.specs.Canon.{Words};
-ghost use Rattle.canonical_law.specs.Laws.{IsSound, KeepsPattern, AreRanged, KeepsPlaces, AreWords, ReadBack};
+ghost use Rattle.canonical_law.specs.Laws.{IsSound, KeepsPattern, HasNoFault, KeepsStatements, AreWords, ReadBack};
 
 /// Lines of words read back from their text, each with its words, and none has a bad byte.
 pub fn lines_read_back()
@@ -18,8 +16,8 @@ pub fn lines_keep_their_patterns()
 {}
 
 /// Where no line of a text has a bad byte, is of no pattern, is spelled wrongly or stands in a wrong place,
-/// each block is closed, and no number is out of its range, the canonical lines are so too, and they have
-/// the same patterns in the same order.
-pub fn lines_keep_their_places()
-    ensures { (lines : List (List ℕ)) → phase_one patterns 1 (Some []) lines ≡ [] → AreRanged lines → KeepsPlaces lines }
+/// each block is closed, and no number or limit is exceeded, the canonical lines are so too; and they say the
+/// same statements in the same order, each with its pattern and its canonical words.
+pub fn lines_keep_their_statements()
+    ensures { (lines : List (List ℕ)) → HasNoFault lines → KeepsStatements lines }
 {}
