@@ -1,6 +1,6 @@
 -- Canonical lines have no fault of phase 1 where the lines have none.
 use Rattle.std.proofs.Common.{◌≡◌, ℕ, ◌+◌, List, [], ◌∷◌, ◌++◌, refl, sym, ◌∙◌, ap, subst, Bool, true, false, Option, None, Some}
-use Rattle.std.specs.Prelude.{◌&&◌, option_to_list}
+use Rattle.std.specs.Prelude.{◌&&◌}
 use Rattle.script_lex.specs.Words.{has_bad_byte, line_words}
 use Rattle.script_table.specs.declared.fault.FaultKind.{FaultKind}
 use Rattle.script_table.specs.declared.fault.FaultKind.TheVariants.{BadByte}
@@ -9,7 +9,7 @@ use Rattle.script_table.specs.Faults.{when, faults_at, fault}
 use Rattle.script_table.specs.Patterns.{Row}
 use Rattle.script_table.specs.Table.{patterns}
 use Rattle.script_table.specs.LineFaults.{faults_by}
-use Rattle.script_table.specs.Structure.{Said, said_line, said_from, row_of_line, Open, place_of_row, line_faults, opened_by, behind_line, unclosed, phase_one}
+use Rattle.script_table.specs.Structure.{said_line, said_from, row_of_line, Open, place_of_row, line_faults, opened_by, behind_line, unclosed, phase_one}
 use Rattle.canonical_law.specs.Laws.{IsSound, canonical_line, canonical_of, canonical_lines, IsRanged, AreRanged, IsAnew, AreAnew}
 use Rattle.std.specs.List.{list_all}
 use Rattle.script_table.specs.LineFaults.{fits}
