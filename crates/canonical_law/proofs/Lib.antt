@@ -9,3 +9,5 @@ pub mod Kept
 pub mod LineLaws
 pub mod Places
 pub mod Limits
+pub mod Naming
+pub mod Names

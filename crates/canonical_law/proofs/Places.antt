@@ -91,7 +91,7 @@ places_kept (line ∷ lines) openings n e ranged m =
     let rest = subst (λ o. phase_one patterns (n + 1) o lines ≡ []) after split.1 in
     by_row (row_of_line patterns line) openings line lines refl none ranged.0 (places_kept lines (opened_by (row_of_line patterns line) openings) (n + 1) rest ranged.1) m
 
-nothing_said : (n : ℕ) → said_from patterns n [] ≡ []
+pub nothing_said : (n : ℕ) → said_from patterns n [] ≡ []
 unfolding said_from
 nothing_said n = refl
 

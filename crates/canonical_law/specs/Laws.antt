@@ -11,6 +11,7 @@ use Rattle.script_table.specs.Table.{patterns}
 use Rattle.script_table.specs.LineFaults.{place_faults, spelling}
 use Rattle.script_table.specs.Ranges.{ranging, server_faults, phase_three, no_tally}
 use Rattle.script_table.specs.Structure.{Said, said_from, row_of_line, phase_one}
+use Rattle.script_table.specs.Names.{declared, phase_two}
 use Rattle.script_text.specs.Canon.{Words, text_of}
 use Rattle.canonical_law.specs.Canonical.{canonical_words}
 
@@ -76,12 +77,13 @@ AreAnew [] (t ∷ ts) = ⊥
 AreAnew (s ∷ ss) [] = ⊥
 AreAnew (s ∷ ss) (t ∷ ts) = IsAnew s t × AreAnew ss ts
 
--- lines without a fault of phase 1, none of whose numbers and limits are exceeded
+-- lines without a fault of any phase
 pub record HasNoFault (lines : List (List ℕ)) : Type 0 where
   pub places : phase_one patterns 1 (Some []) lines ≡ []
+  pub names : phase_two (declared (said_from patterns 1 lines)) (said_from patterns 1 lines) ≡ []
   pub limits : (n : ℕ) → phase_three n no_tally (said_from patterns 1 lines) ≡ []
 
--- the canonical lines have no such fault, and say the same statements anew, in the same order
+-- the canonical lines have no fault either, and say the same statements anew, in the same order
 pub record KeepsStatements (lines : List (List ℕ)) : Type 0 where
   pub clean : HasNoFault (canonical_lines lines)
   pub anew : AreAnew (said_from patterns 1 lines) (said_from patterns 1 (canonical_lines lines))

@@ -15,9 +15,8 @@ pub fn lines_keep_their_patterns()
     ensures { (row : Row) (line : List ℕ) → IsSound row line → KeepsPattern row line }
 {}
 
-/// Where no line of a text has a bad byte, is of no pattern, is spelled wrongly or stands in a wrong place,
-/// each block is closed, and no number or limit is exceeded, the canonical lines are so too; and they say the
-/// same statements in the same order, each with its pattern and its canonical words.
+/// Where the lines of a text have no fault, their canonical lines have none; and they say the same
+/// statements in the same order, each with its pattern and its canonical words.
 pub fn lines_keep_their_statements()
     ensures { (lines : List (List ℕ)) → HasNoFault lines → KeepsStatements lines }
 {}
