@@ -11,3 +11,4 @@ pub mod Places
 pub mod Limits
 pub mod Naming
 pub mod Names
+pub mod Text

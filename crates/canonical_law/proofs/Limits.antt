@@ -13,7 +13,7 @@ use Rattle.script_table.specs.Structure.{Said, row_of_line, said_from}
 use Rattle.canonical_law.specs.Laws.{IsAnew, AreAnew, IsRanged, AreRanged}
 use Rattle.canonical_law.proofs.Places.{both_none, said_none, said_some}
 
-no_kinds : (n : ℕ) (kinds : List FaultKind) → faults_at 3 n kinds ≡ [] → kinds ≡ []
+pub no_kinds : (n : ℕ) (kinds : List FaultKind) → faults_at 3 n kinds ≡ [] → kinds ≡ []
 no_kinds n [] e = refl
 no_kinds n (k ∷ ks) e = absurd (let f : (fault 3 n k ∷ faults_at 3 n ks) ≡ [] = e in cc)
 

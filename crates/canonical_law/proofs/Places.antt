@@ -23,12 +23,12 @@ no_lines : (n : ℕ) (open' : Open) → phase_one patterns n open' [] ≡ faults
 unfolding phase_one
 no_lines n open' = refl
 
-one_line : (n : ℕ) (open' : Open) (line : List ℕ) (lines : List (List ℕ))
+pub one_line : (n : ℕ) (open' : Open) (line : List ℕ) (lines : List (List ℕ))
     → phase_one patterns n open' (line ∷ lines) ≡ faults_at 1 n (line_faults patterns open' line) ++ phase_one patterns (n + 1) (behind_line patterns open' line) lines
 unfolding phase_one
 one_line n open' line lines = refl
 
-no_kinds : (n : ℕ) (kinds : List FaultKind) → faults_at 1 n kinds ≡ [] → kinds ≡ []
+pub no_kinds : (n : ℕ) (kinds : List FaultKind) → faults_at 1 n kinds ≡ [] → kinds ≡ []
 no_kinds n [] e = refl
 no_kinds n (k ∷ ks) e = absurd (let f : (fault 1 n k ∷ faults_at 1 n ks) ≡ [] = e in cc)
 
@@ -46,7 +46,7 @@ pub record InPlace (row : Option Row) (openings : List Opening) (line : List ℕ
   pub own : faults_by row patterns (line_words line) ≡ []
   pub place : place_of_row (Some openings) row ≡ []
 
-in_place : (openings : List Opening) (line : List ℕ) → line_faults patterns (Some openings) line ≡ [] → InPlace (row_of_line patterns line) openings line
+pub in_place : (openings : List Opening) (line : List ℕ) → line_faults patterns (Some openings) line ≡ [] → InPlace (row_of_line patterns line) openings line
 in_place openings line e =
     let row = row_of_line patterns line in
     let first = both_none (when (has_bad_byte line) BadByte) (faults_by row patterns (line_words line) ++ place_of_row (Some openings) row) e in
@@ -58,7 +58,7 @@ faults_none openings line row is h =
     let place : InPlace (row_of_line patterns line) openings line = subst (λ r. InPlace r openings line) (sym is) h in
     rw (place.bytes, place.own, place.place) refl
 
-behind_clean : (openings : List Opening) (line : List ℕ) (row : Option Row) → row_of_line patterns line ≡ row → line_faults patterns (Some openings) line ≡ []
+pub behind_clean : (openings : List Opening) (line : List ℕ) (row : Option Row) → row_of_line patterns line ≡ row → line_faults patterns (Some openings) line ≡ []
     → behind_line patterns (Some openings) line ≡ Some (opened_by row openings)
 behind_clean openings line row is none = rw (none, is) refl
 

@@ -5,13 +5,14 @@ use Rattle.script_lex.specs.Lines.{lines_of}
 use Rattle.script_tree.specs.declared.call.Operand.{Operand}
 use Rattle.script_tree.specs.declared.call.Operand.TheVariants.{Num, Reg}
 use Rattle.script_lex.specs.Words.{has_bad_byte, line_words}
-use Rattle.script_lex.specs.Joined.{joined_words, is_word}
+use Rattle.script_lex.specs.Joined.{joined_words, joined_lines, is_word}
 use Rattle.script_table.specs.Patterns.{Row, greatest}
 use Rattle.script_table.specs.Table.{patterns}
 use Rattle.script_table.specs.LineFaults.{place_faults, spelling}
 use Rattle.script_table.specs.Ranges.{ranging, server_faults, phase_three, no_tally}
 use Rattle.script_table.specs.Structure.{Said, said_from, row_of_line, phase_one}
 use Rattle.script_table.specs.Names.{declared, phase_two}
+use Rattle.script_table.specs.Read.{said, faults}
 use Rattle.script_text.specs.Canon.{Words, text_of}
 use Rattle.canonical_law.specs.Canonical.{canonical_words}
 
@@ -87,3 +88,12 @@ pub record HasNoFault (lines : List (List ℕ)) : Type 0 where
 pub record KeepsStatements (lines : List (List ℕ)) : Type 0 where
   pub clean : HasNoFault (canonical_lines lines)
   pub anew : AreAnew (said_from patterns 1 lines) (said_from patterns 1 (canonical_lines lines))
+
+-- the text of the canonical lines
+abbrev pub canonical_text : List ℕ → List ℕ
+canonical_text text = joined_lines (canonical_lines (lines_of text))
+
+-- the canonical text has no fault, and says the same statements anew, in the same order
+pub record KeepsText (text : List ℕ) : Type 0 where
+  pub clean : faults patterns (canonical_text text) ≡ []
+  pub anew : AreAnew (said patterns text) (said patterns (canonical_text text))
