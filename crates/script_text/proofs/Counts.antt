@@ -1,5 +1,5 @@
 -- How many steps a list of steps has, and its parts.
-use Rattle.std.proofs.Common.{◌≡◌, ◌≤◌, ◌<◌, ℕ, zero, suc, ◌+◌, List, [], ◌∷◌, length, drop, get_or, refl, sym, subst, ap, arith, drop-cons, add-one}
+use Rattle.std.proofs.Common.{◌≡◌, ◌≤◌, ◌<◌, ℕ, zero, suc, List, [], ◌∷◌, length, get_or, ap, arith}
 use Rattle.script_tree.specs.declared.body.Step.{Step}
 use Rattle.script_tree.specs.declared.body.Step.TheVariants.{Run, Make, Set, Add, Take, Test, Loop, Guard}
 use Rattle.script_tree.specs.Block.{Block}

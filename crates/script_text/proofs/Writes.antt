@@ -1,12 +1,11 @@
 -- Texts that are written one after another.
-use Rattle.std.proofs.Common.{◌≡◌, ◌≤◌, ℕ, ◌+◌, List, [], ◌∷◌, ◌++◌, length, take, refl, sym, ◌∙◌, ap, subst, arith, min, Option, Result, Ok, Err, Bool, true, false}
+use Rattle.std.proofs.Common.{◌≡◌, ℕ, ◌+◌, List, [], ◌++◌, length, take, refl, sym, ◌∙◌, subst, arith, min, Option, Result, Ok, Err, true, false}
 use Rattle.std.proofs.Math.Seq.{take-append-add}
 use Rattle.std.proofs.lemmas.List.{take_min, take-append-le}
 use Rattle.std.specs.Prelude.{IsErr}
 use Rattle.std.specs.Io.KnownBytes.{Appends}
 use Rattle.rt_io.specs.declared.outside.Failed.{Failed}
-use Rattle.rt_io.specs.Causes.{Rose, HasCause}
-use Rattle.rt_io.specs.Bytes.{AppendsPart, WritesAll}
+use Rattle.rt_io.specs.Bytes.{AppendsPart}
 use Rattle.rt_io.proofs.Known.{appends_none, appends_more}
 use Rattle.script_text.specs.Writes.{Writes}
 

@@ -14,3 +14,6 @@ mod write;
 
 pub use names::Sort;
 pub use write::write_script;
+
+#[cfg(test)]
+mod tests;

@@ -1,4 +1,4 @@
-use Rattle.std.proofs.Common.{◌≡◌, rules, sym, ◌∙◌, ap, subst, arith}
+use Rattle.std.proofs.Common.{arith}
 use Rattle.script_text.proofs.Writes.{writes_then, writes_failed}
 use Rattle.script_text.proofs.Text.{text_of-block, steps_text_more, steps_text_split}
 use Rattle.script_text.proofs.Counts.{item_le}

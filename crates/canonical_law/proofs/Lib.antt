@@ -1,0 +1,14 @@
+pub mod Decimals
+pub mod Signals
+pub mod Sets
+pub mod Answers
+pub mod Apart
+pub mod Bounds
+pub mod Written
+pub mod Kept
+pub mod LineLaws
+pub mod Places
+pub mod Limits
+pub mod Naming
+pub mod Names
+pub mod Text

@@ -1,0 +1,5 @@
+use Rattle.canonical_law.proofs.Text.{text_kept}
+use Rattle.canonical_law.proofs.lines.accepted_texts_stay_accepted.Goals as goal
+
+pub returns : goal.returns
+returns c = text_kept

@@ -1,0 +1,5 @@
+use Rattle.canonical_law.proofs.LineLaws.{keeps_pattern}
+use Rattle.canonical_law.proofs.lines.lines_keep_their_patterns.Goals as goal
+
+pub returns : goal.returns
+returns c = keeps_pattern

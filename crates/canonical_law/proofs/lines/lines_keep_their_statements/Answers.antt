@@ -1,0 +1,5 @@
+use Rattle.canonical_law.proofs.Text.{statements_kept}
+use Rattle.canonical_law.proofs.lines.lines_keep_their_statements.Goals as goal
+
+pub returns : goal.returns
+returns c = statements_kept

@@ -1,0 +1,3 @@
+pub mod Canonical
+pub mod Apart
+pub mod Laws

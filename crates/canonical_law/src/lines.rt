@@ -1,0 +1,30 @@
+// What is written as lines is read back.
+ghost use Rattle.std.specs.Prelude.{◌≡◌, ℕ, List, []};
+ghost use Rattle.script_table.specs.Table.{patterns};
+ghost use Rattle.script_table.specs.Read.{faults};
+ghost use Rattle.script_table.specs.Patterns.{Row};
+ghost use Rattle.script_text.specs.Canon.{Words};
+ghost use Rattle.canonical_law.specs.Laws.{IsSound, KeepsPattern, HasNoFault, KeepsStatements, KeepsText, AreWords, ReadBack};
+
+/// Lines of words read back from their text, each with its words, and none has a bad byte.
+pub fn lines_read_back()
+    ensures { (lines : List Words) → AreWords lines → ReadBack lines }
+{}
+
+/// A line that has a pattern and no fault of its own, written anew with its canonical words, has the same
+/// pattern, no fault of its own, and its canonical words.
+pub fn lines_keep_their_patterns()
+    ensures { (row : Row) (line : List ℕ) → IsSound row line → KeepsPattern row line }
+{}
+
+/// Where the lines of a text have no fault, their canonical lines have none; and they say the same
+/// statements in the same order, each with its pattern and its canonical words.
+pub fn lines_keep_their_statements()
+    ensures { (lines : List (List ℕ)) → HasNoFault lines → KeepsStatements lines }
+{}
+
+/// The canonical text of a text without faults has no fault, and says the same statements in the same order,
+/// each with its pattern and its canonical words.
+pub fn accepted_texts_stay_accepted()
+    ensures { (text : List ℕ) → faults patterns text ≡ [] → KeepsText text }
+{}
