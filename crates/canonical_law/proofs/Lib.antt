@@ -12,3 +12,9 @@ pub mod Limits
 pub mod Naming
 pub mod Names
 pub mod Text
+pub mod Forms
+pub mod Shape
+pub mod Sameness
+pub mod Sound
+pub mod Rebuilt
+pub mod Accepted

@@ -71,7 +71,7 @@ statements_kept lines clean =
       anew = anew;
     }
 
-no_fault : (text : List ℕ) → faults patterns text ≡ [] → HasNoFault (lines_of text)
+pub no_fault : (text : List ℕ) → faults patterns text ≡ [] → HasNoFault (lines_of text)
 no_fault text e =
     let lines : List (List ℕ) = lines_of text in
     let ss : List Said = said patterns text in

@@ -10,8 +10,8 @@ mod lines;
 mod words;
 
 pub use lines::{
-    accepted_texts_stay_accepted, lines_keep_their_patterns, lines_keep_their_statements,
-    lines_read_back,
+    accepted_texts_stay_accepted, canonical_texts_read_the_same, lines_keep_their_patterns,
+    lines_keep_their_statements, lines_read_back,
 };
 pub use words::{
     answers_read_back, numbers_read_back, operands_read_back, sets_read_back, signals_read_back,
