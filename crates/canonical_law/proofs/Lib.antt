@@ -18,3 +18,4 @@ pub mod Sameness
 pub mod Sound
 pub mod Rebuilt
 pub mod Accepted
+pub mod Shown
