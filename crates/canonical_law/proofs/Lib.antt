@@ -19,3 +19,4 @@ pub mod Sound
 pub mod Rebuilt
 pub mod Accepted
 pub mod Shown
+pub mod Numbers
