@@ -20,3 +20,4 @@ pub mod Rebuilt
 pub mod Accepted
 pub mod Shown
 pub mod Numbers
+pub mod Spelled
