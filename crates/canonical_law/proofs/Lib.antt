@@ -21,3 +21,5 @@ pub mod Accepted
 pub mod Shown
 pub mod Numbers
 pub mod Spelled
+pub mod Stack
+pub mod Printed
