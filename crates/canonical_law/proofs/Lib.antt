@@ -23,3 +23,5 @@ pub mod Numbers
 pub mod Spelled
 pub mod Stack
 pub mod Printed
+pub mod Declares
+pub mod Named

@@ -38,7 +38,7 @@ pub record Told (es : List Entry) (ds : List Decl) (f : Form) (words : List (Lis
   pub server : server_faults f words ≡ []
 
 -- what is so of words that are made of one for each place
-told_padded : (es : List Entry) (ds : List Decl) (P : List (List ℕ) → Type 0) (f : Form) (words : List (List ℕ)) → Told es ds f words
+pub told_padded : (es : List Entry) (ds : List Decl) (P : List (List ℕ) → Type 0) (f : Form) (words : List (List ℕ)) → Told es ds f words
     → (server_faults f (padded (places_of f) words) ≡ [] → P (padded (places_of f) words)) → P words
 told_padded es ds P f words told p =
     let same = padded-fits (places_of f) words told.fit in
@@ -139,7 +139,7 @@ block_closing f close.End e = refl
 block_closing f close.Pop e = absurd (let f : false ≡ true = e in cc)
 block_closing f close.PopRun e = absurd (let f : false ≡ true = e in cc)
 
-empty_nil : (blocks : List Opened) → is_empty blocks ≡ true → blocks ≡ []
+pub empty_nil : (blocks : List Opened) → is_empty blocks ≡ true → blocks ≡ []
 empty_nil [] e = refl
 empty_nil (o ∷ blocks) e = absurd (let f : false ≡ true = e in cc)
 

@@ -131,9 +131,9 @@ closing_words block.Push run = pop_words run
 closing_words other run = end_words
 
 -- the parameters of a sporadic server fit one another
-record ServerFits (high low period budget max : ℕ) : Type 0 where
-  pending : (nat_le 1 max && nat_le max 16) ≡ true
-  order : (nat_lt low high && (nat_le 1 budget && nat_le budget period)) ≡ true
+pub record ServerFits (high low period budget max : ℕ) : Type 0 where
+  pub pending : (nat_le 1 max && nat_le max 16) ≡ true
+  pub order : (nat_lt low high && (nat_le 1 budget && nat_le budget period)) ≡ true
 
 abbrev held_values : ℕ → ℕ → ℕ → ℕ → ℕ → Bool
 held_values high low period budget max =
@@ -150,7 +150,7 @@ min_small n h = omega arith
 below : (low high n : ℕ) → (nat_le low n && nat_le n high) ≡ true → n ≤ high
 below low high n e = let h = both (nat_le low n) (nat_le n high) e in search rules
 
-server_fits : (high low period budget max : ℕ) → (nat_le 1 high && nat_le high 255) ≡ true → (nat_le 1 low && nat_le low 255) ≡ true → (nat_le 0 period && nat_le period greatest) ≡ true
+pub server_fits : (high low period budget max : ℕ) → (nat_le 1 high && nat_le high 255) ≡ true → (nat_le 1 low && nat_le low 255) ≡ true → (nat_le 0 period && nat_le period greatest) ≡ true
     → (nat_le 0 budget && nat_le budget greatest) ≡ true → (nat_le 0 max && nat_le max greatest) ≡ true → when (true && not (held_values high low period budget max)) ServerRange ≡ [] → ServerFits high low period budget max
 server_fits high low period budget max a b c d e f =
     let up = below 1 255 high a in
