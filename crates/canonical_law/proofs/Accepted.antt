@@ -18,6 +18,7 @@ use Rattle.script_table.specs.Read.{said, faults, verdict, read}
 use Rattle.canonical_law.specs.Apart.{is_bounded}
 use Rattle.canonical_law.specs.Laws.{IsSound, IsRanged, AreRanged, canonical_text}
 use Rattle.canonical_law.proofs.Apart.{found_passes, found_fits, patterns_bounded}
+use Rattle.canonical_law.proofs.Declares.{declares_rightly, patterns_declare_rightly}
 use Rattle.canonical_law.proofs.Forms.{fitting_has}
 use Rattle.canonical_law.proofs.Limits.{are_ranged}
 use Rattle.canonical_law.proofs.LineLaws.{some_found}
@@ -34,6 +35,7 @@ sound_said n row line sound =
     let bounded : list_all is_bounded row.places ≡ true = found_passes test (λ r. list_all is_bounded r.places) patterns row found patterns_bounded in
     record {
       places = has;
+      declares = found_passes test declares_rightly patterns row found patterns_declare_rightly;
       sound = record {
         bounded = subst (λ (places : List Spot). list_all is_bounded places ≡ true) has bounded;
         fit = subst (λ places. fits places (line_words line) ≡ true) has (found_fits patterns (line_words line) row found);

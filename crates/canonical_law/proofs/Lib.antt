@@ -25,3 +25,4 @@ pub mod Stack
 pub mod Printed
 pub mod Declares
 pub mod Named
+pub mod Known

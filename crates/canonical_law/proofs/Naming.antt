@@ -147,7 +147,7 @@ from_alike R (s ∷ ss) (y ∷ ts) d x anew lined h =
     (from_alike R ss ts (declared_at d s.line s.row.places s.words) (declared_at x y.line s.row.places (canonical_words s.row.places s.words)) anew.1 lined.1
     (at_alike R s.line y.line s.row.places s.words d x lined.0 h))
 
-no_kinds : (n : ℕ) (kinds : List FaultKind) → faults_at 2 n kinds ≡ [] → kinds ≡ []
+pub no_kinds : (n : ℕ) (kinds : List FaultKind) → faults_at 2 n kinds ≡ [] → kinds ≡ []
 no_kinds n [] e = refl
 no_kinds n (k ∷ ks) e = absurd (let f : (fault 2 n k ∷ faults_at 2 n ks) ≡ [] = e in cc)
 

@@ -16,6 +16,8 @@ use Rattle.script_table.specs.Meaning.{object_decl, action_decl, body_decl, plai
 use Rattle.script_table.specs.Build.{Opened, Built, put_step, with_decl, with_step, close_one, closed, after_form, after, built_from, nothing_built, script_of}
 use Rattle.canonical_law.specs.Canonical.{canonical_words}
 use Rattle.canonical_law.specs.Laws.{AreAnew}
+use Rattle.std.specs.Prelude.{true}
+use Rattle.canonical_law.proofs.Declares.{declares_rightly}
 use Rattle.canonical_law.proofs.Forms.{places_of}
 use Rattle.canonical_law.proofs.Shape.{padded, Holds}
 use Rattle.canonical_law.proofs.Sameness.{Same, call_same, object_same, action_same, body_same, plain_same, block_same}
@@ -124,6 +126,7 @@ after_open es b (form.Close f) words sound h = closed_open es b (runs_cleanup f)
 -- a statement has the places of its form, and no fault of its own
 pub record SoundSaid (s : Said) : Type 0 where
   pub places : s.row.places ≡ places_of s.row.form
+  pub declares : declares_rightly s.row ≡ true
   pub sound : Sound s.row.form s.words
 
 abbrev pub AllSound : List Said → Type 0
