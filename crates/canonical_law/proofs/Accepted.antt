@@ -27,7 +27,7 @@ use Rattle.canonical_law.proofs.Places.{InPlace, both_none, no_kinds, one_line, 
 use Rattle.canonical_law.proofs.Rebuilt.{SoundSaid, AllSound, script_anew}
 use Rattle.canonical_law.proofs.Text.{no_fault, text_kept}
 
-sound_said : (n : ℕ) (row : Row) (line : List ℕ) → IsSound row line → SoundSaid (record { line = n; row = row; words = line_words line })
+pub sound_said : (n : ℕ) (row : Row) (line : List ℕ) → IsSound row line → SoundSaid (record { line = n; row = row; words = line_words line })
 sound_said n row line sound =
     let found = some_found patterns (line_words line) row sound.pattern in
     let test : Row → Bool = λ r. r.built && fits r.places (line_words line) in

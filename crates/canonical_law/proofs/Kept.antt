@@ -110,7 +110,7 @@ are_clean_kept (spot ∷ spots) (word ∷ words) bound clean =
     let rest = are_clean_kept spots words b.1 (record { spelled = s.1; ranged = r.1 }) in
     record { spelled = rw (one.spelled, rest.spelled) refl; ranged = rw (one.ranged, rest.ranged) refl }
 
-decimal_word : (n : ℕ) → n < 2 ^ 64 → is_word (decimal n) ≡ true
+pub decimal_word : (n : ℕ) → n < 2 ^ 64 → is_word (decimal n) ≡ true
 decimal_word n h = digits_are_word (decimal n) (decimal_nonempty n h) (are_digits n h)
 
 operand_word_case : (b : Bool) (word : List ℕ) → is_register word ≡ b → IsClean Operand word → is_word word ≡ true → is_word (if b then word else decimal (value_of word)) ≡ true

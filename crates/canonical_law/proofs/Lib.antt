@@ -26,3 +26,4 @@ pub mod Printed
 pub mod Declares
 pub mod Named
 pub mod Known
+pub mod Moved
