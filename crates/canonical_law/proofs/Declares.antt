@@ -1,5 +1,5 @@
 -- Which lines declare a name, and of what kind.
-use Rattle.std.proofs.Common.{◌≡◌, ℕ, List, [], ◌∷◌, refl, sym, ◌∙◌, ap, Bool, true, false, not, Option, None, Some}
+use Rattle.std.proofs.Common.{◌≡◌, ℕ, List, [], ◌∷◌, refl, ◌∙◌, ap, Bool, true, false, not, Option, None, Some}
 use Rattle.std.specs.Prelude.{◌&&◌}
 use Rattle.std.specs.List.{list_all}
 use Rattle.script_lex.proofs.Rejoined.{both}
@@ -7,7 +7,7 @@ use Rattle.script_table.specs.declared.form.Form.{Form}
 use Rattle.script_table.specs.declared.form.Form.TheVariants as form
 use Rattle.script_table.specs.declared.pattern.NameKind.{NameKind}
 use Rattle.script_table.specs.declared.pattern.NameKind.TheVariants as kind
-use Rattle.script_table.specs.Patterns.{Spot, Keyword, Answer, Number, Operand, Declares, Uses, Signal, Acts, Signals, Row, same_kind}
+use Rattle.script_table.specs.Patterns.{Spot, Declares, Uses, Row, same_kind}
 use Rattle.script_table.specs.Table.{patterns, declaration_patterns, step_patterns, call_patterns}
 use Rattle.script_table.specs.LineFaults.{stands, fits}
 use Rattle.script_table.specs.Structure.{body_kind}

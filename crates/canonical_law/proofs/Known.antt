@@ -1,11 +1,9 @@
 -- The numbers of the names of a text without faults give the names back, and each of its lines says what is written.
-use Rattle.std.proofs.Common.{◌≡◌, ◌≤◌, ◌<◌, ℕ, ◌+◌, List, [], ◌∷◌, ◌++◌, refl, sym, ◌∙◌, ap, subst, Bool, true, false, not, Option, None, Some, arith, rules, append-nil}
-use Rattle.std.specs.Prelude.{◌&&◌, nat_lt, is_some, if◌then◌else◌}
+use Rattle.std.proofs.Common.{◌≡◌, ◌≤◌, ◌<◌, ℕ, ◌+◌, List, [], ◌∷◌, ◌++◌, refl, sym, ◌∙◌, ap, subst, Bool, true, false, Option, None, Some, arith, rules, append-nil}
+use Rattle.std.specs.Prelude.{nat_lt, is_some}
 use Rattle.std.specs.Str.{bytes_eq}
-use Rattle.std.specs.List.{list_all}
 use Rattle.script_lex.proofs.Rejoined.{both}
 use Rattle.script_tree.specs.declared.decl.Decl.{Decl}
-use Rattle.script_table.specs.declared.fault.FaultKind.{FaultKind}
 use Rattle.script_table.specs.declared.fault.FaultKind.TheVariants.{DuplicateName, TooMany}
 use Rattle.script_table.specs.declared.form.Form.{Form}
 use Rattle.script_table.specs.declared.form.Form.TheVariants as form
@@ -14,25 +12,25 @@ use Rattle.script_table.specs.declared.pattern.Closer.TheVariants as closer
 use Rattle.script_table.specs.declared.pattern.NameKind.{NameKind}
 use Rattle.script_table.specs.declared.pattern.NameKind.TheVariants as kind
 use Rattle.script_table.specs.Faults.{faults_at, when}
-use Rattle.script_table.specs.Patterns.{Spot, Keyword, Answer, Number, Operand, Declares, Uses, Signal, Acts, Signals, Row, same_kind}
+use Rattle.script_table.specs.Patterns.{Spot, Keyword, Answer, Number, Operand, Declares, Uses, Signal, Acts, Signals, same_kind}
 use Rattle.script_table.specs.LineFaults.{stands, fits, place_faults}
-use Rattle.script_table.specs.Structure.{Said, opened, not_here, closer_of, closed_by}
-use Rattle.script_table.specs.Ranges.{Tally, no_tally, entered, left, tallied, is_over, is_too_many, range_faults, ranging, server_faults, phase_three}
-use Rattle.script_table.specs.Names.{Counts, no_counts, counted, count_of, counts_from, Entry, entry_of, with_name, Declared, nothing_declared, declaring, declared_at, declared_from, declared, duplicate, naming, name_faults, phase_two}
+use Rattle.script_table.specs.Structure.{Said, closer_of, closed_by}
+use Rattle.script_table.specs.Ranges.{Tally, entered, left, tallied, is_over, is_too_many, range_faults, ranging, server_faults, phase_three}
+use Rattle.script_table.specs.Names.{Counts, no_counts, counted, count_of, counts_from, Entry, entry_of, with_name, Declared, nothing_declared, declaring, declared_at, declared_from, duplicate, naming, name_faults, phase_two}
 use Rattle.script_table.specs.Build.{Built, after, built_from, nothing_built}
 use Rattle.script_text.specs.declared.names.Sort.{Sort}
 use Rattle.script_text.specs.Names.{names_of}
 use Rattle.canonical_law.proofs.Places.{both_none}
-use Rattle.canonical_law.proofs.Kept.{AreClean, none_first}
+use Rattle.canonical_law.proofs.Kept.{none_first}
 use Rattle.canonical_law.proofs.Limits as bounds
 use Rattle.canonical_law.proofs.Naming as alike
 use Rattle.canonical_law.proofs.Names.{Rises}
 use Rattle.canonical_law.proofs.Declares.{declared_kind, no_uses, by_kind, names_after, declared_names}
 use Rattle.canonical_law.proofs.Forms.{places_of}
-use Rattle.canonical_law.proofs.Shape.{first, rest, Holds}
-use Rattle.canonical_law.proofs.Shown.{Shows, sort_for}
+use Rattle.canonical_law.proofs.Shape.{first, rest}
+use Rattle.canonical_law.proofs.Shown.{sort_for}
 use Rattle.canonical_law.proofs.Sound.{Sound}
-use Rattle.canonical_law.proofs.Spelled.{GivesName, AllGive, all_shown}
+use Rattle.canonical_law.proofs.Spelled.{AllGive, all_shown}
 use Rattle.canonical_law.proofs.Rebuilt.{SoundSaid, AllSound}
 use Rattle.canonical_law.proofs.Numbers.{names_in, AreNumbered, numbered_more, counts_more, names_more, gives_name, AreFew, number_below, few_more}
 use Rattle.canonical_law.proofs.Stack.{Stack, openings_of, Placed, at_end, after_goes}
@@ -257,7 +255,7 @@ pub give_names : (es : List Entry) (ss : List Said) (d : Declared) (t : Tally) (
 give_names es [] d t b n m known sound names limits rises stack placed =
     let none = at_end Naming b.blocks stack placed in
     let all : (kind : NameKind) → names_of (sort_for kind) b.decls ≡ names_in (sort_for kind) d.names =
-        λ kind. sym (append-nil (names_of (sort_for kind) b.decls)) ∙ (ap (λ bs. names_of (sort_for kind) b.decls ++ open_names (sort_for kind) bs) (sym none) ∙ known.names (sort_for kind)) in
+    λ kind. sym (append-nil (names_of (sort_for kind) b.decls)) ∙ (ap (λ bs. names_of (sort_for kind) b.decls ++ open_names (sort_for kind) bs) (sym none) ∙ known.names (sort_for kind)) in
     λ word e found.
     let below = number_below no_counts d.names word e known.numbered found in
     let few : count_of (counts_from no_counts d.names) e.kind ≤ 64 = subst (λ c. count_of c e.kind ≤ 64) known.counts (known.few e.kind) in
@@ -278,7 +276,7 @@ give_names es (s ∷ ss) d t b n m known sound names limits rises stack placed =
     let new = is_new d n s.line (s ∷ ss) k s.row.places s.words declares fit known.before rises.0 fault in
     let more = known_more d.names t.counts n s.line (λ sort. names_so_far sort b) k s.words known new (has_room t f limit.room) rises.0 in
     let after_known = known_as (names_after d.names s.line k s.words) next.names (count_with t.counts k) (tallied t f).counts (s.line + 1) (λ sort. names_so_far sort b ++ kind_names sort k s.words) (λ sort. names_so_far sort (after es b s))
-        (declared_names d s.line k s.row.places s.words declares fit) (tallied_counts t f) (λ sort. after_names sort es b f s.row.bar s.words told stack placed.0) more in
+    (declared_names d s.line k s.row.places s.words declares fit) (tallied_counts t f) (λ sort. after_names sort es b f s.row.bar s.words told stack placed.0) more in
     give_names es ss next (tallied t f) (after es b s) (s.line + 1) m after_known sound.1 own.1 ranges.1 rises.1 goes.stack (subst (λ os. Placed os ss) (sym goes.openings) placed.1)
 
 pub nothing_known : Known [] no_counts 0 (λ sort. names_so_far sort nothing_built)

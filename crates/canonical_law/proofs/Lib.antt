@@ -27,3 +27,4 @@ pub mod Declares
 pub mod Named
 pub mod Known
 pub mod Moved
+pub mod Again

@@ -1,10 +1,7 @@
 -- The line of the quantum is moved to the front.
-use Rattle.std.proofs.Common.{◌≡◌, ◌≤◌, ℕ, ◌+◌, List, [], ◌∷◌, ◌++◌, refl, sym, ◌∙◌, ap, subst, Bool, true, false, Option, None, Some, arith, rules}
+use Rattle.std.proofs.Common.{◌≡◌, ◌≤◌, ℕ, ◌+◌, List, [], ◌∷◌, ◌++◌, refl, sym, ◌∙◌, ap, subst, Bool, true, false, None, Some, arith}
 use Rattle.std.specs.Prelude.{map, unwrap_or, ◌&&◌, nat_le, if◌then◌else◌}
-use Rattle.std.specs.Option.{option_map}
-use Rattle.script_tree.specs.Tree.{block_of}
 use Rattle.script_tree.specs.declared.body.Step.{Step}
-use Rattle.script_tree.specs.declared.body.Step.TheVariants as steps
 use Rattle.script_table.specs.declared.fault.FaultKind.TheVariants.{TooMany}
 use Rattle.script_table.specs.declared.form.Form.{Form}
 use Rattle.script_table.specs.declared.form.Form.TheVariants as form
@@ -12,25 +9,21 @@ use Rattle.script_table.specs.declared.pattern.Closer.{Closer}
 use Rattle.script_table.specs.declared.pattern.Closer.TheVariants as closer
 use Rattle.script_table.specs.declared.pattern.Opening.{Opening}
 use Rattle.script_table.specs.Faults.{faults_at, when}
-use Rattle.script_table.specs.Patterns.{Spot, greatest}
+use Rattle.script_table.specs.Patterns.{greatest}
 use Rattle.script_table.specs.Words.{value_of}
 use Rattle.script_table.specs.LineFaults.{place_faults}
 use Rattle.script_table.specs.Structure.{Said, opened, closer_of, closed_by}
 use Rattle.script_table.specs.Ranges.{Tally, entered, left, tallied, is_too_many, is_within, range_faults, ranging, server_faults, phase_three, word}
 use Rattle.script_table.specs.Names.{Entry, Declared, declared_at, declared_from, name_faults, phase_two}
-use Rattle.script_table.specs.Operands.{number_in}
-use Rattle.script_table.specs.Meaning.{plain_step, block_step, runs_cleanup}
-use Rattle.script_table.specs.Calls.{call_of}
-use Rattle.script_table.specs.Build.{Opened, Built, put_step, close_one, closed, after_form, after, built_from}
+use Rattle.script_table.specs.Meaning.{runs_cleanup}
+use Rattle.script_table.specs.Build.{Opened, Built, close_one, closed, after_form, after, built_from}
 use Rattle.script_text.specs.Canon.{Words}
 use Rattle.canonical_law.specs.Canonical.{canonical_words}
 use Rattle.canonical_law.proofs.Places.{both_none}
 use Rattle.canonical_law.proofs.Kept.{within_parts}
 use Rattle.canonical_law.proofs.Names.{Rises}
-use Rattle.canonical_law.proofs.Naming as alike
-use Rattle.canonical_law.proofs.Limits as bounds
 use Rattle.canonical_law.proofs.Forms.{places_of}
-use Rattle.canonical_law.proofs.Rebuilt.{SoundSaid, AllSound}
+use Rattle.canonical_law.proofs.Rebuilt.{AllSound}
 use Rattle.canonical_law.proofs.Stack.{Placed}
 use Rattle.canonical_law.proofs.Printed.{kept, line_of, lines_of_said}
 
@@ -63,7 +56,7 @@ placed_without openings (s ∷ ss) h =
     let ih = placed_without (opened s.row.form openings) ss h.1 in
     keep_case (Placed openings) s.row.form s (without ss) (λ q. subst (λ f. Placed (opened f openings) (without ss)) q ih) (λ other. (h.0, ih))
 
-rises_down : (n m : ℕ) (ss : List Said) → n ≤ m → Rises m ss → Rises n ss
+pub rises_down : (n m : ℕ) (ss : List Said) → n ≤ m → Rises m ss → Rises n ss
 rises_down n m [] h r = tt
 rises_down n m (s ∷ ss) h r = let one = r.0 in (omega arith, r.1)
 
@@ -98,8 +91,8 @@ declared_without d (s ∷ ss) sound =
     let ih = declared_without next ss sound.1 in
     keep_case (λ xs. declared_from d xs ≡ declared_from d (s ∷ ss)) s.row.form s (without ss)
     (λ q.
-        let same : next ≡ d = ap (λ places. declared_at d s.line places s.words) (sound.0.places ∙ ap places_of q) ∙ quantum_declares d s.line s.words in
-        ap (λ x. declared_from x (without ss)) (sym same) ∙ ih)
+    let same : next ≡ d = ap (λ places. declared_at d s.line places s.words) (sound.0.places ∙ ap places_of q) ∙ quantum_declares d s.line s.words in
+    ap (λ x. declared_from x (without ss)) (sym same) ∙ ih)
     (λ other. ih)
 
 abbrev pub with_quanta : ℕ → Tally → Tally
@@ -147,9 +140,9 @@ limits_without m k t (s ∷ ss) e =
     keep_case (λ xs. phase_three m (with_quanta k t) xs ≡ []) s.row.form s (without ss)
     (λ q. subst (λ f. phase_three m (with_quanta k (tallied t f)) (without ss) ≡ []) q ih)
     (λ other.
-        ap (λ x. faults_at 3 s.line (range_faults x s) ++ phase_three m x (without ss)) (tallied_quanta t k s.row.form other)
-        ∙ (ap (λ x. faults_at 3 s.line x ++ phase_three m (with_quanta k (tallied t s.row.form)) (without ss)) (range_quanta (tallied t s.row.form) k s other)
-        ∙ (ap (λ x. x ++ phase_three m (with_quanta k (tallied t s.row.form)) (without ss)) own.0 ∙ ih)))
+    ap (λ x. faults_at 3 s.line (range_faults x s) ++ phase_three m x (without ss)) (tallied_quanta t k s.row.form other)
+    ∙ (ap (λ x. faults_at 3 s.line x ++ phase_three m (with_quanta k (tallied t s.row.form)) (without ss)) (range_quanta (tallied t s.row.form) k s other)
+    ∙ (ap (λ x. x ++ phase_three m (with_quanta k (tallied t s.row.form)) (without ss)) own.0 ∙ ih)))
 
 abbrev pub with_quantum : ℕ → Built → Built
 with_quantum q b = record b { quantum = q }
@@ -245,5 +238,5 @@ lines_without (s ∷ ss) sound =
     keep_case (λ xs. line_of s.row.form s.words ++ lines_of_said ss ≡ map words_of xs) s.row.form s (without ss)
     (λ is. ap (λ f. line_of f s.words ++ lines_of_said ss) is ∙ ih)
     (λ other.
-        ap (λ l. l ++ lines_of_said ss) (line_some s.row.form s.words other)
-        ∙ (ap (λ places. canonical_words places s.words ∷ lines_of_said ss) (sym sound.0.places) ∙ ap (λ l. words_of s ∷ l) ih))
+    ap (λ l. l ++ lines_of_said ss) (line_some s.row.form s.words other)
+    ∙ (ap (λ places. canonical_words places s.words ∷ lines_of_said ss) (sym sound.0.places) ∙ ap (λ l. words_of s ∷ l) ih))

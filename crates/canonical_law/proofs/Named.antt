@@ -1,5 +1,5 @@
 -- The names of what is built so far.
-use Rattle.std.proofs.Common.{◌≡◌, ℕ, List, [], ◌∷◌, ◌++◌, refl, sym, ◌∙◌, ap, subst, Bool, true, false, Option, None, Some, append_assoc, append-nil}
+use Rattle.std.proofs.Common.{◌≡◌, ℕ, List, [], ◌∷◌, ◌++◌, refl, sym, ◌∙◌, ap, Bool, true, false, Option, None, Some, append_assoc, append-nil}
 use Rattle.std.specs.Prelude.{option_to_list, if◌then◌else◌}
 use Rattle.std.specs.Option.{option_map}
 use Rattle.script_tree.specs.Block.{Block}
@@ -8,7 +8,6 @@ use Rattle.script_tree.specs.declared.body.Step.{Step}
 use Rattle.script_tree.specs.declared.body.Step.TheVariants as steps
 use Rattle.script_tree.specs.declared.decl.Decl.{Decl}
 use Rattle.script_tree.specs.declared.decl.Decl.TheVariants.{Named, Action}
-use Rattle.script_tree.specs.declared.decl.Kind.{Kind}
 use Rattle.script_table.specs.declared.form.Form.{Form}
 use Rattle.script_table.specs.declared.form.Form.TheVariants as form
 use Rattle.script_table.specs.declared.form.ObjectForm.{ObjectForm}
@@ -22,19 +21,19 @@ use Rattle.script_table.specs.declared.pattern.NameKind.{NameKind}
 use Rattle.script_table.specs.declared.pattern.NameKind.TheVariants.{Handler}
 use Rattle.script_table.specs.Words.{value_of}
 use Rattle.script_table.specs.Ranges.{word, server_faults, object_kind}
-use Rattle.script_table.specs.Structure.{Said, not_here, body_kind}
+use Rattle.script_table.specs.Structure.{not_here, body_kind}
 use Rattle.script_table.specs.Names.{Entry}
 use Rattle.script_table.specs.Operands.{signal_at, named_at}
 use Rattle.script_table.specs.Calls.{call_of}
 use Rattle.script_table.specs.Meaning.{object_decl, action_decl, runs, ignores, body_decl, plain_step, block_step, runs_cleanup}
 use Rattle.script_table.specs.Build.{Opened, Built, put_step, close_one, closed, after_form}
 use Rattle.script_text.specs.declared.names.Sort.{Sort}
-use Rattle.script_text.specs.Names.{sort_of, same_sort, onto_names, names_of}
+use Rattle.script_text.specs.Names.{sort_of, same_sort, names_of}
 use Rattle.canonical_law.proofs.Declares.{declared_kind}
 use Rattle.canonical_law.proofs.Forms.{places_of}
 use Rattle.canonical_law.proofs.Shape.{padded, Holds, first, rest}
 use Rattle.canonical_law.proofs.Shown.{Shows, sort_for, server_fits}
-use Rattle.canonical_law.proofs.Stack.{IsInner, is_empty, Stack, openings_of, outside}
+use Rattle.canonical_law.proofs.Stack.{IsInner, Stack, openings_of, outside}
 use Rattle.canonical_law.proofs.Printed.{Told, told_padded, empty_nil}
 
 -- the name that a line declares, where it is of this sort
@@ -126,8 +125,8 @@ close_names sort es b run (form.Body f) words ss within told =
     let d : Option Decl = body_decl f words (block_of ss) in
     let names : List (List ℕ) = kind_names sort (Some (body_kind f)) words in
     let named : names_of sort (option_to_list d) ≡ names =
-        told_padded [] [] (λ w. names_of sort (option_to_list (body_decl f w (block_of ss))) ≡ kind_names sort (Some (body_kind f)) w) (form.Body f) words told
-        (λ server. body_named [] [] sort (block_of ss) f words told.shown server) in
+    told_padded [] [] (λ w. names_of sort (option_to_list (body_decl f w (block_of ss))) ≡ kind_names sort (Some (body_kind f)) w) (form.Body f) words told
+    (λ server. body_named [] [] sort (block_of ss) f words told.shown server) in
     decl_names_more sort b.decls d b.blocks names (empty_nil b.blocks within) named ∙ append_assoc (names_of sort b.decls) (open_names sort b.blocks) names
 close_names sort es b run (form.Block f) words ss within told =
     ap (λ x. names_of sort b.decls ++ x) (put_names sort (block_step es f words run (block_of ss)) b.blocks ∙ sym (append-nil (open_names sort b.blocks)))

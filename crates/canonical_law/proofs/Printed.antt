@@ -1,5 +1,5 @@
 -- The canonical lines of a script are those of the statements that it was built from.
-use Rattle.std.proofs.Common.{◌≡◌, ℕ, List, [], ◌∷◌, ◌++◌, refl, sym, ◌∙◌, ap, subst, Bool, true, false, not, Option, None, Some, append_assoc, append-nil}
+use Rattle.std.proofs.Common.{◌≡◌, ℕ, List, [], ◌∷◌, ◌++◌, refl, sym, ◌∙◌, ap, subst, true, false, not, Option, None, Some, append_assoc, append-nil}
 use Rattle.std.specs.Prelude.{codes, option_to_list}
 use Rattle.std.specs.Option.{option_map}
 use Rattle.script_tree.specs.Tree.{block_of}
@@ -16,10 +16,10 @@ use Rattle.script_table.specs.declared.form.CloseForm.{CloseForm}
 use Rattle.script_table.specs.declared.form.CloseForm.TheVariants as close
 use Rattle.script_table.specs.declared.pattern.Bar.{Bar}
 use Rattle.script_table.specs.Faults.{when}
-use Rattle.script_table.specs.Patterns.{Spot, same_closer}
+use Rattle.script_table.specs.Patterns.{same_closer}
 use Rattle.script_table.specs.LineFaults.{fits}
 use Rattle.script_table.specs.Ranges.{server_faults}
-use Rattle.script_table.specs.Structure.{Said, not_here, step_faults, close_faults, closed_by, closer_of, opened, unclosed}
+use Rattle.script_table.specs.Structure.{Said, not_here, close_faults, closed_by, closer_of, opened}
 use Rattle.script_table.specs.Names.{Entry}
 use Rattle.script_table.specs.Calls.{call_of}
 use Rattle.script_table.specs.Meaning.{object_decl, action_decl, body_decl, plain_step, block_step, runs_cleanup}
@@ -29,7 +29,7 @@ use Rattle.canonical_law.specs.Canonical.{canonical_words}
 use Rattle.canonical_law.proofs.Forms.{places_of}
 use Rattle.canonical_law.proofs.Shape.{padded, padded-fits, Holds}
 use Rattle.canonical_law.proofs.Shown.{Shows, shown_call, shown_step, shown_decl, closing_words, call_shown, object_shown, action_shown, body_shown, plain_shown, block_shown}
-use Rattle.canonical_law.proofs.Stack.{IsInner, is_empty, Stack, openings_of, Placed, Goes, outside, at_end, within_some, own_closer, not_stray, after_goes}
+use Rattle.canonical_law.proofs.Stack.{IsInner, is_empty, Stack, openings_of, Placed, outside, at_end, within_some, own_closer, after_goes}
 
 -- a line that says what is written as its canonical words
 pub record Told (es : List Entry) (ds : List Decl) (f : Form) (words : List (List ℕ)) : Type 0 where
@@ -157,8 +157,8 @@ close_lines es ds b (form.Body f) words ss g within told stack e =
     let body : List Words = block_lines ds (block_of ss) in
     let d : Option Decl = body_decl f words (block_of ss) in
     let shown : shown_decl ds d ≡ line ∷ (body ++ (end_words ∷ [])) =
-        told_padded es ds (λ w. shown_decl ds (body_decl f w (block_of ss)) ≡ kept (form.Body f) w ∷ (body ++ (end_words ∷ []))) (form.Body f) words told
-        (λ server. body_shown es ds (block_of ss) f words told.shown server) in
+    told_padded es ds (λ w. shown_decl ds (body_decl f w (block_of ss)) ≡ kept (form.Body f) w ∷ (body ++ (end_words ∷ []))) (form.Body f) words told
+    (λ server. body_shown es ds (block_of ss) f words told.shown server) in
     decl_lines_more ds b.decls d b.blocks (line ∷ (body ++ (end_words ∷ []))) (empty_nil b.blocks within) shown
     ∙ (ap (λ v. (decls_lines ds b.decls ++ open_lines ds b.blocks) ++ (line ∷ (body ++ (v ∷ [])))) (body_closing g e)
     ∙ regroup (decls_lines ds b.decls) (open_lines ds b.blocks) line body (close_words g))
@@ -168,8 +168,8 @@ close_lines es ds b (form.Block f) words ss g within told stack e =
     let s : Option Step = block_step es f words (runs_cleanup g) (block_of ss) in
     let last : Words = closing_words f (runs_cleanup g) in
     let shown : shown_step ds s ≡ line ∷ (body ++ (last ∷ [])) =
-        told_padded es ds (λ w. shown_step ds (block_step es f w (runs_cleanup g) (block_of ss)) ≡ kept (form.Block f) w ∷ (body ++ (last ∷ []))) (form.Block f) words told
-        (λ server. block_shown es ds (runs_cleanup g) (block_of ss) f words told.shown) in
+    told_padded es ds (λ w. shown_step ds (block_step es f w (runs_cleanup g) (block_of ss)) ≡ kept (form.Block f) w ∷ (body ++ (last ∷ []))) (form.Block f) words told
+    (λ server. block_shown es ds (runs_cleanup g) (block_of ss) f words told.shown) in
     step_lines_more ds b.decls s b.blocks (line ∷ (body ++ (last ∷ []))) within shown
     ∙ (ap (λ v. (decls_lines ds b.decls ++ open_lines ds b.blocks) ++ (line ∷ (body ++ (v ∷ [])))) (block_closing f g (own_closer (closer_of f) (closed_by g) (openings_of b.blocks) e))
     ∙ regroup (decls_lines ds b.decls) (open_lines ds b.blocks) line body (close_words g))
@@ -210,7 +210,7 @@ abbrev pub AllTold : List Entry → List Decl → List Said → Type 0
 AllTold es ds [] = Unit {0}
 AllTold es ds (s ∷ ss) = Told es ds s.row.form s.words × AllTold es ds ss
 
-built_lines : (es : List Entry) (ds : List Decl) (ss : List Said) (b : Built) → AllTold es ds ss → Stack (Told es ds) b.blocks → Placed (openings_of b.blocks) ss
+pub built_lines : (es : List Entry) (ds : List Decl) (ss : List Said) (b : Built) → AllTold es ds ss → Stack (Told es ds) b.blocks → Placed (openings_of b.blocks) ss
     → decls_lines ds (built_from es b ss).decls ≡ lines_so_far ds b ++ lines_of_said ss
 built_lines es ds [] b told stack placed =
     let none = at_end (Told es ds) b.blocks stack placed in

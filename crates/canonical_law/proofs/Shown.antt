@@ -37,7 +37,7 @@ use Rattle.canonical_law.specs.Canonical.{canonical_word, canonical_words}
 use Rattle.script_lex.proofs.Rejoined.{both}
 use Rattle.canonical_law.proofs.Forms.{places_of}
 use Rattle.canonical_law.proofs.Shape.{padded, Holds, first, rest}
-use Rattle.std.specs.Prelude.{◌++◌, ◌+◌, ◌≤◌, min, not, nat_lt, nat_le, ◌&&◌, ◌==◌, true, false, Option, None, Some, Bool}
+use Rattle.std.specs.Prelude.{◌++◌, ◌+◌, ◌≤◌, min, not, nat_lt, nat_le, ◌&&◌, true, false, Option, None, Some, Bool}
 use Rattle.std.proofs.Common.{arith, rules, ap, sym}
 use Rattle.std.specs.Prelude.{unwrap_or, if◌then◌else◌}
 use Rattle.std.specs.Option.{option_map}
@@ -56,7 +56,7 @@ use Rattle.script_table.specs.declared.pattern.NameKind.TheVariants as kind
 use Rattle.script_table.specs.Faults.{when}
 use Rattle.script_table.specs.Patterns.{greatest}
 use Rattle.script_table.specs.Words.{signal_of, answer_of}
-use Rattle.script_table.specs.Ranges.{is_within, server_faults, word, is_server}
+use Rattle.script_table.specs.Ranges.{is_within, server_faults, word}
 use Rattle.script_text.specs.declared.names.Sort.{Sort}
 use Rattle.script_text.specs.declared.names.Sort.TheVariants as sort
 use Rattle.script_text.specs.Names.{name_of}

@@ -1,5 +1,5 @@
 -- A word that says something says it in the one way that is written, but for numbers and sets.
-use Rattle.std.proofs.Common.{◌≡◌, ◌<◌, ◌≤◌, ◌-◌, ◌*◌, ◌^◌, ℕ, ◌+◌, List, [], ◌∷◌, ◌++◌, length, get_or, refl, sym, ◌∙◌, ap, subst, Bool, true, false, not, arith, rules, Option, None, Some, eqb-true}
+use Rattle.std.proofs.Common.{◌≡◌, ◌<◌, ◌≤◌, ◌-◌, ◌*◌, ℕ, ◌+◌, List, [], ◌∷◌, length, get_or, refl, sym, ◌∙◌, ap, subst, Bool, true, false, arith, rules, Option, None, Some, eqb-true}
 use Rattle.std.specs.Prelude.{◌&&◌, ◌||◌, ◌==◌, nat_le, nat_lt, is_some, decimal, codes, if◌then◌else◌}
 use Rattle.std.specs.Fmt.{digits}
 use Rattle.std.specs.List.{list_all, range_with_len}
@@ -14,9 +14,7 @@ use Rattle.tick_num.specs.Words.{res_text}
 use Rattle.script_tree.specs.Names.{is_digit, is_name}
 use Rattle.script_tree.specs.declared.decl.Decl.{Decl}
 use Rattle.script_tree.specs.declared.call.Operand.TheVariants.{Num, Reg}
-use Rattle.script_table.specs.declared.fault.FaultKind.{FaultKind}
 use Rattle.script_table.specs.declared.fault.FaultKind.TheVariants.{NumberRange, BadName, UnknownName, WrongKind}
-use Rattle.script_table.specs.declared.form.Form.{Form}
 use Rattle.script_table.specs.declared.pattern.NameKind.{NameKind}
 use Rattle.script_table.specs.declared.pattern.NameKind.TheVariants as kind
 use Rattle.script_table.specs.Patterns.{Spot, Keyword, Answer, Number, Operand, Declares, Uses, Signal, Acts, Signals, greatest, same_kind}
@@ -24,17 +22,13 @@ use Rattle.script_table.specs.Words.{value_of, is_register, signal_number, signa
 use Rattle.script_table.specs.LineFaults.{stands, fits, spelling, place_faults}
 use Rattle.script_table.specs.Ranges.{ranging, is_within}
 use Rattle.script_table.specs.Names.{Entry, entry_of, Declared, naming, used}
-use Rattle.script_table.specs.Operands.{operand_at, number_of_kind}
 use Rattle.script_text.specs.Names.{name_of}
-use Rattle.script_text.specs.Words.{operand_word, signal_word}
-use Rattle.canonical_law.specs.Canonical.{canonical_word}
+use Rattle.script_text.specs.Words.{signal_word}
 use Rattle.canonical_law.proofs.Bounds.{if_some}
 use Rattle.canonical_law.proofs.Signals.{all_at}
 use Rattle.canonical_law.proofs.Kept.{IsClean, AreClean, holds, none_first}
-use Rattle.canonical_law.proofs.Forms.{places_of}
 use Rattle.canonical_law.proofs.Shape.{Holds}
 use Rattle.canonical_law.proofs.Shown.{Shows, ShowsOperand, ShowsName, ShowsSignal, ShowsSet, ShowsAnswer, sort_for}
-use Rattle.canonical_law.proofs.Sound.{Sound}
 
 abbrev two_signs : ℕ → ℕ → Bool
 two_signs i b = bytes_eq (decimal ((i + 1) * 10 + b)) ((49 + i) ∷ (48 + b) ∷ [])

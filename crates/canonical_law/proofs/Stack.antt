@@ -1,5 +1,5 @@
 -- What is open while a script is built, and what stands where.
-use Rattle.std.proofs.Common.{◌≡◌, ℕ, List, [], ◌∷◌, ◌++◌, refl, sym, ◌∙◌, ap, subst, Bool, true, false, not, Option, None, Some}
+use Rattle.std.proofs.Common.{◌≡◌, ℕ, List, [], ◌∷◌, refl, sym, ◌∙◌, ap, Bool, true, false, not, Option, None, Some}
 use Rattle.std.specs.Option.{option_map}
 use Rattle.script_tree.specs.Tree.{block_of}
 use Rattle.script_tree.specs.declared.body.Step.TheVariants.{Make}
@@ -8,13 +8,12 @@ use Rattle.script_tree.specs.declared.body.Step.{Step}
 use Rattle.script_table.specs.declared.fault.FaultKind.TheVariants.{NotHere, StrayClose, Unclosed}
 use Rattle.script_table.specs.declared.form.Form.{Form}
 use Rattle.script_table.specs.declared.form.Form.TheVariants as form
-use Rattle.script_table.specs.declared.form.CloseForm.{CloseForm}
 use Rattle.script_table.specs.declared.pattern.Bar.{Bar}
 use Rattle.script_table.specs.declared.pattern.Closer.{Closer}
 use Rattle.script_table.specs.declared.pattern.Opening.{Opening}
 use Rattle.script_table.specs.Faults.{when}
 use Rattle.script_table.specs.Patterns.{same_closer}
-use Rattle.script_table.specs.Structure.{Said, is_nil, tail_of, not_here, step_faults, close_faults, closed_by, closer_of, inner, opened, unclosed}
+use Rattle.script_table.specs.Structure.{Said, is_nil, tail_of, not_here, step_faults, close_faults, closer_of, inner, opened, unclosed}
 use Rattle.script_table.specs.Names.{Entry}
 use Rattle.script_table.specs.Meaning.{plain_step, block_step, runs_cleanup}
 use Rattle.script_table.specs.Build.{Opened, Built, put_step, close_one, closed, after_form}
