@@ -1,6 +1,6 @@
 -- The canonical text of a script that was read is read as that script.
 use Rattle.std.proofs.Common.{◌≡◌, ◌<◌, ◌^◌, ℕ, ◌+◌, List, [], ◌∷◌, ◌++◌, refl, sym, ◌∙◌, ap, subst, true, Option, None, Some, arith}
-use Rattle.std.specs.Prelude.{map, unwrap_or, codes, decimal, Ok}
+use Rattle.std.specs.Prelude.{cond, filter, not, map, unwrap_or, codes, decimal, Ok}
 use Rattle.std.specs.List.{list_all}
 use Rattle.script_lex.specs.Lines.{lines_of}
 use Rattle.script_lex.specs.Words.{line_words}
@@ -9,6 +9,8 @@ use Rattle.script_lex.proofs.Rejoined.{line_words-joined, has_bad_byte-joined}
 use Rattle.script_tree.specs.declared.decl.Script.{Script}
 use Rattle.script_table.specs.declared.pattern.Opening.{Opening}
 use Rattle.script_table.specs.Faults.{faults_at}
+use Rattle.script_table.specs.declared.form.Form.{Form}
+use Rattle.script_table.specs.declared.form.Form.TheVariants as form
 use Rattle.script_table.specs.Patterns.{Row, greatest}
 use Rattle.script_table.specs.Words.{value_of}
 use Rattle.script_table.specs.LineFaults.{fitting_some, place_faults, spelling}
@@ -34,8 +36,9 @@ use Rattle.canonical_law.proofs.Accepted.{sound_said, is_read, read_of}
 use Rattle.canonical_law.proofs.Stack.{Placed}
 use Rattle.canonical_law.proofs.Printed.{built_lines}
 use Rattle.canonical_law.proofs.Known.{nothing_known, give_names, all_told}
-use Rattle.canonical_law.proofs.Moved.{keep_case, without, placed_without, rises_down, rises_without, names_without, declared_without, limits_without, built_without, InRange, built_range, words_of, lines_without}
-use Rattle.canonical_law.proofs.Table.{IsTable, quantum_row}
+use Rattle.canonical_law.proofs.Moved.{keep, keep_case, without, placed_without, rises_down, rises_without, names_without, declared_without, limits_without, built_without, InRange, built_range, words_of, lines_without}
+use Rattle.canonical_law.proofs.Table.{IsTable}
+use Rattle.canonical_law.specs.Statements.{quantum_row, quantum_said, is_quantum, quantum_first}
 
 -- the canonical line of a statement
 abbrev anew_line : Said → List ℕ
@@ -46,10 +49,7 @@ abbrev numbered : ℕ → List Said → List Said
 numbered n [] = []
 numbered n (s ∷ ss) = record { line = n; row = s.row; words = words_of s } ∷ numbered (n + 1) ss
 
-abbrev first_said : ℕ → Said
-first_said q = record { line = 0; row = quantum_row; words = quantum_words q }
-
-quantum_kept : (q : ℕ) → InRange q → quantum_words q ≡ words_of (first_said q)
+quantum_kept : (q : ℕ) → InRange q → quantum_words q ≡ words_of (quantum_said q)
 quantum_kept q range =
     let high = range.high in
     let same : value_of (decimal q) ≡ q = value_of-decimal q (omega arith) in
@@ -57,7 +57,7 @@ quantum_kept q range =
 
 -- the statements with that of the quantum first
 abbrev moved : ℕ → List Said → List Said
-moved q ss = first_said q ∷ without ss
+moved q ss = quantum_said q ∷ without ss
 
 limits_moved : (q : ℕ) → InRange q → (ss : List Said) (m : ℕ) → phase_three m no_tally ss ≡ [] → phase_three m no_tally (moved q ss) ≡ []
 limits_moved q range ss m e =
@@ -78,6 +78,20 @@ script_moved es q ss range is =
     ap (λ o. script_of_built (built_from es (record nothing_built { quantum = unwrap_or o 10 }) (without ss))) value
     ∙ (ap script_of_built (built_without es q nothing_built ss)
     ∙ ap (λ n. record { quantum = n; decls = (built_from es nothing_built ss).decls }) (sym is))
+
+kept_or_not : (f : Form) (s : Said) (ss : List Said) → keep f s ss ≡ cond (not (is_quantum f)) (s ∷ ss) ss
+kept_or_not form.Quantum s ss = refl
+kept_or_not (form.Object f) s ss = refl
+kept_or_not (form.Action f) s ss = refl
+kept_or_not (form.Body f) s ss = refl
+kept_or_not (form.Step f) s ss = refl
+kept_or_not (form.Call f) s ss = refl
+kept_or_not (form.Block f) s ss = refl
+kept_or_not (form.Close f) s ss = refl
+
+without_filter : (ss : List Said) → without ss ≡ filter (λ s. not (is_quantum s.row.form)) ss
+without_filter [] = refl
+without_filter (s ∷ ss) = ap (keep s.row.form s) (without_filter ss) ∙ kept_or_not s.row.form s (filter (λ s. not (is_quantum s.row.form)) ss)
 
 module _ (rows : List Row) (table : IsTable rows) where
   -- a statement of a sound line
@@ -170,7 +184,7 @@ module _ (rows : List Row) (table : IsTable rows) where
       ∙ (ap (λ o. phase_one rows (n + 1) o (map anew_line ss)) after
       ∙ places_numbered ss (opened s.row.form openings) (n + 1) on.1 placed.1))
 
-  quantum_on : (q : ℕ) → InRange q → OnLine (first_said q)
+  quantum_on : (q : ℕ) → InRange q → OnLine (quantum_said q)
   quantum_on q range =
       let high = range.high in
       let small : q < 2 ^ 64 = omega arith in
@@ -190,8 +204,13 @@ module _ (rows : List Row) (table : IsTable rows) where
         words = sym back;
       }
 
-  pub again : (text : List ℕ) (script : Script) → read rows text ≡ Ok script → read rows (canon script) ≡ Ok script
-  again text script e =
+  -- the canonical text of a script that was read is read as it, and its statements are those of the text
+  record Again (text : List ℕ) (script : Script) : Type 0 where
+    reads : read rows (canon script) ≡ Ok script
+    says : AreAnew (moved script.quantum (said rows text)) (said rows (canon script))
+
+  whole : (text : List ℕ) (script : Script) → read rows text ≡ Ok script → Again text script
+  whole text script e =
       let old = is_read rows table text script e in
       let lines : List (List ℕ) = lines_of text in
       let clean = no_fault rows table text old.clean in
@@ -214,7 +233,7 @@ module _ (rows : List Row) (table : IsTable rows) where
       ap canon (sym old.means)
       ∙ (ap (λ ls. joined_lines (map joined_words (quantum_words q ∷ ls))) printed
       ∙ (ap (λ w. joined_lines (joined_words w ∷ map joined_words (map words_of (without ss)))) (quantum_kept q range)
-      ∙ ap (λ ls. joined_lines (anew_line (first_said q) ∷ ls)) (joined_each (without ss)))) in
+      ∙ ap (λ ls. joined_lines (anew_line (quantum_said q) ∷ ls)) (joined_each (without ss)))) in
       let ts : List Said = numbered 1 first in
       let said_is : said_from rows 1 new_lines ≡ ts = said_numbered first 1 on in
       let anew_all : AreAnew first ts = anew_numbered first 1 on in
@@ -237,8 +256,21 @@ module _ (rows : List Row) (table : IsTable rows) where
       script_anew (declared first).names (declared ts).names (numbers_alike first ts anew_all) first ts anew_all sound_first
       ∙ (ap (λ x. script_of x.names first) same_names
       ∙ (script_moved d.names q ss range refl ∙ old.means)) in
-      subst (λ t. read rows t ≡ Ok script) (sym text_is)
-      (read_of rows table (joined_lines new_lines) script (record {
+      let read_again : read rows (joined_lines new_lines) ≡ Ok script =
+      read_of rows table (joined_lines new_lines) script (record {
         clean = faults_of rows table (joined_lines new_lines) new_lines back fine;
         means = ap (λ xs. script_of (declared xs).names xs) said_again ∙ means;
-      }))
+      }) in
+      let says : AreAnew first (said rows (joined_lines new_lines)) = subst (AreAnew first) (sym said_again) anew_all in
+      let quantum : q ≡ script.quantum = ap (λ s. s.quantum) old.means in
+      record {
+        reads = subst (λ t. read rows t ≡ Ok script) (sym text_is) read_again;
+        says = subst (λ n. AreAnew (moved n ss) (said rows (canon script))) quantum (subst (λ t. AreAnew first (said rows t)) (sym text_is) says);
+      }
+
+  pub again : (text : List ℕ) (script : Script) → read rows text ≡ Ok script → read rows (canon script) ≡ Ok script
+  again text script e = (whole text script e).reads
+
+  pub says_again : (text : List ℕ) (script : Script) → read rows text ≡ Ok script → AreAnew (quantum_first script.quantum (said rows text)) (said rows (canon script))
+  says_again text script e =
+      subst (λ ss. AreAnew (quantum_said script.quantum ∷ ss) (said rows (canon script))) (without_filter (said rows text)) (whole text script e).says

@@ -1,22 +1,17 @@
 -- What the table of patterns is, whatever is built of it.
-use Rattle.std.proofs.Common.{◌≡◌, ℕ, List, [], ◌∷◌, refl, Bool, true, Some}
-use Rattle.std.specs.Prelude.{codes}
+use Rattle.std.proofs.Common.{◌≡◌, ℕ, List, refl, Bool, true, Some}
 use Rattle.std.specs.List.{list_all}
 use Rattle.script_table.specs.declared.form.Form.{Form}
 use Rattle.script_table.specs.declared.form.Form.TheVariants as form
-use Rattle.script_table.specs.declared.pattern.Bar.TheVariants.{Nowhere}
-use Rattle.script_table.specs.Patterns.{Keyword, Number, Row, greatest}
+use Rattle.script_table.specs.Patterns.{Row}
 use Rattle.script_table.specs.Table.{patterns, declaration_patterns, step_patterns, call_patterns}
 use Rattle.script_table.specs.LineFaults.{fitting_some}
 use Rattle.script_text.specs.Canon.{quantum_words}
 use Rattle.canonical_law.specs.Apart.{all_apart, all_bounded, has_parameters}
+use Rattle.canonical_law.specs.Statements.{quantum_row}
 use Rattle.canonical_law.specs.Tables.{with_built}
 use Rattle.canonical_law.proofs.Forms.{AllHave}
 use Rattle.canonical_law.proofs.Declares.{declares_rightly}
-
--- the pattern of the quantum's line
-abbrev pub quantum_row : Row
-quantum_row = record { form = form.Quantum; bar = Nowhere; places = Keyword (codes "quantum") ∷ Number 1 greatest ∷ []; built = true }
 
 -- no line has two patterns; ranges are bounded; the parameters of a server stand where they are read; names are declared by second words; each form has its places; and the quantum has a line
 pub record IsTable (rows : List Row) : Type 0 where

@@ -15,7 +15,7 @@ pub use lines::{
     accepted_texts_stay_accepted, canonical_texts_read_the_same, lines_keep_their_patterns,
     lines_keep_their_statements, lines_read_back,
 };
-pub use scripts::scripts_read_back;
+pub use scripts::{scripts_keep_their_statements, scripts_read_back};
 pub use words::{
     answers_read_back, numbers_read_back, operands_read_back, sets_read_back, signals_read_back,
 };
