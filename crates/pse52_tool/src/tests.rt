@@ -1,4 +1,6 @@
 // Worked examples through the one call.
+mod parts;
+
 ghost use Rattle.std.specs.Prelude.{◌≡◌};
 
 use crate::{Status, run_tool};
