@@ -8,7 +8,7 @@ use Rattle.tick_num.specs.Signals.{every_signal, with_signal}
 use Rattle.script_tree.specs.Names.{is_digit}
 use Rattle.script_table.specs.Words.{signal_number, signal_of, parts_of, with_part, with_parts, set_of}
 
-if_some : (b : Bool) (x k : ℕ) → (if b then Some x else None) ≡ Some k → (b ≡ true) × (x ≡ k)
+pub if_some : (b : Bool) (x k : ℕ) → (if b then Some x else None) ≡ Some k → (b ≡ true) × (x ≡ k)
 if_some true x k e = (refl, cc)
 if_some false x k e = absurd (let f : None ≡ Some k = e in cc)
 

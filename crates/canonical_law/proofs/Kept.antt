@@ -38,11 +38,11 @@ fits_kept (spot ∷ spots) (word ∷ words) e =
     let h = both (stands spot word) (fits spots words) e in
     rw (stands_kept spot word h.0, fits_kept spots words h.1) refl
 
-holds : (b : Bool) (kind : FaultKind) → unless b kind ≡ None → b ≡ true
+pub holds : (b : Bool) (kind : FaultKind) → unless b kind ≡ None → b ≡ true
 holds true kind e = refl
 holds false kind e = absurd (let f : Some kind ≡ None = e in cc)
 
-within_parts : (low high word_value : ℕ) → (nat_le low word_value && nat_le word_value high) ≡ true → (low ≤ word_value) × (word_value ≤ high)
+pub within_parts : (low high word_value : ℕ) → (nat_le low word_value && nat_le word_value high) ≡ true → (low ≤ word_value) × (word_value ≤ high)
 within_parts low high n e = let h = both (nat_le low n) (nat_le n high) e in (search rules, search rules)
 
 -- no fault of spelling or range
@@ -90,7 +90,7 @@ clean_kept Signal word bound clean = clean
 clean_kept Acts word bound clean = clean
 clean_kept Signals word bound clean = set_clean (set_of word) word refl (holds (is_some (set_of word)) BadName clean.spelled)
 
-none_first : (found : Option FaultKind) (rest : List FaultKind) → option_to_list found ++ rest ≡ [] → (found ≡ None) × (rest ≡ [])
+pub none_first : (found : Option FaultKind) (rest : List FaultKind) → option_to_list found ++ rest ≡ [] → (found ≡ None) × (rest ≡ [])
 none_first None rest e = (refl, e)
 none_first (Some kind) rest e = absurd (let f : (kind ∷ rest) ≡ [] = e in cc)
 
@@ -110,7 +110,7 @@ are_clean_kept (spot ∷ spots) (word ∷ words) bound clean =
     let rest = are_clean_kept spots words b.1 (record { spelled = s.1; ranged = r.1 }) in
     record { spelled = rw (one.spelled, rest.spelled) refl; ranged = rw (one.ranged, rest.ranged) refl }
 
-decimal_word : (n : ℕ) → n < 2 ^ 64 → is_word (decimal n) ≡ true
+pub decimal_word : (n : ℕ) → n < 2 ^ 64 → is_word (decimal n) ≡ true
 decimal_word n h = digits_are_word (decimal n) (decimal_nonempty n h) (are_digits n h)
 
 operand_word_case : (b : Bool) (word : List ℕ) → is_register word ≡ b → IsClean Operand word → is_word word ≡ true → is_word (if b then word else decimal (value_of word)) ≡ true

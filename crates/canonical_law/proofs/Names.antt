@@ -11,13 +11,13 @@ use Rattle.canonical_law.proofs.Places.{nothing_said, said_none, said_some}
 use Rattle.canonical_law.proofs.Naming.{InOrder, Lined, names_alike}
 
 -- the lines of two statements at one place of two lists
-abbrev Paired : List Said → List Said → ℕ → ℕ → Type 0
+abbrev pub Paired : List Said → List Said → ℕ → ℕ → Type 0
 Paired [] ts a b = ⊥
 Paired (s ∷ ss) [] a b = ⊥
 Paired (s ∷ ss) (x ∷ ts) a b = ((s.line ≡ a) × (x.line ≡ b)) ⊎ Paired ss ts a b
 
 -- statements whose lines rise from a number on
-abbrev Rises : ℕ → List Said → Type 0
+abbrev pub Rises : ℕ → List Said → Type 0
 Rises n [] = Unit {0}
 Rises n (s ∷ ss) = (n ≤ s.line) × Rises (s.line + 1) ss
 
@@ -29,7 +29,7 @@ rises_by_row : (row : Option Row) (n : ℕ) (line : List ℕ) (lines : List (Lis
 rises_by_row None n line lines is h = rw (said_none n line lines is) (rises_sooner n (said_from patterns (n + 1) lines) h)
 rises_by_row (Some row) n line lines is h = rw (said_some n line lines row is) (omega arith, h)
 
-said_rises : (lines : List (List ℕ)) (n : ℕ) → Rises n (said_from patterns n lines)
+pub said_rises : (lines : List (List ℕ)) (n : ℕ) → Rises n (said_from patterns n lines)
 said_rises [] n = rw (nothing_said n) tt
 said_rises (line ∷ lines) n = rises_by_row (row_of_line patterns line) n line lines refl (said_rises lines (n + 1))
 
@@ -48,7 +48,7 @@ above (s ∷ ss) (x ∷ ts) n m a b p q (inr r) =
     let h = above ss ts (s.line + 1) (x.line + 1) a b p.1 q.1 r in
     let u = p.0 in let v = q.0 in (omega (arith, h.0), omega (arith, h.1))
 
-in_order : (ss ts : List Said) (n m : ℕ) → Rises n ss → Rises m ts → InOrder (Paired ss ts)
+pub in_order : (ss ts : List Said) (n m : ℕ) → Rises n ss → Rises m ts → InOrder (Paired ss ts)
 in_order [] ts n m p q a b c d first second = absurd first
 in_order (s ∷ ss) [] n m p q a b c d first second = absurd first
 in_order (s ∷ ss) (x ∷ ts) n m p q a b c d (inl first) (inl second) =
@@ -70,7 +70,7 @@ lined_more R S [] (x ∷ ts) f h = absurd h
 lined_more R S (s ∷ ss) [] f h = absurd h
 lined_more R S (s ∷ ss) (x ∷ ts) f h = (f s.line x.line h.0, lined_more R S ss ts f h.1)
 
-lined : (ss ts : List Said) → AreAnew ss ts → Lined (Paired ss ts) ss ts
+pub lined : (ss ts : List Said) → AreAnew ss ts → Lined (Paired ss ts) ss ts
 lined [] [] h = tt
 lined [] (x ∷ ts) h = absurd h
 lined (s ∷ ss) [] h = absurd h

@@ -1,15 +1,16 @@
 -- Canonical lines have no fault of phase 2 where the lines have none.
 use Rattle.std.proofs.Common.{◌≡◌, ℕ, List, [], ◌∷◌, ◌++◌, refl, sym, ◌∙◌, ap, Bool, true, false, Option, None, Some}
-use Rattle.std.specs.Prelude.{nat_lt, if◌then◌else◌}
+use Rattle.std.specs.Prelude.{nat_lt, ◌&&◌, if◌then◌else◌}
 use Rattle.std.specs.Str.{bytes_eq}
 use Rattle.script_table.specs.declared.fault.FaultKind.{FaultKind}
 use Rattle.script_table.specs.declared.fault.FaultKind.TheVariants.{DuplicateName}
 use Rattle.script_table.specs.declared.pattern.NameKind.{NameKind}
 use Rattle.script_table.specs.declared.pattern.NameKind.TheVariants as kind
 use Rattle.script_table.specs.Faults.{faults_at, fault}
-use Rattle.script_table.specs.Patterns.{Spot, Keyword, Answer, Number, Operand, Declares, Uses, Signal, Acts, Signals}
+use Rattle.script_table.specs.Patterns.{Spot, Keyword, Answer, Number, Operand, Declares, Uses, Signal, Acts, Signals, same_kind}
 use Rattle.script_table.specs.LineFaults.{place_faults}
 use Rattle.script_table.specs.Structure.{Said}
+use Rattle.script_table.specs.Operands.{number_of_kind}
 use Rattle.script_table.specs.Names.{Counts, no_counts, counted, count_of, counts_from, Entry, entry_of, with_name, Declared, nothing_declared, declaring, declared_at, declared_from, declared, duplicate, used, naming, name_faults, phase_two}
 use Rattle.canonical_law.specs.Canonical.{canonical_word, canonical_words}
 use Rattle.canonical_law.specs.Laws.{AreAnew}
@@ -146,7 +147,7 @@ from_alike R (s ∷ ss) (y ∷ ts) d x anew lined h =
     (from_alike R ss ts (declared_at d s.line s.row.places s.words) (declared_at x y.line s.row.places (canonical_words s.row.places s.words)) anew.1 lined.1
     (at_alike R s.line y.line s.row.places s.words d x lined.0 h))
 
-no_kinds : (n : ℕ) (kinds : List FaultKind) → faults_at 2 n kinds ≡ [] → kinds ≡ []
+pub no_kinds : (n : ℕ) (kinds : List FaultKind) → faults_at 2 n kinds ≡ [] → kinds ≡ []
 no_kinds n [] e = refl
 no_kinds n (k ∷ ks) e = absurd (let f : (fault 2 n k ∷ faults_at 2 n ks) ≡ [] = e in cc)
 
@@ -165,3 +166,26 @@ pub names_alike : (R : ℕ → ℕ → Type 0) → InOrder R → (ss ts : List S
 names_alike R order ss ts anew lined e =
     phase_alike R order ss ts (declared ss) (declared ts) anew lined
     (from_alike R ss ts nothing_declared nothing_declared anew lined (record { names = tt; actions = tt })) e
+
+number_alike : (R : ℕ → ℕ → Type 0) (kind : NameKind) (a b : Option Entry) → Found R a b → number_of_kind kind b ≡ number_of_kind kind a
+number_alike R kind None None h = refl
+number_alike R kind None (Some x) h = absurd h
+number_alike R kind (Some e) None h = absurd h
+number_alike R kind (Some e) (Some x) h =
+    ap (λ (k : NameKind). if same_kind k kind && nat_lt x.number 256 then Some x.number else None) h.kind
+    ∙ ap (λ n. if same_kind e.kind kind && nat_lt n 256 then Some n else None) h.number
+
+-- two lists of statements of one length have lines at the same places
+any_lined : (ss ts : List Said) → AreAnew ss ts → Lined (λ a b. Unit {0}) ss ts
+any_lined [] [] h = tt
+any_lined [] (x ∷ ts) h = absurd h
+any_lined (s ∷ ss) [] h = absurd h
+any_lined (s ∷ ss) (x ∷ ts) h = (tt, any_lined ss ts h.1)
+
+-- the names of statements that are said anew have the same numbers
+pub numbers_alike : (ss ts : List Said) → AreAnew ss ts → (kind : NameKind) (word : List ℕ)
+    → number_of_kind kind (entry_of (declared ts).names word) ≡ number_of_kind kind (entry_of (declared ss).names word)
+numbers_alike ss ts anew kind word =
+    let R : ℕ → ℕ → Type 0 = λ a b. Unit {0} in
+    let h = from_alike R ss ts nothing_declared nothing_declared anew (any_lined ss ts anew) (record { names = tt; actions = tt }) in
+    number_alike R kind (entry_of (declared ss).names word) (entry_of (declared ts).names word) (found_alike R word (declared ss).names (declared ts).names h.names)

@@ -19,7 +19,7 @@ use Rattle.canonical_law.proofs.Apart.{found_passes, patterns_bounded, patterns_
 use Rattle.canonical_law.proofs.Kept.{server_kept}
 use Rattle.canonical_law.proofs.LineLaws.{keeps_pattern, some_found}
 
-no_lines : (n : ℕ) (open' : Open) → phase_one patterns n open' [] ≡ faults_at 1 n (unclosed open')
+pub no_lines : (n : ℕ) (open' : Open) → phase_one patterns n open' [] ≡ faults_at 1 n (unclosed open')
 unfolding phase_one
 no_lines n open' = refl
 
@@ -53,7 +53,7 @@ in_place openings line e =
     let second = both_none (faults_by row patterns (line_words line)) (place_of_row (Some openings) row) first.1 in
     record { bytes = not_when (has_bad_byte line) first.0; own = second.0; place = second.1 }
 
-faults_none : (openings : List Opening) (line : List ℕ) (row : Option Row) → row_of_line patterns line ≡ row → InPlace row openings line → line_faults patterns (Some openings) line ≡ []
+pub faults_none : (openings : List Opening) (line : List ℕ) (row : Option Row) → row_of_line patterns line ≡ row → InPlace row openings line → line_faults patterns (Some openings) line ≡ []
 faults_none openings line row is h =
     let place : InPlace (row_of_line patterns line) openings line = subst (λ r. InPlace r openings line) (sym is) h in
     rw (place.bytes, place.own, place.place) refl
@@ -107,7 +107,7 @@ pub said_some : (n : ℕ) (line : List ℕ) (lines : List (List ℕ)) (row : Row
 said_some n line lines row is = one_said n line lines ∙ rw is refl
 
 -- the statement of a line and that of its canonical line
-anew_one : (n m : ℕ) (row : Row) (line : List ℕ) → IsSound row line → IsAnew (record { line = n; row = row; words = line_words line }) (record { line = m; row = row; words = line_words (canonical_line row line) })
+pub anew_one : (n m : ℕ) (row : Row) (line : List ℕ) → IsSound row line → IsAnew (record { line = n; row = row; words = line_words line }) (record { line = m; row = row; words = line_words (canonical_line row line) })
 anew_one n m row line sound =
     let kept = keeps_pattern row line sound in
     let found = some_found patterns (line_words line) row sound.pattern in

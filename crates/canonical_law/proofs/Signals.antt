@@ -23,7 +23,7 @@ each_reads : list_all reads (range_with_len 0 32) ≡ true
 unfolding digits
 each_reads = refl
 
-all_at : (p : ℕ → Bool) (xs : List ℕ) (i d : ℕ) → i < length xs → list_all p xs ≡ true → p (get_or xs i d) ≡ true
+pub all_at : (p : ℕ → Bool) (xs : List ℕ) (i d : ℕ) → i < length xs → list_all p xs ≡ true → p (get_or xs i d) ≡ true
 all_at p [] i d h e = absurd (omega arith)
 all_at p (x ∷ xs) zero d h e = (both (p x) (list_all p xs) e).0
 all_at p (x ∷ xs) (suc i) d h e = all_at p xs i d (omega arith) (both (p x) (list_all p xs) e).1

@@ -31,7 +31,7 @@ line_then (c ∷ l) rest h =
     let e = both (is_allowed c) (list_all is_allowed l) h in
     rw (no_end c e.0) (ap (onto_first c) (line_then l rest e.1))
 
-lines_back : (ls : List (List ℕ)) → list_all (λ l. list_all is_allowed l) ls ≡ true → lines_of (joined_lines ls) ≡ ls
+pub lines_back : (ls : List (List ℕ)) → list_all (λ l. list_all is_allowed l) ls ≡ true → lines_of (joined_lines ls) ≡ ls
 lines_back [] h = no_lines
 lines_back (l ∷ ls) h =
     let e = both (list_all is_allowed l) (list_all (λ x. list_all is_allowed x) ls) h in
@@ -41,7 +41,7 @@ not_bad : (b : Bool) → not b ≡ false → b ≡ true
 not_bad true e = refl
 not_bad false e = absurd (let f : true ≡ false = e in cc)
 
-are_allowed : (lines : List (List ℕ)) (openings : List Opening) (n : ℕ) → phase_one patterns n (Some openings) lines ≡ [] → list_all (λ l. list_all is_allowed l) lines ≡ true
+pub are_allowed : (lines : List (List ℕ)) (openings : List Opening) (n : ℕ) → phase_one patterns n (Some openings) lines ≡ [] → list_all (λ l. list_all is_allowed l) lines ≡ true
 are_allowed [] openings n e = refl
 are_allowed (line ∷ lines) openings n e =
     let split = both_none (faults_at 1 n (line_faults patterns (Some openings) line)) (phase_one patterns (n + 1) (behind_line patterns (Some openings) line) lines) (sym (one_line n (Some openings) line lines) ∙ e) in
@@ -71,7 +71,7 @@ statements_kept lines clean =
       anew = anew;
     }
 
-no_fault : (text : List ℕ) → faults patterns text ≡ [] → HasNoFault (lines_of text)
+pub no_fault : (text : List ℕ) → faults patterns text ≡ [] → HasNoFault (lines_of text)
 no_fault text e =
     let lines : List (List ℕ) = lines_of text in
     let ss : List Said = said patterns text in
@@ -79,7 +79,7 @@ no_fault text e =
     let second = both_none (phase_two (declared ss) ss) (phase_three (1 + length lines) no_tally ss) first.1 in
     record { places = first.0; names = second.0; limits = λ n. any_end ss no_tally (1 + length lines) n second.1 }
 
-faults_of : (text : List ℕ) (lines : List (List ℕ)) → lines_of text ≡ lines → HasNoFault lines → faults patterns text ≡ []
+pub faults_of : (text : List ℕ) (lines : List (List ℕ)) → lines_of text ≡ lines → HasNoFault lines → faults patterns text ≡ []
 faults_of text lines is clean =
     let h : HasNoFault (lines_of text) = subst HasNoFault (sym is) clean in
     rw (h.places, h.names, h.limits (1 + length (lines_of text))) refl

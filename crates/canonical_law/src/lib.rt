@@ -1,18 +1,21 @@
 //! What is known of reading a canonical text again.
 //!
 //! Each function stands for a law, which its clause states; none of them does anything when it is called.
-//! The words of numbers, operands, signals, sets of signals and answers read back as what they were
-//! written from. Lines of words read back from their text. A line without a fault of its own, written anew
-//! with its canonical words, has the same pattern and no fault.
+//! Each script that a text is read as is read again from its canonical text. On the way to it: the words of
+//! numbers, operands, signals, sets of signals and answers read back as what they were written from; lines
+//! of words read back from their text; and a line without a fault of its own, written anew with its
+//! canonical words, has the same pattern and no fault.
 #![tactic(auto)]
 
 mod lines;
+mod scripts;
 mod words;
 
 pub use lines::{
-    accepted_texts_stay_accepted, lines_keep_their_patterns, lines_keep_their_statements,
-    lines_read_back,
+    accepted_texts_stay_accepted, canonical_texts_read_the_same, lines_keep_their_patterns,
+    lines_keep_their_statements, lines_read_back,
 };
+pub use scripts::scripts_read_back;
 pub use words::{
     answers_read_back, numbers_read_back, operands_read_back, sets_read_back, signals_read_back,
 };

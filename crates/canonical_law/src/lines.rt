@@ -1,10 +1,11 @@
 // What is written as lines is read back.
-ghost use Rattle.std.specs.Prelude.{◌≡◌, ℕ, List, []};
+ghost use Rattle.std.specs.Prelude.{◌≡◌, ℕ, List, [], Ok};
+ghost use Rattle.script_tree.specs.declared.decl.Script.{Script};
 ghost use Rattle.script_table.specs.Table.{patterns};
-ghost use Rattle.script_table.specs.Read.{faults};
+ghost use Rattle.script_table.specs.Read.{faults, read};
 ghost use Rattle.script_table.specs.Patterns.{Row};
 ghost use Rattle.script_text.specs.Canon.{Words};
-ghost use Rattle.canonical_law.specs.Laws.{IsSound, KeepsPattern, HasNoFault, KeepsStatements, KeepsText, AreWords, ReadBack};
+ghost use Rattle.canonical_law.specs.Laws.{IsSound, KeepsPattern, HasNoFault, KeepsStatements, KeepsText, canonical_text, AreWords, ReadBack};
 
 /// Lines of words read back from their text, each with its words, and none has a bad byte.
 pub fn lines_read_back()
@@ -27,4 +28,9 @@ pub fn lines_keep_their_statements()
 /// each with its pattern and its canonical words.
 pub fn accepted_texts_stay_accepted()
     ensures { (text : List ℕ) → faults patterns text ≡ [] → KeepsText text }
+{}
+
+/// A text that is read as a script and its canonical text, line by line, are read as the same script.
+pub fn canonical_texts_read_the_same()
+    ensures { (text : List ℕ) (script : Script) → read patterns text ≡ Ok script → read patterns (canonical_text text) ≡ Ok script }
 {}

@@ -1,0 +1,5 @@
+use Rattle.canonical_law.proofs.Accepted.{meaning_kept}
+use Rattle.canonical_law.proofs.lines.canonical_texts_read_the_same.Goals as goal
+
+pub returns : goal.returns
+returns c = meaning_kept
