@@ -1,4 +1,5 @@
 // Worked examples through the one call.
+mod canonical;
 mod parts;
 
 ghost use Rattle.std.specs.Prelude.{◌≡◌};
