@@ -8,7 +8,6 @@ use Rattle.script_tree.specs.declared.decl.Script.{Script}
 use Rattle.script_table.specs.declared.pattern.Opening.{Opening}
 use Rattle.script_table.specs.Faults.{Fault, is_before, earlier, least, faults_at}
 use Rattle.script_table.specs.Patterns.{Row, Spot}
-use Rattle.script_table.specs.Table.{patterns}
 use Rattle.script_table.specs.LineFaults.{fits, place_faults, spelling}
 use Rattle.script_table.specs.Names.{declared}
 use Rattle.script_table.specs.Ranges.{ranging, no_tally}
@@ -17,8 +16,8 @@ use Rattle.script_table.specs.Build.{script_of}
 use Rattle.script_table.specs.Read.{said, faults, verdict, read}
 use Rattle.canonical_law.specs.Apart.{is_bounded}
 use Rattle.canonical_law.specs.Laws.{IsSound, IsRanged, AreRanged, canonical_text}
-use Rattle.canonical_law.proofs.Apart.{found_passes, found_fits, patterns_bounded}
-use Rattle.canonical_law.proofs.Declares.{declares_rightly, patterns_declare_rightly}
+use Rattle.canonical_law.proofs.Apart.{found_passes, found_fits}
+use Rattle.canonical_law.proofs.Declares.{declares_rightly}
 use Rattle.canonical_law.proofs.Forms.{fitting_has}
 use Rattle.canonical_law.proofs.Limits.{are_ranged}
 use Rattle.canonical_law.proofs.LineLaws.{some_found}
@@ -26,54 +25,7 @@ use Rattle.canonical_law.proofs.Naming.{numbers_alike}
 use Rattle.canonical_law.proofs.Places.{InPlace, both_none, no_kinds, one_line, in_place, behind_clean, nothing_said, said_none, said_some}
 use Rattle.canonical_law.proofs.Rebuilt.{SoundSaid, AllSound, script_anew}
 use Rattle.canonical_law.proofs.Text.{no_fault, text_kept}
-
-pub sound_said : (n : ℕ) (row : Row) (line : List ℕ) → IsSound row line → SoundSaid (record { line = n; row = row; words = line_words line })
-sound_said n row line sound =
-    let found = some_found patterns (line_words line) row sound.pattern in
-    let test : Row → Bool = λ r. r.built && fits r.places (line_words line) in
-    let has = fitting_has (line_words line) row found in
-    let bounded : list_all is_bounded row.places ≡ true = found_passes test (λ r. list_all is_bounded r.places) patterns row found patterns_bounded in
-    record {
-      places = has;
-      declares = found_passes test declares_rightly patterns row found patterns_declare_rightly;
-      sound = record {
-        bounded = subst (λ (places : List Spot). list_all is_bounded places ≡ true) has bounded;
-        fit = subst (λ places. fits places (line_words line) ≡ true) has (found_fits patterns (line_words line) row found);
-        clean = record {
-          spelled = subst (λ places. place_faults spelling places (line_words line) ≡ []) has sound.spelled;
-          ranged = subst (λ places. place_faults ranging places (line_words line) ≡ []) has sound.ranged;
-        };
-      };
-    }
-
-sound_by_row : (row : Option Row) (openings : List Opening) (line : List ℕ) (lines : List (List ℕ)) (n : ℕ)
-    → row_of_line patterns line ≡ row → line_faults patterns (Some openings) line ≡ [] → IsRanged row line
-    → AllSound (said_from patterns (n + 1) lines) → AllSound (said_from patterns n (line ∷ lines))
-sound_by_row None openings line lines n is none ranged rest = subst AllSound (sym (said_none n line lines is)) rest
-sound_by_row (Some row) openings line lines n is none ranged rest =
-    let place : InPlace (Some row) openings line = subst (λ r. InPlace r openings line) is (in_place openings line none) in
-    let sound : IsSound row line = record { pattern = is; bytes = place.bytes; spelled = place.own; ranged = ranged } in
-    subst AllSound (sym (said_some n line lines row is)) (sound_said n row line sound, rest)
-
--- the statements of lines without a fault
-pub all_sound : (lines : List (List ℕ)) (openings : List Opening) (n : ℕ) → phase_one patterns n (Some openings) lines ≡ [] → AreRanged lines → AllSound (said_from patterns n lines)
-all_sound [] openings n e ranged = subst AllSound (sym (nothing_said n)) tt
-all_sound (line ∷ lines) openings n e ranged =
-    let split = both_none (faults_at 1 n (line_faults patterns (Some openings) line)) (phase_one patterns (n + 1) (behind_line patterns (Some openings) line) lines) (sym (one_line n (Some openings) line lines) ∙ e) in
-    let none = no_kinds n (line_faults patterns (Some openings) line) split.0 in
-    let after = behind_clean openings line (row_of_line patterns line) refl none in
-    let rest = subst (λ o. phase_one patterns (n + 1) o lines ≡ []) after split.1 in
-    sound_by_row (row_of_line patterns line) openings line lines n refl none ranged.0 (all_sound lines (opened_by (row_of_line patterns line) openings) (n + 1) rest ranged.1)
-
-pub text_sound : (text : List ℕ) → faults patterns text ≡ [] → AllSound (said patterns text)
-text_sound text e =
-    let clean = no_fault text e in
-    all_sound (lines_of text) [] 1 clean.places (are_ranged (lines_of text) no_tally 1 1 (clean.limits 1))
-
--- what a text that is read has
-pub record IsRead (text : List ℕ) (script : Script) : Type 0 where
-  pub clean : faults patterns text ≡ []
-  pub means : script_of (declared (said patterns text)).names (said patterns text) ≡ script
+use Rattle.canonical_law.proofs.Table.{IsTable}
 
 refused : (b : Bool) (f g : Fault) (s script : Script) → verdict (if b then Some g else Some f) s ≡ Ok script → ⊥
 refused true f g s script e = let h : Err g ≡ Ok script = e in cc
@@ -87,23 +39,72 @@ accepted : (fs : List Fault) (s script : Script) → verdict (least fs) s ≡ Ok
 accepted [] s script e = (refl, (let h : Ok s ≡ Ok script = e in cc))
 accepted (f ∷ fs) s script e = absurd (none_least f (least fs) s script e)
 
-pub is_read : (text : List ℕ) (script : Script) → read patterns text ≡ Ok script → IsRead text script
-unfolding read
-is_read text script e =
-    let h = accepted (faults patterns text) (script_of (declared (said patterns text)).names (said patterns text)) script e in
-    record { clean = h.0; means = h.1 }
+module _ (rows : List Row) (table : IsTable rows) where
+  pub sound_said : (n : ℕ) (row : Row) (line : List ℕ) → IsSound rows row line → SoundSaid (record { line = n; row = row; words = line_words line })
+  sound_said n row line sound =
+      let found = some_found rows (line_words line) row sound.pattern in
+      let test : Row → Bool = λ r. r.built && fits r.places (line_words line) in
+      let has = fitting_has rows table.places (line_words line) row found in
+      let bounded : list_all is_bounded row.places ≡ true = found_passes test (λ r. list_all is_bounded r.places) rows row found table.bounded in
+      record {
+        places = has;
+        declares = found_passes test declares_rightly rows row found table.declares;
+        sound = record {
+          bounded = subst (λ (places : List Spot). list_all is_bounded places ≡ true) has bounded;
+          fit = subst (λ places. fits places (line_words line) ≡ true) has (found_fits rows (line_words line) row found);
+          clean = record {
+            spelled = subst (λ places. place_faults spelling places (line_words line) ≡ []) has sound.spelled;
+            ranged = subst (λ places. place_faults ranging places (line_words line) ≡ []) has sound.ranged;
+          };
+        };
+      }
 
-pub read_of : (text : List ℕ) (script : Script) → IsRead text script → read patterns text ≡ Ok script
-unfolding read
-read_of text script h = rw (h.clean, h.means) refl
+  sound_by_row : (row : Option Row) (openings : List Opening) (line : List ℕ) (lines : List (List ℕ)) (n : ℕ)
+      → row_of_line rows line ≡ row → line_faults rows (Some openings) line ≡ [] → IsRanged row line
+      → AllSound (said_from rows (n + 1) lines) → AllSound (said_from rows n (line ∷ lines))
+  sound_by_row None openings line lines n is none ranged rest = subst AllSound (sym (said_none rows table n line lines is)) rest
+  sound_by_row (Some row) openings line lines n is none ranged rest =
+      let place : InPlace rows table (Some row) openings line = subst (λ r. InPlace rows table r openings line) is (in_place rows table openings line none) in
+      let sound : IsSound rows row line = record { pattern = is; bytes = place.bytes; spelled = place.own; ranged = ranged } in
+      subst AllSound (sym (said_some rows table n line lines row is)) (sound_said n row line sound, rest)
 
-pub meaning_kept : (text : List ℕ) (script : Script) → read patterns text ≡ Ok script → read patterns (canonical_text text) ≡ Ok script
-meaning_kept text script e =
-    let old = is_read text script e in
-    let ss : List Said = said patterns text in
-    let ts : List Said = said patterns (canonical_text text) in
-    let kept = text_kept text old.clean in
-    read_of (canonical_text text) script (record {
-      clean = kept.clean;
-      means = script_anew (declared ss).names (declared ts).names (numbers_alike ss ts kept.anew) ss ts kept.anew (text_sound text old.clean) ∙ old.means;
-    })
+  -- the statements of lines without a fault
+  pub all_sound : (lines : List (List ℕ)) (openings : List Opening) (n : ℕ) → phase_one rows n (Some openings) lines ≡ [] → AreRanged rows lines → AllSound (said_from rows n lines)
+  all_sound [] openings n e ranged = subst AllSound (sym (nothing_said rows table n)) tt
+  all_sound (line ∷ lines) openings n e ranged =
+      let split = both_none (faults_at 1 n (line_faults rows (Some openings) line)) (phase_one rows (n + 1) (behind_line rows (Some openings) line) lines) (sym (one_line rows table n (Some openings) line lines) ∙ e) in
+      let none = no_kinds n (line_faults rows (Some openings) line) split.0 in
+      let after = behind_clean rows table openings line (row_of_line rows line) refl none in
+      let rest = subst (λ o. phase_one rows (n + 1) o lines ≡ []) after split.1 in
+      sound_by_row (row_of_line rows line) openings line lines n refl none ranged.0 (all_sound lines (opened_by (row_of_line rows line) openings) (n + 1) rest ranged.1)
+
+  pub text_sound : (text : List ℕ) → faults rows text ≡ [] → AllSound (said rows text)
+  text_sound text e =
+      let clean = no_fault rows table text e in
+      all_sound (lines_of text) [] 1 clean.places (are_ranged rows table (lines_of text) no_tally 1 1 (clean.limits 1))
+
+  -- what a text that is read has
+  pub record IsRead (text : List ℕ) (script : Script) : Type 0 where
+    pub clean : faults rows text ≡ []
+    pub means : script_of (declared (said rows text)).names (said rows text) ≡ script
+
+  pub is_read : (text : List ℕ) (script : Script) → read rows text ≡ Ok script → IsRead text script
+  unfolding read
+  is_read text script e =
+      let h = accepted (faults rows text) (script_of (declared (said rows text)).names (said rows text)) script e in
+      record { clean = h.0; means = h.1 }
+
+  pub read_of : (text : List ℕ) (script : Script) → IsRead text script → read rows text ≡ Ok script
+  unfolding read
+  read_of text script h = rw (h.clean, h.means) refl
+
+  pub meaning_kept : (text : List ℕ) (script : Script) → read rows text ≡ Ok script → read rows (canonical_text rows text) ≡ Ok script
+  meaning_kept text script e =
+      let old = is_read text script e in
+      let ss : List Said = said rows text in
+      let ts : List Said = said rows (canonical_text rows text) in
+      let kept = text_kept rows table text old.clean in
+      read_of (canonical_text rows text) script (record {
+        clean = kept.clean;
+        means = script_anew (declared ss).names (declared ts).names (numbers_alike ss ts kept.anew) ss ts kept.anew (text_sound text old.clean) ∙ old.means;
+      })

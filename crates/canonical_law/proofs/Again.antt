@@ -7,12 +7,9 @@ use Rattle.script_lex.specs.Words.{line_words}
 use Rattle.script_lex.specs.Joined.{joined_words, joined_lines, is_word}
 use Rattle.script_lex.proofs.Rejoined.{line_words-joined, has_bad_byte-joined}
 use Rattle.script_tree.specs.declared.decl.Script.{Script}
-use Rattle.script_table.specs.declared.form.Form.TheVariants as form
-use Rattle.script_table.specs.declared.pattern.Bar.TheVariants.{Nowhere}
 use Rattle.script_table.specs.declared.pattern.Opening.{Opening}
 use Rattle.script_table.specs.Faults.{faults_at}
-use Rattle.script_table.specs.Patterns.{Row, Keyword, Number, greatest}
-use Rattle.script_table.specs.Table.{patterns, declaration_patterns, step_patterns, call_patterns}
+use Rattle.script_table.specs.Patterns.{Row, greatest}
 use Rattle.script_table.specs.Words.{value_of}
 use Rattle.script_table.specs.LineFaults.{fitting_some, place_faults, spelling}
 use Rattle.script_table.specs.Ranges.{ranging, no_tally, phase_three}
@@ -38,136 +35,19 @@ use Rattle.canonical_law.proofs.Stack.{Placed}
 use Rattle.canonical_law.proofs.Printed.{built_lines}
 use Rattle.canonical_law.proofs.Known.{nothing_known, give_names, all_told}
 use Rattle.canonical_law.proofs.Moved.{keep_case, without, placed_without, rises_down, rises_without, names_without, declared_without, limits_without, built_without, InRange, built_range, words_of, lines_without}
-
--- a statement of a sound line
-record OnLine (s : Said) : Type 0 where
-  line : List ℕ
-  sound : IsSound s.row line
-  words : s.words ≡ line_words line
-
-abbrev AllOn : List Said → Type 0
-AllOn [] = Unit {0}
-AllOn (s ∷ ss) = OnLine s × AllOn ss
-
--- what the statements of lines without a fault of their own are, and where they stand
-record Stands (openings : List Opening) (ss : List Said) : Type 0 where
-  on : AllOn ss
-  placed : Placed openings ss
-
-stands_by_row : (row : Option Row) (openings : List Opening) (line : List ℕ) (lines : List (List ℕ)) (n : ℕ)
-    → row_of_line patterns line ≡ row → line_faults patterns (Some openings) line ≡ [] → IsRanged row line
-    → Stands (opened_by row openings) (said_from patterns (n + 1) lines) → Stands openings (said_from patterns n (line ∷ lines))
-stands_by_row None openings line lines n is none ranged rest = subst (Stands openings) (sym (said_none n line lines is)) rest
-stands_by_row (Some row) openings line lines n is none ranged rest =
-    let place : InPlace (Some row) openings line = subst (λ r. InPlace r openings line) is (in_place openings line none) in
-    let sound : IsSound row line = record { pattern = is; bytes = place.bytes; spelled = place.own; ranged = ranged } in
-    subst (Stands openings) (sym (said_some n line lines row is))
-    (record { on = (record { line = line; sound = sound; words = refl }, rest.on); placed = (place.place, rest.placed) })
-
-stands : (lines : List (List ℕ)) (openings : List Opening) (n : ℕ) → phase_one patterns n (Some openings) lines ≡ [] → AreRanged lines → Stands openings (said_from patterns n lines)
-stands [] openings n e ranged =
-    let closed = no_kinds n (unclosed (Some openings)) (sym (no_lines n (Some openings)) ∙ e) in
-    subst (Stands openings) (sym (nothing_said n)) (record { on = tt; placed = closed })
-stands (line ∷ lines) openings n e ranged =
-    let split = both_none (faults_at 1 n (line_faults patterns (Some openings) line)) (phase_one patterns (n + 1) (behind_line patterns (Some openings) line) lines) (sym (one_line n (Some openings) line lines) ∙ e) in
-    let none = no_kinds n (line_faults patterns (Some openings) line) split.0 in
-    let after = behind_clean openings line (row_of_line patterns line) refl none in
-    let rest = subst (λ o. phase_one patterns (n + 1) o lines ≡ []) after split.1 in
-    stands_by_row (row_of_line patterns line) openings line lines n refl none ranged.0 (stands lines (opened_by (row_of_line patterns line) openings) (n + 1) rest ranged.1)
-
-on_sound : (s : Said) → OnLine s → SoundSaid s
-on_sound s on = subst (λ w. SoundSaid (record { line = s.line; row = s.row; words = w })) (sym on.words) (sound_said s.line s.row on.line on.sound)
-
-all_sound : (ss : List Said) → AllOn ss → AllSound ss
-all_sound [] on = tt
-all_sound (s ∷ ss) on = (on_sound s on.0, all_sound ss on.1)
-
-on_without : (ss : List Said) → AllOn ss → AllOn (without ss)
-on_without [] on = tt
-on_without (s ∷ ss) on = let ih = on_without ss on.1 in keep_case AllOn s.row.form s (without ss) (λ q. ih) (λ other. (on.0, ih))
+use Rattle.canonical_law.proofs.Table.{IsTable, quantum_row}
 
 -- the canonical line of a statement
 abbrev anew_line : Said → List ℕ
 anew_line s = joined_words (words_of s)
-
-record Anew (s : Said) : Type 0 where
-  sound : IsSound s.row (anew_line s)
-  words : line_words (anew_line s) ≡ words_of s
-  said : (m : ℕ) → IsAnew s (record { line = m; row = s.row; words = words_of s })
-
-anew : (s : Said) → OnLine s → Anew s
-anew s on =
-    let kept = keeps_pattern s.row on.line on.sound in
-    let same : anew_line s ≡ canonical_line s.row on.line = ap (λ w. joined_words (canonical_words s.row.places w)) on.words in
-    let words : line_words (canonical_line s.row on.line) ≡ words_of s = kept.words ∙ ap (canonical_words s.row.places) (sym on.words) in
-    record {
-      sound = subst (IsSound s.row) (sym same) kept.sound;
-      words = ap line_words same ∙ words;
-      said = λ m.
-          subst (λ w. IsAnew s (record { line = m; row = s.row; words = w })) words
-          (subst (λ w. IsAnew (record { line = s.line; row = s.row; words = w }) (record { line = m; row = s.row; words = line_words (canonical_line s.row on.line) })) (sym on.words)
-          (anew_one s.line m s.row on.line on.sound));
-    }
 
 -- the statements with canonical words, one on each line
 abbrev numbered : ℕ → List Said → List Said
 numbered n [] = []
 numbered n (s ∷ ss) = record { line = n; row = s.row; words = words_of s } ∷ numbered (n + 1) ss
 
-said_numbered : (ss : List Said) (n : ℕ) → AllOn ss → said_from patterns n (map anew_line ss) ≡ numbered n ss
-said_numbered [] n on = nothing_said n
-said_numbered (s ∷ ss) n on =
-    let one = anew s on.0 in
-    said_some n (anew_line s) (map anew_line ss) s.row one.sound.pattern
-    ∙ (ap (λ w. record { line = n; row = s.row; words = w } ∷ said_from patterns (n + 1) (map anew_line ss)) one.words
-    ∙ ap (λ ts. record { line = n; row = s.row; words = words_of s } ∷ ts) (said_numbered ss (n + 1) on.1))
-
-anew_numbered : (ss : List Said) (n : ℕ) → AllOn ss → AreAnew ss (numbered n ss)
-anew_numbered [] n on = tt
-anew_numbered (s ∷ ss) n on = ((anew s on.0).said n, anew_numbered ss (n + 1) on.1)
-
-places_numbered : (ss : List Said) (openings : List Opening) (n : ℕ) → AllOn ss → Placed openings ss → phase_one patterns n (Some openings) (map anew_line ss) ≡ []
-places_numbered [] openings n on placed = no_lines n (Some openings) ∙ ap (λ kinds. faults_at 1 n kinds) placed
-places_numbered (s ∷ ss) openings n on placed =
-    let one = anew s on.0 in
-    let line : List ℕ = anew_line s in
-    let clean = faults_none openings line (Some s.row) one.sound.pattern (record { bytes = one.sound.bytes; own = one.sound.spelled; place = placed.0 }) in
-    let after = behind_clean openings line (Some s.row) one.sound.pattern clean in
-    one_line n (Some openings) line (map anew_line ss)
-    ∙ (ap (λ kinds. faults_at 1 n kinds ++ phase_one patterns (n + 1) (behind_line patterns (Some openings) line) (map anew_line ss)) clean
-    ∙ (ap (λ o. phase_one patterns (n + 1) o (map anew_line ss)) after
-    ∙ places_numbered ss (opened s.row.form openings) (n + 1) on.1 placed.1))
-
--- the statement of the quantum, before all lines
-abbrev quantum_row : Row
-quantum_row = record { form = form.Quantum; bar = Nowhere; places = Keyword (codes "quantum") ∷ Number 1 greatest ∷ []; built = true }
-
 abbrev first_said : ℕ → Said
 first_said q = record { line = 0; row = quantum_row; words = quantum_words q }
-
-quantum_fits : (q : ℕ) → fitting_some patterns (quantum_words q) ≡ Some quantum_row
-unfolding patterns declaration_patterns step_patterns call_patterns
-quantum_fits q = refl
-
-quantum_on : (q : ℕ) → InRange q → OnLine (first_said q)
-quantum_on q range =
-    let high = range.high in
-    let small : q < 2 ^ 64 = omega arith in
-    let words : list_all is_word (quantum_words q) ≡ true = rw (decimal_word q small) refl in
-    let line : List ℕ = joined_words (quantum_words q) in
-    let back : line_words line ≡ quantum_words q = line_words-joined (quantum_words q) words in
-    let spelled : place_faults spelling quantum_row.places (quantum_words q) ≡ [] = rw (is_number-decimal q small) refl in
-    let ranged : place_faults ranging quantum_row.places (quantum_words q) ≡ [] = rw (is_within-decimal 1 greatest q range.low high small) refl in
-    record {
-      line = line;
-      sound = record {
-        pattern = ap (fitting_some patterns) back ∙ quantum_fits q;
-        bytes = has_bad_byte-joined (quantum_words q) words;
-        spelled = ap (place_faults spelling quantum_row.places) back ∙ spelled;
-        ranged = ap (place_faults ranging quantum_row.places) back ∙ ranged;
-      };
-      words = sym back;
-    }
 
 quantum_kept : (q : ℕ) → InRange q → quantum_words q ≡ words_of (first_said q)
 quantum_kept q range =
@@ -199,55 +79,166 @@ script_moved es q ss range is =
     ∙ (ap script_of_built (built_without es q nothing_built ss)
     ∙ ap (λ n. record { quantum = n; decls = (built_from es nothing_built ss).decls }) (sym is))
 
-pub again : (text : List ℕ) (script : Script) → read patterns text ≡ Ok script → read patterns (canon script) ≡ Ok script
-again text script e =
-    let old = is_read text script e in
-    let lines : List (List ℕ) = lines_of text in
-    let clean = no_fault text old.clean in
-    let ss : List Said = said patterns text in
-    let d : Declared = declared ss in
-    let b : Built = built_from d.names nothing_built ss in
-    let q : ℕ = b.quantum in
-    let range = built_range d.names nothing_built ss (record { low = omega arith; high = omega arith }) in
-    let here = stands lines [] 1 clean.places (are_ranged lines no_tally 1 1 (clean.limits 1)) in
-    let sound = all_sound ss here.on in
-    let rises = said_rises lines 1 in
-    let early : Rises 0 ss = rises_down 0 1 ss (omega arith) rises in
-    let give = give_names d.names ss nothing_declared no_tally nothing_built 0 1 nothing_known sound clean.names (clean.limits 1) early tt here.placed in
-    let told = all_told d b.decls give ss no_tally 1 sound clean.names (clean.limits 1) in
-    let printed : decls_lines b.decls b.decls ≡ map words_of (without ss) = built_lines d.names b.decls ss nothing_built told tt here.placed ∙ lines_without ss sound in
-    let first : List Said = moved q ss in
-    let on : AllOn first = (quantum_on q range, on_without ss here.on) in
-    let new_lines : List (List ℕ) = map anew_line first in
-    let text_is : canon script ≡ joined_lines new_lines =
-    ap canon (sym old.means)
-    ∙ (ap (λ ls. joined_lines (map joined_words (quantum_words q ∷ ls))) printed
-    ∙ (ap (λ w. joined_lines (joined_words w ∷ map joined_words (map words_of (without ss)))) (quantum_kept q range)
-    ∙ ap (λ ls. joined_lines (anew_line (first_said q) ∷ ls)) (joined_each (without ss)))) in
-    let ts : List Said = numbered 1 first in
-    let said_is : said_from patterns 1 new_lines ≡ ts = said_numbered first 1 on in
-    let anew_all : AreAnew first ts = anew_numbered first 1 on in
-    let places = places_numbered first [] 1 on (refl, placed_without [] ss here.placed) in
-    let same_names : declared first ≡ d = declared_without nothing_declared ss sound in
-    let names_first : phase_two (declared first) first ≡ [] = subst (λ x. phase_two x (without ss) ≡ []) (sym same_names) (names_without d ss clean.names) in
-    let rises_first : Rises 0 first = (omega arith, rises_without 1 ss rises) in
-    let rises_new : Rises 1 ts = subst (Rises 1) said_is (said_rises new_lines 1) in
-    let names_new : phase_two (declared ts) ts ≡ [] = names_alike (Paired first ts) (in_order first ts 0 1 rises_first rises_new) first ts anew_all (lined first ts anew_all) names_first in
-    let limits_new : (n : ℕ) → phase_three n no_tally ts ≡ [] = λ n. limits_kept first ts no_tally n n anew_all (limits_moved q range ss n (clean.limits n)) in
-    let fine : HasNoFault new_lines = record {
-      places = places;
-      names = subst (λ xs. phase_two (declared xs) xs ≡ []) (sym said_is) names_new;
-      limits = λ n. subst (λ xs. phase_three n no_tally xs ≡ []) (sym said_is) (limits_new n);
-    } in
-    let back : lines_of (joined_lines new_lines) ≡ new_lines = lines_back new_lines (are_allowed new_lines [] 1 places) in
-    let said_again : said patterns (joined_lines new_lines) ≡ ts = ap (said_from patterns 1) back ∙ said_is in
-    let sound_first : AllSound first = all_sound first on in
-    let means : script_of (declared ts).names ts ≡ script =
-    script_anew (declared first).names (declared ts).names (numbers_alike first ts anew_all) first ts anew_all sound_first
-    ∙ (ap (λ x. script_of x.names first) same_names
-    ∙ (script_moved d.names q ss range refl ∙ old.means)) in
-    subst (λ t. read patterns t ≡ Ok script) (sym text_is)
-    (read_of (joined_lines new_lines) script (record {
-      clean = faults_of (joined_lines new_lines) new_lines back fine;
-      means = ap (λ xs. script_of (declared xs).names xs) said_again ∙ means;
-    }))
+module _ (rows : List Row) (table : IsTable rows) where
+  -- a statement of a sound line
+  record OnLine (s : Said) : Type 0 where
+    line : List ℕ
+    sound : IsSound rows s.row line
+    words : s.words ≡ line_words line
+
+  abbrev AllOn : List Said → Type 0
+  AllOn [] = Unit {0}
+  AllOn (s ∷ ss) = OnLine s × AllOn ss
+
+  -- what the statements of lines without a fault of their own are, and where they stand
+  record Stands (openings : List Opening) (ss : List Said) : Type 0 where
+    on : AllOn ss
+    placed : Placed openings ss
+
+  stands_by_row : (row : Option Row) (openings : List Opening) (line : List ℕ) (lines : List (List ℕ)) (n : ℕ)
+      → row_of_line rows line ≡ row → line_faults rows (Some openings) line ≡ [] → IsRanged row line
+      → Stands (opened_by row openings) (said_from rows (n + 1) lines) → Stands openings (said_from rows n (line ∷ lines))
+  stands_by_row None openings line lines n is none ranged rest = subst (Stands openings) (sym (said_none rows table n line lines is)) rest
+  stands_by_row (Some row) openings line lines n is none ranged rest =
+      let place : InPlace rows table (Some row) openings line = subst (λ r. InPlace rows table r openings line) is (in_place rows table openings line none) in
+      let sound : IsSound rows row line = record { pattern = is; bytes = place.bytes; spelled = place.own; ranged = ranged } in
+      subst (Stands openings) (sym (said_some rows table n line lines row is))
+      (record { on = (record { line = line; sound = sound; words = refl }, rest.on); placed = (place.place, rest.placed) })
+
+  stands : (lines : List (List ℕ)) (openings : List Opening) (n : ℕ) → phase_one rows n (Some openings) lines ≡ [] → AreRanged rows lines → Stands openings (said_from rows n lines)
+  stands [] openings n e ranged =
+      let closed = no_kinds n (unclosed (Some openings)) (sym (no_lines rows table n (Some openings)) ∙ e) in
+      subst (Stands openings) (sym (nothing_said rows table n)) (record { on = tt; placed = closed })
+  stands (line ∷ lines) openings n e ranged =
+      let split = both_none (faults_at 1 n (line_faults rows (Some openings) line)) (phase_one rows (n + 1) (behind_line rows (Some openings) line) lines) (sym (one_line rows table n (Some openings) line lines) ∙ e) in
+      let none = no_kinds n (line_faults rows (Some openings) line) split.0 in
+      let after = behind_clean rows table openings line (row_of_line rows line) refl none in
+      let rest = subst (λ o. phase_one rows (n + 1) o lines ≡ []) after split.1 in
+      stands_by_row (row_of_line rows line) openings line lines n refl none ranged.0 (stands lines (opened_by (row_of_line rows line) openings) (n + 1) rest ranged.1)
+
+  on_sound : (s : Said) → OnLine s → SoundSaid s
+  on_sound s on = subst (λ w. SoundSaid (record { line = s.line; row = s.row; words = w })) (sym on.words) (sound_said rows table s.line s.row on.line on.sound)
+
+  all_sound : (ss : List Said) → AllOn ss → AllSound ss
+  all_sound [] on = tt
+  all_sound (s ∷ ss) on = (on_sound s on.0, all_sound ss on.1)
+
+  on_without : (ss : List Said) → AllOn ss → AllOn (without ss)
+  on_without [] on = tt
+  on_without (s ∷ ss) on = let ih = on_without ss on.1 in keep_case AllOn s.row.form s (without ss) (λ q. ih) (λ other. (on.0, ih))
+
+  record Anew (s : Said) : Type 0 where
+    sound : IsSound rows s.row (anew_line s)
+    words : line_words (anew_line s) ≡ words_of s
+    said : (m : ℕ) → IsAnew s (record { line = m; row = s.row; words = words_of s })
+
+  anew : (s : Said) → OnLine s → Anew s
+  anew s on =
+      let kept = keeps_pattern rows table s.row on.line on.sound in
+      let same : anew_line s ≡ canonical_line s.row on.line = ap (λ w. joined_words (canonical_words s.row.places w)) on.words in
+      let words : line_words (canonical_line s.row on.line) ≡ words_of s = kept.words ∙ ap (canonical_words s.row.places) (sym on.words) in
+      record {
+        sound = subst (IsSound rows s.row) (sym same) kept.sound;
+        words = ap line_words same ∙ words;
+        said = λ m.
+            subst (λ w. IsAnew s (record { line = m; row = s.row; words = w })) words
+            (subst (λ w. IsAnew (record { line = s.line; row = s.row; words = w }) (record { line = m; row = s.row; words = line_words (canonical_line s.row on.line) })) (sym on.words)
+            (anew_one rows table s.line m s.row on.line on.sound));
+      }
+
+  said_numbered : (ss : List Said) (n : ℕ) → AllOn ss → said_from rows n (map anew_line ss) ≡ numbered n ss
+  said_numbered [] n on = nothing_said rows table n
+  said_numbered (s ∷ ss) n on =
+      let one = anew s on.0 in
+      said_some rows table n (anew_line s) (map anew_line ss) s.row one.sound.pattern
+      ∙ (ap (λ w. record { line = n; row = s.row; words = w } ∷ said_from rows (n + 1) (map anew_line ss)) one.words
+      ∙ ap (λ ts. record { line = n; row = s.row; words = words_of s } ∷ ts) (said_numbered ss (n + 1) on.1))
+
+  anew_numbered : (ss : List Said) (n : ℕ) → AllOn ss → AreAnew ss (numbered n ss)
+  anew_numbered [] n on = tt
+  anew_numbered (s ∷ ss) n on = ((anew s on.0).said n, anew_numbered ss (n + 1) on.1)
+
+  places_numbered : (ss : List Said) (openings : List Opening) (n : ℕ) → AllOn ss → Placed openings ss → phase_one rows n (Some openings) (map anew_line ss) ≡ []
+  places_numbered [] openings n on placed = no_lines rows table n (Some openings) ∙ ap (λ kinds. faults_at 1 n kinds) placed
+  places_numbered (s ∷ ss) openings n on placed =
+      let one = anew s on.0 in
+      let line : List ℕ = anew_line s in
+      let clean = faults_none rows table openings line (Some s.row) one.sound.pattern (record { bytes = one.sound.bytes; own = one.sound.spelled; place = placed.0 }) in
+      let after = behind_clean rows table openings line (Some s.row) one.sound.pattern clean in
+      one_line rows table n (Some openings) line (map anew_line ss)
+      ∙ (ap (λ kinds. faults_at 1 n kinds ++ phase_one rows (n + 1) (behind_line rows (Some openings) line) (map anew_line ss)) clean
+      ∙ (ap (λ o. phase_one rows (n + 1) o (map anew_line ss)) after
+      ∙ places_numbered ss (opened s.row.form openings) (n + 1) on.1 placed.1))
+
+  quantum_on : (q : ℕ) → InRange q → OnLine (first_said q)
+  quantum_on q range =
+      let high = range.high in
+      let small : q < 2 ^ 64 = omega arith in
+      let words : list_all is_word (quantum_words q) ≡ true = rw (decimal_word q small) refl in
+      let line : List ℕ = joined_words (quantum_words q) in
+      let back : line_words line ≡ quantum_words q = line_words-joined (quantum_words q) words in
+      let spelled : place_faults spelling quantum_row.places (quantum_words q) ≡ [] = rw (is_number-decimal q small) refl in
+      let ranged : place_faults ranging quantum_row.places (quantum_words q) ≡ [] = rw (is_within-decimal 1 greatest q range.low high small) refl in
+      record {
+        line = line;
+        sound = record {
+          pattern = ap (fitting_some rows) back ∙ table.quantum q;
+          bytes = has_bad_byte-joined (quantum_words q) words;
+          spelled = ap (place_faults spelling quantum_row.places) back ∙ spelled;
+          ranged = ap (place_faults ranging quantum_row.places) back ∙ ranged;
+        };
+        words = sym back;
+      }
+
+  pub again : (text : List ℕ) (script : Script) → read rows text ≡ Ok script → read rows (canon script) ≡ Ok script
+  again text script e =
+      let old = is_read rows table text script e in
+      let lines : List (List ℕ) = lines_of text in
+      let clean = no_fault rows table text old.clean in
+      let ss : List Said = said rows text in
+      let d : Declared = declared ss in
+      let b : Built = built_from d.names nothing_built ss in
+      let q : ℕ = b.quantum in
+      let range = built_range d.names nothing_built ss (record { low = omega arith; high = omega arith }) in
+      let here = stands lines [] 1 clean.places (are_ranged rows table lines no_tally 1 1 (clean.limits 1)) in
+      let sound = all_sound ss here.on in
+      let rises = said_rises rows table lines 1 in
+      let early : Rises 0 ss = rises_down 0 1 ss (omega arith) rises in
+      let give = give_names d.names ss nothing_declared no_tally nothing_built 0 1 nothing_known sound clean.names (clean.limits 1) early tt here.placed in
+      let told = all_told d b.decls give ss no_tally 1 sound clean.names (clean.limits 1) in
+      let printed : decls_lines b.decls b.decls ≡ map words_of (without ss) = built_lines d.names b.decls ss nothing_built told tt here.placed ∙ lines_without ss sound in
+      let first : List Said = moved q ss in
+      let on : AllOn first = (quantum_on q range, on_without ss here.on) in
+      let new_lines : List (List ℕ) = map anew_line first in
+      let text_is : canon script ≡ joined_lines new_lines =
+      ap canon (sym old.means)
+      ∙ (ap (λ ls. joined_lines (map joined_words (quantum_words q ∷ ls))) printed
+      ∙ (ap (λ w. joined_lines (joined_words w ∷ map joined_words (map words_of (without ss)))) (quantum_kept q range)
+      ∙ ap (λ ls. joined_lines (anew_line (first_said q) ∷ ls)) (joined_each (without ss)))) in
+      let ts : List Said = numbered 1 first in
+      let said_is : said_from rows 1 new_lines ≡ ts = said_numbered first 1 on in
+      let anew_all : AreAnew first ts = anew_numbered first 1 on in
+      let places = places_numbered first [] 1 on (refl, placed_without [] ss here.placed) in
+      let same_names : declared first ≡ d = declared_without nothing_declared ss sound in
+      let names_first : phase_two (declared first) first ≡ [] = subst (λ x. phase_two x (without ss) ≡ []) (sym same_names) (names_without d ss clean.names) in
+      let rises_first : Rises 0 first = (omega arith, rises_without 1 ss rises) in
+      let rises_new : Rises 1 ts = subst (Rises 1) said_is (said_rises rows table new_lines 1) in
+      let names_new : phase_two (declared ts) ts ≡ [] = names_alike (Paired first ts) (in_order first ts 0 1 rises_first rises_new) first ts anew_all (lined first ts anew_all) names_first in
+      let limits_new : (n : ℕ) → phase_three n no_tally ts ≡ [] = λ n. limits_kept first ts no_tally n n anew_all (limits_moved q range ss n (clean.limits n)) in
+      let fine : HasNoFault rows new_lines = record {
+        places = places;
+        names = subst (λ xs. phase_two (declared xs) xs ≡ []) (sym said_is) names_new;
+        limits = λ n. subst (λ xs. phase_three n no_tally xs ≡ []) (sym said_is) (limits_new n);
+      } in
+      let back : lines_of (joined_lines new_lines) ≡ new_lines = lines_back new_lines (are_allowed rows table new_lines [] 1 places) in
+      let said_again : said rows (joined_lines new_lines) ≡ ts = ap (said_from rows 1) back ∙ said_is in
+      let sound_first : AllSound first = all_sound first on in
+      let means : script_of (declared ts).names ts ≡ script =
+      script_anew (declared first).names (declared ts).names (numbers_alike first ts anew_all) first ts anew_all sound_first
+      ∙ (ap (λ x. script_of x.names first) same_names
+      ∙ (script_moved d.names q ss range refl ∙ old.means)) in
+      subst (λ t. read rows t ≡ Ok script) (sym text_is)
+      (read_of rows table (joined_lines new_lines) script (record {
+        clean = faults_of rows table (joined_lines new_lines) new_lines back fine;
+        means = ap (λ xs. script_of (declared xs).names xs) said_again ∙ means;
+      }))

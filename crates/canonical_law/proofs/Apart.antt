@@ -6,21 +6,8 @@ use Rattle.std.specs.Str.{bytes_eq}
 use Rattle.std.proofs.lemmas.Slice.Eq.{bytes_eq-Decides}
 use Rattle.script_lex.proofs.Rejoined.{both}
 use Rattle.script_table.specs.Patterns.{Spot, Keyword, Answer, Number, Operand, Declares, Uses, Signal, Acts, Signals, Row}
-use Rattle.script_table.specs.Table.{declaration_patterns, step_patterns, call_patterns, patterns}
 use Rattle.script_table.specs.LineFaults.{stands, fits, fitting}
-use Rattle.canonical_law.specs.Apart.{differ, apart, all_apart, all_bounded, has_parameters}
-
-pub patterns_apart : all_apart patterns ≡ true
-unfolding patterns declaration_patterns step_patterns call_patterns
-patterns_apart = refl
-
-pub patterns_bounded : all_bounded patterns ≡ true
-unfolding patterns declaration_patterns step_patterns call_patterns
-patterns_bounded = refl
-
-pub patterns_have_parameters : list_all has_parameters patterns ≡ true
-unfolding patterns declaration_patterns step_patterns call_patterns
-patterns_have_parameters = refl
+use Rattle.canonical_law.specs.Apart.{differ, apart, all_apart}
 
 alone : (a b word : List ℕ) → bytes_eq word a ≡ true → bytes_eq word b ≡ true → bytes_eq a b ≡ true
 alone a b word p q =

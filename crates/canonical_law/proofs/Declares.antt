@@ -8,7 +8,6 @@ use Rattle.script_table.specs.declared.form.Form.TheVariants as form
 use Rattle.script_table.specs.declared.pattern.NameKind.{NameKind}
 use Rattle.script_table.specs.declared.pattern.NameKind.TheVariants as kind
 use Rattle.script_table.specs.Patterns.{Spot, Declares, Uses, Row, same_kind}
-use Rattle.script_table.specs.Table.{patterns, declaration_patterns, step_patterns, call_patterns}
 use Rattle.script_table.specs.LineFaults.{stands, fits}
 use Rattle.script_table.specs.Structure.{body_kind}
 use Rattle.script_table.specs.Ranges.{object_kind}
@@ -45,10 +44,6 @@ by_kind (Some k) (s ∷ other ∷ spots) = false
 
 abbrev pub declares_rightly : Row → Bool
 declares_rightly row = by_kind (declared_kind row.form) row.places
-
-pub patterns_declare_rightly : list_all declares_rightly patterns ≡ true
-unfolding patterns declaration_patterns step_patterns call_patterns
-patterns_declare_rightly = refl
 
 pub same_kind_is : (a b : NameKind) → same_kind a b ≡ true → a ≡ b
 same_kind_is kind.Thread kind.Thread e = refl

@@ -19,7 +19,6 @@ use Rattle.script_table.specs.declared.pattern.NameKind.TheVariants as kind
 use Rattle.script_table.specs.Patterns.{Spot, Keyword, Answer, Number, Operand, Declares, Uses, Signal, Acts, Signals, Row, greatest}
 use Rattle.std.proofs.Common.{◌≡◌, refl, subst}
 use Rattle.script_table.specs.LineFaults.{fits, fitting}
-use Rattle.script_table.specs.Table.{patterns, declaration_patterns, step_patterns, call_patterns}
 
 abbrev priority : Spot
 priority = Number 1 255
@@ -109,17 +108,12 @@ places_of (form.Call (call.Message message.Receive)) = Keyword (codes "mq_receiv
 places_of (form.Call (call.Message message.Timedreceive)) = Keyword (codes "mq_timedreceive") ∷ Uses kind.Queue ∷ Operand ∷ []
 places_of (form.Call (call.Message message.Notify)) = Keyword (codes "mq_notify") ∷ Uses kind.Queue ∷ Signal ∷ Operand ∷ []
 
-abbrev HasPlaces : Row → Type 0
+abbrev pub HasPlaces : Row → Type 0
 HasPlaces r = r.places ≡ places_of r.form
 
-abbrev AllHave : List Row → Type 0
+abbrev pub AllHave : List Row → Type 0
 AllHave [] = Unit {0}
 AllHave (r ∷ rs) = HasPlaces r × AllHave rs
-
--- each pattern has the places of its form
-patterns_have : AllHave patterns
-unfolding patterns declaration_patterns step_patterns call_patterns
-patterns_have = (refl, (refl, (refl, (refl, (refl, (refl, (refl, (refl, (refl, (refl, (refl, (refl, (refl, (refl, (refl, (refl, (refl, (refl, (refl, (refl, (refl, (refl, (refl, (refl, (refl, (refl, (refl, (refl, (refl, (refl, (refl, (refl, (refl, (refl, (refl, (refl, (refl, (refl, (refl, (refl, (refl, (refl, (refl, (refl, (refl, (refl, (refl, (refl, (refl, (refl, (refl, (refl, (refl, (refl, (refl, (refl, (refl, (refl, (refl, (refl, (refl, (refl, (refl, (refl, (refl, (refl, (refl, (refl, (refl, (refl, (refl, (refl, (refl, (refl, (refl, (refl, (refl, (refl, (refl, tt)))))))))))))))))))))))))))))))))))))))))))))))))))))))))))))))))))))))))))))))
 
 found_case : (b : Bool) (test : Row → Bool) (r : Row) (rows : List Row) (row : Row) → test r ≡ b → find test (r ∷ rows) ≡ Some row → HasPlaces r
     → (find test rows ≡ Some row → HasPlaces row) → HasPlaces row
@@ -135,5 +129,5 @@ found_has test [] row found all = absurd (let f : None ≡ Some row = found in c
 found_has test (r ∷ rows) row found all = found_case (test r) test r rows row refl found all.0 (λ f. found_has test rows row f all.1)
 
 -- the pattern of a line has the places of its form
-pub fitting_has : (words : List (List ℕ)) (row : Row) → fitting patterns words ≡ Some row → row.places ≡ places_of row.form
-fitting_has words row found = found_has (λ r. r.built && fits r.places words) patterns row found patterns_have
+pub fitting_has : (rows : List Row) → AllHave rows → (words : List (List ℕ)) (row : Row) → fitting rows words ≡ Some row → row.places ≡ places_of row.form
+fitting_has rows all words row found = found_has (λ r. r.built && fits r.places words) rows row found all

@@ -28,3 +28,4 @@ pub mod Named
 pub mod Known
 pub mod Moved
 pub mod Again
+pub mod Table

@@ -6,12 +6,12 @@ use Rattle.script_table.specs.declared.fault.FaultKind.{FaultKind}
 use Rattle.script_table.specs.declared.fault.FaultKind.TheVariants.{TooMany, NoThread}
 use Rattle.script_table.specs.Faults.{when, faults_at, fault}
 use Rattle.script_table.specs.Patterns.{Row}
-use Rattle.script_table.specs.Table.{patterns}
 use Rattle.script_table.specs.LineFaults.{place_faults}
 use Rattle.script_table.specs.Ranges.{ranging, server_faults, Tally, tallied, is_too_many, range_faults, phase_three}
 use Rattle.script_table.specs.Structure.{Said, row_of_line, said_from}
 use Rattle.canonical_law.specs.Laws.{IsAnew, AreAnew, IsRanged, AreRanged}
 use Rattle.canonical_law.proofs.Places.{both_none, said_none, said_some}
+use Rattle.canonical_law.proofs.Table.{IsTable}
 
 pub no_kinds : (n : ℕ) (kinds : List FaultKind) → faults_at 3 n kinds ≡ [] → kinds ≡ []
 no_kinds n [] e = refl
@@ -43,15 +43,16 @@ limits_kept (s ∷ ss) (x ∷ ts) t n m anew e =
     let here : phase_three m (tallied t x.row.form) ts ≡ [] = subst (λ (r : Row). phase_three m (tallied t r.form) ts ≡ []) (sym anew.0.pattern) rest in
     rw (own, here) refl
 
-ranged_by_row : (row : Option Row) (line : List ℕ) (lines : List (List ℕ)) (t : Tally) (n m : ℕ) → row_of_line patterns line ≡ row → phase_three m t (said_from patterns n (line ∷ lines)) ≡ []
-    → ((u : Tally) → phase_three m u (said_from patterns (n + 1) lines) ≡ [] → AreRanged lines) → IsRanged row line × AreRanged lines
-ranged_by_row None line lines t n m is e rest = (tt, rest t (subst (λ ss. phase_three m t ss ≡ []) (said_none n line lines is) e))
-ranged_by_row (Some row) line lines t n m is e rest =
-    let said : Said = record { line = n; row = row; words = line_words line } in
-    let h : phase_three m t (said ∷ said_from patterns (n + 1) lines) ≡ [] = subst (λ ss. phase_three m t ss ≡ []) (said_some n line lines row is) e in
-    let split = both_none (faults_at 3 n (range_faults (tallied t row.form) said)) (phase_three m (tallied t row.form) (said_from patterns (n + 1) lines)) h in
-    ((within (tallied t row.form) said (no_kinds n (range_faults (tallied t row.form) said) split.0)).0, rest (tallied t row.form) split.1)
+module _ (rows : List Row) (table : IsTable rows) where
+  ranged_by_row : (row : Option Row) (line : List ℕ) (lines : List (List ℕ)) (t : Tally) (n m : ℕ) → row_of_line rows line ≡ row → phase_three m t (said_from rows n (line ∷ lines)) ≡ []
+      → ((u : Tally) → phase_three m u (said_from rows (n + 1) lines) ≡ [] → AreRanged rows lines) → IsRanged row line × AreRanged rows lines
+  ranged_by_row None line lines t n m is e rest = (tt, rest t (subst (λ ss. phase_three m t ss ≡ []) (said_none rows table n line lines is) e))
+  ranged_by_row (Some row) line lines t n m is e rest =
+      let said : Said = record { line = n; row = row; words = line_words line } in
+      let h : phase_three m t (said ∷ said_from rows (n + 1) lines) ≡ [] = subst (λ ss. phase_three m t ss ≡ []) (said_some rows table n line lines row is) e in
+      let split = both_none (faults_at 3 n (range_faults (tallied t row.form) said)) (phase_three m (tallied t row.form) (said_from rows (n + 1) lines)) h in
+      ((within (tallied t row.form) said (no_kinds n (range_faults (tallied t row.form) said) split.0)).0, rest (tallied t row.form) split.1)
 
-pub are_ranged : (lines : List (List ℕ)) (t : Tally) (n m : ℕ) → phase_three m t (said_from patterns n lines) ≡ [] → AreRanged lines
-are_ranged [] t n m e = tt
-are_ranged (line ∷ lines) t n m e = ranged_by_row (row_of_line patterns line) line lines t n m refl e (λ u h. are_ranged lines u (n + 1) m h)
+  pub are_ranged : (lines : List (List ℕ)) (t : Tally) (n m : ℕ) → phase_three m t (said_from rows n lines) ≡ [] → AreRanged rows lines
+  are_ranged [] t n m e = tt
+  are_ranged (line ∷ lines) t n m e = ranged_by_row (row_of_line rows line) line lines t n m refl e (λ u h. are_ranged lines u (n + 1) m h)

@@ -8,15 +8,15 @@ use Rattle.script_lex.proofs.Rejoined.{both, line_words-joined, has_bad_byte-joi
 use Rattle.script_lex.specs.Lines.{lines_of}
 use Rattle.script_text.specs.Canon.{Words, text_of}
 use Rattle.script_table.specs.Patterns.{Spot, Row}
-use Rattle.script_table.specs.Table.{patterns}
 use Rattle.script_table.specs.LineFaults.{fits, fitting, fitting_some, place_faults, spelling}
 use Rattle.script_table.specs.Ranges.{ranging}
 use Rattle.canonical_law.specs.Canonical.{canonical_words}
 use Rattle.canonical_law.specs.Apart.{is_bounded}
 use Rattle.canonical_law.specs.Laws.{IsSound, KeepsPattern, canonical_line, AreWords, ReadBack}
-use Rattle.canonical_law.proofs.Apart.{patterns_apart, patterns_bounded, fitting_again, found_fits, found_passes}
+use Rattle.canonical_law.proofs.Apart.{fitting_again, found_fits, found_passes}
 use Rattle.canonical_law.proofs.Kept.{fits_kept, are_clean_kept, words_kept}
 use Rattle.canonical_law.proofs.Written.{line_words_are_words}
+use Rattle.canonical_law.proofs.Table.{IsTable}
 
 pub some_found : (rows : List Row) (words : List (List ℕ)) (row : Row) → fitting_some rows words ≡ Some row → fitting rows words ≡ Some row
 some_found rows [] row e = absurd (let f : None ≡ Some row = e in cc)
@@ -28,27 +28,6 @@ found_some : (rows : List Row) (words others : List (List ℕ)) (spots : List Sp
 found_some rows [] others spots row e fit again = absurd (let f : None ≡ Some row = e in cc)
 found_some rows (w ∷ ws) others [] row e fit again = absurd (let f : false ≡ true = fit in cc)
 found_some rows (w ∷ ws) others (s ∷ spots) row e fit again = again
-
-pub keeps_pattern : (row : Row) (line : List ℕ) → IsSound row line → KeepsPattern row line
-keeps_pattern row line h =
-    let words : List (List ℕ) = line_words line in
-    let canonical : List (List ℕ) = canonical_words row.places words in
-    let found = some_found patterns words row h.pattern in
-    let bounded : list_all is_bounded row.places ≡ true = found_passes (λ r. r.built && fits r.places words) (λ r. list_all is_bounded r.places) patterns row found patterns_bounded in
-    let clean = are_clean_kept row.places words bounded (record { spelled = h.spelled; ranged = h.ranged }) in
-    let written : list_all is_word canonical ≡ true = words_kept row.places words bounded (record { spelled = h.spelled; ranged = h.ranged }) (line_words_are_words line h.bytes) in
-    let back : line_words (canonical_line row line) ≡ canonical = line_words-joined canonical written in
-    let fit = found_fits patterns words row found in
-    let again : fitting patterns canonical ≡ Some row = fitting_again patterns words canonical row patterns_apart found (fits_kept row.places words fit) in
-    record {
-      sound = record {
-        pattern = ap (fitting_some patterns) back ∙ found_some patterns words words row.places row h.pattern fit again;
-        bytes = has_bad_byte-joined canonical written;
-        spelled = ap (place_faults spelling row.places) back ∙ clean.spelled;
-        ranged = ap (place_faults ranging row.places) back ∙ clean.ranged;
-      };
-      words = back;
-    }
 
 each_line : (lines : List Words) → AreWords lines → map line_words (map joined_words lines) ≡ lines
 each_line [] h = refl
@@ -66,3 +45,25 @@ pub read_back : (lines : List Words) → AreWords lines → ReadBack lines
 read_back lines h =
     let back : lines_of (text_of lines) ≡ map joined_words lines = lines_of-joined lines h in
     record { words = ap (map line_words) back ∙ each_line lines h; bytes = ap (list_all (λ line. not (has_bad_byte line))) back ∙ no_bad_byte lines h }
+
+module _ (rows : List Row) (table : IsTable rows) where
+  pub keeps_pattern : (row : Row) (line : List ℕ) → IsSound rows row line → KeepsPattern rows row line
+  keeps_pattern row line h =
+      let words : List (List ℕ) = line_words line in
+      let canonical : List (List ℕ) = canonical_words row.places words in
+      let found = some_found rows words row h.pattern in
+      let bounded : list_all is_bounded row.places ≡ true = found_passes (λ r. r.built && fits r.places words) (λ r. list_all is_bounded r.places) rows row found table.bounded in
+      let clean = are_clean_kept row.places words bounded (record { spelled = h.spelled; ranged = h.ranged }) in
+      let written : list_all is_word canonical ≡ true = words_kept row.places words bounded (record { spelled = h.spelled; ranged = h.ranged }) (line_words_are_words line h.bytes) in
+      let back : line_words (canonical_line row line) ≡ canonical = line_words-joined canonical written in
+      let fit = found_fits rows words row found in
+      let again : fitting rows canonical ≡ Some row = fitting_again rows words canonical row table.apart found (fits_kept row.places words fit) in
+      record {
+        sound = record {
+          pattern = ap (fitting_some rows) back ∙ found_some rows words words row.places row h.pattern fit again;
+          bytes = has_bad_byte-joined canonical written;
+          spelled = ap (place_faults spelling row.places) back ∙ clean.spelled;
+          ranged = ap (place_faults ranging row.places) back ∙ clean.ranged;
+        };
+        words = back;
+      }

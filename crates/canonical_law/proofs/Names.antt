@@ -3,12 +3,12 @@ use Rattle.std.proofs.Common.{◌≡◌, ◌≤◌, ◌<◌, ℕ, ◌+◌, List,
 use mathlib.Core.Logic.{◌⊎◌, inl, inr}
 use Rattle.std.specs.Prelude.{nat_lt}
 use Rattle.script_table.specs.Patterns.{Row}
-use Rattle.script_table.specs.Table.{patterns}
 use Rattle.script_table.specs.Structure.{Said, row_of_line, said_from}
 use Rattle.script_table.specs.Names.{declared, phase_two}
 use Rattle.canonical_law.specs.Laws.{AreAnew, canonical_lines}
 use Rattle.canonical_law.proofs.Places.{nothing_said, said_none, said_some}
 use Rattle.canonical_law.proofs.Naming.{InOrder, Lined, names_alike}
+use Rattle.canonical_law.proofs.Table.{IsTable}
 
 -- the lines of two statements at one place of two lists
 abbrev pub Paired : List Said → List Said → ℕ → ℕ → Type 0
@@ -24,14 +24,6 @@ Rises n (s ∷ ss) = (n ≤ s.line) × Rises (s.line + 1) ss
 rises_sooner : (n : ℕ) (ss : List Said) → Rises (n + 1) ss → Rises n ss
 rises_sooner n [] h = tt
 rises_sooner n (s ∷ ss) h = (omega (arith, h.0), h.1)
-
-rises_by_row : (row : Option Row) (n : ℕ) (line : List ℕ) (lines : List (List ℕ)) → row_of_line patterns line ≡ row → Rises (n + 1) (said_from patterns (n + 1) lines) → Rises n (said_from patterns n (line ∷ lines))
-rises_by_row None n line lines is h = rw (said_none n line lines is) (rises_sooner n (said_from patterns (n + 1) lines) h)
-rises_by_row (Some row) n line lines is h = rw (said_some n line lines row is) (omega arith, h)
-
-pub said_rises : (lines : List (List ℕ)) (n : ℕ) → Rises n (said_from patterns n lines)
-said_rises [] n = rw (nothing_said n) tt
-said_rises (line ∷ lines) n = rises_by_row (row_of_line patterns line) n line lines refl (said_rises lines (n + 1))
 
 less : (a b c d : ℕ) → a < c → b < d → nat_lt a c ≡ nat_lt b d
 less a b c d p q = let x : nat_lt a c ≡ true = search rules in let y : nat_lt b d ≡ true = search rules in x ∙ sym y
@@ -76,10 +68,19 @@ lined [] (x ∷ ts) h = absurd h
 lined (s ∷ ss) [] h = absurd h
 lined (s ∷ ss) (x ∷ ts) h = (inl (refl, refl), lined_more (Paired ss ts) (Paired (s ∷ ss) (x ∷ ts)) ss ts (λ a b r. inr r) (lined ss ts h.1))
 
-pub names_kept : (lines : List (List ℕ)) → phase_two (declared (said_from patterns 1 lines)) (said_from patterns 1 lines) ≡ []
-    → AreAnew (said_from patterns 1 lines) (said_from patterns 1 (canonical_lines lines))
-    → phase_two (declared (said_from patterns 1 (canonical_lines lines))) (said_from patterns 1 (canonical_lines lines)) ≡ []
-names_kept lines e anew =
-    let ss : List Said = said_from patterns 1 lines in
-    let ts : List Said = said_from patterns 1 (canonical_lines lines) in
-    names_alike (Paired ss ts) (in_order ss ts 1 1 (said_rises lines 1) (said_rises (canonical_lines lines) 1)) ss ts anew (lined ss ts anew) e
+module _ (rows : List Row) (table : IsTable rows) where
+  rises_by_row : (row : Option Row) (n : ℕ) (line : List ℕ) (lines : List (List ℕ)) → row_of_line rows line ≡ row → Rises (n + 1) (said_from rows (n + 1) lines) → Rises n (said_from rows n (line ∷ lines))
+  rises_by_row None n line lines is h = rw (said_none rows table n line lines is) (rises_sooner n (said_from rows (n + 1) lines) h)
+  rises_by_row (Some row) n line lines is h = rw (said_some rows table n line lines row is) (omega arith, h)
+
+  pub said_rises : (lines : List (List ℕ)) (n : ℕ) → Rises n (said_from rows n lines)
+  said_rises [] n = rw (nothing_said rows table n) tt
+  said_rises (line ∷ lines) n = rises_by_row (row_of_line rows line) n line lines refl (said_rises lines (n + 1))
+
+  pub names_kept : (lines : List (List ℕ)) → phase_two (declared (said_from rows 1 lines)) (said_from rows 1 lines) ≡ []
+      → AreAnew (said_from rows 1 lines) (said_from rows 1 (canonical_lines rows lines))
+      → phase_two (declared (said_from rows 1 (canonical_lines rows lines))) (said_from rows 1 (canonical_lines rows lines)) ≡ []
+  names_kept lines e anew =
+      let ss : List Said = said_from rows 1 lines in
+      let ts : List Said = said_from rows 1 (canonical_lines rows lines) in
+      names_alike (Paired ss ts) (in_order ss ts 1 1 (said_rises lines 1) (said_rises (canonical_lines rows lines) 1)) ss ts anew (lined ss ts anew) e

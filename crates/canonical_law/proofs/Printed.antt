@@ -221,8 +221,3 @@ built_lines es ds (s ∷ ss) b told stack placed =
     built_lines es ds ss (after es b s) told.1 goes.stack rest
     ∙ (ap (λ l. l ++ lines_of_said ss) (after_lines es ds b s.row.form s.row.bar s.words told.0 stack placed.0)
     ∙ append_assoc (lines_so_far ds b) (line_of s.row.form s.words) (lines_of_said ss))
-
--- the lines of all declarations of a script are those of its statements
-pub script_lines_said : (es : List Entry) (ds : List Decl) (ss : List Said) (quantum : ℕ) → AllTold es ds ss → Placed [] ss
-    → decls_lines ds (built_from es (record { quantum = quantum; blocks = []; decls = [] }) ss).decls ≡ lines_of_said ss
-script_lines_said es ds ss quantum told placed = built_lines es ds ss (record { quantum = quantum; blocks = []; decls = [] }) told tt placed

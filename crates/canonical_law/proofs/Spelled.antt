@@ -16,7 +16,6 @@ use Rattle.script_tree.specs.declared.decl.Decl.{Decl}
 use Rattle.script_tree.specs.declared.call.Operand.TheVariants.{Num, Reg}
 use Rattle.script_table.specs.declared.fault.FaultKind.TheVariants.{NumberRange, BadName, UnknownName, WrongKind}
 use Rattle.script_table.specs.declared.pattern.NameKind.{NameKind}
-use Rattle.script_table.specs.declared.pattern.NameKind.TheVariants as kind
 use Rattle.script_table.specs.Patterns.{Spot, Keyword, Answer, Number, Operand, Declares, Uses, Signal, Acts, Signals, greatest, same_kind}
 use Rattle.script_table.specs.Words.{value_of, is_register, signal_number, signal_of, set_of, answer_of}
 use Rattle.script_table.specs.LineFaults.{stands, fits, spelling, place_faults}
@@ -25,6 +24,7 @@ use Rattle.script_table.specs.Names.{Entry, entry_of, Declared, naming, used}
 use Rattle.script_text.specs.Names.{name_of}
 use Rattle.script_text.specs.Words.{signal_word}
 use Rattle.canonical_law.proofs.Bounds.{if_some}
+use Rattle.canonical_law.proofs.Declares.{same_kind_is}
 use Rattle.canonical_law.proofs.Signals.{all_at}
 use Rattle.canonical_law.proofs.Kept.{IsClean, AreClean, holds, none_first}
 use Rattle.canonical_law.proofs.Shape.{Holds}
@@ -136,17 +136,6 @@ operand_shown true word is clean =
 operand_shown false word is clean =
     let within : is_within 0 greatest word ≡ true = (let h = holds (is_register word || is_within 0 greatest word) NumberRange clean.ranged in rw is at h) in
     record { value = Num (value_of word); found = rw (is, within) refl; text = rw is refl }
-
-same_kind_is : (a b : NameKind) → same_kind a b ≡ true → a ≡ b
-same_kind_is kind.Thread kind.Thread e = refl
-same_kind_is kind.Mutex kind.Mutex e = refl
-same_kind_is kind.Cond kind.Cond e = refl
-same_kind_is kind.Sem kind.Sem e = refl
-same_kind_is kind.Queue kind.Queue e = refl
-same_kind_is kind.Timer kind.Timer e = refl
-same_kind_is kind.Handler kind.Handler e = refl
-same_kind_is kind.Cleanup kind.Cleanup e = refl
-same_kind_is a b e = absurd (let f : false ≡ true = e in cc)
 
 -- what is known of the number of a name
 pub record GivesName (ds : List Decl) (word : List ℕ) (e : Entry) : Type 0 where

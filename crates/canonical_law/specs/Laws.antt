@@ -7,7 +7,6 @@ use Rattle.script_tree.specs.declared.call.Operand.TheVariants.{Num, Reg}
 use Rattle.script_lex.specs.Words.{has_bad_byte, line_words}
 use Rattle.script_lex.specs.Joined.{joined_words, joined_lines, is_word}
 use Rattle.script_table.specs.Patterns.{Row, greatest}
-use Rattle.script_table.specs.Table.{patterns}
 use Rattle.script_table.specs.LineFaults.{place_faults, spelling}
 use Rattle.script_table.specs.Ranges.{ranging, server_faults, phase_three, no_tally}
 use Rattle.script_table.specs.Structure.{Said, said_from, row_of_line, phase_one}
@@ -30,39 +29,19 @@ pub record ReadBack (lines : List Words) : Type 0 where
   pub words : map line_words (lines_of (text_of lines)) ≡ lines
   pub bytes : list_all (λ line. not (has_bad_byte line)) (lines_of (text_of lines)) ≡ true
 
--- the line has the pattern, no bad byte, and no word that its place does not want or whose number is out of range
-pub record IsSound (row : Row) (line : List ℕ) : Type 0 where
-  pub pattern : row_of_line patterns line ≡ Some row
-  pub bytes : has_bad_byte line ≡ false
-  pub spelled : place_faults spelling row.places (line_words line) ≡ []
-  pub ranged : place_faults ranging row.places (line_words line) ≡ []
-
 -- the line of the canonical words, with one blank between them
 abbrev pub canonical_line : Row → List ℕ → List ℕ
 canonical_line row line = joined_words (canonical_words row.places (line_words line))
-
--- the canonical line of a sound line has the same pattern and is sound, and its words are the canonical words
-pub record KeepsPattern (row : Row) (line : List ℕ) : Type 0 where
-  pub sound : IsSound row (canonical_line row line)
-  pub words : line_words (canonical_line row line) ≡ canonical_words row.places (line_words line)
 
 -- the canonical line of a line that has a pattern; a line without words is left out
 abbrev pub canonical_of : Option Row → List ℕ → List (List ℕ)
 canonical_of None line = []
 canonical_of (Some row) line = canonical_line row line ∷ []
 
-abbrev pub canonical_lines : List (List ℕ) → List (List ℕ)
-canonical_lines [] = []
-canonical_lines (line ∷ lines) = canonical_of (row_of_line patterns line) line ++ canonical_lines lines
-
 -- no number of the line is out of the range of its place
 abbrev pub IsRanged : Option Row → List ℕ → Type 0
 IsRanged None line = Unit {0}
 IsRanged (Some row) line = place_faults ranging row.places (line_words line) ≡ []
-
-abbrev pub AreRanged : List (List ℕ) → Type 0
-AreRanged [] = Unit {0}
-AreRanged (line ∷ lines) = IsRanged (row_of_line patterns line) line × AreRanged lines
 
 -- a statement that was written anew: the same pattern, canonical words, no number out of range, and the same faults of a sporadic server
 pub record IsAnew (old new : Said) : Type 0 where
@@ -78,22 +57,43 @@ AreAnew [] (t ∷ ts) = ⊥
 AreAnew (s ∷ ss) [] = ⊥
 AreAnew (s ∷ ss) (t ∷ ts) = IsAnew s t × AreAnew ss ts
 
--- lines without a fault of any phase
-pub record HasNoFault (lines : List (List ℕ)) : Type 0 where
-  pub places : phase_one patterns 1 (Some []) lines ≡ []
-  pub names : phase_two (declared (said_from patterns 1 lines)) (said_from patterns 1 lines) ≡ []
-  pub limits : (n : ℕ) → phase_three n no_tally (said_from patterns 1 lines) ≡ []
+module _ (rows : List Row) where
+  -- the line has the pattern, no bad byte, and no word that its place does not want or whose number is out of range
+  pub record IsSound (row : Row) (line : List ℕ) : Type 0 where
+    pub pattern : row_of_line rows line ≡ Some row
+    pub bytes : has_bad_byte line ≡ false
+    pub spelled : place_faults spelling row.places (line_words line) ≡ []
+    pub ranged : place_faults ranging row.places (line_words line) ≡ []
 
--- the canonical lines have no fault either, and say the same statements anew, in the same order
-pub record KeepsStatements (lines : List (List ℕ)) : Type 0 where
-  pub clean : HasNoFault (canonical_lines lines)
-  pub anew : AreAnew (said_from patterns 1 lines) (said_from patterns 1 (canonical_lines lines))
+  -- the canonical line of a sound line has the same pattern and is sound, and its words are the canonical words
+  pub record KeepsPattern (row : Row) (line : List ℕ) : Type 0 where
+    pub sound : IsSound row (canonical_line row line)
+    pub words : line_words (canonical_line row line) ≡ canonical_words row.places (line_words line)
 
--- the text of the canonical lines
-abbrev pub canonical_text : List ℕ → List ℕ
-canonical_text text = joined_lines (canonical_lines (lines_of text))
+  abbrev pub canonical_lines : List (List ℕ) → List (List ℕ)
+  canonical_lines [] = []
+  canonical_lines (line ∷ lines) = canonical_of (row_of_line rows line) line ++ canonical_lines lines
 
--- the canonical text has no fault, and says the same statements anew, in the same order
-pub record KeepsText (text : List ℕ) : Type 0 where
-  pub clean : faults patterns (canonical_text text) ≡ []
-  pub anew : AreAnew (said patterns text) (said patterns (canonical_text text))
+  abbrev pub AreRanged : List (List ℕ) → Type 0
+  AreRanged [] = Unit {0}
+  AreRanged (line ∷ lines) = IsRanged (row_of_line rows line) line × AreRanged lines
+
+  -- lines without a fault of any phase
+  pub record HasNoFault (lines : List (List ℕ)) : Type 0 where
+    pub places : phase_one rows 1 (Some []) lines ≡ []
+    pub names : phase_two (declared (said_from rows 1 lines)) (said_from rows 1 lines) ≡ []
+    pub limits : (n : ℕ) → phase_three n no_tally (said_from rows 1 lines) ≡ []
+
+  -- the canonical lines have no fault either, and say the same statements anew, in the same order
+  pub record KeepsStatements (lines : List (List ℕ)) : Type 0 where
+    pub clean : HasNoFault (canonical_lines lines)
+    pub anew : AreAnew (said_from rows 1 lines) (said_from rows 1 (canonical_lines lines))
+
+  -- the text of the canonical lines
+  abbrev pub canonical_text : List ℕ → List ℕ
+  canonical_text text = joined_lines (canonical_lines (lines_of text))
+
+  -- the canonical text has no fault, and says the same statements anew, in the same order
+  pub record KeepsText (text : List ℕ) : Type 0 where
+    pub clean : faults rows (canonical_text text) ≡ []
+    pub anew : AreAnew (said rows text) (said rows (canonical_text text))

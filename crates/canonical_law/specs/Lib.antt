@@ -1,3 +1,4 @@
 pub mod Canonical
 pub mod Apart
 pub mod Laws
+pub mod Tables

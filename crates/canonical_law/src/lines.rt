@@ -15,22 +15,22 @@ pub fn lines_read_back()
 /// A line that has a pattern and no fault of its own, written anew with its canonical words, has the same
 /// pattern, no fault of its own, and its canonical words.
 pub fn lines_keep_their_patterns()
-    ensures { (row : Row) (line : List ℕ) → IsSound row line → KeepsPattern row line }
+    ensures { (row : Row) (line : List ℕ) → IsSound patterns row line → KeepsPattern patterns row line }
 {}
 
 /// Where the lines of a text have no fault, their canonical lines have none; and they say the same
 /// statements in the same order, each with its pattern and its canonical words.
 pub fn lines_keep_their_statements()
-    ensures { (lines : List (List ℕ)) → HasNoFault lines → KeepsStatements lines }
+    ensures { (lines : List (List ℕ)) → HasNoFault patterns lines → KeepsStatements patterns lines }
 {}
 
 /// The canonical text of a text without faults has no fault, and says the same statements in the same order,
 /// each with its pattern and its canonical words.
 pub fn accepted_texts_stay_accepted()
-    ensures { (text : List ℕ) → faults patterns text ≡ [] → KeepsText text }
+    ensures { (text : List ℕ) → faults patterns text ≡ [] → KeepsText patterns text }
 {}
 
 /// A text that is read as a script and its canonical text, line by line, are read as the same script.
 pub fn canonical_texts_read_the_same()
-    ensures { (text : List ℕ) (script : Script) → read patterns text ≡ Ok script → read patterns (canonical_text text) ≡ Ok script }
+    ensures { (text : List ℕ) (script : Script) → read patterns text ≡ Ok script → read patterns (canonical_text patterns text) ≡ Ok script }
 {}

@@ -1,5 +1,7 @@
+use Rattle.script_table.specs.Table.{patterns}
+use Rattle.canonical_law.proofs.Table.{table_now}
 use Rattle.canonical_law.proofs.Text.{statements_kept}
 use Rattle.canonical_law.proofs.lines.lines_keep_their_statements.Goals as goal
 
 pub returns : goal.returns
-returns c = statements_kept
+returns c = statements_kept patterns table_now
