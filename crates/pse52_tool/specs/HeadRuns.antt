@@ -5,7 +5,7 @@ use Rattle.list_machine.specs.State.{State, thread_at}
 use Rattle.list_machine.specs.Items.{instant}
 use Rattle.list_machine.specs.Dispatch.{head}
 use Rattle.list_machine.specs.Script.{threads_of}
-use Rattle.list_machine.specs.Tree.{Spot, machine, program_of}
+use Rattle.list_machine.specs.Tree.{machine, program_of}
 
 -- 1 where the numbers are the same, else 0
 abbrev pub one_at : ℕ → ℕ → ℕ

@@ -1,4 +1,7 @@
 // Worked examples through the one call.
+mod canonical;
+mod parts;
+
 ghost use Rattle.std.specs.Prelude.{◌≡◌};
 
 use crate::{Status, run_tool};

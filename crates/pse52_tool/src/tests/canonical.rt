@@ -1,0 +1,59 @@
+// Canonical texts, and that they are read back.
+ghost use Rattle.std.specs.Prelude.{◌≤◌, length};
+
+use rt_io::MemSink;
+use script_text::write_script;
+use std::alloc::Global;
+use std::test::Fail;
+use task_script::read_script;
+
+// A text and its canonical text.
+const TEXTS: [(&str, &str); 5] = [
+    (
+        "# c\nthread a fifo 007 at 0 # x\nrun 01\nend\n",
+        "quantum 10\nthread a fifo 7 at 0\nrun 1\nend\n",
+    ),
+    (
+        "# horizon 10\nthread a fifo 5 at 0\nrun 3\nend\n",
+        "quantum 10\nthread a fifo 5 at 0\nrun 3\nend\n",
+    ),
+    (
+        "thread a fifo 5 at 0\n  yield\nend\nthread b fifo 5 dormant\n\trun 1\nend",
+        "quantum 10\nthread a fifo 5 at 0\nyield\nend\nthread b fifo 5 dormant\nrun 1\nend\n",
+    ),
+    (
+        "handler h\nset 1\nend\nquantum 07\ncleanup u\nadd 2\ntake\nend\nthread a fifo 255 at 1000000000000000000\nend\n",
+        "quantum 7\nhandler h\nset 1\nend\ncleanup u\nadd 2\ntake\nend\nthread a fifo 255 at 1000000000000000000\nend\n",
+    ),
+    (
+        "thread a fifo 5 at 0\nset 7\nloop 2\nrun 1\nend\nyield\nif 0\nrun 2\nend\nunless EAGAIN\nforever\nend\nend\nend\n",
+        "quantum 10\nthread a fifo 5 at 0\nset 7\nloop 2\nrun 1\nend\nyield\nif 0\nrun 2\nend\nunless EAGAIN\nforever\nend\nend\nend\n",
+    ),
+];
+
+// Reads a text and writes its canonical text; whether it was a script and was written.
+fn write_canonical(alloc: Global, text: &[u8], sink: &mut MemSink) -> Result<bool, Fail>
+    requires { length text.now ≤ 1_048_576 }
+{
+    match read_script(alloc, text) {
+        Ok(script) => Ok(write_script(&script, sink).is_ok()),
+        Err(_) => Ok(false),
+    }
+}
+
+#[test]
+fn canonical_texts_are_read_back(rt: HostRuntime) -> Result<(), Fail> {
+    let alloc = rt.alloc();
+    for (text, canonical) in TEXTS {
+        let mut sink = MemSink::open(alloc, 1000, Vec::new(alloc))?;
+        assert_eq!(rt; write_canonical(alloc, text.as_bytes(), &mut sink)?, true);
+        assert_eq!(rt; sink.text(), canonical.as_bytes());
+        let mut again = MemSink::open(alloc, 1000, Vec::new(alloc))?;
+        assert_eq!(rt;
+            write_canonical(alloc, canonical.as_bytes(), &mut again)?,
+            true
+        );
+        assert_eq!(rt; again.text(), canonical.as_bytes());
+    }
+    Ok(())
+}

@@ -1,0 +1,50 @@
+#!/usr/bin/env bash
+# Tries the built program by hand's measure: the exit status and the first line of standard output for a script, an empty input, a
+# text that is too long, words that are no command, a closed standard output and a full device. Outside the gate, since bin/pse52
+# proves and builds the program where it must.
+set -u
+cd "$(dirname "$0")/.." || exit 1
+
+failed=0
+passed=0
+
+# What was tried, the status that came and the one that is wanted, the line that came and the one that is wanted.
+expect() {
+    if [ "$2" = "$3" ] && [ "$4" = "$5" ]; then
+        passed=$((passed + 1))
+    else
+        failed=$((failed + 1))
+        printf '%s: status %s, wanted %s; line "%s", wanted "%s"\n' "$1" "$2" "$3" "$4" "$5"
+    fi
+}
+
+try() {
+    local what=$1 status=$2 line=$3
+    shift 3
+    local text
+    text=$(bin/pse52 "$@")
+    expect "$what" $? "$status" "$(printf '%s\n' "$text" | head -n 1)" "$line"
+}
+
+usage='usage: pse52 COMMAND NUMBERS'
+try 'a script' 0 '0 start a' run 10 <examples/one_thread.task
+try 'an empty input' 2 'refused 1 14 NoThread' run 10 </dev/null
+try 'a text that is too long' 3 'too long' run 1 < <(head -c 1048577 /dev/zero | tr '\0' '\n')
+try 'a folder as standard input' 4 '' run 10 <examples
+try 'no words' 1 "$usage"
+try 'a number with a letter' 1 "$usage" run 1x
+try 'a number past the limit' 1 "$usage" run 1000000000000000001
+try 'a sign' 1 "$usage" run +1
+try 'an empty word' 1 "$usage" run ''
+try 'a word that is not UTF-8' 1 "$usage" run "$(printf '\377')"
+try 'leading zeros' 0 '0 end' run 000 <examples/one_thread.task
+
+bin/pse52 run 10 <examples/one_thread.task >&-
+expect 'a closed standard output' $? 5 '' ''
+if [ -e /dev/full ]; then
+    bin/pse52 run 10 <examples/one_thread.task >/dev/full
+    expect 'a full device' $? 5 '' ''
+fi
+
+echo "binary: $passed passed, $failed failed"
+[ "$failed" -eq 0 ]
