@@ -5,7 +5,7 @@
 use tick_num::Tid;
 
 /// Where a thread is in its life.
-#[derive(Clone, Copy, Debug, PartialEq, Eq)]
+#[derive(Clone, Copy)]
 pub enum ThreadState {
     /// It has not started.
     Dormant,
@@ -15,7 +15,7 @@ pub enum ThreadState {
 }
 
 /// What the last tick was given to.
-#[derive(Clone, Copy, Debug, PartialEq, Eq)]
+#[derive(Clone, Copy)]
 pub enum LastDispatch {
     /// There was no tick yet.
     NoTick,

@@ -2,7 +2,7 @@
 use tick_num::Tid;
 
 /// To what the last tick was given.
-#[derive(Clone, Copy, Debug, PartialEq, Eq)]
+#[derive(Clone, Copy)]
 pub enum LastDispatch {
     /// There was no tick yet.
     NoTick,

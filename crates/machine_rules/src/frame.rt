@@ -2,7 +2,7 @@
 use tick_num::{ObjId, Tid};
 
 /// What a frame is for. A thread has a main frame, above it at most one cleanup frame, and on top at most one signal frame.
-#[derive(Clone, Copy, Debug, PartialEq, Eq)]
+#[derive(Clone, Copy)]
 pub enum FrameKind {
     /// The thread's own body, as the start routine of `pthread_create`.
     Main,
@@ -13,7 +13,7 @@ pub enum FrameKind {
 }
 
 /// Whose body a frame runs.
-#[derive(Clone, Copy, Debug, PartialEq, Eq)]
+#[derive(Clone, Copy)]
 pub enum BodyOf {
     Thread(Tid),
     Cleanup(ObjId),

@@ -2,7 +2,7 @@
 use tick_num::ObjId;
 
 /// The action of a signal, fixed by the script: `SIG_DFL`, which ends the process, `SIG_IGN`, or a signal-catching function.
-#[derive(Clone, Copy, Debug, PartialEq, Eq)]
+#[derive(Clone, Copy)]
 pub enum SigAction {
     Kill,
     Ignore,

@@ -1,7 +1,7 @@
 // The states of a thread.
 
 /// How a condition wait ended, while its thread waits to own the mutex again.
-#[derive(Clone, Copy, Debug, PartialEq, Eq)]
+#[derive(Clone, Copy)]
 pub enum CondEnd {
     Signalled,
     Timedout,
@@ -9,7 +9,7 @@ pub enum CondEnd {
 }
 
 /// What a blocked thread waits for.
-#[derive(Clone, Copy, Debug, PartialEq, Eq)]
+#[derive(Clone, Copy)]
 pub enum WaitKind {
     /// A mutex, in `lock` or `timedlock`.
     Mutex,
@@ -32,7 +32,7 @@ pub enum WaitKind {
 }
 
 /// Whether a thread was started, may run, waits, or has ended.
-#[derive(Clone, Copy, Debug, PartialEq, Eq)]
+#[derive(Clone, Copy)]
 pub enum ThreadState {
     Dormant,
     Ready,

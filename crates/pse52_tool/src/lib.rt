@@ -9,6 +9,3 @@ mod tool;
 pub use rt_kernel::{Kernel, RunEnd};
 pub use status::Status;
 pub use tool::run_tool;
-
-#[cfg(test)]
-mod tests;

@@ -176,9 +176,8 @@ impl Kernel {
         ensures state { self.new ≡ record self.old { state = (yielded (program self.old.code) t self.old.state).to } }
         ensures told { Tells K.text K.faults self.old.names out.old out.new (yielded (program self.old.code) t self.old.state).events }
     {
-        let prio = prio_in(self.threads.as_slice(), t);
+        self.ready.to_tail(t, prio_in(self.threads.as_slice(), t));
         answer_in(&mut self.threads, t, &self.code);
-        self.ready.to_tail(t, prio);
         let event = Event::Return(t, CallName::Yield, Res::Zero, 0);
         out.put(self.instant, &event, &self.names);
     }

@@ -11,6 +11,3 @@ pub use code::Code;
 pub use cursor::Cursor;
 pub use op::Op;
 pub use unit::Unit;
-
-#[cfg(test)]
-mod tests;

@@ -7,7 +7,7 @@ use script_tree::Call;
 use tick_num::{Res, Tick};
 
 /// An operation of the flat code. A body's operations are numbered from 0.
-#[derive(Clone, Copy, Debug, PartialEq, Eq)]
+#[derive(Clone, Copy)]
 pub enum Op {
     /// Runs for so many ticks.
     Run(u64),

@@ -2,7 +2,7 @@
 use script_tree::Call;
 
 /// What a thread does next: a unit of work. A call, a jump and a finish take one tick.
-#[derive(Clone, Copy, Debug, PartialEq, Eq)]
+#[derive(Clone, Copy)]
 pub enum Unit {
     /// Runs for so many ticks.
     Run(u64),

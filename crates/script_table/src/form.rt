@@ -1,7 +1,7 @@
 // The forms of lines: one for each pattern.
 
 /// What a line of a script is.
-#[derive(Clone, Copy, Debug, PartialEq, Eq)]
+#[derive(Clone, Copy)]
 pub enum Form {
     Quantum,
     /// A declaration of an object without a body.
@@ -18,7 +18,7 @@ pub enum Form {
     Close(CloseForm),
 }
 
-#[derive(Clone, Copy, Debug, PartialEq, Eq)]
+#[derive(Clone, Copy)]
 pub enum ObjectForm {
     MutexNone,
     MutexNoneRecursive,
@@ -33,13 +33,13 @@ pub enum ObjectForm {
     Timer,
 }
 
-#[derive(Clone, Copy, Debug, PartialEq, Eq)]
+#[derive(Clone, Copy)]
 pub enum ActionForm {
     Ignore,
     Run,
 }
 
-#[derive(Clone, Copy, Debug, PartialEq, Eq)]
+#[derive(Clone, Copy)]
 pub enum BodyForm {
     FifoAt,
     FifoDormant,
@@ -51,7 +51,7 @@ pub enum BodyForm {
     Cleanup,
 }
 
-#[derive(Clone, Copy, Debug, PartialEq, Eq)]
+#[derive(Clone, Copy)]
 pub enum StepForm {
     Run,
     Set,
@@ -59,7 +59,7 @@ pub enum StepForm {
     Take,
 }
 
-#[derive(Clone, Copy, Debug, PartialEq, Eq)]
+#[derive(Clone, Copy)]
 pub enum BlockForm {
     If,
     Unless,
@@ -68,7 +68,7 @@ pub enum BlockForm {
     Push,
 }
 
-#[derive(Clone, Copy, Debug, PartialEq, Eq)]
+#[derive(Clone, Copy)]
 pub enum CloseForm {
     End,
     /// `pop 0`: the cleanup handler does not run.
@@ -77,7 +77,7 @@ pub enum CloseForm {
     PopRun,
 }
 
-#[derive(Clone, Copy, Debug, PartialEq, Eq)]
+#[derive(Clone, Copy)]
 pub enum CallForm {
     Thread(ThreadCall),
     Mutex(MutexCall),
@@ -88,7 +88,7 @@ pub enum CallForm {
 }
 
 /// Calls on threads, their scheduling and their cancellation.
-#[derive(Clone, Copy, Debug, PartialEq, Eq)]
+#[derive(Clone, Copy)]
 pub enum ThreadCall {
     Yield,
     Create,
@@ -105,7 +105,7 @@ pub enum ThreadCall {
 }
 
 /// Calls on mutexes and conditions.
-#[derive(Clone, Copy, Debug, PartialEq, Eq)]
+#[derive(Clone, Copy)]
 pub enum MutexCall {
     Lock,
     Timedlock,
@@ -117,7 +117,7 @@ pub enum MutexCall {
     Broadcast,
 }
 
-#[derive(Clone, Copy, Debug, PartialEq, Eq)]
+#[derive(Clone, Copy)]
 pub enum SemCall {
     Wait,
     Timedwait,
@@ -127,7 +127,7 @@ pub enum SemCall {
 }
 
 /// Calls on clocks and timers.
-#[derive(Clone, Copy, Debug, PartialEq, Eq)]
+#[derive(Clone, Copy)]
 pub enum TimeCall {
     Nanosleep,
     ClockNanosleep,
@@ -138,7 +138,7 @@ pub enum TimeCall {
     TimerGetoverrun,
 }
 
-#[derive(Clone, Copy, Debug, PartialEq, Eq)]
+#[derive(Clone, Copy)]
 pub enum SignalCall {
     Kill,
     Tkill,
@@ -151,7 +151,7 @@ pub enum SignalCall {
 }
 
 /// Calls on message queues.
-#[derive(Clone, Copy, Debug, PartialEq, Eq)]
+#[derive(Clone, Copy)]
 pub enum MessageCall {
     Send,
     Timedsend,

@@ -2,7 +2,7 @@
 use crate::Form;
 
 /// What a name may stand for.
-#[derive(Clone, Copy, Debug, PartialEq, Eq)]
+#[derive(Clone, Copy)]
 pub enum NameKind {
     Thread,
     Mutex,
@@ -15,14 +15,14 @@ pub enum NameKind {
 }
 
 /// The word that closes a block.
-#[derive(Clone, Copy, Debug, PartialEq, Eq)]
+#[derive(Clone, Copy)]
 pub enum Closer {
     End,
     Pop,
 }
 
 /// An open body or block.
-#[derive(Clone, Copy, Debug, PartialEq, Eq)]
+#[derive(Clone, Copy)]
 pub struct Opening {
     /// What the body is of in which it stands, or which it is.
     pub home: NameKind,
@@ -31,7 +31,7 @@ pub struct Opening {
 }
 
 /// The bodies from which a step is barred.
-#[derive(Clone, Copy, Debug, PartialEq, Eq)]
+#[derive(Clone, Copy)]
 pub enum Bar {
     Nowhere,
     /// The bodies of signal handlers.

@@ -14,6 +14,3 @@ mod write;
 
 pub use names::Sort;
 pub use write::write_script;
-
-#[cfg(test)]
-mod tests;

@@ -3,14 +3,14 @@ use crate::Policy;
 use tick_num::{ObjId, Prio, SigSet, Tid};
 
 /// A number, or the value of the frame's register.
-#[derive(Clone, Copy, Debug, PartialEq, Eq)]
+#[derive(Clone, Copy)]
 pub enum Operand {
     Num(u64),
     Reg,
 }
 
 /// A call with its operands, in the order of its line. Times are in ticks; `at` is an absolute time.
-#[derive(Clone, Copy, Debug, PartialEq, Eq)]
+#[derive(Clone, Copy)]
 pub enum Call {
     // threads
     Yield,

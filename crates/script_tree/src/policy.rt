@@ -2,7 +2,7 @@
 use tick_num::{Params, Prio};
 
 /// A scheduling policy with its parameters, IEEE 1003.1-2017, XSH 2.8.4.
-#[derive(Clone, Copy, Debug, PartialEq, Eq)]
+#[derive(Clone, Copy)]
 pub enum Policy {
     /// SCHED_FIFO.
     Fifo(Prio),
@@ -13,7 +13,7 @@ pub enum Policy {
 }
 
 /// The protocol of a mutex, IEEE 1003.1-2017, pthread_mutexattr_setprotocol.
-#[derive(Clone, Copy, Debug, PartialEq, Eq)]
+#[derive(Clone, Copy)]
 pub enum Protocol {
     /// PTHREAD_PRIO_NONE.
     Plain,

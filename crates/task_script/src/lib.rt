@@ -14,12 +14,8 @@ mod names;
 mod operands;
 mod ranges;
 mod read;
-#[cfg(test)]
-mod refused;
 mod statement;
 mod tally;
-#[cfg(test)]
-mod tests;
 
 pub use end::ScriptEnd;
 pub use read::read_script;

@@ -1,10 +1,7 @@
 // Worked examples through the one call.
-mod canonical;
-mod parts;
-
 ghost use Rattle.std.specs.Prelude.{◌≡◌};
 
-use crate::{Status, run_tool};
+use pse52_tool::{Status, run_tool};
 use rt_io::{MemSink, MemSource, Sink, Source, SureSource};
 use std::alloc::Global;
 use std::marker::Brand;
@@ -15,7 +12,7 @@ use step_counter::Steps;
 const ONE_THREAD: &str = "thread a fifo 5 at 0\nrun 3\nend\n";
 
 // A horizon, a script and its trace.
-const RUNS: [(&str, &str, &str); 6] = [
+static RUNS: [(&str, &str, &str); 6] = [
     (
         "10",
         "thread a fifo 5 at 0\nrun 3\nend\n",
@@ -49,7 +46,7 @@ const RUNS: [(&str, &str, &str); 6] = [
 ];
 
 // A text and the line that refuses it.
-const REFUSED: [(&str, &str); 7] = [
+static REFUSED: [(&str, &str); 7] = [
     ("", "refused 1 14 NoThread\n"),
     ("thread a fifo 5 at 0", "refused 2 12 Unclosed\n"),
     (
@@ -72,7 +69,7 @@ const REFUSED: [(&str, &str); 7] = [
 ];
 
 // Words that are no command.
-const NO_COMMANDS: [[&str; 3]; 8] = [
+static NO_COMMANDS: [[&str; 3]; 8] = [
     ["", "", ""],
     ["run", "", ""],
     ["run", "1x", ""],
@@ -123,7 +120,7 @@ fn run_from<S: Source>(
 #[test]
 fn runs_print_their_traces(rt: HostRuntime) -> Result<(), Fail> {
     let alloc = rt.alloc();
-    for (horizon, script, trace) in RUNS {
+    for &(horizon, script, trace) in &RUNS {
         let mut source = SureSource::new(Vec::from_slice(alloc, script.as_bytes())?);
         let mut sink = MemSink::open(alloc, 1000, Vec::new(alloc))?;
         let status = run_from(alloc, &["run", horizon], &mut source, &mut sink)?;
@@ -136,7 +133,7 @@ fn runs_print_their_traces(rt: HostRuntime) -> Result<(), Fail> {
 #[test]
 fn texts_are_refused(rt: HostRuntime) -> Result<(), Fail> {
     let alloc = rt.alloc();
-    for (text, line) in REFUSED {
+    for &(text, line) in &REFUSED {
         let mut source = SureSource::new(Vec::from_slice(alloc, text.as_bytes())?);
         let mut sink = MemSink::open(alloc, 1000, Vec::new(alloc))?;
         let status = run_from(alloc, &["run", "1"], &mut source, &mut sink)?;
@@ -169,11 +166,11 @@ fn line_ends_are_too_long_or_no_script(rt: HostRuntime) -> Result<(), Fail> {
 #[test]
 fn words_that_are_no_command(rt: HostRuntime) -> Result<(), Fail> {
     let alloc = rt.alloc();
-    for list in NO_COMMANDS {
+    for list in &NO_COMMANDS {
         let mut source = MemSource::new(Vec::new(alloc), vec![in alloc; 1u64; 1]?);
         let mut sink = MemSink::open(alloc, 100, Vec::new(alloc))?;
         assert_eq!(rt;
-            run_from(alloc, &list, &mut source, &mut sink)?,
+            run_from(alloc, list, &mut source, &mut sink)?,
             Status::Usage
         );
         assert_eq!(rt; sink.text(), b"usage: pse52 COMMAND NUMBERS\n".as_slice());

@@ -1,5 +1,5 @@
 use Rattle.script_bounds.proofs.Bounds.{accepted_is_runnable}
-use Rattle.pse52_tool.proofs.tests.parts.run_to_three.Goals as goal
+use Rattle.tool_tests.proofs.parts.run_to_three.Goals as goal
 
 pub open-requires : goal.open-requires
 open-requires g c = accepted_is_runnable _ c.in-Ok.script c.in-Ok.ensures.script

@@ -5,7 +5,7 @@ ghost use Rattle.script_tree.specs.Tree.{step_count};
 ghost use Rattle.script_flat.specs.Flat.{nesting};
 ghost use Rattle.script_flat.specs.Stands.{IsBody, IsPlaced};
 
-use crate::{Code, Cursor, Unit};
+use script_flat::{Code, Cursor, Unit};
 use script_tree::{Body, Call, Decl, Decls, Kind, Name, Policy, Script, Step};
 use std::alloc::Global;
 use std::test::Fail;
@@ -42,6 +42,19 @@ fn code_of(alloc: Global, thread: Body, handler: Body, cleanup: Body) -> Result<
     Ok(code)
 }
 
+// What a unit is: its word, and the ticks that it runs or whether it runs a cleanup handler.
+fn said(unit: &Unit) -> (&'static str, u64) {
+    match unit {
+        Unit::Run(ticks) => ("run", *ticks),
+        Unit::Make(Call::Yield) => ("yield", 0),
+        Unit::Make(Call::Push(_)) => ("push", 0),
+        Unit::Make(Call::Pop(run)) => ("pop", u64::from(*run)),
+        Unit::Make(_) => ("another call", 0),
+        Unit::Jump => ("jump", 0),
+        Unit::Finish => ("finish", 0),
+    }
+}
+
 // The first units from a cursor on, so many, where each call leaves that answer and that value, and then the register.
 fn units(
     alloc: Global,
@@ -50,14 +63,14 @@ fn units(
     answer: Res,
     value: u64,
     count: u8,
-) -> Result<(Vec<Unit>, u64), Fail>
+) -> Result<(Vec<(&'static str, u64)>, u64), Fail>
     requires { IsPlaced code.now from }
 {
     let mut cursor = from;
     let mut units = Vec::new(alloc);
     for _ in 0..count {
         let (next, unit) = code.fetch(&cursor);
-        units.extend_from_slice(&[unit])?;
+        units.push(said(&unit))?;
         cursor = next;
         cursor.result = answer;
         cursor.value = value;
@@ -100,13 +113,13 @@ fn the_body_of_a_thread(rt: HostRuntime) -> Result<(), Fail> {
     assert_eq!(rt;
         first.as_slice(),
         [
-            Unit::Run(1),
-            Unit::Jump,
-            Unit::Run(1),
-            Unit::Make(Call::Yield),
-            Unit::Run(2),
-            Unit::Finish,
-            Unit::Finish
+            ("run", 1),
+            ("jump", 0),
+            ("run", 1),
+            ("yield", 0),
+            ("run", 2),
+            ("finish", 0),
+            ("finish", 0)
         ]
         .as_slice()
     );
@@ -117,12 +130,12 @@ fn the_body_of_a_thread(rt: HostRuntime) -> Result<(), Fail> {
     assert_eq!(rt;
         other.as_slice(),
         [
-            Unit::Run(1),
-            Unit::Jump,
-            Unit::Run(1),
-            Unit::Make(Call::Yield),
-            Unit::Run(9),
-            Unit::Finish
+            ("run", 1),
+            ("jump", 0),
+            ("run", 1),
+            ("yield", 0),
+            ("run", 9),
+            ("finish", 0)
         ]
         .as_slice()
     );
@@ -144,7 +157,7 @@ fn the_body_of_a_handler(rt: HostRuntime) -> Result<(), Fail> {
     let (first, register) = units(alloc, &code, start, Res::Zero, 0, 3)?;
     assert_eq!(rt;
         first.as_slice(),
-        [Unit::Jump, Unit::Jump, Unit::Jump].as_slice()
+        [("jump", 0), ("jump", 0), ("jump", 0)].as_slice()
     );
     assert_eq!(rt; register, 65);
     Ok(())
@@ -175,12 +188,12 @@ fn the_body_of_a_cleanup_handler(rt: HostRuntime) -> Result<(), Fail> {
     assert_eq!(rt;
         first.as_slice(),
         [
-            Unit::Make(Call::Push(ObjId::default())),
-            Unit::Run(3),
-            Unit::Make(Call::Pop(true)),
-            Unit::Jump,
-            Unit::Jump,
-            Unit::Finish
+            ("push", 0),
+            ("run", 3),
+            ("pop", 1),
+            ("jump", 0),
+            ("jump", 0),
+            ("finish", 0)
         ]
         .as_slice()
     );

@@ -1,0 +1,69 @@
+// Lines of calls that have one or two operands.
+ghost use Rattle.std.specs.Prelude.{◌≡◌, ◌≤◌, ◌∷◌, [], length, decimal};
+ghost use Rattle.script_text.specs.Line.{line_text};
+ghost use Rattle.script_text.specs.Names.{name_of};
+ghost use Rattle.script_text.specs.Words.{operand_word};
+ghost use Rattle.script_text.specs.declared.names.Sort.TheVariants as sort;
+
+use crate::Sort;
+use crate::line::Word::{Keyword, Name, Number, Value};
+use crate::line::{Line, line_of};
+use crate::names::{object, thread};
+use script_tree::{Decl, Operand};
+use tick_num::{ObjId, Tid};
+
+pub(super) fn bare(word: &[u8]) -> Line
+    requires { length word.now ≤ 16 }
+    ensures { result.items ≡ line_text (word.now ∷ []) }
+{
+    line_of(&[Keyword(word)])
+}
+
+pub(super) fn two_keywords(first: &[u8], second: &[u8]) -> Line
+    requires first { length first.now ≤ 16 }
+    requires second { length second.now ≤ 16 }
+    ensures { result.items ≡ line_text (first.now ∷ second.now ∷ []) }
+{
+    line_of(&[Keyword(first), Keyword(second)])
+}
+
+pub(super) fn with_number(word: &[u8], n: u64) -> Line
+    requires { length word.now ≤ 16 }
+    ensures { result.items ≡ line_text (word.now ∷ decimal n ∷ []) }
+{
+    line_of(&[Keyword(word), Number(n)])
+}
+
+pub(super) fn with_operand(word: &[u8], operand: Operand) -> Line
+    requires { length word.now ≤ 16 }
+    ensures { result.items ≡ line_text (word.now ∷ operand_word operand ∷ []) }
+{
+    line_of(&[Keyword(word), Value(operand)])
+}
+
+pub(super) fn on_thread(decls: &[Decl], word: &[u8], t: Tid) -> Line
+    requires { length word.now ≤ 16 }
+    ensures { result.items ≡ line_text (word.now ∷ name_of decls.now sort.Thread t ∷ []) }
+{
+    line_of(&[Keyword(word), Name(thread(decls, t))])
+}
+
+pub(super) fn on_object(decls: &[Decl], word: &[u8], of: Sort, k: ObjId) -> Line
+    requires { length word.now ≤ 16 }
+    ensures { result.items ≡ line_text (word.now ∷ name_of decls.now of k ∷ []) }
+{
+    line_of(&[Keyword(word), Name(object(decls, of, k))])
+}
+
+pub(super) fn on_object_with<'a>(
+    decls: &'a [Decl],
+    word: &'a [u8],
+    of: Sort,
+    k: ObjId,
+    operand: Operand,
+) -> Line
+    requires { length word.now ≤ 16 }
+    ensures { result.items ≡ line_text (word.now ∷ name_of decls.now of k ∷ operand_word operand ∷ []) }
+{
+    line_of(&[Keyword(word), Name(object(decls, of, k)), Value(operand)])
+}

@@ -1,0 +1,49 @@
+// Lines of calls on signals.
+ghost use Rattle.std.specs.Prelude.{◌≡◌, ◌≤◌, ◌∷◌, [], length, codes, decimal};
+ghost use Rattle.script_text.specs.Line.{line_text};
+ghost use Rattle.script_text.specs.Names.{name_of};
+ghost use Rattle.script_text.specs.Words.{operand_word, signal_word, set_word};
+ghost use Rattle.script_text.specs.declared.names.Sort.TheVariants as sort;
+
+use crate::line::Word::{Keyword, Name, Number, Signal, Signals, Value};
+use crate::line::{Line, line_of};
+use crate::names::thread;
+use script_tree::{Decl, Operand};
+use tick_num::{SigSet, Tid};
+
+pub(super) fn kill(sig: u8) -> Line
+    ensures { result.items ≡ line_text (codes "kill" ∷ signal_word sig ∷ []) }
+{
+    line_of(&[Keyword(b"kill"), Signal(sig)])
+}
+
+pub(super) fn tkill(decls: &[Decl], t: Tid, sig: u8) -> Line
+    ensures { result.items ≡ line_text (codes "tkill" ∷ name_of decls.now sort.Thread t ∷ signal_word sig ∷ []) }
+{
+    line_of(&[Keyword(b"tkill"), Name(thread(decls, t)), Signal(sig)])
+}
+
+pub(super) fn sigqueue(sig: u8, value: Operand) -> Line
+    ensures { result.items ≡ line_text (codes "sigqueue" ∷ signal_word sig ∷ operand_word value ∷ []) }
+{
+    line_of(&[Keyword(b"sigqueue"), Signal(sig), Value(value)])
+}
+
+pub(super) fn sigmask(how: &[u8], set: SigSet) -> Line
+    requires { length how.now ≤ 16 }
+    ensures { result.items ≡ line_text (codes "sigmask" ∷ how.now ∷ set_word set ∷ []) }
+{
+    line_of(&[Keyword(b"sigmask"), Keyword(how), Signals(set)])
+}
+
+pub(super) fn sigwaitinfo(set: SigSet) -> Line
+    ensures { result.items ≡ line_text (codes "sigwaitinfo" ∷ set_word set ∷ []) }
+{
+    line_of(&[Keyword(b"sigwaitinfo"), Signals(set)])
+}
+
+pub(super) fn sigtimedwait(set: SigSet, ticks: u64) -> Line
+    ensures { result.items ≡ line_text (codes "sigtimedwait" ∷ set_word set ∷ decimal ticks ∷ []) }
+{
+    line_of(&[Keyword(b"sigtimedwait"), Signals(set), Number(ticks)])
+}

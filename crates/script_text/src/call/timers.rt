@@ -1,0 +1,41 @@
+// Lines of calls that set a timer.
+ghost use Rattle.std.specs.Prelude.{◌≡◌, ◌∷◌, [], codes, decimal};
+ghost use Rattle.script_text.specs.Line.{line_text};
+ghost use Rattle.script_text.specs.Names.{name_of};
+ghost use Rattle.script_text.specs.Words.{operand_word};
+ghost use Rattle.script_text.specs.declared.names.Sort.TheVariants as sort;
+
+use crate::Sort;
+use crate::line::Word::{Keyword, Name, Number, Value};
+use crate::line::{Line, line_of};
+use crate::names::object;
+use script_tree::{Decl, Operand};
+use tick_num::ObjId;
+
+// With a first expiry after so many ticks.
+pub(super) fn settime_rel(decls: &[Decl], timer: ObjId, first: u64, interval: u64) -> Line
+    ensures { result.items ≡ line_text (codes "timer_settime" ∷ name_of decls.now sort.Timer timer
+        ∷ codes "rel" ∷ decimal first ∷ decimal interval ∷ []) }
+{
+    line_of(&[
+        Keyword(b"timer_settime"),
+        Name(object(decls, Sort::Timer, timer)),
+        Keyword(b"rel"),
+        Number(first),
+        Number(interval),
+    ])
+}
+
+// With a first expiry at a time.
+pub(super) fn settime_abs(decls: &[Decl], timer: ObjId, at: Operand, interval: u64) -> Line
+    ensures { result.items ≡ line_text (codes "timer_settime" ∷ name_of decls.now sort.Timer timer
+        ∷ codes "abs" ∷ operand_word at ∷ decimal interval ∷ []) }
+{
+    line_of(&[
+        Keyword(b"timer_settime"),
+        Name(object(decls, Sort::Timer, timer)),
+        Keyword(b"abs"),
+        Value(at),
+        Number(interval),
+    ])
+}

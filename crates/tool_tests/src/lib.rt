@@ -1,0 +1,8 @@
+//! Tests of the one call of the tool, and of each public call of the parts below it that no other test makes. They stand apart,
+//! so that they are proved without proving the tool again.
+#![tactic(auto)]
+
+#[cfg(test)]
+mod commands;
+#[cfg(test)]
+mod parts;
