@@ -66,65 +66,31 @@ fn every_form_of_line(rt: HostRuntime) -> Result<(), Fail> {
     tracer.put(now, &Event::Start(t), &names);
     tracer.put(now, &Event::Dispatch(t, Prio::default()), &names);
     tracer.put(now, &Event::Idle, &names);
-    tracer.put(
-        now,
-        &Event::Return(t, CallName::Yield, Res::Zero, 0),
-        &names,
-    );
-    tracer.put(
-        now,
-        &Event::Return(t, CallName::Lock, Res::Again, 1),
-        &names,
-    );
-    tracer.put(
-        now,
-        &Event::Return(t, CallName::SemWait, Res::Busy, 2),
-        &names,
-    );
-    tracer.put(
-        now,
-        &Event::Return(t, CallName::TimerSettime, Res::Deadlk, 3),
-        &names,
-    );
-    tracer.put(
-        now,
-        &Event::Return(t, CallName::ClockNanosleep, Res::Intr, 4),
-        &names,
-    );
-    tracer.put(
-        now,
-        &Event::Return(t, CallName::MqTimedreceive, Res::Inval, 5),
-        &names,
-    );
-    tracer.put(
-        now,
-        &Event::Return(t, CallName::MqSend, Res::Msgsize, 6),
-        &names,
-    );
-    tracer.put(
-        now,
-        &Event::Return(t, CallName::SemPost, Res::Overflow, 7),
-        &names,
-    );
-    tracer.put(
-        now,
-        &Event::Return(t, CallName::Unlock, Res::Perm, 8),
-        &names,
-    );
-    tracer.put(
-        now,
-        &Event::Return(t, CallName::Tkill, Res::Srch, 9),
-        &names,
-    );
-    tracer.put(
-        now,
-        &Event::Return(t, CallName::Timedwait, Res::Timedout, 10),
-        &names,
-    );
-    tracer.put(now, &Event::Deliver(t, 0, SigCode::User, 0), &names);
-    tracer.put(now, &Event::Deliver(t, 9, SigCode::Queue, 1), &names);
-    tracer.put(now, &Event::Deliver(t, 10, SigCode::Timer, 2), &names);
-    tracer.put(now, &Event::Deliver(t, 31, SigCode::Mesgq, 3), &names);
+    let mut value = 0u64;
+    for (call, res) in [
+        (CallName::Yield, Res::Zero),
+        (CallName::Lock, Res::Again),
+        (CallName::SemWait, Res::Busy),
+        (CallName::TimerSettime, Res::Deadlk),
+        (CallName::ClockNanosleep, Res::Intr),
+        (CallName::MqTimedreceive, Res::Inval),
+        (CallName::MqSend, Res::Msgsize),
+        (CallName::SemPost, Res::Overflow),
+        (CallName::Unlock, Res::Perm),
+        (CallName::Tkill, Res::Srch),
+        (CallName::Timedwait, Res::Timedout),
+    ] {
+        tracer.put(now, &Event::Return(t, call, res, value), &names);
+        value = value.saturating_add(1);
+    }
+    for (sig, code, value) in [
+        (0, SigCode::User, 0),
+        (9, SigCode::Queue, 1),
+        (10, SigCode::Timer, 2),
+        (31, SigCode::Mesgq, 3),
+    ] {
+        tracer.put(now, &Event::Deliver(t, sig, code, value), &names);
+    }
     tracer.put(now, &Event::Activate(t, 4), &names);
     tracer.put(now, &Event::Exhaust(t), &names);
     tracer.put(

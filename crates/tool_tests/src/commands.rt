@@ -3,7 +3,7 @@ ghost use Rattle.std.specs.Prelude.{◌≡◌};
 
 use pse52_tool::{Status, run_tool};
 use rt_io::{MemSink, MemSource, Sink, Source, SureSource};
-use std::alloc::Global;
+use std::alloc::{AllocError, Global};
 use std::marker::Brand;
 use std::sync::ledger::{Blank, Ledger};
 use std::test::Fail;
@@ -96,7 +96,7 @@ fn run_counted<S: Source, K: Sink, L: Ledger>(
 }
 
 // The words up to the first empty one.
-fn words_of(alloc: Global, list: &[&str]) -> Result<Vec<String>, Fail> {
+fn words_of(alloc: Global, list: &[&str]) -> Result<Vec<String>, AllocError> {
     let mut words = Vec::new(alloc);
     for word in list {
         if word.is_empty() {
@@ -112,7 +112,7 @@ fn run_from<S: Source>(
     list: &[&str],
     source: &mut S,
     sink: &mut MemSink,
-) -> Result<Status, Fail> {
+) -> Result<Status, AllocError> {
     let words = words_of(alloc, list)?;
     Ok(run_counted::<_, _, Brand>(alloc, words.as_slice(), source, sink, Blank::new(1)))
 }
@@ -205,5 +205,32 @@ fn each_read_fails_in_turn(rt: HostRuntime) -> Result<(), Fail> {
         assert_eq!(rt; status, Status::ReadFault);
         assert_eq!(rt; sink.text(), b"".as_slice());
     }
+    Ok(())
+}
+
+// One run of the first script, or what this test itself had no memory for.
+fn one_run(alloc: Global) -> Result<(Status, MemSink), AllocError> {
+    let mut source = SureSource::new(Vec::from_slice(alloc, ONE_THREAD.as_bytes())?);
+    let mut sink = MemSink::open(alloc, 1000, Vec::new(alloc))?;
+    let status = run_from(alloc, &["run", "10"], &mut source, &mut sink)?;
+    Ok((status, sink))
+}
+
+// Where an allocation is refused, as `rt try --test --fail-alloc N` does, want of memory is answered and nothing is written; any other
+// answer is the whole run's.
+#[test]
+fn one_run_is_whole_or_lacks_memory(rt: HostRuntime) -> Result<(), Fail> {
+    let Ok((status, sink)) = one_run(rt.alloc()) else {
+        return Ok(());
+    };
+    if status == Status::OutOfMemory {
+        assert_eq!(rt; sink.text(), b"".as_slice());
+        return Ok(());
+    }
+    assert_eq!(rt; status, Status::Done);
+    assert_eq!(rt;
+        sink.text(),
+        b"0 start a\n0 dispatch a 5\n4 exit a\n4 idle\n10 end\nthread a ticks 4\n".as_slice()
+    );
     Ok(())
 }
