@@ -69,15 +69,25 @@ static REFUSED: [(&str, &str); 7] = [
 ];
 
 // Words that are no command.
-static NO_COMMANDS: [[&str; 3]; 8] = [
-    ["", "", ""],
-    ["run", "", ""],
-    ["run", "1x", ""],
-    ["run", "1000000000000000001", ""],
-    ["run", "+1", ""],
-    ["run", " 1", ""],
-    ["run", "1", "2"],
-    ["walk", "1", ""],
+static NO_COMMANDS: [&[&str]; 10] = [
+    &[],
+    &["run"],
+    &["run", ""],
+    &["", "1"],
+    &["run", "1x"],
+    &["run", "1000000000000000001"],
+    &["run", "+1"],
+    &["run", " 1"],
+    &["run", "1", "2"],
+    &["walk", "1"],
+];
+
+// Numbers that make a command.
+static HORIZONS: [&str; 4] = [
+    "0",
+    "000",
+    "0000000000000000000000000000000000000001",
+    "1000000000000000000",
 ];
 
 fn run_counted<S: Source, K: Sink, L: Ledger>(
@@ -95,13 +105,9 @@ fn run_counted<S: Source, K: Sink, L: Ledger>(
     run_tool(alloc, words, source, sink, &mut steps)
 }
 
-// The words up to the first empty one.
 fn words_of(alloc: Global, list: &[&str]) -> Result<Vec<String>, AllocError> {
     let mut words = Vec::new(alloc);
     for word in list {
-        if word.is_empty() {
-            return Ok(words);
-        }
         words.push(word.to_string(alloc)?)?;
     }
     Ok(words)
@@ -174,6 +180,20 @@ fn words_that_are_no_command(rt: HostRuntime) -> Result<(), Fail> {
             Status::Usage
         );
         assert_eq!(rt; sink.text(), b"usage: pse52 COMMAND NUMBERS\n".as_slice());
+    }
+    Ok(())
+}
+
+// A command reads its text, and here finds no thread in it.
+#[test]
+fn numbers_that_make_a_command(rt: HostRuntime) -> Result<(), Fail> {
+    let alloc = rt.alloc();
+    for horizon in &HORIZONS {
+        let mut source = SureSource::new(Vec::new(alloc));
+        let mut sink = MemSink::open(alloc, 100, Vec::new(alloc))?;
+        let status = run_from(alloc, &["run", *horizon], &mut source, &mut sink)?;
+        assert_eq!(rt; status, Status::Refused);
+        assert_eq!(rt; sink.text(), b"refused 1 14 NoThread\n".as_slice());
     }
     Ok(())
 }
