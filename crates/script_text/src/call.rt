@@ -1,4 +1,5 @@
 // The line of a call.
+mod conditions;
 mod operands;
 mod queues;
 mod signals;
@@ -11,13 +12,14 @@ ghost use Rattle.script_text.specs.Canon.{call_words};
 
 use crate::Sort;
 use crate::line::Line;
+use conditions::{timedwait, wait};
 use operands::{
     bare, on_object, on_object_with, on_thread, two_keywords, with_number, with_operand,
 };
 use queues::{mq_notify, mq_send, mq_timedsend};
 use script_tree::{Call, Decl};
 use signals::{kill, sigmask, sigqueue, sigtimedwait, sigwaitinfo, tkill};
-use threads::{setprio, setsched, timedwait, wait};
+use threads::{setprio, setsched};
 use timers::{settime_abs, settime_rel};
 
 /// The line of a call.

@@ -1,17 +1,15 @@
-// Lines of calls on a thread's priority and policy, and of waits for a condition.
+// Lines of calls on a thread's priority and policy.
 ghost use Rattle.std.specs.Prelude.{◌≡◌, ◌∷◌, [], codes, decimal};
 ghost use Rattle.script_text.specs.Line.{line_text};
 ghost use Rattle.script_text.specs.Names.{name_of};
 ghost use Rattle.script_text.specs.Canon.{policy_words};
-ghost use Rattle.script_text.specs.Words.{operand_word};
 ghost use Rattle.script_text.specs.declared.names.Sort.TheVariants as sort;
 
-use crate::Sort;
-use crate::line::Word::{Keyword, Name, Number, Value};
+use crate::line::Word::{Keyword, Name, Number};
 use crate::line::{Line, line_of};
-use crate::names::{object, thread};
-use script_tree::{Decl, Operand, Policy};
-use tick_num::{ObjId, Prio, Tid};
+use crate::names::thread;
+use script_tree::{Decl, Policy};
+use tick_num::{Prio, Tid};
 
 pub(super) fn setprio(decls: &[Decl], t: Tid, prio: Prio) -> Line
     ensures { result.items ≡ line_text (codes "setprio" ∷ name_of decls.now sort.Thread t ∷ decimal prio ∷ []) }
@@ -45,25 +43,4 @@ pub(super) fn setsched(decls: &[Decl], t: Tid, policy: Policy) -> Line
             Number(u64::from(params.max)),
         ]),
     }
-}
-
-pub(super) fn wait(decls: &[Decl], cond: ObjId, mutex: ObjId) -> Line
-    ensures { result.items ≡ line_text (codes "wait" ∷ name_of decls.now sort.Cond cond
-        ∷ name_of decls.now sort.Mutex mutex ∷ []) }
-{
-    let cond = Name(object(decls, Sort::Cond, cond));
-    line_of(&[
-        Keyword(b"wait"),
-        cond,
-        Name(object(decls, Sort::Mutex, mutex)),
-    ])
-}
-
-pub(super) fn timedwait(decls: &[Decl], cond: ObjId, mutex: ObjId, at: Operand) -> Line
-    ensures { result.items ≡ line_text (codes "timedwait" ∷ name_of decls.now sort.Cond cond
-        ∷ name_of decls.now sort.Mutex mutex ∷ operand_word at ∷ []) }
-{
-    let cond = Name(object(decls, Sort::Cond, cond));
-    let mutex = Name(object(decls, Sort::Mutex, mutex));
-    line_of(&[Keyword(b"timedwait"), cond, mutex, Value(at)])
 }
