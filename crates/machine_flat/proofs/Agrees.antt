@@ -1,0 +1,80 @@
+-- Flat code knows the same of bodies as the trees.
+use Rattle.std.proofs.Common.{◌≡◌, ℕ, zero, suc, ◌+◌, List, [], ◌++◌, drop, refl, ap, sym, ◌∙◌, Some, None, append-nil, arith, add-zero}
+use Rattle.tick_num.specs.declared.res.Res.TheVariants as res
+use Rattle.script_tree.specs.Block.{Block, Nothing, Running, Making, Setting, Adding, Taking, Testing, Looping, Guarding}
+use Rattle.script_tree.specs.declared.decl.Script.{Script}
+use Rattle.script_flat.specs.declared.cursor.Cursor.{Cursor}
+use Rattle.script_flat.specs.declared.op.Op.{Op}
+use Rattle.script_flat.specs.declared.unit.Unit.TheVariants.{Finish}
+use Rattle.script_flat.specs.Next.{At, Due, Ended, Outcome, Place, from_place, next, or_finish, step_number}
+use Rattle.script_flat.specs.Flat as flat_code
+use Rattle.script_flat.specs.Flat.{flat, op_number}
+use Rattle.script_flat.specs.Fetch.{fetched, found_in, ops_of}
+use Rattle.script_flat.specs.Stands.{counts_at, op_at, step_at}
+use Rattle.script_flat.proofs.Lands.{landed}
+use Rattle.script_flat.proofs.Places.{drop-flat, ops_from, places_land}
+use Rattle.machine_rules.specs.declared.frame.BodyOf.{BodyOf}
+use Rattle.machine_rules.specs.Bodies.{NextUnit, Seen}
+use Rattle.machine_rules.specs.Machine.{block_of, bodies_of, next_in}
+use Rattle.machine_places.specs.Carried.{Agree}
+use Rattle.machine_places.proofs.CarriedTrace.{trace_over}
+use Rattle.machine_flat.specs.Traces.{FlatTraces}
+use Rattle.machine_flat.proofs.Numbered.{body_ops}
+use Rattle.machine_flat.specs.FlatBodies.{code_of, cursor_at, flat_bodies, next_unit, number_of}
+
+-- the cursor at a place of a body
+abbrev pub at_place : ℕ → Block → Place → Cursor
+at_place n body place = record { body = n; pc = op_at place 0 body; register = 0; result = res.Zero; value = 0; counts = record { items = counts_at place [] body } }
+
+abbrev pub unit_at : ℕ → Block → NextUnit Place → NextUnit Cursor
+unit_at n body x = record { unit = x.unit; place = at_place n body x.place; register = x.register }
+
+-- the end of a body is the place behind its last step
+step_at-step_number : (block : Block) (at : ℕ) → step_at at (step_number block) block ≡ at + op_number block
+step_at-step_number Nothing at = sym (add-zero at)
+step_at-step_number (Running n rest) at = let h = step_at-step_number rest (at + 1) in omega arith
+step_at-step_number (Making c rest) at = let h = step_at-step_number rest (at + 1) in omega arith
+step_at-step_number (Setting n rest) at = let h = step_at-step_number rest (at + 1) in omega arith
+step_at-step_number (Adding n rest) at = let h = step_at-step_number rest (at + 1) in omega arith
+step_at-step_number (Taking rest) at = let h = step_at-step_number rest (at + 1) in omega arith
+step_at-step_number (Testing named equal inner rest) at = let h = step_at-step_number rest (at + (1 + op_number inner)) in omega arith
+step_at-step_number (Looping None inner rest) at = let h = step_at-step_number rest (at + (1 + op_number inner)) in omega arith
+step_at-step_number (Looping (Some n) inner rest) at = let h = step_at-step_number rest (at + (2 + op_number inner)) in omega arith
+step_at-step_number (Guarding cleanup run inner rest) at = let h = step_at-step_number rest (at + (2 + op_number inner)) in omega arith
+
+outcome_same : (o : Outcome) (n : ℕ) (body : Block) (place : Place) (seen : Seen) →
+    next_unit (landed (cursor_at (at_place n body place) seen) 0 body [] (op_number body) [] o)
+    ≡ unit_at n body (record { unit = (or_finish body o).unit; place = (or_finish body o).place; register = (or_finish body o).register })
+outcome_same (Due u to r) n body place seen = refl
+outcome_same (Ended r) n body place seen =
+    ap (λ (pc : ℕ). record { unit = Finish; place = record { body = n; pc = pc; register = 0; result = res.Zero; value = 0; counts = record { items = [] } }; register = r })
+    (let k = step_at-step_number body 0 in omega arith)
+
+-- the next unit at a place, by the operations of the body
+next_same : (code : flat_code.Bodies (List Op)) (n : ℕ) (body : Block) (place : Place) (seen : Seen) → ops_of code n ≡ flat 0 body →
+    next_unit (fetched code (cursor_at (at_place n body place) seen)) ≡ unit_at n body (next_in body place seen)
+next_same code n body place seen is =
+    let c = cursor_at (at_place n body place) seen in
+    let lands : fetched code c ≡ landed c 0 body [] (op_number body) [] (from_place seen.result seen.value place body seen.register) =
+    ap (λ (ops : List Op). found_in (drop c.pc ops) 0 c) is
+    ∙ ap (λ (ops : List Op). found_in ops 0 c) (drop-flat place body ∙ sym (append-nil (ops_from place 0 body)))
+    ∙ places_land place c seen.register body 0 [] (op_number body) [] (omega arith) in
+    ap next_unit lands ∙ outcome_same (from_place seen.result seen.value place body seen.register) n body place seen
+
+module _ (script : Script) where
+  abbrev pub carry : BodyOf → Place → Cursor
+  carry b place = at_place (number_of (code_of script) b) (block_of script b) place
+
+  same : (b : BodyOf) (place : Place) (seen : Seen) → (flat_bodies (code_of script)).next b (carry b place) seen ≡ unit_at (number_of (code_of script) b) (block_of script b) ((bodies_of script).next b place seen)
+  same b place seen = next_same (code_of script) (number_of (code_of script) b) (block_of script b) place seen (body_ops script b)
+
+  pub flat_agrees : Agree carry (bodies_of script) (flat_bodies (code_of script))
+  flat_agrees = record {
+    start = λ b. refl;
+    unit = λ b place seen. ap (λ (x : NextUnit Cursor). x.unit) (same b place seen);
+    place = λ b place seen. ap (λ (x : NextUnit Cursor). x.place) (same b place seen);
+    register = λ b place seen. ap (λ (x : NextUnit Cursor). x.register) (same b place seen);
+  }
+
+pub flat_traces : FlatTraces
+flat_traces script n = trace_over (carry script) script (flat_bodies (code_of script)) (flat_agrees script) n

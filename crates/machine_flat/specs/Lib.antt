@@ -1,0 +1,7 @@
+pub mod FlatBodies
+pub mod Placed
+pub mod Traces
+pub mod EachCall
+pub mod KnownCalls
+pub mod Built
+pub mod Runnable

@@ -1,0 +1,122 @@
+// The frames of a thread.
+ghost use Rattle.std.specs.Prelude.{◌≡◌, ◌-◌};
+ghost use Rattle.machine_rules.specs.Threads.{is_signal};
+ghost use Rattle.script_flat.specs.Next.{ticks_of};
+ghost use Rattle.script_flat.specs.Stands.{IsPlaced};
+ghost use Rattle.machine_rules.specs.Units.{frame_begins, next_of};
+ghost use Rattle.machine_flat.specs.FlatBodies.{flat_bodies};
+ghost use Rattle.machine_flat.specs.Placed.{cursor_of};
+ghost use Rattle.machine_flat.specs.FlatBodies.{place_of};
+
+use arrayvec::ArrayVec;
+use machine_rules::{BodyOf, FrameKind};
+use script_flat::{Code, Cursor, Unit};
+use std::marker::Model;
+use tick_num::{Res, Tid};
+
+/// A body that a thread is in, with the ticks left of its present unit.
+#[derive(Drop)]
+pub struct Frame {
+    kind: FrameKind,
+    body: BodyOf,
+    at: Cursor,
+    left: u64,
+}
+
+impl Model for Frame {
+    ghost use Rattle.machine_rules.specs.State as machine;
+    ghost use Rattle.script_flat.specs.declared.cursor.Cursor.{Cursor};
+
+    ghost Value = { machine.Frame Cursor };
+
+    ghost use Rattle.machine_rules.specs.Threads.{is_signal};
+    ghost use Rattle.thread_blocks.specs.View.{frame_of};
+
+    ghost view = { frame_of };
+}
+
+impl Default for Frame {
+    fn default() -> Self {
+        Frame {
+            kind: FrameKind::Main,
+            body: BodyOf::Thread(Tid::default()),
+            at: Cursor {
+                body: 0,
+                pc: 0,
+                register: 0,
+                result: Res::Zero,
+                value: 0,
+                counts: ArrayVec::new(),
+            },
+            left: 0,
+        }
+    }
+}
+
+impl Frame {
+    /// A frame at the start of its body.
+    pub fn new(kind: FrameKind, body: BodyOf, at: Cursor) -> Frame
+        ensures { result ≡ record { kind = kind; body = body; place = place_of at; register = at.register; result = at.result; value = at.value; left = 0 } }
+    {
+        Frame {
+            kind,
+            body,
+            at,
+            left: 0,
+        }
+    }
+
+    pub fn left(&self) -> u64
+        ensures { result ≡ self.now.left }
+    {
+        self.left
+    }
+
+    pub fn is_signal(&self) -> bool
+        ensures { result ≡ is_signal self.now.kind }
+    {
+        match self.kind {
+            FrameKind::Signal => true,
+            _ => false,
+        }
+    }
+
+    /// The last call of the body has that answer.
+    pub fn answer(&mut self, res: Res, value: u64)
+        ensures { self.new ≡ record self.old { result = res; value = value } }
+    {
+        self.at.result = res;
+        self.at.value = value;
+    }
+
+    /// One tick of its unit.
+    pub fn charge(&mut self)
+        ensures { self.new ≡ record self.old { left = self.old.left - 1 } }
+    {
+        self.left = self.left.saturating_sub(1);
+    }
+
+    /// It begins the next unit of its body.
+    pub fn begin(&mut self, code: &Code) -> Unit
+        requires { IsPlaced code.now (cursor_of self.old) }
+        ensures unit { result ≡ (next_of (flat_bodies code.now) self.old).unit }
+        ensures moved { self.new ≡ frame_begins (next_of (flat_bodies code.now) self.old) self.old }
+    {
+        let (at, unit) = code.fetch(&self.at);
+        self.left = ticks_of(&unit);
+        self.at = at;
+        unit
+    }
+}
+
+// How many ticks a unit takes.
+fn ticks_of(unit: &Unit) -> u64
+    ensures { result ≡ ticks_of unit.now }
+{
+    match unit {
+        Unit::Run(n) => *n,
+        Unit::Make(_) => 1,
+        Unit::Jump => 1,
+        Unit::Finish => 1,
+    }
+}
