@@ -1,2 +1,9 @@
-pub mod Opening
-pub mod Keeps
+pub mod ComingUnits
+pub mod ItemsLaw
+pub mod Halfway
+pub mod Running
+pub mod WholeTrace
+pub mod HeldLaw
+pub mod RestLaw
+pub mod MadeCalls
+pub mod Opened

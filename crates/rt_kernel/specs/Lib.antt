@@ -1,5 +1,5 @@
-pub mod View
-pub mod Sound
-pub mod Simulated
-pub mod Running
-pub mod Opening
+pub mod Completes
+pub mod Fits
+pub mod Held
+pub mod Ready
+pub mod Ran

@@ -1,11 +1,12 @@
 //! The kernel: it runs the flat code of a script tick by tick, and prints what happens.
 #![tactic(auto)]
 
-mod dispatch;
+mod instant;
 mod kernel;
-mod open;
-mod report;
-mod thread;
-mod threads;
+mod run;
+mod tick_ends;
+mod ticks;
+mod units;
 
-pub use kernel::{Kernel, RunEnd};
+pub use kernel::Kernel;
+pub use run::RunEnd;

@@ -24,7 +24,7 @@ ghost use Rattle.thread_blocks.specs.Room.{HasRoom, ServerHasRoom};
 ghost use Rattle.thread_blocks.specs.Plain.{status_of, waiting_of};
 ghost use Rattle.thread_blocks.specs.Unused.{IsUnused};
 ghost use Rattle.std.specs.Prelude.{is_some, Some};
-ghost use Rattle.sporadic_server.specs.Server.{next_due, plan, refill, replenishment};
+ghost use Rattle.sporadic_server.specs.Server.{next_due, plan, refill, replenishment, totals};
 ghost use Rattle.pse52_trace.specs.declared.report.Report.{Report};
 ghost use Rattle.machine_rules.specs.Machine.{budget_of, report_of};
 ghost use Rattle.machine_rules.specs.Threads.{is_blocked};
@@ -38,7 +38,7 @@ use arrayvec::ArrayVec;
 use pse52_trace::{BudgetView, Report};
 use script_flat::{Code, Unit};
 use script_tree::{Call, Policy};
-use sporadic_server::{Replenish, Server};
+use sporadic_server::{BudgetLine, Replenish, Server};
 use std::marker::Model;
 use tick_num::{ObjId, Params, Prio, Res, SigSet, Tick};
 
@@ -481,6 +481,16 @@ impl Thread {
                 None => None,
                 Some(server) => Some(budget_of(server)),
             },
+        }
+    }
+
+    /// The totals of its server.
+    pub fn totals(&self) -> Option<BudgetLine>
+        ensures { result ≡ option_map totals self.now.server }
+    {
+        match &self.server {
+            None => None,
+            Some(server) => Some(server.totals()),
         }
     }
 

@@ -1,0 +1,190 @@
+-- A thread that came to run has a direct move.
+use Rattle.std.proofs.Common.{◌≡◌, ◌<◌, ℕ, zero, suc, List, [], ◌∷◌, ◌++◌, Bool, true, false, ap, arith, refl, sym, subst, ◌∙◌}
+use Rattle.std.specs.Prelude.{None, Option, Some, ◌==◌, ◌&&◌, not, slice_index_or, if◌then◌else◌, is_some}
+use Rattle.thread_lists.specs.Threads.{stands_in}
+use Rattle.tick_num.specs.declared.item.Item.{Item}
+use Rattle.tick_num.specs.declared.item.Item.TheVariants as item
+use Rattle.tick_num.specs.declared.res.Res.{Res}
+use Rattle.tick_num.specs.declared.res.Res.TheVariants as res
+use Rattle.sporadic_server.specs.Server.{ServerState, activate, oldest_pending, plan, refill}
+use Rattle.script_flat.specs.declared.cursor.Cursor.{Cursor}
+use Rattle.script_flat.specs.declared.unit.Unit as unit_type
+use Rattle.script_flat.specs.declared.unit.Unit.TheVariants as unit
+use Rattle.script_tree.specs.declared.call.Call.{Call}
+use Rattle.script_tree.specs.declared.call.Call.TheVariants as call
+use Rattle.pse52_trace.specs.declared.event.Event.{Event}
+use Rattle.pse52_trace.specs.declared.event.Event.TheVariants as event
+use Rattle.machine_rules.specs.declared.frame.FrameKind.{FrameKind}
+use Rattle.machine_rules.specs.Bodies.{Bodies}
+use Rattle.machine_rules.specs.State.{Frame, Joiner, Machine, Thread, Wait, Waiting, for_time, nobody}
+use Rattle.machine_rules.specs.Lists.{changed_at}
+use Rattle.machine_rules.specs.Threads.{can_run, is_dormant, is_main, is_runnable, lives, no_thread, thread_at, top_kind, top_left, waiting_of}
+use Rattle.machine_rules.specs.Turns.{By, Turn, answered, changes, changes_pending, has_passed, moves, moves_if, returns, tells, with_thread}
+use Rattle.machine_rules.specs.CallNames.{name_of}
+use Rattle.machine_rules.specs.Servers.{activates_if, activates_server, amount_of, high_server, plans, plans_for, refills_for, regains_high, with_server}
+use Rattle.machine_rules.specs.Waking.{call_in, put_to_wait, started, starts, wakes, woken}
+use Rattle.machine_rules.specs.Lives.{ends, finishes_in, inherited_mask, wakes_joiner, without_life, without_target}
+use Rattle.machine_rules.specs.Cancellation.{is_cancellation_point, is_cancelled, request_acts}
+use Rattle.machine_rules.specs.Scheduling.{takes_priority, with_policy, with_priority}
+use Rattle.machine_rules.specs.Mutexes.{owns_boosting}
+use Rattle.machine_rules.specs.Calls.{call_effect, makes_call, unit_effect}
+use Rattle.machine_rules.specs.DueItems.{handles, times_out, times_out_of}
+use Rattle.machine_rules.specs.Ticks.{TickEnd, completes_at, ends_tick, exhausting, nothing, planning, slicing, tick_charged, without_slice}
+use Rattle.machine_rules.specs.Units.{in_unit, in_unit_if, in_unit_of, top_in_unit}
+use Rattle.machine_rules.proofs.Reading.{changed-keeps, thread-other}
+use Rattle.kernel_events.specs.Built.{IsBuilt}
+use Rattle.kernel_state.specs.Due.{IsKnown}
+use Rattle.kernel_events.specs.Handled.{OnlySleeps}
+use Rattle.kernel_state.specs.Kernel.{by}
+use Rattle.kernel_state.proofs.StoodAgain.{HaveCome}
+
+last_in : (t : ℕ) (us : List ℕ) → stands_in t (us ++ t ∷ []) ≡ true
+last_in t [] = grind arith
+last_in t (u ∷ us) = grind (arith, last_in t us)
+
+not_both : {X : Type 0} (b : Bool) → b ≡ false → b ≡ true → X
+not_both b off on = let a : true ≡ false = sym on ∙ off in absurd cc
+
+-- an activation leaves who can run
+activated : {P : Type 0} (t : ℕ) (o : Option ServerState) (s : Turn P) (u : ℕ) → can_run (activates_server t o s).machine u ≡ can_run s.machine u
+activated t None s u = refl
+activated t (Some server) s u = changed-keeps no_thread t u (with_server (activate s.machine.now)) (λ th. is_runnable th.status) (λ th. refl) s.machine.threads
+
+activated_direct : {P : Type 0} (t : ℕ) (o : Option ServerState) (s : Turn P) → (activates_server t o s).direct ≡ s.direct
+activated_direct t None s = refl
+activated_direct t (Some server) s = refl
+
+-- a thread that changes and has a direct move, and may be activated
+moved_comes : {P : Type 0} (t : ℕ) (f : Thread P → Thread P) (e : Event) (o : Option ServerState) (s : Turn P) →
+    HaveCome s.machine (activates_server t o (tells e (moves t (changes t f s)))).direct (activates_server t o (tells e (moves t (changes t f s)))).machine
+moved_comes t f e o s u off runs = by_eq (t == u) refl
+  where
+    there : can_run (with_thread t f s.machine) u ≡ true
+    there = sym (activated t o (tells e (moves t (changes t f s))) u) ∙ runs
+
+    at_last : t ≡ u → stands_in u (activates_server t o (tells e (moves t (changes t f s)))).direct ≡ true
+    at_last k = ap (stands_in u) (activated_direct t o (tells e (moves t (changes t f s)))) ∙ ap (λ (v : ℕ). stands_in u (s.direct ++ v ∷ [])) k ∙ last_in u s.direct
+
+    by_eq : (b : Bool) → (t == u) ≡ b → stands_in u (activates_server t o (tells e (moves t (changes t f s)))).direct ≡ true
+    by_eq true same = at_last (grind arith)
+    by_eq false other = not_both (can_run (with_thread t f s.machine) u) (ap (λ (th : _). is_runnable th.status) (thread-other s.machine t u f other) ∙ off) there
+
+pub starts_come : {P : Type 0} (bodies : Bodies P) (t mask : ℕ) (s : Turn P) → HaveCome s.machine (starts bodies t mask s).direct (starts bodies t mask s).machine
+starts_come bodies t mask s =
+    let f = started bodies t mask s.machine.now in
+    moved_comes t f (event.Start t) (thread_at (with_thread t f s.machine) t).server s
+
+wakes_come : {P : Type 0} (t : ℕ) (r : Res) (value : ℕ) (s : Turn P) → HaveCome s.machine (wakes t r value s).direct (wakes t r value s).machine
+wakes_come t r value s =
+    moved_comes t (woken r value) (event.Return t (name_of (call_in (waiting_of s.machine t))) r value) (high_server (thread_at (with_thread t (woken r value) s.machine) t).server) s
+
+-- ---- where nobody came
+
+abbrev pub Fewer : {P : Type 0} → Machine P → Machine P → Type 0
+Fewer before m = (u : ℕ) → can_run m u ≡ true → can_run before u ≡ true
+
+pub fewer_come : {P : Type 0} (before m : Machine P) (direct : List ℕ) → Fewer before m → HaveCome before direct m
+fewer_come before m direct h u off runs = not_both (can_run before u) off (h u runs)
+
+fewer_at : {P : Type 0} (f : Thread P → Thread P) (xs : List (Thread P)) (n k : ℕ) →
+    (is_runnable (f (slice_index_or xs n no_thread)).status ≡ true → is_runnable (slice_index_or xs n no_thread).status ≡ true) →
+    is_runnable (slice_index_or (changed_at no_thread n f xs) k no_thread).status ≡ true → is_runnable (slice_index_or xs k no_thread).status ≡ true
+fewer_at f [] n k h r = r
+fewer_at f (x ∷ xs) zero zero h r = h r
+fewer_at f (x ∷ xs) zero (suc k) h r = r
+fewer_at f (x ∷ xs) (suc n) zero h r = r
+fewer_at f (x ∷ xs) (suc n) (suc k) h r = fewer_at f xs n k h r
+
+pub changes_fewer : {P : Type 0} (t : ℕ) (f : Thread P → Thread P) (s : Turn P) → (is_runnable (f (thread_at s.machine t)).status ≡ true → can_run s.machine t ≡ true) →
+    Fewer s.machine (changes t f s).machine
+changes_fewer t f s h u r = fewer_at f s.machine.threads t u h r
+
+activates_if_fewer : {P : Type 0} (b : Bool) (t : ℕ) (s : Turn P) → Fewer s.machine (activates_if b t s).machine
+activates_if_fewer true t s u r = sym (activated t (thread_at s.machine t).server s u) ∙ r
+activates_if_fewer false t s u r = r
+
+refills_fewer : {P : Type 0} (t : ℕ) (o : Option ServerState) (s : Turn P) → Fewer s.machine (refills_for t o s).machine
+refills_fewer t None s u r = r
+refills_fewer t (Some server) s u r =
+    let told = tells (event.Refill t (amount_of (oldest_pending server)) (refill server).capacity) (changes t (with_server refill) s) in
+    changes_fewer t (with_server refill) s (λ h. h) u (activates_if_fewer (regains_high server && can_run s.machine t) t told u r)
+
+-- ---- items
+
+times_out_come : {P : Type 0} (w : Option Waiting) (t : ℕ) (s : Turn P) → OnlySleeps w → HaveCome s.machine (times_out w t s).direct (times_out w t s).machine
+times_out_come None t s sleeps = fewer_come s.machine s.machine s.direct (λ u r. r)
+times_out_come (Some w) t s sleeps =
+    subst (λ (x : Wait). HaveCome s.machine (times_out_of x t s).direct (times_out_of x t s).machine) (sym sleeps) (wakes_come t res.Zero 0 s)
+
+pub handles_come : {P : Type 0} (bodies : Bodies P) (n : ℕ) (i : Item) (s : Turn P) → IsKnown n i → ((t : ℕ) → OnlySleeps (waiting_of s.machine t)) →
+    HaveCome s.machine (handles bodies i s).direct (handles bodies i s).machine
+handles_come bodies n (item.Refill t) s known sleeps =
+    let o = (thread_at s.machine t).server in
+    fewer_come s.machine (refills_for t o s).machine (refills_for t o s).direct (refills_fewer t o s)
+handles_come bodies n (item.Start t) s known sleeps = starts_come bodies t 0 s
+handles_come bodies n (item.Timeout t) s known sleeps = times_out_come (waiting_of s.machine t) t s (sleeps t)
+handles_come bodies n (item.Timer k) s known sleeps = absurd known
+
+-- ---- calls
+
+returns_fewer : {P : Type 0} (b : By) (r : Res) (value : ℕ) (s : Turn P) → Fewer s.machine (returns b r value s).machine
+returns_fewer b r value s = changes_fewer b.thread (answered r value) s (λ h. h)
+
+returns_same : {P : Type 0} (b : By) (r : Res) (value : ℕ) (s : Turn P) (u : ℕ) → can_run (returns b r value s).machine u ≡ can_run s.machine u
+returns_same b r value s u = changed-keeps no_thread b.thread u (answered r value) (λ th. is_runnable th.status) (λ th. refl) s.machine.threads
+
+pub come_later : {P : Type 0} (before mid m : Machine P) (direct : List ℕ) → ((u : ℕ) → can_run mid u ≡ can_run before u) → HaveCome mid direct m → HaveCome before direct m
+come_later before mid m direct same come u off runs = come u (same u ∙ off) runs
+
+abbrev pub Comes : {P : Type 0} → Turn P → Turn P → Type 0
+Comes s r = HaveCome s.machine r.direct r.machine
+
+if_come : {P : Type 0} (b : Bool) (x y s : Turn P) → Comes s x → Comes s y → Comes s (if b then x else y)
+if_come true x y s h k = h
+if_come false x y s h k = k
+
+returns_come : {P : Type 0} (b : By) (r : Res) (value : ℕ) (s : Turn P) → Comes s (returns b r value s)
+returns_come b r value s = fewer_come s.machine (returns b r value s).machine s.direct (returns_fewer b r value s)
+
+creates_come : {P : Type 0} (bodies : Bodies P) (b : By) (u mask : ℕ) (s : Turn P) → Comes s (starts bodies u mask (returns b res.Zero 0 s))
+creates_come bodies b u mask s =
+    let r = returns b res.Zero 0 s in
+    let x = starts bodies u mask r in
+    come_later s.machine r.machine x.machine x.direct (returns_same b res.Zero 0 s) (starts_come bodies u mask r)
+
+setprio_come : {P : Type 0} (b : By) (u p : ℕ) (s : Turn P) → Comes s (returns b res.Zero 0 (changes u (with_priority p) s))
+setprio_come b u p s =
+    let c = changes u (with_priority p) s in
+    fewer_come s.machine (returns b res.Zero 0 c).machine s.direct (λ v r. changes_fewer u (with_priority p) s (λ h. h) v (returns_fewer b res.Zero 0 c v r))
+
+pub moves_if_machine : {P : Type 0} (b : Bool) (t : ℕ) (s : Turn P) → (moves_if b t s).machine ≡ s.machine
+moves_if_machine true t s = refl
+moves_if_machine false t s = refl
+
+setsched_come : {P : Type 0} (b : By) (u : ℕ) (new : _) (now : ℕ) (a d : Bool) (s : Turn P) →
+    Comes s (moves_if d u (activates_if a u (changes u (with_policy new now) (returns b res.Zero 0 s))))
+setsched_come b u new now a d s =
+    let r = returns b res.Zero 0 s in
+    let c = changes u (with_policy new now) r in
+    let x = activates_if a u c in
+    fewer_come s.machine (moves_if d u x).machine (moves_if d u x).direct
+    (λ v k. returns_fewer b res.Zero 0 s v (changes_fewer u (with_policy new now) r (λ h. h) v (activates_if_fewer a u c v (sym (ap (λ (m : _). can_run m v) (moves_if_machine d u x)) ∙ k))))
+
+sleeps_come : {P : Type 0} (b : By) (w : Waiting) (s : Turn P) → Comes s (changes b.thread (put_to_wait w) s)
+sleeps_come b w s = fewer_come s.machine (changes b.thread (put_to_wait w) s).machine s.direct (changes_fewer b.thread (put_to_wait w) s (λ h. absurd cc))
+
+pub calls_come : {P : Type 0} (bodies : Bodies P) (n : ℕ) (b : By) (c : Call) (s : Turn P) → IsBuilt n c → Comes s (call_effect bodies b c s)
+calls_come bodies n b call.Yield s built = fewer_come s.machine (returns b res.Zero 0 (moves b.thread s)).machine (moves b.thread s).direct (returns_fewer b res.Zero 0 s)
+calls_come bodies n b (call.Create u) s built =
+    if_come (is_dormant (thread_at s.machine u).status) _ _ s (creates_come bodies b u (inherited_mask (thread_at s.machine b.thread)) s) (returns_come b res.Again 0 s)
+calls_come bodies n b call.Testcancel s built = returns_come b res.Zero 0 s
+calls_come bodies n b (call.Setprio u p) s built =
+    if_come (lives s.machine u) _ _ s (if_come (takes_priority (thread_at s.machine u).policy p) _ _ s (setprio_come b u p s) (returns_come b res.Inval 0 s)) (returns_come b res.Srch 0 s)
+calls_come bodies n b (call.Setsched u policy) s built =
+    let r = returns b res.Zero 0 s in
+    let c = changes u (with_policy policy s.machine.now) r in
+    let x = activates_if (can_run s.machine u) u c in
+    if_come (lives s.machine u) _ _ s (setsched_come b u policy s.machine.now (can_run s.machine u) (not (owns_boosting x.machine u)) s) (returns_come b res.Srch 0 s)
+calls_come bodies n b (call.Nanosleep k) s built = if_come (has_passed _ s.machine) _ _ s (returns_come b res.Zero 0 s) (sleeps_come b _ s)
+calls_come bodies n b call.Gettime s built = returns_come b res.Zero s.machine.now s
+calls_come bodies n b _ s built = absurd built

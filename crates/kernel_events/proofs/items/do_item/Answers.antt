@@ -1,0 +1,28 @@
+use Rattle.std.proofs.Common.{ap, subst, sym, ◌∙◌}
+use Rattle.machine_rules.specs.Delivery.{sweeps}
+use Rattle.machine_rules.specs.DueItems.{handles}
+use Rattle.machine_rules.specs.Turns.{settles_since, ◌▷◌}
+use Rattle.machine_rules.proofs.BehindTicks.{sweeps_behind}
+use Rattle.machine_rules.proofs.Counting.{handles_kept}
+use Rattle.machine_rules.proofs.Instants.{sweeps_now}
+use Rattle.machine_rules.proofs.Kept.{Kept}
+use Rattle.machine_flat.specs.FlatBodies.{flat_bodies}
+use Rattle.kernel_state.specs.Kernel.{Kernel, turn}
+use Rattle.kernel_state.proofs.Turns.{then_state_in, then_told_in}
+use Rattle.kernel_events.proofs.items.do_item.Goals as goal
+
+pub returns-clause-state : goal.returns-clause-state
+returns-clause-state g c =
+    then_state_in (λ b s. s ▷ handles b c.args.i ▷ settles_since s.machine) sweeps _ _ _ sweeps_behind c.settle_item.ensures.state c.sweep.ensures.state
+
+pub returns-clause-told : goal.returns-clause-told
+returns-clause-told g c =
+    then_told_in _ _ (λ b s. s ▷ handles b c.args.i ▷ settles_since s.machine) sweeps _ _ _ _ _ sweeps_behind c.settle_item.ensures.state c.settle_item.ensures.told c.sweep.ensures.told
+
+pub returns-clause-time : goal.returns-clause-time
+returns-clause-time g c =
+    let p = c.args.p.now in
+    let bodies = flat_bodies p.code in
+    ap (λ (k : Kernel). k.machine.now) (returns-clause-state g c)
+    ∙ sweeps_now bodies (settles_since p.machine (handles bodies c.args.i (turn p)))
+    ∙ ap (λ (x : Kept). x.now) (handles_kept bodies c.args.i (turn p))

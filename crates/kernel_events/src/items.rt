@@ -1,0 +1,113 @@
+// The due items.
+ghost use Rattle.std.specs.Prelude.{◌≡◌, ◌≤◌, ◌<◌, ◌+◌, ◌^◌, [], length, true, false};
+ghost use Rattle.pse52_trace.specs.Tells.{Tells};
+ghost use Rattle.machine_rules.specs.Threads.{is_blocked, thread_at, waiting_of};
+ghost use Rattle.machine_rules.specs.Turns.{settles_since, ◌▷◌};
+ghost use Rattle.machine_rules.specs.Servers.{has_high, refills};
+ghost use Rattle.machine_rules.specs.DueItems.{handles, item_done, times_out};
+ghost use Rattle.machine_flat.specs.FlatBodies.{flat_bodies};
+ghost use Rattle.thread_blocks.specs.Unused.{IsUnused};
+ghost use Rattle.kernel_state.specs.Due.{IsKnown};
+ghost use Rattle.kernel_events.specs.Handled.{CanHandle, OnlySleeps};
+ghost use Rattle.kernel_state.specs.Kernel.{Kernel, after, refilled_telling, told};
+ghost use Rattle.kernel_state.specs.Stood.{StoodRight};
+
+use kernel_state::Parts;
+use pse52_trace::{Event, Tracer};
+use rt_io::Sink;
+use thread_blocks::Refilled;
+use tick_num::{Item, Res, SigSet, Tid};
+
+// It is told, and the thread is activated where it got its high priority back and can run.
+fn tell_refill<K: Sink>(p: &mut Parts, t: Tid, r: &Refilled, runs: bool, out: &mut Tracer<'_, K>)
+    requires known { t < length p.old.names }
+    requires unused { r.now.regains_high ≡ true → IsUnused (thread_at p.old.machine t).server }
+    requires early { p.old.machine.now ≤ 10 ^ 18 }
+    ensures state { p.new ≡ after (refilled_telling t r.now runs) p.old }
+    ensures told { Tells K.text K.faults p.old.names out.old out.new (told (refilled_telling t r.now runs) p.old) }
+{
+    p.tell(&Event::Refill(t, r.amount, r.capacity), out);
+    if r.regains_high && runs {
+        p.activate(t, out);
+    }
+}
+
+// The oldest pending replenishment of a server is carried out.
+fn refill<K: Sink>(p: &mut Parts, t: Tid, out: &mut Tracer<'_, K>)
+    requires known { t < length p.old.names }
+    requires rests { has_high (thread_at p.old.machine t).server ≡ false → IsUnused (thread_at p.old.machine t).server }
+    requires early { p.old.machine.now ≤ 10 ^ 18 }
+    ensures state { p.new ≡ after (refills t) p.old }
+    ensures told { Tells K.text K.faults p.old.names out.old out.new (told (refills t) p.old) }
+{
+    if !p.has_server(t) {
+        return;
+    }
+    let runs = p.is_runnable(t);
+    let r = p.refill_thread(t);
+    tell_refill(p, t, &r, runs, out);
+}
+
+// A sleep ends.
+fn time_out<K: Sink>(p: &mut Parts, t: Tid, out: &mut Tracer<'_, K>)
+    requires known { t < length p.old.names }
+    requires sleeps { OnlySleeps (waiting_of p.old.machine t) }
+    requires rests { is_blocked (thread_at p.old.machine t).status ≡ true → IsUnused (thread_at p.old.machine t).server }
+    requires quiet { p.old.direct ≡ [] }
+    requires early { p.old.machine.now ≤ 10 ^ 18 }
+    ensures state { p.new ≡ after (λ s. times_out (waiting_of s.machine t) t s) p.old }
+    ensures told { Tells K.text K.faults p.old.names out.old out.new (told (λ s. times_out (waiting_of s.machine t) t s) p.old) }
+{
+    if p.is_blocked(t) {
+        p.wake(t, Res::Zero, 0, out);
+    }
+}
+
+// A due item, before its moves.
+fn handle<K: Sink>(p: &mut Parts, i: Item, out: &mut Tracer<'_, K>)
+    requires known { IsKnown (length p.old.names) i }
+    requires quiet { p.old.direct ≡ [] }
+    requires fits { CanHandle p.old.machine }
+    requires early { p.old.machine.now ≤ 10 ^ 18 }
+    ensures state { p.new ≡ after (handles (flat_bodies p.old.code) i) p.old }
+    ensures told { Tells K.text K.faults p.old.names out.old out.new (told (handles (flat_bodies p.old.code) i) p.old) }
+{
+    match i {
+        Item::Refill(t) => refill(p, t, out),
+        Item::Start(t) => p.start(t, SigSet::new(0), out),
+        Item::Timeout(t) => time_out(p, t, out),
+        Item::Timer(_) => unreachable!(),
+    }
+}
+
+// A due item, with its moves.
+fn settle_item<K: Sink>(p: &mut Parts, i: Item, out: &mut Tracer<'_, K>)
+    requires known { IsKnown (length p.old.names) i }
+    requires quiet { p.old.direct ≡ [] }
+    requires stood { StoodRight p.old.machine }
+    requires fits { CanHandle p.old.machine }
+    requires early { p.old.machine.now ≤ 10 ^ 18 }
+    ensures state { p.new ≡ after (λ s. s ▷ handles (flat_bodies p.old.code) i ▷ settles_since s.machine) p.old }
+    ensures told { Tells K.text K.faults p.old.names out.old out.new (told (λ s. s ▷ handles (flat_bodies p.old.code) i ▷ settles_since s.machine) p.old) }
+    ensures stood { StoodRight p.new.machine }
+{
+    handle(p, i, out);
+    p.settle();
+}
+
+/// A due item, with its moves and the sweep.
+pub fn do_item<K: Sink>(p: &mut Parts, i: Item, out: &mut Tracer<'_, K>)
+    requires known { IsKnown (length p.old.names) i }
+    requires quiet { p.old.direct ≡ [] }
+    requires stood { StoodRight p.old.machine }
+    requires fits { CanHandle p.old.machine }
+    requires early { p.old.machine.now ≤ 10 ^ 18 }
+    ensures state { p.new ≡ after (item_done (flat_bodies p.old.code) i) p.old }
+    ensures told { Tells K.text K.faults p.old.names out.old out.new (told (item_done (flat_bodies p.old.code) i) p.old) }
+    ensures stood { StoodRight p.new.machine }
+    ensures quiet { p.new.direct ≡ [] }
+    ensures time { p.new.machine.now ≡ p.old.machine.now }
+{
+    settle_item(p, i, out);
+    p.sweep(out);
+}

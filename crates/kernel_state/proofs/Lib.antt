@@ -1,0 +1,11 @@
+pub mod Turns
+pub mod Alone
+pub mod SettlingSteps
+pub mod SettledSame
+pub mod SweepNothing
+pub mod SettleIs
+pub mod StoodAgain
+pub mod DueFirst
+pub mod TickParts
+pub mod Opened
+pub mod Closing

@@ -1,0 +1,107 @@
+-- The kernel of a script, before the first tick.
+use Rattle.std.proofs.Common.{◌≡◌, ◌<◌, ◌≤◌, ◌-◌, ◌^◌, ℕ, zero, suc, Option, None, List, [], ◌∷◌, Bool, true, false, ap, arith, length, refl, sym, subst, replicate, ◌∙◌, Some}
+use Rattle.std.specs.Prelude.{map, slice_get, slice_index, slice_index_or}
+use Rattle.std.proofs.lemmas.List.{length-map}
+use Rattle.script_tree.specs.Block.{Block, Nothing}
+use Rattle.script_tree.specs.declared.decl.Script.{Script}
+use Rattle.script_flat.specs.Flat as flat
+use Rattle.thread_lists.specs.Threads.{times}
+use Rattle.ready_lists.specs.Lists.{empty_lists}
+use Rattle.script_flat.specs.declared.cursor.Cursor.{Cursor}
+use Rattle.machine_rules.specs.State.{Thread}
+use Rattle.machine_rules.specs.Declarations.{ThreadDecl, threads_of}
+use Rattle.machine_rules.specs.Threads.{is_runnable, no_thread}
+use Rattle.machine_rules.specs.Machine.{names_of}
+use Rattle.machine_rules.specs.Runs.{opening, thread_opened}
+use Rattle.machine_flat.proofs.Numbered.{Numbered, known, thread_blocks}
+use Rattle.machine_flat.specs.FlatBodies.{code_of}
+use Rattle.script_flat.specs.declared.op.Op.{Op}
+use Rattle.script_flat.specs.Fetch.{ops_of}
+use Rattle.script_flat.specs.Next.{body_start}
+use Rattle.script_flat.proofs.Opens.{is_body_of_script}
+use Rattle.sporadic_server.specs.Server.{ServerState}
+use Rattle.machine_rules.specs.declared.frame.BodyOf.TheVariants as body_of
+use Rattle.machine_flat.specs.FlatBodies.{number_of}
+use Rattle.thread_blocks.specs.Room.{HasRoom, ServerHasRoom}
+use Rattle.kernel_state.specs.Kernel.{opened}
+use Rattle.machine_flat.specs.Runnable.{IsRunnable}
+use Rattle.kernel_state.specs.Settled.{HavePriorities}
+use Rattle.kernel_state.specs.Stood.{StoodRight}
+use Rattle.kernel_state.specs.Tied.{HaveBodies, IsTied}
+
+-- a number that is there does not depend on what stands past the end
+pub number_known : (ns : List ℕ) (t d : ℕ) → t < length ns → slice_index_or ns t d ≡ slice_index ns t
+number_known [] t d lt = absurd (omega arith)
+number_known (n ∷ ns) zero d lt = refl
+number_known (n ∷ ns) (suc t) d lt = number_known ns t d (omega arith)
+
+-- ---- the code is that of the threads
+
+numbered_length : (all : List Block) (ns : List ℕ) (bs : List Block) → Numbered all ns bs → length ns ≡ length bs
+numbered_length all [] [] is = refl
+numbered_length all [] (b ∷ bs) is = absurd is
+numbered_length all (n ∷ ns) [] is = absurd is
+numbered_length all (n ∷ ns) (b ∷ bs) (one, rest) = ap suc (numbered_length all ns bs rest)
+
+there : (all : List Block) (n : ℕ) (b : Block) → slice_get all n ≡ Some b → n < length all
+there [] n b is = cc
+there (x ∷ all) zero b is = omega arith
+there (x ∷ all) (suc n) b is = let h = there all n b is in omega (arith, h)
+
+numbered_there : (all : List Block) (ns : List ℕ) (bs : List Block) (t : ℕ) → Numbered all ns bs → t < length ns → slice_index ns t < length all
+numbered_there all [] bs t is lt = absurd (omega arith)
+numbered_there all (n ∷ ns) [] t is lt = absurd is
+numbered_there all (n ∷ ns) (b ∷ bs) zero (one, rest) lt = there all n b one
+numbered_there all (n ∷ ns) (b ∷ bs) (suc t) (one, rest) lt = numbered_there all ns bs t rest (omega arith)
+
+pub code_threads : (script : Script) → length (code_of script).threads ≡ length (threads_of script)
+code_threads script =
+    let b = flat.bodies_of script.decls in
+    numbered_length b.all b.threads (thread_blocks script.decls) (known script).threads ∙ length-map (threads_of script) (λ (d : ThreadDecl). d.body)
+
+pub tied_opening : (script : Script) → IsRunnable script → IsTied (names_of script) (code_of script) (length (map (thread_opened {P = Cursor}) (threads_of script))) (map thread_opened (threads_of script)) []
+tied_opening script ok =
+    let b = flat.bodies_of script.decls in
+    let ds = threads_of script in
+    let opened : length (map (thread_opened {P = Cursor}) ds) ≡ length ds = length-map ds (thread_opened {P = Cursor}) in
+    let named : length (names_of script) ≡ length ds = length-map ds (λ (d : ThreadDecl). d.name) in
+    record {
+      few = omega (arith, ok.few, opened);
+      named = named ∙ sym opened;
+      listed = refl;
+      known = λ k d lt. absurd (omega arith);
+      bodies = record {
+        numbered = code_threads script ∙ sym named;
+        each = λ t lt. (let h = numbered_there b.all b.threads (thread_blocks script.decls) t (known script).threads (omega (arith, code_threads script, named)) in omega (arith, h, length-map b.all (flat.flat 0)));
+      };
+    }
+
+-- ---- and all threads stand right, as none does
+
+none_runs : (ds : List ThreadDecl) (t : ℕ) → is_runnable (slice_index_or (map (thread_opened {P = Cursor}) ds) t no_thread).status ≡ false
+none_runs [] t = refl
+none_runs (d ∷ ds) zero = refl
+none_runs (d ∷ ds) (suc t) = none_runs ds t
+
+abbrev none : List ℕ
+none = []
+
+empty_at : (n i : ℕ) → slice_index_or (replicate n none) i none ≡ none
+empty_at zero i = refl
+empty_at (suc n) zero = refl
+empty_at (suc n) (suc i) = empty_at n i
+
+no_times : (t : ℕ) (us : List ℕ) → us ≡ none → times t us ≡ 0
+no_times t us e = ap (times t) e
+
+not_both : {X : Type 0} (b : Bool) → b ≡ false → b ≡ true → X
+not_both b off on = let a : true ≡ false = sym on ∙ off in absurd cc
+
+pub stood_opening : (script : Script) → HavePriorities (opening {P = Cursor} script) → StoodRight (opening {P = Cursor} script)
+stood_opening script fits = record {
+  every = refl;
+  within = λ t. (let s = fits.small t in omega (arith, s));
+  positive = λ t runs. not_both _ (none_runs (threads_of script) t) runs;
+  runs = λ t i runs. not_both _ (none_runs (threads_of script) t) runs;
+  others = λ t i off. no_times t (slice_index_or (replicate 255 none) i none) (empty_at 255 i);
+}

@@ -1,0 +1,6 @@
+pub mod Kernel
+pub mod Tied
+pub mod View
+pub mod Settled
+pub mod Stood
+pub mod Due

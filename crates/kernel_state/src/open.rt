@@ -1,0 +1,96 @@
+// The kernel of a script.
+ghost use Rattle.std.specs.Prelude.{◌≡◌, ◌≤◌, ◌<◌, ◌+◌, ◌++◌, map, length, option_to_list, IfOk};
+ghost use Rattle.machine_rules.specs.Declarations.{declared_thread, threads_of};
+ghost use Rattle.machine_rules.specs.Machine.{names_of};
+ghost use Rattle.thread_blocks.specs.Opening.{with_name};
+ghost use Rattle.kernel_state.specs.Kernel.{Kernel, opened};
+ghost use Rattle.machine_flat.specs.Runnable.{IsRunnable};
+ghost use Rattle.kernel_state.specs.Settled.{HavePriorities};
+
+use crate::parts::Parts;
+use arrayvec::ArrayVec;
+use machine_rules::LastDispatch;
+use pse52_trace::Names;
+use ready_lists::Ready;
+use script_flat::Code;
+use script_tree::{Decl, Kind, Script};
+use std::alloc::{AllocError, Global};
+use thread_blocks::Threads;
+use tick_num::{Tick, Tid};
+
+fn tid_of(place: usize) -> Tid
+    requires { place < 256 }
+    ensures { result ≡ place }
+{
+    match Tid::try_new(place as u16) {
+        Some(t) => t,
+        None => unreachable!(),
+    }
+}
+
+// A thread that is declared there has the next name; the number of the name after it.
+fn add_name(names: &mut Names, t: usize, decl: &Decl) -> usize
+    requires room { t + length (option_to_list (declared_thread decl.now)) ≤ length names.old }
+    requires few { length names.old ≤ 64 }
+    ensures names { names.new ≡ with_name names.old t (declared_thread decl.now) }
+    ensures next { result ≡ t + length (option_to_list (declared_thread decl.now)) }
+{
+    match decl {
+        Decl::Named(name, Kind::Thread { .. }) => {
+            names.set(tid_of(t), name.bytes());
+            t + 1
+        }
+        _ => t,
+    }
+}
+
+/// The names of a script's threads, which are that many.
+fn open_names(alloc: Global, script: &Script, threads: u16) -> Result<Names, AllocError>
+    requires all { threads ≡ length (threads_of script.now) }
+    requires few { threads ≤ 64 }
+    ensures { IfOk result (λ names. names ≡ names_of script.now) }
+{
+    let mut names = Names::open(alloc, threads)?;
+    let mut t = 0;
+    for decl in script.decls.items() {
+        t = add_name(&mut names, t, decl);
+    }
+    Ok(names)
+}
+
+impl Parts {
+    /// The kernel of a script, before the first tick. It takes all memory that the run needs.
+    pub fn open(alloc: Global, script: &Script) -> Result<Parts, AllocError>
+        requires { IsRunnable script.now }
+        ensures { IfOk result (λ k. k ≡ opened script.now) }
+    {
+        let threads = Threads::open(alloc, script)?;
+        let names = open_names(alloc, script, threads.count())?;
+        let code = Code::open(alloc, script)?;
+        let ready = Ready::open(alloc, threads.count())?;
+        Ok(Parts {
+            code,
+            names,
+            threads,
+            ready,
+            semaphores: Vec::new(alloc),
+            quantum: script.quantum,
+            instant: Tick::default(),
+            last: LastDispatch::NoTick,
+            next_serial: 0,
+            killed: None,
+            direct: ArrayVec::new(),
+        })
+    }
+
+    /// All priorities are in their range.
+    pub fn know_priorities(&self)
+        ensures { HavePriorities self.now.machine }
+    {
+        for number in 0..self.count() {
+            let p = self.exec(self.tid(number));
+            let _ = p.get();
+        }
+        self.fits();
+    }
+}

@@ -1,0 +1,183 @@
+// Answers, waits and wakes.
+ghost use Rattle.std.specs.Prelude.{◌≡◌, ◌≤◌, ◌<◌, ◌+◌, ◌^◌, ◌∷◌, [], length};
+ghost use Rattle.pse52_trace.specs.declared.event.Event.TheVariants as event;
+ghost use Rattle.pse52_trace.specs.Text.{IsNamed};
+ghost use Rattle.pse52_trace.specs.Tells.{Tells};
+ghost use Rattle.sporadic_server.specs.Server.{activate};
+ghost use Rattle.machine_rules.specs.Threads.{can_run, thread_at};
+ghost use Rattle.machine_rules.specs.Turns.{answered, changes, moves, returns, takes_serial, tells, ◌▷◌};
+ghost use Rattle.machine_rules.specs.Servers.{activates, activates_if_high, with_server};
+ghost use Rattle.machine_rules.specs.Waking.{blocks, blocks_unordered, put_to_wait, starts, wakes, wakes_telling, woken};
+ghost use Rattle.thread_blocks.specs.Plain.{wait_of, waiting_of};
+ghost use Rattle.thread_blocks.specs.Unused.{IsUnused};
+ghost use Rattle.machine_flat.specs.FlatBodies.{flat_bodies};
+ghost use Rattle.kernel_state.specs.Kernel.{Kernel, after, by, told, activates_now, starts_telling};
+
+use crate::parts::Parts;
+use machine_rules::call_name;
+use pse52_trace::{Event, Tracer};
+use rt_io::Sink;
+use script_tree::Call;
+use thread_blocks::{Wait, Waiting};
+use tick_num::{Res, SigSet, Tick, Tid};
+
+impl Parts {
+    /// The caller's call returns.
+    pub fn returns<K: Sink>(
+        &mut self,
+        t: Tid,
+        call: &Call,
+        res: Res,
+        value: u64,
+        out: &mut Tracer<'_, K>,
+    )
+        requires { t < length self.old.names }
+        ensures state { self.new ≡ after (returns (by t call.now) res value) self.old }
+        ensures told { Tells K.text K.faults self.old.names out.old out.new (told (returns (by t call.now) res value) self.old) }
+    {
+        self.answer_thread(t, res, value);
+        self.tell(&Event::Return(t, call_name(call), res, value), out);
+    }
+
+    /// The caller blocks; its wait takes the next serial.
+    pub fn block(&mut self, t: Tid, call: &Call, wait: Wait, due: Option<Tick>)
+        requires known { t < length self.old.names }
+        requires serial { self.old.machine.next_serial < 2 ^ 63 }
+        ensures { self.new ≡ after (blocks (by t call.now) (wait_of wait) due) self.old }
+    {
+        let serial = self.take_serial();
+        self.block_thread(
+            t,
+            Waiting {
+                wait,
+                serial,
+                due,
+                call: *call,
+            },
+        );
+    }
+
+    /// A wait with no order among its waiters.
+    pub fn block_unordered(&mut self, t: Tid, call: &Call, wait: Wait, due: Option<Tick>)
+        requires { t < length self.old.names }
+        ensures { self.new ≡ after (blocks_unordered (by t call.now) (wait_of wait) due) self.old }
+    {
+        self.block_thread(
+            t,
+            Waiting {
+                wait,
+                serial: 0,
+                due,
+                call: *call,
+            },
+        );
+    }
+
+    // The activation time of a server with that capacity is now.
+    fn activate_now<K: Sink>(&mut self, t: Tid, capacity: u64, out: &mut Tracer<'_, K>)
+        requires known { t < length self.old.names }
+        requires unused { IsUnused (thread_at self.old.machine t).server }
+        requires early { self.old.machine.now ≤ 10 ^ 18 }
+        ensures state { self.new ≡ after (activates_now t capacity) self.old }
+        ensures told { Tells K.text K.faults self.old.names out.old out.new (told (activates_now t capacity) self.old) }
+    {
+        self.activate_thread(t);
+        self.tell(&Event::Activate(t, capacity), out);
+    }
+
+    /// A thread whose assigned priority is the high one is activated.
+    pub fn activate_if_high<K: Sink>(&mut self, t: Tid, out: &mut Tracer<'_, K>)
+        requires known { t < length self.old.names }
+        requires unused { IsUnused (thread_at self.old.machine t).server }
+        requires early { self.old.machine.now ≤ 10 ^ 18 }
+        ensures state { self.new ≡ after (activates_if_high t) self.old }
+        ensures told { Tells K.text K.faults self.old.names out.old out.new (told (activates_if_high t) self.old) }
+    {
+        match self.high_capacity(t) {
+            None => return,
+            Some(capacity) => self.activate_now(t, capacity, out),
+        }
+    }
+
+    /// A blocked thread is runnable again, with its answer.
+    pub fn wake_telling<K: Sink>(
+        &mut self,
+        e: &Event,
+        t: Tid,
+        res: Res,
+        value: u64,
+        out: &mut Tracer<'_, K>,
+    )
+        requires known { t < length self.old.names }
+        requires named { IsNamed self.old.names e.now }
+        requires room { length self.old.direct < 256 }
+        requires unused { IsUnused (thread_at self.old.machine t).server }
+        requires early { self.old.machine.now ≤ 10 ^ 18 }
+        ensures state { self.new ≡ after (wakes_telling e.now t res value) self.old }
+        ensures told { Tells K.text K.faults self.old.names out.old out.new (told (wakes_telling e.now t res value) self.old) }
+    {
+        self.wake_thread(t, res, value);
+        self.move_later(t);
+        self.tell(e, out);
+        self.activate_if_high(t, out);
+    }
+
+    /// A blocked thread wakes, and its call returns.
+    pub fn wake<K: Sink>(&mut self, t: Tid, res: Res, value: u64, out: &mut Tracer<'_, K>)
+        requires known { t < length self.old.names }
+        requires room { length self.old.direct < 256 }
+        requires unused { IsUnused (thread_at self.old.machine t).server }
+        requires early { self.old.machine.now ≤ 10 ^ 18 }
+        ensures state { self.new ≡ after (wakes t res value) self.old }
+        ensures told { Tells K.text K.faults self.old.names out.old out.new (told (wakes t res value) self.old) }
+    {
+        let call = self.waiting_call(t);
+        self.wake_telling(
+            &Event::Return(t, call_name(&call), res, value),
+            t,
+            res,
+            value,
+            out,
+        );
+    }
+
+    // A dormant thread is runnable at the beginning of its body.
+    fn start_telling<K: Sink>(&mut self, t: Tid, mask: SigSet, out: &mut Tracer<'_, K>)
+        requires known { t < length self.old.names }
+        requires room { length self.old.direct < 256 }
+        requires early { self.old.machine.now ≤ 10 ^ 18 }
+        ensures state { self.new ≡ after (starts_telling (flat_bodies self.old.code) t mask) self.old }
+        ensures told { Tells K.text K.faults self.old.names out.old out.new (told (starts_telling (flat_bodies self.old.code) t mask) self.old) }
+        ensures unused { IsUnused (thread_at self.new.machine t).server }
+    {
+        self.start_thread(t, mask);
+        self.move_later(t);
+        self.tell(&Event::Start(t), out);
+    }
+
+    /// A thread that has a server is activated.
+    pub fn activate<K: Sink>(&mut self, t: Tid, out: &mut Tracer<'_, K>)
+        requires known { t < length self.old.names }
+        requires unused { IsUnused (thread_at self.old.machine t).server }
+        requires early { self.old.machine.now ≤ 10 ^ 18 }
+        ensures state { self.new ≡ after (activates t) self.old }
+        ensures told { Tells K.text K.faults self.old.names out.old out.new (told (activates t) self.old) }
+    {
+        match self.capacity(t) {
+            None => return,
+            Some(capacity) => self.activate_now(t, capacity, out),
+        }
+    }
+
+    /// A dormant thread starts.
+    pub fn start<K: Sink>(&mut self, t: Tid, mask: SigSet, out: &mut Tracer<'_, K>)
+        requires known { t < length self.old.names }
+        requires room { length self.old.direct < 256 }
+        requires early { self.old.machine.now ≤ 10 ^ 18 }
+        ensures state { self.new ≡ after (starts (flat_bodies self.old.code) t mask) self.old }
+        ensures told { Tells K.text K.faults self.old.names out.old out.new (told (starts (flat_bodies self.old.code) t mask) self.old) }
+    {
+        self.start_telling(t, mask, out);
+        self.activate(t, out);
+    }
+}

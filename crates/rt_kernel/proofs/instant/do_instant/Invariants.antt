@@ -1,0 +1,15 @@
+use Rattle.std.proofs.Common.{◌≡◌, ℕ, []}
+use Rattle.pse52_trace.specs.Tells.{Tells}
+use Rattle.machine_rules.specs.DueItems.{items_done}
+use Rattle.machine_rules.proofs.Coming.{coming}
+use Rattle.machine_flat.specs.FlatBodies.{flat_bodies}
+use Rattle.kernel_state.specs.Kernel.{Kernel, after, told}
+use Rattle.kernel_state.specs.Stood.{StoodRight}
+use Rattle.rt_kernel.proofs.Halfway.{Halfway}
+use Rattle.rt_kernel.proofs.instant.do_instant.Given as goal
+
+abbrev pub invariant-items : goal.invariant-items
+invariant-items g l = Halfway g.K.Sink.text g.K.Sink.faults l.initial.p l.p l.initial.out l.out
+
+abbrev pub decreases-items : goal.decreases-items
+decreases-items g l = coming l.p.machine

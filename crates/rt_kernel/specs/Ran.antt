@@ -1,0 +1,14 @@
+-- A kernel after some ticks, and the text of a run.
+use Rattle.std.specs.Prelude.{ℕ, List, ◌++◌}
+use Rattle.pse52_trace.specs.Text.{lines}
+use Rattle.machine_rules.specs.Machine.{closing}
+use Rattle.machine_rules.specs.Runs.{ticks}
+use Rattle.machine_flat.specs.FlatBodies.{flat_bodies}
+use Rattle.kernel_state.specs.Kernel.{Kernel}
+
+abbrev pub after_ticks : ℕ → Kernel → Kernel
+after_ticks n k = record k { machine = (ticks (flat_bodies k.code) n k.machine).machine }
+
+-- the text of a run of n ticks, with the closing lines
+abbrev pub run_text : Kernel → ℕ → List ℕ
+run_text k n = let done = ticks (flat_bodies k.code) n k.machine in lines k.names done.events ++ closing k.names done.machine

@@ -1,0 +1,30 @@
+// The items of an instant.
+ghost use Rattle.std.specs.Prelude.{◌≡◌, ◌≤◌, ◌^◌, [], length};
+ghost use Rattle.pse52_trace.specs.Tells.{Tells};
+ghost use Rattle.machine_rules.specs.DueItems.{instant};
+ghost use Rattle.machine_flat.specs.FlatBodies.{flat_bodies};
+ghost use Rattle.rt_kernel.specs.Fits.{ItemsFit};
+ghost use Rattle.kernel_state.specs.Kernel.{Kernel, after, told};
+ghost use Rattle.kernel_state.specs.Stood.{StoodRight};
+
+use kernel_events::do_item;
+use kernel_state::Parts;
+use pse52_trace::Tracer;
+use rt_io::Sink;
+
+/// All items of the instant.
+pub(crate) fn do_instant<K: Sink>(p: &mut Parts, out: &mut Tracer<'_, K>)
+    requires quiet { p.old.direct ≡ [] }
+    requires stood { StoodRight p.old.machine }
+    requires fits { ItemsFit p.old (length p.old.names) }
+    requires early { p.old.machine.now ≤ 10 ^ 18 }
+    ensures state { p.new ≡ after (instant (flat_bodies p.old.code)) p.old }
+    ensures told { Tells K.text K.faults p.old.names out.old out.new (told (instant (flat_bodies p.old.code)) p.old) }
+    ensures stood { StoodRight p.new.machine }
+    ensures quiet { p.new.direct ≡ [] }
+    ensures time { p.new.machine.now ≡ p.old.machine.now }
+{
+    'items: while let Some(i) = p.next_item() {
+        do_item(p, i, out);
+    }
+}

@@ -1,0 +1,60 @@
+// A run.
+ghost use Rattle.std.specs.Prelude.{◌≡◌, ◌≤◌, ◌<◌, ◌+◌, ◌-◌, ◌^◌, [], length, true, false};
+ghost use Rattle.pse52_trace.specs.Tells.{Tells};
+ghost use Rattle.machine_rules.specs.Runs.{ticks};
+ghost use Rattle.machine_flat.specs.FlatBodies.{flat_bodies};
+ghost use Rattle.rt_kernel.specs.Fits.{StaysFit};
+ghost use Rattle.kernel_state.specs.Kernel.{Kernel};
+ghost use Rattle.kernel_state.specs.Stood.{StoodRight};
+
+use kernel_state::Parts;
+use crate::ticks::do_tick;
+use pse52_trace::Tracer;
+use rt_io::Sink;
+use std::sync::ledger::Ledger;
+use step_counter::Steps;
+use tick_num::Tick;
+
+/// How a run ended.
+#[derive(Clone, Copy, Debug, PartialEq, Eq)]
+pub enum RunEnd {
+    /// The horizon was reached.
+    Ended,
+    /// A write failed.
+    Stopped,
+}
+
+/// Runs tick by tick to the horizon, or until a write fails, and adds one to the steps for each tick.
+#[tactic(auto, using(crate::proofs::Running::still_fits))]
+pub(crate) fn run_ticks<K: Sink, L: Ledger>(
+    p: &mut Parts,
+    horizon: Tick,
+    out: &mut Tracer<'_, K>,
+    steps: &mut Steps<L>,
+) -> RunEnd
+    requires ahead { p.old.machine.now ≤ horizon }
+    requires limit { horizon ≤ 10 ^ 18 }
+    requires unfailed { out.old.failed ≡ false }
+    requires quiet { p.old.direct ≡ [] }
+    requires stood { StoodRight p.old.machine }
+    requires fits { StaysFit p.old (length p.old.names) }
+    ensures state { result ≡ RunEnd.Ended
+        → p.new ≡ record p.old { machine = (ticks (flat_bodies p.old.code) (horizon - p.old.machine.now) p.old.machine).machine } }
+    ensures told { Tells K.text K.faults p.old.names out.old out.new (ticks (flat_bodies p.old.code) (horizon - p.old.machine.now) p.old.machine).events }
+    ensures ended { result ≡ RunEnd.Ended → out.new.failed ≡ false }
+    ensures stopped { result ≡ RunEnd.Stopped → out.new.failed ≡ true }
+    ensures stood { StoodRight p.new.machine }
+    ensures quiet { p.new.direct ≡ [] }
+    ensures fits { StaysFit p.new (length p.new.names) }
+    ensures later { p.old.machine.now ≤ p.new.machine.now }
+    ensures not_beyond { p.new.machine.now ≤ horizon }
+{
+    for k in 0..horizon.get() - p.instant().get() {
+        do_tick(p, out);
+        steps.tick();
+        if out.failed() {
+            return RunEnd::Stopped;
+        }
+    }
+    RunEnd::Ended
+}

@@ -1,0 +1,80 @@
+// The rule of the tick's end.
+ghost use Rattle.std.specs.Prelude.{◌≡◌, ◌≤◌, ◌<◌, ◌+◌, [], length};
+ghost use Rattle.pse52_trace.specs.Tells.{Tells};
+ghost use Rattle.machine_rules.specs.Servers.{plans};
+ghost use Rattle.machine_rules.specs.Threads.{can_run, thread_at};
+ghost use Rattle.machine_rules.specs.Ticks.{consumed_in, ends_tick, exhausting, slicing, tick_end, tick_ends};
+ghost use Rattle.thread_blocks.specs.Ends.{end_of};
+ghost use Rattle.kernel_state.specs.Kernel.{Kernel, after, told};
+ghost use Rattle.kernel_state.specs.Stood.{StoodRight};
+
+use kernel_state::Parts;
+use pse52_trace::{Event, Tracer};
+use rt_io::Sink;
+use thread_blocks::TickEnd;
+use tick_num::Tid;
+
+// The round robin interval is used up: the thread goes to the tail.
+fn use_slice(p: &mut Parts, t: Tid)
+    requires known { t < length p.old.names }
+    requires quiet { p.old.direct ≡ [] }
+    ensures { p.new ≡ after (ends_tick slicing t) p.old }
+{
+    let runs = p.is_runnable(t);
+    p.clear_slice(t);
+    if runs {
+        p.move_later(t);
+    }
+}
+
+// What was consumed becomes a pending replenishment.
+fn plan<K: Sink>(p: &mut Parts, t: Tid, out: &mut Tracer<'_, K>)
+    requires known { t < length p.old.names }
+    requires used { 1 ≤ consumed_in (thread_at p.old.machine t).server }
+    ensures state { p.new ≡ after (plans t) p.old }
+    ensures told { Tells K.text K.faults p.old.names out.old out.new (told (plans t) p.old) }
+{
+    let r = p.plan_thread(t);
+    p.tell(&Event::Plan(t, r.amount, r.due), out);
+}
+
+// The capacity is used up.
+fn exhaust<K: Sink>(p: &mut Parts, t: Tid, out: &mut Tracer<'_, K>)
+    requires known { t < length p.old.names }
+    requires quiet { p.old.direct ≡ [] }
+    requires used { 1 ≤ consumed_in (thread_at p.old.machine t).server }
+    ensures state { p.new ≡ after (ends_tick exhausting t) p.old }
+    ensures told { Tells K.text K.faults p.old.names out.old out.new (told (ends_tick exhausting t) p.old) }
+{
+    p.tell(&Event::Exhaust(t), out);
+    plan(p, t, out);
+    p.move_unless_boosted(t);
+}
+
+// The rule of the tick's end, before its moves.
+fn end_by_rule<K: Sink>(p: &mut Parts, was_high: bool, t: Tid, out: &mut Tracer<'_, K>)
+    requires known { t < length p.old.names }
+    requires quiet { p.old.direct ≡ [] }
+    ensures state { p.new ≡ after (ends_tick (tick_end was_high p.old.machine.quantum (thread_at p.old.machine t)) t) p.old }
+    ensures told { Tells K.text K.faults p.old.names out.old out.new (told (ends_tick (tick_end was_high p.old.machine.quantum (thread_at p.old.machine t)) t) p.old) }
+{
+    match p.tick_end(t, was_high) {
+        TickEnd::Planning => plan(p, t, out),
+        TickEnd::Exhausting => exhaust(p, t, out),
+        TickEnd::Slicing => use_slice(p, t),
+        TickEnd::Nothing => return,
+    }
+}
+
+/// The rule of the tick's end, with its moves.
+pub(crate) fn end_tick<K: Sink>(p: &mut Parts, was_high: bool, t: Tid, out: &mut Tracer<'_, K>)
+    requires known { t < length p.old.names }
+    requires quiet { p.old.direct ≡ [] }
+    requires stood { StoodRight p.old.machine }
+    ensures state { p.new ≡ after (tick_ends was_high t) p.old }
+    ensures told { Tells K.text K.faults p.old.names out.old out.new (told (tick_ends was_high t) p.old) }
+    ensures stood { StoodRight p.new.machine }
+{
+    end_by_rule(p, was_high, t, out);
+    p.settle();
+}

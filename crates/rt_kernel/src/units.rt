@@ -1,0 +1,117 @@
+// One tick of a thread's unit.
+ghost use Rattle.std.specs.Prelude.{◌≡◌, ◌≤◌, ◌<◌, ◌^◌, [], length, false};
+ghost use Rattle.pse52_trace.specs.Tells.{Tells};
+ghost use Rattle.script_flat.specs.declared.unit.Unit.{Unit};
+ghost use Rattle.script_flat.specs.declared.unit.Unit.TheVariants as unit;
+ghost use Rattle.machine_rules.specs.declared.frame.FrameKind.TheVariants as frame;
+ghost use Rattle.machine_rules.specs.Cancellation.{request_acts};
+ghost use Rattle.machine_rules.specs.Calls.{makes_call, unit_effect};
+ghost use Rattle.machine_rules.specs.Lives.{ends, finishes};
+ghost use Rattle.machine_rules.specs.State.{nobody};
+ghost use Rattle.machine_rules.specs.Threads.{thread_at, top_kind};
+ghost use Rattle.machine_rules.specs.Ticks.{completes, later, tick_charged, unit_ticked};
+ghost use Rattle.machine_rules.specs.Turns.{becomes, changes, ◌▷◌};
+ghost use Rattle.machine_rules.specs.Units.{in_unit};
+ghost use Rattle.machine_flat.specs.FlatBodies.{flat_bodies};
+ghost use Rattle.machine_flat.specs.Placed.{ArePlaced};
+ghost use Rattle.thread_blocks.specs.Room.{HasRoom};
+ghost use Rattle.rt_kernel.specs.Completes.{CanComplete};
+ghost use Rattle.rt_kernel.specs.Fits.{FitsThread};
+ghost use Rattle.kernel_state.specs.Kernel.{Kernel, after, by, told};
+ghost use Rattle.kernel_state.specs.Stood.{StoodRight};
+
+use kernel_events::make_call;
+use kernel_state::Parts;
+use pse52_trace::{Event, Tracer};
+use rt_io::Sink;
+use script_flat::Unit;
+use script_tree::Call;
+use tick_num::Tid;
+
+// The unit that a thread is in, with a tick of it charged.
+fn charge_unit(p: &mut Parts, t: Tid) -> Unit
+    requires known { t < length p.old.names }
+    requires goes_on { (thread_at p.old.machine t).is_ending ≡ false }
+    requires placed { ArePlaced p.old.code (thread_at p.old.machine t).frames }
+    requires room { HasRoom (thread_at p.old.machine t) }
+    requires early { p.old.machine.now < 10 ^ 18 }
+    ensures unit { result ≡ (in_unit (flat_bodies p.old.code) (thread_at p.old.machine t)).unit }
+    ensures state { p.new ≡ after (λ s. s ▷ changes t (λ th. tick_charged (in_unit (flat_bodies p.old.code) (thread_at p.old.machine t)).thread) ▷ becomes later) p.old }
+    ensures thread { thread_at p.new.machine t ≡ tick_charged (in_unit (flat_bodies p.old.code) (thread_at p.old.machine t)).thread }
+{
+    let unit = p.tick_thread(t);
+    p.wait_tick();
+    unit
+}
+
+// A thread ends that nobody waits for.
+fn end<K: Sink>(p: &mut Parts, t: Tid, out: &mut Tracer<'_, K>)
+    requires known { t < length p.old.names }
+    requires alone { (thread_at p.old.machine t).joiner ≡ nobody }
+    ensures state { p.new ≡ after (ends t) p.old }
+    ensures told { Tells K.text K.faults p.old.names out.old out.new (told (ends t) p.old) }
+{
+    p.end_thread(t);
+    p.tell(&Event::Exit(t), out);
+    p.drop_pending(t);
+}
+
+// A call is made, where no request for cancellation acts in its place.
+fn make<K: Sink>(p: &mut Parts, t: Tid, call: &Call, out: &mut Tracer<'_, K>)
+    requires known { t < length p.old.names }
+    requires can { CanComplete (length p.old.names) (thread_at p.old.machine t) (unit.Make call.now) }
+    requires room { length p.old.direct < 256 }
+    requires early { p.old.machine.now ≤ 10 ^ 18 }
+    ensures state { p.new ≡ after (makes_call (flat_bodies p.old.code) (by t call.now)) p.old }
+    ensures told { Tells K.text K.faults p.old.names out.old out.new (told (makes_call (flat_bodies p.old.code) (by t call.now)) p.old) }
+{
+    make_call(p, t, call, out);
+}
+
+// What a unit does once it is complete.
+fn complete<K: Sink>(p: &mut Parts, t: Tid, unit: &Unit, out: &mut Tracer<'_, K>)
+    requires known { t < length p.old.names }
+    requires can { CanComplete (length p.old.names) (thread_at p.old.machine t) unit.now }
+    requires room { length p.old.direct < 256 }
+    requires early { p.old.machine.now ≤ 10 ^ 18 }
+    ensures state { p.new ≡ after (unit_effect (flat_bodies p.old.code) t unit.now) p.old }
+    ensures told { Tells K.text K.faults p.old.names out.old out.new (told (unit_effect (flat_bodies p.old.code) t unit.now) p.old) }
+{
+    match unit {
+        Unit::Run(_) => return,
+        Unit::Make(call) => make(p, t, call, out),
+        Unit::Jump => return,
+        Unit::Finish => end(p, t, out),
+    }
+}
+
+// The effect of the unit, where no tick of it is left.
+fn complete_at_end<K: Sink>(p: &mut Parts, t: Tid, unit: &Unit, out: &mut Tracer<'_, K>)
+    requires known { t < length p.old.names }
+    requires can { CanComplete (length p.old.names) (thread_at p.old.machine t) unit.now }
+    requires room { length p.old.direct < 256 }
+    requires early { p.old.machine.now ≤ 10 ^ 18 }
+    ensures state { p.new ≡ after (completes (flat_bodies p.old.code) t unit.now) p.old }
+    ensures told { Tells K.text K.faults p.old.names out.old out.new (told (completes (flat_bodies p.old.code) t unit.now) p.old) }
+{
+    if p.left(t) == 0 {
+        complete(p, t, unit, out);
+    }
+}
+
+/// A tick of a thread's unit: the charge, the effect, and the moves of both.
+#[tactic(auto, using(crate::proofs::Opened::room_within))]
+pub(crate) fn tick_unit<K: Sink>(p: &mut Parts, t: Tid, out: &mut Tracer<'_, K>)
+    requires known { t < length p.old.names }
+    requires quiet { p.old.direct ≡ [] }
+    requires stood { StoodRight p.old.machine }
+    requires fits { FitsThread (length p.old.names) p.old.code p.old.machine.now (thread_at p.old.machine t) }
+    requires early { p.old.machine.now < 10 ^ 18 }
+    ensures state { p.new ≡ after (λ s. s ▷ unit_ticked (flat_bodies p.old.code) s.machine t (in_unit (flat_bodies p.old.code) (thread_at s.machine t))) p.old }
+    ensures told { Tells K.text K.faults p.old.names out.old out.new (told (λ s. s ▷ unit_ticked (flat_bodies p.old.code) s.machine t (in_unit (flat_bodies p.old.code) (thread_at s.machine t))) p.old) }
+    ensures stood { StoodRight p.new.machine }
+{
+    let unit = charge_unit(p, t);
+    complete_at_end(p, t, &unit, out);
+    p.settle();
+}
