@@ -4,11 +4,11 @@ from __future__ import annotations
 from random import Random
 from typing import Callable
 
-import generate
 from forms import (
     BARRED_FROM_HANDLERS_AND_CLEANUPS, DECLARED, FORMS, OPERAND, RANGES, SIGNAL, SIGNAL_SET, USES, Form, Role, Stage,
     built_forms)
 from reader import read
+from writer import accepted
 
 _GREATEST = 10**18
 Text = list[str]
@@ -50,7 +50,7 @@ def ending(draw: Random, lines: Text) -> bytes:
 
 def changed(draw: Random, stage: Stage) -> Text:
     """An accepted script after one to three changes."""
-    lines = generate.accepted(draw.randrange(10**9), stage)[0].decode().split("\n")[:-1]
+    lines = accepted(draw.randrange(10**9), stage)[0].decode().split("\n")[:-1]
     if draw.random() < 0.5:
         lines = [line for part in some_parts(draw, lines) for line in part]
     for _ in range(draw.choice((1, 1, 2, 3))):
@@ -161,7 +161,7 @@ def filled(draw: Random, form: Form, lines: Text) -> str:
 
 def late(draw: Random, stage: Stage) -> Text:
     """An accepted script whose lines keep their forms, so that names, ranges or the end are at fault."""
-    lines = generate.accepted(draw.randrange(10**9), stage)[0].decode().split("\n")[:-1]
+    lines = accepted(draw.randrange(10**9), stage)[0].decode().split("\n")[:-1]
     for _ in range(draw.choice((1, 1, 2, 3))):
         change = draw.choice((number_passed, number_passed, name_swapped, name_swapped, part_twice, end_lost, cut_off,
                               threads_lost, server_changed, server_changed))

@@ -12,7 +12,7 @@ from typing import TYPE_CHECKING, Callable
 from forms import Stage
 
 if TYPE_CHECKING:
-    from generate import ScriptWriter
+    from writer import ScriptWriter
 
 CAST = "as "
 SELF = "SELF"

@@ -1,4 +1,5 @@
 pub mod Statuses
 pub mod Command
 pub mod Answer
+pub mod Taken
 pub mod HeadRuns

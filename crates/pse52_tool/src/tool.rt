@@ -1,7 +1,9 @@
 // The top call.
 ghost use Rattle.std.specs.Prelude.{◌≡◌, ◌≤◌, ◌<◌, ◌^◌, ◌⊎◌, List, ℕ, Option, None, Some, true, false, Ok, length, map, string_bytes, IfSome, IsSome, OnOk, OnErr};
 ghost use Rattle.std.specs.Io.KnownBytes.{Appends, IsAtEnd};
+ghost use Rattle.rt_io.specs.Bytes.{AppendsPart};
 ghost use Rattle.rt_io.specs.Causes.{Rose, GrewBy};
+ghost use Rattle.rt_io.specs.Whole.{TookAtMost};
 ghost use Rattle.pse52_trace.specs.Prints.{Prints};
 ghost use Rattle.script_table.specs.Table.{patterns};
 ghost use Rattle.script_table.specs.Read.{read};
@@ -11,7 +13,8 @@ ghost use Rattle.rt_kernel.specs.Simulated.{run_text};
 ghost use Rattle.script_tree.specs.declared.decl.Script.{Script};
 ghost use Rattle.pse52_tool.specs.Command.{command};
 ghost use Rattle.pse52_tool.specs.HeadRuns.{HeadRuns};
-ghost use Rattle.pse52_tool.specs.Answer.{answer, run_answer, usage_line, Told, SinkFaults, IsLine};
+ghost use Rattle.pse52_tool.specs.Answer.{answer, run_answer, usage_line, too_long_line, Told, SinkFaults, IsLine};
+ghost use Rattle.pse52_tool.specs.Taken.{Answered, ReadToItsEnd};
 
 use crate::Status;
 use crate::command::command;
@@ -137,7 +140,7 @@ fn run_text<K: Sink, L: Ledger>(
 /// machine. `Usage` comes exactly where the words are no command, whose decision takes no memory; then `ReadFault` or
 /// `TooLong`, by the bytes read; then `Refused`, where the script has a fault; then the run. `OutOfMemory` may come in place of
 /// any but `Usage`, before anything is written; a fault of the source or the sink is answered only where its count of faults
-/// rose in this call.
+/// rose in this call. Nothing is written before the source was read to its end, or to one byte more than the limit.
 #[tactic(auto, using(crate::proofs::HeadRuns::head_runs))]
 pub fn run_tool<S: Source, K: Sink, L: Ledger>(
     alloc: Global,
@@ -150,6 +153,10 @@ pub fn run_tool<S: Source, K: Sink, L: Ledger>(
     ensures told { IfSome (S.rest source.old) (λ bytes.
         Told result (answer (map string_bytes words.now) bytes) (K.text sink.old) (K.text sink.new)) }
 
+    // Whatever it tells, they are those of the answer to some bytes, as many as were taken.
+    ensures answered { Answered (map string_bytes words.now) result (S.rest source.old) (S.rest source.new)
+        (S.taken source.old) (S.taken source.new) (K.text sink.old) (K.text sink.new) }
+
     // In the run of any script, each tick counts for the head of the highest list that is not empty, and for no other thread.
     ensures head_runs { (script : Script) → (k : ℕ) → HeadRuns script k }
 
@@ -158,10 +165,27 @@ pub fn run_tool<S: Source, K: Sink, L: Ledger>(
     ensures usage_text { result ≡ Status.Usage → Appends (K.text sink.old) (K.text sink.new) usage_line }
     ensures no_command { command (map string_bytes words.now) ≡ None
         → ((result ≡ Status.Usage) ⊎ (result ≡ Status.WriteFault)) × (source.new ≡ source.old) }
+    ensures usage_part { command (map string_bytes words.now) ≡ None → result ≡ Status.WriteFault
+        → AppendsPart (K.text sink.old) (K.text sink.new) usage_line }
 
-    // Too long means that one byte more than the limit was taken, and refused or done that all were.
+    // Too long means that one byte more than the limit was taken.
     ensures too_long { result ≡ Status.TooLong → GrewBy 1_048_577 (S.taken source.old) (S.taken source.new) }
+    ensures too_long_text { result ≡ Status.TooLong → Appends (K.text sink.old) (K.text sink.new) too_long_line }
+
+    // Refused or done means that all bytes were taken, which the limit allows.
     ensures read_whole { (result ≡ Status.Refused) ⊎ (result ≡ Status.Done) → IsAtEnd (S.rest source.new) }
+    ensures whole_bytes { (result ≡ Status.Refused) ⊎ (result ≡ Status.Done)
+        → TookAtMost 1_048_576 (S.rest source.old) (S.rest source.new) (S.taken source.old) (S.taken source.new) }
+
+    // A fault of reading comes before the byte past the limit, and nothing is read behind that byte.
+    ensures fault_bytes { result ≡ Status.ReadFault
+        → TookAtMost 1_048_576 (S.rest source.old) (S.rest source.new) (S.taken source.old) (S.taken source.new) }
+    ensures memory_bytes { result ≡ Status.OutOfMemory
+        → TookAtMost 1_048_577 (S.rest source.old) (S.rest source.new) (S.taken source.old) (S.taken source.new) }
+
+    // A write failed where the words are no command, or the source was read before, to its end or past the limit.
+    ensures write_fault { result ≡ Status.WriteFault → IsSome (command (map string_bytes words.now))
+        → ReadToItsEnd (S.rest source.old) (S.rest source.new) (S.taken source.old) (S.taken source.new) }
 
     // A fault is answered only where it was counted, and no other is.
     ensures read_fault { result ≡ Status.ReadFault → Rose (S.faults source.old) (S.faults source.new) }
