@@ -149,7 +149,7 @@ module _ {P : Type 0} (bodies : Bodies P) where
 
   -- ---- a tick
 
-  completes_behind : (left t : ℕ) (unit' : Unit) → AddsBehind (completes_at bodies left t unit')
+  pub completes_behind : (left t : ℕ) (unit' : Unit) → AddsBehind (completes_at bodies left t unit')
   completes_behind zero t unit' told s = unit_effect_behind bodies t unit' told s
   completes_behind (suc left) t unit' told s = refl
 

@@ -1,25 +1,24 @@
 -- The instant counts the ticks: an item leaves it, a tick moves it by one, and a process that has ended stays as it is.
-use Rattle.std.proofs.Common.{Bool, List, None, Option, Some, [], ap, arith, false, refl, suc, sym, true, zero, ℕ, ◌+◌, ◌∷◌, ◌≡◌}
-use Rattle.std.specs.Prelude.{◌&&◌, if◌then◌else◌}
-use mathlib.Core.Path.{subst, ◌∙◌}
+use Rattle.std.proofs.Common.{Bool, None, Option, Some, [], ap, arith, false, refl, suc, true, zero, ℕ, ◌+◌, ◌≡◌}
+use Rattle.std.specs.Prelude.{◌&&◌}
+use mathlib.Core.Path.{◌∙◌}
 use Rattle.tick_num.specs.declared.item.Item.{Item}
 use Rattle.tick_num.specs.declared.item.Item.TheVariants as item
 use Rattle.tick_num.specs.declared.res.Res.TheVariants as res
-use Rattle.script_tree.specs.declared.decl.Script.{Script}
 use Rattle.pse52_trace.specs.declared.event.Event.{Event}
 use Rattle.pse52_trace.specs.declared.event.Event.TheVariants as event
 use Rattle.sporadic_server.specs.Server.{ServerState, oldest_pending, refill}
 use Rattle.machine_rules.specs.declared.thread.CondEnd.TheVariants as cond_end
 use Rattle.machine_rules.specs.Bodies.{Bodies}
-use Rattle.machine_rules.specs.State.{Machine, Wait, Waiting, for_condition, for_end, for_message, for_mutex, for_mutex_again, for_room, for_semaphore, for_signal, for_time}
+use Rattle.machine_rules.specs.State.{Machine, Wait, Waiting, for_condition, for_signal, for_time}
 use Rattle.machine_rules.specs.Threads.{can_run, thread_at, timer_at, waiting_of}
-use Rattle.machine_rules.specs.Turns.{Turn, changes, changes_timer, settles_since, tells, turn_of}
+use Rattle.machine_rules.specs.Turns.{Turn, changes, settles_since, tells, turn_of}
 use Rattle.machine_rules.specs.Servers.{amount_of, refills_for, regains_high, with_server}
-use Rattle.machine_rules.specs.Timers.{is_pending_from, overrun_once_more, record_of_timer, signals_expiry}
+use Rattle.machine_rules.specs.Timers.{is_pending_from, record_of_timer, signals_expiry}
 use Rattle.machine_rules.specs.DueItems.{due_items, first_item, handles, instant, item_bound, item_done, item_then, items_done, next_item, times_out, times_out_of}
 use Rattle.machine_rules.specs.Dispatch.{dispatch_event, dispatches, head, is_same, tells_unless}
 use Rattle.machine_rules.specs.Ticks.{goes_on, runs_head, tick, unless_killed}
-use Rattle.machine_rules.specs.Runs.{Ran, follow, opening, tick_of, ticks}
+use Rattle.machine_rules.specs.Runs.{tick_of}
 use Rattle.machine_rules.proofs.Kept.{Kept, activates_if_kept, if_kept, kept, wakes_kept}
 use Rattle.machine_rules.proofs.KeptByCalls.{contends_kept, generates_kept, starts_kept}
 use Rattle.machine_rules.proofs.Instants.{runs_now, sweeps_now}

@@ -19,6 +19,8 @@ use Rattle.machine_rules.specs.DueItems.{instant}
 use Rattle.machine_rules.specs.Dispatch.{dispatches, head}
 use Rattle.machine_rules.specs.Units.{in_unit}
 use Rattle.machine_rules.specs.Runs.{tick_of, ticks}
+use Rattle.machine_rules.specs.Throughout.{after_items, turn_after}
+use Rattle.machine_rules.specs.GoodState.{is_sporadic}
 
 -- ---- the account of a server
 
@@ -136,6 +138,14 @@ owed period account = owed_since period 0 0 account
 abbrev pub replenishment_in : Plan → Replenish
 replenishment_in p = record { amount = p.amount; due = p.due }
 
+-- whether each plan stands behind an activation; the flag says whether one came before
+abbrev pub plans_follow : Bool → List Posting → Bool
+plans_follow active [] = true
+plans_follow active (used ∷ rest) = plans_follow active rest
+plans_follow active (activated time ∷ rest) = plans_follow true rest
+plans_follow active (planned time r ∷ rest) = active && plans_follow active rest
+plans_follow active (refilled time amount ∷ rest) = plans_follow active rest
+
 -- ---- the law
 
 pub record KeepsAccount (s : ServerState) (account : List Posting) : Type 0 where
@@ -151,9 +161,21 @@ pub record KeepsAccount (s : ServerState) (account : List Posting) : Type 0 wher
   -- each refill came when its plan was due, or at once where that had passed
   pub on_time : refill_times account ≡ take (length (refill_times account)) (map (λ (p : Plan). p.from) (plans_in account))
   -- each plan is of what was consumed since the activation, and due one period after it
+  pub follows : plans_follow false account ≡ true
   pub as_owed : map replenishment_in (plans_in account) ≡ owed s.params.period account
   pub not_empty : All (λ (p : Plan). 1 ≤ p.amount) (plans_in account)
 
--- the law at instant n of a run from an opening state, of each live sporadic thread
-pub record KeepsBudgets {P : Type 0} (bodies : Bodies P) (start : Machine P) (n : ℕ) : Type 0 where
-  pub each : (t : ℕ) (s : ServerState) → (thread_at (ticks bodies n start).machine t).server ≡ Some s → KeepsAccount s (account bodies t start n)
+-- a live sporadic thread has a server
+abbrev pub KeepsServer : Option ServerState → List Posting → Type 0
+KeepsServer None account = ⊥
+KeepsServer (Some s) account = KeepsAccount s account
+
+module _ {P : Type 0} (bodies : Bodies P) (start : Machine P) where
+  -- the account after n ticks and k items of that instant
+  abbrev pub account_after : ℕ → ℕ → ℕ → List Posting
+  account_after t n k = all_posted t (turn_after bodies start n k).events (account bodies t start n)
+
+  -- the law after n ticks of a run from an opening state, and k items of that instant, of each live sporadic thread
+  pub record KeepsBudgets (n k : ℕ) : Type 0 where
+    pub each : (t : ℕ) → lives (after_items bodies start n k) t ≡ true → is_sporadic (thread_at (after_items bodies start n k) t).policy ≡ true →
+        KeepsServer (thread_at (after_items bodies start n k) t).server (account_after t n k)

@@ -20,13 +20,15 @@ use Rattle.machine_rules.specs.Semaphores.{waits_on_semaphore}
 use Rattle.machine_rules.specs.Signals.{is_counted, record_limit}
 use Rattle.machine_rules.specs.Queues.{waits_to_receive, waits_to_send}
 use Rattle.machine_rules.specs.Delivery.{sweeps}
-use Rattle.machine_rules.specs.Runs.{ticks}
+use Rattle.machine_rules.specs.WellFormed.{IsPriority}
+use Rattle.machine_rules.specs.Throughout.{HoldsThroughout}
 
 -- ---- the lists
 
--- Each runnable thread stands once, on the list of its execution priority, and no other thread stands on any.
+-- A runnable thread stands once, on the list of its execution priority, which is one of 1 to 255, and no other thread stands on any.
 pub record ListsAreRight {P : Type 0} (m : Machine P) : Type 0 where
   pub each_priority : length m.lists ≡ 255
+  pub in_range : (t : ℕ) → can_run m t ≡ true → IsPriority (exec m t)
   pub placed : (t p : ℕ) → 1 ≤ p → p ≤ 255 → times t (list_of p m.lists) ≡ (if can_run m t && exec m t == p then 1 else 0)
 
 -- ---- mutexes
@@ -155,6 +157,6 @@ pub record Good {P : Type 0} (bodies : Bodies P) (guards : BodyOf → P → List
   pub cleanups : CleanupsAreRight guards m
   pub swept : m.killed ≡ None → IsSwept bodies m
 
--- Every state of a run is good.
-pub record StaysGood {P : Type 0} (bodies : Bodies P) (guards : BodyOf → P → List ℕ) (start : Machine P) : Type 0 where
-  pub each : (n : ℕ) → Good bodies guards (ticks bodies n start).machine
+-- Every state of a run is good, also those between the items of an instant.
+abbrev pub StaysGood : {P : Type 0} → Bodies P → (BodyOf → P → List ℕ) → Machine P → Type 0
+StaysGood bodies guards start = HoldsThroughout bodies start (Good bodies guards)

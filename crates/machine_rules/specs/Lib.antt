@@ -29,6 +29,9 @@ pub mod Declarations
 pub mod Runs
 pub mod Machine
 pub mod Eventful
-pub mod Budget
+pub mod Agenda
+pub mod WellFormed
+pub mod Throughout
 pub mod GoodState
+pub mod Budget
 pub mod Promises

@@ -5,6 +5,7 @@ use Rattle.script_tree.specs.declared.decl.Script.{Script}
 use Rattle.script_flat.specs.Next.{At, In, Place, steps_from}
 use Rattle.machine_rules.specs.declared.frame.BodyOf.{BodyOf}
 use Rattle.machine_rules.specs.Runs.{opening}
+use Rattle.machine_rules.specs.Eventful.{busy}
 use Rattle.machine_rules.specs.Budget.{KeepsBudgets}
 use Rattle.machine_rules.specs.GoodState.{StaysGood}
 use Rattle.machine_rules.specs.Machine.{block_of, bodies_of}
@@ -24,10 +25,14 @@ guards_round (In i passes place) block = guards_at (guards_round place) (steps_f
 abbrev pub guards_in : Script → BodyOf → Place → List ℕ
 guards_in script body place = guards_round place (block_of script body)
 
--- every state of the run is good
+-- every state of the run is good, also those between the items of an instant
 abbrev pub RunStaysGood : Script → Type 0
 RunStaysGood script = StaysGood (bodies_of script) (guards_in script) (opening script)
 
--- and the law of the budget holds at each instant
+-- and the law of the budget holds in each
 pub record RunKeepsBudgets (script : Script) : Type 0 where
-  pub each : (n : ℕ) → KeepsBudgets (bodies_of script) (opening script) n
+  pub each : (n k : ℕ) → KeepsBudgets (bodies_of script) (opening script) n k
+
+-- how many eventful instants its run has between two instants, neither of them counted
+abbrev pub busy_between : Script → ℕ → ℕ → ℕ
+busy_between script a b = busy (bodies_of script) (opening script) a b

@@ -1,5 +1,8 @@
--- Worked examples. Eventful instants, and the account of a server.
-use Rattle.std.specs.Prelude.{[], ◌∷◌, ◌≡◌, Some, codes, refl}
+-- Worked examples. Eventful instants, what is to come, and the account of a server.
+use Rattle.std.proofs.Common.{List, [], arith, ◌∷◌, ◌≡◌, Some, refl}
+use Rattle.std.specs.Prelude.{codes}
+use Rattle.tick_num.specs.declared.item.Item.TheVariants as item
+use Rattle.sporadic_server.specs.Server.{ServerState}
 use Rattle.script_tree.specs.declared.call.Call.TheVariants as call
 use Rattle.script_tree.specs.declared.policy.Policy.TheVariants as policy
 use Rattle.script_tree.specs.declared.decl.Decl.TheVariants as decl
@@ -8,9 +11,10 @@ use Rattle.script_tree.specs.Block.{Nothing, Running, Making}
 use Rattle.script_tree.specs.declared.decl.Script.{Script}
 use Rattle.machine_rules.specs.Priorities.{exec_in}
 use Rattle.machine_rules.specs.Runs.{opening}
-use Rattle.machine_rules.specs.Machine.{bodies_of}
-use Rattle.machine_rules.specs.Eventful.{busy}
-use Rattle.machine_rules.specs.Budget.{account, activated, planned, refilled, used}
+use Rattle.machine_rules.specs.Machine.{machine, bodies_of}
+use Rattle.machine_rules.specs.Promises.{busy_between}
+use Rattle.machine_rules.specs.Agenda.{agenda, coming_at}
+use Rattle.machine_rules.specs.Budget.{KeepsAccount, Posting, account, account_after, activated, planned, refilled, used}
 use Rattle.machine_rules.proofs.Examples.Servers.{six_high_ticks_in_one_period_script}
 
 abbrev two_sleepers_and_a_runner : Script
@@ -24,7 +28,7 @@ two_sleepers_and_a_runner = record {
 }
 
 -- Of a hundred instants six are eventful: both calls complete, both sleeps end, and both threads finish.
-pub six_eventful_instants_of_a_hundred : busy (bodies_of two_sleepers_and_a_runner) (opening two_sleepers_and_a_runner) 0 100 ≡ 6
+pub six_eventful_instants_of_a_hundred : busy_between two_sleepers_and_a_runner 0 100 ≡ 6
 unfolding exec_in
 six_eventful_instants_of_a_hundred = refl
 
@@ -34,3 +38,28 @@ pub account_of_six_high_ticks : account (bodies_of six_high_ticks_in_one_period_
     ∷ used ∷ used ∷ used ∷ planned 15 (record { amount = 3; due = 22 }) ∷ []
 unfolding exec_in
 account_of_six_high_ticks = refl
+
+-- Between two items of an instant: the refill is made, and is in the account.
+pub account_between_items : account_after (bodies_of six_high_ticks_in_one_period_script) (opening six_high_ticks_in_one_period_script) 0 12 1
+    ≡ activated 2 ∷ used ∷ used ∷ used ∷ planned 12 (record { amount = 3; due = 12 }) ∷ refilled 12 3 ∷ activated 12 ∷ []
+unfolding exec_in
+account_between_items = refl
+
+-- Three ticks after its start the two sleeps are to come, and before it the three starts.
+pub three_starts_are_to_come : agenda (machine two_sleepers_and_a_runner 0) ≡ coming_at (item.Start 0) 0 ∷ coming_at (item.Start 1) 0 ∷ coming_at (item.Start 2) 0 ∷ []
+unfolding exec_in
+three_starts_are_to_come = refl
+
+pub two_sleeps_are_to_come : agenda (machine two_sleepers_and_a_runner 3) ≡ coming_at (item.Timeout 0) 62 ∷ coming_at (item.Timeout 1) 51 ∷ []
+unfolding exec_in
+two_sleeps_are_to_come = refl
+
+-- The account of a plan that no activation stands before.
+abbrev spent : ServerState
+spent = record { params = record { high = 2; low = 1; period = 5; budget = 1; max = 1 }; capacity = 0; activation = 0; consumed = 0; pending = record { amount = 1; due = 5 } ∷ []; high_total = 1; refilled_total = 0 }
+
+abbrev planned_from_nowhere : List Posting
+planned_from_nowhere = used ∷ planned 1 (record { amount = 1; due = 5 }) ∷ []
+
+pub a_plan_follows_an_activation : KeepsAccount spent planned_from_nowhere → ⊥
+a_plan_follows_an_activation law = let none = law.follows in absurd (grind arith)

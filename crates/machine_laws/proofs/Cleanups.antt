@@ -1,0 +1,5 @@
+pub mod Blocks
+pub mod Frames
+pub mod Calls
+pub mod Units
+pub mod Kept

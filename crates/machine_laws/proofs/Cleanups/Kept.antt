@@ -1,0 +1,143 @@
+-- Cleanup handlers are right at every instant of every run, and so is the whole state but for its servers.
+use Rattle.std.proofs.Common.{Bool, List, None, Option, Some, [], ap, arith, false, length, refl, suc, sym, true, zero, ℕ, ◌≤◌, ◌∷◌, ◌≡◌}
+use Rattle.std.specs.Prelude.{map, ◌==◌, if◌then◌else◌}
+use mathlib.Core.Path.{subst, ◌∙◌}
+use Rattle.tick_num.specs.declared.item.Item.{Item}
+use Rattle.script_tree.specs.declared.decl.Script.{Script}
+use Rattle.script_flat.specs.Next.{Place}
+use Rattle.machine_rules.specs.declared.frame.BodyOf.{BodyOf}
+use Rattle.machine_rules.specs.declared.frame.BodyOf.TheVariants as body_of
+use Rattle.machine_rules.specs.Bodies.{Bodies}
+use Rattle.machine_rules.specs.State.{Frame, Machine, Status, Thread, blocked, dormant, ended, runnable}
+use Rattle.machine_rules.specs.Threads.{can_run, is_dormant, is_main, is_runnable, thread_at, thread_in, thread_numbers, top_left}
+use Rattle.machine_rules.specs.Declarations.{ThreadDecl, threads_of}
+use Rattle.machine_rules.specs.Turns.{Turn, settles_since, turn_of}
+use Rattle.machine_rules.specs.Servers.{has_high}
+use Rattle.machine_rules.specs.Delivery.{sweeps}
+use Rattle.machine_rules.specs.DueItems.{handles, instant, item_bound, item_done, item_then, items_done, next_item}
+use Rattle.machine_rules.specs.Dispatch.{dispatches, head}
+use Rattle.machine_rules.specs.Units.{in_unit}
+use Rattle.machine_rules.specs.Ticks.{runs, runs_head, tick_charged, tick_end, tick_ends, unit_ticked, unless_killed}
+use Rattle.machine_rules.specs.GoodState.{CleanupsAreRight, main_guards}
+use Rattle.machine_rules.specs.Promises.{guards_in}
+use Rattle.machine_rules.specs.Runs.{opening, thread_opened, ticks}
+use Rattle.machine_rules.specs.Machine.{bodies_of, machine}
+use Rattle.machine_rules.proofs.ItemsEnd.{next_is_due}
+use Rattle.machine_rules.proofs.Reading.{thread-other, thread-same}
+use Rattle.machine_rules.specs.WellFormed.{IsWellFormed}
+use Rattle.machine_moves.specs.UnitRanges.{BodiesFit}
+use Rattle.machine_laws.specs.GuardedBodies.{BodiesGuarded, most_of}
+use Rattle.machine_moves.proofs.Waiters.Best.{Each, running_within}
+use Rattle.machine_moves.proofs.Runs.Listed.{AllRun, head_can_run}
+use Rattle.machine_moves.proofs.Runs.Units.{bodies_fit}
+use Rattle.machine_moves.proofs.Runs.Ticks.{charged_runs, charged_turn, dispatched}
+use Rattle.machine_moves.proofs.Runs.Since.{Rests, instant_keep, run_since}
+use Rattle.machine_laws.proofs.Lists.Kept.{Placed, Placing, opening_placed, placed_tick}
+use Rattle.machine_laws.proofs.Parts.Opening.{opening_listed}
+use Rattle.machine_laws.proofs.Cleanups.Blocks.{bodies_guarded}
+use Rattle.machine_laws.proofs.Cleanups.Frames.{Clean, FrameFits}
+use Rattle.machine_laws.proofs.Cleanups.Calls.{end_same, item_same}
+use Rattle.machine_laws.proofs.Cleanups.Units.{Before, all_visited, charged_before, completed}
+
+module _ {P : Type 0} (bodies : Bodies P) (fits : BodiesFit bodies) (guards : BodyOf → P → List ℕ) (guarded : BodiesGuarded bodies guards) where
+  abbrev pub AllClean : Machine P → Type 0
+  AllClean m = (v : ℕ) → Clean guards (thread_at m v)
+
+  abbrev Still : Turn P → Type 0
+  Still s = Rests bodies fits Placed Placing (λ b t. Placing) (λ b t. Placing) (λ b t. Placed) (placed_tick bodies) s
+
+  sweep_clean : (s : Turn P) → AllClean s.machine → AllClean (sweeps bodies s).machine
+  sweep_clean s q v = all_visited bodies guards guarded (thread_numbers s.machine) s v (q v)
+
+  item_clean : (i : Item) (s : Turn P) → next_item s.machine ≡ Some i → AllClean s.machine → AllClean (item_done bodies i s).machine
+  item_clean i s e q = sweep_clean (settles_since s.machine (handles bodies i s)) (λ v. item_same bodies guards guarded i s (next_is_due s.machine i e) v (q v))
+
+  then_clean : (o : Option Item) (rest : Turn P → Turn P) (s : Turn P) → next_item s.machine ≡ o → ((s : Turn P) → AllClean s.machine → AllClean (rest s).machine) → AllClean s.machine → AllClean (item_then bodies o rest s).machine
+  then_clean None rest s e h q = q
+  then_clean (Some i) rest s e h q = h (item_done bodies i s) (item_clean i s e q)
+
+  pub items_clean : (most : ℕ) (s : Turn P) → AllClean s.machine → AllClean (items_done bodies most s).machine
+  items_clean zero s q = q
+  items_clean (suc most) s q = then_clean (next_item s.machine) (items_done bodies most) s refl (items_clean most) q
+
+  awake_of : (status : Status) → is_runnable status ≡ true → is_dormant status ≡ false
+  awake_of (dormant at) e = absurd (grind arith)
+  awake_of runnable e = refl
+  awake_of (blocked w) e = refl
+  awake_of ended e = refl
+
+  -- the head's tick, and its unit
+  ticked_clean : (t : ℕ) (s : Turn P) → can_run s.machine t ≡ true → AllClean s.machine → AllClean (unit_ticked bodies s.machine t (in_unit bodies (thread_at s.machine t)) s).machine
+  ticked_clean t s runs q = completed bodies guards guarded t charged still others (top_left (thread_at charged.machine t).frames) (in_unit bodies (thread_at s.machine t)).unit refl mine
+    where
+      charged : Turn P
+      charged = charged_turn bodies t s
+
+      here : thread_at charged.machine t ≡ tick_charged (in_unit bodies (thread_at s.machine t)).thread
+      here = thread-same s.machine t (λ th. tick_charged (in_unit bodies (thread_at s.machine t)).thread) (running_within s.machine.threads t runs)
+
+      still : can_run charged.machine t ≡ true
+      still = charged_runs bodies t s runs
+
+      others : (v : ℕ) → (t == v) ≡ false → Clean guards (thread_at charged.machine v)
+      others v e = subst (λ (th : Thread P). Clean guards th) (sym (thread-other s.machine t v (λ th. tick_charged (in_unit bodies (thread_at s.machine t)).thread) e)) (q v)
+
+      mine : Before guards (in_unit bodies (thread_at s.machine t)).unit (thread_at charged.machine t)
+      mine = subst (λ (th : Thread P). Before guards (in_unit bodies (thread_at s.machine t)).unit th) (sym here) (charged_before bodies guards guarded (thread_at s.machine t) (q t) (awake_of (thread_at s.machine t).status runs))
+
+  dispatched_clean : (to : Option ℕ) (s : Turn P) → AllClean s.machine → AllClean (dispatches to s).machine
+  dispatched_clean to s q = subst AllClean (sym (dispatched to s)) q
+
+  runs_clean : (to : Option ℕ) (s : Turn P) → head s.machine ≡ to → Still s → AllClean s.machine → AllClean (runs bodies to (dispatches to s)).machine
+  runs_clean None s e r q = dispatched_clean None s q
+  runs_clean (Some t) s e r q =
+      let to = dispatches (Some t) s in
+      let can : can_run s.machine t ≡ true = head_can_run s.machine t r.listed e in
+      let can' : can_run to.machine t ≡ true = ap (λ (m : Machine P). can_run m t) (dispatched (Some t) s) ∙ can in
+      let was_high = has_high (thread_at to.machine t).server in
+      let ticked = unit_ticked bodies to.machine t (in_unit bodies (thread_at to.machine t)) to in
+      sweep_clean (tick_ends was_high t ticked) (λ v. end_same bodies guards guarded (tick_end was_high ticked.machine.quantum (thread_at ticked.machine t)) t ticked v (ticked_clean t to can' (dispatched_clean (Some t) s q) v))
+
+  goes_on_clean : (killed : Option ℕ) (s : Turn P) → Still s → AllClean s.machine → AllClean (unless_killed killed (runs_head bodies) s).machine
+  goes_on_clean None s r q = runs_clean (head s.machine) s refl r q
+  goes_on_clean (Some signal) s r q = q
+
+  pub run_clean : (n : ℕ) (start : Machine P) → Placed start → AllRun start start.lists → AllClean start → AllClean (ticks bodies n start).machine
+  run_clean zero start placed listed q = q
+  run_clean (suc n) start placed listed q =
+      let s = turn_of (ticks bodies n start).machine in
+      let ready = instant bodies s in
+      goes_on_clean ready.machine.killed ready
+      (instant_keep bodies fits Placed Placing (λ b t. Placing) (λ b t. Placing) (λ b t. Placed) (placed_tick bodies) s (run_since bodies fits Placed Placing (λ b t. Placing) (λ b t. Placing) (λ b t. Placed) (placed_tick bodies) n start placed listed))
+      (items_clean (item_bound s.machine) s (run_clean n start placed listed q))
+
+  -- ---- at most eight
+
+  few_guards : (fs : List (Frame P)) → Each FrameFits fs → length (main_guards guards fs) ≤ 8
+  few_guards [] each = omega arith
+  few_guards (f ∷ fs) each = by_main (is_main f.kind) refl (few_guards fs each.1)
+    where
+      thread_few : (body : BodyOf) → length (guards body f.place) ≤ most_of body → length (guards body f.place) ≤ 8
+      thread_few (body_of.Thread t) h = h
+      thread_few (body_of.Cleanup u) h = omega arith
+      thread_few (body_of.Handler n) h = omega arith
+
+      by_main : (b : Bool) → is_main f.kind ≡ b → length (main_guards guards fs) ≤ 8 → length (if b then guards f.body f.place else main_guards guards fs) ≤ 8
+      by_main true e rest = thread_few f.body (guarded.few f.body f.place)
+      by_main false e rest = rest
+
+  pub cleanups_right : (m : Machine P) → AllClean m → CleanupsAreRight guards m
+  cleanups_right m q = record { each = λ t live going. (let e = (q t).0 going in (e, subst (λ (xs : List ℕ). length xs ≤ 8) (sym e) (few_guards (thread_at m t).frames (q t).2))) }
+
+-- ---- of a script
+
+opened_clean : (script : Script) (ds : List ThreadDecl) (t : ℕ) → Clean (guards_in script) (thread_in (map (λ (d : ThreadDecl). thread_opened {P = Place} d) ds) t)
+opened_clean script [] t = (λ e. refl, λ e. refl, tt)
+opened_clean script (d ∷ ds) zero = (λ e. refl, λ e. refl, tt)
+opened_clean script (d ∷ ds) (suc t) = opened_clean script ds t
+
+module _ (script : Script) (fits : IsWellFormed script) where
+  -- at every instant of the run of every script that keeps its ranges and guards
+  pub run_all_clean : (n : ℕ) → AllClean (bodies_of script) (bodies_fit script fits.priorities) (guards_in script) (bodies_guarded script fits.guards) (machine script n)
+  run_all_clean n =
+      run_clean (bodies_of script) (bodies_fit script fits.priorities) (guards_in script) (bodies_guarded script fits.guards) n (opening script) (opening_placed script fits) (opening_listed script) (opened_clean script (threads_of script))

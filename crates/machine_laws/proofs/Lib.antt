@@ -1,0 +1,14 @@
+pub mod Waits
+pub mod Mutexes
+pub mod Signals
+pub mod Parts
+pub mod Lists
+pub mod Slices
+pub mod Servers
+pub mod Budgets
+pub mod Serials
+pub mod Cleanups
+pub mod Sweeps
+pub mod Items
+pub mod Good
+pub mod Premises

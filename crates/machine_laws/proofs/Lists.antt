@@ -1,0 +1,4 @@
+pub mod Places
+pub mod Arrivals
+pub mod Priorities
+pub mod Kept

@@ -1,0 +1,270 @@
+-- At every instant of every run each runnable thread stands once, on the list of its execution priority, and no other on any.
+use Rattle.std.proofs.Common.{Bool, List, None, Option, Some, [], ap, arith, false, refl, suc, sym, true, zero, ℕ, ◌+◌, ◌∷◌, ◌≡◌}
+use Rattle.std.specs.Prelude.{filter_map, map, replicate, ◌==◌, ◌&&◌}
+use mathlib.Core.Path.{subst, ◌∙◌}
+use Rattle.script_tree.specs.declared.decl.Decl.{Decl}
+use Rattle.script_tree.specs.declared.decl.Decl.TheVariants as decl
+use Rattle.script_tree.specs.declared.decl.Kind.TheVariants as kind
+use Rattle.script_tree.specs.declared.decl.Script.{Script}
+use Rattle.script_tree.specs.declared.policy.Policy.{Policy}
+use Rattle.script_tree.specs.declared.policy.Policy.TheVariants as policy
+use Rattle.script_flat.specs.Next.{Place}
+use Rattle.sporadic_server.specs.Server.{ServerState, plan}
+use Rattle.pse52_trace.specs.declared.event.Event.TheVariants as event
+use Rattle.machine_rules.specs.declared.dispatch.LastDispatch.{LastDispatch}
+use Rattle.machine_rules.specs.Lists.{changed_at}
+use Rattle.machine_rules.specs.Bodies.{Bodies}
+use Rattle.machine_rules.specs.State.{Frame, Machine, Thread, for_end, waits_to_join}
+use Rattle.machine_rules.specs.Threads.{can_run, is_main, is_runnable, no_thread, thread_at, thread_in, top_kind, top_left}
+use Rattle.machine_rules.specs.Declarations.{ThreadDecl, mutex_kind, named, threads_of}
+use Rattle.machine_rules.specs.Turns.{Turn, changes, moves_if, tells}
+use Rattle.machine_rules.specs.Servers.{plans_for, with_server}
+use Rattle.machine_rules.specs.Waking.{put_to_wait}
+use Rattle.machine_rules.specs.Lives.{with_joiner}
+use Rattle.machine_rules.specs.Settling.{settled}
+use Rattle.machine_rules.specs.GoodState.{HasParameters}
+use Rattle.machine_rules.specs.Dispatch.{dispatch_of, dispatches}
+use Rattle.machine_rules.specs.Units.{begins_ending, begins_finish, in_unit, in_unit_if, in_unit_of, top_in_unit}
+use Rattle.machine_rules.specs.Ticks.{TickEnd, ends_tick, exhausting, nothing, planning, slicing, tick_charged, without_slice}
+use Rattle.machine_rules.specs.Runs.{opening, thread_opened}
+use Rattle.machine_rules.proofs.Standing.{stands}
+use Rattle.machine_rules.specs.WellFormed.{DeclsFit, PolicyFits, IsWellFormed}
+use Rattle.machine_moves.specs.Moves.{KeepsRenewing, Sleeps}
+use Rattle.machine_moves.proofs.Waiters.Best.{Each}
+use Rattle.machine_laws.proofs.Lists.Places.{Stand, stand_again}
+use Rattle.machine_laws.proofs.Lists.Priorities.{AllFit, MutexFits, ThreadFits, charged_fits, fitting_keep, one, planned_fits, priorities}
+use Rattle.machine_laws.proofs.Lists.Arrivals.{Come, changed_come, come_keep, come_stop, ended_come}
+use Rattle.machine_moves.proofs.Runs.Units.{threads_fit}
+use Rattle.machine_moves.proofs.Runs.Ticks.{charged_turn, dispatched}
+use Rattle.machine_moves.proofs.Runs.Since.{TickSince, dispatched_direct}
+use Rattle.machine_laws.proofs.Parts.Kept.{PartsRight, elsewhere, parts_renewing, parts_stop, parts_tick}
+use Rattle.machine_laws.proofs.Parts.Opening.{opening_right}
+use Rattle.machine_moves.proofs.Runs.Units as units_fit
+
+-- between settlings' effects
+pub record Placed {P : Type 0} (m : Machine P) : Type 0 where
+  pub parts : PartsRight m
+  pub fit : AllFit m
+  pub stand : Stand m
+
+-- since a settling
+pub record Placing {P : Type 0} (before : Machine P) (s : Turn P) : Type 0 where
+  pub parts : PartsRight s.machine
+  pub fit : AllFit s.machine
+  pub stood : Stand before
+  pub come : Come before s
+
+-- ---- a unit leaves a thread's policy, server and slice
+
+pub record Plans : Type 0 where
+  pub policy : Policy
+  pub server : Option ServerState
+  pub slice : ℕ
+
+abbrev pub plans_of : {P : Type 0} → Thread P → Plans
+plans_of th = record { policy = th.policy; server = th.server; slice = th.slice }
+
+module _ {P : Type 0} (bodies : Bodies P) where
+  in_unit_of_plans : (fs : List (Frame P)) (th : Thread P) → plans_of (in_unit_of bodies fs th).thread ≡ plans_of th
+  in_unit_of_plans [] th = refl
+  in_unit_of_plans (f ∷ fs) th = by_left f.left
+    where
+      by_left : (left : ℕ) → plans_of (top_in_unit bodies left f fs th).thread ≡ plans_of th
+      by_left zero = refl
+      by_left (suc left) = refl
+
+  ending_plans : (us : List ℕ) (th : Thread P) → plans_of (begins_ending bodies us th).thread ≡ plans_of th
+  ending_plans [] th = by_frames th.frames
+    where
+      by_frames : (fs : List (Frame P)) → plans_of (begins_finish fs th).thread ≡ plans_of th
+      by_frames [] = refl
+      by_frames (f ∷ fs) = refl
+  ending_plans (u ∷ us) th = refl
+
+  pub in_unit_plans : (th : Thread P) → plans_of (in_unit bodies th).thread ≡ plans_of th
+  in_unit_plans th = by_ending (th.is_ending && is_main (top_kind th.frames) && top_left th.frames == 0)
+    where
+      by_ending : (b : Bool) → plans_of (in_unit_if bodies b th).thread ≡ plans_of th
+      by_ending true = ending_plans th.cleanups th
+      by_ending false = in_unit_of_plans th.frames th
+
+  charged_thread : (th : Thread P) → ThreadFits th → ThreadFits (tick_charged (in_unit bodies th).thread)
+  charged_thread th h =
+      let unit : ThreadFits (in_unit bodies th).thread = subst (λ (p : Plans). PolicyFits p.policy × HasParameters p.policy p.server) (sym (in_unit_plans th)) h in
+      (unit.0, charged_fits (in_unit bodies th).thread.policy (in_unit bodies th).thread.server unit.1)
+
+  -- ---- items
+
+  opened : (s : Turn P) → s.direct ≡ [] → Placed s.machine → Placing s.machine s
+  opened s still q = record {
+    parts = q.parts;
+    fit = q.fit;
+    stood = q.stand;
+    come = record { lists = refl; each = λ u off runs. absurd (contra runs off) };
+  }
+    where
+      contra : {b : Bool} → b ≡ true → b ≡ false → ⊥
+      contra p q = grind arith
+
+  placing_keep : (who : Option ℕ) (before : Machine P) → KeepsRenewing bodies who (Placing before)
+  placing_keep who before move s may q = record {
+    parts = parts_renewing bodies who move s may q.parts;
+    fit = fitting_keep bodies who move s may q.fit;
+    stood = q.stood;
+    come = come_keep before bodies who move s may q.come;
+  }
+
+  -- the same threads and mutexes
+  other_fit : (m : Machine P) (now : ℕ) (last : LastDispatch) (lists : List (List ℕ)) → AllFit m → AllFit (record m { now = now; last = last; lists = lists })
+  other_fit m now last lists q = record { threads = q.threads; mutexes = q.mutexes }
+
+  placed_again : (before : Machine P) (s : Turn P) → Placing before s → Placed (settled before s.direct s.machine)
+  placed_again before s q = record {
+    parts = elsewhere s.machine s.machine.now s.machine.last (settled before s.direct s.machine).lists q.parts;
+    fit = other_fit s.machine s.machine.now s.machine.last (settled before s.direct s.machine).lists q.fit;
+    stand = stand_again before s.machine s.direct q.stood q.come.lists (priorities s.machine q.fit) q.come.each;
+  }
+
+  -- ---- the charge
+
+  stand_elsewhere : (m : Machine P) (now : ℕ) (last : LastDispatch) → Stand m → Stand (record m { now = now; last = last })
+  stand_elsewhere m now last q = record { every = q.every; runs = q.runs; others = q.others }
+
+  placed_elsewhere : (m : Machine P) (now : ℕ) (last : LastDispatch) → Placed m → Placed (record m { now = now; last = last })
+  placed_elsewhere m now last q = record {
+    parts = elsewhere m now last m.lists q.parts;
+    fit = other_fit m now last m.lists q.fit;
+    stand = stand_elsewhere m now last q.stand;
+  }
+
+  placed_dispatched : (to : Option ℕ) (s : Turn P) → Placed s.machine → Placed (dispatches to s).machine
+  placed_dispatched to s q = subst Placed (sym (dispatched to s)) (placed_elsewhere s.machine s.machine.now (dispatch_of to) q)
+
+  charged_fit : (t : ℕ) (s : Turn P) → AllFit s.machine → AllFit (charged_turn bodies t s).machine
+  charged_fit t s q = record {
+    threads = each_at_changed s.machine.threads t q.threads;
+    mutexes = q.mutexes;
+  }
+    where
+      each_at_changed : (ths : List (Thread P)) (t : ℕ) → Each ThreadFits ths → Each ThreadFits (changed_at no_thread t (λ th. tick_charged (in_unit bodies (thread_in ths t)).thread) ths)
+      each_at_changed [] t each = tt
+      each_at_changed (th ∷ ths) zero each = (charged_thread th each.0, each.1)
+      each_at_changed (th ∷ ths) (suc t) each = (each.0, each_at_changed ths t each.1)
+
+  charged_placing : (t : ℕ) (s : Turn P) → s.direct ≡ [] → can_run s.machine t ≡ true → Placed s.machine → PartsRight (charged_turn bodies t s).machine → Placing s.machine (charged_turn bodies t s)
+  charged_placing t s still runs q parts =
+      let f : Thread P → Thread P = λ th. tick_charged (in_unit bodies (thread_at s.machine t)).thread in
+      let come = changed_come s.machine t f s (λ k. runs) (opened s still q).come in record {
+        parts = parts;
+        fit = charged_fit t s q.fit;
+        stood = q.stand;
+        come = record { lists = come.lists; each = come.each };
+      }
+
+  -- ---- the tick's end
+
+  planned : (t : ℕ) (o : Option ServerState) (s : Turn P) → AllFit s.machine → AllFit (plans_for t o s).machine
+  planned t None s q = q
+  planned t (Some server) s q = let fit = one bodies None t (with_server plan) s planned_fits q in record { threads = fit.threads; mutexes = fit.mutexes }
+
+  moved_fit : (b : Bool) (t : ℕ) (s : Turn P) → AllFit s.machine → AllFit (moves_if b t s).machine
+  moved_fit true t s q = record { threads = q.threads; mutexes = q.mutexes }
+  moved_fit false t s q = q
+
+  ended_fit : (e : TickEnd) (t : ℕ) (s : Turn P) → AllFit s.machine → AllFit (ends_tick e t s).machine
+  ended_fit planning t s q = planned t (thread_at s.machine t).server s q
+  ended_fit exhausting t s q = moved_fit _ t _ (planned t (thread_at s.machine t).server (tells (event.Exhaust t) s) (record { threads = q.threads; mutexes = q.mutexes }))
+  ended_fit slicing t s q = moved_fit (can_run s.machine t) t (changes t without_slice s) (one bodies None t without_slice s (λ th h. h) q)
+  ended_fit nothing t s q = q
+
+  placing_stop : (who : Option ℕ) (before : Machine P) → Sleeps who (Placing before) (Placing before)
+  placing_stop who before = let parts = parts_stop bodies who in let come = come_stop before bodies who in record {
+    done = λ s q. q;
+    sleeps = λ by wait due s runs may q. record {
+      parts = parts.sleeps by wait due s runs may q.parts;
+      fit = (let fit = one bodies None by.thread (put_to_wait (record { wait = wait; serial = s.machine.next_serial; due = due; call = by.call })) s (λ th h. h) q.fit in record { threads = fit.threads; mutexes = fit.mutexes });
+      stood = q.stood;
+      come = come.sleeps by wait due s runs may q.come;
+    };
+    dozes = λ by wait due s runs may other q. record {
+      parts = parts.dozes by wait due s runs may other q.parts;
+      fit = one bodies None by.thread (put_to_wait (record { wait = wait; serial = 0; due = due; call = by.call })) s (λ th h. h) q.fit;
+      stood = q.stood;
+      come = come.dozes by wait due s runs may other q.come;
+    };
+    joins = λ by u s runs other free q. record {
+      parts = parts.joins by u s runs other free q.parts;
+      fit = one bodies None by.thread (put_to_wait (record { wait = for_end u; serial = 0; due = None; call = by.call })) (changes u (with_joiner (waits_to_join by.thread)) s) (λ th h. h)
+          (one bodies None u (with_joiner (waits_to_join by.thread)) s (λ th h. h) q.fit);
+      stood = q.stood;
+      come = come.joins by u s runs other free q.come;
+    };
+  }
+
+  pub placed_tick : TickSince bodies Placed Placing (λ was_high t. Placing) (λ was_high t. Placing) (λ was_high t. Placed)
+  placed_tick = record {
+    opens = opened;
+    moves = placing_keep None;
+    joined = λ before s q. q.parts.joiners;
+    settles = placed_again;
+    charges = λ t s still none runs q.
+        let to = dispatches (Some t) s in
+        let can : can_run to.machine t ≡ true = ap (λ (m : Machine P). can_run m t) (dispatched (Some t) s) ∙ runs in
+        charged_placing t to (dispatched_direct (Some t) s ∙ still) can (placed_dispatched (Some t) s q) ((parts_tick bodies).charges t s none runs q.parts);
+    unit_moves = λ was_high t. placing_keep (Some t);
+    unit_joined = λ was_high t before s q. q.parts.joiners;
+    unit_stops = λ was_high t. placing_stop (Some t);
+    unit_settles = λ was_high t. placed_again;
+    ends = λ was_high t s still q. record {
+      parts = (parts_tick bodies).ends was_high t s q.parts;
+      fit = ended_fit _ t s q.fit;
+      stood = q.stand;
+      come = ended_come s.machine _ t s (opened s still q).come;
+    };
+    idles = λ s none q. let to = dispatches None s in placed_elsewhere to.machine (to.machine.now + 1) to.machine.last (placed_dispatched None s q);
+  }
+
+-- ---- the opening
+
+opened_fit : (ds : List ThreadDecl) → Each units_fit.ThreadFits ds → Each ThreadFits (map (λ (d : ThreadDecl). thread_opened {P = Place} d) ds)
+opened_fit [] each = tt
+opened_fit (d ∷ ds) each = ((each.0.0, none_fits d.policy), opened_fit ds each.1)
+  where
+    none_fits : (p : Policy) → HasParameters p None
+    none_fits (policy.Fifo p) = refl
+    none_fits (policy.Rr p) = refl
+    none_fits (policy.Sporadic params) = tt
+
+mutexes_fit : (ds : List Decl) → DeclsFit ds → Each MutexFits (filter_map (named mutex_kind) ds)
+mutexes_fit [] h = tt
+mutexes_fit (decl.Action signal handler ∷ ds) h = mutexes_fit ds h.1
+mutexes_fit (decl.Named name (kind.Mutex protocol recursive) ∷ ds) h = (h.0, mutexes_fit ds h.1)
+mutexes_fit (decl.Named name other ∷ ds) h = mutexes_fit ds h.1
+
+nobody_runs : (ds : List ThreadDecl) (t : ℕ) → is_runnable (thread_in (map (λ (d : ThreadDecl). thread_opened {P = Place} d) ds) t).status ≡ false
+nobody_runs [] t = refl
+nobody_runs (d ∷ ds) zero = refl
+nobody_runs (d ∷ ds) (suc t) = nobody_runs ds t
+
+none_stands : (n t i : ℕ) → stands t i (replicate n []) ≡ 0
+none_stands zero t i = refl
+none_stands (suc n) t zero = refl
+none_stands (suc n) t (suc i) = none_stands n t i
+
+module _ (script : Script) (fits : IsWellFormed script) where
+  abbrev first : Machine Place
+  first = opening script
+
+  contra : {b : Bool} → b ≡ true → b ≡ false → ⊥
+  contra p q = grind arith
+
+  pub opening_placed : Placed first
+  opening_placed = record {
+    parts = opening_right script;
+    fit = record { threads = opened_fit (threads_of script) (threads_fit script.decls fits.priorities); mutexes = mutexes_fit script.decls fits.priorities };
+    stand = record {
+      every = refl;
+      runs = λ t i runs. absurd (contra runs (nobody_runs (threads_of script) t));
+      others = λ t i off. none_stands 255 t i;
+    };
+  }

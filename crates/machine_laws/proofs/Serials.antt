@@ -1,0 +1,5 @@
+pub mod Distinct
+pub mod Sweeps
+pub mod Costs
+pub mod Calls
+pub mod Kept

@@ -1,0 +1,4 @@
+pub mod Right
+pub mod Moves
+pub mod Ticks
+pub mod Kept

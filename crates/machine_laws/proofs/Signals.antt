@@ -1,0 +1,4 @@
+pub mod Records
+pub mod Ignored
+pub mod Sources
+pub mod Takers

@@ -1,0 +1,3 @@
+pub mod Semaphores
+pub mod Queues
+pub mod Joiners

@@ -1,0 +1,30 @@
+//! Laws of the list machine over whole runs. What is good and what a budget is stand in `machine_rules`; here are the proofs, one
+//! folder a part.
+//!
+//! Each function stands for a law, which its clause states. None of them does anything when it is called.
+#![tactic(auto)]
+
+ghost use Rattle.std.specs.Prelude.{ℕ, suc, ◌≡◌};
+ghost use Rattle.script_tree.specs.declared.decl.Script.{Script};
+ghost use Rattle.machine_rules.specs.DueItems.{item_then, next_item};
+ghost use Rattle.machine_rules.specs.Machine.{bodies_of};
+ghost use Rattle.machine_rules.specs.Promises.{RunKeepsBudgets, RunStaysGood};
+ghost use Rattle.machine_rules.specs.Runs.{opening};
+ghost use Rattle.machine_rules.specs.Throughout.{turn_after};
+ghost use Rattle.machine_rules.specs.WellFormed.{IsWellFormed};
+
+/// Every state of the run of every well formed script is good: that after each number of ticks, and each that a due item leaves with
+/// its sweep.
+pub fn states_are_good()
+    ensures { (script : Script) → IsWellFormed script → RunStaysGood script }
+{}
+
+/// In each of these states the events so far and the server of each live sporadic thread keep the law of the budget.
+pub fn budgets_are_kept()
+    ensures { (script : Script) → IsWellFormed script → RunKeepsBudgets script }
+{}
+
+/// The states between the items of an instant are those that one item more leaves, with its moves and its sweep, as long as one is due.
+pub fn items_come_one_by_one()
+    ensures { (script : Script) → (n k : ℕ) → let s = turn_after (bodies_of script) (opening script) n k in turn_after (bodies_of script) (opening script) n (suc k) ≡ item_then (bodies_of script) (next_item s.machine) (λ x. x) s }
+{}

@@ -1,0 +1,118 @@
+-- The law of a leap: where none of the ticks but the last matters, and nothing falls due before it ends, a leap of k ticks is k ticks.
+use Rattle.std.proofs.Common.{Bool, List, None, Option, Some, [], ap, arith, refl, suc, sym, true, zero, ℕ, ◌+◌, ◌++◌, ◌≡◌}
+use mathlib.Core.Path.{subst, ◌∙◌}
+use Rattle.pse52_trace.specs.Text.{Entry}
+use Rattle.sporadic_server.specs.Server.{ServerState, charge_ticks, is_high}
+use Rattle.machine_rules.specs.declared.dispatch.LastDispatch.{LastDispatch}
+use Rattle.machine_rules.specs.declared.dispatch.LastDispatch.TheVariants as last
+use Rattle.machine_rules.specs.Bodies.{Bodies}
+use Rattle.machine_rules.specs.State.{Machine, Thread}
+use Rattle.machine_rules.specs.Threads.{thread_at, top_left}
+use Rattle.machine_rules.specs.Turns.{Turn, becomes, changes, settles_since, turn_of}
+use Rattle.machine_rules.specs.Servers.{has_high}
+use Rattle.machine_rules.specs.Delivery.{sweeps}
+use Rattle.machine_rules.specs.DueItems.{instant}
+use Rattle.machine_rules.specs.Dispatch.{dispatch_event, dispatch_of, dispatches, head, is_same, tells_unless}
+use Rattle.machine_rules.specs.Units.{in_unit}
+use Rattle.machine_rules.specs.Ticks.{completes, later, runs, runs_head, tick_ends, unless_killed}
+use Rattle.machine_rules.specs.Runs.{Ran, ran, tick_of, ticks}
+use Rattle.machine_rules.proofs.Behind.{AddsBehind, behind}
+use Rattle.machine_rules.proofs.BehindTicks.{completes_behind, sweeps_behind, tick_ends_behind}
+use Rattle.machine_leaps.specs.QuietSpans.{after_ticks}
+use Rattle.machine_leaps.specs.Leap.{later_by, leap, leap_goes_on, leap_head, leap_runs, unit_leapt}
+use Rattle.machine_moves.proofs.Waiters.Best.{running_within}
+use Rattle.machine_moves.proofs.Runs.Listed.{head_can_run}
+use Rattle.machine_moves.proofs.Runs.Ticks.{dispatched}
+use Rattle.machine_moves.proofs.Runs.Since.{dispatched_direct}
+use Rattle.machine_leaps.proofs.Quiet.Charges.{told_by}
+use Rattle.machine_leaps.proofs.Quiet.Runs.{charges}
+use Rattle.machine_leaps.proofs.Quiet.Once.{StaysHigh, charged_is, idle_once}
+use Rattle.machine_leaps.proofs.Quiet.Events.{nothing_more}
+use Rattle.machine_leaps.proofs.Leaps.Calm.{Calm, Handled, calm_then_tick, charges_handled, tick_handled}
+use Rattle.machine_leaps.proofs.Leaps.LastTick.{last_is_leap}
+
+module _ {P : Type 0} (bodies : Bodies P) where
+  pub leap_runs_behind : (k : ℕ) (to : Option ℕ) → AddsBehind (leap_runs bodies k to)
+  leap_runs_behind k None told s = refl
+  leap_runs_behind k (Some t) told s =
+      let taken = in_unit bodies (thread_at s.machine t) in
+      let was_high = has_high (thread_at s.machine t).server in
+      let charged = becomes (later_by k) (changes t (λ th. after_ticks k taken.thread) s) in
+      let done = unit_leapt bodies k s.machine t taken s in
+      ap (λ (x : Turn P). sweeps bodies (tick_ends was_high t (settles_since s.machine x))) (completes_behind bodies (top_left (thread_at charged.machine t).frames) t taken.unit told charged)
+      ∙ ap (sweeps bodies) (tick_ends_behind was_high t told done)
+      ∙ sweeps_behind bodies told (tick_ends was_high t done)
+
+  -- ---- a leap of one tick
+
+  high_once : (o : Option ServerState) → StaysHigh 1 o
+  high_once None = tt
+  high_once (Some s) = λ e i small. (let none : i ≡ 0 = omega arith in subst (λ (n : ℕ). is_high (charge_ticks n s) ≡ true) (sym none) e)
+
+  one_leap : (to : Option ℕ) (s : Turn P) → runs bodies to s ≡ leap_runs bodies 1 to s
+  one_leap None s = refl
+  one_leap (Some t) s =
+      let taken = in_unit bodies (thread_at s.machine t) in
+      ap (λ (th : Thread P). sweeps bodies (tick_ends (has_high (thread_at s.machine t).server) t (settles_since s.machine (completes bodies t taken.unit (becomes later (changes t (λ x. th) s))))))
+      (charged_is 1 taken.thread (high_once taken.thread.server))
+
+  -- ---- the last tick of more, by the head
+
+  abbrev given : Option ℕ → Machine P → Machine P
+  given to m = record m { last = dispatch_of to }
+
+  idle_again : (x : Machine P) → x.last ≡ last.Idle → dispatches None (turn_of x) ≡ turn_of x
+  idle_again x e =
+      ap (λ (b : Bool). record (tells_unless b (dispatch_event x None) (turn_of x)) { machine = record ((tells_unless b (dispatch_event x None) (turn_of x)).machine) { last = last.Idle } })
+      (ap (λ (l : LastDispatch). is_same l None) e)
+      ∙ ap (λ (l : LastDispatch). turn_of (record x { last = l })) (sym e)
+
+  last_by : (to : Option ℕ) (j : ℕ) (m : Machine P) → m.killed ≡ None → head m ≡ to → Handled bodies m → Calm bodies (suc j) m → tick_of bodies (charges bodies (suc j) m) ≡ ran (leap_runs bodies (suc (suc j)) to (turn_of (given to m)))
+  last_by None j m alive first h c =
+      let x : Machine P = record m { now = m.now + suc j; last = last.Idle } in
+      let is_x = idle_once bodies j m alive first in
+      let more : m.now + suc j + 1 ≡ m.now + suc (suc j) = omega arith in
+      ap (tick_of bodies) is_x
+      ∙ tick_handled bodies x (subst (Handled bodies) is_x (charges_handled bodies (suc j) m h c))
+      ∙ ap (λ (o : Option ℕ). ran (unless_killed o (runs_head bodies) (turn_of x))) alive
+      ∙ ap (λ (o : Option ℕ). ran (runs bodies o (dispatches o (turn_of x)))) first
+      ∙ ap (λ (s : Turn P). ran (runs bodies None s)) (idle_again x refl)
+      ∙ ap (λ (n : ℕ). ran (turn_of (record m { now = n; last = last.Idle }))) more
+  last_by (Some t) j m alive first h c =
+      last_is_leap bodies t m (record { alive = alive; first = first; here = running_within m.threads t (head_can_run m t h.listed first) }) j h c
+
+  -- ---- the law
+
+  begun_is : (to : Option ℕ) (s : Turn P) → s.direct ≡ [] → dispatches to s ≡ behind (dispatches to s).events (turn_of (given to s.machine))
+  begun_is to s none =
+      let d = dispatches to s in
+      ap (λ (m : Machine P). record { machine = m; direct = d.direct; events = d.events }) (dispatched to s)
+      ∙ ap (λ (ns : List ℕ). record { machine = given to s.machine; direct = ns; events = d.events }) (dispatched_direct to s ∙ none)
+      ∙ ap (λ (es : List Entry). record { machine = given to s.machine; direct = []; events = es }) (sym (nothing_more d.events))
+
+  -- what a leap tells after its dispatch
+  leap_told : (k : ℕ) (to : Option ℕ) (s : Turn P) → s.direct ≡ [] →
+      let l = ran (leap_runs bodies k to (turn_of (given to s.machine))) in
+      ran (leap_runs bodies k to (dispatches to s)) ≡ record { machine = l.machine; events = (dispatches to s).events ++ l.events }
+  leap_told k to s none =
+      ap (λ (x : Turn P). ran (leap_runs bodies k to x)) (begun_is to s none)
+      ∙ ap ran (leap_runs_behind k to (dispatches to s).events (turn_of (given to s.machine)))
+
+  leap_alive : (k : ℕ) (s : Turn P) → s.machine.killed ≡ None → leap_goes_on bodies k s ≡ leap_runs bodies k (head s.machine) (dispatches (head s.machine) s)
+  leap_alive k s alive = ap (λ (o : Option ℕ). unless_killed o (leap_head bodies k) s) alive
+
+  pub leap_is_ticks : (j : ℕ) (m : Machine P) → let s = instant bodies (turn_of m) in s.direct ≡ [] → Handled bodies s.machine → s.machine.killed ≡ None → Calm bodies j s.machine →
+      ran (leap bodies (suc j) (turn_of m)) ≡ ticks bodies (suc j) m
+  leap_is_ticks zero m none h alive c =
+      let s = instant bodies (turn_of m) in
+      ap ran (leap_alive 1 s alive)
+      ∙ ap ran (sym (one_leap (head s.machine) (dispatches (head s.machine) s)))
+      ∙ sym (ap (λ (o : Option ℕ). ran (unless_killed o (runs_head bodies) s)) alive)
+  leap_is_ticks (suc j) m none h alive c =
+      let s = instant bodies (turn_of m) in
+      let to = head s.machine in
+      ap ran (leap_alive (suc (suc j)) s alive)
+      ∙ leap_told (suc (suc j)) to s none
+      ∙ sym (calm_then_tick bodies j m none h c
+      ∙ ap (λ (r : Ran P). record { machine = r.machine; events = told_by bodies s.machine.killed s ++ r.events }) (last_by to j s.machine alive refl h c)
+      ∙ ap (λ (o : Option ℕ). (let l = ran (leap_runs bodies (suc (suc j)) to (turn_of (given to s.machine))) in record { machine = l.machine; events = told_by bodies o s ++ l.events })) alive)

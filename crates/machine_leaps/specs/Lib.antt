@@ -1,0 +1,2 @@
+pub mod QuietSpans
+pub mod Leap

@@ -1,0 +1,7 @@
+pub mod Answers
+pub mod Commuting
+pub mod Objects
+pub mod ConditionWaits
+pub mod Signals
+pub mod Queues
+pub mod Table

@@ -1,0 +1,3 @@
+pub mod Waiters
+pub mod Calls
+pub mod Runs

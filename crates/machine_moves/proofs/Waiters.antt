@@ -1,0 +1,3 @@
+pub mod Best
+pub mod AfterMoves
+pub mod OfThreads
