@@ -1,6 +1,6 @@
 -- The call that a line makes, whatever form it has and whatever its words are: it names what is declared, its numbers are in range, a
 -- server has a budget, and it is built if its form is.
-use Rattle.std.proofs.Common.{ℕ, ◌≡◌, ◌≤◌, ◌<◌, List, Option, true, refl, arith}
+use Rattle.std.proofs.Common.{ℕ, ◌≡◌, ◌<◌, List, Option, true, refl, arith}
 use Rattle.std.specs.Option.{IfSome, option_map}
 use Rattle.script_tree.specs.declared.call.Call.{Call}
 use Rattle.script_tree.specs.declared.call.Call.TheVariants as calls

@@ -5,13 +5,11 @@ use Rattle.std.specs.Prelude.{◌&&◌, nat_lt, nat_le, if◌then◌else◌}
 use Rattle.std.specs.Option.{IfSome, option_map}
 use Rattle.script_lex.proofs.Rejoined.{both}
 use Rattle.tick_num.specs.Parameters.{Parameters}
-use Rattle.script_tree.specs.declared.call.Operand.{Operand}
 use Rattle.script_tree.specs.declared.call.Operand.TheVariants.{Num, Reg}
-use Rattle.script_tree.specs.declared.policy.Policy.{Policy}
 use Rattle.script_tree.specs.declared.policy.Policy.TheVariants.{Fifo, Rr, Sporadic}
 use Rattle.script_table.specs.declared.pattern.NameKind.{NameKind}
 use Rattle.script_table.specs.Patterns.{same_kind, greatest}
-use Rattle.script_table.specs.Words.{value_of, is_register, signal_of}
+use Rattle.script_table.specs.Words.{value_of, is_register}
 use Rattle.script_table.specs.Ranges.{word, is_within}
 use Rattle.script_table.specs.Names.{Entry, entry_of}
 use Rattle.script_table.specs.Operands.{map_two, map_three, map_four, map_five, number_in, amount_at, priority_at, operand_at, signal_at, number_of_kind, named_at, server_of, joined, server_at, fifo_at, rr_at, sporadic_at}
