@@ -6,6 +6,7 @@ use Rattle.script_lex.specs.Lines.{lines_of}
 use Rattle.script_lex.specs.Words.{line_words}
 use Rattle.script_lex.specs.Joined.{joined_words, joined_lines, is_word}
 use Rattle.script_lex.proofs.Rejoined.{line_words-joined, has_bad_byte-joined}
+use Rattle.script_tree.specs.declared.decl.Decl.{Decl}
 use Rattle.script_tree.specs.declared.decl.Script.{Script}
 use Rattle.script_table.specs.declared.pattern.Opening.{Opening}
 use Rattle.script_table.specs.Faults.{faults_at}
@@ -34,8 +35,8 @@ use Rattle.canonical_law.proofs.Text.{no_fault, are_allowed, lines_back, faults_
 use Rattle.canonical_law.proofs.Rebuilt.{SoundSaid, AllSound, script_anew}
 use Rattle.canonical_law.proofs.Accepted.{sound_said, is_read, read_of}
 use Rattle.canonical_law.proofs.Stack.{Placed}
-use Rattle.canonical_law.proofs.Printed.{built_lines}
-use Rattle.canonical_law.proofs.Known.{nothing_known, give_names, all_told}
+use Rattle.canonical_law.proofs.Printed.{AllTold, built_lines}
+use Rattle.canonical_law.proofs.Known.{AllKnown, nothing_known, known_names, give_names, all_told}
 use Rattle.canonical_law.proofs.Moved.{keep, keep_case, without, placed_without, rises_down, rises_without, names_without, declared_without, limits_without, built_without, InRange, built_range, words_of, lines_without}
 use Rattle.canonical_law.proofs.Table.{IsTable}
 use Rattle.canonical_law.specs.Statements.{quantum_row, quantum_said, is_quantum, quantum_first}
@@ -204,6 +205,31 @@ module _ (rows : List Row) (table : IsTable rows) where
         words = sym back;
       }
 
+  -- the statements of a text that is read: they are sound, they stand where they may, and the names of what is built of them are known
+  pub record Statements (ss : List Said) : Type 0 where
+    pub sound : AllSound ss
+    pub placed : Placed [] ss
+    pub known : AllKnown (declared ss).names (built_from (declared ss).names nothing_built ss).decls
+    pub told : AllTold (declared ss).names (built_from (declared ss).names nothing_built ss).decls ss
+
+  pub statements : (text : List ℕ) (script : Script) → read rows text ≡ Ok script → Statements (said rows text)
+  statements text script e =
+      let lines : List (List ℕ) = lines_of text in
+      let clean = no_fault rows table text (is_read rows table text script e).clean in
+      let ss : List Said = said rows text in
+      let d : Declared = declared ss in
+      let here = stands lines [] 1 clean.places (are_ranged rows table lines no_tally 1 1 (clean.limits 1)) in
+      let sound = all_sound ss here.on in
+      let early : Rises 0 ss = rises_down 0 1 ss (omega arith) (said_rises rows table lines 1) in
+      let known = known_names d.names ss nothing_declared no_tally nothing_built 0 1 nothing_known sound clean.names (clean.limits 1) early tt here.placed in
+      let decls : List Decl = (built_from d.names nothing_built ss).decls in
+      record {
+        sound = sound;
+        placed = here.placed;
+        known = known;
+        told = all_told d decls (give_names d.names decls known) ss no_tally 1 sound clean.names (clean.limits 1);
+      }
+
   -- the canonical text of a script that was read is read as it, and its statements are those of the text
   record Again (text : List ℕ) (script : Script) : Type 0 where
     reads : read rows (canon script) ≡ Ok script
@@ -222,9 +248,7 @@ module _ (rows : List Row) (table : IsTable rows) where
       let here = stands lines [] 1 clean.places (are_ranged rows table lines no_tally 1 1 (clean.limits 1)) in
       let sound = all_sound ss here.on in
       let rises = said_rises rows table lines 1 in
-      let early : Rises 0 ss = rises_down 0 1 ss (omega arith) rises in
-      let give = give_names d.names ss nothing_declared no_tally nothing_built 0 1 nothing_known sound clean.names (clean.limits 1) early tt here.placed in
-      let told = all_told d b.decls give ss no_tally 1 sound clean.names (clean.limits 1) in
+      let told = (statements text script e).told in
       let printed : decls_lines b.decls b.decls ≡ map words_of (without ss) = built_lines d.names b.decls ss nothing_built told tt here.placed ∙ lines_without ss sound in
       let first : List Said = moved q ss in
       let on : AllOn first = (quantum_on q range, on_without ss here.on) in

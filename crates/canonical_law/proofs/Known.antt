@@ -248,19 +248,25 @@ limited t s e =
 fits_row : (s : Said) → SoundSaid s → fits s.row.places s.words ≡ true
 fits_row s sound = subst (λ places. fits places s.words ≡ true) (sym sound.places) sound.sound.fit
 
--- the numbers of all names give the names back
-pub give_names : (es : List Entry) (ss : List Said) (d : Declared) (t : Tally) (b : Built) (n m : ℕ) → Known d.names t.counts n (λ sort. names_so_far sort b)
+-- what is known of the names of all lines, and of what is built of them
+pub record AllKnown (es : List Entry) (ds : List Decl) : Type 0 where
+  pub numbered : AreNumbered no_counts es
+  pub few : (kind : NameKind) → count_of (counts_from no_counts es) kind ≤ 64
+  pub names : (kind : NameKind) → names_of (sort_for kind) ds ≡ names_in (sort_for kind) es
+
+pub known_names : (es : List Entry) (ss : List Said) (d : Declared) (t : Tally) (b : Built) (n m : ℕ) → Known d.names t.counts n (λ sort. names_so_far sort b)
     → AllSound ss → phase_two (declared_from d ss) ss ≡ [] → phase_three m t ss ≡ [] → Rises n ss → Stack Naming b.blocks → Placed (openings_of b.blocks) ss
-    → AllGive (declared_from d ss).names (built_from es b ss).decls
-give_names es [] d t b n m known sound names limits rises stack placed =
+    → AllKnown (declared_from d ss).names (built_from es b ss).decls
+known_names es [] d t b n m known sound names limits rises stack placed =
     let none = at_end Naming b.blocks stack placed in
     let all : (kind : NameKind) → names_of (sort_for kind) b.decls ≡ names_in (sort_for kind) d.names =
     λ kind. sym (append-nil (names_of (sort_for kind) b.decls)) ∙ (ap (λ bs. names_of (sort_for kind) b.decls ++ open_names (sort_for kind) bs) (sym none) ∙ known.names (sort_for kind)) in
-    λ word e found.
-    let below = number_below no_counts d.names word e known.numbered found in
-    let few : count_of (counts_from no_counts d.names) e.kind ≤ 64 = subst (λ c. count_of c e.kind ≤ 64) known.counts (known.few e.kind) in
-    record { small = omega (arith, below, few); name = gives_name d.names b.decls known.numbered all word e found }
-give_names es (s ∷ ss) d t b n m known sound names limits rises stack placed =
+    record {
+      numbered = known.numbered;
+      few = λ kind. subst (λ c. count_of c kind ≤ 64) known.counts (known.few kind);
+      names = all;
+    }
+known_names es (s ∷ ss) d t b n m known sound names limits rises stack placed =
     let f : Form = s.row.form in
     let k : Option NameKind = declared_kind f in
     let next : Declared = declared_at d s.line s.row.places s.words in
@@ -277,7 +283,14 @@ give_names es (s ∷ ss) d t b n m known sound names limits rises stack placed =
     let more = known_more d.names t.counts n s.line (λ sort. names_so_far sort b) k s.words known new (has_room t f limit.room) rises.0 in
     let after_known = known_as (names_after d.names s.line k s.words) next.names (count_with t.counts k) (tallied t f).counts (s.line + 1) (λ sort. names_so_far sort b ++ kind_names sort k s.words) (λ sort. names_so_far sort (after es b s))
     (declared_names d s.line k s.row.places s.words declares fit) (tallied_counts t f) (λ sort. after_names sort es b f s.row.bar s.words told stack placed.0) more in
-    give_names es ss next (tallied t f) (after es b s) (s.line + 1) m after_known sound.1 own.1 ranges.1 rises.1 goes.stack (subst (λ os. Placed os ss) (sym goes.openings) placed.1)
+    known_names es ss next (tallied t f) (after es b s) (s.line + 1) m after_known sound.1 own.1 ranges.1 rises.1 goes.stack (subst (λ os. Placed os ss) (sym goes.openings) placed.1)
+
+-- the numbers of all names give the names back
+pub give_names : (es : List Entry) (ds : List Decl) → AllKnown es ds → AllGive es ds
+give_names es ds known word e found =
+    let below = number_below no_counts es word e known.numbered found in
+    let few = known.few e.kind in
+    record { small = omega (arith, below, few); name = gives_name es ds known.numbered known.names word e found }
 
 pub nothing_known : Known [] no_counts 0 (λ sort. names_so_far sort nothing_built)
 nothing_known = record { numbered = tt; counts = refl; few = none_few; names = λ sort. refl; before = tt } where

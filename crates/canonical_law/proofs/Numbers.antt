@@ -1,8 +1,9 @@
 -- The number of a name is its place among the names of its kind.
-use Rattle.std.proofs.Common.{◌≡◌, ◌≤◌, ◌<◌, ℕ, ◌+◌, suc, List, [], ◌∷◌, ◌++◌, refl, sym, ◌∙◌, ap, subst, Bool, true, false, None, Some, arith, rules}
+use Rattle.std.proofs.Common.{◌≡◌, ◌≤◌, ◌<◌, ℕ, ◌+◌, suc, List, [], ◌∷◌, ◌++◌, length, refl, sym, ◌∙◌, ap, subst, Bool, true, false, None, Some, arith, rules}
 use Rattle.std.specs.Prelude.{if◌then◌else◌, slice_get}
 use Rattle.std.specs.Str.{bytes_eq}
 use Rattle.std.proofs.lemmas.Slice.Eq.{bytes_eq-Decides}
+use Rattle.std.proofs.lemmas.Option.{slice_get_within}
 use Rattle.script_tree.specs.declared.decl.Decl.{Decl}
 use Rattle.script_table.specs.declared.pattern.NameKind.{NameKind}
 use Rattle.script_table.specs.declared.pattern.NameKind.TheVariants as kind
@@ -91,24 +92,35 @@ is_at : (c : Counts) (es : List Entry) (word : List ℕ) (e : Entry) → AreNumb
 is_at c [] word e h found = absurd (let f : None ≡ Some e = found in cc)
 is_at c (x ∷ es) word e h found = at_case (bytes_eq word x.name) c x es word e refl h found (is_at (counted c x.kind) es word e h.1)
 
+no_count : (k : NameKind) → count_of no_counts k ≡ 0
+no_count kind.Thread = refl
+no_count kind.Mutex = refl
+no_count kind.Cond = refl
+no_count kind.Sem = refl
+no_count kind.Queue = refl
+no_count kind.Timer = refl
+no_count kind.Handler = refl
+no_count kind.Cleanup = refl
+
+-- a name's number is its place
+at_number : (es : List Entry) → AreNumbered no_counts es → (word : List ℕ) (e : Entry) → entry_of es word ≡ Some e → slice_get (names_in (sort_for e.kind) es) e.number ≡ Some word
+at_number es h word e found =
+    let p = is_at no_counts es word e h found in
+    let none : count_of no_counts e.kind ≡ 0 = no_count e.kind in
+    let number : e.number ≡ p.at = p.number ∙ omega (arith, none) in
+    rw number p.name
+
 -- a name's number gives back the name
 pub gives_name : (es : List Entry) (ds : List Decl) → AreNumbered no_counts es → ((kind : NameKind) → names_of (sort_for kind) ds ≡ names_in (sort_for kind) es)
     → (word : List ℕ) (e : Entry) → entry_of es word ≡ Some e → name_of ds (sort_for e.kind) e.number ≡ word
 gives_name es ds h names word e found =
-    let p = is_at no_counts es word e h found in
-    let none : count_of no_counts e.kind ≡ 0 = no_count e.kind in
-    let number : e.number ≡ p.at = p.number ∙ omega (arith, none) in
-    rw (names e.kind, number, p.name) refl
-  where
-    no_count : (k : NameKind) → count_of no_counts k ≡ 0
-    no_count kind.Thread = refl
-    no_count kind.Mutex = refl
-    no_count kind.Cond = refl
-    no_count kind.Sem = refl
-    no_count kind.Queue = refl
-    no_count kind.Timer = refl
-    no_count kind.Handler = refl
-    no_count kind.Cleanup = refl
+    let at = at_number es h word e found in
+    rw (names e.kind, at) refl
+
+-- a name's number is below how many of its kind are declared
+pub is_declared : (es : List Entry) (ds : List Decl) → AreNumbered no_counts es → ((kind : NameKind) → names_of (sort_for kind) ds ≡ names_in (sort_for kind) es)
+    → (word : List ℕ) (e : Entry) → entry_of es word ≡ Some e → e.number < length (names_of (sort_for e.kind) ds)
+is_declared es ds h names word e found = rw (names e.kind) (slice_get_within (names_in (sort_for e.kind) es) e.number word (at_number es h word e found))
 
 -- there are at most 64 of each kind
 abbrev pub AreFew : Counts → Type 0

@@ -1,4 +1,4 @@
--- What is read without a fault can be run.
+-- What is read without a fault has few threads, and bodies that are not too long and not nested too deeply.
 use Rattle.std.proofs.Common.{ℕ, ◌+◌, ◌-◌, ◌≤◌, ◌≡◌, max, List, [], ◌∷◌, ◌++◌, length, Option, None, Some, Ok, Bool, true, false, refl, subst, arith}
 use Rattle.std.specs.Prelude.{nat_lt, ◌||◌, if◌then◌else◌, option_to_list}
 use Rattle.std.specs.Option.{option_map}
@@ -11,8 +11,8 @@ use Rattle.script_tree.specs.declared.body.Step.TheVariants.{Make}
 use Rattle.script_tree.specs.declared.call.Call.{Call}
 use Rattle.script_tree.specs.declared.decl.Decl.{Decl}
 use Rattle.script_tree.specs.declared.decl.Script.{Script}
-use Rattle.script_flat.specs.Flat.{nesting}
-use Rattle.list_machine.specs.Runnable.{IsRunnable}
+use Rattle.script_flat.specs.Flat.{nesting, bodies_of, IsFlattenable}
+use Rattle.machine_rules.specs.Declarations.{threads_of}
 use Rattle.script_table.specs.declared.fault.FaultKind.{FaultKind}
 use Rattle.script_table.specs.declared.fault.FaultKind.TheVariants.{TooMany}
 use Rattle.script_table.specs.declared.form.Form.{Form}
@@ -27,7 +27,6 @@ use Rattle.script_table.specs.declared.pattern.Closer.TheVariants as closer
 use Rattle.script_table.specs.Faults.{Fault, when, faults_at, least, earlier, is_before}
 use Rattle.script_table.specs.LineFaults.{place_faults}
 use Rattle.script_table.specs.Patterns.{Row}
-use Rattle.script_table.specs.Table.{patterns}
 use Rattle.script_table.specs.Structure.{Said, body_kind, closer_of, closed_by, phase_one}
 use Rattle.script_table.specs.Names.{Entry, Counts, counted, declared, phase_two}
 use Rattle.script_table.specs.Ranges.{Tally, no_tally, tallied, entered, left, object_kind, is_over, is_too_many, ranging, server_faults, range_faults, phase_three}
@@ -241,19 +240,23 @@ not_so : (holds : Bool) (kind : FaultKind) → when holds kind ≡ [] → holds 
 not_so true kind e = cc
 not_so false kind e = refl
 
+pub record IsBounded (script : Script) : Type 0 where
+  pub few : length (threads_of script) ≤ 64
+  pub flattenable : IsFlattenable (bodies_of script.decls).all
+
 -- what is built of lines with no fault of the third phase
-runnable_from : (es : List Entry) (n : ℕ) (t : Tally) (b : Built) (ss : List Said) → phase_three n t ss ≡ [] → Keeps t b →
-    IsRunnable (script_of_built (built_from es b ss))
-runnable_from es n t b [] none k = record {
+bounded_from : (es : List Entry) (n : ℕ) (t : Tally) (b : Built) (ss : List Said) → phase_three n t ss ≡ [] → Keeps t b →
+    IsBounded (script_of_built (built_from es b ss))
+bounded_from es n t b [] none k = record {
   few = omega (arith, k.threads, k.declares.few);
   flattenable = record { numbered = omega (arith, k.threads, k.others_few, k.declares.numbered); short = k.declares.short; nested = k.declares.nested };
 }
-runnable_from es n t b (s ∷ ss) none k =
+bounded_from es n t b (s ∷ ss) none k =
     let t' = tallied t s.row.form in
     let here = no_kinds 3 s.line (range_faults t' s) (nil_left (faults_at 3 s.line (range_faults t' s)) (phase_three n t' ss) none) in
     let limits = nil_right (server_faults s.row.form s.words) (when (is_too_many t' s.row.form) TooMany)
     (nil_right (place_faults ranging s.row.places s.words) (server_faults s.row.form s.words ++ when (is_too_many t' s.row.form) TooMany) here) in
-    runnable_from es n t' (after es b s) ss (nil_right (faults_at 3 s.line (range_faults t' s)) (phase_three n t' ss) none)
+    bounded_from es n t' (after es b s) ss (nil_right (faults_at 3 s.line (range_faults t' s)) (phase_three n t' ss) none)
     (keeps_after es t b s.row.form s.words (not_so (is_too_many t' s.row.form) TooMany limits) k)
 
 keeps_nothing : Keeps no_tally nothing_built
@@ -292,17 +295,13 @@ accepts None script accepted e = record { none = refl; same = cc }
 accepts (Some f) script accepted e = cc
 
 -- whatever the rows of the table are
-pub read_is_runnable : (rows : List Row) (text : List ℕ) (script : Script) → read rows text ≡ Ok script → IsRunnable script
+pub read_is_bounded : (rows : List Row) (text : List ℕ) (script : Script) → read rows text ≡ Ok script → IsBounded script
 unfolding read
-read_is_runnable rows text script e =
+read_is_bounded rows text script e =
     let ss = said rows text in
     let one = phase_one rows 1 (Some []) (lines_of text) in
     let two = phase_two (declared ss) ss in
     let three = phase_three (1 + length (lines_of text)) no_tally ss in
     let a = accepts (least (faults rows text)) (script_of (declared ss).names ss) script e in
     let none = nil_right two three (nil_right one (two ++ three) (no_faults (faults rows text) a.none)) in
-    subst IsRunnable a.same (runnable_from (declared ss).names (1 + length (lines_of text)) no_tally nothing_built ss none keeps_nothing)
-
--- a script that the reader accepts can be run
-pub accepted_is_runnable : (text : List ℕ) (script : Script) → read patterns text ≡ Ok script → IsRunnable script
-accepted_is_runnable = read_is_runnable patterns
+    subst IsBounded a.same (bounded_from (declared ss).names (1 + length (lines_of text)) no_tally nothing_built ss none keeps_nothing)

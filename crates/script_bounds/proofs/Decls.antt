@@ -12,7 +12,7 @@ use Rattle.script_tree.specs.declared.decl.Kind.TheVariants as kinds
 use Rattle.script_tree.specs.declared.decl.Decl.{Decl}
 use Rattle.script_tree.specs.declared.decl.Decl.TheVariants.{Named, Action}
 use Rattle.script_flat.specs.Flat.{Bodies, nesting, no_bodies, bodies_of, with_decl, with_decls}
-use Rattle.list_machine.specs.Script.{thread_of}
+use Rattle.machine_rules.specs.Declarations.{declared_thread}
 use Rattle.script_table.specs.declared.form.Form.{Form}
 use Rattle.script_table.specs.declared.form.Form.TheVariants as form
 use Rattle.script_table.specs.declared.form.ObjectForm.{ObjectForm}
@@ -36,14 +36,14 @@ bodies_in (Some (Named name (kinds.Cleanup steps))) = steps ∷ []
 bodies_in (Some other) = []
 
 abbrev pub threads_in : Option Decl → ℕ
-threads_in d = length (filter_map thread_of (option_to_list d))
+threads_in d = length (filter_map declared_thread (option_to_list d))
 
 decls_more : (decls : List Decl) (d : Decl) (b : Bodies Block) →
     with_decls (λ steps. steps) (decls ++ d ∷ []) b ≡ with_decl (λ steps. steps) d (with_decls (λ steps. steps) decls b)
 decls_more [] d b = refl
 decls_more (e ∷ decls) d b = decls_more decls d (with_decl (λ steps. steps) e b)
 
-decl_more : (d : Decl) (b : Bodies Block) → (with_decl (λ steps. steps) d b).all ≡ b.all ++ bodies_in (Some d)
+pub decl_more : (d : Decl) (b : Bodies Block) → (with_decl (λ steps. steps) d b).all ≡ b.all ++ bodies_in (Some d)
 decl_more (Named name (kinds.Thread policy start steps)) b = refl
 decl_more (Named name (kinds.Handler steps)) b = refl
 decl_more (Named name (kinds.Cleanup steps)) b = refl
@@ -54,8 +54,8 @@ bodies_more decls None = ap (λ (ds : List Decl). (bodies_of ds).all) (append-ni
 bodies_more decls (Some d) =
     ap (λ (b : Bodies Block). b.all) (decls_more decls d no_bodies) ∙ decl_more d (with_decls (λ steps. steps) decls no_bodies)
 
-threads_more : (decls : List Decl) (d : Option Decl) → length (filter_map thread_of (decls ++ option_to_list d)) ≡ length (filter_map thread_of decls) + threads_in d
-threads_more decls d = ap length (filter_map-append thread_of decls (option_to_list d)) ∙ length-append (filter_map thread_of decls) (filter_map thread_of (option_to_list d))
+threads_more : (decls : List Decl) (d : Option Decl) → length (filter_map declared_thread (decls ++ option_to_list d)) ≡ length (filter_map declared_thread decls) + threads_in d
+threads_more decls d = ap length (filter_map-append declared_thread decls (option_to_list d)) ∙ length-append (filter_map declared_thread decls) (filter_map declared_thread (option_to_list d))
 
 -- what the machine asks of a body
 abbrev pub IsShort : Block → Type 0
@@ -209,7 +209,7 @@ open_bodies (o ∷ blocks) = own_body o.form + open_bodies blocks
 
 -- what is declared, with what is open, against the counts of the lines
 pub record Declares (threads bodies : ℕ) (blocks : List Opened) (decls : List Decl) : Type 0 where
-  pub few : length (filter_map thread_of decls) + open_threads blocks ≤ threads
+  pub few : length (filter_map declared_thread decls) + open_threads blocks ≤ threads
   pub numbered : length (bodies_of decls).all + open_bodies blocks ≤ bodies
   pub short : All IsShort (bodies_of decls).all
   pub nested : All IsShallow (bodies_of decls).all

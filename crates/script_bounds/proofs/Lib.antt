@@ -2,3 +2,12 @@ mod Steps
 mod Blocks
 mod Decls
 pub mod Bounds
+pub mod Listed
+pub mod EachDecl
+pub mod EachBody
+pub mod Operands
+pub mod Calls
+pub mod BuiltForms
+pub mod Declared
+pub mod Objects
+pub mod Runnable

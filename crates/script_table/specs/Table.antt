@@ -36,10 +36,10 @@ declaration_patterns =
     row form.Quantum Nowhere true (Keyword (codes "quantum") ∷ Number 1 greatest ∷ []) ∷
     row (form.Body body.FifoAt) Nowhere true (Keyword (codes "thread") ∷ Declares kind.Thread ∷ Keyword (codes "fifo") ∷ priority ∷ Keyword (codes "at") ∷ amount ∷ []) ∷
     row (form.Body body.FifoDormant) Nowhere true (Keyword (codes "thread") ∷ Declares kind.Thread ∷ Keyword (codes "fifo") ∷ priority ∷ Keyword (codes "dormant") ∷ []) ∷
-    row (form.Body body.RrAt) Nowhere false (Keyword (codes "thread") ∷ Declares kind.Thread ∷ Keyword (codes "rr") ∷ priority ∷ Keyword (codes "at") ∷ amount ∷ []) ∷
-    row (form.Body body.RrDormant) Nowhere false (Keyword (codes "thread") ∷ Declares kind.Thread ∷ Keyword (codes "rr") ∷ priority ∷ Keyword (codes "dormant") ∷ []) ∷
-    row (form.Body body.SporadicAt) Nowhere false (Keyword (codes "thread") ∷ Declares kind.Thread ∷ Keyword (codes "sporadic") ∷ priority ∷ priority ∷ amount ∷ amount ∷ amount ∷ Keyword (codes "at") ∷ amount ∷ []) ∷
-    row (form.Body body.SporadicDormant) Nowhere false (Keyword (codes "thread") ∷ Declares kind.Thread ∷ Keyword (codes "sporadic") ∷ priority ∷ priority ∷ amount ∷ amount ∷ amount ∷ Keyword (codes "dormant") ∷ []) ∷
+    row (form.Body body.RrAt) Nowhere true (Keyword (codes "thread") ∷ Declares kind.Thread ∷ Keyword (codes "rr") ∷ priority ∷ Keyword (codes "at") ∷ amount ∷ []) ∷
+    row (form.Body body.RrDormant) Nowhere true (Keyword (codes "thread") ∷ Declares kind.Thread ∷ Keyword (codes "rr") ∷ priority ∷ Keyword (codes "dormant") ∷ []) ∷
+    row (form.Body body.SporadicAt) Nowhere true (Keyword (codes "thread") ∷ Declares kind.Thread ∷ Keyword (codes "sporadic") ∷ priority ∷ priority ∷ amount ∷ amount ∷ amount ∷ Keyword (codes "at") ∷ amount ∷ []) ∷
+    row (form.Body body.SporadicDormant) Nowhere true (Keyword (codes "thread") ∷ Declares kind.Thread ∷ Keyword (codes "sporadic") ∷ priority ∷ priority ∷ amount ∷ amount ∷ amount ∷ Keyword (codes "dormant") ∷ []) ∷
     row (form.Body body.Handler) Nowhere true (Keyword (codes "handler") ∷ Declares kind.Handler ∷ []) ∷
     row (form.Body body.Cleanup) Nowhere true (Keyword (codes "cleanup") ∷ Declares kind.Cleanup ∷ []) ∷
     row (form.Object object.MutexNone) Nowhere false (Keyword (codes "mutex") ∷ Declares kind.Mutex ∷ Keyword (codes "none") ∷ []) ∷
@@ -78,17 +78,17 @@ step_patterns =
 unfoldable pub call_patterns : List Row
 call_patterns =
     row (form.Call (call.Thread thread.Yield)) Nowhere true (Keyword (codes "yield") ∷ []) ∷
-    row (form.Call (call.Thread thread.Create)) Nowhere false (Keyword (codes "create") ∷ Uses kind.Thread ∷ []) ∷
+    row (form.Call (call.Thread thread.Create)) Nowhere true (Keyword (codes "create") ∷ Uses kind.Thread ∷ []) ∷
     row (form.Call (call.Thread thread.Join)) HandlersAndCleanups false (Keyword (codes "join") ∷ Uses kind.Thread ∷ []) ∷
     row (form.Call (call.Thread thread.Cancel)) Nowhere false (Keyword (codes "cancel") ∷ Uses kind.Thread ∷ []) ∷
     row (form.Call (call.Thread thread.Testcancel)) HandlersAndCleanups false (Keyword (codes "testcancel") ∷ []) ∷
     row (form.Call (call.Thread thread.SetcancelEnable)) Nowhere false (Keyword (codes "setcancel") ∷ Keyword (codes "enable") ∷ []) ∷
     row (form.Call (call.Thread thread.SetcancelDisable)) Nowhere false (Keyword (codes "setcancel") ∷ Keyword (codes "disable") ∷ []) ∷
     row (form.Call (call.Thread thread.Exit)) HandlersAndCleanups false (Keyword (codes "exit") ∷ Operand ∷ []) ∷
-    row (form.Call (call.Thread thread.Setprio)) Nowhere false (Keyword (codes "setprio") ∷ Uses kind.Thread ∷ priority ∷ []) ∷
-    row (form.Call (call.Thread thread.SetschedFifo)) Nowhere false (Keyword (codes "setsched") ∷ Uses kind.Thread ∷ Keyword (codes "fifo") ∷ priority ∷ []) ∷
-    row (form.Call (call.Thread thread.SetschedRr)) Nowhere false (Keyword (codes "setsched") ∷ Uses kind.Thread ∷ Keyword (codes "rr") ∷ priority ∷ []) ∷
-    row (form.Call (call.Thread thread.SetschedSporadic)) Nowhere false (Keyword (codes "setsched") ∷ Uses kind.Thread ∷ Keyword (codes "sporadic") ∷ priority ∷ priority ∷ amount ∷ amount ∷ amount ∷ []) ∷
+    row (form.Call (call.Thread thread.Setprio)) Nowhere true (Keyword (codes "setprio") ∷ Uses kind.Thread ∷ priority ∷ []) ∷
+    row (form.Call (call.Thread thread.SetschedFifo)) Nowhere true (Keyword (codes "setsched") ∷ Uses kind.Thread ∷ Keyword (codes "fifo") ∷ priority ∷ []) ∷
+    row (form.Call (call.Thread thread.SetschedRr)) Nowhere true (Keyword (codes "setsched") ∷ Uses kind.Thread ∷ Keyword (codes "rr") ∷ priority ∷ []) ∷
+    row (form.Call (call.Thread thread.SetschedSporadic)) Nowhere true (Keyword (codes "setsched") ∷ Uses kind.Thread ∷ Keyword (codes "sporadic") ∷ priority ∷ priority ∷ amount ∷ amount ∷ amount ∷ []) ∷
     row (form.Call (call.Mutex mutex.Lock)) HandlersAndCleanups false (Keyword (codes "lock") ∷ Uses kind.Mutex ∷ []) ∷
     row (form.Call (call.Mutex mutex.Timedlock)) HandlersAndCleanups false (Keyword (codes "timedlock") ∷ Uses kind.Mutex ∷ Operand ∷ []) ∷
     row (form.Call (call.Mutex mutex.Trylock)) Nowhere false (Keyword (codes "trylock") ∷ Uses kind.Mutex ∷ []) ∷
@@ -102,9 +102,9 @@ call_patterns =
     row (form.Call (call.Sem sem.Trywait)) Nowhere false (Keyword (codes "sem_trywait") ∷ Uses kind.Sem ∷ []) ∷
     row (form.Call (call.Sem sem.Getvalue)) Nowhere false (Keyword (codes "sem_getvalue") ∷ Uses kind.Sem ∷ []) ∷
     row (form.Call (call.Sem sem.Post)) Nowhere false (Keyword (codes "sem_post") ∷ Uses kind.Sem ∷ []) ∷
-    row (form.Call (call.Time time.Nanosleep)) HandlersAndCleanups false (Keyword (codes "nanosleep") ∷ amount ∷ []) ∷
+    row (form.Call (call.Time time.Nanosleep)) HandlersAndCleanups true (Keyword (codes "nanosleep") ∷ amount ∷ []) ∷
     row (form.Call (call.Time time.ClockNanosleep)) HandlersAndCleanups false (Keyword (codes "clock_nanosleep") ∷ Operand ∷ []) ∷
-    row (form.Call (call.Time time.Gettime)) Nowhere false (Keyword (codes "gettime") ∷ []) ∷
+    row (form.Call (call.Time time.Gettime)) Nowhere true (Keyword (codes "gettime") ∷ []) ∷
     row (form.Call (call.Time time.TimerSettimeRel)) Nowhere false (Keyword (codes "timer_settime") ∷ Uses kind.Timer ∷ Keyword (codes "rel") ∷ amount ∷ amount ∷ []) ∷
     row (form.Call (call.Time time.TimerSettimeAbs)) Nowhere false (Keyword (codes "timer_settime") ∷ Uses kind.Timer ∷ Keyword (codes "abs") ∷ Operand ∷ amount ∷ []) ∷
     row (form.Call (call.Time time.TimerGettime)) Nowhere false (Keyword (codes "timer_gettime") ∷ Uses kind.Timer ∷ []) ∷

@@ -1,4 +1,4 @@
-use Rattle.script_bounds.proofs.Bounds.{accepted_is_runnable}
+use Rattle.script_bounds.proofs.Listed.{accepted_is_runnable}
 use Rattle.script_bounds.proofs.accepted_scripts_are_runnable.Goals as goal
 
 pub returns : goal.returns

@@ -1,4 +1,4 @@
-use Rattle.script_bounds.proofs.Bounds.{accepted_is_runnable}
+use Rattle.script_bounds.proofs.Listed.{accepted_is_runnable}
 use Rattle.pse52_tool.proofs.tool.run_text.Goals as goal
 
 pub run_script-requires-clause-runnable : goal.run_script-requires-clause-runnable

@@ -1,4 +1,4 @@
-use Rattle.script_bounds.proofs.Bounds.{accepted_is_runnable}
+use Rattle.script_bounds.proofs.Listed.{accepted_is_runnable}
 use Rattle.tool_tests.proofs.parts.run_to_three.Goals as goal
 
 pub open-requires : goal.open-requires

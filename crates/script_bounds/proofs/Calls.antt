@@ -1,0 +1,217 @@
+-- The call that a line makes, whatever form it has and whatever its words are: it names what is declared, its numbers are in range, a
+-- server has a budget, and it is built if its form is.
+use Rattle.std.proofs.Common.{ℕ, ◌≡◌, ◌<◌, List, Option, true, refl, arith}
+use Rattle.std.specs.Option.{IfSome, option_map}
+use Rattle.script_tree.specs.declared.call.Call.{Call}
+use Rattle.script_tree.specs.declared.call.Call.TheVariants as calls
+use Rattle.script_tree.specs.declared.call.Operand.{Operand}
+use Rattle.script_tree.specs.declared.call.Operand.TheVariants.{Reg}
+use Rattle.script_tree.specs.declared.policy.Policy.{Policy}
+use Rattle.script_tree.specs.declared.policy.Policy.TheVariants.{Fifo}
+use Rattle.script_table.specs.declared.form.CallForm.{CallForm}
+use Rattle.script_table.specs.declared.form.CallForm.TheVariants as call
+use Rattle.script_table.specs.declared.form.ThreadCall.{ThreadCall}
+use Rattle.script_table.specs.declared.form.ThreadCall.TheVariants as thread
+use Rattle.script_table.specs.declared.form.MutexCall.{MutexCall}
+use Rattle.script_table.specs.declared.form.MutexCall.TheVariants as mutex
+use Rattle.script_table.specs.declared.form.SemCall.{SemCall}
+use Rattle.script_table.specs.declared.form.SemCall.TheVariants as sem
+use Rattle.script_table.specs.declared.form.TimeCall.{TimeCall}
+use Rattle.script_table.specs.declared.form.TimeCall.TheVariants as time
+use Rattle.script_table.specs.declared.form.SignalCall.{SignalCall}
+use Rattle.script_table.specs.declared.form.SignalCall.TheVariants as signal
+use Rattle.script_table.specs.declared.form.MessageCall.{MessageCall}
+use Rattle.script_table.specs.declared.form.MessageCall.TheVariants as message
+use Rattle.script_table.specs.declared.pattern.NameKind.{NameKind}
+use Rattle.script_table.specs.declared.pattern.NameKind.TheVariants as kind
+use Rattle.script_table.specs.Names.{Entry}
+use Rattle.script_table.specs.Operands.{map_two, number_in, amount_at, priority_at, operand_at, signal_at, signals_at, named_at, fifo_at, rr_at, sporadic_at}
+use Rattle.script_table.specs.Calls.{thread_call, mutex_call, sem_call, time_call, signal_call, message_call, call_of}
+use Rattle.machine_flat.specs.Built.{is_built}
+use Rattle.machine_flat.specs.KnownCalls.{Objects, KnowsObjects, IsNumber, IsOperand, IsSignal}
+use Rattle.machine_flat.specs.Runnable.{HasBudget, CallHasBudget}
+use Rattle.script_bounds.proofs.Operands.{mapped, mapped_two, mapped_three, mapped_four, mapped_five, Any, anything, IsFrom, number_within, amount_within, operand_within, signal_within, fifo_within, rr_within, sporadic_within, AllBelow, named_within}
+
+-- a call of each form
+abbrev pub example : CallForm → Call
+example (call.Thread thread.Yield) = calls.Yield
+example (call.Thread thread.Create) = calls.Create 0
+example (call.Thread thread.Join) = calls.Join 0
+example (call.Thread thread.Cancel) = calls.Cancel 0
+example (call.Thread thread.Testcancel) = calls.Testcancel
+example (call.Thread thread.SetcancelEnable) = calls.Setcancel true
+example (call.Thread thread.SetcancelDisable) = calls.Setcancel true
+example (call.Thread thread.Exit) = calls.Exit Reg
+example (call.Thread thread.Setprio) = calls.Setprio 0 0
+example (call.Thread thread.SetschedFifo) = calls.Setsched 0 (Fifo 0)
+example (call.Thread thread.SetschedRr) = calls.Setsched 0 (Fifo 0)
+example (call.Thread thread.SetschedSporadic) = calls.Setsched 0 (Fifo 0)
+example (call.Mutex mutex.Lock) = calls.Lock 0
+example (call.Mutex mutex.Timedlock) = calls.Timedlock 0 Reg
+example (call.Mutex mutex.Trylock) = calls.Trylock 0
+example (call.Mutex mutex.Unlock) = calls.Unlock 0
+example (call.Mutex mutex.Wait) = calls.Wait 0 0
+example (call.Mutex mutex.Timedwait) = calls.Timedwait 0 0 Reg
+example (call.Mutex mutex.Signal) = calls.Signal 0
+example (call.Mutex mutex.Broadcast) = calls.Broadcast 0
+example (call.Sem sem.Wait) = calls.SemWait 0
+example (call.Sem sem.Timedwait) = calls.SemTimedwait 0 Reg
+example (call.Sem sem.Trywait) = calls.SemTrywait 0
+example (call.Sem sem.Getvalue) = calls.SemGetvalue 0
+example (call.Sem sem.Post) = calls.SemPost 0
+example (call.Time time.Nanosleep) = calls.Nanosleep 0
+example (call.Time time.ClockNanosleep) = calls.ClockNanosleep Reg
+example (call.Time time.Gettime) = calls.Gettime
+example (call.Time time.TimerSettimeRel) = calls.TimerSettimeRel 0 0 0
+example (call.Time time.TimerSettimeAbs) = calls.TimerSettimeAbs 0 Reg 0
+example (call.Time time.TimerGettime) = calls.TimerGettime 0
+example (call.Time time.TimerGetoverrun) = calls.TimerGetoverrun 0
+example (call.Signal signal.Kill) = calls.Kill 0
+example (call.Signal signal.Tkill) = calls.Tkill 0 0
+example (call.Signal signal.Sigqueue) = calls.Sigqueue 0 Reg
+example (call.Signal signal.SigmaskBlock) = calls.SigmaskBlock 0
+example (call.Signal signal.SigmaskUnblock) = calls.SigmaskUnblock 0
+example (call.Signal signal.SigmaskSet) = calls.SigmaskSet 0
+example (call.Signal signal.Sigwaitinfo) = calls.Sigwaitinfo 0
+example (call.Signal signal.Sigtimedwait) = calls.Sigtimedwait 0 0
+example (call.Message message.Send) = calls.MqSend 0 0 0 Reg
+example (call.Message message.Timedsend) = calls.MqTimedsend 0 0 0 Reg Reg
+example (call.Message message.Receive) = calls.MqReceive 0
+example (call.Message message.Timedreceive) = calls.MqTimedreceive 0 Reg
+example (call.Message message.Notify) = calls.MqNotify 0 0 Reg
+
+-- how many there are of each kind that calls name by number
+abbrev pub objects_by : (NameKind → ℕ) → Objects
+objects_by count = record {
+  threads = count kind.Thread;
+  cleanups = count kind.Cleanup;
+  mutexes = count kind.Mutex;
+  semaphores = count kind.Sem;
+  queues = count kind.Queue;
+  timers = count kind.Timer;
+}
+
+-- a call knows what is declared, has a budget where it sets a server, and is built if the form's example is
+abbrev pub Fits : (NameKind → ℕ) → CallForm → Call → Type 0
+Fits count f c = KnowsObjects (objects_by count) c × CallHasBudget c × (is_built c ≡ is_built (example f))
+
+module _ (count : NameKind → ℕ) (es : List Entry) (below : AllBelow count es) (words : List (List ℕ)) where
+  abbrev Below : NameKind → ℕ → Type 0
+  Below kind n = n < count kind
+
+  -- calls of the first word's name, alone and with an operand
+  of_name : (f : CallForm) (kind : NameKind) (make : ℕ → Call) → ((n : ℕ) → n < count kind → Fits count f (make n))
+      → IfSome (option_map make (named_at kind es 1 words)) (Fits count f)
+  of_name f kind make each = mapped (Below kind) (Fits count f) make each (named_at kind es 1 words) (named_within count es below kind 1 words)
+
+  of_name_and_operand : (f : CallForm) (kind : NameKind) (make : ℕ → Operand → Call) → ((n : ℕ) (v : Operand) → n < count kind → IsOperand v → Fits count f (make n v))
+      → IfSome (map_two make (named_at kind es 1 words) (operand_at 2 words)) (Fits count f)
+  of_name_and_operand f kind make each =
+      mapped_two (Below kind) IsOperand (Fits count f) make each (named_at kind es 1 words) (operand_at 2 words) (named_within count es below kind 1 words) (operand_within 2 words)
+
+  -- a call that sets a policy
+  of_policy : (f : CallForm) (policy : Option Policy) → IfSome policy HasBudget → is_built (calls.Setsched 0 (Fifo 0)) ≡ is_built (example f)
+      → IfSome (map_two calls.Setsched (named_at kind.Thread es 1 words) policy) (Fits count f)
+  of_policy f policy budget same =
+      mapped_two (Below kind.Thread) HasBudget (Fits count f) calls.Setsched (λ u p h b. (h, b, same)) (named_at kind.Thread es 1 words) policy
+      (named_within count es below kind.Thread 1 words) budget
+
+  -- a call with a set of signals
+  of_set : (f : CallForm) (k : ℕ) (make : ℕ → Call) → ((set : ℕ) → Fits count f (make set)) → IfSome (option_map make (signals_at k words)) (Fits count f)
+  of_set f k make each = mapped Any (Fits count f) make (λ set h. each set) (signals_at k words) (anything (signals_at k words))
+
+  thread_fits : (f : ThreadCall) → IfSome (thread_call es f words) (Fits count (call.Thread f))
+  thread_fits thread.Yield = (tt, tt, refl)
+  thread_fits thread.Create = of_name (call.Thread thread.Create) kind.Thread calls.Create (λ u h. (h, tt, refl))
+  thread_fits thread.Join = of_name (call.Thread thread.Join) kind.Thread calls.Join (λ u h. (h, tt, refl))
+  thread_fits thread.Cancel = of_name (call.Thread thread.Cancel) kind.Thread calls.Cancel (λ u h. (h, tt, refl))
+  thread_fits thread.Testcancel = (tt, tt, refl)
+  thread_fits thread.SetcancelEnable = (tt, tt, refl)
+  thread_fits thread.SetcancelDisable = (tt, tt, refl)
+  thread_fits thread.Exit = mapped IsOperand (Fits count (call.Thread thread.Exit)) calls.Exit (λ v h. (h, tt, refl)) (operand_at 1 words) (operand_within 1 words)
+  thread_fits thread.Setprio =
+      mapped_two (Below kind.Thread) Any (Fits count (call.Thread thread.Setprio)) calls.Setprio (λ u p h k. (h, tt, refl)) (named_at kind.Thread es 1 words) (priority_at 2 words)
+      (named_within count es below kind.Thread 1 words) (anything (priority_at 2 words))
+  thread_fits thread.SetschedFifo = of_policy (call.Thread thread.SetschedFifo) (fifo_at 3 words) (fifo_within 3 words) refl
+  thread_fits thread.SetschedRr = of_policy (call.Thread thread.SetschedRr) (rr_at 3 words) (rr_within 3 words) refl
+  thread_fits thread.SetschedSporadic = of_policy (call.Thread thread.SetschedSporadic) (sporadic_at words) (sporadic_within words) refl
+
+  mutex_fits : (f : MutexCall) → IfSome (mutex_call es f words) (Fits count (call.Mutex f))
+  mutex_fits mutex.Lock = of_name (call.Mutex mutex.Lock) kind.Mutex calls.Lock (λ k h. (h, tt, refl))
+  mutex_fits mutex.Timedlock = of_name_and_operand (call.Mutex mutex.Timedlock) kind.Mutex calls.Timedlock (λ k at h o. ((h, o), tt, refl))
+  mutex_fits mutex.Trylock = of_name (call.Mutex mutex.Trylock) kind.Mutex calls.Trylock (λ k h. (h, tt, refl))
+  mutex_fits mutex.Unlock = of_name (call.Mutex mutex.Unlock) kind.Mutex calls.Unlock (λ k h. (h, tt, refl))
+  mutex_fits mutex.Wait =
+      mapped_two Any (Below kind.Mutex) (Fits count (call.Mutex mutex.Wait)) calls.Wait (λ c k any h. (h, tt, refl)) (named_at kind.Cond es 1 words) (named_at kind.Mutex es 2 words)
+      (anything (named_at kind.Cond es 1 words)) (named_within count es below kind.Mutex 2 words)
+  mutex_fits mutex.Timedwait =
+      mapped_three Any (Below kind.Mutex) IsOperand (Fits count (call.Mutex mutex.Timedwait)) calls.Timedwait (λ c k at any h o. ((h, o), tt, refl))
+      (named_at kind.Cond es 1 words) (named_at kind.Mutex es 2 words) (operand_at 3 words)
+      (anything (named_at kind.Cond es 1 words)) (named_within count es below kind.Mutex 2 words) (operand_within 3 words)
+  mutex_fits mutex.Signal = of_name (call.Mutex mutex.Signal) kind.Cond calls.Signal (λ c h. (tt, tt, refl))
+  mutex_fits mutex.Broadcast = of_name (call.Mutex mutex.Broadcast) kind.Cond calls.Broadcast (λ c h. (tt, tt, refl))
+
+  sem_fits : (f : SemCall) → IfSome (sem_call es f words) (Fits count (call.Sem f))
+  sem_fits sem.Wait = of_name (call.Sem sem.Wait) kind.Sem calls.SemWait (λ k h. (h, tt, refl))
+  sem_fits sem.Timedwait = of_name_and_operand (call.Sem sem.Timedwait) kind.Sem calls.SemTimedwait (λ k at h o. ((h, o), tt, refl))
+  sem_fits sem.Trywait = of_name (call.Sem sem.Trywait) kind.Sem calls.SemTrywait (λ k h. (h, tt, refl))
+  sem_fits sem.Getvalue = of_name (call.Sem sem.Getvalue) kind.Sem calls.SemGetvalue (λ k h. (h, tt, refl))
+  sem_fits sem.Post = of_name (call.Sem sem.Post) kind.Sem calls.SemPost (λ k h. (h, tt, refl))
+
+  time_fits : (f : TimeCall) → IfSome (time_call es f words) (Fits count (call.Time f))
+  time_fits time.Nanosleep = mapped IsNumber (Fits count (call.Time time.Nanosleep)) calls.Nanosleep (λ n h. (h, tt, refl)) (amount_at 1 words) (amount_within 1 words)
+  time_fits time.ClockNanosleep =
+      mapped IsOperand (Fits count (call.Time time.ClockNanosleep)) calls.ClockNanosleep (λ at h. (h, tt, refl)) (operand_at 1 words) (operand_within 1 words)
+  time_fits time.Gettime = (tt, tt, refl)
+  time_fits time.TimerSettimeRel =
+      mapped_three (Below kind.Timer) IsNumber IsNumber (Fits count (call.Time time.TimerSettimeRel)) calls.TimerSettimeRel (λ k n i h a b. ((h, a, b), tt, refl))
+      (named_at kind.Timer es 1 words) (amount_at 3 words) (amount_at 4 words)
+      (named_within count es below kind.Timer 1 words) (amount_within 3 words) (amount_within 4 words)
+  time_fits time.TimerSettimeAbs =
+      mapped_three (Below kind.Timer) IsOperand IsNumber (Fits count (call.Time time.TimerSettimeAbs)) calls.TimerSettimeAbs (λ k at i h a b. ((h, a, b), tt, refl))
+      (named_at kind.Timer es 1 words) (operand_at 3 words) (amount_at 4 words)
+      (named_within count es below kind.Timer 1 words) (operand_within 3 words) (amount_within 4 words)
+  time_fits time.TimerGettime = of_name (call.Time time.TimerGettime) kind.Timer calls.TimerGettime (λ k h. (h, tt, refl))
+  time_fits time.TimerGetoverrun = of_name (call.Time time.TimerGetoverrun) kind.Timer calls.TimerGetoverrun (λ k h. (h, tt, refl))
+
+  signal_fits : (f : SignalCall) → IfSome (signal_call es f words) (Fits count (call.Signal f))
+  signal_fits signal.Kill = mapped IsSignal (Fits count (call.Signal signal.Kill)) calls.Kill (λ k h. (h, tt, refl)) (signal_at 1 words) (signal_within 1 words)
+  signal_fits signal.Tkill =
+      mapped_two (Below kind.Thread) IsSignal (Fits count (call.Signal signal.Tkill)) calls.Tkill (λ u k h s. ((h, s), tt, refl))
+      (named_at kind.Thread es 1 words) (signal_at 2 words) (named_within count es below kind.Thread 1 words) (signal_within 2 words)
+  signal_fits signal.Sigqueue =
+      mapped_two IsSignal IsOperand (Fits count (call.Signal signal.Sigqueue)) calls.Sigqueue (λ k v s o. ((s, o), tt, refl))
+      (signal_at 1 words) (operand_at 2 words) (signal_within 1 words) (operand_within 2 words)
+  signal_fits signal.SigmaskBlock = of_set (call.Signal signal.SigmaskBlock) 2 calls.SigmaskBlock (λ set. (tt, tt, refl))
+  signal_fits signal.SigmaskUnblock = of_set (call.Signal signal.SigmaskUnblock) 2 calls.SigmaskUnblock (λ set. (tt, tt, refl))
+  signal_fits signal.SigmaskSet = of_set (call.Signal signal.SigmaskSet) 2 calls.SigmaskSet (λ set. (tt, tt, refl))
+  signal_fits signal.Sigwaitinfo = of_set (call.Signal signal.Sigwaitinfo) 1 calls.Sigwaitinfo (λ set. (tt, tt, refl))
+  signal_fits signal.Sigtimedwait =
+      mapped_two Any IsNumber (Fits count (call.Signal signal.Sigtimedwait)) calls.Sigtimedwait (λ set n any h. (h, tt, refl))
+      (signals_at 1 words) (amount_at 2 words) (anything (signals_at 1 words)) (amount_within 2 words)
+
+  message_fits : (f : MessageCall) → IfSome (message_call es f words) (Fits count (call.Message f))
+  message_fits message.Send =
+      mapped_four (Below kind.Queue) Any (IsFrom 0 31) IsOperand (Fits count (call.Message message.Send)) calls.MqSend
+      (λ q len p v h any r o. ((h, omega (arith, r.1), o), tt, refl))
+      (named_at kind.Queue es 1 words) (number_in 0 65536 2 words) (number_in 0 31 3 words) (operand_at 4 words)
+      (named_within count es below kind.Queue 1 words) (anything (number_in 0 65536 2 words)) (number_within 0 31 3 words) (operand_within 4 words)
+  message_fits message.Timedsend =
+      mapped_five (Below kind.Queue) Any (IsFrom 0 31) IsOperand IsOperand (Fits count (call.Message message.Timedsend)) calls.MqTimedsend
+      (λ q len p v at h any r o a. ((h, omega (arith, r.1), o, a), tt, refl))
+      (named_at kind.Queue es 1 words) (number_in 0 65536 2 words) (number_in 0 31 3 words) (operand_at 4 words) (operand_at 5 words)
+      (named_within count es below kind.Queue 1 words) (anything (number_in 0 65536 2 words)) (number_within 0 31 3 words) (operand_within 4 words) (operand_within 5 words)
+  message_fits message.Receive = of_name (call.Message message.Receive) kind.Queue calls.MqReceive (λ q h. (h, tt, refl))
+  message_fits message.Timedreceive = of_name_and_operand (call.Message message.Timedreceive) kind.Queue calls.MqTimedreceive (λ q at h o. ((h, o), tt, refl))
+  message_fits message.Notify =
+      mapped_three (Below kind.Queue) IsSignal IsOperand (Fits count (call.Message message.Notify)) calls.MqNotify (λ q k v h s o. ((h, s, o), tt, refl))
+      (named_at kind.Queue es 1 words) (signal_at 2 words) (operand_at 3 words)
+      (named_within count es below kind.Queue 1 words) (signal_within 2 words) (operand_within 3 words)
+
+  pub call_fits : (f : CallForm) → IfSome (call_of es f words) (Fits count f)
+  call_fits (call.Thread f) = thread_fits f
+  call_fits (call.Mutex f) = mutex_fits f
+  call_fits (call.Sem f) = sem_fits f
+  call_fits (call.Time f) = time_fits f
+  call_fits (call.Signal f) = signal_fits f
+  call_fits (call.Message f) = message_fits f

@@ -1,0 +1,146 @@
+-- What a line declares can be run, where its form is built, and what follows of all that is declared.
+use Rattle.std.proofs.Common.{ℕ, ◌≡◌, List, [], ◌∷◌, Option, None, Some, true, false, refl, sym, subst}
+use Rattle.std.specs.Prelude.{All, filter_map, fold}
+use Rattle.std.specs.Option.{IfSome}
+use Rattle.std.proofs.lemmas.List.Elements.{All-nil, All-cons, All-append}
+use Rattle.script_tree.specs.Block.{Block}
+use Rattle.script_tree.specs.declared.call.Call.{Call}
+use Rattle.script_tree.specs.declared.policy.Policy.{Policy}
+use Rattle.script_tree.specs.declared.decl.Kind.TheVariants as kinds
+use Rattle.script_tree.specs.declared.decl.Decl.{Decl}
+use Rattle.script_tree.specs.declared.decl.Decl.TheVariants.{Named, Action}
+use Rattle.script_flat.specs.Flat.{Bodies, no_bodies, with_decl, with_decls, bodies_of}
+use Rattle.script_table.specs.declared.form.Form.TheVariants as form
+use Rattle.script_table.specs.declared.form.ObjectForm.{ObjectForm}
+use Rattle.script_table.specs.declared.form.ActionForm.{ActionForm}
+use Rattle.script_table.specs.declared.form.BodyForm.{BodyForm}
+use Rattle.script_table.specs.declared.form.BodyForm.TheVariants as body
+use Rattle.script_table.specs.Names.{Entry}
+use Rattle.script_table.specs.Operands.{map_two, amount_at, name_at, fifo_at, rr_at, sporadic_at}
+use Rattle.script_table.specs.Meaning.{object_decl, action_decl, thread_at, thread_dormant, body_decl}
+use Rattle.machine_rules.specs.declared.signal.SigAction.{SigAction}
+use Rattle.machine_rules.specs.Declarations.{ThreadDecl, declared_thread, named, mutex_kind, semaphore_kind, queue_kind, timer_kind, with_action}
+use Rattle.machine_flat.specs.EachCall.{EachCall}
+use Rattle.machine_flat.specs.Runnable.{HasBudget}
+use Rattle.script_bounds.proofs.Decls.{bodies_in, decl_more}
+use Rattle.script_bounds.proofs.EachDecl.{Each}
+use Rattle.script_bounds.proofs.Operands.{fifo_within, rr_within, sporadic_within}
+use Rattle.script_bounds.proofs.BuiltForms.{is_built_form}
+
+-- A thread's policy has a budget, and P holds of each call of each body. No other declaration is built yet.
+abbrev pub DeclRuns : (Call → Type 0) → Decl → Type 0
+DeclRuns P (Named name (kinds.Thread policy start steps)) = HasBudget policy × EachCall P steps
+DeclRuns P (Named name (kinds.Handler steps)) = EachCall P steps
+DeclRuns P (Named name (kinds.Cleanup steps)) = EachCall P steps
+DeclRuns P other = ⊥
+
+module _ (P : Call → Type 0) where
+  abbrev Runs : Decl → Type 0
+  Runs d = DeclRuns P d
+
+  -- what each line declares
+  pub object_runs : (f : ObjectForm) (words : List (List ℕ)) → is_built_form (form.Object f) ≡ true → IfSome (object_decl f words) Runs
+  object_runs f words built = absurd (let e : false ≡ true = built in cc)
+
+  pub action_runs : (es : List Entry) (f : ActionForm) (words : List (List ℕ)) → is_built_form (form.Action f) ≡ true → IfSome (action_decl es f words) Runs
+  action_runs es f words built = absurd (let e : false ≡ true = built in cc)
+
+  at_runs : (name : Option (List ℕ)) (policy : Option Policy) (start : Option ℕ) (steps : Block) → EachCall P steps → IfSome policy HasBudget
+      → IfSome (map_two Named name (thread_at policy start steps)) Runs
+  at_runs None policy start steps inside budget = tt
+  at_runs (Some name) None start steps inside budget = tt
+  at_runs (Some name) (Some policy) None steps inside budget = tt
+  at_runs (Some name) (Some policy) (Some start) steps inside budget = (budget, inside)
+
+  dormant_runs : (name : Option (List ℕ)) (policy : Option Policy) (steps : Block) → EachCall P steps → IfSome policy HasBudget
+      → IfSome (map_two Named name (thread_dormant policy steps)) Runs
+  dormant_runs None policy steps inside budget = tt
+  dormant_runs (Some name) None steps inside budget = tt
+  dormant_runs (Some name) (Some policy) steps inside budget = (budget, inside)
+
+  handler_runs : (name : Option (List ℕ)) (steps : Block) → EachCall P steps → IfSome (map_two Named name (Some (kinds.Handler steps))) Runs
+  handler_runs None steps inside = tt
+  handler_runs (Some name) steps inside = inside
+
+  cleanup_runs : (name : Option (List ℕ)) (steps : Block) → EachCall P steps → IfSome (map_two Named name (Some (kinds.Cleanup steps))) Runs
+  cleanup_runs None steps inside = tt
+  cleanup_runs (Some name) steps inside = inside
+
+  pub body_runs : (f : BodyForm) (words : List (List ℕ)) (steps : Block) → EachCall P steps → IfSome (body_decl f words steps) Runs
+  body_runs body.FifoAt words steps inside = at_runs (name_at 1 words) (fifo_at 3 words) (amount_at 5 words) steps inside (fifo_within 3 words)
+  body_runs body.FifoDormant words steps inside = dormant_runs (name_at 1 words) (fifo_at 3 words) steps inside (fifo_within 3 words)
+  body_runs body.RrAt words steps inside = at_runs (name_at 1 words) (rr_at 3 words) (amount_at 5 words) steps inside (rr_within 3 words)
+  body_runs body.RrDormant words steps inside = dormant_runs (name_at 1 words) (rr_at 3 words) steps inside (rr_within 3 words)
+  body_runs body.SporadicAt words steps inside = at_runs (name_at 1 words) (sporadic_at words) (amount_at 9 words) steps inside (sporadic_within words)
+  body_runs body.SporadicDormant words steps inside = dormant_runs (name_at 1 words) (sporadic_at words) steps inside (sporadic_within words)
+  body_runs body.Handler words steps inside = handler_runs (name_at 1 words) steps inside
+  body_runs body.Cleanup words steps inside = cleanup_runs (name_at 1 words) steps inside
+
+  -- the bodies
+  body_holds : (d : Decl) → Runs d → All (EachCall P) (bodies_in (Some d))
+  body_holds (Named name (kinds.Thread policy start steps)) h = All-cons (EachCall P) steps [] h.1 (All-nil (EachCall P))
+  body_holds (Named name (kinds.Handler steps)) h = All-cons (EachCall P) steps [] h (All-nil (EachCall P))
+  body_holds (Named name (kinds.Cleanup steps)) h = All-cons (EachCall P) steps [] h (All-nil (EachCall P))
+  body_holds other h = absurd h
+
+  bodies_hold : (decls : List Decl) (b : Bodies Block) → All (EachCall P) b.all → Each Runs decls → All (EachCall P) (with_decls (λ steps. steps) decls b).all
+  bodies_hold [] b h all = h
+  bodies_hold (d ∷ decls) b h all =
+      bodies_hold decls (with_decl (λ steps. steps) d b)
+      (subst (All (EachCall P)) (sym (decl_more d b)) (All-append (EachCall P) b.all (bodies_in (Some d)) h (body_holds d all.0))) all.1
+
+  pub all_bodies : (decls : List Decl) → Each Runs decls → All (EachCall P) (bodies_of decls).all
+  all_bodies decls all = bodies_hold decls no_bodies (All-nil (EachCall P)) all
+
+  -- the policies of the threads
+  abbrev pub ThreadHasBudget : ThreadDecl → Type 0
+  ThreadHasBudget d = HasBudget d.policy
+
+  thread_case : (d : Decl) (decls : List Decl) → Runs d → All ThreadHasBudget (filter_map declared_thread decls) → All ThreadHasBudget (filter_map declared_thread (d ∷ decls))
+  thread_case (Named name (kinds.Thread policy start steps)) decls h all =
+      All-cons ThreadHasBudget (record { name = name; policy = policy; start = start; body = steps }) (filter_map declared_thread decls) h.0 all
+  thread_case (Named name (kinds.Handler steps)) decls h all = all
+  thread_case (Named name (kinds.Cleanup steps)) decls h all = all
+  thread_case other decls h all = absurd h
+
+  pub all_budgets : (decls : List Decl) → Each Runs decls → All ThreadHasBudget (filter_map declared_thread decls)
+  all_budgets [] all = All-nil ThreadHasBudget
+  all_budgets (d ∷ decls) all = thread_case d decls all.0 (all_budgets decls all.1)
+
+  -- what is not declared
+  none_read : {X : Type 0} (read : Decl → Option X) → ((d : Decl) → Runs d → read d ≡ None) → (decls : List Decl) → Each Runs decls → filter_map read decls ≡ []
+  none_read read none [] all = refl
+  none_read read none (d ∷ decls) all = rw (none d all.0) (none_read read none decls all.1)
+
+  no_mutex : (d : Decl) → Runs d → named mutex_kind d ≡ None
+  no_mutex (Named name (kinds.Mutex protocol recursive)) h = absurd h
+  no_mutex other h = refl
+
+  no_semaphore : (d : Decl) → Runs d → named semaphore_kind d ≡ None
+  no_semaphore (Named name (kinds.Sem value)) h = absurd h
+  no_semaphore other h = refl
+
+  no_queue : (d : Decl) → Runs d → named queue_kind d ≡ None
+  no_queue (Named name (kinds.Queue depth longest nonblock)) h = absurd h
+  no_queue other h = refl
+
+  no_timer : (d : Decl) → Runs d → named timer_kind d ≡ None
+  no_timer (Named name (kinds.Timer sig value)) h = absurd h
+  no_timer other h = refl
+
+  pub no_mutexes : (decls : List Decl) → Each Runs decls → filter_map (named mutex_kind) decls ≡ []
+  no_mutexes = none_read (named mutex_kind) no_mutex
+
+  pub no_semaphores : (decls : List Decl) → Each Runs decls → filter_map (named semaphore_kind) decls ≡ []
+  no_semaphores = none_read (named semaphore_kind) no_semaphore
+
+  pub no_queues : (decls : List Decl) → Each Runs decls → filter_map (named queue_kind) decls ≡ []
+  no_queues = none_read (named queue_kind) no_queue
+
+  pub no_timers : (decls : List Decl) → Each Runs decls → filter_map (named timer_kind) decls ≡ []
+  no_timers = none_read (named timer_kind) no_timer
+
+  pub no_actions : (decls : List Decl) (actions : List SigAction) → Each Runs decls → fold with_action actions decls ≡ actions
+  no_actions [] actions all = refl
+  no_actions (Named name kind ∷ decls) actions all = no_actions decls actions all.1
+  no_actions (Action sig handler ∷ decls) actions all = absurd all.0
