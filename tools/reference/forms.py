@@ -19,12 +19,12 @@ class Stage(IntEnum):
     FIRST = 1
     LANGUAGE = 2
     THREADS = 3
-    MUTEXES = 4
-    WAITING = 5
-    SIGNALS = 6
-    TIMERS = 7
-    QUEUES = 8
-    SERVERS = 9
+    SERVERS = 4
+    MUTEXES = 5
+    WAITING = 6
+    SIGNALS = 7
+    TIMERS = 8
+    QUEUES = 9
     WHOLE = 10
 
     @staticmethod
@@ -132,6 +132,8 @@ _TABLE: list[tuple[Stage, Role, list[str]]] = [
     (Stage.THREADS, Role.BODY, threads(RR)),
     (Stage.THREADS, Role.STEP, [
         "create <thread>", "setprio <thread> <priority>", f"setsched <thread> {FIFO}", f"setsched <thread> {RR}"]),
+    (Stage.SERVERS, Role.BODY, threads(SERVER)),
+    (Stage.SERVERS, Role.STEP, [f"setsched <thread> {SERVER}", "nanosleep <number>", "gettime"]),
     (Stage.MUTEXES, Role.DECLARATION, [
         f"mutex <name> {protocol}{last}"
         for protocol in ("none", "inherit", "protect <priority>") for last in ("", " recursive")]),
@@ -141,7 +143,7 @@ _TABLE: list[tuple[Stage, Role, list[str]]] = [
         "timedlock <mutex> <operand>", "wait <cond> <mutex>", "timedwait <cond> <mutex> <operand>",
         "signal <cond>", "broadcast <cond>",
         "sem_wait <sem>", "sem_timedwait <sem> <operand>", "sem_trywait <sem>", "sem_getvalue <sem>", "sem_post <sem>",
-        "nanosleep <number>", "clock_nanosleep <operand>", "gettime"]),
+        "clock_nanosleep <operand>"]),
     (Stage.SIGNALS, Role.DECLARATION, ["action <sig> ignore", "action <sig> run <handler>"]),
     (Stage.SIGNALS, Role.STEP, [
         "kill <sig>", "tkill <thread> <sig>", "sigqueue <sig> <operand>",
@@ -155,8 +157,6 @@ _TABLE: list[tuple[Stage, Role, list[str]]] = [
     (Stage.QUEUES, Role.STEP, [
         "mq_send <queue> <length> <urgency> <operand>", "mq_timedsend <queue> <length> <urgency> <operand> <operand>",
         "mq_receive <queue>", "mq_timedreceive <queue> <operand>", "mq_notify <queue> <sig> <operand>"]),
-    (Stage.SERVERS, Role.BODY, threads(SERVER)),
-    (Stage.SERVERS, Role.STEP, [f"setsched <thread> {SERVER}"]),
     (Stage.WHOLE, Role.STEP, [
         "cancel <thread>", "testcancel", "setcancel enable", "setcancel disable", "exit <operand>", "join <thread>"]),
     (Stage.WHOLE, Role.BLOCK, ["push <cleanup>"]),

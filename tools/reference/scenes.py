@@ -29,7 +29,7 @@ def busy(writer: "ScriptWriter", most: int = 3) -> Part:
 
 def pause(writer: "ScriptWriter") -> Part:
     """A short sleep, or none."""
-    if writer.stage < Stage.WAITING or writer.draw.random() < 0.4:
+    if writer.stage < Stage.SERVERS or writer.draw.random() < 0.4:
         return []
     return [f"nanosleep {writer.draw.randint(1, 6)}"]
 
@@ -65,7 +65,7 @@ def ring_of_mutexes(writer: "ScriptWriter") -> list[Part]:
     if len(writer.mutexes) < 2:
         return one_mutex(writer)
     first, second = writer.draw.sample(writer.mutexes, 2)
-    rest = ["nanosleep 2"] if writer.stage >= Stage.WAITING else ["yield"]
+    rest = ["nanosleep 2"] if writer.stage >= Stage.SERVERS else ["yield"]
     ask = f"lock {first}"
     if writer.stage >= Stage.WAITING and writer.draw.random() < 0.4:
         ask = f"timedlock {first} {writer.draw.randint(0, 9)}"
@@ -273,11 +273,11 @@ def guarded(writer: "ScriptWriter", inner: Part, share: float = 0.3) -> Part:
 
 SCENES: dict[Stage, tuple[Scene, ...]] = {
     Stage.THREADS: (priorities_change, slices),
-    Stage.MUTEXES: (one_mutex, chain_of_mutexes, ring_of_mutexes, lent_priority_waits),
+    Stage.SERVERS: (served, new_server),
+    Stage.MUTEXES: (one_mutex, chain_of_mutexes, ring_of_mutexes, lent_priority_waits, server_at_a_mutex),
     Stage.WAITING: (condition, condition, semaphore),
     Stage.SIGNALS: (waiting_for_signals, handled_waits),
     Stage.TIMERS: (periodic, overruns),
     Stage.QUEUES: (queue_of_messages, queue_of_messages),
-    Stage.SERVERS: (served, server_at_a_mutex, new_server),
     Stage.WHOLE: (cancelled, cancelled_at_a_mutex, cancelled_joiner),
 }

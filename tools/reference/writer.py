@@ -8,7 +8,7 @@ from scenes import CAST, PEER, SCENES, SELF, Part
 
 _GREATEST = 10**18
 _SHARES: dict[Stage, float] = {
-    Stage.THREADS: 0.5, Stage.MUTEXES: 0.7, Stage.WAITING: 0.7, Stage.SIGNALS: 0.6, Stage.TIMERS: 0.5,
+    Stage.THREADS: 0.5, Stage.SERVERS: 0.4, Stage.MUTEXES: 0.7, Stage.WAITING: 0.7, Stage.SIGNALS: 0.6, Stage.TIMERS: 0.5,
     Stage.QUEUES: 0.6, Stage.WHOLE: 0.6}
 """How often a topic occurs in the steps of a script."""
 
@@ -150,6 +150,7 @@ class ScriptWriter:
             Stage.SIGNALS: [self.sending, self.sending], Stage.TIMERS: [self.timing, self.timing],
             Stage.QUEUES: [self.notifying], Stage.WHOLE: [self.cancelling]}
         blocking = {
+            Stage.SERVERS: [self.napping],
             Stage.MUTEXES: [self.locking, self.locking, self.locking],
             Stage.WAITING: [self.waiting, self.waiting, self.sleeping, self.sem_wait],
             Stage.SIGNALS: [self.accepting], Stage.TIMERS: [self.accepting],
@@ -222,9 +223,14 @@ class ScriptWriter:
         sem = self.draw.choice(self.sems)
         return [self.draw.choice((f"sem_wait {sem}", f"sem_timedwait {sem} {self.operand()}"))]
 
+    def nap(self) -> str:
+        return f"nanosleep {self.draw.choice((0, 1, 2, 3, 5, 9))}"
+
+    def napping(self) -> list[str]:
+        return [self.draw.choice((self.nap(), self.nap(), "gettime"))]
+
     def sleeping(self) -> list[str]:
-        draw = self.draw
-        return [draw.choice((f"nanosleep {draw.choice((0, 1, 2, 3, 5, 9))}", f"clock_nanosleep {self.operand()}"))]
+        return [self.draw.choice((self.nap(), f"clock_nanosleep {self.operand()}"))]
 
     def sending(self) -> list[str]:
         draw = self.draw

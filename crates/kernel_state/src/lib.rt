@@ -1,12 +1,15 @@
 //! All parts of the kernel, seen as one machine over flat code.
 #![tactic(auto)]
 
+mod changes;
 mod dispatch;
 mod due;
+mod lists;
 mod open;
 mod parts;
 mod report;
 mod settling;
+mod threads;
 mod waking;
 
 pub use due::DueKind;

@@ -7,7 +7,7 @@ use Rattle.script_tree.specs.declared.decl.Script.{Script}
 use Rattle.script_table.specs.Faults.{Fault, number_of, name_of}
 use Rattle.script_table.specs.Table.{patterns}
 use Rattle.script_table.specs.Read.{read}
-use Rattle.list_machine.specs.Tree.{trace}
+use Rattle.machine_rules.specs.Machine.{trace}
 use Rattle.pse52_tool.specs.declared.status.Status.{Status}
 use Rattle.pse52_tool.specs.declared.status.Status.TheVariants.{Done, Usage, Refused, TooLong, ReadFault, WriteFault, OutOfMemory}
 use Rattle.pse52_tool.specs.Command.{command}

@@ -2,4 +2,3 @@ pub mod Statuses
 pub mod Command
 pub mod Answer
 pub mod Taken
-pub mod HeadRuns

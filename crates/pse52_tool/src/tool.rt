@@ -7,12 +7,11 @@ ghost use Rattle.rt_io.specs.Whole.{TookAtMost};
 ghost use Rattle.pse52_trace.specs.Prints.{Prints};
 ghost use Rattle.script_table.specs.Table.{patterns};
 ghost use Rattle.script_table.specs.Read.{read};
-ghost use Rattle.list_machine.specs.Tree.{trace};
-ghost use Rattle.list_machine.specs.Runnable.{IsRunnable};
-ghost use Rattle.rt_kernel.specs.Simulated.{run_text};
+ghost use Rattle.machine_rules.specs.Machine.{trace};
+ghost use Rattle.machine_flat.specs.Runnable.{IsRunnable};
+ghost use Rattle.rt_kernel.specs.Ran.{run_text};
 ghost use Rattle.script_tree.specs.declared.decl.Script.{Script};
 ghost use Rattle.pse52_tool.specs.Command.{command};
-ghost use Rattle.pse52_tool.specs.HeadRuns.{HeadRuns};
 ghost use Rattle.pse52_tool.specs.Answer.{answer, run_answer, usage_line, too_long_line, Told, SinkFaults, IsLine};
 ghost use Rattle.pse52_tool.specs.Taken.{Answered, ReadToItsEnd};
 
@@ -38,7 +37,7 @@ fn run_kernel<K: Sink, L: Ledger>(
     out: &mut Tracer<'_, K>,
     steps: &mut Steps<L>,
 )
-    requires fresh { kernel.old.state.now ≡ 0 }
+    requires fresh { kernel.old.machine.now ≡ 0 }
     requires limit { horizon ≤ 10 ^ 18 }
     requires unfailed { out.old.failed ≡ false }
     ensures { Prints K.text K.faults out.old out.new (run_text kernel.old horizon) }
@@ -141,7 +140,6 @@ fn run_text<K: Sink, L: Ledger>(
 /// `TooLong`, by the bytes read; then `Refused`, where the script has a fault; then the run. `OutOfMemory` may come in place of
 /// any but `Usage`, before anything is written; a fault of the source or the sink is answered only where its count of faults
 /// rose in this call. Nothing is written before the source was read to its end, or to one byte more than the limit.
-#[tactic(auto, using(crate::proofs::HeadRuns::head_runs))]
 pub fn run_tool<S: Source, K: Sink, L: Ledger>(
     alloc: Global,
     words: &[String],
@@ -156,9 +154,6 @@ pub fn run_tool<S: Source, K: Sink, L: Ledger>(
     // Whatever it tells, they are those of the answer to some bytes, as many as were taken.
     ensures answered { Answered (map string_bytes words.now) result (S.rest source.old) (S.rest source.new)
         (S.taken source.old) (S.taken source.new) (K.text sink.old) (K.text sink.new) }
-
-    // In the run of any script, each tick counts for the head of the highest list that is not empty, and for no other thread.
-    ensures head_runs { (script : Script) → (k : ℕ) → HeadRuns script k }
 
     // The words decide alone whether there is a command.
     ensures usage { result ≡ Status.Usage → command (map string_bytes words.now) ≡ None }

@@ -6,6 +6,6 @@ use Rattle.pse52_tool.proofs.tool.print_trace.Goals as goal
 pub returns : goal.returns
 returns g c = record {
   printed = subst (λ text. Prints g.K.Sink.text g.K.Sink.faults c.args.out.now c.run_kernel.new.out text)
-      (opened_text c.in_ok-kernel.kernel c.args.script.now c.args.horizon c.requires.runnable c.in_ok-kernel.ensures) c.run_kernel.ensures;
+      (opened_text c.in_ok-kernel.kernel c.args.script.now c.args.horizon c.in_ok-kernel.ensures) c.run_kernel.ensures;
   unchanged = tt;
 }

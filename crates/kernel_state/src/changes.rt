@@ -1,0 +1,145 @@
+// The smallest changes of a thread.
+ghost use Rattle.std.specs.Prelude.{◌≡◌, ◌≤◌, ◌<◌, ◌^◌, length, option_map, true, false};
+ghost use Rattle.sporadic_server.specs.Server.{activate};
+ghost use Rattle.machine_rules.specs.Servers.{with_server};
+ghost use Rattle.thread_blocks.specs.Unused.{IsUnused};
+ghost use Rattle.machine_rules.specs.Threads.{thread_at};
+ghost use Rattle.machine_rules.specs.Lives.{without_life};
+ghost use Rattle.machine_rules.specs.Scheduling.{takes_priority, with_policy, with_priority};
+ghost use Rattle.machine_rules.specs.Waking.{new_frame, started};
+ghost use Rattle.machine_rules.specs.Ticks.{tick_charged, without_slice};
+ghost use Rattle.machine_rules.specs.Units.{in_unit};
+ghost use Rattle.machine_flat.specs.Placed.{ArePlaced};
+ghost use Rattle.thread_blocks.specs.Room.{HasRoom};
+ghost use Rattle.machine_flat.specs.FlatBodies.{flat_bodies};
+ghost use Rattle.machine_rules.specs.Turns.{answered, changes};
+ghost use Rattle.machine_rules.specs.Waking.{put_to_wait, woken};
+ghost use Rattle.thread_blocks.specs.Plain.{waiting_of};
+ghost use Rattle.kernel_state.specs.Kernel.{after};
+ghost use Rattle.std.specs.Prelude.{Some, is_some};
+ghost use Rattle.sporadic_server.specs.Server.{plan, refill, replenishment};
+ghost use Rattle.machine_rules.specs.Ticks.{consumed_in};
+ghost use Rattle.thread_blocks.specs.Ends.{refilled_of};
+
+use crate::parts::Parts;
+use machine_rules::{BodyOf, FrameKind};
+use script_flat::Unit;
+use script_tree::Policy;
+use sporadic_server::Replenish;
+use thread_blocks::{Frame, Refilled, Waiting};
+use tick_num::{Prio, Res, SigSet, Tid};
+
+impl Parts {
+    pub fn answer_thread(&mut self, t: Tid, res: Res, value: u64)
+        requires { t < length self.old.names }
+        ensures { self.new ≡ after (changes t (answered res value)) self.old }
+    {
+        self.threads.get_mut(t).answer(res, value);
+    }
+
+    pub fn wake_thread(&mut self, t: Tid, res: Res, value: u64)
+        requires { t < length self.old.names }
+        ensures { self.new ≡ after (changes t (woken res value)) self.old }
+    {
+        self.threads.get_mut(t).wake(res, value);
+    }
+
+    pub fn block_thread(&mut self, t: Tid, waiting: Waiting)
+        requires { t < length self.old.names }
+        ensures { self.new ≡ after (changes t (put_to_wait (waiting_of waiting))) self.old }
+    {
+        self.threads.get_mut(t).block(waiting);
+    }
+
+    pub fn activate_thread(&mut self, t: Tid)
+        requires known { t < length self.old.names }
+        requires unused { IsUnused (thread_at self.old.machine t).server }
+        requires early { self.old.machine.now ≤ 10 ^ 18 }
+        ensures { self.new ≡ after (changes t (with_server (activate self.old.machine.now))) self.old }
+    {
+        self.threads.get_mut(t).activate(self.instant);
+    }
+
+    // The main frame of a thread, at its beginning.
+    #[tactic(auto, using(crate::proofs::Opened::number_known))]
+    fn main_frame(&self, t: Tid) -> Frame
+        requires { t < length self.now.names }
+        ensures { result ≡ new_frame (flat_bodies self.now.code) FrameKind.Main (BodyOf.Thread t) 0 }
+    {
+        Frame::new(
+            FrameKind::Main,
+            BodyOf::Thread(t),
+            self.code.start(self.code.thread_body(t), 0),
+        )
+    }
+
+    pub fn start_thread(&mut self, t: Tid, mask: SigSet)
+        requires known { t < length self.old.names }
+        requires early { self.old.machine.now ≤ 10 ^ 18 }
+        ensures { self.new ≡ after (changes t (started (flat_bodies self.old.code) t mask self.old.machine.now)) self.old }
+    {
+        let main = self.main_frame(t);
+        self.threads.get_mut(t).start(mask, self.instant, main);
+    }
+
+    pub fn set_thread_priority(&mut self, t: Tid, p: Prio)
+        requires known { t < length self.old.names }
+        requires takes { takes_priority (thread_at self.old.machine t).policy p ≡ true }
+        ensures { self.new ≡ after (changes t (with_priority p)) self.old }
+    {
+        self.threads.get_mut(t).set_priority(p);
+    }
+
+    pub fn set_thread_policy(&mut self, t: Tid, new: Policy)
+        requires known { t < length self.old.names }
+        requires early { self.old.machine.now ≤ 10 ^ 18 }
+        ensures { self.new ≡ after (changes t (with_policy new self.old.machine.now)) self.old }
+    {
+        self.threads.get_mut(t).set_policy(new, self.instant);
+    }
+
+    /// One tick of a thread's unit, and that unit.
+    pub fn tick_thread(&mut self, t: Tid) -> Unit
+        requires known { t < length self.old.names }
+        requires goes_on { (thread_at self.old.machine t).is_ending ≡ false }
+        requires placed { ArePlaced self.old.code (thread_at self.old.machine t).frames }
+        requires room { HasRoom (thread_at self.old.machine t) }
+        ensures unit { result ≡ (in_unit (flat_bodies self.old.code) (thread_at self.old.machine t)).unit }
+        ensures state { self.new ≡ after (changes t (λ th. tick_charged (in_unit (flat_bodies self.old.code) (thread_at self.old.machine t)).thread)) self.old }
+        ensures thread { thread_at self.new.machine t ≡ tick_charged (in_unit (flat_bodies self.old.code) (thread_at self.old.machine t)).thread }
+    {
+        self.threads.get_mut(t).tick(&self.code)
+    }
+
+    pub fn clear_slice(&mut self, t: Tid)
+        requires { t < length self.old.names }
+        ensures { self.new ≡ after (changes t without_slice) self.old }
+    {
+        self.threads.get_mut(t).clear_slice();
+    }
+
+    pub fn end_thread(&mut self, t: Tid)
+        requires { t < length self.old.names }
+        ensures { self.new ≡ after (changes t without_life) self.old }
+    {
+        self.threads.get_mut(t).end();
+    }
+
+    pub fn plan_thread(&mut self, t: Tid) -> Replenish
+        requires known { t < length self.old.names }
+        requires used { 1 ≤ consumed_in (thread_at self.old.machine t).server }
+        ensures value { Some result ≡ option_map replenishment (thread_at self.old.machine t).server }
+        ensures state { self.new ≡ after (changes t (with_server plan)) self.old }
+    {
+        self.threads.get_mut(t).plan()
+    }
+
+    pub fn refill_thread(&mut self, t: Tid) -> Refilled
+        requires known { t < length self.old.names }
+        requires server { is_some (thread_at self.old.machine t).server ≡ true }
+        ensures value { Some result ≡ option_map refilled_of (thread_at self.old.machine t).server }
+        ensures state { self.new ≡ after (changes t (with_server refill)) self.old }
+    {
+        self.threads.get_mut(t).refill()
+    }
+}

@@ -1,0 +1,160 @@
+// What can be asked of a thread.
+ghost use Rattle.std.specs.Prelude.{◌≡◌, ◌<◌, length, option_map};
+ghost use Rattle.sporadic_server.specs.Server.{ServerState};
+ghost use Rattle.machine_rules.specs.Servers.{high_server};
+ghost use Rattle.machine_rules.specs.Threads.{can_run, is_dormant, lives, thread_at, waiting_of as waiting_at};
+ghost use Rattle.machine_rules.specs.Lives.{inherited_mask};
+ghost use Rattle.machine_rules.specs.Scheduling.{takes_priority};
+ghost use Rattle.machine_rules.specs.Waking.{call_in};
+ghost use Rattle.machine_rules.specs.Threads.{top_left};
+ghost use Rattle.machine_rules.specs.Ticks.{slice_is_used};
+ghost use Rattle.std.specs.Prelude.{is_some};
+ghost use Rattle.sporadic_server.specs.Server.{totals};
+ghost use Rattle.machine_rules.specs.Threads.{is_blocked};
+ghost use Rattle.machine_rules.specs.Servers.{has_high};
+ghost use Rattle.machine_rules.specs.DueItems.{refill_due, start_due, timeout_due};
+ghost use Rattle.machine_rules.specs.Ticks.{tick_end};
+ghost use Rattle.thread_blocks.specs.Ends.{end_of};
+
+use crate::parts::Parts;
+use script_tree::Call;
+use sporadic_server::BudgetLine;
+use thread_blocks::TickEnd;
+use tick_num::{Prio, SigSet, Tick, Tid};
+
+impl Parts {
+    pub fn is_runnable(&self, t: Tid) -> bool
+        requires { t < length self.now.names }
+        ensures { result ≡ can_run self.now.machine t }
+    {
+        self.threads.get(t).is_runnable()
+    }
+
+    /// The capacity of a server at the high priority.
+    pub fn high_capacity(&self, t: Tid) -> Option<u64>
+        requires { t < length self.now.names }
+        ensures { result ≡ option_map (λ (s : ServerState). s.capacity) (high_server (thread_at self.now.machine t).server) }
+    {
+        self.threads.get(t).high_capacity()
+    }
+
+    pub fn is_dormant(&self, t: Tid) -> bool
+        requires { t < length self.now.names }
+        ensures { result ≡ is_dormant (thread_at self.now.machine t).status }
+    {
+        self.threads.get(t).is_dormant()
+    }
+
+    pub fn is_live(&self, t: Tid) -> bool
+        requires { t < length self.now.names }
+        ensures { result ≡ lives self.now.machine t }
+    {
+        self.threads.get(t).is_live()
+    }
+
+    /// The call in which it is blocked.
+    pub fn waiting_call(&self, t: Tid) -> Call
+        requires { t < length self.now.names }
+        ensures { result ≡ call_in (waiting_at self.now.machine t) }
+    {
+        self.threads.get(t).waiting_call()
+    }
+
+    /// The signals that a thread which it creates blocks.
+    pub fn inherited_mask(&self, t: Tid) -> SigSet
+        requires { t < length self.now.names }
+        ensures { result ≡ inherited_mask (thread_at self.now.machine t) }
+    {
+        self.threads.get(t).inherited_mask()
+    }
+
+    pub fn takes_priority(&self, t: Tid, p: Prio) -> bool
+        requires { t < length self.now.names }
+        ensures { result ≡ takes_priority (thread_at self.now.machine t).policy p }
+    {
+        self.threads.get(t).takes_priority(p)
+    }
+
+    /// The capacity of its server.
+    pub fn capacity(&self, t: Tid) -> Option<u64>
+        requires { t < length self.now.names }
+        ensures { result ≡ option_map (λ (s : ServerState). s.capacity) (thread_at self.now.machine t).server }
+    {
+        self.threads.get(t).capacity()
+    }
+
+    /// The totals of a live sporadic thread's server.
+    pub fn totals(&self, t: Tid) -> Option<BudgetLine>
+        requires { t < length self.now.names }
+        ensures { result ≡ option_map totals (thread_at self.now.machine t).server }
+    {
+        self.threads.get(t).totals()
+    }
+
+    /// The ticks left of a thread's unit.
+    pub fn left(&self, t: Tid) -> u64
+        requires { t < length self.now.names }
+        ensures { result ≡ top_left (thread_at self.now.machine t).frames }
+    {
+        self.threads.get(t).left()
+    }
+
+    /// Whether a thread's round robin interval is used up.
+    pub fn slice_is_used(&self, t: Tid) -> bool
+        requires { t < length self.now.names }
+        ensures { result ≡ slice_is_used (thread_at self.now.machine t).policy (thread_at self.now.machine t).slice self.now.machine.quantum }
+    {
+        self.threads.get(t).slice_is_used(self.quantum)
+    }
+
+    pub fn refill_due(&self, t: Tid) -> Option<Tick>
+        requires { t < length self.now.names }
+        ensures { result ≡ refill_due self.now.machine t }
+    {
+        self.threads.get(t).refill_due()
+    }
+
+    pub fn start_due(&self, t: Tid) -> Option<u64>
+        requires { t < length self.now.names }
+        ensures { result ≡ start_due self.now.machine t }
+    {
+        self.threads.get(t).start_due()
+    }
+
+    pub fn timeout_due(&self, t: Tid) -> Option<Tick>
+        requires { t < length self.now.names }
+        ensures { result ≡ timeout_due self.now.machine t }
+    {
+        self.threads.get(t).wait_due()
+    }
+
+    pub fn is_blocked(&self, t: Tid) -> bool
+        requires { t < length self.now.names }
+        ensures { result ≡ is_blocked (thread_at self.now.machine t).status }
+    {
+        self.threads.get(t).is_blocked()
+    }
+
+    pub fn has_server(&self, t: Tid) -> bool
+        requires { t < length self.now.names }
+        ensures { result ≡ is_some (thread_at self.now.machine t).server }
+    {
+        self.threads.get(t).has_server()
+    }
+
+    /// Whether its server has the high priority.
+    pub fn has_high(&self, t: Tid) -> bool
+        requires { t < length self.now.names }
+        ensures { result ≡ has_high (thread_at self.now.machine t).server }
+    {
+        self.threads.get(t).has_high()
+    }
+
+    /// The rule of the tick's end.
+    pub fn tick_end(&self, t: Tid, was_high: bool) -> TickEnd
+        requires { t < length self.now.names }
+        ensures { end_of result ≡ tick_end was_high self.now.machine.quantum (thread_at self.now.machine t) }
+    {
+        self.threads.get(t).tick_end(was_high, self.quantum)
+    }
+}
