@@ -1,0 +1,64 @@
+-- One thread changes, and each keeps its law.
+use Rattle.std.proofs.Common.{Bool, List, [], arith, false, length, refl, suc, true, zero, ℕ, ◌<◌, ◌∙◌, ◌∷◌, ◌≡◌}
+use Rattle.std.specs.Prelude.{if◌then◌else◌, slice_index_or, ◌==◌}
+use Rattle.machine_rules.specs.declared.signal.SigAction.{SigAction}
+use Rattle.machine_rules.specs.declared.signal.SigAction.TheVariants as action
+use Rattle.machine_rules.specs.Lists.{changed_at}
+use Rattle.machine_rules.specs.State.{Thread}
+use Rattle.machine_rules.specs.Threads.{no_thread, thread_at}
+use Rattle.machine_rules.specs.Turns.{Turn, changes}
+use Rattle.machine_rules.proofs.Reading.{changed-length}
+use Rattle.thread_laws.specs.EachThread.{ActionKnown, EachIn, Given}
+
+-- ---- one member of a list
+
+at_each : {X : Type 0} (Q : ℕ → X → Type 0) (none : X) (f : X → X) (xs : List X) (n k : ℕ) → (n < length xs → Q n (f (slice_index_or xs n none))) →
+    ((j : ℕ) → j < length xs → Q j (slice_index_or xs j none)) → k < length xs → Q k (slice_index_or (changed_at none n f xs) k none)
+at_each Q none f [] n k new all lt = absurd (omega arith)
+at_each Q none f (x ∷ xs) zero zero new all lt = new lt
+at_each Q none f (x ∷ xs) zero (suc k) new all lt = all (suc k) lt
+at_each Q none f (x ∷ xs) (suc n) zero new all lt = all 0 lt
+at_each Q none f (x ∷ xs) (suc n) (suc k) new all lt = at_each (λ j x. Q (suc j) x) none f xs n k (λ lt. new (omega arith)) (λ j lt. all (suc j) (omega arith)) (omega arith)
+
+-- the member itself after the change; where there is none, what stands for it
+pub at_self : {X : Type 0} (Q : X → Type 0) (none : X) (f : X → X) (xs : List X) (k : ℕ) → (k < length xs → Q (f (slice_index_or xs k none))) → (slice_index_or xs k none ≡ none → Q none) →
+    Q (slice_index_or (changed_at none k f xs) k none)
+at_self Q none f [] k there past = past refl
+at_self Q none f (x ∷ xs) zero there past = there (omega arith)
+at_self Q none f (x ∷ xs) (suc k) there past = at_self Q none f xs k (λ lt. there (omega arith)) past
+
+-- one member is replaced, and the others come from one law to another
+pub at_two : {X : Type 0} (B : ℕ → X → Type 0) (none y : X) (xs : List X) (n k : ℕ) → (n < length xs → B n y) →
+    ((j : ℕ) → (n == j) ≡ false → j < length xs → B j (slice_index_or xs j none)) → k < length xs → B k (slice_index_or (changed_at none n (λ x. y) xs) k none)
+at_two B none y [] n k new all lt = absurd (omega arith)
+at_two B none y (x ∷ xs) zero zero new all lt = new lt
+at_two B none y (x ∷ xs) zero (suc k) new all lt = all (suc k) (grind arith) lt
+at_two B none y (x ∷ xs) (suc n) zero new all lt = all 0 (grind arith) lt
+at_two B none y (x ∷ xs) (suc n) (suc k) new all lt =
+    at_two (λ j x. B (suc j) x) none y xs n k (λ lt. new (omega arith)) (λ j e lt. all (suc j) (grind arith) (omega arith)) (omega arith)
+
+-- ---- the machine between two effects
+
+module _ {P : Type 0} (given : Given P) (Q : ℕ → ℕ → Thread P → Type 0) where
+  pub record HoldsIn (now : ℕ) (threads : List (Thread P)) (actions : List SigAction) : Type 0 where
+    pub each : EachIn Q now threads
+    pub counted : length threads ≡ given.count
+    pub handled : (signal : ℕ) → ActionKnown given (slice_index_or actions signal action.Kill)
+
+  abbrev pub Holds : Turn P → Type 0
+  Holds s = HoldsIn s.machine.now s.machine.threads s.machine.actions
+
+  pub if_holds : (b : Bool) (x y : Turn P) → Holds x → Holds y → Holds (if b then x else y)
+  if_holds true x y h k = h
+  if_holds false x y h k = k
+
+  pub changes_hold : (t : ℕ) (f : Thread P → Thread P) (s : Turn P) → (t < given.count → Q s.machine.now t (thread_at s.machine t) → Q s.machine.now t (f (thread_at s.machine t))) → Holds s →
+      Holds (changes t f s)
+  changes_hold t f s new h =
+      let ths = s.machine.threads in
+      let same = changed-length no_thread t f ths in
+      record {
+        each = λ u lt. at_each (Q s.machine.now) no_thread f ths t u (λ lt. new (let e = h.counted in omega (arith, e, lt)) (h.each t lt)) h.each (omega (arith, same, lt));
+        counted = same ∙ h.counted;
+        handled = h.handled;
+      }

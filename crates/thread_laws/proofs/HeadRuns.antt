@@ -1,0 +1,208 @@
+-- The head runs: what a tick does to the counts of the threads.
+use Rattle.std.proofs.Common.{Bool, List, None, Option, Some, [], add-one, arith, false, length, refl, suc, true, zero, ℕ, ◌+◌, ◌<◌, ◌∙◌, ◌∷◌, ◌≡◌}
+use Rattle.std.specs.Prelude.{◌==◌, ◌&&◌}
+use Rattle.std.proofs.lemmas.List.{length-map}
+use Rattle.script_tree.specs.declared.decl.Script.{Script}
+use Rattle.script_flat.specs.declared.unit.Unit as units
+use Rattle.script_flat.specs.declared.unit.Unit.TheVariants as unit
+use Rattle.script_flat.specs.Next.{Place}
+use Rattle.machine_rules.specs.declared.signal.SigAction.{SigAction}
+use Rattle.machine_rules.specs.declared.signal.SigAction.TheVariants as action
+use Rattle.machine_rules.specs.Lists.{is}
+use Rattle.machine_rules.specs.Bodies.{Bodies}
+use Rattle.machine_rules.specs.State.{Frame, Machine, Thread}
+use Rattle.machine_rules.specs.Threads.{is_main, thread_at, top_kind, top_left}
+use Rattle.machine_rules.specs.Turns.{Turn, turn_of}
+use Rattle.machine_rules.specs.Declarations.{threads_of}
+use Rattle.machine_rules.specs.Cancellation.{runs_cleanup_if}
+use Rattle.machine_rules.specs.DueItems.{instant}
+use Rattle.machine_rules.specs.Dispatch.{head}
+use Rattle.machine_rules.specs.Units.{begins_ending, begins_finish, in_unit, in_unit_if, in_unit_of, top_in_unit}
+use Rattle.machine_rules.specs.Ticks.{runs_head, tick, tick_charged, unless_killed}
+use Rattle.machine_rules.specs.Runs.{opening, thread_opened, ticks}
+use Rattle.machine_rules.specs.Machine.{bodies_of, machine}
+use Rattle.thread_laws.specs.EachThread.{ActionKnown, Closed, Given, Lasts, Passes, UnitKnown}
+use Rattle.thread_laws.specs.HeadRuns.{HeadRuns, head_unless, one_at, share_of, ticks_run}
+use Rattle.thread_laws.proofs.Changes.{Holds}
+use Rattle.thread_laws.proofs.Items.{instant_hold}
+use Rattle.thread_laws.proofs.Runs.{runs_head_hold, ticks_hold}
+
+-- ---- nothing is asked of handlers and calls
+
+module _ {P : Type 0} (bodies : Bodies P) (count : ℕ) where
+  abbrev pub all_known : Given P
+  all_known = record { bodies = bodies; count = count; Handles = λ h. Unit {0}; Known = λ th c. Unit {0} }
+
+  pub any_action : (a : SigAction) → ActionKnown all_known a
+  any_action action.Kill = tt
+  any_action action.Ignore = tt
+  any_action (action.Handler h) = tt
+
+  pub any_unit : (th : Thread P) (u : units.Unit) → UnitKnown all_known th u
+  any_unit th (unit.Run n) = tt
+  any_unit th (unit.Make c) = tt
+  any_unit th unit.Jump = tt
+  any_unit th unit.Finish = tt
+
+-- ---- no effect counts a tick
+
+module _ {P : Type 0} (bodies : Bodies P) (count : ℕ) (T : ℕ → ℕ) where
+  -- so many ticks of each thread
+  abbrev Ran : ℕ → ℕ → Thread P → Type 0
+  Ran now u th = th.ticks ≡ T u
+
+  cleanup_ticks : (runs : Bool) (us : List ℕ) (th : Thread P) → (runs_cleanup_if runs bodies us th).ticks ≡ th.ticks
+  cleanup_ticks true [] th = refl
+  cleanup_ticks true (u ∷ us) th = refl
+  cleanup_ticks false us th = refl
+
+  pub counts_closed : Closed (all_known bodies count) Ran
+  counts_closed = record {
+    answers = λ now u th r value q. q;
+    wakes = λ now u th r value q. q;
+    waits = λ now u th w q. q;
+    starts = λ now u th mask lt q. q;
+    activates = λ now u th q. q;
+    refills = λ now u th q. q;
+    plans = λ now u th q. q;
+    prices = λ now u th caller p known q. q;
+    renews = λ now u th caller new known q. q;
+    slices = λ now u th q. q;
+    joins = λ now u th joiner q. q;
+    masks = λ now u th mask q. q;
+    requests = λ now u th q. q;
+    enables = λ now u th on q. q;
+    pushes = λ now u th c known q. q;
+    pops = λ now u th runs known q. cleanup_ticks runs th.cleanups _ ∙ q;
+    catches = λ now u th h value known free q. q;
+    leaves = λ now u th inner q. q;
+    ending = λ now u th value q. q;
+    ends = λ now u th main q. q;
+  }
+
+-- ---- nor does the beginning of a unit
+
+module _ {P : Type 0} (bodies : Bodies P) where
+  in_unit_of_ticks : (fs : List (Frame P)) (th : Thread P) → (in_unit_of bodies fs th).thread.ticks ≡ th.ticks
+  in_unit_of_ticks [] th = refl
+  in_unit_of_ticks (f ∷ fs) th = by_left f.left
+    where
+      by_left : (left : ℕ) → (top_in_unit bodies left f fs th).thread.ticks ≡ th.ticks
+      by_left zero = refl
+      by_left (suc left) = refl
+
+  ending_ticks : (us : List ℕ) (th : Thread P) → (begins_ending bodies us th).thread.ticks ≡ th.ticks
+  ending_ticks [] th = by_frames th.frames
+    where
+      by_frames : (fs : List (Frame P)) → (begins_finish fs th).thread.ticks ≡ th.ticks
+      by_frames [] = refl
+      by_frames (f ∷ fs) = refl
+  ending_ticks (u ∷ us) th = refl
+
+  pub in_unit_ticks : (th : Thread P) → (in_unit bodies th).thread.ticks ≡ th.ticks
+  in_unit_ticks th = by_ending (th.is_ending && is_main (top_kind th.frames) && top_left th.frames == 0)
+    where
+      by_ending : (b : Bool) → (in_unit_if bodies b th).thread.ticks ≡ th.ticks
+      by_ending true = ending_ticks th.cleanups th
+      by_ending false = in_unit_of_ticks th.frames th
+
+-- ---- a tick counts for the head alone
+
+one_at_self : (t : ℕ) → one_at t t ≡ 1
+one_at_self zero = refl
+one_at_self (suc t) = one_at_self t
+
+one_at_other : (t u : ℕ) → (t == u) ≡ false → one_at t u ≡ 0
+one_at_other zero zero e = absurd (grind arith)
+one_at_other zero (suc u) e = refl
+one_at_other (suc t) zero e = refl
+one_at_other (suc t) (suc u) e = one_at_other t u (grind arith)
+
+no_share : (to : Option ℕ) (u : ℕ) → is to u ≡ false → share_of to u ≡ 0
+no_share None u e = refl
+no_share (Some t) u e = one_at_other t u e
+
+module _ {P : Type 0} (bodies : Bodies P) (count : ℕ) (T : ℕ → ℕ) where
+  abbrev Before : ℕ → ℕ → Thread P → Type 0
+  Before now u th = th.ticks ≡ T u
+
+  abbrev After : Option ℕ → ℕ → ℕ → Thread P → Type 0
+  After to now u th = th.ticks ≡ T u + share_of to u
+
+  counts_pass : (to : Option ℕ) → Passes (all_known bodies count) Before (After to) to
+  counts_pass to = record {
+    rests = λ now u th e q. let none = no_share to u e in omega (arith, none, q);
+    runs = λ now t th e q.
+        let one : share_of to t ≡ 1 = rw e (one_at_self t) in
+        let same = in_unit_ticks bodies th in
+        omega (arith, one, same, q);
+    known = λ now t th e q. any_unit bodies count (tick_charged (in_unit bodies th).thread) (in_unit bodies th).unit;
+  }
+
+  goes_on_counts : (killed : Option ℕ) (s : Turn P) → Holds (all_known bodies count) Before s → (u : ℕ) → u < count →
+      (thread_at (unless_killed killed (runs_head bodies) s).machine u).ticks ≡ T u + share_of (head_unless killed s.machine) u
+  goes_on_counts None s h u lt =
+      let to = head s.machine in
+      let after = runs_head_hold (all_known bodies count) Before (After to) (counts_closed bodies count T) (counts_closed bodies count (λ u. T u + share_of to u)) s (counts_pass to) h in
+      after.each u (let e = after.counted in omega (arith, e, lt))
+  goes_on_counts (Some signal) s h u lt = let e = h.each u (let e = h.counted in omega (arith, e, lt)) in omega (arith, e)
+
+module _ {P : Type 0} (bodies : Bodies P) (count : ℕ) where
+  -- of whatever each thread has run, the tick that follows
+  pub tick_counts : (m : Machine P) → length m.threads ≡ count → (u : ℕ) → u < count →
+      (thread_at (tick bodies (turn_of m)).machine u).ticks
+      ≡ ticks_run m u + share_of (let ready = (instant bodies (turn_of m)).machine in head_unless ready.killed ready) u
+  tick_counts m counted u lt =
+      let ready = instant bodies (turn_of m) in
+      let T : ℕ → ℕ = λ u. ticks_run m u in
+      goes_on_counts bodies count T ready.machine.killed ready
+      (instant_hold (all_known bodies count) (Before bodies count T) (counts_closed bodies count T) (turn_of m)
+      (record { each = λ u lt. refl; counted = counted; handled = λ signal. any_action bodies count _ })) u lt
+
+  -- and there are as many threads as before
+  nothing_lasts : Lasts (all_known bodies count) (λ now u th. Unit {0})
+  nothing_lasts = record {
+    closed = record {
+      answers = λ now u th r value q. q;
+      wakes = λ now u th r value q. q;
+      waits = λ now u th w q. q;
+      starts = λ now u th mask lt q. q;
+      activates = λ now u th q. q;
+      refills = λ now u th q. q;
+      plans = λ now u th q. q;
+      prices = λ now u th caller p known q. q;
+      renews = λ now u th caller new known q. q;
+      slices = λ now u th q. q;
+      joins = λ now u th joiner q. q;
+      masks = λ now u th mask q. q;
+      requests = λ now u th q. q;
+      enables = λ now u th on q. q;
+      pushes = λ now u th c known q. q;
+      pops = λ now u th runs known q. q;
+      catches = λ now u th h value known free q. q;
+      leaves = λ now u th inner q. q;
+      ending = λ now u th value q. q;
+      ends = λ now u th main q. q;
+    };
+    passes = λ to. record {
+      rests = λ now u th e q. q;
+      runs = λ now t th e q. q;
+      known = λ now t th e q. any_unit bodies count (tick_charged (in_unit bodies th).thread) (in_unit bodies th).unit;
+    };
+  }
+
+  pub ticks_length : (n : ℕ) (start : Machine P) → length start.threads ≡ count → length (ticks bodies n start).machine.threads ≡ count
+  ticks_length n start e =
+      (ticks_hold (all_known bodies count) (λ now u th. Unit {0}) nothing_lasts n start
+      (record { each = λ u lt. tt; counted = e; handled = λ signal. any_action bodies count _ })).counted
+
+-- so it is at every tick of a script
+pub head_runs : (script : Script) (k : ℕ) → HeadRuns script k
+head_runs script k = record {
+  counted = λ u lt.
+      let count = length (threads_of script) in
+      let bodies = bodies_of script in
+      let long = ticks_length bodies count k (opening script) (length-map (threads_of script) (thread_opened {P = Place})) in
+      let one = tick_counts bodies count (machine script k) long u lt in
+      rw (add-one k) one;
+}

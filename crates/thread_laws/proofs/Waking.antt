@@ -1,0 +1,161 @@
+-- What threads keep, they keep where they answer, block, wake and start, where their servers act, and where mutexes change hands.
+use Rattle.std.proofs.Common.{Bool, None, Option, Some, false, length, suc, true, zero, ℕ}
+use Rattle.std.specs.Prelude.{nat_lt, not, option_and_then, ◌&&◌, ◌||◌}
+use Rattle.tick_num.specs.declared.res.Res.{Res}
+use Rattle.tick_num.specs.declared.res.Res.TheVariants as res
+use Rattle.pse52_trace.specs.declared.event.Event.{Event}
+use Rattle.pse52_trace.specs.declared.event.Event.TheVariants as event
+use Rattle.sporadic_server.specs.Server.{ServerState, activate, oldest_pending, plan, refill}
+use Rattle.machine_rules.specs.declared.thread.CondEnd.{CondEnd}
+use Rattle.machine_rules.specs.declared.thread.CondEnd.TheVariants as cond_end
+use Rattle.machine_rules.specs.State.{Thread, Wait, Waiting, for_condition, for_mutex, for_mutex_again}
+use Rattle.machine_rules.specs.Threads.{can_run, mutex_at, thread_at, waiting_of}
+use Rattle.machine_rules.specs.Waiters.{Waiter, best_waiter, somebody_waits, waiters}
+use Rattle.machine_rules.specs.Turns.{By, Turn, answered, changes, changes_mutex, is_late, moves, moves_if, returns, tells}
+use Rattle.machine_rules.specs.CallNames.{name_of}
+use Rattle.machine_rules.specs.Servers.{activates_if, activates_server, amount_of, high_server, plans_for, refills_for, regains_high, with_server}
+use Rattle.machine_rules.specs.Waking.{blocks, blocks_unordered, call_in, cancelled_value, ending_with, put_to_wait, started, starts, wakes, wakes_cancelled, wakes_telling, woken}
+use Rattle.machine_rules.specs.Mutexes.{LockAnswer, counted_up, counts, hands_over, is_free, lock_answer, locks, locks_on, moves_unless_boosted, must_wait, owned_by, owns, owns_boosting, refused, releases, returns_from_wait, taken_by, takes, unless_late, unlocks, waits_for_mutex, wakes_owner}
+use Rattle.machine_rules.specs.Conditions.{broadcasts, contends, contends_for, released_mutex, signals, signals_best_of, signals_waiter, waits, waits_on_condition, waits_with_other_mutex}
+use Rattle.machine_rules.specs.Semaphores.{blocks_unless_late}
+use Rattle.thread_laws.specs.EachThread.{Closed, Given}
+use Rattle.thread_laws.proofs.Changes.{Holds, changes_hold, if_holds}
+
+module _ {P : Type 0} (given : Given P) (Q : ℕ → ℕ → Thread P → Type 0) (closed : Closed given Q) where
+  abbrev Holding : Turn P → Type 0
+  Holding s = Holds given Q s
+
+  -- ---- answers and waits
+
+  pub returns_hold : (by : By) (r : Res) (value : ℕ) (s : Turn P) → Holding s → Holding (returns by r value s)
+  returns_hold by r value s h = changes_hold given Q by.thread (answered r value) s (λ lt q. closed.answers s.machine.now by.thread (thread_at s.machine by.thread) r value q) h
+
+  pub sleeps_hold : (t : ℕ) (w : Waiting) (s : Turn P) → Holding s → Holding (changes t (put_to_wait w) s)
+  sleeps_hold t w s h = changes_hold given Q t (put_to_wait w) s (λ lt q. closed.waits s.machine.now t (thread_at s.machine t) w q) h
+
+  pub blocks_hold : (by : By) (wait : Wait) (due : Option ℕ) (s : Turn P) → Holding s → Holding (blocks by wait due s)
+  blocks_hold by wait due s h = sleeps_hold by.thread (record { wait = wait; serial = s.machine.next_serial; due = due; call = by.call }) s h
+
+  pub blocks_unordered_hold : (by : By) (wait : Wait) (due : Option ℕ) (s : Turn P) → Holding s → Holding (blocks_unordered by wait due s)
+  blocks_unordered_hold by wait due s h = sleeps_hold by.thread (record { wait = wait; serial = 0; due = due; call = by.call }) s h
+
+  -- ---- servers
+
+  pub activates_server_hold : (t : ℕ) (o : Option ServerState) (s : Turn P) → Holding s → Holding (activates_server t o s)
+  activates_server_hold t None s h = h
+  activates_server_hold t (Some server) s h = changes_hold given Q t (with_server (activate s.machine.now)) s (λ lt q. closed.activates s.machine.now t (thread_at s.machine t) q) h
+
+  pub activates_if_hold : (b : Bool) (t : ℕ) (s : Turn P) → Holding s → Holding (activates_if b t s)
+  activates_if_hold true t s h = activates_server_hold t (thread_at s.machine t).server s h
+  activates_if_hold false t s h = h
+
+  pub plans_hold : (t : ℕ) (o : Option ServerState) (s : Turn P) → Holding s → Holding (plans_for t o s)
+  plans_hold t None s h = h
+  plans_hold t (Some server) s h = changes_hold given Q t (with_server plan) s (λ lt q. closed.plans s.machine.now t (thread_at s.machine t) q) h
+
+  pub refills_hold : (t : ℕ) (o : Option ServerState) (s : Turn P) → Holding s → Holding (refills_for t o s)
+  refills_hold t None s h = h
+  refills_hold t (Some server) s h =
+      activates_if_hold (regains_high server && can_run s.machine t) t (tells (event.Refill t (amount_of (oldest_pending server)) (refill server).capacity) (changes t (with_server refill) s))
+      (changes_hold given Q t (with_server refill) s (λ lt q. closed.refills s.machine.now t (thread_at s.machine t) q) h)
+
+  pub moves_if_hold : (b : Bool) (t : ℕ) (s : Turn P) → Holding s → Holding (moves_if b t s)
+  moves_if_hold true t s h = h
+  moves_if_hold false t s h = h
+
+  pub moves_unless_boosted_hold : (t : ℕ) (s : Turn P) → Holding s → Holding (moves_unless_boosted t s)
+  moves_unless_boosted_hold t s h = moves_if_hold (not (owns_boosting s.machine t)) t s h
+
+  -- ---- waking and starting
+
+  pub wakes_telling_hold : (e : Event) (t : ℕ) (r : Res) (value : ℕ) (s : Turn P) → Holding s → Holding (wakes_telling e t r value s)
+  wakes_telling_hold e t r value s h =
+      let x = tells e (moves t (changes t (woken r value) s)) in
+      activates_server_hold t (high_server (thread_at x.machine t).server) x
+      (changes_hold given Q t (woken r value) s (λ lt q. closed.wakes s.machine.now t (thread_at s.machine t) r value q) h)
+
+  pub wakes_hold : (t : ℕ) (r : Res) (value : ℕ) (s : Turn P) → Holding s → Holding (wakes t r value s)
+  wakes_hold t r value s h = wakes_telling_hold (event.Return t (name_of (call_in (waiting_of s.machine t))) r value) t r value s h
+
+  pub ending_hold : (t : ℕ) (value : ℕ) (s : Turn P) → Holding s → Holding (changes t (ending_with value) s)
+  ending_hold t value s h = changes_hold given Q t (ending_with value) s (λ lt q. closed.ending s.machine.now t (thread_at s.machine t) value q) h
+
+  pub wakes_cancelled_hold : (t : ℕ) (s : Turn P) → Holding s → Holding (wakes_cancelled t s)
+  wakes_cancelled_hold t s h = ending_hold t cancelled_value (wakes_telling (event.Cancel t) t res.Zero 0 s) (wakes_telling_hold (event.Cancel t) t res.Zero 0 s h)
+
+  pub starts_hold : (t mask : ℕ) (s : Turn P) → Holding s → Holding (starts given.bodies t mask s)
+  starts_hold t mask s h =
+      let f = started given.bodies t mask s.machine.now in
+      let x = tells (event.Start t) (moves t (changes t f s)) in
+      activates_server_hold t (thread_at x.machine t).server x (changes_hold given Q t f s (λ lt q. closed.starts s.machine.now t (thread_at s.machine t) mask lt q) h)
+
+  -- ---- mutexes
+
+  pub locks_on_hold : (a : LockAnswer) (by : By) (k : ℕ) (due : Option ℕ) (s : Turn P) → Holding s → Holding (locks_on a by k due s)
+  locks_on_hold (refused r) by k due s h = returns_hold by r 0 s h
+  locks_on_hold counts by k due s h = returns_hold by res.Zero 0 (changes_mutex k counted_up s) h
+  locks_on_hold takes by k due s h = returns_hold by res.Zero 0 (changes_mutex k (taken_by by.thread) s) h
+  locks_on_hold must_wait by k due s h = blocks_hold by (for_mutex k) due s h
+
+  pub locks_hold : (by : By) (k : ℕ) (due : Option ℕ) (s : Turn P) → Holding s → Holding (locks by k due s)
+  locks_hold by k due s h = locks_on_hold (unless_late due s.machine (lock_answer s.machine by.thread k)) by k due s h
+
+  pub returns_from_wait_hold : (how : CondEnd) (t : ℕ) (s : Turn P) → Holding s → Holding (returns_from_wait how t s)
+  returns_from_wait_hold cond_end.Signalled t s h = wakes_hold t res.Zero 0 s h
+  returns_from_wait_hold cond_end.Timedout t s h = wakes_hold t res.Timedout 0 s h
+  returns_from_wait_hold cond_end.Cancelled t s h = wakes_cancelled_hold t s h
+
+  pub wakes_owner_hold : (wait : Wait) (t : ℕ) (s : Turn P) → Holding s → Holding (wakes_owner wait t s)
+  wakes_owner_hold (for_mutex_again k how) t s h = returns_from_wait_hold how t s h
+  wakes_owner_hold _ t s h = wakes_hold t res.Zero 0 s h
+
+  pub hands_over_hold : (w : Option Waiter) (k : ℕ) (s : Turn P) → Holding s → Holding (hands_over w k s)
+  hands_over_hold None k s h = h
+  hands_over_hold (Some w) k s h = wakes_owner_hold w.waiting.wait w.thread (changes_mutex k (taken_by w.thread) s) h
+
+  pub releases_hold : (k : ℕ) (s : Turn P) → Holding s → Holding (releases k s)
+  releases_hold k s h = hands_over_hold (best_waiter s.machine (waits_for_mutex k)) k s h
+
+  pub unlocks_hold : (by : By) (k : ℕ) (s : Turn P) → Holding s → Holding (unlocks by k s)
+  unlocks_hold by k s h =
+      let back = returns_hold by res.Zero 0 s h in
+      if_holds given Q (not (owns s.machine by.thread k)) _ _ (returns_hold by res.Perm 0 s h)
+      (if_holds given Q (nat_lt 1 (mutex_at s.machine k).count) _ _ back (releases_hold k (returns by res.Zero 0 s) back))
+
+  -- ---- conditions
+
+  pub contends_for_hold : (k : Option ℕ) (t : ℕ) (how : CondEnd) (s : Turn P) → Holding s → Holding (contends_for k t how s)
+  contends_for_hold None t how s h = h
+  contends_for_hold (Some k) t how s h =
+      if_holds given Q (is_free s.machine k) _ _ (returns_from_wait_hold how t (changes_mutex k (taken_by t) s) h)
+      (blocks_hold (record { thread = t; call = call_in (waiting_of s.machine t) }) (for_mutex_again k how) None s h)
+
+  pub contends_hold : (t : ℕ) (how : CondEnd) (s : Turn P) → Holding s → Holding (contends t how s)
+  contends_hold t how s h = contends_for_hold (option_and_then (λ (w : Waiting). released_mutex w.wait) (waiting_of s.machine t)) t how s h
+
+  pub signals_waiter_hold : (w : Option Waiter) (s : Turn P) → Holding s → Holding (signals_waiter w s)
+  signals_waiter_hold None s h = h
+  signals_waiter_hold (Some w) s h = contends_hold w.thread cond_end.Signalled s h
+
+  pub signals_best_of_hold : (n c : ℕ) (s : Turn P) → Holding s → Holding (signals_best_of n c s)
+  signals_best_of_hold zero c s h = h
+  signals_best_of_hold (suc n) c s h =
+      signals_waiter_hold (best_waiter (signals_best_of n c s).machine (waits_on_condition c)) (signals_best_of n c s) (signals_best_of_hold n c s h)
+
+  pub signals_hold : (by : By) (c : ℕ) (s : Turn P) → Holding s → Holding (signals by c s)
+  signals_hold by c s h = let back = returns by res.Zero 0 s in signals_waiter_hold (best_waiter back.machine (waits_on_condition c)) back (returns_hold by res.Zero 0 s h)
+
+  pub broadcasts_hold : (by : By) (c : ℕ) (s : Turn P) → Holding s → Holding (broadcasts by c s)
+  broadcasts_hold by c s h = signals_best_of_hold (length (waiters s.machine (waits_on_condition c))) c (returns by res.Zero 0 s) (returns_hold by res.Zero 0 s h)
+
+  pub waits_hold : (by : By) (c k : ℕ) (due : Option ℕ) (s : Turn P) → Holding s → Holding (waits by c k due s)
+  waits_hold by c k due s h =
+      if_holds given Q (not (owns s.machine by.thread k)) _ _ (returns_hold by res.Perm 0 s h)
+      (if_holds given Q (nat_lt 1 (mutex_at s.machine k).count || somebody_waits s.machine (waits_with_other_mutex c k)) _ _ (returns_hold by res.Inval 0 s h)
+      (if_holds given Q (nat_lt 1 (length (owned_by s.machine by.thread))) _ _ (returns_hold by res.Deadlk 0 s h)
+      (releases_hold k (blocks by (for_condition c k) due s) (blocks_hold by (for_condition c k) due s h))))
+
+  -- ---- calls that wait up to a time
+
+  pub blocks_unless_late_hold : (by : By) (wait : Wait) (due : Option ℕ) (s : Turn P) → Holding s → Holding (blocks_unless_late by wait due s)
+  blocks_unless_late_hold by wait due s h = if_holds given Q (is_late due s.machine) _ _ (returns_hold by res.Timedout 0 s h) (blocks_hold by wait due s h)

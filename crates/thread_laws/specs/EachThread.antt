@@ -1,0 +1,95 @@
+-- What holds of each single thread, and which changes of a thread a machine makes. All of it is this project's own.
+use Rattle.std.specs.Prelude.{Bool, List, Option, Some, false, length, ℕ, ◌+◌, ◌<◌, ◌∷◌, ◌≡◌}
+use Rattle.tick_num.specs.declared.res.Res.{Res}
+use Rattle.tick_num.specs.declared.res.Res.TheVariants as res
+use Rattle.script_tree.specs.declared.call.Call.{Call}
+use Rattle.script_tree.specs.declared.call.Call.TheVariants as call
+use Rattle.script_tree.specs.declared.policy.Policy.{Policy}
+use Rattle.script_flat.specs.declared.unit.Unit as units
+use Rattle.script_flat.specs.declared.unit.Unit.TheVariants as unit
+use Rattle.sporadic_server.specs.Server.{activate, plan, refill}
+use Rattle.machine_rules.specs.declared.frame.BodyOf.TheVariants as body_of
+use Rattle.machine_rules.specs.declared.frame.FrameKind.TheVariants as frame
+use Rattle.machine_rules.specs.declared.signal.SigAction.{SigAction}
+use Rattle.machine_rules.specs.declared.signal.SigAction.TheVariants as action
+use Rattle.machine_rules.specs.Lists.{is}
+use Rattle.machine_rules.specs.Bodies.{Bodies}
+use Rattle.machine_rules.specs.State.{Joiner, Machine, Thread, Waiting}
+use Rattle.machine_rules.specs.Threads.{catches_signal, is_main, thread_in, top_kind}
+use Rattle.machine_rules.specs.Turns.{answered}
+use Rattle.machine_rules.specs.Servers.{with_server}
+use Rattle.machine_rules.specs.Waking.{ending_with, new_frame, on_top, put_to_wait, started, woken}
+use Rattle.machine_rules.specs.Lives.{with_joiner, without_life, without_top}
+use Rattle.machine_rules.specs.Cancellation.{requested, runs_cleanup_if, without_cleanup}
+use Rattle.machine_rules.specs.Scheduling.{with_policy, with_priority}
+use Rattle.machine_rules.specs.Units.{in_unit}
+use Rattle.machine_rules.specs.Ticks.{tick_charged, without_slice}
+
+-- A law of a thread speaks of the instant, of the thread's number and of the thread.
+abbrev pub EachIn : {P : Type 0} → (ℕ → ℕ → Thread P → Type 0) → ℕ → List (Thread P) → Type 0
+EachIn Q now threads = (u : ℕ) → u < length threads → Q now u (thread_in threads u)
+
+-- each thread of a machine keeps it
+abbrev pub EachThread : {P : Type 0} → (ℕ → ℕ → Thread P → Type 0) → Machine P → Type 0
+EachThread Q m = EachIn Q m.now m.threads
+
+-- ---- what is known of a machine
+
+-- its bodies, how many threads it has, which handlers its signals may have, and which calls a thread may make
+pub record Given (P : Type 0) : Type 1 where
+  pub bodies : Bodies P
+  pub count : ℕ
+  pub Handles : ℕ → Type 0
+  pub Known : Thread P → Call → Type 0
+
+module _ {P : Type 0} (given : Given P) where
+  abbrev pub ActionKnown : SigAction → Type 0
+  ActionKnown action.Kill = Unit {0}
+  ActionKnown action.Ignore = Unit {0}
+  ActionKnown (action.Handler h) = given.Handles h
+
+  abbrev pub UnitKnown : Thread P → units.Unit → Type 0
+  UnitKnown th (unit.Make c) = given.Known th c
+  UnitKnown th other = Unit {0}
+
+-- ---- the changes of a thread at an instant
+
+-- a law that survives each of them
+pub record Closed {P : Type 0} (given : Given P) (Q : ℕ → ℕ → Thread P → Type 0) : Type 0 where
+  pub answers : (now u : ℕ) (th : Thread P) (result : Res) (value : ℕ) → Q now u th → Q now u (answered result value th)
+  pub wakes : (now u : ℕ) (th : Thread P) (result : Res) (value : ℕ) → Q now u th → Q now u (woken result value th)
+  pub waits : (now u : ℕ) (th : Thread P) (w : Waiting) → Q now u th → Q now u (put_to_wait w th)
+  pub starts : (now u : ℕ) (th : Thread P) (mask : ℕ) → u < given.count → Q now u th → Q now u (started given.bodies u mask now th)
+  -- its server is activated, refilled, or plans a replenishment
+  pub activates : (now u : ℕ) (th : Thread P) → Q now u th → Q now u (with_server (activate now) th)
+  pub refills : (now u : ℕ) (th : Thread P) → Q now u th → Q now u (with_server refill th)
+  pub plans : (now u : ℕ) (th : Thread P) → Q now u th → Q now u (with_server plan th)
+  -- another thread may have called for a new priority or policy
+  pub prices : (now u : ℕ) (th caller : Thread P) (p : ℕ) → given.Known caller (call.Setprio u p) → Q now u th → Q now u (with_priority p th)
+  pub renews : (now u : ℕ) (th caller : Thread P) (new : Policy) → given.Known caller (call.Setsched u new) → Q now u th → Q now u (with_policy new now th)
+  pub slices : (now u : ℕ) (th : Thread P) → Q now u th → Q now u (without_slice th)
+  pub joins : (now u : ℕ) (th : Thread P) (joiner : Joiner) → Q now u th → Q now u (with_joiner joiner th)
+  -- signals and cancellation
+  pub masks : (now u : ℕ) (th : Thread P) (mask : ℕ) → Q now u th → Q now u (record th { mask = mask })
+  pub requests : (now u : ℕ) (th : Thread P) → Q now u th → Q now u (requested th)
+  pub enables : (now u : ℕ) (th : Thread P) (on : Bool) → Q now u th → Q now u (record th { is_enabled = on })
+  pub pushes : (now u : ℕ) (th : Thread P) (c : ℕ) → given.Known th (call.Push c) → Q now u th → Q now u (record th { cleanups = c ∷ th.cleanups })
+  pub pops : (now u : ℕ) (th : Thread P) (runs : Bool) → given.Known th (call.Pop runs) → Q now u th →
+      Q now u (runs_cleanup_if runs given.bodies th.cleanups (answered res.Zero 0 (without_cleanup th)))
+  pub catches : (now u : ℕ) (th : Thread P) (h value : ℕ) → given.Handles h → catches_signal th ≡ false → Q now u th →
+      Q now u (on_top (new_frame given.bodies frame.Signal (body_of.Handler h) value) th)
+  -- a frame ends, or the thread
+  pub leaves : (now u : ℕ) (th : Thread P) → is_main (top_kind th.frames) ≡ false → Q now u th → Q now u (without_top th)
+  pub ending : (now u : ℕ) (th : Thread P) (value : ℕ) → Q now u th → Q now u (ending_with value th)
+  pub ends : (now u : ℕ) (th : Thread P) → top_kind th.frames ≡ frame.Main → Q now u th → Q now u (without_life th)
+
+-- From one law to another, by a tick that is given to that thread or to none: its unit makes only calls that it may make.
+pub record Passes {P : Type 0} (given : Given P) (Q R : ℕ → ℕ → Thread P → Type 0) (to : Option ℕ) : Type 0 where
+  pub rests : (now u : ℕ) (th : Thread P) → is to u ≡ false → Q now u th → R (now + 1) u th
+  pub runs : (now t : ℕ) (th : Thread P) → to ≡ Some t → Q now t th → R (now + 1) t (tick_charged (in_unit given.bodies th).thread)
+  pub known : (now t : ℕ) (th : Thread P) → to ≡ Some t → Q now t th → UnitKnown given (tick_charged (in_unit given.bodies th).thread) (in_unit given.bodies th).unit
+
+-- a law that survives runs
+pub record Lasts {P : Type 0} (given : Given P) (Q : ℕ → ℕ → Thread P → Type 0) : Type 0 where
+  pub closed : Closed given Q
+  pub passes : (to : Option ℕ) → Passes given Q Q to

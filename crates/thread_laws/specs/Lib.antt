@@ -1,0 +1,2 @@
+pub mod EachThread
+pub mod HeadRuns
