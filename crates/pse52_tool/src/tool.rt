@@ -78,7 +78,8 @@ fn run_script<K: Sink, L: Ledger>(
 ) -> Status
     requires runnable { IsRunnable script.now }
     requires limit { horizon ≤ 10 ^ 18 }
-    ensures told { Told result (record { status = Status.Done; text = trace script.now horizon }) (K.text sink.old) (K.text sink.new) }
+    ensures told { Told result (record { status = Status.Done; text = trace script.now horizon })
+        (K.text sink.old) (K.text sink.new) }
     ensures faults { SinkFaults result (K.faults sink.old) (K.faults sink.new) }
     ensures read { result ≡ Status.ReadFault → ⊥ }
     ensures unchanged { result ≡ Status.OutOfMemory → sink.new ≡ sink.old }
