@@ -10,7 +10,7 @@ use Rattle.script_table.specs.Faults.{Fault, is_before, earlier, least, faults_a
 use Rattle.script_table.specs.Patterns.{Row, Spot}
 use Rattle.script_table.specs.LineFaults.{fits, place_faults, spelling}
 use Rattle.script_table.specs.Names.{declared}
-use Rattle.script_table.specs.Ranges.{ranging, no_tally}
+use Rattle.script_table.specs.Ranges.{range_fault, no_tally}
 use Rattle.script_table.specs.Structure.{Said, said_from, row_of_line, line_faults, behind_line, opened_by, phase_one}
 use Rattle.script_table.specs.Build.{script_of}
 use Rattle.script_table.specs.Read.{said, faults, verdict, read}
@@ -54,7 +54,7 @@ module _ (rows : List Row) (table : IsTable rows) where
           fit = subst (λ places. fits places (line_words line) ≡ true) has (found_fits rows (line_words line) row found);
           clean = record {
             spelled = subst (λ places. place_faults spelling places (line_words line) ≡ []) has sound.spelled;
-            ranged = subst (λ places. place_faults ranging places (line_words line) ≡ []) has sound.ranged;
+            ranged = subst (λ places. place_faults range_fault places (line_words line) ≡ []) has sound.ranged;
           };
         };
       }

@@ -15,7 +15,7 @@ use Rattle.script_table.specs.declared.form.Form.TheVariants as form
 use Rattle.script_table.specs.Patterns.{Row, greatest}
 use Rattle.script_table.specs.Words.{value_of}
 use Rattle.script_table.specs.LineFaults.{fitting_some, place_faults, spelling}
-use Rattle.script_table.specs.Ranges.{ranging, no_tally, phase_three}
+use Rattle.script_table.specs.Ranges.{range_fault, no_tally, phase_three}
 use Rattle.script_table.specs.Structure.{Said, said_from, row_of_line, line_faults, behind_line, opened, opened_by, unclosed, phase_one}
 use Rattle.script_table.specs.Names.{Entry, Declared, nothing_declared, declared, phase_two}
 use Rattle.script_table.specs.Operands.{number_in}
@@ -193,14 +193,14 @@ module _ (rows : List Row) (table : IsTable rows) where
       let line : List ℕ = joined_words (quantum_words q) in
       let back : line_words line ≡ quantum_words q = line_words-joined (quantum_words q) words in
       let spelled : place_faults spelling quantum_row.places (quantum_words q) ≡ [] = rw (is_number-decimal q small) refl in
-      let ranged : place_faults ranging quantum_row.places (quantum_words q) ≡ [] = rw (is_within-decimal 1 greatest q range.low high small) refl in
+      let ranged : place_faults range_fault quantum_row.places (quantum_words q) ≡ [] = rw (is_within-decimal 1 greatest q range.low high small) refl in
       record {
         line = line;
         sound = record {
           pattern = ap (fitting_some rows) back ∙ table.quantum q;
           bytes = has_bad_byte-joined (quantum_words q) words;
           spelled = ap (place_faults spelling quantum_row.places) back ∙ spelled;
-          ranged = ap (place_faults ranging quantum_row.places) back ∙ ranged;
+          ranged = ap (place_faults range_fault quantum_row.places) back ∙ ranged;
         };
         words = sym back;
       }

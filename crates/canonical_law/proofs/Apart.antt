@@ -6,7 +6,7 @@ use Rattle.std.specs.Str.{bytes_eq}
 use Rattle.std.proofs.lemmas.Slice.Eq.{bytes_eq-Decides}
 use Rattle.script_lex.proofs.Rejoined.{both}
 use Rattle.script_table.specs.Patterns.{Spot, Keyword, Answer, Number, Operand, Declares, Uses, Signal, Acts, Signals, Row}
-use Rattle.script_table.specs.LineFaults.{stands, fits, fitting}
+use Rattle.script_table.specs.LineFaults.{stands, fits, fitting_row}
 use Rattle.canonical_law.specs.Apart.{differ, apart, all_apart}
 
 alone : (a b word : List ℕ) → bytes_eq word a ≡ true → bytes_eq word b ≡ true → bytes_eq a b ≡ true
@@ -73,20 +73,20 @@ is_pattern_of words row = row.built && fits row.places words
 
 again_case : (b d : Bool) (words others : List (List ℕ)) (r : Row) (rows : List Row) (row : Row)
     → is_pattern_of words r ≡ b → is_pattern_of others r ≡ d
-    → all_apart (r ∷ rows) ≡ true → fitting (r ∷ rows) words ≡ Some row → fits row.places others ≡ true
-    → (all_apart rows ≡ true → fitting rows words ≡ Some row → fitting rows others ≡ Some row) → fitting (r ∷ rows) others ≡ Some row
+    → all_apart (r ∷ rows) ≡ true → fitting_row (r ∷ rows) words ≡ Some row → fits row.places others ≡ true
+    → (all_apart rows ≡ true → fitting_row rows words ≡ Some row → fitting_row rows others ≡ Some row) → fitting_row (r ∷ rows) others ≡ Some row
 again_case true d words others r rows row is other far found fit ih =
-    let h : Some r ≡ Some row = subst (λ b. cond b (Some r) (fitting rows words) ≡ Some row) is found in
+    let h : Some r ≡ Some row = subst (λ b. cond b (Some r) (fitting_row rows words) ≡ Some row) is found in
     let same : r ≡ row = cc in
     let built = (both r.built (fits r.places words) is).0 in
     let fit_r : fits r.places others ≡ true = subst (λ x. fits x.places others ≡ true) (sym same) fit in
     let yes : is_pattern_of others r ≡ true = rw (built, fit_r) refl in
     rw yes h
 again_case false false words others r rows row is other far found fit ih =
-    let h = subst (λ b. cond b (Some r) (fitting rows words) ≡ Some row) is found in
+    let h = subst (λ b. cond b (Some r) (fitting_row rows words) ≡ Some row) is found in
     rw other (ih (both (list_all (λ x. apart r.places x.places) rows) (all_apart rows) far).1 h)
 again_case false true words others r rows row is other far found fit ih =
-    let h = subst (λ b. cond b (Some r) (fitting rows words) ≡ Some row) is found in
+    let h = subst (λ b. cond b (Some r) (fitting_row rows words) ≡ Some row) is found in
     let parts = both (list_all (λ x. apart r.places x.places) rows) (all_apart rows) far in
     let apart_yes = found_passes (is_pattern_of words) (λ x. apart r.places x.places) rows row h parts.0 in
     let apart_no = both_fit r.places row.places others (both r.built (fits r.places others) other).1 fit in
@@ -94,21 +94,21 @@ again_case false true words others r rows row is other far found fit ih =
 
 -- a line that the pattern of another line fits has that pattern
 pub fitting_again : (rows : List Row) (words others : List (List ℕ)) (row : Row)
-    → all_apart rows ≡ true → fitting rows words ≡ Some row → fits row.places others ≡ true → fitting rows others ≡ Some row
+    → all_apart rows ≡ true → fitting_row rows words ≡ Some row → fits row.places others ≡ true → fitting_row rows others ≡ Some row
 fitting_again [] words others row far found fit = absurd (let f : None ≡ Some row = found in cc)
 fitting_again (r ∷ rows) words others row far found fit =
     again_case (is_pattern_of words r) (is_pattern_of others r) words others r rows row refl refl far found fit
     (λ f k. fitting_again rows words others row f k fit)
 
-fits_case : (b : Bool) (words : List (List ℕ)) (r : Row) (rows : List Row) (row : Row) → is_pattern_of words r ≡ b → fitting (r ∷ rows) words ≡ Some row
-    → (fitting rows words ≡ Some row → fits row.places words ≡ true) → fits row.places words ≡ true
+fits_case : (b : Bool) (words : List (List ℕ)) (r : Row) (rows : List Row) (row : Row) → is_pattern_of words r ≡ b → fitting_row (r ∷ rows) words ≡ Some row
+    → (fitting_row rows words ≡ Some row → fits row.places words ≡ true) → fits row.places words ≡ true
 fits_case true words r rows row is found ih =
-    let h : Some r ≡ Some row = subst (λ b. cond b (Some r) (fitting rows words) ≡ Some row) is found in
+    let h : Some r ≡ Some row = subst (λ b. cond b (Some r) (fitting_row rows words) ≡ Some row) is found in
     let same : r ≡ row = cc in
     subst (λ x. fits x.places words ≡ true) same (both r.built (fits r.places words) is).1
-fits_case false words r rows row is found ih = ih (subst (λ b. cond b (Some r) (fitting rows words) ≡ Some row) is found)
+fits_case false words r rows row is found ih = ih (subst (λ b. cond b (Some r) (fitting_row rows words) ≡ Some row) is found)
 
 -- the pattern that is found fits the line
-pub found_fits : (rows : List Row) (words : List (List ℕ)) (row : Row) → fitting rows words ≡ Some row → fits row.places words ≡ true
+pub found_fits : (rows : List Row) (words : List (List ℕ)) (row : Row) → fitting_row rows words ≡ Some row → fits row.places words ≡ true
 found_fits [] words row found = absurd (let f : None ≡ Some row = found in cc)
 found_fits (r ∷ rows) words row found = fits_case (is_pattern_of words r) words r rows row refl found (found_fits rows words row)

@@ -11,7 +11,7 @@ use Rattle.script_table.specs.Patterns.{Spot, Declares, Uses, Row, same_kind}
 use Rattle.script_table.specs.LineFaults.{stands, fits}
 use Rattle.script_table.specs.Structure.{body_kind}
 use Rattle.script_table.specs.Ranges.{object_kind}
-use Rattle.script_table.specs.Names.{Entry, with_name, Declared, declaring, declared_at}
+use Rattle.script_table.specs.Names.{Entry, with_name, Declared, with_declaration, declared_at}
 use Rattle.canonical_law.proofs.Shape.{first, rest}
 
 -- the kind of the thing that a line declares
@@ -61,7 +61,7 @@ abbrev pub names_after : List Entry → ℕ → Option NameKind → List (List �
 names_after es n None words = es
 names_after es n (Some k) words = with_name es n k (first (rest words))
 
-one_undeclared : (d : Declared) (n : ℕ) (spot : Spot) (word : List ℕ) → not (is_declaring spot) ≡ true → (declaring d n spot word).names ≡ d.names
+one_undeclared : (d : Declared) (n : ℕ) (spot : Spot) (word : List ℕ) → not (is_declaring spot) ≡ true → (with_declaration d n spot word).names ≡ d.names
 one_undeclared d n (Declares kind) word e = absurd (let f : false ≡ true = e in cc)
 one_undeclared d n other word e = refl
 
@@ -70,7 +70,7 @@ none_declared d n [] words e = refl
 none_declared d n (spot ∷ spots) [] e = refl
 none_declared d n (spot ∷ spots) (word ∷ words) e =
     let h = both (not (is_declaring spot)) (no_declares spots) e in
-    none_declared (declaring d n spot word) n spots words h.1 ∙ one_undeclared d n spot word h.0
+    none_declared (with_declaration d n spot word) n spots words h.1 ∙ one_undeclared d n spot word h.0
 
 pub declared_names : (d : Declared) (n : ℕ) (k : Option NameKind) (spots : List Spot) (words : List (List ℕ)) → by_kind k spots ≡ true → fits spots words ≡ true
     → (declared_at d n spots words).names ≡ names_after d.names n k words
@@ -83,6 +83,6 @@ declared_names d n (Some k) (s ∷ Declares j ∷ spots) (w ∷ v ∷ words) e f
     let a = both (same_kind j k) (not (is_declaring s) && (no_declares spots && no_uses (s ∷ Declares j ∷ spots))) e in
     let b = both (not (is_declaring s)) (no_declares spots && no_uses (s ∷ Declares j ∷ spots)) a.1 in
     let c = both (no_declares spots) (no_uses (s ∷ Declares j ∷ spots)) b.1 in
-    none_declared (declaring (declaring d n s w) n (Declares j) v) n spots words c.0
+    none_declared (with_declaration (with_declaration d n s w) n (Declares j) v) n spots words c.0
     ∙ (ap (λ es. with_name es n j v) (one_undeclared d n s w b.0) ∙ ap (λ k. with_name d.names n k v) (same_kind_is j k a.0))
 declared_names d n (Some k) (s ∷ other ∷ spots) words e fit = absurd (let f : false ≡ true = e in cc)

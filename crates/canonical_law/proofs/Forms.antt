@@ -18,7 +18,7 @@ use Rattle.script_table.specs.declared.form.MessageCall.TheVariants as message
 use Rattle.script_table.specs.declared.pattern.NameKind.TheVariants as kind
 use Rattle.script_table.specs.Patterns.{Spot, Keyword, Answer, Number, Operand, Declares, Uses, Signal, Acts, Signals, Row, greatest}
 use Rattle.std.proofs.Common.{◌≡◌, refl, subst}
-use Rattle.script_table.specs.LineFaults.{fits, fitting}
+use Rattle.script_table.specs.LineFaults.{fits, fitting_row}
 
 abbrev priority : Spot
 priority = Number 1 255
@@ -129,5 +129,5 @@ found_has test [] row found all = absurd (let f : None ≡ Some row = found in c
 found_has test (r ∷ rows) row found all = found_case (test r) test r rows row refl found all.0 (λ f. found_has test rows row f all.1)
 
 -- the pattern of a line has the places of its form
-pub fitting_has : (rows : List Row) → AllHave rows → (words : List (List ℕ)) (row : Row) → fitting rows words ≡ Some row → row.places ≡ places_of row.form
+pub fitting_has : (rows : List Row) → AllHave rows → (words : List (List ℕ)) (row : Row) → fitting_row rows words ≡ Some row → row.places ≡ places_of row.form
 fitting_has rows all words row found = found_has (λ r. r.built && fits r.places words) rows row found all

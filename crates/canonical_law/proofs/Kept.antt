@@ -8,7 +8,7 @@ use Rattle.script_table.specs.declared.fault.FaultKind.TheVariants.{NumberRange,
 use Rattle.script_table.specs.Patterns.{Spot, Keyword, Answer, Number, Operand, Declares, Uses, Signal, Acts, Signals, Row, greatest}
 use Rattle.script_table.specs.Words.{value_of, is_register, set_of}
 use Rattle.script_table.specs.LineFaults.{stands, fits, place_faults, unless, spelling}
-use Rattle.script_table.specs.Ranges.{is_within, ranging, word, sets_server, server_faults}
+use Rattle.script_table.specs.Ranges.{is_within, range_fault, word, sets_server, server_faults}
 use Rattle.script_text.specs.Words.{set_word}
 use Rattle.canonical_law.specs.Canonical.{canonical_word, canonical_words}
 use Rattle.canonical_law.specs.Apart.{is_bounded, number_at, has_parameters}
@@ -48,7 +48,7 @@ within_parts low high n e = let h = both (nat_le low n) (nat_le n high) e in (se
 -- no fault of spelling or range
 pub record IsClean (spot : Spot) (word : List ℕ) : Type 0 where
   pub spelled : spelling spot word ≡ None
-  pub ranged : ranging spot word ≡ None
+  pub ranged : range_fault spot word ≡ None
 
 number_clean : (low high n : ℕ) → high ≤ greatest → low ≤ n → n ≤ high → IsClean (Number low high) (decimal n)
 number_clean low high n top below above =
@@ -97,7 +97,7 @@ none_first (Some kind) rest e = absurd (let f : (kind ∷ rest) ≡ [] = e in cc
 -- the words at the places have no fault of spelling or range
 pub record AreClean (spots : List Spot) (words : List (List ℕ)) : Type 0 where
   pub spelled : place_faults spelling spots words ≡ []
-  pub ranged : place_faults ranging spots words ≡ []
+  pub ranged : place_faults range_fault spots words ≡ []
 
 pub are_clean_kept : (spots : List Spot) (words : List (List ℕ)) → list_all is_bounded spots ≡ true → AreClean spots words → AreClean spots (canonical_words spots words)
 are_clean_kept [] words bound clean = record { spelled = refl; ranged = refl }
@@ -105,7 +105,7 @@ are_clean_kept (spot ∷ spots) [] bound clean = record { spelled = refl; ranged
 are_clean_kept (spot ∷ spots) (word ∷ words) bound clean =
     let b = both (is_bounded spot) (list_all is_bounded spots) bound in
     let s = none_first (spelling spot word) (place_faults spelling spots words) clean.spelled in
-    let r = none_first (ranging spot word) (place_faults ranging spots words) clean.ranged in
+    let r = none_first (range_fault spot word) (place_faults range_fault spots words) clean.ranged in
     let one = clean_kept spot word b.0 (record { spelled = s.0; ranged = r.0 }) in
     let rest = are_clean_kept spots words b.1 (record { spelled = s.1; ranged = r.1 }) in
     record { spelled = rw (one.spelled, rest.spelled) refl; ranged = rw (one.ranged, rest.ranged) refl }
@@ -146,7 +146,7 @@ words_kept (spot ∷ spots) (word ∷ words) bound clean e =
     let b = both (is_bounded spot) (list_all is_bounded spots) bound in
     let w = both (is_word word) (list_all is_word words) e in
     let s = none_first (spelling spot word) (place_faults spelling spots words) clean.spelled in
-    let r = none_first (ranging spot word) (place_faults ranging spots words) clean.ranged in
+    let r = none_first (range_fault spot word) (place_faults range_fault spots words) clean.ranged in
     let one = word_kept spot word b.0 (record { spelled = s.0; ranged = r.0 }) w.0 in
     let rest = words_kept spots words b.1 (record { spelled = s.1; ranged = r.1 }) w.1 in
     rw (one, rest) refl
@@ -158,7 +158,7 @@ value_kept k [] words at bound clean = absurd (let f : false ≡ true = at in cc
 value_kept k (spot ∷ spots) [] at bound clean = refl
 value_kept zero (Number low high ∷ spots) (w ∷ words) at bound clean =
     let b = both (nat_le high greatest) (list_all is_bounded spots) bound in
-    let r = none_first (ranging (Number low high) w) (place_faults ranging spots words) clean.ranged in
+    let r = none_first (range_fault (Number low high) w) (place_faults range_fault spots words) clean.ranged in
     let h = within_parts low high (value_of w) (holds (is_within low high w) NumberRange r.0) in
     let top : high ≤ greatest = search rules in
     let above = h.1 in
@@ -174,7 +174,7 @@ value_kept zero (Signals ∷ spots) words at bound clean = absurd (let f : false
 value_kept (suc k) (spot ∷ spots) (w ∷ words) at bound clean =
     let b = both (is_bounded spot) (list_all is_bounded spots) bound in
     let s = none_first (spelling spot w) (place_faults spelling spots words) clean.spelled in
-    let r = none_first (ranging spot w) (place_faults ranging spots words) clean.ranged in
+    let r = none_first (range_fault spot w) (place_faults range_fault spots words) clean.ranged in
     value_kept k spots words at b.1 (record { spelled = s.1; ranged = r.1 })
 
 -- the faults of a sporadic server are kept

@@ -15,8 +15,8 @@ use Rattle.script_table.specs.Faults.{faults_at, when}
 use Rattle.script_table.specs.Patterns.{Spot, Keyword, Answer, Number, Operand, Declares, Uses, Signal, Acts, Signals, same_kind}
 use Rattle.script_table.specs.LineFaults.{stands, fits, place_faults}
 use Rattle.script_table.specs.Structure.{Said, closer_of, closed_by}
-use Rattle.script_table.specs.Ranges.{Tally, entered, left, tallied, is_over, is_too_many, range_faults, ranging, server_faults, phase_three}
-use Rattle.script_table.specs.Names.{Counts, no_counts, counted, count_of, counts_from, Entry, entry_of, with_name, Declared, nothing_declared, declaring, declared_at, declared_from, duplicate, naming, name_faults, phase_two}
+use Rattle.script_table.specs.Ranges.{Tally, entered, left, tallied, is_over, is_too_many, range_faults, range_fault, server_faults, phase_three}
+use Rattle.script_table.specs.Names.{Counts, no_counts, counted, count_of, counts_from, Entry, entry_of, with_name, Declared, nothing_declared, with_declaration, declared_at, declared_from, duplicate, name_fault, name_faults, phase_two}
 use Rattle.script_table.specs.Build.{Built, after, built_from, nothing_built}
 use Rattle.script_text.specs.declared.names.Sort.{Sort}
 use Rattle.script_text.specs.Names.{names_of}
@@ -75,29 +75,29 @@ stays_with : (b : Bool) (es : List Entry) (n : ℕ) (k : NameKind) (name word : 
 stays_with true es n k name word e is found = rw is found
 stays_with false es n k name word e is found = rw is (stays_more es word e _ found)
 
-stays_one : (d : Declared) (n : ℕ) (spot : Spot) (w word : List ℕ) (e : Entry) → entry_of d.names word ≡ Some e → entry_of (declaring d n spot w).names word ≡ Some e
+stays_one : (d : Declared) (n : ℕ) (spot : Spot) (w word : List ℕ) (e : Entry) → entry_of d.names word ≡ Some e → entry_of (with_declaration d n spot w).names word ≡ Some e
 stays_one d n (Declares k) w word e found = stays_with (is_some (entry_of d.names w)) d.names n k w word e refl found
 stays_one d n other w word e found = found
 
 stays_at : (d : Declared) (n : ℕ) (spots : List Spot) (words : List (List ℕ)) (word : List ℕ) (e : Entry) → entry_of d.names word ≡ Some e → entry_of (declared_at d n spots words).names word ≡ Some e
 stays_at d n [] words word e found = found
 stays_at d n (spot ∷ spots) [] word e found = found
-stays_at d n (spot ∷ spots) (w ∷ words) word e found = stays_at (declaring d n spot w) n spots words word e (stays_one d n spot w word e found)
+stays_at d n (spot ∷ spots) (w ∷ words) word e found = stays_at (with_declaration d n spot w) n spots words word e (stays_one d n spot w word e found)
 
 stays : (d : Declared) (ss : List Said) (word : List ℕ) (e : Entry) → entry_of d.names word ≡ Some e → entry_of (declared_from d ss).names word ≡ Some e
 stays d [] word e found = found
 stays d (s ∷ ss) word e found = stays (declared_at d s.line s.row.places s.words) ss word e (stays_at d s.line s.row.places s.words word e found)
 
 -- the fault of a second declaration
-second_fault : (d : Declared) (n : ℕ) (k : NameKind) (spots : List Spot) (words : List (List ℕ)) → by_kind (Some k) spots ≡ true → fits spots words ≡ true → place_faults (naming d n) spots words ≡ []
+second_fault : (d : Declared) (n : ℕ) (k : NameKind) (spots : List Spot) (words : List (List ℕ)) → by_kind (Some k) spots ≡ true → fits spots words ≡ true → place_faults (name_fault d n) spots words ≡ []
     → duplicate n (entry_of d.names (first (rest words))) ≡ None
 second_fault d n k [] words e fit fault = absurd (let f : false ≡ true = e in cc)
 second_fault d n k (s ∷ []) words e fit fault = absurd (let f : false ≡ true = e in cc)
 second_fault d n k (s ∷ Declares j ∷ spots) [] e fit fault = absurd (let f : false ≡ true = fit in cc)
 second_fault d n k (s ∷ Declares j ∷ spots) (w ∷ []) e fit fault = absurd (let f : false ≡ true = (both (stands s w) false fit).1 in cc)
 second_fault d n k (s ∷ Declares j ∷ spots) (w ∷ v ∷ words) e fit fault =
-    let a = none_first (naming d n s w) (place_faults (naming d n) (Declares j ∷ spots) (v ∷ words)) fault in
-    (none_first (naming d n (Declares j) v) (place_faults (naming d n) spots words) a.1).0
+    let a = none_first (name_fault d n s w) (place_faults (name_fault d n) (Declares j ∷ spots) (v ∷ words)) fault in
+    (none_first (name_fault d n (Declares j) v) (place_faults (name_fault d n) spots words) a.1).0
 second_fault d n k (s ∷ other ∷ spots) words e fit fault = absurd (let f : false ≡ true = e in cc)
 
 -- the name that a line declares is new
@@ -115,7 +115,7 @@ new_case (Some e) d n line ss word is all h fault =
     absurd (let f : Some DuplicateName ≡ None = rw (later, less) at fault in cc)
 
 is_new : (d : Declared) (n line : ℕ) (ss : List Said) (k : Option NameKind) (spots : List Spot) (words : List (List ℕ)) → by_kind k spots ≡ true → fits spots words ≡ true → AllBefore n d.names → n ≤ line
-    → place_faults (naming (declared_from d ss) line) spots words ≡ [] → IsNew d.names k words
+    → place_faults (name_fault (declared_from d ss) line) spots words ≡ [] → IsNew d.names k words
 is_new d n line ss None spots words e fit all h fault = tt
 is_new d n line ss (Some k) spots words e fit all h fault =
     new_case (entry_of d.names (first (rest words))) d n line ss (first (rest words)) refl all h (second_fault (declared_from d ss) line k spots words e fit fault)
@@ -195,7 +195,7 @@ known_as es xs c x n so_far names p q r known =
 nothing_gives : AllGive [] []
 nothing_gives word e found = absurd (let f : None ≡ Some e = found in cc)
 
-no_faults : (n : ℕ) (spots : List Spot) (words : List (List ℕ)) → no_uses spots ≡ true → place_faults (naming nothing_declared n) spots words ≡ []
+no_faults : (n : ℕ) (spots : List Spot) (words : List (List ℕ)) → no_uses spots ≡ true → place_faults (name_fault nothing_declared n) spots words ≡ []
 no_faults n [] words e = refl
 no_faults n (spot ∷ spots) [] e = refl
 no_faults n (Keyword k ∷ spots) (w ∷ words) e = no_faults n spots words e
@@ -241,7 +241,7 @@ record Limited (t : Tally) (s : Said) : Type 0 where
 
 limited : (t : Tally) (s : Said) → range_faults (tallied t s.row.form) s ≡ [] → Limited t s
 limited t s e =
-    let a = both_none (place_faults ranging s.row.places s.words) (server_faults s.row.form s.words ++ when (is_too_many (tallied t s.row.form) s.row.form) TooMany) e in
+    let a = both_none (place_faults range_fault s.row.places s.words) (server_faults s.row.form s.words ++ when (is_too_many (tallied t s.row.form) s.row.form) TooMany) e in
     let b = both_none (server_faults s.row.form s.words) (when (is_too_many (tallied t s.row.form) s.row.form) TooMany) a.1 in
     record { server = b.0; room = not_many (is_too_many (tallied t s.row.form) s.row.form) b.1 }
 
@@ -307,7 +307,7 @@ nothing_known = record { numbered = tt; counts = refl; few = none_few; names = �
 told_one : (d : Declared) (ds : List Decl) → AllGive d.names ds → (s : Said) → SoundSaid s → name_faults d s ≡ [] → server_faults s.row.form s.words ≡ [] → Told d.names ds s.row.form s.words
 told_one d ds give s sound fault server =
     record {
-      shown = all_shown d ds give s.line (places_of s.row.form) s.words sound.sound.fit sound.sound.clean (subst (λ places. place_faults (naming d s.line) places s.words ≡ []) sound.places fault);
+      shown = all_shown d ds give s.line (places_of s.row.form) s.words sound.sound.fit sound.sound.clean (subst (λ places. place_faults (name_fault d s.line) places s.words ≡ []) sound.places fault);
       fit = sound.sound.fit;
       server = server;
     }

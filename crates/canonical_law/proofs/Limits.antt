@@ -7,7 +7,7 @@ use Rattle.script_table.specs.declared.fault.FaultKind.TheVariants.{TooMany, NoT
 use Rattle.script_table.specs.Faults.{when, faults_at, fault}
 use Rattle.script_table.specs.Patterns.{Row}
 use Rattle.script_table.specs.LineFaults.{place_faults}
-use Rattle.script_table.specs.Ranges.{ranging, server_faults, Tally, tallied, is_too_many, range_faults, phase_three}
+use Rattle.script_table.specs.Ranges.{range_fault, server_faults, Tally, tallied, is_too_many, range_faults, phase_three}
 use Rattle.script_table.specs.Structure.{Said, row_of_line, said_from}
 use Rattle.canonical_law.specs.Laws.{IsAnew, AreAnew, IsRanged, AreRanged}
 use Rattle.canonical_law.proofs.Places.{both_none, said_none, said_some}
@@ -18,9 +18,9 @@ no_kinds n [] e = refl
 no_kinds n (k ∷ ks) e = absurd (let f : (fault 3 n k ∷ faults_at 3 n ks) ≡ [] = e in cc)
 
 -- what a statement without a fault of phase 3 has
-within : (t : Tally) (s : Said) → range_faults t s ≡ [] → (place_faults ranging s.row.places s.words ≡ []) × ((server_faults s.row.form s.words ≡ []) × (when (is_too_many t s.row.form) TooMany ≡ []))
+within : (t : Tally) (s : Said) → range_faults t s ≡ [] → (place_faults range_fault s.row.places s.words ≡ []) × ((server_faults s.row.form s.words ≡ []) × (when (is_too_many t s.row.form) TooMany ≡ []))
 within t s e =
-    let first = both_none (place_faults ranging s.row.places s.words) (server_faults s.row.form s.words ++ when (is_too_many t s.row.form) TooMany) e in
+    let first = both_none (place_faults range_fault s.row.places s.words) (server_faults s.row.form s.words ++ when (is_too_many t s.row.form) TooMany) e in
     let second = both_none (server_faults s.row.form s.words) (when (is_too_many t s.row.form) TooMany) first.1 in
     (first.0, second)
 

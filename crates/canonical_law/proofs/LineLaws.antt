@@ -8,8 +8,8 @@ use Rattle.script_lex.proofs.Rejoined.{both, line_words-joined, has_bad_byte-joi
 use Rattle.script_lex.specs.Lines.{lines_of}
 use Rattle.script_text.specs.Canon.{Words, text_of}
 use Rattle.script_table.specs.Patterns.{Spot, Row}
-use Rattle.script_table.specs.LineFaults.{fits, fitting, fitting_some, place_faults, spelling}
-use Rattle.script_table.specs.Ranges.{ranging}
+use Rattle.script_table.specs.LineFaults.{fits, fitting_row, fitting_some, place_faults, spelling}
+use Rattle.script_table.specs.Ranges.{range_fault}
 use Rattle.canonical_law.specs.Canonical.{canonical_words}
 use Rattle.canonical_law.specs.Apart.{is_bounded}
 use Rattle.canonical_law.specs.Laws.{IsSound, KeepsPattern, canonical_line, AreWords, ReadBack}
@@ -18,13 +18,13 @@ use Rattle.canonical_law.proofs.Kept.{fits_kept, are_clean_kept, words_kept}
 use Rattle.canonical_law.proofs.Written.{line_words_are_words}
 use Rattle.canonical_law.proofs.Table.{IsTable}
 
-pub some_found : (rows : List Row) (words : List (List ℕ)) (row : Row) → fitting_some rows words ≡ Some row → fitting rows words ≡ Some row
+pub some_found : (rows : List Row) (words : List (List ℕ)) (row : Row) → fitting_some rows words ≡ Some row → fitting_row rows words ≡ Some row
 some_found rows [] row e = absurd (let f : None ≡ Some row = e in cc)
 some_found rows (w ∷ ws) row e = e
 
 -- a line that has a pattern has words
 found_some : (rows : List Row) (words others : List (List ℕ)) (spots : List Spot) (row : Row)
-    → fitting_some rows words ≡ Some row → fits spots words ≡ true → fitting rows (canonical_words spots words) ≡ Some row → fitting_some rows (canonical_words spots words) ≡ Some row
+    → fitting_some rows words ≡ Some row → fits spots words ≡ true → fitting_row rows (canonical_words spots words) ≡ Some row → fitting_some rows (canonical_words spots words) ≡ Some row
 found_some rows [] others spots row e fit again = absurd (let f : None ≡ Some row = e in cc)
 found_some rows (w ∷ ws) others [] row e fit again = absurd (let f : false ≡ true = fit in cc)
 found_some rows (w ∷ ws) others (s ∷ spots) row e fit again = again
@@ -57,13 +57,13 @@ module _ (rows : List Row) (table : IsTable rows) where
       let written : list_all is_word canonical ≡ true = words_kept row.places words bounded (record { spelled = h.spelled; ranged = h.ranged }) (line_words_are_words line h.bytes) in
       let back : line_words (canonical_line row line) ≡ canonical = line_words-joined canonical written in
       let fit = found_fits rows words row found in
-      let again : fitting rows canonical ≡ Some row = fitting_again rows words canonical row table.apart found (fits_kept row.places words fit) in
+      let again : fitting_row rows canonical ≡ Some row = fitting_again rows words canonical row table.apart found (fits_kept row.places words fit) in
       record {
         sound = record {
           pattern = ap (fitting_some rows) back ∙ found_some rows words words row.places row h.pattern fit again;
           bytes = has_bad_byte-joined canonical written;
           spelled = ap (place_faults spelling row.places) back ∙ clean.spelled;
-          ranged = ap (place_faults ranging row.places) back ∙ clean.ranged;
+          ranged = ap (place_faults range_fault row.places) back ∙ clean.ranged;
         };
         words = back;
       }

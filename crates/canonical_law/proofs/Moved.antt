@@ -13,7 +13,7 @@ use Rattle.script_table.specs.Patterns.{greatest}
 use Rattle.script_table.specs.Words.{value_of}
 use Rattle.script_table.specs.LineFaults.{place_faults}
 use Rattle.script_table.specs.Structure.{Said, opened, closer_of, closed_by}
-use Rattle.script_table.specs.Ranges.{Tally, entered, left, tallied, is_too_many, is_within, range_faults, ranging, server_faults, phase_three, word}
+use Rattle.script_table.specs.Ranges.{Tally, entered, left, tallied, is_too_many, is_within, range_faults, range_fault, server_faults, phase_three, word}
 use Rattle.script_table.specs.Names.{Entry, Declared, declared_at, declared_from, name_faults, phase_two}
 use Rattle.script_table.specs.Meaning.{runs_cleanup}
 use Rattle.script_table.specs.Build.{Opened, Built, close_one, closed, after_form, after, built_from}
@@ -128,7 +128,7 @@ too_many_quanta t k (form.Close f) other = refl
 
 range_quanta : (t : Tally) (k : ℕ) (s : Said) → NotQuantum s.row.form → range_faults (with_quanta k t) s ≡ range_faults t s
 range_quanta t k s other =
-    ap (λ b. place_faults ranging s.row.places s.words ++ (server_faults s.row.form s.words ++ when b TooMany))
+    ap (λ b. place_faults range_fault s.row.places s.words ++ (server_faults s.row.form s.words ++ when b TooMany))
     (too_many_quanta t k s.row.form other)
 
 -- the number of lines of the quantum matters for those alone

@@ -11,7 +11,7 @@ use Rattle.script_table.specs.Patterns.{Spot, Keyword, Answer, Number, Operand, 
 use Rattle.script_table.specs.LineFaults.{place_faults}
 use Rattle.script_table.specs.Structure.{Said}
 use Rattle.script_table.specs.Operands.{number_of_kind}
-use Rattle.script_table.specs.Names.{Counts, no_counts, counted, count_of, counts_from, Entry, entry_of, with_name, Declared, nothing_declared, declaring, declared_at, declared_from, declared, duplicate, used, naming, name_faults, phase_two}
+use Rattle.script_table.specs.Names.{Counts, no_counts, counted, count_of, counts_from, Entry, entry_of, with_name, Declared, nothing_declared, with_declaration, declared_at, declared_from, declared, duplicate, used, name_fault, name_faults, phase_two}
 use Rattle.canonical_law.specs.Canonical.{canonical_word, canonical_words}
 use Rattle.canonical_law.specs.Laws.{AreAnew}
 use Rattle.canonical_law.proofs.Places.{both_none}
@@ -83,7 +83,7 @@ record AlikeDeclared (R : ℕ → ℕ → Type 0) (d x : Declared) : Type 0 wher
   names : AllAlike R d.names x.names
   actions : AllAlike R d.actions x.actions
 
-declaring_alike : (R : ℕ → ℕ → Type 0) (n m : ℕ) (spot : Spot) (word : List ℕ) (d x : Declared) → R n m → AlikeDeclared R d x → AlikeDeclared R (declaring d n spot word) (declaring x m spot (canonical_word spot word))
+declaring_alike : (R : ℕ → ℕ → Type 0) (n m : ℕ) (spot : Spot) (word : List ℕ) (d x : Declared) → R n m → AlikeDeclared R d x → AlikeDeclared R (with_declaration d n spot word) (with_declaration x m spot (canonical_word spot word))
 declaring_alike R n m (Keyword k) word d x same h = h
 declaring_alike R n m Answer word d x same h = h
 declaring_alike R n m (Number low high) word d x same h = h
@@ -98,7 +98,7 @@ at_alike : (R : ℕ → ℕ → Type 0) (n m : ℕ) (spots : List Spot) (words :
 at_alike R n m [] words d x same h = h
 at_alike R n m (spot ∷ spots) [] d x same h = h
 at_alike R n m (spot ∷ spots) (word ∷ words) d x same h =
-    at_alike R n m spots words (declaring d n spot word) (declaring x m spot (canonical_word spot word)) same (declaring_alike R n m spot word d x same h)
+    at_alike R n m spots words (with_declaration d n spot word) (with_declaration x m spot (canonical_word spot word)) same (declaring_alike R n m spot word d x same h)
 
 duplicate_alike : (R : ℕ → ℕ → Type 0) → InOrder R → (n m : ℕ) (a b : Option Entry) → R n m → Found R a b → duplicate m b ≡ duplicate n a
 duplicate_alike R order n m None None same h = refl
@@ -113,7 +113,7 @@ used_alike R kind None (Some x) h = absurd h
 used_alike R kind (Some e) None h = absurd h
 used_alike R kind (Some e) (Some x) h = ap (λ (k : NameKind). used kind (Some (record e { kind = k }))) h.kind
 
-naming_alike : (R : ℕ → ℕ → Type 0) → InOrder R → (n m : ℕ) (spot : Spot) (word : List ℕ) (d x : Declared) → R n m → AlikeDeclared R d x → naming x m spot (canonical_word spot word) ≡ naming d n spot word
+naming_alike : (R : ℕ → ℕ → Type 0) → InOrder R → (n m : ℕ) (spot : Spot) (word : List ℕ) (d x : Declared) → R n m → AlikeDeclared R d x → name_fault x m spot (canonical_word spot word) ≡ name_fault d n spot word
 naming_alike R order n m (Keyword k) word d x same h = refl
 naming_alike R order n m Answer word d x same h = refl
 naming_alike R order n m (Number low high) word d x same h = refl
@@ -125,7 +125,7 @@ naming_alike R order n m Acts word d x same h = duplicate_alike R order n m (ent
 naming_alike R order n m Signals word d x same h = refl
 
 faults_alike : (R : ℕ → ℕ → Type 0) → InOrder R → (n m : ℕ) (spots : List Spot) (words : List (List ℕ)) (d x : Declared) → R n m → AlikeDeclared R d x
-    → place_faults (naming x m) spots (canonical_words spots words) ≡ place_faults (naming d n) spots words
+    → place_faults (name_fault x m) spots (canonical_words spots words) ≡ place_faults (name_fault d n) spots words
 faults_alike R order n m [] words d x same h = refl
 faults_alike R order n m (spot ∷ spots) [] d x same h = refl
 faults_alike R order n m (spot ∷ spots) (word ∷ words) d x same h =

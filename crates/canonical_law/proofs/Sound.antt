@@ -10,7 +10,7 @@ use Rattle.script_table.specs.declared.pattern.NameKind.{NameKind}
 use Rattle.script_table.specs.Patterns.{Spot, Keyword, Answer, Number, Operand, Declares, Uses, Signal, Acts, Signals, greatest}
 use Rattle.script_table.specs.Words.{value_of, set_of, is_register}
 use Rattle.script_table.specs.LineFaults.{fits, spelling, place_faults}
-use Rattle.script_table.specs.Ranges.{ranging, is_within}
+use Rattle.script_table.specs.Ranges.{range_fault, is_within}
 use Rattle.script_table.specs.Names.{Entry, entry_of}
 use Rattle.script_table.specs.Operands.{operand_at, number_of_kind}
 use Rattle.script_text.specs.Words.{set_word}
@@ -31,7 +31,7 @@ each_place P one (spot ∷ spots) [] fit bound clean = absurd (let f : false ≡
 each_place P one (spot ∷ spots) (word ∷ words) fit bound clean =
     let b = both (is_bounded spot) (list_all is_bounded spots) bound in
     let s = none_first (spelling spot word) (place_faults spelling spots words) clean.spelled in
-    let r = none_first (ranging spot word) (place_faults ranging spots words) clean.ranged in
+    let r = none_first (range_fault spot word) (place_faults range_fault spots words) clean.ranged in
     (one spot word b.0 (record { spelled = s.0; ranged = r.0 }), each_place P one spots words (both _ (fits spots words) fit).1 b.1 (record { spelled = s.1; ranged = r.1 }))
 
 -- a number that is in range

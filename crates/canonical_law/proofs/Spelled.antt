@@ -19,8 +19,8 @@ use Rattle.script_table.specs.declared.pattern.NameKind.{NameKind}
 use Rattle.script_table.specs.Patterns.{Spot, Keyword, Answer, Number, Operand, Declares, Uses, Signal, Acts, Signals, greatest, same_kind}
 use Rattle.script_table.specs.Words.{value_of, is_register, signal_number, signal_of, set_of, answer_of}
 use Rattle.script_table.specs.LineFaults.{stands, fits, spelling, place_faults}
-use Rattle.script_table.specs.Ranges.{ranging, is_within}
-use Rattle.script_table.specs.Names.{Entry, entry_of, Declared, naming, used}
+use Rattle.script_table.specs.Ranges.{range_fault, is_within}
+use Rattle.script_table.specs.Names.{Entry, entry_of, Declared, name_fault, used}
 use Rattle.script_text.specs.Names.{name_of}
 use Rattle.script_text.specs.Words.{signal_word}
 use Rattle.canonical_law.proofs.Bounds.{if_some}
@@ -161,7 +161,7 @@ name_shown (Some e) es ds kind word give is fault =
       text = ap (λ k. name_of ds (sort_for k) e.number) (sym (same_kind_is e.kind kind same)) ∙ h.name;
     }
 
-one_shown : (d : Declared) (ds : List Decl) → AllGive d.names ds → (n : ℕ) (spot : Spot) (word : List ℕ) → stands spot word ≡ true → IsClean spot word → naming d n spot word ≡ None → Shows d.names ds spot word
+one_shown : (d : Declared) (ds : List Decl) → AllGive d.names ds → (n : ℕ) (spot : Spot) (word : List ℕ) → stands spot word ≡ true → IsClean spot word → name_fault d n spot word ≡ None → Shows d.names ds spot word
 one_shown d ds give n (Keyword k) word st clean fault = keyword_shown k word st
 one_shown d ds give n Answer word st clean fault = answer_shown (answer_of word) word refl st
 one_shown d ds give n (Number low high) word st clean fault = holds (is_within low high word) NumberRange clean.ranged
@@ -173,13 +173,13 @@ one_shown d ds give n Acts word st clean fault = signal_shown (signal_of word) w
 one_shown d ds give n Signals word st clean fault = set_shown (set_of word) word refl (holds (is_some (set_of word)) BadName clean.spelled)
 
 -- the words of a line without faults say what is written as their canonical words
-pub all_shown : (d : Declared) (ds : List Decl) → AllGive d.names ds → (n : ℕ) (spots : List Spot) (words : List (List ℕ)) → fits spots words ≡ true → AreClean spots words → place_faults (naming d n) spots words ≡ []
+pub all_shown : (d : Declared) (ds : List Decl) → AllGive d.names ds → (n : ℕ) (spots : List Spot) (words : List (List ℕ)) → fits spots words ≡ true → AreClean spots words → place_faults (name_fault d n) spots words ≡ []
     → Holds (Shows d.names ds) spots words
 all_shown d ds give n [] words fit clean fault = tt
 all_shown d ds give n (spot ∷ spots) [] fit clean fault = absurd (let f : false ≡ true = fit in cc)
 all_shown d ds give n (spot ∷ spots) (word ∷ words) fit clean fault =
     let st = both (stands spot word) (fits spots words) fit in
     let s = none_first (spelling spot word) (place_faults spelling spots words) clean.spelled in
-    let r = none_first (ranging spot word) (place_faults ranging spots words) clean.ranged in
-    let u = none_first (naming d n spot word) (place_faults (naming d n) spots words) fault in
+    let r = none_first (range_fault spot word) (place_faults range_fault spots words) clean.ranged in
+    let u = none_first (name_fault d n spot word) (place_faults (name_fault d n) spots words) fault in
     (one_shown d ds give n spot word st.0 (record { spelled = s.0; ranged = r.0 }) u.0, all_shown d ds give n spots words st.1 (record { spelled = s.1; ranged = r.1 }) u.1)

@@ -8,7 +8,7 @@ use Rattle.script_lex.specs.Words.{has_bad_byte, line_words}
 use Rattle.script_lex.specs.Joined.{joined_words, joined_lines, is_word}
 use Rattle.script_table.specs.Patterns.{Row, greatest}
 use Rattle.script_table.specs.LineFaults.{place_faults, spelling}
-use Rattle.script_table.specs.Ranges.{ranging, server_faults, phase_three, no_tally}
+use Rattle.script_table.specs.Ranges.{range_fault, server_faults, phase_three, no_tally}
 use Rattle.script_table.specs.Structure.{Said, said_from, row_of_line, phase_one}
 use Rattle.script_table.specs.Names.{declared, phase_two}
 use Rattle.script_table.specs.Read.{said, faults}
@@ -41,13 +41,13 @@ canonical_of (Some row) line = canonical_line row line ∷ []
 -- no number of the line is out of the range of its place
 abbrev pub IsRanged : Option Row → List ℕ → Type 0
 IsRanged None line = Unit {0}
-IsRanged (Some row) line = place_faults ranging row.places (line_words line) ≡ []
+IsRanged (Some row) line = place_faults range_fault row.places (line_words line) ≡ []
 
 -- a statement that was written anew: the same pattern, canonical words, no number out of range, and the same faults of a sporadic server
 pub record IsAnew (old new : Said) : Type 0 where
   pub pattern : new.row ≡ old.row
   pub words : new.words ≡ canonical_words old.row.places old.words
-  pub ranged : place_faults ranging new.row.places new.words ≡ []
+  pub ranged : place_faults range_fault new.row.places new.words ≡ []
   pub server : server_faults new.row.form new.words ≡ server_faults old.row.form old.words
 
 -- one after another
@@ -63,7 +63,7 @@ module _ (rows : List Row) where
     pub pattern : row_of_line rows line ≡ Some row
     pub bytes : has_bad_byte line ≡ false
     pub spelled : place_faults spelling row.places (line_words line) ≡ []
-    pub ranged : place_faults ranging row.places (line_words line) ≡ []
+    pub ranged : place_faults range_fault row.places (line_words line) ≡ []
 
   -- the canonical line of a sound line has the same pattern and is sound, and its words are the canonical words
   pub record KeepsPattern (row : Row) (line : List ℕ) : Type 0 where

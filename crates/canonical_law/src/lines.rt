@@ -32,5 +32,6 @@ pub fn accepted_texts_stay_accepted()
 
 /// A text that is read as a script and its canonical text, line by line, are read as the same script.
 pub fn canonical_texts_read_the_same()
-    ensures { (text : List ℕ) (script : Script) → read patterns text ≡ Ok script → read patterns (canonical_text patterns text) ≡ Ok script }
+    ensures { (text : List ℕ) (script : Script) → read patterns text ≡ Ok script
+        → read patterns (canonical_text patterns text) ≡ Ok script }
 {}

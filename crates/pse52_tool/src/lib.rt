@@ -6,6 +6,5 @@ mod message;
 mod status;
 mod tool;
 
-pub use rt_kernel::{Kernel, RunEnd};
 pub use status::Status;
 pub use tool::run_tool;

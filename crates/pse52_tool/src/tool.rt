@@ -77,7 +77,8 @@ fn run_script<K: Sink, L: Ledger>(
 ) -> Status
     requires runnable { IsRunnable script.now }
     requires limit { horizon ≤ 10 ^ 18 }
-    ensures told { Told result (record { status = Status.Done; text = trace script.now horizon }) (K.text sink.old) (K.text sink.new) }
+    ensures told { Told result (record { status = Status.Done; text = trace script.now horizon })
+        (K.text sink.old) (K.text sink.new) }
     ensures faults { SinkFaults result (K.faults sink.old) (K.faults sink.new) }
     ensures read { result ≡ Status.ReadFault → ⊥ }
     ensures unchanged { result ≡ Status.OutOfMemory → sink.new ≡ sink.old }
@@ -135,11 +136,13 @@ fn run_text<K: Sink, L: Ledger>(
 
 /// Carries out the command of the words: reads the source, and writes to the sink.
 ///
-/// `run N` reads the source whole, at most 1,048,576 bytes, and runs its script to tick N; the text is the trace of the list
-/// machine. `Usage` comes exactly where the words are no command, whose decision takes no memory; then `ReadFault` or
-/// `TooLong`, by the bytes read; then `Refused`, where the script has a fault; then the run. `OutOfMemory` may come in place of
-/// any but `Usage`, before anything is written; a fault of the source or the sink is answered only where its count of faults
-/// rose in this call. Nothing is written before the source was read to its end, or to one byte more than the limit.
+/// `run N` reads the source whole, at most 1,048,576 bytes, and runs its script to tick N; the text is the trace of the
+/// list machine. Where the words are no command the answer is `Usage`, or `WriteFault` where its line could not be
+/// written; that takes no memory and no byte. Then come `ReadFault` or `TooLong`, by the bytes read; then `Refused`,
+/// where the script has a fault; then the run. `OutOfMemory` may come in place of any of these but `Usage`, before
+/// anything is written. A fault of the source or the sink is answered only where its count of faults rose in this call.
+/// Nothing is written before the source was read to its end, or to one byte more than the limit.
+#[tactic(auto, using(crate::proofs::HeadRuns::head_runs))]
 pub fn run_tool<S: Source, K: Sink, L: Ledger>(
     alloc: Global,
     words: &[String],

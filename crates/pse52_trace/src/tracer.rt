@@ -46,11 +46,8 @@ impl<'a, K: Sink> Tracer<'a, K> {
             return;
         }
         match self.sink.write(self.line.bytes()) {
-            Ok(()) => return,
-            Err(_) => {
-                self.failed = true;
-                return;
-            }
+            Ok(()) => {}
+            Err(_) => self.failed = true,
         }
     }
 

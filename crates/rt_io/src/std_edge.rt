@@ -74,7 +74,8 @@ impl<W: Write> StdSink<W> {
     /// Sends on what the writer holds back. A flush that fails is a fault.
     pub fn flush(&mut self) -> Result<(), Failed>
         ensures text { Keeps (⟦<StdSink<W> as Sink>⟧.text self.old) (⟦<StdSink<W> as Sink>⟧.text self.new) }
-        ensures cause { HasCause (⟦<StdSink<W> as Sink>⟧.faults self.old) (⟦<StdSink<W> as Sink>⟧.faults self.new) result }
+        ensures cause { HasCause
+            (⟦<StdSink<W> as Sink>⟧.faults self.old) (⟦<StdSink<W> as Sink>⟧.faults self.new) result }
     {
         match self.inner.flush() {
             Ok(()) => Ok(()),

@@ -29,7 +29,7 @@ use Rattle.script_table.specs.LineFaults.{place_faults}
 use Rattle.script_table.specs.Patterns.{Row}
 use Rattle.script_table.specs.Structure.{Said, body_kind, closer_of, closed_by, phase_one}
 use Rattle.script_table.specs.Names.{Entry, Counts, counted, declared, phase_two}
-use Rattle.script_table.specs.Ranges.{Tally, no_tally, tallied, entered, left, object_kind, is_over, is_too_many, ranging, server_faults, range_faults, phase_three}
+use Rattle.script_table.specs.Ranges.{Tally, no_tally, tallied, entered, left, object_kind, is_over, is_too_many, range_fault, server_faults, range_faults, phase_three}
 use Rattle.script_table.specs.Calls.{call_of}
 use Rattle.script_table.specs.Meaning.{object_decl, action_decl, plain_step, runs_cleanup}
 use Rattle.script_table.specs.Build.{Opened, Built, put_step, opens, after_form, after, closed, nothing_built, built_from, script_of_built, script_of}
@@ -255,7 +255,7 @@ bounded_from es n t b (s ∷ ss) none k =
     let t' = tallied t s.row.form in
     let here = no_kinds 3 s.line (range_faults t' s) (nil_left (faults_at 3 s.line (range_faults t' s)) (phase_three n t' ss) none) in
     let limits = nil_right (server_faults s.row.form s.words) (when (is_too_many t' s.row.form) TooMany)
-    (nil_right (place_faults ranging s.row.places s.words) (server_faults s.row.form s.words ++ when (is_too_many t' s.row.form) TooMany) here) in
+    (nil_right (place_faults range_fault s.row.places s.words) (server_faults s.row.form s.words ++ when (is_too_many t' s.row.form) TooMany) here) in
     bounded_from es n t' (after es b s) ss (nil_right (faults_at 3 s.line (range_faults t' s)) (phase_three n t' ss) none)
     (keeps_after es t b s.row.form s.words (not_so (is_too_many t' s.row.form) TooMany limits) k)
 

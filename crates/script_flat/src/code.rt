@@ -34,7 +34,12 @@ impl Model for Code {
 
     ghost Value = { Bodies (List Op) };
 
-    ghost view = { λ c. record { all = map (λ body. body.items) c.bodies.items; threads = c.threads.items; handlers = c.handlers.items; cleanups = c.cleanups.items } };
+    ghost view = { λ c. record {
+      all = map (λ body. body.items) c.bodies.items;
+      threads = c.threads.items;
+      handlers = c.handlers.items;
+      cleanups = c.cleanups.items;
+    } };
 }
 
 impl Code {

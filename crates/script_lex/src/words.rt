@@ -36,8 +36,10 @@ fn word_len(line: &[u8]) -> usize
 // The first word of what stands at `at`, and what follows the word.
 fn first_word(line: &[u8], at: u32) -> Option<(Word<'_>, &[u8])>
     requires { at + length line.now ≤ 67_108_864 }
-    ensures words { MatchOption result (words_of line.now ≡ []) (λ r. words_of line.now ≡ r.0.bytes.now ∷ words_of r.1.now) }
-    ensures places { IfSome result (λ r. places_of at line.now ≡ r.0.at ∷ places_of (r.0.at + length r.0.bytes.now) r.1.now) }
+    ensures words { MatchOption result (words_of line.now ≡ [])
+        (λ r. words_of line.now ≡ r.0.bytes.now ∷ words_of r.1.now) }
+    ensures places { IfSome result
+        (λ r. places_of at line.now ≡ r.0.at ∷ places_of (r.0.at + length r.0.bytes.now) r.1.now) }
     ensures bound { IfSome result (λ r. r.0.at + length r.0.bytes.now + length r.1.now ≡ at + length line.now) }
 {
     let start = blanks(line);

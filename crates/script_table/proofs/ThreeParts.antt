@@ -4,21 +4,21 @@ use Rattle.std.specs.Prelude.{◌&&◌}
 use Rattle.std.proofs.lemmas.List.Folds.{find-append}
 use Rattle.std.specs.Option.{option_or}
 use Rattle.script_table.specs.Patterns.{Row}
-use Rattle.script_table.specs.LineFaults.{fits, fitting}
+use Rattle.script_table.specs.LineFaults.{fits, fitting_row}
 
-pub fitting_parts : (xs ys zs : List Row) (words : List (List ℕ)) → fitting (xs ++ (ys ++ zs)) words ≡ option_or (fitting xs words) (option_or (fitting ys words) (fitting zs words))
+pub fitting_parts : (xs ys zs : List Row) (words : List (List ℕ)) → fitting_row (xs ++ (ys ++ zs)) words ≡ option_or (fitting_row xs words) (option_or (fitting_row ys words) (fitting_row zs words))
 fitting_parts xs ys zs words =
     find-append (λ (row : Row). row.built && fits row.places words) xs (ys ++ zs)
-    ∙ ap (option_or (fitting xs words)) (find-append (λ (row : Row). row.built && fits row.places words) ys zs)
+    ∙ ap (option_or (fitting_row xs words)) (find-append (λ (row : Row). row.built && fits row.places words) ys zs)
 
-pub in_first : (xs ys zs : List Row) (words : List (List ℕ)) (r : Row) → Some r ≡ fitting xs words → Some r ≡ fitting (xs ++ (ys ++ zs)) words
-in_first xs ys zs words r h = sym (fitting_parts xs ys zs words ∙ ap (λ o. option_or o (option_or (fitting ys words) (fitting zs words))) (sym h))
+pub in_first : (xs ys zs : List Row) (words : List (List ℕ)) (r : Row) → Some r ≡ fitting_row xs words → Some r ≡ fitting_row (xs ++ (ys ++ zs)) words
+in_first xs ys zs words r h = sym (fitting_parts xs ys zs words ∙ ap (λ o. option_or o (option_or (fitting_row ys words) (fitting_row zs words))) (sym h))
 
-pub in_later : (xs ys zs : List Row) (words : List (List ℕ)) (o : Option Row) → None ≡ fitting xs words → o ≡ option_or (fitting ys words) (fitting zs words) → o ≡ fitting (xs ++ (ys ++ zs)) words
-in_later xs ys zs words o none h = h ∙ sym (fitting_parts xs ys zs words ∙ ap (λ p. option_or p (option_or (fitting ys words) (fitting zs words))) (sym none))
+pub in_later : (xs ys zs : List Row) (words : List (List ℕ)) (o : Option Row) → None ≡ fitting_row xs words → o ≡ option_or (fitting_row ys words) (fitting_row zs words) → o ≡ fitting_row (xs ++ (ys ++ zs)) words
+in_later xs ys zs words o none h = h ∙ sym (fitting_parts xs ys zs words ∙ ap (λ p. option_or p (option_or (fitting_row ys words) (fitting_row zs words))) (sym none))
 
-pub in_second : (xs ys zs : List Row) (words : List (List ℕ)) (r : Row) → None ≡ fitting xs words → Some r ≡ fitting ys words → Some r ≡ fitting (xs ++ (ys ++ zs)) words
-in_second xs ys zs words r none h = in_later xs ys zs words (Some r) none (ap (λ o. option_or o (fitting zs words)) h)
+pub in_second : (xs ys zs : List Row) (words : List (List ℕ)) (r : Row) → None ≡ fitting_row xs words → Some r ≡ fitting_row ys words → Some r ≡ fitting_row (xs ++ (ys ++ zs)) words
+in_second xs ys zs words r none h = in_later xs ys zs words (Some r) none (ap (λ o. option_or o (fitting_row zs words)) h)
 
-pub in_third : (xs ys zs : List Row) (words : List (List ℕ)) (o : Option Row) → None ≡ fitting xs words → None ≡ fitting ys words → o ≡ fitting zs words → o ≡ fitting (xs ++ (ys ++ zs)) words
-in_third xs ys zs words o none none' h = in_later xs ys zs words o none (h ∙ ap (λ p. option_or p (fitting zs words)) none')
+pub in_third : (xs ys zs : List Row) (words : List (List ℕ)) (o : Option Row) → None ≡ fitting_row xs words → None ≡ fitting_row ys words → o ≡ fitting_row zs words → o ≡ fitting_row (xs ++ (ys ++ zs)) words
+in_third xs ys zs words o none none' h = in_later xs ys zs words o none (h ∙ ap (λ p. option_or p (fitting_row zs words)) none')

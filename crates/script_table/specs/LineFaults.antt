@@ -28,12 +28,12 @@ fits (spot ∷ spots) [] = false
 fits (spot ∷ spots) (word ∷ words) = stands spot word && fits spots words
 
 -- a built pattern of the table agrees with the line
-abbrev pub agreeing : List Row → List (List ℕ) → Bool
-agreeing rows words = list_any (λ row. row.built && agrees row.places words) rows
+abbrev pub any_agrees : List Row → List (List ℕ) → Bool
+any_agrees rows words = list_any (λ row. row.built && agrees row.places words) rows
 
 -- the built pattern of the table that agrees with the line and has its number of words
-abbrev pub fitting : List Row → List (List ℕ) → Option Row
-fitting rows words = find (λ row. row.built && fits row.places words) rows
+abbrev pub fitting_row : List Row → List (List ℕ) → Option Row
+fitting_row rows words = find (λ row. row.built && fits row.places words) rows
 
 -- what each place's test says of the word that stands there
 abbrev pub place_faults : (Spot → List ℕ → Option FaultKind) → List Spot → List (List ℕ) → List FaultKind
@@ -59,11 +59,11 @@ spelling Signals word = unless (is_some (set_of word)) BadName
 -- the pattern of a line's words; none where there are none, or no pattern fits
 abbrev pub fitting_some : List Row → List (List ℕ) → Option Row
 fitting_some rows [] = None
-fitting_some rows (word ∷ words) = fitting rows (word ∷ words)
+fitting_some rows (word ∷ words) = fitting_row rows (word ∷ words)
 
 abbrev pub unknown_faults : List Row → List (List ℕ) → List FaultKind
 unknown_faults rows [] = []
-unknown_faults rows (word ∷ words) = (if agreeing rows (word ∷ words) then WordCount else UnknownWord) ∷ []
+unknown_faults rows (word ∷ words) = (if any_agrees rows (word ∷ words) then WordCount else UnknownWord) ∷ []
 
 abbrev pub faults_by : Option Row → List Row → List (List ℕ) → List FaultKind
 faults_by None rows words = unknown_faults rows words

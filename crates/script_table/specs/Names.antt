@@ -75,16 +75,16 @@ abbrev pub nothing_declared : Declared
 nothing_declared = record { names = []; actions = [] }
 
 -- with what a word declares
-abbrev pub declaring : Declared → ℕ → Spot → List ℕ → Declared
-declaring d n (Declares kind) word = record d { names = with_name d.names n kind word }
-declaring d n Acts word = record d { actions = with_name d.actions n kind.Handler word }
-declaring d n other word = d
+abbrev pub with_declaration : Declared → ℕ → Spot → List ℕ → Declared
+with_declaration d n (Declares kind) word = record d { names = with_name d.names n kind word }
+with_declaration d n Acts word = record d { actions = with_name d.actions n kind.Handler word }
+with_declaration d n other word = d
 
 -- with what a line declares
 abbrev pub declared_at : Declared → ℕ → List Spot → List (List ℕ) → Declared
 declared_at d n [] words = d
 declared_at d n (spot ∷ spots) [] = d
-declared_at d n (spot ∷ spots) (word ∷ words) = declared_at (declaring d n spot word) n spots words
+declared_at d n (spot ∷ spots) (word ∷ words) = declared_at (with_declaration d n spot word) n spots words
 
 -- with all that lines declare
 abbrev pub declared_from : Declared → List Said → Declared
@@ -104,14 +104,14 @@ abbrev pub used : NameKind → Option Entry → Option FaultKind
 used kind None = Some UnknownName
 used kind (Some e) = if same_kind e.kind kind then None else Some WrongKind
 
-abbrev pub naming : Declared → ℕ → Spot → List ℕ → Option FaultKind
-naming d n (Declares kind) word = duplicate n (entry_of d.names word)
-naming d n (Uses kind) word = used kind (entry_of d.names word)
-naming d n Acts word = duplicate n (entry_of d.actions word)
-naming d n other word = None
+abbrev pub name_fault : Declared → ℕ → Spot → List ℕ → Option FaultKind
+name_fault d n (Declares kind) word = duplicate n (entry_of d.names word)
+name_fault d n (Uses kind) word = used kind (entry_of d.names word)
+name_fault d n Acts word = duplicate n (entry_of d.actions word)
+name_fault d n other word = None
 
 abbrev pub name_faults : Declared → Said → List FaultKind
-name_faults d s = place_faults (naming d s.line) s.row.places s.words
+name_faults d s = place_faults (name_fault d s.line) s.row.places s.words
 
 -- the faults of phase 2
 abbrev pub phase_two : Declared → List Said → List Fault

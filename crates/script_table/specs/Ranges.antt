@@ -25,18 +25,18 @@ use Rattle.script_table.specs.Names.{Counts, no_counts, counted}
 abbrev pub is_within : ℕ → ℕ → List ℕ → Bool
 is_within low high word = nat_le low (value_of word) && nat_le (value_of word) high
 
-abbrev pub ranging : Spot → List ℕ → Option FaultKind
-ranging (Number low high) word = unless (is_within low high word) NumberRange
-ranging Operand word = unless (is_register word || is_within 0 greatest word) NumberRange
-ranging other word = None
+abbrev pub range_fault : Spot → List ℕ → Option FaultKind
+range_fault (Number low high) word = unless (is_within low high word) NumberRange
+range_fault Operand word = unless (is_register word || is_within 0 greatest word) NumberRange
+range_fault other word = None
 
 -- the word at a place
 abbrev pub word : ℕ → List (List ℕ) → List ℕ
 word k words = slice_index_or words k []
 
 -- the number at a place, where all numbers past the range are taken as one
-abbrev pub held : ℕ → List (List ℕ) → ℕ
-held k words = min (greatest + 1) (value_of (word k words))
+abbrev pub capped_number_at : ℕ → List (List ℕ) → ℕ
+capped_number_at k words = min (greatest + 1) (value_of (word k words))
 
 -- whether a line sets the parameters of a sporadic server, as its words 3 to 7: high, low, period, budget, max
 abbrev pub sets_server : Form → Bool
@@ -48,8 +48,8 @@ sets_server other = false
 -- the budget is at least 1 and at most the period, 1 to 16 replenishments may be pending, low is below high
 abbrev pub is_server : List (List ℕ) → Bool
 is_server words =
-    (nat_le 1 (held 6 words) && nat_le (held 6 words) (held 5 words)) &&
-    ((nat_le 1 (held 7 words) && nat_le (held 7 words) 16) && nat_lt (held 4 words) (held 3 words))
+    (nat_le 1 (capped_number_at 6 words) && nat_le (capped_number_at 6 words) (capped_number_at 5 words)) &&
+    ((nat_le 1 (capped_number_at 7 words) && nat_le (capped_number_at 7 words) 16) && nat_lt (capped_number_at 4 words) (capped_number_at 3 words))
 
 abbrev pub server_faults : Form → List (List ℕ) → List FaultKind
 server_faults form words = when (sets_server form && not (is_server words)) ServerRange
@@ -117,7 +117,7 @@ is_too_many t (form.Close f) = false
 
 abbrev pub range_faults : Tally → Said → List FaultKind
 range_faults t s =
-    place_faults ranging s.row.places s.words ++
+    place_faults range_fault s.row.places s.words ++
     (server_faults s.row.form s.words ++ when (is_too_many t s.row.form) TooMany)
 
 -- the faults of phase 3; n is the number of the line behind the last

@@ -2,6 +2,8 @@
 ghost use Rattle.std.specs.Prelude.{◌≡◌, ◌≤◌};
 ghost use Rattle.script_table.specs.Faults.{number_of, name_of, lesser, lesser_first};
 
+use std::fmt;
+
 /// What is wrong in a line. The numbers stand in the message of a refused script, and order the faults of one line in one phase.
 #[derive(Clone, Copy, Debug, PartialEq, Eq)]
 pub enum FaultKind {
@@ -82,6 +84,17 @@ impl FaultKind {
             FaultKind::NoThread => "NoThread",
             FaultKind::ServerRange => "ServerRange",
         }
+    }
+}
+
+impl fmt::Display for FaultKind {
+    ghost use Rattle.std.specs.Prelude.{Some};
+    ghost use Rattle.script_table.specs.Faults.{name_of};
+
+    ghost output = { λ kind. Some (name_of kind) };
+
+    fn fmt<W: fmt::Write>(&self, f: &mut fmt::Formatter<W>) -> fmt::Result {
+        f.write_str(self.name())
     }
 }
 

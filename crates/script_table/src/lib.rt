@@ -13,7 +13,7 @@ pub use form::{
     ActionForm, BlockForm, BodyForm, CallForm, CloseForm, Form, MessageCall, MutexCall, ObjectForm,
     SemCall, SignalCall, StepForm, ThreadCall, TimeCall,
 };
-pub use line::{agreeing, pattern_of, spelling_fault};
+pub use line::{any_agrees, pattern_of, spelling_fault};
 pub use pattern::{Bar, Closer, NameKind, Opening, Pattern, Place, Table};
 pub use table::patterns;
 pub use word::{answer_of, capped_value, is_number, is_register, set_of, signal_of};

@@ -3,7 +3,7 @@ ghost use Rattle.std.specs.Prelude.{◌≡◌, ◌∷◌, [], map};
 ghost use Rattle.std.specs.Option.{option_map};
 ghost use Rattle.script_table.specs.Faults.{least_kind};
 ghost use Rattle.script_table.specs.Patterns.{spot_of, row_of, rows_of};
-ghost use Rattle.script_table.specs.LineFaults.{stands, agrees, fits, agreeing, fitting, spelling, place_faults, fitting_some, unless};
+ghost use Rattle.script_table.specs.LineFaults.{stands, agrees, fits, any_agrees, fitting_row, spelling, place_faults, fitting_some, unless};
 ghost use Rattle.script_tree.specs.Names.{is_name};
 
 use crate::fault::lesser_first;
@@ -56,13 +56,13 @@ fn fits_first(places: &[Place], first: &[u8], words: &Words<'_>) -> bool
     }
 }
 
-fn agreeing_in(patterns: &[Pattern], words: &Words<'_>) -> bool
-    ensures { result ≡ agreeing (map row_of patterns.now) words.now.words }
+fn any_agrees_in(patterns: &[Pattern], words: &Words<'_>) -> bool
+    ensures { result ≡ any_agrees (map row_of patterns.now) words.now.words }
 {
     match patterns {
         [] => false,
         [pattern, rest @ ..] => (pattern.built && agrees(pattern.places, words.again()))
-            || agreeing_in(rest, words),
+            || any_agrees_in(rest, words),
     }
 }
 
@@ -71,7 +71,8 @@ fn fitting_in(
     first: &[u8],
     words: &Words<'_>,
 ) -> Option<&'static Pattern>
-    ensures { option_map (λ p. row_of p.now) result ≡ fitting (map row_of patterns.now) (first.now ∷ words.now.words) }
+    ensures { option_map (λ p. row_of p.now) result
+        ≡ fitting_row (map row_of patterns.now) (first.now ∷ words.now.words) }
 {
     match patterns {
         [] => None,
@@ -83,8 +84,8 @@ fn fitting_in(
     }
 }
 
-fn fitting(table: &Table, first: &[u8], words: &Words<'_>) -> Option<&'static Pattern>
-    ensures { option_map (λ p. row_of p.now) result ≡ fitting (rows_of table.now) (first.now ∷ words.now.words) }
+fn fitting_pattern(table: &Table, first: &[u8], words: &Words<'_>) -> Option<&'static Pattern>
+    ensures { option_map (λ p. row_of p.now) result ≡ fitting_row (rows_of table.now) (first.now ∷ words.now.words) }
 {
     if let Some(pattern) = fitting_in(table.declarations, first, words) {
         return Some(pattern);
@@ -97,11 +98,11 @@ fn fitting(table: &Table, first: &[u8], words: &Words<'_>) -> Option<&'static Pa
 
 /// Whether a built pattern of the table agrees with a line of these words: each of its keywords stands at its place, or the line is
 /// too short to have that place.
-pub fn agreeing(table: &Table, words: &Words<'_>) -> bool
-    ensures { result ≡ agreeing (rows_of table.now) words.now.words }
+pub fn any_agrees(table: &Table, words: &Words<'_>) -> bool
+    ensures { result ≡ any_agrees (rows_of table.now) words.now.words }
 {
-    agreeing_in(table.declarations, words)
-        || (agreeing_in(table.steps, words) || agreeing_in(table.calls, words))
+    any_agrees_in(table.declarations, words)
+        || (any_agrees_in(table.steps, words) || any_agrees_in(table.calls, words))
 }
 
 /// The built pattern of the table that agrees with a line of these words and has their number; `None` exactly where there is none.
@@ -111,7 +112,7 @@ pub fn pattern_of(table: &Table, words: &Words<'_>) -> Option<&'static Pattern>
     let mut rest = words.again();
     match rest.next_word() {
         None => None,
-        Some(first) => fitting(table, first.bytes, &rest),
+        Some(first) => fitting_pattern(table, first.bytes, &rest),
     }
 }
 

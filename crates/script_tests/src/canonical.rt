@@ -16,24 +16,31 @@ static TEXTS: [(&str, &str); 7] = [
         "quantum 10\nthread a fifo 5 at 0\nyield\nend\nthread b fifo 5 dormant\nrun 1\nend\n",
     ),
     (
-        "handler h\nset 1\nend\nquantum 07\ncleanup u\nadd 2\ntake\nend\nthread a fifo 255 at 1000000000000000000\nunless EAGAIN\nforever\nend\nend\nend\n",
-        "quantum 7\nhandler h\nset 1\nend\ncleanup u\nadd 2\ntake\nend\nthread a fifo 255 at 1000000000000000000\nunless EAGAIN\nforever\nend\nend\nend\n",
+        "handler h\nset 1\nend\nquantum 07\ncleanup u\nadd 2\ntake\nend\n\
+            thread a fifo 255 at 1000000000000000000\nunless EAGAIN\nforever\nend\nend\nend\n",
+        "quantum 7\nhandler h\nset 1\nend\ncleanup u\nadd 2\ntake\nend\n\
+            thread a fifo 255 at 1000000000000000000\nunless EAGAIN\nforever\nend\nend\nend\n",
     ),
     (
         "# horizon 10\nthread a fifo 5 at 0\nrun 3\nend\n",
         "quantum 10\nthread a fifo 5 at 0\nrun 3\nend\n",
     ),
     (
-        "# horizon 12. A preempted thread resumes at the head of its list: b, as urgent as a, waits until a is done.\nthread a fifo 5 at 0\nrun 4\nend\nthread b fifo 5 at 0\nrun 1\nend\nthread c fifo 9 at 2\nrun 1\nend\n",
-        "quantum 10\nthread a fifo 5 at 0\nrun 4\nend\nthread b fifo 5 at 0\nrun 1\nend\nthread c fifo 9 at 2\nrun 1\nend\n",
+        "# horizon 12. A preempted thread resumes at the head of its list: b, as urgent as a, waits until a is done.\n\
+            thread a fifo 5 at 0\nrun 4\nend\nthread b fifo 5 at 0\nrun 1\nend\nthread c fifo 9 at 2\nrun 1\nend\n",
+        "quantum 10\nthread a fifo 5 at 0\nrun 4\nend\nthread b fifo 5 at 0\nrun 1\nend\nthread c fifo 9 at 2\n\
+            run 1\nend\n",
     ),
     (
-        "# horizon 8. A thread that yields goes to the tail of its list.\nthread a fifo 5 at 0\nyield\nend\nthread b fifo 5 at 0\nrun 1\nend\n",
+        "# horizon 8. A thread that yields goes to the tail of its list.\nthread a fifo 5 at 0\nyield\nend\n\
+            thread b fifo 5 at 0\nrun 1\nend\n",
         "quantum 10\nthread a fifo 5 at 0\nyield\nend\nthread b fifo 5 at 0\nrun 1\nend\n",
     ),
     (
-        "# horizon 12. Loops, tests and register steps: a loop of two passes jumps once, and tests take no time.\nthread a fifo 5 at 0\nset 7\nloop 2\nrun 1\nend\nyield\nif 0\nrun 2\nend\nunless 0\nrun 9\nend\nend\n",
-        "quantum 10\nthread a fifo 5 at 0\nset 7\nloop 2\nrun 1\nend\nyield\nif 0\nrun 2\nend\nunless 0\nrun 9\nend\nend\n",
+        "# horizon 12. Loops, tests and register steps: a loop of two passes jumps once, and tests take no time.\n\
+            thread a fifo 5 at 0\nset 7\nloop 2\nrun 1\nend\nyield\nif 0\nrun 2\nend\nunless 0\nrun 9\nend\nend\n",
+        "quantum 10\nthread a fifo 5 at 0\nset 7\nloop 2\nrun 1\nend\nyield\nif 0\nrun 2\nend\nunless 0\n\
+            run 9\nend\nend\n",
     ),
 ];
 

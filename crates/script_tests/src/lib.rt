@@ -1,5 +1,6 @@
-//! Tests of the crates that read, write and flatten scripts, by what these export: texts that are scripts, texts that are
-//! refused, canonical texts, and bodies unit by unit. They stand apart, so that they are proved without proving those crates again.
+//! Tests of the crates that read, write and flatten scripts, by what these export: texts that are scripts, texts that
+//! are refused, canonical texts, and bodies unit by unit. They stand apart, so that they are proved without proving
+//! those crates again.
 #![tactic(auto)]
 
 #[cfg(test)]

@@ -1,5 +1,5 @@
-// Texts that are refused, with the line and the kind of their least fault. What is expected comes from the reference simulator in
-// tools/reference, which reads by another program.
+// Texts that are refused, with the line and the kind of their least fault. What is expected comes from the reference
+// simulator in tools/reference, which reads by another program.
 use std::alloc::Global;
 use task_script::{FaultKind, ScriptEnd, read_script};
 
@@ -51,10 +51,17 @@ static BAD_BYTE: [Case; 19] = [
     case!(2 b"thread a fifo 5 at 0\nrun 1 # \x7f\nend\n"),
     case!(1 b"\x00\nhandler 1\nrun 2\ntake\nend\nthread a fifo 5 at 0\nrun 1\nend\n"),
     case!(1 b"run 1\x0d\ncleanup w\nsigmask set rt0,rt32\nend\nthread a fifo 5 at 0\nrun 1\nend\n"),
-    case!(8 b"thread t0 fifo 7 at 5\nadd 3\nadd 6\nrun 1\nset 4\nadd 20\nrun 5\nrun 5\x1f\nend\ncleanup u0\nsig1\nhandler h0\nend\nthread t1 fifo 2 at 0\nyield\nrun 5\nrun 1\nif 0\nend\nquantum 5\nend"),
-    case!(5 b"quantum 4\nhandler h0\nyield\nend\n\x7f\nthread t1 fifo 4 at 1\ntake\nrun 1\nset 4\nadd 20\ntkill A rt\nend\ncleanup u0\nyield\nrun 1\nend\nthread t0 fifo 4 at 2\nset 4\nadd 20\nend\ncleanup u\x081\nend\n\n"),
-    case!(5 b"handler h1\nend\nquantum 4\nthread t0 fifo 9 at 2\n\x7fyield\nset 4\nrun\nadd 20\nyield\nrun 1\nloop 5\nend\nrun 5\nyield\nend\ncleanup u0\nrun 5\nset 1000000000000000000\nadd 1\nend\nhandler h0\nyield\nset 4\nadd 20\nend\n"),
-    case!(12 b"cleanup u0\nloop 2\nrun 5\nloop 2\nend\nend\nyield\nend\ncleanup u1\nend\nhandler h1\ne\x80nd\nhandler h0\nadd 9\nyield\nset 4\nadd 20\nend\nthread t1 fifo 5 at 3\ntimer_settime 2 abs 1000000000000000000 256\nloop 2\nyield\nend\n1a\nyield\nend\n"),
+    case!(8 b"thread t0 fifo 7 at 5\nadd 3\nadd 6\nrun 1\nset 4\nadd 20\nrun 5\nrun 5\x1f\nend\ncleanup u0\n\
+        sig1\nhandler h0\nend\nthread t1 fifo 2 at 0\nyield\nrun 5\nrun 1\nif 0\nend\nquantum 5\nend"),
+    case!(5 b"quantum 4\nhandler h0\nyield\nend\n\x7f\nthread t1 fifo 4 at 1\ntake\nrun 1\nset 4\nadd 20\n\
+        tkill A rt\nend\ncleanup u0\nyield\nrun 1\nend\nthread t0 fifo 4 at 2\nset 4\nadd 20\nend\n\
+        cleanup u\x081\nend\n\n"),
+    case!(5 b"handler h1\nend\nquantum 4\nthread t0 fifo 9 at 2\n\x7fyield\nset 4\nrun\nadd 20\nyield\nrun 1\n\
+        loop 5\nend\nrun 5\nyield\nend\ncleanup u0\nrun 5\nset 1000000000000000000\nadd 1\nend\n\
+        handler h0\nyield\nset 4\nadd 20\nend\n"),
+    case!(12 b"cleanup u0\nloop 2\nrun 5\nloop 2\nend\nend\nyield\nend\ncleanup u1\nend\nhandler h1\ne\x80nd\n\
+        handler h0\nadd 9\nyield\nset 4\nadd 20\nend\nthread t1 fifo 5 at 3\n\
+        timer_settime 2 abs 1000000000000000000 256\nloop 2\nyield\nend\n1a\nyield\nend\n"),
 ];
 
 #[test]
@@ -134,8 +141,10 @@ static BAD_NUMBER: [Case; 19] = [
     case!(4 b"thread a fifo 5 at 0\nrun 0\nend\nthread b fifo x at 0\nend\n"),
     case!(4 b"thread a fifo 5 at 0\nrun 1\nend\nrun x\nyield\nhandler w\nexit reg\nend\n"),
     case!(1 b"thread z fifo five at 0\nquantum 1\nquantum 2\nthread a fifo 5 at 0\nrun 1\nend\n\n"),
-    case!(1 b"thread z fifo five at 0\nthread a fifo 5 at 0\nrun 1\nend\nif\nhandler w\nmq_receive z\nend\nquantum 0\n"),
-    case!(5 b"handler h1\nend\nquantum 5\nthread t0 fifo 9 at 2\nrun x\nset 37\nloop 1\n# note\nend \nend\nhandler h0\nend\ncleanup u0\nend"),
+    case!(1 b"thread z fifo five at 0\nthread a fifo 5 at 0\nrun 1\nend\nif\nhandler w\nmq_receive z\nend\n\
+        quantum 0\n"),
+    case!(5 b"handler h1\nend\nquantum 5\nthread t0 fifo 9 at 2\nrun x\nset 37\nloop 1\n# note\nend \nend\n\
+        handler h0\nend\ncleanup u0\nend"),
 ];
 
 #[test]
@@ -160,9 +169,15 @@ static NUMBER_RANGE: [Case; 19] = [
     case!(2 b"thread a fifo 5 at 0\nadd 1000000000000000000000000000000\nend\n"),
     case!(3 b"thread a fifo 255 at 0\nend\nthread b fifo 1 at 1000000000000000001\nend\n"),
     case!(2 b"thread a fifo 5 at 0\nrun 999999999999999999999999999999999999999999999999999999999999\nend\n"),
-    case!(8 b"handler h1\nyield\nset 0\nset 1000000000000000000\nadd 1000000000000000000\nadd 1\nend\nthread t0 fifo 256 at 0\nadd 3\nend\nhandler h0\nend\nthread t1 fifo 4 at 0\nyield\nend\ncleanup u0\nset 65\nadd 20\nset 39\nrun 5\nend\n\n"),
-    case!(32 b"thread a fifo 5 at 0\nloop 1\nloop 1\nloop 1\nloop 1\nloop 1\nloop 1\nloop 1\nloop 1\nloop 1\nloop 1\nloop 1\nloop 1\nloop 1\nloop 1\nloop 1\nend\nend\nend\nend\nend\nend\nend\nend\nend\nend\nend\nend\nend\nend\nend\nrun 0\nend\n"),
-    case!(16 b"thread t0 fifo 4 at 0\nset 1000000000000000000\nadd 1000000000000000000\nadd 1\nset 4\nadd 20\nyield\nend\nquantum 5\nhandler h0\nyield\nif EINVAL\nend\nyield\nend\nthread t1 fifo 1000000000000000000 dormant\nrun 5# x\nend\ncleanup u0\nyield\nend\n\n"),
+    case!(8 b"handler h1\nyield\nset 0\nset 1000000000000000000\nadd 1000000000000000000\nadd 1\nend\n\
+        thread t0 fifo 256 at 0\nadd 3\nend\nhandler h0\nend\nthread t1 fifo 4 at 0\nyield\nend\n\
+        cleanup u0\nset 65\nadd 20\nset 39\nrun 5\nend\n\n"),
+    case!(32 b"thread a fifo 5 at 0\nloop 1\nloop 1\nloop 1\nloop 1\nloop 1\nloop 1\nloop 1\nloop 1\nloop 1\n\
+        loop 1\nloop 1\nloop 1\nloop 1\nloop 1\nloop 1\nend\nend\nend\nend\nend\nend\nend\nend\nend\n\
+        end\nend\nend\nend\nend\nend\nrun 0\nend\n"),
+    case!(16 b"thread t0 fifo 4 at 0\nset 1000000000000000000\nadd 1000000000000000000\nadd 1\nset 4\nadd 20\n\
+        yield\nend\nquantum 5\nhandler h0\nyield\nif EINVAL\nend\nyield\nend\n\
+        thread t1 fifo 1000000000000000000 dormant\nrun 5# x\nend\ncleanup u0\nyield\nend\n\n"),
 ];
 
 #[test]
@@ -187,9 +202,12 @@ static BAD_NAME: [Case; 19] = [
     case!(1 b"thread 1 fifo 1000000000000000001 dormant\nif\nyield\nend\nthread z fifo five at 0\nyield\n"),
     case!(1 b"cleanup _a\ntake 1\nrun 1\nrun\t1\nquantum 0\nend\nthread a fifo 5 at 0\nrun 1\nend\ncleanup z\n"),
     case!(1 b"thread 1 fifo 3 dormant\nrun 1\nrun 2\nadd 1000000000000000000\nrun 2\nend\nhandler w\nlock a0_\nend"),
-    case!(1 b"cleanup 1a\nrun 2\npop\nthread a fifo 5 at 0\nrun 1\nend\nhandler w\nexit 1000000000000000001\nend\ntake 1"),
-    case!(5 b"\t\nthread a fifo 5 at 0\nrun 1\nend\nhandler aaaaaaaaaaaaaaaaaaaaaaaaaaaaaaaaa\nyield\ncaf\xe9\nend\ntake 1"),
-    case!(4 b"thread a fifo 5 at 0\nrun 1\nend\nthread a-b fifo 3 at 0\nset 1000000000000000001\nrun 1\nif\nrun 1 1\nend\n"),
+    case!(1 b"cleanup 1a\nrun 2\npop\nthread a fifo 5 at 0\nrun 1\nend\nhandler w\nexit 1000000000000000001\n\
+        end\ntake 1"),
+    case!(5 b"\t\nthread a fifo 5 at 0\nrun 1\nend\nhandler aaaaaaaaaaaaaaaaaaaaaaaaaaaaaaaaa\nyield\n\
+        caf\xe9\nend\ntake 1"),
+    case!(4 b"thread a fifo 5 at 0\nrun 1\nend\nthread a-b fifo 3 at 0\nset 1000000000000000001\nrun 1\nif\n\
+        run 1 1\nend\n"),
 ];
 
 #[test]
@@ -205,18 +223,43 @@ static DUPLICATE_NAME: [Case; 19] = [
     case!(4 b"thread a fifo 5 at 0\nrun 1\nend\nthread a fifo 5 at 0\nend\n"),
     case!(4 b"thread a fifo 5 at 0\nrun 0\nend\nthread a fifo 0 at 0\nend\n"),
     case!(5 b"thread a fifo 5 at 0\nloop 0\nend\nend\nthread a fifo 5 at 0\nend\n"),
-    case!(3 b"handler h0\nend\nthread h0 fifo 4 at 0\nif ETIMEDOUT\nend\nunless 0\nyield\nif EOVERFLOW\nend\nrun 1\nyield\nend\nend\ncleanup u0\nend"),
-    case!(15 b"cleanup u0\nset 24\nloop 2\nend\ntake\nend\n\thandler  h0# x\nend\nthread t0 fifo 5 at 2\n yield\n\n# note\nrun 1# x\nend\nhandler t0\nend\n"),
-    case!(19 b"thread t0 fifo 6 at 2\nset 4\nadd 20\nset 15\nrun 1\nrun 1\nrun 3\nunless 0\nloop 2\nloop 5\nend\nyield\nrun 5\ntake\nend\nyield\nend\nend\nhandler t0\nend\ncleanup u0\n\tend \nquantum 2\nquantum 2\nquantum 2\n\n"),
-    case!(29 b"handler h0\nloop 1\ntake\nrun 1\nloop 2\nrun 1\nend\nend\nyield\nrun 5\nend\nthread t0 fifo 8 at 3\nrun 32\nset 4\nadd 20\nunless EDEADLK\nyield\n\tloop \t 2\n\nyield\nend\nyield\nyield\nend\nend\ncleanup u0\nrun 1\nend\nhandler t0\nend"),
-    case!(16 b"cleanup u0\nyield\nadd 7\nset 1000000000000000000\nadd 1000000000000000000\nadd 1\nend\nthread t0 fifo 3 at 1\nset 1000000000000000000\nadd 1000000000000000000\nadd 1\nrun 5\nadd 5\nrun 1\nend\nhandler u0\nyield\nset 4\nadd 20\nrun 5\nend\n"),
-    case!(15 b"thread t1 fifo 6 at 8\nadd 8\nrun 1\nend\nthread \t t0 \t fifo \t 3 \t at \t 0\n\nloop 3\nend\nyield\nend\nhandler h1\nrun 1\nadd 8\nend\ncleanup h1\nend\ncleanup u0\nloop 3\nif 0\nend\nend\nend\nhandler h0\nif 0\nrun 2\nend\nrun\t1\nrun 1\nend\n"),
-    case!(34 b"thread a fifo 5 at 0\nloop 1\nloop 1\nloop 1\nloop 1\nloop 1\nloop 1\nloop 1\nloop 1\nloop 1\nloop 1\nloop 1\nloop 1\nloop 1\nloop 1\nloop 1\nrun 1\nend\nend\nend\nend\nend\nend\nend\nend\nend\nend\nend\nend\nend\nend\nend\nend\nthread a fifo 5 at 0\nend\n"),
-    case!(27 b"cleanup u0\nloop 4\ntake\nyield\nrun 5\nset 1000000000000000000\nadd 1000000000000000000\nadd 1\nend\nend\nthread t0 fifo 9 at 0\nyield\nrun 3\n\tloop\t3\nend\nend\nthread t1 fifo 9 at 1\nrun 1\nend\nhandler h0\nloop 5\nset 23\nyield\nend\nyield\nend\nhandler t0\nend\n"),
-    case!(28 b"cleanup u1\nend\nhandler h0\nend\n\tcleanup\tu0# x\nend\nthread t0 fifo 5 at 0\nyield\nrun 1\nset 34\nyield\nset 1000000000000000000\nadd 1000000000000000000\nadd 32\nyield\nloop 2\nyield\nyield\nloop 3\nloop 2\nforever\nend\nend\nend\nend\n# note\nend# x\nhandler t0\nend\n"),
-    case!(35 b"thread a fifo 5 at 0\nforever\nforever\nforever\nforever\nforever\nforever\nforever\nforever\nforever\nforever\nforever\nforever\nforever\nforever\nforever\nforever\nend\nend\nend\nend\nend\nend\nend\nend\nend\nend\nend\nend\nend\nend\nend\nend\nend\nthread a fifo 5 at 0\nend\n"),
-    case!(18 b"handler h0\nset 4\nadd 20\nset 4\nadd 20\nend\nquantum 65\ncleanup u0\nend\nthread t0 fifo 3 at 5\nyield\nforever\nend\nforever\nadd 4\nend\nend\nthread h0 fifo 3 at 3\nunless ESRCH\nset 1000000000000000000\nadd 1000000000000000000\nadd 1\nrun 5\n end \nrun 1\ntake\nyield\nadd 7\nyield\nend\n\n"),
-    case!(29 b"thread t3 fifo 3 at 5\nend\nthread t2 fifo 5 dormant\nyield\nyield\nloop 5\nend\nend\ncleanup u0\nend\nhandler h1\nend\nthread t1 fifo 3 at 0\nrun 1\nend\nthread h0 fifo 5 at 0\nloop 1\nyield\nrun 2\nend\nyield\nyield\nset 17\nrun 2\nyield\nend\nthread t4 fifo 9 at 256\nend\nhandler h0\nend\nhandler t0\nend"),
+    case!(3 b"handler h0\nend\nthread h0 fifo 4 at 0\nif ETIMEDOUT\nend\nunless 0\nyield\nif EOVERFLOW\nend\n\
+        run 1\nyield\nend\nend\ncleanup u0\nend"),
+    case!(15 b"cleanup u0\nset 24\nloop 2\nend\ntake\nend\n\thandler  h0# x\nend\n\
+        thread t0 fifo 5 at 2\n yield\n\n# note\nrun 1# x\nend\nhandler t0\nend\n"),
+    case!(19 b"thread t0 fifo 6 at 2\nset 4\nadd 20\nset 15\nrun 1\nrun 1\nrun 3\nunless 0\nloop 2\nloop 5\n\
+        end\nyield\nrun 5\ntake\nend\nyield\nend\nend\nhandler t0\nend\ncleanup u0\n\tend \nquantum 2\n\
+        quantum 2\nquantum 2\n\n"),
+    case!(29 b"handler h0\nloop 1\ntake\nrun 1\nloop 2\nrun 1\nend\nend\nyield\nrun 5\nend\n\
+        thread t0 fifo 8 at 3\nrun 32\nset 4\nadd 20\nunless EDEADLK\nyield\n\tloop \t 2\n\nyield\nend\n\
+        yield\nyield\nend\nend\ncleanup u0\nrun 1\nend\nhandler t0\nend"),
+    case!(16 b"cleanup u0\nyield\nadd 7\nset 1000000000000000000\nadd 1000000000000000000\nadd 1\nend\n\
+        thread t0 fifo 3 at 1\nset 1000000000000000000\nadd 1000000000000000000\nadd 1\nrun 5\nadd 5\n\
+        run 1\nend\nhandler u0\nyield\nset 4\nadd 20\nrun 5\nend\n"),
+    case!(15 b"thread t1 fifo 6 at 8\nadd 8\nrun 1\nend\nthread \t t0 \t fifo \t 3 \t at \t 0\n\nloop 3\nend\n\
+        yield\nend\nhandler h1\nrun 1\nadd 8\nend\ncleanup h1\nend\ncleanup u0\nloop 3\nif 0\nend\nend\n\
+        end\nhandler h0\nif 0\nrun 2\nend\nrun\t1\nrun 1\nend\n"),
+    case!(34 b"thread a fifo 5 at 0\nloop 1\nloop 1\nloop 1\nloop 1\nloop 1\nloop 1\nloop 1\nloop 1\nloop 1\n\
+        loop 1\nloop 1\nloop 1\nloop 1\nloop 1\nloop 1\nrun 1\nend\nend\nend\nend\nend\nend\nend\nend\n\
+        end\nend\nend\nend\nend\nend\nend\nend\nthread a fifo 5 at 0\nend\n"),
+    case!(27 b"cleanup u0\nloop 4\ntake\nyield\nrun 5\nset 1000000000000000000\nadd 1000000000000000000\n\
+        add 1\nend\nend\nthread t0 fifo 9 at 0\nyield\nrun 3\n\tloop\t3\nend\nend\n\
+        thread t1 fifo 9 at 1\nrun 1\nend\nhandler h0\nloop 5\nset 23\nyield\nend\nyield\nend\n\
+        handler t0\nend\n"),
+    case!(28 b"cleanup u1\nend\nhandler h0\nend\n\tcleanup\tu0# x\nend\nthread t0 fifo 5 at 0\nyield\nrun 1\n\
+        set 34\nyield\nset 1000000000000000000\nadd 1000000000000000000\nadd 32\nyield\nloop 2\nyield\n\
+        yield\nloop 3\nloop 2\nforever\nend\nend\nend\nend\n# note\nend# x\nhandler t0\nend\n"),
+    case!(35 b"thread a fifo 5 at 0\nforever\nforever\nforever\nforever\nforever\nforever\nforever\nforever\n\
+        forever\nforever\nforever\nforever\nforever\nforever\nforever\nforever\nend\nend\nend\nend\n\
+        end\nend\nend\nend\nend\nend\nend\nend\nend\nend\nend\nend\nend\nthread a fifo 5 at 0\nend\n"),
+    case!(18 b"handler h0\nset 4\nadd 20\nset 4\nadd 20\nend\nquantum 65\ncleanup u0\nend\n\
+        thread t0 fifo 3 at 5\nyield\nforever\nend\nforever\nadd 4\nend\nend\nthread h0 fifo 3 at 3\n\
+        unless ESRCH\nset 1000000000000000000\nadd 1000000000000000000\nadd 1\nrun 5\n end \nrun 1\n\
+        take\nyield\nadd 7\nyield\nend\n\n"),
+    case!(29 b"thread t3 fifo 3 at 5\nend\nthread t2 fifo 5 dormant\nyield\nyield\nloop 5\nend\nend\n\
+        cleanup u0\nend\nhandler h1\nend\nthread t1 fifo 3 at 0\nrun 1\nend\nthread h0 fifo 5 at 0\n\
+        loop 1\nyield\nrun 2\nend\nyield\nyield\nset 17\nrun 2\nyield\nend\nthread t4 fifo 9 at 256\n\
+        end\nhandler h0\nend\nhandler t0\nend"),
 ];
 
 #[test]
@@ -243,7 +286,8 @@ static NOT_HERE: [Case; 19] = [
     case!(5 b"thread a fifo 5 at 0\nloop 1\nend\nend\nloop 1\n"),
     case!(2 b"thread a fifo 5 at 0\nthread b fifo 5 at 0\nend\nend\n"),
     case!(1 b"run 1# one\nhandler w\njoin z\nend\nthread a fifo 5 at 0\nrun 1\nend\nquantum\n\n"),
-    case!(10 b"thread t4 fifo 4 at 5\nset 4\nadd 20\nend\ncleanup u0\nend\nhandler h0\nunless EAGAIN\nend\nthread t0 fifo 255 at 0\nset 4\nadd 20\nend\ncleanup u1\nend\n"),
+    case!(10 b"thread t4 fifo 4 at 5\nset 4\nadd 20\nend\ncleanup u0\nend\nhandler h0\nunless EAGAIN\nend\n\
+        thread t0 fifo 255 at 0\nset 4\nadd 20\nend\ncleanup u1\nend\n"),
 ];
 
 #[test]
@@ -268,9 +312,12 @@ static STRAY_CLOSE: [Case; 19] = [
     case!(1 b"end\n\tthread \t t1 \t fifo \t 2 \t dormant\nif EPERM\nloop 2\nend\nend\nend\ncleanup u0\nquantum 1\n"),
     case!(7 b"thread nope fifo 255 dormant\nrun 0\nrun 1\nrun 1\nrun 2\nend\nend\nthread a fifo 5 at 0\nrun 1\nend\n"),
     case!(3 b"cleanup a\nend\nend\ncleanup w\nsigmask block rt31\nend\nthread a fifo 5 at 0\nrun 1\nend\nunless 1\n\n"),
-    case!(2 b"quantum 2\nend\nyield\n# note\ntake \nthread t0 fifo 4 at rt31\nhandler h0\nend\ncleanup u0\ntake\nend\n"),
-    case!(1 b"end\ncleanup a\nthread z foo 5 at 0\nthread z fifo 5 dormant 0\nrun 2\nend\nend\nthread a fifo 5 at 0\nrun 1\nend\n"),
-    case!(3 b"handler a\nend\nend\ncleanup w\ntimedwait a aaaaaaaaaaaaaaaaaaaaaaaaaaaaaaaa reg\nend\nend end\nthread a fifo 5 at 0\nrun 1\nend\n\n"),
+    case!(2 b"quantum 2\nend\nyield\n# note\ntake \nthread t0 fifo 4 at rt31\nhandler h0\nend\ncleanup u0\n\
+        take\nend\n"),
+    case!(1 b"end\ncleanup a\nthread z foo 5 at 0\nthread z fifo 5 dormant 0\nrun 2\nend\nend\n\
+        thread a fifo 5 at 0\nrun 1\nend\n"),
+    case!(3 b"handler a\nend\nend\ncleanup w\ntimedwait a aaaaaaaaaaaaaaaaaaaaaaaaaaaaaaaa reg\nend\nend end\n\
+        thread a fifo 5 at 0\nrun 1\nend\n\n"),
 ];
 
 #[test]
@@ -295,9 +342,13 @@ static UNCLOSED: [Case; 19] = [
     case!(5 b"thread b fifo 256 at 0\nrun 0\nend\nthread a fifo 5 at 0\n"),
     case!(6 b"thread a fifo 5 at 0\nunless ETIMEDOUT\nforever\nend\nend\n"),
     case!(11 b"cleanup u0\nrun 5\nset 31\nadd 8\nend\nhandler h0\nadd 5\nforever\nyield\nrun 1\n"),
-    case!(17 b"thread t2 fifo 255 at 0\nyield\nrun 2\nrun 3\nloop 5\nloop 1\nend\nloop 5\nyield\nrun 3\nend\nend\nend \nthread t4 fifo 5 at 0\nloop 1\nyield\n"),
-    case!(14 b"thread t1 fifo 3 at 2\nend\nthread t2 fifo 8 dormant\nend\nhandler h0\nend\ncleanup u0\nend\nquantum 3\nthread t0 fifo 5 at 5\ntake\nyield\nadd 8\n"),
-    case!(20 b"quantum 3\nthread t1 fifo 3 at 0\nrun 3\nrun 5\nyield\nadd 9\nyield\nrun 1\nend\nthread t0 fifo 255 at 0\nadd 9\nrun 0\nrun 3\nyield\nend\nthread t1 fifo 255 dormant\nyield\nyield\nif EBUSY\n"),
+    case!(17 b"thread t2 fifo 255 at 0\nyield\nrun 2\nrun 3\nloop 5\nloop 1\nend\nloop 5\nyield\nrun 3\nend\n\
+        end\nend \nthread t4 fifo 5 at 0\nloop 1\nyield\n"),
+    case!(14 b"thread t1 fifo 3 at 2\nend\nthread t2 fifo 8 dormant\nend\nhandler h0\nend\ncleanup u0\nend\n\
+        quantum 3\nthread t0 fifo 5 at 5\ntake\nyield\nadd 8\n"),
+    case!(20 b"quantum 3\nthread t1 fifo 3 at 0\nrun 3\nrun 5\nyield\nadd 9\nyield\nrun 1\nend\n\
+        thread t0 fifo 255 at 0\nadd 9\nrun 0\nrun 3\nyield\nend\nthread t1 fifo 255 dormant\nyield\n\
+        yield\nif EBUSY\n"),
 ];
 
 #[test]
@@ -311,20 +362,48 @@ static TOO_MANY: [Case; 19] = [
     case!(2 b"quantum 1\nquantum 2\nthread a fifo 5 at 0\nrun 1\nend\n"),
     case!(2 b"quantum 1\nquantum 2\nthread a fifo 5 at 0\nrun 1\nend\n\n"),
     case!(4 b"thread a fifo 5 at 0\nend\nquantum 1\nquantum 2\nquantum 3\n"),
-    case!(17 b"thread a fifo 5 at 0\nif 0\nif 0\nif 0\nif 0\nif 0\nif 0\nif 0\nif 0\nif 0\nif 0\nif 0\nif 0\nif 0\nif 0\nif 0\nif 0\nif 0\nend\nend\nend\nend\nend\nend\nend\nend\nend\nend\nend\nend\nend\nend\nend\nend\nend\nend\n"),
-    case!(17 b"thread a fifo 5 at 0\nloop 1\nloop 1\nloop 1\nloop 1\nloop 1\nloop 1\nloop 1\nloop 1\nloop 1\nloop 1\nloop 1\nloop 1\nloop 1\nloop 1\nloop 1\nloop 1\nend\nend\nend\nend\nend\nend\nend\nend\nend\nend\nend\nend\nend\nend\nend\nend\nend\n"),
-    case!(18 b"quantum 5\nhandler h\nloop 1\nloop 1\nloop 1\nloop 1\nloop 1\nloop 1\nloop 1\nloop 1\nloop 1\nloop 1\nloop 1\nloop 1\nloop 1\nloop 1\nloop 1\nloop 1\nend\nend\nend\nend\nend\nend\nend\nend\nend\nend\nend\nend\nend\nend\nend\nend\nend\n"),
-    case!(17 b"thread a fifo 5 at 0\nforever\nforever\nif 0\nif 0\nforever\nif 0\nforever\nif 0\nif 0\nunless EINTR\nif 0\nforever\nloop 1\nforever\nloop 1\nunless EINTR\nend\nend\nend\nend\nend\nend\nend\nend\nend\nend\nend\nend\nend\nend\nend\nend\nend\n"),
-    case!(17 b"thread a fifo 5 at 0\nloop 1\nforever\nif 0\nif 0\nif 0\nloop 1\nforever\nloop 1\nif 0\nunless EINTR\nif 0\nforever\nif 0\nif 0\nloop 1\nloop 1\nloop 1\nend\nend\nend\nend\nend\nend\nend\nend\nend\nend\nend\nend\nend\nend\nend\nend\nend\nend"),
-    case!(17 b"thread a fifo 5 at 0\nif 0\nforever\nif 0\nunless EINTR\nloop 1\nforever\nloop 1\nif 0\nif 0\nif 0\nloop 1\nunless EINTR\nif 0\nunless EINTR\nforever\nloop 1\nend\nend\nend\nend\nend\nend\nend\nend\nend\nend\nend\nend\nend\nend\nend\nend\nend"),
-    case!(17 b"thread a fifo 5 at 0\nloop 1\nunless EINTR\nforever\nforever\nloop 1\nloop 1\nif 0\nloop 1\nif 0\nloop 1\nforever\nunless EINTR\nif 0\nforever\nforever\nloop 1\nend\nend\nend\nend\nend\nend\nend\nend\nend\nend\nend\nend\nend\nend\nend\nend\nend\n"),
-    case!(17 b"thread a fifo 5 at 0\nif 0\nloop 1\nloop 1\nloop 1\nloop 1\nloop 1\nunless EINTR\nif 0\nunless EINTR\nif 0\nforever\nloop 1\nunless EINTR\nif 0\nif 0\nunless EINTR\nend\nend\nend\nend\nend\nend\nend\nend\nend\nend\nend\nend\nend\nend\nend\nend\nend"),
-    case!(17 b"thread a fifo 5 at 0\nif 0\nforever\nforever\nloop 1\nunless EINTR\nforever\nloop 1\nforever\nloop 1\nunless EINTR\nif 0\nforever\nunless EINTR\nif 0\nif 0\nif 0\nend\nend\nend\nend\nend\nend\nend\nend\nend\nend\nend\nend\nend\nend\nend\nend\nend\n"),
-    case!(17 b"thread a fifo 5 at 0\nif 0\nif 0\nloop 1\nunless EINTR\nforever\nif 0\nforever\nunless EINTR\nloop 1\nloop 1\nforever\nif 0\nloop 1\nunless EINTR\nforever\nloop 1\nend\nend\nend\nend\nend\nend\nend\nend\nend\nend\nend\nend\nend\nend\nend\nend\nend\n"),
-    case!(17 b"thread a fifo 5 at 0\nif 0\nloop 1\nforever\nloop 1\nunless EINTR\nforever\nloop 1\nloop 1\nunless EINTR\nif 0\nif 0\nloop 1\nloop 1\nloop 1\nloop 1\nif 0\nloop 1\nend\nend\nend\nend\nend\nend\nend\nend\nend\nend\nend\nend\nend\nend\nend\nend\nend\nend"),
-    case!(17 b"thread a fifo 5 at 0\nif 0\nloop 1\nif 0\nforever\nunless EINTR\nunless EINTR\nforever\nloop 1\nforever\nif 0\nunless EINTR\nloop 1\nloop 1\nif 0\nunless EINTR\nif 0\nend\nend\nend\nend\nend\nend\nend\nend\nend\nend\nend\nend\nend\nend\nend\nend\nend\n"),
-    case!(17 b"thread a fifo 5 at 0\nunless EINTR\nloop 1\nforever\nunless EINTR\nloop 1\nforever\nunless EINTR\nif 0\nunless EINTR\nloop 1\nif 0\nforever\nforever\nif 0\nif 0\nif 0\nend\nend\nend\nend\nend\nend\nend\nend\nend\nend\nend\nend\nend\nend\nend\nend\nend\n"),
-    case!(17 b"thread a fifo 5 at 0\nunless EINTR\nforever\nunless EINTR\nif 0\nloop 1\nif 0\nunless EINTR\nif 0\nforever\nif 0\nloop 1\nunless EINTR\nforever\nforever\nif 0\nloop 1\nend\nend\nend\nend\nend\nend\nend\nend\nend\nend\nend\nend\nend\nend\nend\nend\nend\n"),
+    case!(17 b"thread a fifo 5 at 0\nif 0\nif 0\nif 0\nif 0\nif 0\nif 0\nif 0\nif 0\nif 0\nif 0\nif 0\nif 0\n\
+        if 0\nif 0\nif 0\nif 0\nif 0\nend\nend\nend\nend\nend\nend\nend\nend\nend\nend\nend\nend\nend\n\
+        end\nend\nend\nend\nend\n"),
+    case!(17 b"thread a fifo 5 at 0\nloop 1\nloop 1\nloop 1\nloop 1\nloop 1\nloop 1\nloop 1\nloop 1\nloop 1\n\
+        loop 1\nloop 1\nloop 1\nloop 1\nloop 1\nloop 1\nloop 1\nend\nend\nend\nend\nend\nend\nend\nend\n\
+        end\nend\nend\nend\nend\nend\nend\nend\nend\n"),
+    case!(18 b"quantum 5\nhandler h\nloop 1\nloop 1\nloop 1\nloop 1\nloop 1\nloop 1\nloop 1\nloop 1\nloop 1\n\
+        loop 1\nloop 1\nloop 1\nloop 1\nloop 1\nloop 1\nloop 1\nend\nend\nend\nend\nend\nend\nend\nend\n\
+        end\nend\nend\nend\nend\nend\nend\nend\nend\n"),
+    case!(17 b"thread a fifo 5 at 0\nforever\nforever\nif 0\nif 0\nforever\nif 0\nforever\nif 0\nif 0\n\
+        unless EINTR\nif 0\nforever\nloop 1\nforever\nloop 1\nunless EINTR\nend\nend\nend\nend\nend\n\
+        end\nend\nend\nend\nend\nend\nend\nend\nend\nend\nend\nend\n"),
+    case!(17 b"thread a fifo 5 at 0\nloop 1\nforever\nif 0\nif 0\nif 0\nloop 1\nforever\nloop 1\nif 0\n\
+        unless EINTR\nif 0\nforever\nif 0\nif 0\nloop 1\nloop 1\nloop 1\nend\nend\nend\nend\nend\nend\n\
+        end\nend\nend\nend\nend\nend\nend\nend\nend\nend\nend\nend"),
+    case!(17 b"thread a fifo 5 at 0\nif 0\nforever\nif 0\nunless EINTR\nloop 1\nforever\nloop 1\nif 0\nif 0\n\
+        if 0\nloop 1\nunless EINTR\nif 0\nunless EINTR\nforever\nloop 1\nend\nend\nend\nend\nend\nend\n\
+        end\nend\nend\nend\nend\nend\nend\nend\nend\nend\nend"),
+    case!(17 b"thread a fifo 5 at 0\nloop 1\nunless EINTR\nforever\nforever\nloop 1\nloop 1\nif 0\nloop 1\n\
+        if 0\nloop 1\nforever\nunless EINTR\nif 0\nforever\nforever\nloop 1\nend\nend\nend\nend\nend\n\
+        end\nend\nend\nend\nend\nend\nend\nend\nend\nend\nend\nend\n"),
+    case!(17 b"thread a fifo 5 at 0\nif 0\nloop 1\nloop 1\nloop 1\nloop 1\nloop 1\nunless EINTR\nif 0\n\
+        unless EINTR\nif 0\nforever\nloop 1\nunless EINTR\nif 0\nif 0\nunless EINTR\nend\nend\nend\n\
+        end\nend\nend\nend\nend\nend\nend\nend\nend\nend\nend\nend\nend\nend"),
+    case!(17 b"thread a fifo 5 at 0\nif 0\nforever\nforever\nloop 1\nunless EINTR\nforever\nloop 1\nforever\n\
+        loop 1\nunless EINTR\nif 0\nforever\nunless EINTR\nif 0\nif 0\nif 0\nend\nend\nend\nend\nend\n\
+        end\nend\nend\nend\nend\nend\nend\nend\nend\nend\nend\nend\n"),
+    case!(17 b"thread a fifo 5 at 0\nif 0\nif 0\nloop 1\nunless EINTR\nforever\nif 0\nforever\nunless EINTR\n\
+        loop 1\nloop 1\nforever\nif 0\nloop 1\nunless EINTR\nforever\nloop 1\nend\nend\nend\nend\nend\n\
+        end\nend\nend\nend\nend\nend\nend\nend\nend\nend\nend\nend\n"),
+    case!(17 b"thread a fifo 5 at 0\nif 0\nloop 1\nforever\nloop 1\nunless EINTR\nforever\nloop 1\nloop 1\n\
+        unless EINTR\nif 0\nif 0\nloop 1\nloop 1\nloop 1\nloop 1\nif 0\nloop 1\nend\nend\nend\nend\n\
+        end\nend\nend\nend\nend\nend\nend\nend\nend\nend\nend\nend\nend\nend"),
+    case!(17 b"thread a fifo 5 at 0\nif 0\nloop 1\nif 0\nforever\nunless EINTR\nunless EINTR\nforever\nloop 1\n\
+        forever\nif 0\nunless EINTR\nloop 1\nloop 1\nif 0\nunless EINTR\nif 0\nend\nend\nend\nend\nend\n\
+        end\nend\nend\nend\nend\nend\nend\nend\nend\nend\nend\nend\n"),
+    case!(17 b"thread a fifo 5 at 0\nunless EINTR\nloop 1\nforever\nunless EINTR\nloop 1\nforever\n\
+        unless EINTR\nif 0\nunless EINTR\nloop 1\nif 0\nforever\nforever\nif 0\nif 0\nif 0\nend\nend\n\
+        end\nend\nend\nend\nend\nend\nend\nend\nend\nend\nend\nend\nend\nend\nend\n"),
+    case!(17 b"thread a fifo 5 at 0\nunless EINTR\nforever\nunless EINTR\nif 0\nloop 1\nif 0\nunless EINTR\n\
+        if 0\nforever\nif 0\nloop 1\nunless EINTR\nforever\nforever\nif 0\nloop 1\nend\nend\nend\nend\n\
+        end\nend\nend\nend\nend\nend\nend\nend\nend\nend\nend\nend\nend\n"),
 ];
 
 #[test]

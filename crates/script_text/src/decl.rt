@@ -44,7 +44,8 @@ fn plain_thread_line<'a>(name: &'a [u8], policy: &'a [u8], prio: Prio, start: Op
 // The line of a SCHED_SPORADIC thread.
 fn sporadic_thread_line(name: &[u8], params: Params, start: Option<u64>) -> Line
     requires { length name.now ≤ 32 }
-    ensures { result.items ≡ line_text (codes "thread" ∷ name.now ∷ (policy_words (policy.Sporadic params) ++ start_words start)) }
+    ensures { result.items
+        ≡ line_text (codes "thread" ∷ name.now ∷ (policy_words (policy.Sporadic params) ++ start_words start)) }
 {
     let thread = Keyword(b"thread");
     let name = Name(name);
@@ -95,7 +96,8 @@ fn thread_line(name: &[u8], policy: Policy, start: Option<u64>) -> Line
 // The line of a mutex without the word of a recursive one.
 fn mutex_line(name: &[u8], protocol: Protocol) -> Line
     requires { length name.now ≤ 32 }
-    ensures { result.items ≡ line_text (codes "mutex" ∷ name.now ∷ (protocol_words protocol ++ flag_words (codes "recursive") false)) }
+    ensures { result.items
+        ≡ line_text (codes "mutex" ∷ name.now ∷ (protocol_words protocol ++ flag_words (codes "recursive") false)) }
 {
     let mutex = Keyword(b"mutex");
     match protocol {
@@ -112,7 +114,8 @@ fn mutex_line(name: &[u8], protocol: Protocol) -> Line
 
 fn recursive_mutex_line(name: &[u8], protocol: Protocol) -> Line
     requires { length name.now ≤ 32 }
-    ensures { result.items ≡ line_text (codes "mutex" ∷ name.now ∷ (protocol_words protocol ++ flag_words (codes "recursive") true)) }
+    ensures { result.items
+        ≡ line_text (codes "mutex" ∷ name.now ∷ (protocol_words protocol ++ flag_words (codes "recursive") true)) }
 {
     let mutex = Keyword(b"mutex");
     let recursive = Keyword(b"recursive");
@@ -131,7 +134,8 @@ fn recursive_mutex_line(name: &[u8], protocol: Protocol) -> Line
 
 fn queue_line(name: &[u8], depth: u32, max_len: u32, nonblock: bool) -> Line
     requires { length name.now ≤ 32 }
-    ensures { result.items ≡ line_text (codes "queue" ∷ name.now ∷ decimal depth ∷ decimal max_len ∷ flag_words (codes "nonblock") nonblock) }
+    ensures { result.items
+        ≡ line_text (codes "queue" ∷ name.now ∷ decimal depth ∷ decimal max_len ∷ flag_words (codes "nonblock") nonblock) }
 {
     let queue = Keyword(b"queue");
     let depth = Number(u64::from(depth));

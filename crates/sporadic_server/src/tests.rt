@@ -1,5 +1,5 @@
-// A thread under a server with the priorities 8 and 2, period 10, budget 3 and at most 4 pending replenishments, that starts at
-// 2 and first runs at 9. It is exhausted at 12, where its replenishment is due at once, and again at 15.
+// A thread under a server with the priorities 8 and 2, period 10, budget 3 and at most 4 pending replenishments, that
+// starts at 2 and first runs at 9. It is exhausted at 12, where its replenishment is due at once, and again at 15.
 ghost use Rattle.std.specs.Prelude.{◌≡◌, ◌≤◌, ◌*◌, ◌^◌};
 
 use super::*;

@@ -1,8 +1,8 @@
 -- How a reading ends that gives no script.
-use Rattle.std.specs.Prelude.{◌≡◌, Option, Some, Result, Ok, Err}
+use Rattle.std.specs.Prelude.{◌≡◌, ℕ, List, ◌++◌, codes, decimal, Option, Some, Result, Ok, Err}
 use Rattle.std.specs.Option.{option_map}
 use Rattle.script_tree.specs.declared.decl.Script.{Script}
-use Rattle.script_table.specs.Faults.{Fault}
+use Rattle.script_table.specs.Faults.{Fault, name_of}
 use Rattle.task_script.specs.declared.end.ScriptEnd.{ScriptEnd}
 use Rattle.task_script.specs.declared.end.ScriptEnd.TheVariants as end
 
@@ -20,3 +20,8 @@ abbrev pub IsRefusal : ScriptEnd → Result Script Fault → Type 0
 IsRefusal end.OutOfMemory found = Unit {0}
 IsRefusal (end.Fault line kind) (Ok script) = ⊥
 IsRefusal (end.Fault line kind) (Err f) = (f.line ≡ line) × (f.kind ≡ kind)
+
+-- what is shown of it
+abbrev pub text_of : ScriptEnd → List ℕ
+text_of (end.Fault line kind) = codes "line " ++ decimal line ++ codes ": " ++ name_of kind
+text_of end.OutOfMemory = codes "out of memory"

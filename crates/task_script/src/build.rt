@@ -152,7 +152,9 @@ impl<'a> Builder<'a> {
     }
 
     fn set_quantum(&mut self, words: &Words<'_>)
-        ensures { self.new ≡ record self.old { quantum = unwrap_or (number_in 1 greatest 1 words.now.words) self.old.quantum } }
+        ensures { self.new ≡ record self.old {
+          quantum = unwrap_or (number_in 1 greatest 1 words.now.words) self.old.quantum;
+        } }
     {
         if let Some(quantum) = number_in(1, GREATEST, 1, words) {
             self.quantum = quantum;
@@ -165,7 +167,8 @@ impl<'a> Builder<'a> {
         form: CallForm,
         words: &Words<'_>,
     ) -> Result<(), AllocError>
-        ensures { IfOk result (λ _. self.new ≡ with_step self.old (option_map step.Make (call_of names.now form words.now.words))) }
+        ensures { IfOk result (λ _. self.new
+            ≡ with_step self.old (option_map step.Make (call_of names.now form words.now.words))) }
     {
         match call_of(names, form, words) {
             None => Ok(()),

@@ -23,7 +23,16 @@ impl Model for Counts {
 
     ghost Value = { CountsOfKinds };
 
-    ghost view = { λ c. record { threads = c.threads; mutexes = c.mutexes; conds = c.conds; sems = c.sems; queues = c.queues; timers = c.timers; handlers = c.handlers; cleanups = c.cleanups } };
+    ghost view = { λ c. record {
+      threads = c.threads;
+      mutexes = c.mutexes;
+      conds = c.conds;
+      sems = c.sems;
+      queues = c.queues;
+      timers = c.timers;
+      handlers = c.handlers;
+      cleanups = c.cleanups;
+    } };
 }
 
 impl Counts {

@@ -5,7 +5,7 @@ ghost use Rattle.script_table.specs.Faults.{least, least_kind};
 ghost use Rattle.script_table.specs.Patterns.{spot_of};
 ghost use Rattle.script_table.specs.LineFaults.{place_faults};
 ghost use Rattle.script_table.specs.Structure.{IsRising};
-ghost use Rattle.script_table.specs.Names.{nothing_declared, declaring, declared_at, declared, naming, name_faults, phase_two};
+ghost use Rattle.script_table.specs.Names.{nothing_declared, with_declaration, declared_at, declared, name_fault, name_faults, phase_two};
 ghost use Rattle.task_script.specs.Ends.{answered};
 
 use crate::ScriptEnd;
@@ -47,8 +47,8 @@ impl<'a> Declared<'a> {
         &self.names
     }
 
-    fn naming(&self, line: u32, place: &Place, word: &[u8]) -> Option<FaultKind>
-        ensures { result ≡ naming self.now line (spot_of place.now) word.now }
+    fn name_fault(&self, line: u32, place: &Place, word: &[u8]) -> Option<FaultKind>
+        ensures { result ≡ name_fault self.now line (spot_of place.now) word.now }
     {
         match place {
             Place::Declares(_) => self.names.duplicate(line, word),
@@ -59,14 +59,15 @@ impl<'a> Declared<'a> {
     }
 
     fn place_fault(&self, line: u32, places: &[Place], mut words: Words<'_>) -> Option<FaultKind>
-        ensures { result ≡ least_kind (place_faults (naming self.now line) (map spot_of places.now) words.entry.words) }
+        ensures { result
+            ≡ least_kind (place_faults (name_fault self.now line) (map spot_of places.now) words.entry.words) }
     {
         match places {
             [] => None,
             [place, rest @ ..] => match words.next_word() {
                 None => None,
                 Some(word) => {
-                    let here = self.naming(line, place, word.bytes);
+                    let here = self.name_fault(line, place, word.bytes);
                     lesser_first(here, self.place_fault(line, rest, words))
                 }
             },
@@ -74,7 +75,9 @@ impl<'a> Declared<'a> {
     }
 
     fn declare_word(&mut self, line: u32, place: &Place, word: &'a [u8]) -> Result<(), ScriptEnd>
-        ensures { MatchResult result (λ _. self.new ≡ declaring self.old line (spot_of place.now) word.now) (λ e. e ≡ ScriptEnd.OutOfMemory) }
+        ensures { MatchResult result
+            (λ _. self.new ≡ with_declaration self.old line (spot_of place.now) word.now)
+            (λ e. e ≡ ScriptEnd.OutOfMemory) }
     {
         match place {
             Place::Declares(kind) => {
@@ -95,7 +98,9 @@ impl<'a> Declared<'a> {
         places: &[Place],
         mut words: Words<'a>,
     ) -> Result<(), ScriptEnd>
-        ensures { MatchResult result (λ _. self.new ≡ declared_at self.old line (map spot_of places.now) words.entry.words) (λ e. e ≡ ScriptEnd.OutOfMemory) }
+        ensures { MatchResult result
+            (λ _. self.new ≡ declared_at self.old line (map spot_of places.now) words.entry.words)
+            (λ e. e ≡ ScriptEnd.OutOfMemory) }
     {
         match places {
             [] => Ok(()),

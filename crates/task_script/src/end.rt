@@ -1,6 +1,8 @@
 // Why a text gave no script.
 use script_table::FaultKind;
 use std::alloc::{AllocError, AllocFailed};
+use std::error::Error;
+use std::fmt;
 
 /// Why a text gave no script.
 #[derive(Clone, Copy, Debug, PartialEq, Eq)]
@@ -10,6 +12,22 @@ pub enum ScriptEnd {
     /// Memory ran out; nothing is said of the text.
     OutOfMemory,
 }
+
+impl fmt::Display for ScriptEnd {
+    ghost use Rattle.std.specs.Prelude.{Some};
+    ghost use Rattle.task_script.specs.Ends.{text_of};
+
+    ghost output = { λ e. Some (text_of e) };
+
+    fn fmt<W: fmt::Write>(&self, f: &mut fmt::Formatter<W>) -> fmt::Result {
+        match self {
+            ScriptEnd::Fault(line, kind) => write!(f, "line {line}: {kind}"),
+            ScriptEnd::OutOfMemory => f.write_str("out of memory"),
+        }
+    }
+}
+
+impl Error for ScriptEnd {}
 
 impl From<AllocError> for ScriptEnd {
     ghost use Rattle.std.specs.Prelude.{◌≡◌};

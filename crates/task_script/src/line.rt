@@ -9,7 +9,7 @@ ghost use Rattle.script_table.specs.Structure.{line_faults, place_of_row};
 
 use crate::blocks::Blocks;
 use script_lex::{Line, Words};
-use script_table::{FaultKind, Pattern, Table, agreeing, lesser_first, spelling_fault};
+use script_table::{FaultKind, Pattern, Table, any_agrees, lesser_first, spelling_fault};
 
 fn unknown_fault(table: &Table, words: &Words<'_>) -> Option<FaultKind>
     ensures { result ≡ least_kind (unknown_faults (rows_of table.now) words.now.words) }
@@ -17,7 +17,7 @@ fn unknown_fault(table: &Table, words: &Words<'_>) -> Option<FaultKind>
     let mut first = words.again();
     match first.next_word() {
         None => None,
-        Some(_) => if agreeing(table, words) {
+        Some(_) => if any_agrees(table, words) {
             Some(FaultKind::WordCount)
         } else {
             Some(FaultKind::UnknownWord)
@@ -30,7 +30,8 @@ fn words_fault(
     words: &Words<'_>,
     pattern: Option<&'static Pattern>,
 ) -> Option<FaultKind>
-    ensures { result ≡ least_kind (faults_by (option_map (λ p. row_of p.now) pattern.entry) (rows_of table.now) words.now.words) }
+    ensures { result
+        ≡ least_kind (faults_by (option_map (λ p. row_of p.now) pattern.entry) (rows_of table.now) words.now.words) }
 {
     match pattern {
         None => unknown_fault(table, words),
@@ -54,7 +55,8 @@ pub(crate) fn line_fault(
     pattern: Option<&'static Pattern>,
     blocks: &Blocks,
 ) -> Option<FaultKind>
-    requires { option_map (λ p. row_of p.now) pattern ≡ fitting_some (rows_of table.now) (line_words line.now.bytes.now) }
+    requires { option_map (λ p. row_of p.now) pattern
+        ≡ fitting_some (rows_of table.now) (line_words line.now.bytes.now) }
     ensures { result ≡ least_kind (line_faults (rows_of table.now) (Some blocks.now) line.now.bytes.now) }
 {
     if line.has_bad_byte() {

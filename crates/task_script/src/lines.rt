@@ -25,7 +25,8 @@ fn read_line<'a>(
         (λ s. (line_faults (rows_of table.now) (Some blocks.old) line.entry.bytes.now ≡ []) ×
         (option_to_list s ≡ said_line (rows_of table.now) line.entry.number line.entry.bytes.now) ×
         (Some blocks.new ≡ behind_line (rows_of table.now) (Some blocks.old) line.entry.bytes.now))
-        (λ e. EndsBy e (option_map (fault 1 line.entry.number) (least_kind (line_faults (rows_of table.now) (Some blocks.old) line.entry.bytes.now)))) }
+        (λ e. EndsBy e (option_map (fault 1 line.entry.number)
+        (least_kind (line_faults (rows_of table.now) (Some blocks.old) line.entry.bytes.now)))) }
 {
     let words = line.words();
     let pattern = pattern_of(table, &words);

@@ -89,6 +89,7 @@ impl<'a> Names<'a> {
         if let Some(_) = self.get(name) {
             return Ok(());
         }
+        // The length says that there are fewer than 2^63 names, so that the count of a kind has room for one more.
         let _ = self.index.len();
         let number = self.counts.of(kind);
         self.index.insert(name, Declaration { kind, line, number })?;

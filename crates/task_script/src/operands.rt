@@ -1,6 +1,6 @@
 // What the word at a place says.
 ghost use Rattle.std.specs.Prelude.{◌≡◌, ◌≤◌, ◌+◌, ◌^◌, min, [], IfSome};
-ghost use Rattle.script_table.specs.Ranges.{word, held, is_within};
+ghost use Rattle.script_table.specs.Ranges.{word, capped_number_at, is_within};
 ghost use Rattle.script_table.specs.Operands.{number_in, amount_at, priority_at, operand_at, signal_at, signals_at, answer_at, name_at, named_at, server_of, server_at, fifo_at, rr_at, sporadic_at};
 ghost use Rattle.script_table.specs.declared.pattern.NameKind.TheVariants as kind;
 
@@ -28,8 +28,8 @@ pub(crate) fn word<'a>(k: usize, words: &Words<'a>) -> &'a [u8]
 }
 
 /// A number, or one past the greatest where it is above that.
-pub(crate) fn held(k: usize, words: &Words<'_>) -> u128
-    ensures { result ≡ held k words.now.words }
+pub(crate) fn capped_number_at(k: usize, words: &Words<'_>) -> u128
+    ensures { result ≡ capped_number_at k words.now.words }
 {
     capped_value(word(k, words), GREATEST)
 }

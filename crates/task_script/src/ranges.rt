@@ -5,11 +5,11 @@ ghost use Rattle.script_table.specs.Faults.{least, least_kind, when};
 ghost use Rattle.script_table.specs.Patterns.{spot_of};
 ghost use Rattle.script_table.specs.LineFaults.{place_faults};
 ghost use Rattle.script_table.specs.Structure.{IsRising};
-ghost use Rattle.script_table.specs.Ranges.{ranging, sets_server, is_server, server_faults, tallied, is_too_many, range_faults, phase_three, no_tally};
+ghost use Rattle.script_table.specs.Ranges.{range_fault, sets_server, is_server, server_faults, tallied, is_too_many, range_faults, phase_three, no_tally};
 ghost use Rattle.task_script.specs.Ends.{answered};
 
 use crate::ScriptEnd;
-use crate::operands::{GREATEST, held, is_within};
+use crate::operands::{GREATEST, capped_number_at, is_within};
 use crate::statement::Statement;
 use crate::tally::Tally;
 use script_lex::Words;
@@ -17,8 +17,8 @@ use script_table::{
     BodyForm, CallForm, FaultKind, Form, Place, ThreadCall, is_register, lesser_first,
 };
 
-fn ranging(place: &Place, word: &[u8]) -> Option<FaultKind>
-    ensures { result ≡ ranging (spot_of place.now) word.now }
+fn range_fault(place: &Place, word: &[u8]) -> Option<FaultKind>
+    ensures { result ≡ range_fault (spot_of place.now) word.now }
 {
     match place {
         Place::Number { low, high } => if is_within(*low, *high, word) {
@@ -36,14 +36,14 @@ fn ranging(place: &Place, word: &[u8]) -> Option<FaultKind>
 }
 
 fn place_fault(places: &[Place], mut words: Words<'_>) -> Option<FaultKind>
-    ensures { result ≡ least_kind (place_faults ranging (map spot_of places.now) words.entry.words) }
+    ensures { result ≡ least_kind (place_faults range_fault (map spot_of places.now) words.entry.words) }
 {
     match places {
         [] => None,
         [place, rest @ ..] => match words.next_word() {
             None => None,
             Some(word) => {
-                let here = ranging(place, word.bytes);
+                let here = range_fault(place, word.bytes);
                 lesser_first(here, place_fault(rest, words))
             }
         },
@@ -65,11 +65,11 @@ fn sets_server(form: Form) -> bool
 fn is_server(words: &Words<'_>) -> bool
     ensures { result ≡ is_server words.now.words }
 {
-    let high = held(3, words);
-    let low = held(4, words);
-    let period = held(5, words);
-    let budget = held(6, words);
-    let max = held(7, words);
+    let high = capped_number_at(3, words);
+    let low = capped_number_at(4, words);
+    let period = capped_number_at(5, words);
+    let budget = capped_number_at(6, words);
+    let max = capped_number_at(7, words);
     (1 <= budget && budget <= period) && ((1 <= max && max <= 16) && low < high)
 }
 

@@ -16,7 +16,9 @@ use std::alloc::Global;
 // The script of a text by any table of patterns.
 fn read_by(alloc: Global, table: &Table, text: &[u8]) -> Result<Script, ScriptEnd>
     requires { length text.now ≤ 1_048_576 }
-    ensures { MatchResult result (λ s. read (rows_of table.now) text.now ≡ Ok s) (λ e. IsRefusal e (read (rows_of table.now) text.now)) }
+    ensures { MatchResult result
+        (λ s. read (rows_of table.now) text.now ≡ Ok s)
+        (λ e. IsRefusal e (read (rows_of table.now) text.now)) }
 {
     let reading = statements(alloc, table, text)?;
     let all = declarations(alloc, reading.statements.as_slice())?;

@@ -35,7 +35,13 @@ impl Model for Tally {
 
     ghost Value = { TallyOfLines };
 
-    ghost view = { λ t. record { counts = t.counts; quanta = t.quanta; steps = t.steps; depth = t.depth; pushes = t.pushes } };
+    ghost view = { λ t. record {
+      counts = t.counts;
+      quanta = t.quanta;
+      steps = t.steps;
+      depth = t.depth;
+      pushes = t.pushes;
+    } };
 }
 
 impl Tally {

@@ -1,5 +1,5 @@
 -- Sets of signals as numbers of 32 bits: the sigset_t of IEEE 1003.1-2017, XBD <signal.h>.
-use Rattle.std.specs.Prelude.{ℕ, ◌-◌, ◌/◌, ◌%◌, ◌^◌, ◌==◌, Bool, bit_and, bit_or, Option, find, List}
+use Rattle.std.specs.Prelude.{ℕ, ◌-◌, ◌/◌, ◌%◌, ◌^◌, ◌==◌, Bool, bit_and, bit_or, Option, find}
 use Rattle.std.specs.List.{range_with_len}
 
 abbrev pub every_signal : ℕ

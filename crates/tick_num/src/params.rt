@@ -24,7 +24,13 @@ impl Model for Params {
 
     ghost view = { λ p. record { high = p.high; low = p.low; period = p.period; budget = p.budget; max = p.max } };
 
-    ghost invariant = { λ p. AreParameters (record { high = p.high; low = p.low; period = p.period; budget = p.budget; max = p.max }) };
+    ghost invariant = { λ p. AreParameters (record {
+      high = p.high;
+      low = p.low;
+      period = p.period;
+      budget = p.budget;
+      max = p.max;
+    }) };
 
     ghost inverse = { λ p. record { high = p.high; low = p.low; period = p.period; budget = p.budget; max = p.max } };
 }
@@ -32,7 +38,8 @@ impl Model for Params {
 impl Params {
     /// The parameters in their ranges; `None` exactly where one is out of its range.
     pub fn try_new(high: Prio, low: Prio, period: u64, budget: u64, max: u8) -> Option<Params>
-        ensures { let wanted : Parameters = record { high = high; low = low; period = period; budget = budget; max = max } in
+        ensures { let wanted : Parameters =
+            record { high = high; low = low; period = period; budget = budget; max = max } in
             MatchOption result (¬ (AreParameters wanted)) (λ p. (p ≡ wanted) × (AreParameters wanted)) }
     {
         if low >= high || budget < 1 || budget > period {

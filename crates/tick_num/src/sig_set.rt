@@ -40,7 +40,7 @@ impl SigSet {
         requires { sig ≤ 31 }
         ensures { result ≡ has_signal self sig }
     {
-        self.bits / (1u32 << sig) % 2 == 1
+        (self.bits >> sig) & 1 == 1
     }
 
     /// The set with the signal, 0 to 31, in it.

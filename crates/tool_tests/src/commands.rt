@@ -26,12 +26,14 @@ static RUNS: [(&str, &str, &str); 6] = [
     (
         "12",
         "thread a fifo 5 at 0\nrun 4\nend\nthread b fifo 5 at 0\nrun 1\nend\nthread c fifo 9 at 2\nrun 1\nend\n",
-        "0 start a\n0 start b\n0 dispatch a 5\n2 start c\n2 dispatch c 9\n4 exit c\n4 dispatch a 5\n7 exit a\n7 dispatch b 5\n9 exit b\n9 idle\n12 end\nthread a ticks 5\nthread b ticks 2\nthread c ticks 2\n",
+        "0 start a\n0 start b\n0 dispatch a 5\n2 start c\n2 dispatch c 9\n4 exit c\n4 dispatch a 5\n7 exit a\n\
+            7 dispatch b 5\n9 exit b\n9 idle\n12 end\nthread a ticks 5\nthread b ticks 2\nthread c ticks 2\n",
     ),
     (
         "8",
         "thread a fifo 5 at 0\nyield\nend\nthread b fifo 5 at 0\nrun 1\nend\n",
-        "0 start a\n0 start b\n0 dispatch a 5\n1 return a yield 0 0\n1 dispatch b 5\n3 exit b\n3 dispatch a 5\n4 exit a\n4 idle\n8 end\nthread a ticks 2\nthread b ticks 2\n",
+        "0 start a\n0 start b\n0 dispatch a 5\n1 return a yield 0 0\n1 dispatch b 5\n3 exit b\n3 dispatch a 5\n\
+            4 exit a\n4 idle\n8 end\nthread a ticks 2\nthread b ticks 2\n",
     ),
     (
         "12",
@@ -50,7 +52,8 @@ static REFUSED: [(&str, &str); 7] = [
     ("", "refused 1 14 NoThread\n"),
     ("thread a fifo 5 at 0", "refused 2 12 Unclosed\n"),
     (
-        "thread a fifo 5 at 0\nlock nope\nend\nthread b fifo 5 at 0\nrun 1\nend\nthread c fifo 5 at 0\nrun 1\nfrob\nend\n",
+        "thread a fifo 5 at 0\nlock nope\nend\nthread b fifo 5 at 0\nrun 1\nend\nthread c fifo 5 at 0\nrun 1\n\
+            frob\nend\n",
         "refused 2 2 UnknownWord\n",
     ),
     (
@@ -113,11 +116,12 @@ fn words_of(alloc: Global, list: &[&str]) -> Result<Vec<String>, AllocError> {
     Ok(words)
 }
 
-fn run_from<S: Source>(
+// Carries out the command of the words.
+pub(crate) fn run_from<S: Source, K: Sink>(
     alloc: Global,
     list: &[&str],
     source: &mut S,
-    sink: &mut MemSink,
+    sink: &mut K,
 ) -> Result<Status, AllocError> {
     let words = words_of(alloc, list)?;
     Ok(run_counted::<_, _, Brand>(alloc, words.as_slice(), source, sink, Blank::new(1)))
@@ -236,8 +240,8 @@ fn one_run(alloc: Global) -> Result<(Status, MemSink), AllocError> {
     Ok((status, sink))
 }
 
-// Where an allocation is refused, as `rt try --test --fail-alloc N` does, want of memory is answered and nothing is written; any other
-// answer is the whole run's.
+// Where an allocation is refused, as `rt try --test --fail-alloc N` does, want of memory is answered and nothing is
+// written; any other answer is the whole run's.
 #[test]
 fn one_run_is_whole_or_lacks_memory(rt: HostRuntime) -> Result<(), Fail> {
     let Ok((status, sink)) = one_run(rt.alloc()) else {

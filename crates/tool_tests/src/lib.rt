@@ -1,8 +1,10 @@
-//! Tests of the one call of the tool, and of each public call of the parts below it that no other test makes. They stand apart,
-//! so that they are proved without proving the tool again.
+//! Tests of the one call of the tool, and of each public call of the parts below it that no other test makes. They
+//! stand apart, so that they are proved without proving the tool again.
 #![tactic(auto)]
 
 #[cfg(test)]
 mod commands;
+#[cfg(test)]
+mod order;
 #[cfg(test)]
 mod parts;

@@ -1,7 +1,7 @@
 use Rattle.std.proofs.Common.{map, ◌∷◌}
 use Rattle.script_table.specs.Patterns.{row_of}
 use Rattle.script_table.proofs.ThreeParts.{in_first, in_second, in_third}
-use Rattle.script_table.proofs.line.fitting.Goals as goal
+use Rattle.script_table.proofs.line.fitting_pattern.Goals as goal
 
 pub returns-in-Some : goal.returns-in-Some
 returns-in-Some c =
