@@ -1,0 +1,7 @@
+mod Operands
+mod Calls
+mod Declarations
+mod Steps
+mod Openings
+mod Table
+pub mod Reading

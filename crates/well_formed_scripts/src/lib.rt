@@ -1,0 +1,15 @@
+//! What the reader's definition accepts is well formed, so that the laws of the machine hold of its run. There is no code here: one law,
+//! and its proof.
+#![tactic(auto)]
+
+ghost use Rattle.std.specs.Prelude.{ℕ, ◌≡◌, List, Ok};
+ghost use Rattle.machine_rules.specs.WellFormed.{IsWellFormed};
+ghost use Rattle.script_table.specs.Read.{read};
+ghost use Rattle.script_table.specs.Table.{patterns};
+ghost use Rattle.script_tree.specs.declared.decl.Script.{Script};
+
+/// Whatever text is read without a fault, its script has a round robin interval of a tick at least and priorities from 1 to 255 alone,
+/// and it pushes and pops cleanup handlers by guarded blocks alone, in the bodies of threads, at most eight inside one another.
+pub fn accepted_scripts_are_well_formed()
+    ensures { (text : List ℕ) (script : Script) → read patterns text ≡ Ok script → IsWellFormed script }
+{}
