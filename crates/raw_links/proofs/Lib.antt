@@ -1,0 +1,8 @@
+mod Blocks
+pub mod Chains
+pub mod Heads
+pub mod Linkeds
+mod Memory
+mod Sharing
+pub mod Standing
+pub mod Walks

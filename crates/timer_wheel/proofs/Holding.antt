@@ -1,0 +1,322 @@
+-- Items that are armed and disarmed, and what the slots tell of due ticks.
+use Rattle.std.proofs.Common.{if◌then◌else◌, ltb-true, ltb-false, ◌≡◌, ◌≢◌, ◌⊎◌, inl, inr, ⊎_elim, ℕ, zero, suc, ◌+◌, ◌*◌, ◌^◌, ◌-◌, ◌<◌, ◌≤◌, Bool, true, false, nat_lt, replicate, Option, Some, None, MatchOption, List, [], ◌∷◌, length, get_or, set, refl, sym, ap, subst, ◌∙◌, arith}
+use borrow.Author.Tests.{clash}
+use Rattle.std.proofs.lemmas.List.{get_or_default, get_or-set_same, get_or-set_other}
+use Rattle.std.proofs.lemmas.Bool.Decides.{nat_tests}
+use Rattle.std.proofs.lemmas.Grind.{common_steps}
+use Rattle.raw_links.specs.Links.{Lists, list_at, stands_in, on_a_list, stands_at}
+use Rattle.timer_wheel.proofs.Order.{lt_or}
+use Rattle.timer_wheel.specs.Bits.{is_set, ChangesBit, IsLowestSet, NoneIsSet}
+use Rattle.timer_wheel.specs.Dues.{due_of, NoneIsArmed, IsLeastDue, NoneIsDue, IsFirstDue, earlier}
+use Rattle.timer_wheel.specs.Slots.{list_for, AreMarked, AreFiled, AreSmall, IsLeastLater, IsLeastOf}
+use Rattle.timer_wheel.specs.Moves.{IsFiled, IsTaken, with_last, AreDraining, AreEmptyBelow, AreToRefile, AreRefiling}
+use Rattle.timer_wheel.specs.Held.{AreHeld}
+use Rattle.raw_links.proofs.Chains.{decide, equal}
+use Rattle.raw_links.proofs.Standing.{off_all, on_at, put_stays, put_there, put_back}
+use Rattle.timer_wheel.proofs.Stands.{taken_stays, taken_back}
+use Rattle.timer_wheel.proofs.Filing.{none_some, armed_inside, comes_later, sides, to_refile, advanced}
+
+-- ---- due ticks after a change
+
+pub set_same : (i : ℕ) (v : Option ℕ) (dues : List (Option ℕ)) → i < length dues → due_of i (set dues i v) ≡ v
+set_same i v dues l = get_or-set_same dues i v None l
+
+pub set_other : (i j : ℕ) (v : Option ℕ) (dues : List (Option ℕ)) → j ≢ i → due_of j (set dues i v) ≡ due_of j dues
+set_other i j v dues other = get_or-set_other dues i j v None other
+
+pub same_due : (dues : List (Option ℕ)) (i d e : ℕ) → due_of i dues ≡ Some d → due_of i dues ≡ Some e → d ≡ e
+same_due dues i d e h g = let s : Some d ≡ Some e = sym h ∙ g in cc
+
+pub none_armed : (dues : List (Option ℕ)) (i d : ℕ) → due_of i dues ≡ None → due_of i dues ≡ Some d → ⊥
+none_armed dues i d h g = none_some (sym h ∙ g)
+
+apart_from : (dues : List (Option ℕ)) (id i e : ℕ) → due_of id dues ≡ None → due_of i dues ≡ Some e → i ≢ id
+apart_from dues id i e none due same = none_armed dues id e none (subst (λ m. due_of m dues ≡ Some e) same due)
+
+module _ (base id d : ℕ) (dues : List (Option ℕ)) (lists new : List (List ℕ)) (passed q : List ℕ) (filed : AreFiled base dues lists passed) (none : due_of id dues ≡ None) (inside : id < length dues) where
+  armed_later : base < d → list_for base d < length lists → AreFiled base (set dues id (Some d)) (with_last (list_for base d) id lists) passed
+  armed_later lt few = record {
+    later = λ i e due l. ⊎_elim
+        (λ same. let s : Some d ≡ Some e = sym (set_same id (Some d) dues inside) ∙ subst (λ m. due_of m (set dues id (Some d)) ≡ Some e) same due in
+        let de : d ≡ e = cc in rw (same, ← de) (put_there id (list_for base d) lists few))
+        (λ other. put_stays id (list_for base d) lists i (list_for base e) few (filed.later i e (sym (set_other id i (Some d) dues other) ∙ due) l))
+        (equal i id);
+    gone = λ i e due l. ⊎_elim
+        (λ same. let s : Some d ≡ Some e = sym (set_same id (Some d) dues inside) ∙ subst (λ m. due_of m (set dues id (Some d)) ≡ Some e) same due in
+        let de : d ≡ e = cc in absurd (omega (arith, de, l, lt)))
+        (λ other. filed.gone i e (sym (set_other id i (Some d) dues other) ∙ due) l)
+        (equal i id);
+    only_later = λ i k h. ⊎_elim
+        (λ s. let o = filed.only_later i k s in (o.0, set_other id i (Some d) dues (apart_from dues id i o.0 none o.1) ∙ o.1, o.2, o.3))
+        (λ e. (d, subst (λ m. due_of m (set dues id (Some d)) ≡ Some d) (sym e.0) (set_same id (Some d) dues inside), lt, e.1))
+        (put_back id (list_for base d) lists i k few h);
+    only_gone = λ i h. let o = filed.only_gone i h in (o.0, set_other id i (Some d) dues (apart_from dues id i o.0 none o.1) ∙ o.1, o.2);
+  }
+
+  armed_gone : d ≤ base → ChangesBit id true passed q → AreFiled base (set dues id (Some d)) lists q
+  armed_gone le c = record {
+    later = λ i e due l. ⊎_elim
+        (λ same. let s : Some d ≡ Some e = sym (set_same id (Some d) dues inside) ∙ subst (λ m. due_of m (set dues id (Some d)) ≡ Some e) same due in
+        let de : d ≡ e = cc in absurd (omega (arith, de, l, le)))
+        (λ other. filed.later i e (sym (set_other id i (Some d) dues other) ∙ due) l)
+        (equal i id);
+    gone = λ i e due l. ⊎_elim
+        (λ same. rw same c.changed)
+        (λ other. c.others i other ∙ filed.gone i e (sym (set_other id i (Some d) dues other) ∙ due) l)
+        (equal i id);
+    only_later = λ i k h. let o = filed.only_later i k h in (o.0, set_other id i (Some d) dues (apart_from dues id i o.0 none o.1) ∙ o.1, o.2, o.3);
+    only_gone = λ i h. ⊎_elim
+        (λ same. (d, subst (λ m. due_of m (set dues id (Some d)) ≡ Some d) (sym same) (set_same id (Some d) dues inside), le))
+        (λ other. let o = filed.only_gone i (sym (c.others i other) ∙ h) in (o.0, set_other id i (Some d) dues other ∙ o.1, o.2))
+        (equal i id);
+  }
+
+  pub armed : (base < d → list_for base d < length lists) → IsFiled base id d lists new passed q → AreFiled base (set dues id (Some d)) new q
+  armed few f = ⊎_elim
+      (λ lt. let w = f.later lt in rw (w.0, w.1) (armed_later lt (few lt)))
+      (λ le. let w = f.gone le in rw (w.0) (armed_gone le w.1))
+      (lt_or base d)
+
+  pub off_lists : on_a_list id lists ≡ false
+  off_lists = off_all id lists (λ k. ⊎_elim (λ t. absurd (let o = filed.only_later id k t in none_armed dues id o.0 none o.1)) (λ f. f) (decide (stands_at id k lists)))
+
+module _ (base id d : ℕ) (dues : List (Option ℕ)) (lists new : List (List ℕ)) (passed q : List ℕ) (filed : AreFiled base dues lists passed) (due : due_of id dues ≡ Some d) where
+  inside : id < length dues
+  inside = armed_inside dues id d due
+
+  not_it : (i e : ℕ) → due_of i (set dues id None) ≡ Some e → i ≢ id
+  not_it i e h same = none_some (sym (set_same id None dues inside) ∙ subst (λ m. due_of m (set dues id None) ≡ Some e) same h)
+
+  before : (i e : ℕ) → due_of i (set dues id None) ≡ Some e → due_of i dues ≡ Some e
+  before i e h = sym (set_other id i None dues (not_it i e h)) ∙ h
+
+  pub disarmed_gone : d ≤ base → ChangesBit id false passed q → AreFiled base (set dues id None) lists q
+  disarmed_gone le c = record {
+    later = λ i e h l. filed.later i e (before i e h) l;
+    gone = λ i e h l. c.others i (not_it i e h) ∙ filed.gone i e (before i e h) l;
+    only_later = λ i k h. let o = filed.only_later i k h in
+        (o.0, set_other id i None dues (λ same. let g = subst (λ m. due_of m dues ≡ Some o.0) same o.1 in let e = same_due dues id d o.0 due g in omega (arith, e, o.2, le)) ∙ o.1, o.2, o.3);
+    only_gone = λ i h. ⊎_elim
+        (λ same. absurd (let s = subst (λ m. is_set m q ≡ true) same h in clash (sym c.changed ∙ s)))
+        (λ other. let o = filed.only_gone i (sym (c.others i other) ∙ h) in (o.0, set_other id i None dues other ∙ o.1, o.2))
+        (equal i id);
+  }
+
+  pub disarmed_later : base < d → IsTaken id lists new → AreFiled base (set dues id None) new passed
+  disarmed_later lt t = record {
+    later = λ i e h l. taken_stays id i (list_for base e) lists new t (not_it i e h) ∙ filed.later i e (before i e h) l;
+    gone = λ i e h l. filed.gone i e (before i e h) l;
+    only_later = λ i k h. let b = taken_back id i k lists new t h in let o = filed.only_later i k b.0 in (o.0, set_other id i None dues b.1 ∙ o.1, o.2, o.3);
+    only_gone = λ i h. let o = filed.only_gone i h in
+        (o.0, set_other id i None dues (λ same. let g = subst (λ m. due_of m dues ≡ Some o.0) same o.1 in let e = same_due dues id d o.0 due g in omega (arith, e, o.2, lt)) ∙ o.1, o.2);
+  }
+
+  pub stands_later : base < d → on_a_list id lists ≡ true
+  stands_later lt = on_at id (list_for base d) lists (filed.later id d due lt)
+
+pub still_small : (dues : List (Option ℕ)) (id : ℕ) (v : Option ℕ) → AreSmall dues → ((d : ℕ) → v ≡ Some d → d ≤ 2 * 10 ^ 18) → id < length dues → AreSmall (set dues id v)
+still_small dues id v small here l i d h = ⊎_elim
+    (λ same. here d (sym (set_same id v dues l) ∙ subst (λ m. due_of m (set dues id v) ≡ Some d) same h))
+    (λ other. small i d (sym (set_other id i v dues other) ∙ h))
+    (equal i id)
+
+-- ---- nothing is armed
+
+due_none : (ids i : ℕ) → due_of i (replicate ids None) ≡ None
+due_none zero i = refl
+due_none (suc ids) zero = refl
+due_none (suc ids) (suc i) = due_none ids i
+
+length_none : (ids : ℕ) → length {A = Option ℕ} (replicate ids None) ≡ ids
+length_none zero = refl
+length_none (suc ids) = ap suc (length_none ids)
+
+list_none : (n k : ℕ) → list_at (replicate n []) k ≡ []
+list_none zero k = refl
+list_none (suc n) zero = refl
+list_none (suc n) (suc k) = list_none n k
+
+length_lists : (n : ℕ) → length {A = List ℕ} (replicate n []) ≡ n
+length_lists zero = refl
+length_lists (suc n) = ap suc (length_lists n)
+
+pub opened : (ids : ℕ) (dues : List (Option ℕ)) (links : Lists) (occupied passed : List ℕ) → ids ≤ 1024 → dues ≡ replicate ids None → (links.nodes ≡ 1024) × (links.lists ≡ replicate 704 [])
+    → (length occupied ≡ 11) × NoneIsSet occupied → (length passed ≡ 16) × NoneIsSet passed → AreHeld 0 dues links occupied passed
+opened ids dues links occupied passed few e l o p = record {
+  sized = record { nodes = l.0; lists = ap length l.1 ∙ length_lists 704; words = o.0 };
+  set = p.0;
+  few = (let n : length dues ≡ ids = ap length e ∙ length_none ids in omega (arith, n, few));
+  marked = λ k. o.1 k ∙ ap (λ (xs : List ℕ). nat_lt 0 (length xs)) (sym (ap (λ (ls : List (List ℕ)). list_at ls k) l.1 ∙ list_none 704 k));
+  filed = record {
+    later = λ i d due lt. absurd (never i d due);
+    gone = λ i d due le. absurd (never i d due);
+    only_later = λ i k h. absurd (let s : stands_in i [] ≡ true = subst (λ xs. stands_in i xs ≡ true) (ap (λ (ls : List (List ℕ)). list_at ls k) l.1 ∙ list_none 704 k) h in clash s);
+    only_gone = λ i h. absurd (clash (sym (p.1 i) ∙ h));
+  };
+  small = λ i d due. absurd (never i d due);
+} where
+  never : (i d : ℕ) → due_of i dues ≡ Some d → ⊥
+  never i d due = none_armed (replicate ids None) i d (due_none ids i) (subst (λ ds. due_of i ds ≡ Some d) e due)
+
+pub none_later : (ids base : ℕ) → IsLeastLater base (replicate ids None) (2 ^ 64 - 1)
+none_later ids base = record {
+  least = λ i d due l. absurd (none_armed (replicate ids None) i d (due_none ids i) due);
+  holds = inl refl;
+}
+
+pub none_small : (ids : ℕ) → AreSmall (replicate ids None)
+none_small ids i d due = absurd (none_armed (replicate ids None) i d (due_none ids i) due)
+
+-- ---- what the slots tell
+
+pub passed_first : (base : ℕ) (dues : List (Option ℕ)) (lists : List (List ℕ)) (passed : List ℕ) (o : Option ℕ) (n : ℕ) → AreFiled base dues lists passed
+    → MatchOption o (NoneIsSet passed) (λ p. IsLowestSet passed p × (p < n)) → MatchOption o (NoneIsDue base dues) (λ i. IsFirstDue base dues i)
+passed_first base dues lists passed None n filed none = λ i d due. ⊎_elim (λ l. l) (λ le. absurd (clash (sym (none i) ∙ filed.gone i d due le))) (lt_or base d)
+passed_first base dues lists passed (Some p) n filed low =
+    let o = filed.only_gone p low.0.itself in
+    record {
+      inside = armed_inside dues p o.0 o.1;
+      due = (o.0, o.1, o.2);
+      first = λ j e l due. ⊎_elim (λ lt. lt) (λ le. absurd (clash (sym (low.0.below j l) ∙ filed.gone j e due le))) (lt_or base e);
+    }
+
+some_length : (i : ℕ) (xs : List ℕ) → stands_in i xs ≡ true → nat_lt 0 (length xs) ≡ true
+some_length i [] h = cc
+some_length i (x ∷ xs) h = grind (arith, nat_tests, common_steps)
+
+has_head : (xs : List ℕ) → nat_lt 0 (length xs) ≡ true → (x : ℕ) × (stands_in x xs ≡ true)
+has_head [] h = absurd (clash h)
+has_head (x ∷ xs) h = (x, grind (arith, nat_tests))
+
+pub no_later : (base : ℕ) (dues : List (Option ℕ)) (lists : List (List ℕ)) (occupied passed : List ℕ) → AreFiled base dues lists passed → AreMarked lists occupied → NoneIsSet occupied
+    → IsLeastLater base dues (2 ^ 64 - 1)
+no_later base dues lists occupied passed filed marked none = record {
+  least = λ i d due l. absurd (let k = list_for base d in clash (sym (sym (marked k) ∙ none k) ∙ some_length i (list_at lists k) (filed.later i d due l)));
+  holds = inl refl;
+}
+
+pub least_at_lowest : (base : ℕ) (dues : List (Option ℕ)) (lists : List (List ℕ)) (occupied passed : List ℕ) (list tick : ℕ) → AreFiled base dues lists passed → AreMarked lists occupied → AreSmall dues
+    → IsLowestSet occupied list → IsLeastOf dues (list_at lists list) tick → IsLeastLater base dues tick
+least_at_lowest base dues lists occupied passed list tick filed marked small low of =
+    let x = has_head (list_at lists list) (sym (marked list) ∙ low.itself) in
+    let o = filed.only_later x.0 list x.1 in
+    let most : tick ≤ 2 * 10 ^ 18 = (let s = small x.0 o.0 o.1 in let t = of.least x.0 o.0 x.1 o.1 in omega (arith, s, t)) in
+    let holder = ⊎_elim (λ never. absurd (omega (arith, never, most))) (λ h. h) of.holds in
+    let stood = filed.only_later holder.0 list holder.1 in
+    let same = same_due dues holder.0 tick stood.0 holder.2 stood.1 in
+    let after : base < tick = omega (arith, stood.2, same) in
+    let at : list ≡ list_for base tick = subst (λ t. list ≡ list_for base t) (sym same) stood.3 in
+    record {
+      least = λ i d due l. let h = filed.later i d due l in let k = list_for base d in
+          ⊎_elim (λ less. absurd (clash (sym (low.below k less) ∙ marked k ∙ some_length i (list_at lists k) h)))
+          (λ r. ⊎_elim (λ e. of.least i d (subst (λ m. stands_at i m lists ≡ true) e h) due)
+          (λ more. let c = comes_later base tick d after l (subst (λ m. m < k) at more) in omega (arith, c)) r)
+          (sides k list);
+      holds = inr (holder.0, holder.2, after);
+    }
+
+-- ---- a wheel goes on, with the number of its target list as the code has it
+
+module _ (base to target : ℕ) (dues : List (Option ℕ)) (lists mid new : List (List ℕ)) (passed p q : List ℕ) (is : target ≡ list_for base to) (lt : base < to) (small : AreSmall dues) (filed : AreFiled base dues lists passed)
+    (drained : AreDraining target lists mid passed p) (empty : AreEmptyBelow target mid) where
+  pub nodes_to_refile : AreToRefile target to dues mid
+  nodes_to_refile = subst (λ t. AreToRefile t to dues mid) (sym is)
+      (to_refile base to dues lists mid new passed p q lt small filed (subst (λ t. AreDraining t lists mid passed p) is drained) (subst (λ t. AreEmptyBelow t mid) is empty))
+
+  pub went_on : AreRefiling target to dues mid new p q → list_at new target ≡ [] → AreFiled to dues new q
+  went_on done all = advanced base to dues lists mid new passed p q lt small filed (subst (λ t. AreDraining t lists mid passed p) is drained) (subst (λ t. AreEmptyBelow t mid) is empty)
+      (subst (λ t. AreRefiling t to dues mid new p q) is done) (subst (λ t. list_at new t ≡ []) is all)
+
+-- ---- what the code reads
+
+pub read_due : (dues : List (Option ℕ)) (id d : ℕ) (v : Option ℕ) → v ≡ get_or dues id v → v ≡ Some d → id < length dues → due_of id dues ≡ Some d
+read_due dues id d v e is l = sym (e ∙ get_or_default dues id v None l) ∙ is
+
+-- ---- the least later due tick after a change
+
+pub lower_armed : (base id d least : ℕ) (dues : List (Option ℕ)) → IsLeastLater base dues least → base < d → d < least → id < length dues → IsLeastLater base (set dues id (Some d)) d
+lower_armed base id d least dues is lt less inside = record {
+  least = λ i e due l. ⊎_elim
+      (λ same. let s : Some d ≡ Some e = sym (set_same id (Some d) dues inside) ∙ subst (λ m. due_of m (set dues id (Some d)) ≡ Some e) same due in
+      let de : d ≡ e = cc in omega (arith, de))
+      (λ other. let h = is.least i e (sym (set_other id i (Some d) dues other) ∙ due) l in omega (arith, h, less))
+      (equal i id);
+  holds = inr (id, set_same id (Some d) dues inside, lt);
+}
+
+pub same_armed : (base id d least : ℕ) (dues : List (Option ℕ)) → IsLeastLater base dues least → (base < d → least ≤ d) → due_of id dues ≡ None → id < length dues → IsLeastLater base (set dues id (Some d)) least
+same_armed base id d least dues is above none inside = record {
+  least = λ i e due l. ⊎_elim
+      (λ same. let s : Some d ≡ Some e = sym (set_same id (Some d) dues inside) ∙ subst (λ m. due_of m (set dues id (Some d)) ≡ Some e) same due in
+      let de : d ≡ e = cc in (let a = above (omega (arith, de, l)) in omega (arith, de, a)))
+      (λ other. is.least i e (sym (set_other id i (Some d) dues other) ∙ due) l)
+      (equal i id);
+  holds = ⊎_elim (λ n. inl n) (λ h. inr (h.0, set_other id h.0 (Some d) dues (apart_from dues id h.0 least none h.1) ∙ h.1, h.2)) is.holds;
+}
+
+pub same_disarmed : (base id least : ℕ) (dues : List (Option ℕ)) → IsLeastLater base dues least → (due_of id dues ≡ Some least → base < least → ⊥) → id < length dues → IsLeastLater base (set dues id None) least
+same_disarmed base id least dues is other inside = record {
+  least = λ i e due l. is.least i e (sym (set_other id i None dues (λ same. none_some (sym (set_same id None dues inside) ∙ subst (λ m. due_of m (set dues id None) ≡ Some e) same due))) ∙ due) l;
+  holds = ⊎_elim (λ n. inl n) (λ h. inr (h.0, set_other id h.0 None dues (λ same. other (subst (λ m. due_of m dues ≡ Some least) same h.1) h.2) ∙ h.1, h.2)) is.holds;
+}
+
+none_or : (o : Option ℕ) → (o ≡ None) ⊎ ((d : ℕ) × (o ≡ Some d))
+none_or None = inl refl
+none_or (Some d) = inr (d, refl)
+
+-- where nothing has passed, the least later due tick is the least
+pub next_later : (base least : ℕ) (dues : List (Option ℕ)) (o : Option ℕ) → IsLeastLater base dues least → AreSmall dues → NoneIsDue base dues
+    → MatchOption o (2 * 10 ^ 18 < least) (λ t. (t ≡ least) × (least ≤ 2 * 10 ^ 18)) → MatchOption o (NoneIsArmed dues) (λ t. IsLeastDue dues t)
+next_later base least dues None is small none m = λ i.
+    ⊎_elim (λ e. e) (λ d. absurd (let l = is.least i d.0 d.1 (none i d.0 d.1) in let s = small i d.0 d.1 in omega (arith, l, s, m))) (none_or (due_of i dues))
+next_later base least dues (Some t) is small none m = record {
+  holds = ⊎_elim (λ never. absurd (omega (arith, never, m.1))) (λ h. (h.0, h.1 ∙ ap Some (sym m.0))) is.holds;
+  least = λ i d due. let l = is.least i d due (none i d due) in omega (arith, l, m.0);
+}
+
+-- the first of the passed items is the first that is due now, where the least later due tick is after now
+pub due_now : (base now least : ℕ) (dues : List (Option ℕ)) (o : Option ℕ) → base ≤ now → now < least → IsLeastLater base dues least
+    → MatchOption o (NoneIsDue base dues) (λ i. IsFirstDue base dues i) → MatchOption o (NoneIsDue now dues) (λ i. IsFirstDue now dues i)
+due_now base now least dues None le lt is m = λ i d due. let l = is.least i d due (m i d due) in omega (arith, l, lt)
+due_now base now least dues (Some i) le lt is m = record {
+  inside = m.inside;
+  due = (m.due.0, m.due.1, let l = m.due.2 in omega (arith, l, le));
+  first = λ j d l due. let a = is.least j d due (m.first j d l due) in omega (arith, a, lt);
+}
+
+-- ---- the least of all
+
+abbrev pub IsLeastSoFar : List (Option ℕ) → ℕ → Option ℕ → Type 0
+IsLeastSoFar dues at None = (i : ℕ) → i < at → due_of i dues ≡ None
+IsLeastSoFar dues at (Some t) = ((i : ℕ) × (due_of i dues ≡ Some t)) × ((i d : ℕ) → i < at → due_of i dues ≡ Some d → t ≤ d)
+
+before_or : (i at : ℕ) → i < at + 1 → (i < at) ⊎ (i ≡ at)
+before_or i at l = ⊎_elim (λ s. inr s) (λ o. inl (omega (arith, l, o))) (equal i at)
+
+lower_of : (dues : List (Option ℕ)) (at t d : ℕ) (b : Bool) → b ≡ nat_lt d t → due_of at dues ≡ Some d → IsLeastSoFar dues at (Some t) → IsLeastSoFar dues (at + 1) (if b then Some d else Some t)
+lower_of dues at t d true e here so =
+    let l : d < t = ltb-true d t (sym e) in
+    ((at, here), λ i f lt due. ⊎_elim (λ p. let q = so.1 i f p due in omega (arith, q, l)) (λ s. let q = same_due dues at d f here (subst (λ m. due_of m dues ≡ Some f) s due) in omega (arith, q)) (before_or i at lt))
+lower_of dues at t d false e here so =
+    let l : t ≤ d = ltb-false d t (sym e) in
+    (so.0, λ i f lt due. ⊎_elim (λ p. so.1 i f p due) (λ s. let q = same_due dues at d f here (subst (λ m. due_of m dues ≡ Some f) s due) in omega (arith, q, l)) (before_or i at lt))
+
+pub so_far_on : (dues : List (Option ℕ)) (at : ℕ) (o v : Option ℕ) → v ≡ due_of at dues → IsLeastSoFar dues at o → IsLeastSoFar dues (at + 1) (earlier o v)
+so_far_on dues at None None e so = λ i l. ⊎_elim (λ p. so i p) (λ s. subst (λ m. due_of m dues ≡ None) (sym s) (sym e)) (before_or i at l)
+so_far_on dues at None (Some d) e so =
+    ((at, sym e), λ i f lt due. ⊎_elim (λ p. absurd (none_armed dues i f (so i p) due)) (λ s. let q = same_due dues at d f (sym e) (subst (λ m. due_of m dues ≡ Some f) s due) in omega (arith, q)) (before_or i at lt))
+so_far_on dues at (Some t) None e so =
+    (so.0, λ i f lt due. ⊎_elim (λ p. so.1 i f p due) (λ s. absurd (none_armed dues at f (sym e) (subst (λ m. due_of m dues ≡ Some f) s due))) (before_or i at lt))
+so_far_on dues at (Some t) (Some d) e so = lower_of dues at t d (nat_lt d t) refl (sym e) so
+
+none_beyond : (dues : List (Option ℕ)) (i : ℕ) → length dues ≤ i → due_of i dues ≡ None
+none_beyond [] i l = refl
+none_beyond (o ∷ dues) zero l = absurd (omega (arith, l))
+none_beyond (o ∷ dues) (suc i) l = none_beyond dues i (let h : suc (length dues) ≤ suc i = l in omega (arith, h))
+
+pub so_far_all : (dues : List (Option ℕ)) (at : ℕ) (o : Option ℕ) → length dues ≤ at → IsLeastSoFar dues at o → MatchOption o (NoneIsArmed dues) (λ t. IsLeastDue dues t)
+so_far_all dues at None l so = λ i. ⊎_elim (λ p. so i p) (λ p. none_beyond dues i (omega (arith, p, l))) (lt_or i at)
+so_far_all dues at (Some t) l so = record { holds = so.0; least = λ i d due. so.1 i d (let p = armed_inside dues i d due in omega (arith, p, l)) due }
+
+pub read_at : (dues : List (Option ℕ)) (at : ℕ) (v : Option ℕ) → v ≡ get_or dues at v → at < length dues → v ≡ due_of at dues
+read_at dues at v e l = e ∙ get_or_default dues at v None l

@@ -1,0 +1,6 @@
+mod Filing
+mod Holding
+mod Moving
+mod Order
+mod Stands
+mod Walking

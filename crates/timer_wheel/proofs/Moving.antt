@@ -1,0 +1,131 @@
+-- One turn of the loops that move nodes.
+use Rattle.std.proofs.Common.{◌≡◌, ◌≢◌, inl, inr, ⊎_elim, ℕ, ◌<◌, ◌≤◌, true, false, nat_lt, Option, Some, None, IfSome, MatchOption, List, [], length, slice_get, refl, sym, ap, subst, ◌∙◌, arith}
+use Rattle.raw_links.specs.Links.{Lists, list_at, stands_in, on_a_list, stands_at}
+use Rattle.timer_wheel.proofs.Order.{lt_or}
+use Rattle.timer_wheel.specs.Bits.{is_set, ChangesBit, IsLowestSet}
+use Rattle.timer_wheel.specs.Slots.{AreMarked, list_for}
+use Rattle.timer_wheel.specs.Moves.{IsSized, IsTaken, IsDue, IsMoved, with_last, StandsBelow, AreEmptyBelow, AreDraining, AreRefiling}
+use Rattle.raw_links.proofs.Chains.{equal}
+use Rattle.raw_links.proofs.Standing.{head_in, no_head, put_stays, put_there, put_back, put_other}
+use Rattle.timer_wheel.proofs.Stands.{taken_stays, taken_back, length_taken, shorter_at}
+
+pub set_stays : (n i : ℕ) (old new : List ℕ) → ChangesBit n true old new → is_set i old ≡ true → is_set i new ≡ true
+set_stays n i old new c h = ⊎_elim (λ same. rw same c.changed) (λ other. c.others i other ∙ h) (equal i n)
+
+pub found_below : (links : Lists) (words : List ℕ) (k target : ℕ) (o : Option ℕ) → IsSized links words → AreMarked links.lists words → IsLowestSet words k → k < target
+    → o ≡ slice_get (list_at links.lists k) 0 → IfSome o (λ n. (n < links.nodes) × (on_a_list n links.lists ≡ true))
+    → MatchOption o (AreEmptyBelow target links.lists) (λ n. (n < 1024) × StandsBelow target links.lists n)
+found_below links words k target None sized marked lowest l head stands =
+    let empty : list_at links.lists k ≡ [] = no_head (list_at links.lists k) head in
+    let some : nat_lt 0 (length (list_at links.lists k)) ≡ true = sym (marked k) ∙ lowest.itself in
+    let none : nat_lt 0 (length (list_at links.lists k)) ≡ false = rw empty refl in
+    cc
+found_below links words k target (Some n) sized marked lowest l head stands =
+    (omega (arith, stands.0, sized.nodes), (k, l, head_in n (list_at links.lists k) head))
+
+-- ---- lists below the target are drained
+
+pub draining_start : (target : ℕ) (lists : List (List ℕ)) (passed : List ℕ) → AreDraining target lists lists passed passed
+draining_start target lists passed = record {
+  kept = λ k l. refl;
+  within = λ i k l h. h;
+  moved = λ i k l h. inl h;
+  stays = λ i h. h;
+  only = λ i h. inl h;
+}
+
+pub draining_step : (target n : ℕ) (old now new : List (List ℕ)) (passed p q : List ℕ) → AreDraining target old now passed p → StandsBelow target now n → IsTaken n now new
+    → ChangesBit n true p q → AreDraining target old new passed q
+draining_step target n old now new passed p q d (j, lj, h) t c = record {
+  kept = λ k l. t.others j k h (λ e. omega (arith, e, l, lj)) ∙ d.kept k l;
+  within = λ i k l s. d.within i k l (taken_back n i k now new t s).0;
+  moved = λ i k l s. ⊎_elim
+      (λ stands. ⊎_elim (λ same. inr (rw same c.changed)) (λ other. inl (taken_stays n i k now new t other ∙ stands)) (equal i n))
+      (λ gone. inr (set_stays n i p q c gone)) (d.moved i k l s);
+  stays = λ i s. set_stays n i p q c (d.stays i s);
+  only = λ i s. ⊎_elim
+      (λ same. inr (rw same (j, lj, d.within n j lj h)))
+      (λ other. d.only i (sym (c.others i other) ∙ s)) (equal i n);
+}
+
+-- ---- one list is filed anew
+
+pub refiling_start : (target to : ℕ) (dues : List (Option ℕ)) (lists : List (List ℕ)) (passed : List ℕ) → AreRefiling target to dues lists lists passed passed
+refiling_start target to dues lists passed = record {
+  kept = λ i k other h. h;
+  within = λ i h. h;
+  gone = λ i d h due l. inl h;
+  later = λ i d h due l. inl h;
+  stays = λ i h. h;
+  only_later = λ i k h. inl h;
+  only_gone = λ i h. inl h;
+}
+
+one_due : (dues : List (Option ℕ)) (n d e : ℕ) → IsDue dues n d → IsDue dues n e → d ≡ e
+one_due dues n d e h g = let s : Some d ≡ Some e = sym h ∙ g in cc
+
+refiling_gone : (target to n d : ℕ) (dues : List (Option ℕ)) (old now new : List (List ℕ)) (passed p q : List ℕ) → AreRefiling target to dues old now passed p
+    → stands_at n target now ≡ true → IsDue dues n d → d ≤ to → IsTaken n now new → ChangesBit n true p q → AreRefiling target to dues old new passed q
+refiling_gone target to n d dues old now new passed p q r h due le t c = record {
+  kept = λ i k other s. ap (λ (xs : List ℕ). stands_in i xs) (t.others target k h other) ∙ r.kept i k other s;
+  within = λ i s. r.within i (taken_back n i target now new t s).0;
+  gone = λ i e s g l. ⊎_elim
+      (λ stands. ⊎_elim (λ same. inr (rw same c.changed)) (λ other. inl (taken_stays n i target now new t other ∙ stands)) (equal i n))
+      (λ set. inr (set_stays n i p q c set)) (r.gone i e s g l);
+  later = λ i e s g l. ⊎_elim
+      (λ same. absurd (let g' : IsDue dues n e = subst (λ m. IsDue dues m e) same g in let q' = one_due dues n d e due g' in omega (arith, q', l, le)))
+      (λ other. ⊎_elim (λ stands. inl (taken_stays n i target now new t other ∙ stands)) (λ stands. inr (taken_stays n i (list_for to e) now new t other ∙ stands)) (r.later i e s g l))
+      (equal i n);
+  stays = λ i s. set_stays n i p q c (r.stays i s);
+  only_later = λ i k s. r.only_later i k (taken_back n i k now new t s).0;
+  only_gone = λ i s. ⊎_elim
+      (λ same. inr (rw same (r.within n h, (d, due, le))))
+      (λ other. r.only_gone i (sym (c.others i other) ∙ s)) (equal i n);
+}
+
+refiling_later : (target to n d : ℕ) (dues : List (Option ℕ)) (old now mid : List (List ℕ)) (passed p : List ℕ) → AreRefiling target to dues old now passed p
+    → stands_at n target now ≡ true → IsDue dues n d → to < d → list_for to d ≢ target → list_for to d < length mid → IsTaken n now mid
+    → AreRefiling target to dues old (with_last (list_for to d) n mid) passed p
+refiling_later target to n d dues old now mid passed p r h due lt apart inside t =
+    let k' = list_for to d in
+    record {
+      kept = λ i k other s. put_stays n k' mid i k inside (ap (λ (xs : List ℕ). stands_in i xs) (t.others target k h other) ∙ r.kept i k other s);
+      within = λ i s. ⊎_elim (λ m. r.within i (taken_back n i target now mid t m).0) (λ e. absurd (apart (sym e.1))) (put_back n k' mid i target inside s);
+      gone = λ i e s g l. ⊎_elim
+          (λ same. absurd (let g' : IsDue dues n e = subst (λ m. IsDue dues m e) same g in let q' = one_due dues n d e due g' in omega (arith, q', l, lt)))
+          (λ other. ⊎_elim (λ stands. inl (put_stays n k' mid i target inside (taken_stays n i target now mid t other ∙ stands))) (λ set. inr set) (r.gone i e s g l))
+          (equal i n);
+      later = λ i e s g l. ⊎_elim
+          (λ same. inr (let g' : IsDue dues n e = subst (λ m. IsDue dues m e) same g in
+          rw (same, ← one_due dues n d e due g') (put_there n k' mid inside)))
+          (λ other. ⊎_elim
+          (λ stands. inl (put_stays n k' mid i target inside (taken_stays n i target now mid t other ∙ stands)))
+          (λ stands. inr (put_stays n k' mid i (list_for to e) inside (taken_stays n i (list_for to e) now mid t other ∙ stands)))
+          (r.later i e s g l))
+          (equal i n);
+      stays = r.stays;
+      only_later = λ i k s. ⊎_elim
+          (λ m. r.only_later i k (taken_back n i k now mid t m).0)
+          (λ e. inr (rw (e.0) (r.within n h, (d, due, lt, e.1))))
+          (put_back n k' mid i k inside s);
+      only_gone = r.only_gone;
+    }
+
+pub refiling_step : (target to n d : ℕ) (dues : List (Option ℕ)) (old now new : List (List ℕ)) (passed p q : List ℕ) → AreRefiling target to dues old now passed p
+    → stands_at n target now ≡ true → IsDue dues n d → (to < d → list_for to d ≢ target) → (to < d → list_for to d < length now) → IsMoved to n d now new p q
+    → AreRefiling target to dues old new passed q
+refiling_step target to n d dues old now new passed p q r h due apart inside (mid, t, f) =
+    ⊎_elim
+    (λ lt. let w = f.later lt in rw (w.0, w.1)
+    (refiling_later target to n d dues old now mid passed p r h due lt (apart lt) (let l = inside lt in omega (arith, l, length_taken n now mid t)) t))
+    (λ le. let w = f.gone le in rw (w.0) (refiling_gone target to n d dues old now mid passed p q r h due le t w.1))
+    (lt_or to d)
+
+pub refiling_less : (target to n d : ℕ) (now new : List (List ℕ)) (p q : List ℕ) → stands_at n target now ≡ true → (to < d → list_for to d ≢ target) → IsMoved to n d now new p q
+    → length (list_at new target) < length (list_at now target)
+refiling_less target to n d now new p q h apart (mid, t, f) =
+    let less = shorter_at n target now mid t h in
+    ⊎_elim
+    (λ lt. let w = f.later lt in rw (w.0) (let o = put_other n (list_for to d) mid target (λ e. apart lt (sym e)) in rw o less))
+    (λ le. let w = f.gone le in rw (w.0) less)
+    (lt_or to d)

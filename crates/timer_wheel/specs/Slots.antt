@@ -1,0 +1,45 @@
+-- Due ticks in the slots of a wheel that stands at a base: which item stands where (this project's own).
+use Rattle.std.specs.Prelude.{◌≡◌, ◌⊎◌, ℕ, ◌-◌, ◌*◌, ◌^◌, ◌<◌, ◌≤◌, true, nat_lt, List, Option, Some, length}
+use Rattle.raw_links.specs.Links.{list_at, stands_in, stands_at}
+use Rattle.timer_wheel.specs.Places.{place, list_of}
+use Rattle.timer_wheel.specs.Bits.{is_set}
+use Rattle.timer_wheel.specs.Dues.{due_of}
+
+-- the due ticks, and the tick at which the wheel stands
+pub record Placed : Type 0 where
+  pub dues : List (Option ℕ)
+  pub base : ℕ
+
+-- the list of a due tick, one of 64 for each of eleven levels
+abbrev pub list_for : ℕ → ℕ → ℕ
+list_for base due = list_of (place 11 base due)
+
+-- the bits of just the lists that are not empty are set
+abbrev pub AreMarked : List (List ℕ) → List ℕ → Type 0
+AreMarked lists occupied = (k : ℕ) → is_set k occupied ≡ nat_lt 0 (length (list_at lists k))
+
+-- an item that is due after the base stands in the list of its due tick, one that has passed in the set of those
+pub record AreFiled (base : ℕ) (dues : List (Option ℕ)) (lists : List (List ℕ)) (passed : List ℕ) : Type 0 where
+  pub later : (i d : ℕ) → due_of i dues ≡ Some d → base < d → stands_at i (list_for base d) lists ≡ true
+  pub gone : (i d : ℕ) → due_of i dues ≡ Some d → d ≤ base → is_set i passed ≡ true
+  pub only_later : (i k : ℕ) → stands_at i k lists ≡ true → (d : ℕ) × (due_of i dues ≡ Some d) × (base < d) × (k ≡ list_for base d)
+  pub only_gone : (i : ℕ) → is_set i passed ≡ true → (d : ℕ) × (due_of i dues ≡ Some d) × (d ≤ base)
+
+-- no item that is due after the base is due before this tick, and one is due then, or none at all
+pub record IsLeastLater (base : ℕ) (dues : List (Option ℕ)) (tick : ℕ) : Type 0 where
+  pub least : (i d : ℕ) → due_of i dues ≡ Some d → base < d → tick ≤ d
+  pub holds : (tick ≡ 2 ^ 64 - 1) ⊎ ((i : ℕ) × (due_of i dues ≡ Some tick) × (base < tick))
+
+abbrev pub AreSmall : List (Option ℕ) → Type 0
+AreSmall dues = (i d : ℕ) → due_of i dues ≡ Some d → d ≤ 2 * 10 ^ 18
+
+-- no item of the list is due before this tick, and one is due then, or none at all
+pub record IsLeastOf (dues : List (Option ℕ)) (items : List ℕ) (tick : ℕ) : Type 0 where
+  pub least : (i d : ℕ) → stands_in i items ≡ true → due_of i dues ≡ Some d → tick ≤ d
+  pub holds : (tick ≡ 2 ^ 64 - 1) ⊎ ((i : ℕ) × (stands_in i items ≡ true) × (due_of i dues ≡ Some tick))
+
+-- what a wheel keeps beside its slots: the least later due tick, and the last now
+pub record IsCached (slots : Placed) (least last : ℕ) : Type 0 where
+  pub later : IsLeastLater slots.base slots.dues least
+  pub behind : slots.base ≤ last
+  pub small : AreSmall slots.dues

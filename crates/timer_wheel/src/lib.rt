@@ -1,0 +1,168 @@
+//! The due ticks of up to 1,024 items, in a wheel of eleven levels of 64 slots.
+//!
+//! Contracts see a finite map from item number to due tick, and the last `now` of `pop_due`; `specs/Dues.antt` states what each call
+//! answers. The wheel stands at a tick that is at most that last `now`. An item that is due later stands on the list of its slot, a
+//! word of bits for each level tells which slots are taken, and an item whose tick has passed is a bit of a set, so that the least
+//! number is found at once. The least later due tick is kept, so that `next` searches no slot. No call after `open` takes memory.
+#![tactic(auto)]
+
+ghost use Rattle.std.specs.Prelude.{◌≡◌, ◌≢◌, ◌≤◌, ◌<◌, ◌*◌, ◌^◌, ℕ, None, Some, true, false, length, replicate, slice_set, IfOk, MatchOption};
+ghost use Rattle.timer_wheel.specs.Dues.{due_of, NoneIsArmed, IsLeastDue, NoneIsDue, IsFirstDue, earlier};
+ghost use Rattle.timer_wheel.specs.Slots.{IsLeastLater};
+
+mod bits;
+mod moves;
+mod places;
+mod slots;
+
+use slots::Slots;
+use std::alloc::{AllocError, Global};
+use std::marker::Model;
+use tick_num::{ItemId, Tick};
+
+/// Items and their due ticks.
+#[derive(Drop)]
+pub struct Wheel {
+    slots: Slots,
+    // the least due tick after that of the slots
+    least: u64,
+    last: u64,
+}
+
+impl Model for Wheel {
+    ghost use Rattle.timer_wheel.specs.Dues.{Dues};
+    ghost use Rattle.timer_wheel.specs.Slots.{IsCached};
+
+    ghost Value = { Dues };
+
+    ghost view = { λ w. record { dues = w.slots.dues; last = w.last } };
+
+    ghost invariant = { λ w. IsCached w.slots w.least w.last };
+}
+
+/// Whether that is the due tick.
+fn is_due_at(due: Option<Tick>, tick: u64) -> bool
+    ensures { result ≡ false → due ≢ Some tick }
+{
+    match due {
+        Some(d) => d.get() == tick,
+        None => false,
+    }
+}
+
+/// The least due tick of all. None exactly where nothing is armed.
+fn least_of(dues: &[Option<Tick>]) -> Option<Tick>
+    ensures { MatchOption result (NoneIsArmed dues.now) (λ tick. IsLeastDue dues.now tick) }
+{
+    let mut least = None;
+    let mut at = 0;
+    while at < dues.len() {
+        least = earlier(least, dues[at]);
+        at += 1;
+    }
+    least
+}
+
+/// The earlier of the two.
+fn earlier(one: Option<Tick>, other: Option<Tick>) -> Option<Tick>
+    ensures { result ≡ earlier one other }
+{
+    let Some(a) = one else {
+        return other;
+    };
+    let Some(b) = other else {
+        return one;
+    };
+    if b < a { other } else { one }
+}
+
+/// Where an item is due by now, the slots go on to now. The answer is the least due tick after theirs.
+fn caught_up(slots: &mut Slots, least: u64, now: u64) -> u64
+    requires least { IsLeastLater slots.old.base slots.old.dues least }
+    requires now { (slots.old.base ≤ now) × (now ≤ 2 * 10 ^ 18) }
+    ensures dues { slots.new.dues ≡ slots.old.dues }
+    ensures base { slots.new.base ≤ now }
+    ensures least { IsLeastLater slots.new.base slots.new.dues result }
+    ensures settled { now < result }
+{
+    if now < least {
+        return least;
+    }
+    slots.advance(now);
+    slots.least_later()
+}
+
+impl Wheel {
+    /// A wheel for items with numbers below `ids`, none of which is armed.
+    pub fn open(alloc: Global, ids: u32) -> Result<Wheel, AllocError>
+        requires { ids ≤ 1024 }
+        ensures { IfOk result (λ w. w ≡ record { dues = replicate ids None; last = 0 }) }
+    {
+        let slots = Slots::open(alloc, ids)?;
+        Ok(Wheel {
+            slots,
+            least: u64::MAX,
+            last: 0,
+        })
+    }
+
+    /// The item falls due at that tick, which may have passed.
+    pub fn arm(&mut self, id: ItemId, due: Tick)
+        requires { (id.number < length self.old.dues) × (due_of id.number self.old.dues ≡ None) }
+        ensures { self.new ≡ record self.old { dues = slice_set self.old.dues id.number (Some due) } }
+    {
+        self.slots.arm(id.number, due);
+        if due.get() > self.slots.base() && due.get() < self.least {
+            self.least = due.get();
+        }
+    }
+
+    /// The item is not armed afterwards.
+    pub fn disarm(&mut self, id: ItemId)
+        requires { id.number < length self.old.dues }
+        ensures { self.new ≡ record self.old { dues = slice_set self.old.dues id.number None } }
+    {
+        let due = self.slots.due_of(id.number);
+        self.slots.disarm(id.number);
+        if is_due_at(due, self.least) {
+            self.least = self.slots.least_later();
+        }
+    }
+
+    /// The due tick of the item. None exactly where it is not armed.
+    pub fn due_of(&self, id: ItemId) -> Option<Tick>
+        requires { id.number < length self.now.dues }
+        ensures { result ≡ due_of id.number self.now.dues }
+    {
+        self.slots.due_of(id.number)
+    }
+
+    /// The least due tick. None exactly where nothing is armed.
+    pub fn next(&self) -> Option<Tick>
+        ensures { MatchOption result (NoneIsArmed self.now.dues) (λ tick. IsLeastDue self.now.dues tick) }
+    {
+        match self.slots.first_passed() {
+            Some(_) => least_of(self.slots.dues()),
+            None => Tick::try_new(self.least),
+        }
+    }
+
+    /// Takes out the item with the least number that is due at or before now. None exactly where none is.
+    pub fn pop_due(&mut self, now: Tick) -> Option<ItemId>
+        requires { self.old.last ≤ now }
+        ensures item { MatchOption result (NoneIsDue now self.old.dues) (λ id. IsFirstDue now self.old.dues id.number) }
+        ensures gone { MatchOption result (self.new.dues ≡ self.old.dues) (λ id. self.new.dues ≡ slice_set self.old.dues id.number None) }
+        ensures last { self.new.last ≡ now }
+    {
+        self.last = now.get();
+        self.least = caught_up(&mut self.slots, self.least, now.get());
+        let Some(number) = self.slots.first_passed() else {
+            return None;
+        };
+        self.slots.disarm(number);
+        Some(ItemId { number })
+    }
+}
+
+#[cfg(test)]
+mod tests;

@@ -1,0 +1,144 @@
+// Nodes that leave the lists of a wheel, or come to stand on them.
+ghost use Rattle.std.specs.Prelude.{◌≡◌, ◌<◌, ◌≤◌, ◌*◌, ◌^◌, [], ℕ, true, false, length, MatchOption, IfSome};
+ghost use Rattle.raw_links.specs.Links.{list_at, on_a_list, stands_at};
+ghost use Rattle.timer_wheel.specs.Slots.{AreMarked, AreSmall};
+ghost use Rattle.timer_wheel.specs.Moves.{IsSized, IsTaken, IsFiled, IsDue, IsMoved, with_last, StandsBelow, AreEmptyBelow, AreDraining, AreToRefile, AreRefiling};
+
+use crate::bits::Bits;
+use crate::places::place_in;
+use raw_links::Links;
+use tick_num::Tick;
+
+/// Takes the node out of its list.
+pub(crate) fn take(links: &mut Links, occupied: &mut Bits, node: u32)
+    requires sized { IsSized links.old occupied.old.words.items }
+    requires marked { AreMarked links.old.lists occupied.old.words.items }
+    requires node { (node < 1024) × (on_a_list node links.old.lists ≡ true) }
+    ensures sized { IsSized links.new occupied.new.words.items }
+    ensures marked { AreMarked links.new.lists occupied.new.words.items }
+    ensures taken { IsTaken node links.old.lists links.new.lists }
+{
+    links.stand_once();
+    let Some(list) = links.list_of(node) else {
+        return;
+    };
+    links.unlink(node);
+    let left = links.front(list).is_some();
+    occupied.set(list, left);
+}
+
+/// Makes the node the last of a list.
+fn put(links: &mut Links, occupied: &mut Bits, list: u32, node: u32)
+    requires sized { IsSized links.old occupied.old.words.items }
+    requires marked { AreMarked links.old.lists occupied.old.words.items }
+    requires node { (node < 1024) × (list < 704) × (on_a_list node links.old.lists ≡ false) }
+    ensures sized { IsSized links.new occupied.new.words.items }
+    ensures marked { AreMarked links.new.lists occupied.new.words.items }
+    ensures put { links.new.lists ≡ with_last list node links.old.lists }
+{
+    links.push_back(list, node);
+    occupied.set(list, true);
+}
+
+/// Puts the node into the list of its due tick, or into the set of passed items.
+pub(crate) fn file(
+    links: &mut Links,
+    occupied: &mut Bits,
+    passed: &mut Bits,
+    base: u64,
+    node: u32,
+    due: u64,
+)
+    requires sized { IsSized links.old occupied.old.words.items × (length passed.old.words.items ≡ 16) }
+    requires marked { AreMarked links.old.lists occupied.old.words.items }
+    requires node { (node < 1024) × (due ≤ 2 * 10 ^ 18) × (on_a_list node links.old.lists ≡ false) }
+    ensures sized { IsSized links.new occupied.new.words.items × (length passed.new.words.items ≡ 16) }
+    ensures marked { AreMarked links.new.lists occupied.new.words.items }
+    ensures filed { IsFiled base node due links.old.lists links.new.lists passed.old.words.items passed.new.words.items }
+{
+    if due <= base {
+        passed.set(node, true);
+        return;
+    }
+    let (level, slot) = place_in(11, base, due);
+    put(links, occupied, level * 64 + slot, node);
+}
+
+/// The head of the lowest list that is not empty, if that is below the target.
+fn first_below(links: &Links, occupied: &Bits, target: u32) -> Option<u32>
+    requires sized { IsSized links.now occupied.now.words.items }
+    requires marked { AreMarked links.now.lists occupied.now.words.items }
+    ensures node { MatchOption result (AreEmptyBelow target links.now.lists) (λ node. (node < 1024) × StandsBelow target links.now.lists node) }
+    ensures on { IfSome result (λ node. on_a_list node links.now.lists ≡ true) }
+{
+    let Some(list) = occupied.lowest() else {
+        return None;
+    };
+    if list >= target {
+        return None;
+    }
+    links.front(list)
+}
+
+/// Moves the nodes of the lists below the target into the set of passed items.
+pub(crate) fn drain(links: &mut Links, occupied: &mut Bits, passed: &mut Bits, target: u32)
+    requires sized { IsSized links.old occupied.old.words.items × (length passed.old.words.items ≡ 16) }
+    requires marked { AreMarked links.old.lists occupied.old.words.items }
+    ensures sized { IsSized links.new occupied.new.words.items × (length passed.new.words.items ≡ 16) }
+    ensures marked { AreMarked links.new.lists occupied.new.words.items }
+    ensures empty { AreEmptyBelow target links.new.lists }
+    ensures drained { AreDraining target links.old.lists links.new.lists passed.old.words.items passed.new.words.items }
+{
+    let mut first = first_below(links, occupied, target);
+    while let Some(node) = first {
+        take(links, occupied, node);
+        passed.set(node, true);
+        first = first_below(links, occupied, target);
+    }
+}
+
+/// Takes the node out of its list, and files it anew.
+fn refile_one(
+    links: &mut Links,
+    occupied: &mut Bits,
+    passed: &mut Bits,
+    dues: &[Option<Tick>],
+    to: u64,
+    node: u32,
+)
+    requires sized { IsSized links.old occupied.old.words.items × (length passed.old.words.items ≡ 16) }
+    requires marked { AreMarked links.old.lists occupied.old.words.items }
+    requires node { (node < 1024) × (on_a_list node links.old.lists ≡ true) × (node < length dues.now) × AreSmall dues.now }
+    ensures sized { IsSized links.new occupied.new.words.items × (length passed.new.words.items ≡ 16) }
+    ensures marked { AreMarked links.new.lists occupied.new.words.items }
+    ensures moved { (d : ℕ) → IsDue dues.now node d → IsMoved to node d links.old.lists links.new.lists passed.old.words.items passed.new.words.items }
+{
+    take(links, occupied, node);
+    if let Some(due) = dues[node as usize] {
+        file(links, occupied, passed, to, node, due.get());
+    }
+}
+
+/// Files the nodes of one list anew, as the wheel stands at `to`.
+pub(crate) fn refile(
+    links: &mut Links,
+    occupied: &mut Bits,
+    passed: &mut Bits,
+    dues: &[Option<Tick>],
+    target: u32,
+    to: u64,
+)
+    requires sized { IsSized links.old occupied.old.words.items × (length passed.old.words.items ≡ 16) × (target < 704) }
+    requires marked { AreMarked links.old.lists occupied.old.words.items }
+    requires nodes { AreToRefile target to dues.now links.old.lists × AreSmall dues.now }
+    ensures sized { IsSized links.new occupied.new.words.items × (length passed.new.words.items ≡ 16) }
+    ensures marked { AreMarked links.new.lists occupied.new.words.items }
+    ensures empty { list_at links.new.lists target ≡ [] }
+    ensures refiled { AreRefiling target to dues.now links.old.lists links.new.lists passed.old.words.items passed.new.words.items }
+{
+    let mut first = links.front(target);
+    while let Some(node) = first {
+        refile_one(links, occupied, passed, dues, to, node);
+        first = links.front(target);
+    }
+}
