@@ -1,5 +1,5 @@
--- Which forms of lines are built, and that each line that is read has such a form. The forms of calls are those whose calls the kernel
--- carries out; where a row of the table of patterns is turned, only what is named here of declarations has to follow it.
+-- Which forms of lines are built, and that each line that is read has such a form. A call's form is built where its calls are
+-- (machine_flat.specs.Built.is_built), so of a row of the table of patterns that is turned only a declaration's has to be turned here too.
 use Rattle.std.proofs.Common.{ℕ, ◌≡◌, ◌+◌, List, [], ◌∷◌, Option, None, Some, Bool, true, false, not, refl, sym, subst}
 use Rattle.std.specs.Prelude.{◌&&◌, ◌||◌, cond, find}
 use Rattle.std.specs.List.{list_all}
@@ -15,20 +15,33 @@ use Rattle.script_table.specs.Table.{patterns, declaration_patterns, step_patter
 use Rattle.script_table.specs.LineFaults.{fits, fitting}
 use Rattle.script_table.specs.Structure.{row_of_line, said_from}
 use Rattle.script_table.specs.Read.{said}
+use Rattle.script_table.specs.Ranges.{object_kind}
+use Rattle.script_text.specs.declared.names.Sort.{Sort}
+use Rattle.script_text.specs.declared.names.Sort.TheVariants as sort
 use Rattle.machine_flat.specs.Built.{is_built}
 use Rattle.canonical_law.proofs.Apart.{found_passes}
 use Rattle.canonical_law.proofs.LineLaws.{some_found}
 use Rattle.canonical_law.proofs.Places.{nothing_said, said_none, said_some}
+use Rattle.canonical_law.proofs.Shown.{sort_for}
 use Rattle.canonical_law.proofs.Table.{table_now}
 use Rattle.script_bounds.proofs.Calls.{example}
 use Rattle.script_bounds.proofs.EachDecl.{EachSaid}
 
--- no objects and no actions yet
+-- which kinds of things are built, and whether actions are
+abbrev pub is_built_sort : Sort → Bool
+is_built_sort sort.Thread = true
+is_built_sort sort.Handler = true
+is_built_sort sort.Cleanup = true
+is_built_sort other = false
+
+abbrev pub builds_actions : Bool
+builds_actions = false
+
 abbrev pub is_built_form : Form → Bool
 is_built_form (form.Call f) = is_built (example f)
 is_built_form (form.Block block.Push) = is_built (Push 0) && (is_built (Pop true) && is_built (Pop false))
-is_built_form (form.Object f) = false
-is_built_form (form.Action f) = false
+is_built_form (form.Object f) = is_built_sort (sort_for (object_kind f))
+is_built_form (form.Action f) = builds_actions
 is_built_form other = true
 
 abbrev pub IsBuiltForm : Form → List (List ℕ) → Type 0

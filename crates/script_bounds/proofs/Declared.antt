@@ -1,87 +1,127 @@
 -- What a line declares can be run, where its form is built, and what follows of all that is declared.
-use Rattle.std.proofs.Common.{ℕ, ◌≡◌, List, [], ◌∷◌, Option, None, Some, true, false, refl, sym, subst}
+use Rattle.std.proofs.Common.{ℕ, ◌≡◌, List, [], ◌∷◌, Option, None, Some, Bool, true, false, refl, sym, subst}
 use Rattle.std.specs.Prelude.{All, filter_map, fold}
 use Rattle.std.specs.Option.{IfSome}
 use Rattle.std.proofs.lemmas.List.Elements.{All-nil, All-cons, All-append}
 use Rattle.script_tree.specs.Block.{Block}
 use Rattle.script_tree.specs.declared.call.Call.{Call}
 use Rattle.script_tree.specs.declared.policy.Policy.{Policy}
+use Rattle.script_tree.specs.declared.decl.Kind.{Kind}
 use Rattle.script_tree.specs.declared.decl.Kind.TheVariants as kinds
 use Rattle.script_tree.specs.declared.decl.Decl.{Decl}
 use Rattle.script_tree.specs.declared.decl.Decl.TheVariants.{Named, Action}
 use Rattle.script_flat.specs.Flat.{Bodies, no_bodies, with_decl, with_decls, bodies_of}
 use Rattle.script_table.specs.declared.form.Form.TheVariants as form
 use Rattle.script_table.specs.declared.form.ObjectForm.{ObjectForm}
+use Rattle.script_table.specs.declared.form.ObjectForm.TheVariants as object
 use Rattle.script_table.specs.declared.form.ActionForm.{ActionForm}
+use Rattle.script_table.specs.declared.form.ActionForm.TheVariants as action
 use Rattle.script_table.specs.declared.form.BodyForm.{BodyForm}
 use Rattle.script_table.specs.declared.form.BodyForm.TheVariants as body
+use Rattle.script_table.specs.declared.pattern.NameKind.TheVariants.{Handler}
 use Rattle.script_table.specs.Names.{Entry}
-use Rattle.script_table.specs.Operands.{map_two, amount_at, name_at, fifo_at, rr_at, sporadic_at}
-use Rattle.script_table.specs.Meaning.{object_decl, action_decl, thread_at, thread_dormant, body_decl}
+use Rattle.script_table.specs.Operands.{map_two, number_in, amount_at, priority_at, signal_at, name_at, named_at, fifo_at, rr_at, sporadic_at}
+use Rattle.script_table.specs.Meaning.{protect, queue, kind_of_object, object_decl, ignores, runs, action_decl, thread_at, thread_dormant, kind_of_body, body_decl}
+use Rattle.script_text.specs.declared.names.Sort.TheVariants as sort
+use Rattle.script_text.specs.Names.{sort_of}
 use Rattle.machine_rules.specs.declared.signal.SigAction.{SigAction}
 use Rattle.machine_rules.specs.Declarations.{ThreadDecl, declared_thread, named, mutex_kind, semaphore_kind, queue_kind, timer_kind, with_action}
 use Rattle.machine_flat.specs.EachCall.{EachCall}
 use Rattle.machine_flat.specs.Runnable.{HasBudget}
+use Rattle.script_bounds.proofs.BuiltForms.{is_built_sort, builds_actions, is_built_form}
 use Rattle.script_bounds.proofs.Decls.{bodies_in, decl_more}
 use Rattle.script_bounds.proofs.EachDecl.{Each}
-use Rattle.script_bounds.proofs.Operands.{fifo_within, rr_within, sporadic_within}
-use Rattle.script_bounds.proofs.BuiltForms.{is_built_form}
+use Rattle.script_bounds.proofs.Operands.{mapped, mapped_two, Any, anything, fifo_within, rr_within, sporadic_within}
 
--- A thread's policy has a budget, and P holds of each call of each body. No other declaration is built yet.
+-- P holds of each call of a body, a thread's policy has a budget, and other things are of a kind that is built
+abbrev pub KindRuns : (Call → Type 0) → Kind → Type 0
+KindRuns P (kinds.Thread policy start steps) = HasBudget policy × EachCall P steps
+KindRuns P (kinds.Handler steps) = EachCall P steps
+KindRuns P (kinds.Cleanup steps) = EachCall P steps
+KindRuns P other = is_built_sort (sort_of other) ≡ true
+
 abbrev pub DeclRuns : (Call → Type 0) → Decl → Type 0
-DeclRuns P (Named name (kinds.Thread policy start steps)) = HasBudget policy × EachCall P steps
-DeclRuns P (Named name (kinds.Handler steps)) = EachCall P steps
-DeclRuns P (Named name (kinds.Cleanup steps)) = EachCall P steps
-DeclRuns P other = ⊥
+DeclRuns P (Named name kind) = KindRuns P kind
+DeclRuns P (Action sig handler) = builds_actions ≡ true
 
 module _ (P : Call → Type 0) where
   abbrev Runs : Decl → Type 0
   Runs d = DeclRuns P d
 
+  abbrev KindOf : Kind → Type 0
+  KindOf k = KindRuns P k
+
   -- what each line declares
+  named_runs : (name : Option (List ℕ)) (k : Option Kind) → IfSome k KindOf → IfSome (map_two Named name k) Runs
+  named_runs name k h = mapped_two Any KindOf Runs Named (λ name kind any runs. runs) name k (anything name) h
+
+  protect_runs : (recursive : Bool) (o : Option ℕ) → is_built_sort sort.Mutex ≡ true → IfSome (protect recursive o) KindOf
+  protect_runs recursive None built = tt
+  protect_runs recursive (Some ceiling) built = built
+
+  queue_runs : (nonblock : Bool) (o p : Option ℕ) → is_built_sort sort.Queue ≡ true → IfSome (queue nonblock o p) KindOf
+  queue_runs nonblock None p built = tt
+  queue_runs nonblock (Some depth) None built = tt
+  queue_runs nonblock (Some depth) (Some longest) built = built
+
+  kind_runs : (f : ObjectForm) (words : List (List ℕ)) → is_built_form (form.Object f) ≡ true → IfSome (kind_of_object f words) KindOf
+  kind_runs object.MutexNone words built = built
+  kind_runs object.MutexNoneRecursive words built = built
+  kind_runs object.MutexInherit words built = built
+  kind_runs object.MutexInheritRecursive words built = built
+  kind_runs object.MutexProtect words built = protect_runs false (priority_at 3 words) built
+  kind_runs object.MutexProtectRecursive words built = protect_runs true (priority_at 3 words) built
+  kind_runs object.Cond words built = built
+  kind_runs object.Sem words built = mapped Any KindOf kinds.Sem (λ n any. built) (number_in 0 32767 2 words) (anything (number_in 0 32767 2 words))
+  kind_runs object.Queue words built = queue_runs false (number_in 1 64 2 words) (number_in 1 65536 3 words) built
+  kind_runs object.QueueNonblock words built = queue_runs true (number_in 1 64 2 words) (number_in 1 65536 3 words) built
+  kind_runs object.Timer words built =
+      mapped_two Any Any KindOf kinds.Timer (λ sig value any more. built) (signal_at 2 words) (amount_at 3 words) (anything (signal_at 2 words)) (anything (amount_at 3 words))
+
   pub object_runs : (f : ObjectForm) (words : List (List ℕ)) → is_built_form (form.Object f) ≡ true → IfSome (object_decl f words) Runs
-  object_runs f words built = absurd (let e : false ≡ true = built in cc)
+  object_runs f words built = named_runs (name_at 1 words) (kind_of_object f words) (kind_runs f words built)
+
+  ignores_runs : (o : Option ℕ) → builds_actions ≡ true → IfSome (ignores o) Runs
+  ignores_runs None built = tt
+  ignores_runs (Some sig) built = built
+
+  handles_runs : (o p : Option ℕ) → builds_actions ≡ true → IfSome (runs o p) Runs
+  handles_runs None p built = tt
+  handles_runs (Some sig) None built = tt
+  handles_runs (Some sig) (Some h) built = built
 
   pub action_runs : (es : List Entry) (f : ActionForm) (words : List (List ℕ)) → is_built_form (form.Action f) ≡ true → IfSome (action_decl es f words) Runs
-  action_runs es f words built = absurd (let e : false ≡ true = built in cc)
+  action_runs es action.Ignore words built = ignores_runs (signal_at 1 words) built
+  action_runs es action.Run words built = handles_runs (signal_at 1 words) (named_at Handler es 3 words) built
 
-  at_runs : (name : Option (List ℕ)) (policy : Option Policy) (start : Option ℕ) (steps : Block) → EachCall P steps → IfSome policy HasBudget
-      → IfSome (map_two Named name (thread_at policy start steps)) Runs
-  at_runs None policy start steps inside budget = tt
-  at_runs (Some name) None start steps inside budget = tt
-  at_runs (Some name) (Some policy) None steps inside budget = tt
-  at_runs (Some name) (Some policy) (Some start) steps inside budget = (budget, inside)
+  at_runs : (policy : Option Policy) (start : Option ℕ) (steps : Block) → EachCall P steps → IfSome policy HasBudget → IfSome (thread_at policy start steps) KindOf
+  at_runs None start steps inside budget = tt
+  at_runs (Some policy) None steps inside budget = tt
+  at_runs (Some policy) (Some start) steps inside budget = (budget, inside)
 
-  dormant_runs : (name : Option (List ℕ)) (policy : Option Policy) (steps : Block) → EachCall P steps → IfSome policy HasBudget
-      → IfSome (map_two Named name (thread_dormant policy steps)) Runs
-  dormant_runs None policy steps inside budget = tt
-  dormant_runs (Some name) None steps inside budget = tt
-  dormant_runs (Some name) (Some policy) steps inside budget = (budget, inside)
+  dormant_runs : (policy : Option Policy) (steps : Block) → EachCall P steps → IfSome policy HasBudget → IfSome (thread_dormant policy steps) KindOf
+  dormant_runs None steps inside budget = tt
+  dormant_runs (Some policy) steps inside budget = (budget, inside)
 
-  handler_runs : (name : Option (List ℕ)) (steps : Block) → EachCall P steps → IfSome (map_two Named name (Some (kinds.Handler steps))) Runs
-  handler_runs None steps inside = tt
-  handler_runs (Some name) steps inside = inside
-
-  cleanup_runs : (name : Option (List ℕ)) (steps : Block) → EachCall P steps → IfSome (map_two Named name (Some (kinds.Cleanup steps))) Runs
-  cleanup_runs None steps inside = tt
-  cleanup_runs (Some name) steps inside = inside
+  own_kind_runs : (f : BodyForm) (words : List (List ℕ)) (steps : Block) → EachCall P steps → IfSome (kind_of_body f words steps) KindOf
+  own_kind_runs body.FifoAt words steps inside = at_runs (fifo_at 3 words) (amount_at 5 words) steps inside (fifo_within 3 words)
+  own_kind_runs body.FifoDormant words steps inside = dormant_runs (fifo_at 3 words) steps inside (fifo_within 3 words)
+  own_kind_runs body.RrAt words steps inside = at_runs (rr_at 3 words) (amount_at 5 words) steps inside (rr_within 3 words)
+  own_kind_runs body.RrDormant words steps inside = dormant_runs (rr_at 3 words) steps inside (rr_within 3 words)
+  own_kind_runs body.SporadicAt words steps inside = at_runs (sporadic_at words) (amount_at 9 words) steps inside (sporadic_within words)
+  own_kind_runs body.SporadicDormant words steps inside = dormant_runs (sporadic_at words) steps inside (sporadic_within words)
+  own_kind_runs body.Handler words steps inside = inside
+  own_kind_runs body.Cleanup words steps inside = inside
 
   pub body_runs : (f : BodyForm) (words : List (List ℕ)) (steps : Block) → EachCall P steps → IfSome (body_decl f words steps) Runs
-  body_runs body.FifoAt words steps inside = at_runs (name_at 1 words) (fifo_at 3 words) (amount_at 5 words) steps inside (fifo_within 3 words)
-  body_runs body.FifoDormant words steps inside = dormant_runs (name_at 1 words) (fifo_at 3 words) steps inside (fifo_within 3 words)
-  body_runs body.RrAt words steps inside = at_runs (name_at 1 words) (rr_at 3 words) (amount_at 5 words) steps inside (rr_within 3 words)
-  body_runs body.RrDormant words steps inside = dormant_runs (name_at 1 words) (rr_at 3 words) steps inside (rr_within 3 words)
-  body_runs body.SporadicAt words steps inside = at_runs (name_at 1 words) (sporadic_at words) (amount_at 9 words) steps inside (sporadic_within words)
-  body_runs body.SporadicDormant words steps inside = dormant_runs (name_at 1 words) (sporadic_at words) steps inside (sporadic_within words)
-  body_runs body.Handler words steps inside = handler_runs (name_at 1 words) steps inside
-  body_runs body.Cleanup words steps inside = cleanup_runs (name_at 1 words) steps inside
+  body_runs f words steps inside = named_runs (name_at 1 words) (kind_of_body f words steps) (own_kind_runs f words steps inside)
 
   -- the bodies
   body_holds : (d : Decl) → Runs d → All (EachCall P) (bodies_in (Some d))
   body_holds (Named name (kinds.Thread policy start steps)) h = All-cons (EachCall P) steps [] h.1 (All-nil (EachCall P))
   body_holds (Named name (kinds.Handler steps)) h = All-cons (EachCall P) steps [] h (All-nil (EachCall P))
   body_holds (Named name (kinds.Cleanup steps)) h = All-cons (EachCall P) steps [] h (All-nil (EachCall P))
-  body_holds other h = absurd h
+  body_holds other h = All-nil (EachCall P)
 
   bodies_hold : (decls : List Decl) (b : Bodies Block) → All (EachCall P) b.all → Each Runs decls → All (EachCall P) (with_decls (λ steps. steps) decls b).all
   bodies_hold [] b h all = h
@@ -101,31 +141,31 @@ module _ (P : Call → Type 0) where
       All-cons ThreadHasBudget (record { name = name; policy = policy; start = start; body = steps }) (filter_map declared_thread decls) h.0 all
   thread_case (Named name (kinds.Handler steps)) decls h all = all
   thread_case (Named name (kinds.Cleanup steps)) decls h all = all
-  thread_case other decls h all = absurd h
+  thread_case other decls h all = all
 
   pub all_budgets : (decls : List Decl) → Each Runs decls → All ThreadHasBudget (filter_map declared_thread decls)
   all_budgets [] all = All-nil ThreadHasBudget
   all_budgets (d ∷ decls) all = thread_case d decls all.0 (all_budgets decls all.1)
 
-  -- what is not declared
+  -- what is not declared, since it is not built yet
   none_read : {X : Type 0} (read : Decl → Option X) → ((d : Decl) → Runs d → read d ≡ None) → (decls : List Decl) → Each Runs decls → filter_map read decls ≡ []
   none_read read none [] all = refl
   none_read read none (d ∷ decls) all = rw (none d all.0) (none_read read none decls all.1)
 
   no_mutex : (d : Decl) → Runs d → named mutex_kind d ≡ None
-  no_mutex (Named name (kinds.Mutex protocol recursive)) h = absurd h
+  no_mutex (Named name (kinds.Mutex protocol recursive)) h = absurd (let e : false ≡ true = h in cc)
   no_mutex other h = refl
 
   no_semaphore : (d : Decl) → Runs d → named semaphore_kind d ≡ None
-  no_semaphore (Named name (kinds.Sem value)) h = absurd h
+  no_semaphore (Named name (kinds.Sem value)) h = absurd (let e : false ≡ true = h in cc)
   no_semaphore other h = refl
 
   no_queue : (d : Decl) → Runs d → named queue_kind d ≡ None
-  no_queue (Named name (kinds.Queue depth longest nonblock)) h = absurd h
+  no_queue (Named name (kinds.Queue depth longest nonblock)) h = absurd (let e : false ≡ true = h in cc)
   no_queue other h = refl
 
   no_timer : (d : Decl) → Runs d → named timer_kind d ≡ None
-  no_timer (Named name (kinds.Timer sig value)) h = absurd h
+  no_timer (Named name (kinds.Timer sig value)) h = absurd (let e : false ≡ true = h in cc)
   no_timer other h = refl
 
   pub no_mutexes : (decls : List Decl) → Each Runs decls → filter_map (named mutex_kind) decls ≡ []
@@ -143,4 +183,4 @@ module _ (P : Call → Type 0) where
   pub no_actions : (decls : List Decl) (actions : List SigAction) → Each Runs decls → fold with_action actions decls ≡ actions
   no_actions [] actions all = refl
   no_actions (Named name kind ∷ decls) actions all = no_actions decls actions all.1
-  no_actions (Action sig handler ∷ decls) actions all = absurd all.0
+  no_actions (Action sig handler ∷ decls) actions all = absurd (let e : false ≡ true = all.0 in cc)

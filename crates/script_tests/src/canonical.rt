@@ -6,7 +6,7 @@ use std::test::Fail;
 use task_script::read_script;
 
 // A text and its canonical text; the last four are the scripts of examples/.
-static TEXTS: [(&str, &str); 7] = [
+static TEXTS: [(&str, &str); 8] = [
     (
         "# c\nthread a fifo 007 at 0 # x\nrun 01\nend\n",
         "quantum 10\nthread a fifo 7 at 0\nrun 1\nend\n",
@@ -20,6 +20,10 @@ static TEXTS: [(&str, &str); 7] = [
             thread a fifo 255 at 1000000000000000000\nunless EAGAIN\nforever\nend\nend\nend\n",
         "quantum 7\nhandler h\nset 1\nend\ncleanup u\nadd 2\ntake\nend\n\
             thread a fifo 255 at 1000000000000000000\nunless EAGAIN\nforever\nend\nend\nend\n",
+    ),
+    (
+        "thread s sporadic 08 2 20 5 4 at 3\nnanosleep 010\ngettime\nend\nthread r rr 8 dormant\nsetprio s 7\nend\nthread m rr 9 at 0\ncreate r\nsetsched s fifo 9\nsetsched r rr 9\nsetsched m sporadic 9 1 50 50 16\nend\n",
+        "quantum 10\nthread s sporadic 8 2 20 5 4 at 3\nnanosleep 10\ngettime\nend\nthread r rr 8 dormant\nsetprio s 7\nend\nthread m rr 9 at 0\ncreate r\nsetsched s fifo 9\nsetsched r rr 9\nsetsched m sporadic 9 1 50 50 16\nend\n",
     ),
     (
         "# horizon 10\nthread a fifo 5 at 0\nrun 3\nend\n",

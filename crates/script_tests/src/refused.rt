@@ -73,7 +73,7 @@ static UNKNOWN_WORD: [Case; 19] = [
     case!(1 b"a\tb\n"),
     case!(1 b"strict\n"),
     case!(1 b"frob\n# \x80\n"),
-    case!(1 b"thread a rr 5 at 0\nend\n"),
+    case!(1 b"sem s 1\nthread a fifo 5 at 0\nend\n"),
     case!(1 b"thread a lifo 5 at 0\nend\n"),
     case!(1 b"thread a fifo 5 on 0\nend\n"),
     case!(1 b"QUANTUM 5\ncleanup u0\nend\n"),
@@ -85,7 +85,7 @@ static UNKNOWN_WORD: [Case; 19] = [
     case!(2 b"thread a fifo 5 at 0\nlock m\nend\n"),
     case!(2 b"thread a fifo 5 at 0\nexit 0\nend\n"),
     case!(1 b"cond c\nthread a fifo 5 at 0\nend\n"),
-    case!(2 b"thread a fifo 5 at 0\ncreate a\nend\n"),
+    case!(2 b"thread a fifo 5 at 0\njoin a\nend\n"),
     case!(2 b"thread a fifo 5 at 0\nkill rt1\nend\n"),
     case!(1 b"version 2\nthread a fifo 5 at 0\nend\n"),
     case!(2 b"thread a fifo 5 at 0\nif 00\nend\nend\n"),
@@ -265,6 +265,43 @@ static DUPLICATE_NAME: [Case; 19] = [
 #[test]
 fn duplicate_name(rt: HostRuntime) {
     assert!(rt; are_refused(rt.alloc(), FaultKind::DuplicateName, &DUPLICATE_NAME));
+}
+
+static UNKNOWN_NAME: [Case; 5] = [
+    case!(2 b"thread a fifo 5 at 0\ncreate b\nend\n"),
+    case!(3 b"thread a rr 5 at 0\nrun 0\ncreate b\nend\n"),
+    case!(2 b"cleanup u\ncreate x\nend\nthread a fifo 5 at 0\nend\n"),
+    case!(2 b"thread a fifo 5 at 0\nsetprio nobody 256\nend\n"),
+    case!(2 b"thread a fifo 5 at 0\nsetsched c sporadic 8 2 20 5 4\nend\n"),
+];
+
+#[test]
+fn unknown_name(rt: HostRuntime) {
+    assert!(rt; are_refused(rt.alloc(), FaultKind::UnknownName, &UNKNOWN_NAME));
+}
+
+static WRONG_KIND: [Case; 3] = [
+    case!(4 b"cleanup u\nend\nthread a fifo 5 at 0\ncreate u\nend\n"),
+    case!(4 b"handler h\nend\nthread a fifo 5 at 0\nsetprio h 5\nend\n"),
+    case!(2 b"thread a fifo 5 at 0\ncreate u\nsetprio nobody 256\nend\ncleanup u\nend\n"),
+];
+
+#[test]
+fn wrong_kind(rt: HostRuntime) {
+    assert!(rt; are_refused(rt.alloc(), FaultKind::WrongKind, &WRONG_KIND));
+}
+
+static SERVER_RANGE: [Case; 5] = [
+    case!(1 b"thread s sporadic 5 5 20 5 4 at 0\nend\n"),
+    case!(1 b"thread s sporadic 8 2 20 0 4 at 0\nend\n"),
+    case!(1 b"thread s sporadic 8 2 20 21 4 dormant\nend\n"),
+    case!(1 b"thread s sporadic 8 2 20 5 17 at 0\nend\n"),
+    case!(2 b"thread a fifo 5 at 0\nsetsched a sporadic 2 8 20 5 4\nend\n"),
+];
+
+#[test]
+fn server_range(rt: HostRuntime) {
+    assert!(rt; are_refused(rt.alloc(), FaultKind::ServerRange, &SERVER_RANGE));
 }
 
 static NOT_HERE: [Case; 19] = [
