@@ -150,10 +150,16 @@ _NAME = re.compile(r"[a-z][a-z0-9_]{0,31}")
 
 
 class _Words:
-    """Reads words of a line, and remembers the names that it has checked."""
+    """Reads words of a line, and remembers the names that it has checked and the time that it has read."""
 
     def __init__(self) -> None:
         self._names: set[str] = set()
+        self._time_word, self._time = "0", 0
+
+    def time(self, word: str) -> int:
+        if word != self._time_word:
+            self._time_word, self._time = word, _number(word, GREATEST_TIME, "time")
+        return self._time
 
     def name(self, word: str) -> str:
         if word not in self._names:
@@ -164,12 +170,11 @@ class _Words:
 
 
 def _number(word: str, most: int, what: str, least: int = 0) -> int:
-    if not (word.isascii() and word.isdigit()) or (word[0] == "0" and len(word) > 1) or len(word) > 20:
-        raise _Wrong(f"'{word}' is no {what}")
-    number = int(word)
-    if not least <= number <= most:
-        raise _Wrong(f"'{word}' is no {what}")
-    return number
+    if word.isdigit() and word.isascii() and (word[0] != "0" or word == "0") and len(word) <= 20:
+        number = int(word)
+        if least <= number <= most:
+            return number
+    raise _Wrong(f"'{word}' is no {what}")
 
 
 def _one_of(word: str, words: frozenset[str], what: str) -> str:
@@ -212,7 +217,7 @@ def _event_of(words: list[str], of: _Words) -> Event:
     count, make = form
     if len(words) != count:
         raise _Wrong(f"'{words[1]}' has {count} words")
-    return make(_number(words[0], GREATEST_TIME, "time"), words, of)
+    return make(of.time(words[0]), words, of)
 
 
 def _closing_of(words: list[str], of: _Words) -> Closing:

@@ -1,6 +1,7 @@
 """The command `pse52-view FORMAT < TRACE`."""
 from __future__ import annotations
 
+import gc
 import os
 import shutil
 import sys
@@ -83,6 +84,8 @@ def main(words: list[str]) -> Status:
         print(USAGE, end="", file=sys.stderr)
         return Status.USAGE
     progress = Progress()
+    # A long trace is many small values and no cycles, and the process ends after its one picture.
+    gc.disable()
     try:
         trace = read_trace(sys.stdin.buffer, progress.lines)
         progress.say("putting the picture together")

@@ -20,6 +20,7 @@ MARKS: dict[MarkKind, tuple[str, str]] = {
     MarkKind.ACTIVATE: ("^", "activate"), MarkKind.EXHAUST: ("!", "exhaust"), MarkKind.PLAN: ("p", "plan"),
     MarkKind.REFILL: ("+", "refill")}
 MANY = "&"
+SIGNS = {State.READY: "-", State.WAITING: ".", State.OFF: "?"}
 
 
 @dataclass(frozen=True, slots=True)
@@ -99,7 +100,7 @@ def state_row(thread: ThreadLine, columns: Columns, letters: dict[int, str]) -> 
     for span in thread.spans:
         first, last = columns.of(span.start), columns.of(span.end - 1)
         if span.state is not State.RUNNING:
-            sign = {State.READY: "-", State.WAITING: ".", State.OFF: "?"}[span.state]
+            sign = SIGNS[span.state]
             for column in range(first, last + 1):
                 if row[column] == " ":
                     row[column] = sign

@@ -18,14 +18,20 @@ from .lines import (
     Trace)
 
 
-class State(Enum):
+class Kind(Enum):
+    """Members are themselves alone, so they are found by identity, which is quicker than by name."""
+
+    __hash__ = object.__hash__
+
+
+class State(Kind):
     RUNNING = "running"
     READY = "ready"
     WAITING = "waiting"
     OFF = "not running"
 
 
-class MarkKind(Enum):
+class MarkKind(Kind):
     START = "start"
     EXIT = "exit"
     RETURN = "return"
@@ -105,6 +111,10 @@ class ThreadLine:
     @property
     def is_sporadic(self) -> bool:
         return bool(self.capacity or self.plans)
+
+    @property
+    def has_ended(self) -> bool:
+        return any(mark.kind is MarkKind.EXIT for mark in self.marks[-1:])
 
     @property
     def ticks(self) -> int:
