@@ -27,7 +27,7 @@ def draw(timeline: Timeline, width: int | None = None) -> str:
     colours = colours_of(timeline.priorities)
     rows = Rows(timeline, axis, colours, sizes)
     out = Writer()
-    head = _heading(timeline)
+    head = heading(timeline)
     out.text(8, 19, head, size=13, weight="bold")
     bottom = draw_axis(out, axis, rows.top, rows.bottom)
     rows.draw(out)
@@ -36,7 +36,7 @@ def draw(timeline: Timeline, width: int | None = None) -> str:
     return out.document(max(wide, 9 + 7.4 * len(head)), high, head)
 
 
-def _heading(timeline: Timeline) -> str:
+def heading(timeline: Timeline) -> str:
     threads = len(timeline.threads)
     idle = sum(end - start for start, end in timeline.idle)
     text = f"{threads} thread{'s' if threads != 1 else ''}, ticks 0 to {digits_apart(timeline.end)}"

@@ -32,7 +32,7 @@ def draw(timeline: Timeline, _width: int | None = None) -> str:
         if thread.is_sporadic:
             capacity = next(codes)
             head.append(f"$var reg 64 {capacity} capacity $end")
-            changes.append((-1, f"bx {capacity}"))
+            changes.append((0, f"bx {capacity}"))
             changes += ((time, f"b{value:b} {capacity}") for time, value in capacity_steps(thread.capacity, most))
             if thread.has_ended:
                 changes.append((thread.spans[-1].end, f"bx {capacity}"))
@@ -52,8 +52,8 @@ def _codes() -> Iterator[str]:
 
 def _running(timeline: Timeline, number: str, name: str) -> Iterator[Change]:
     """Who runs. Of what is told for one instant the last holds, so `nobody` comes first."""
-    yield -1, f"bx {number}"
-    yield -1, f"snobody {name}"
+    yield 0, f"bx {number}"
+    yield 0, f"snobody {name}"
     for at, thread in enumerate(timeline.threads):
         for span in thread.spans:
             if span.state is State.RUNNING:
@@ -65,7 +65,7 @@ def _running(timeline: Timeline, number: str, name: str) -> Iterator[Change]:
 
 
 def _states(thread: ThreadLine, code: str) -> Iterator[Change]:
-    yield -1, f"sdormant {code}"
+    yield 0, f"sdormant {code}"
     end = None
     for span in thread.spans:
         yield span.start, f"s{NAMES[span.state]} {code}"
@@ -75,22 +75,22 @@ def _states(thread: ThreadLine, code: str) -> Iterator[Change]:
 
 
 def _priorities(thread: ThreadLine, code: str) -> Iterator[Change]:
-    yield -1, f"bx {code}"
+    yield 0, f"bx {code}"
     for span in thread.spans:
         if span.state is State.RUNNING:
             yield span.start, f"b{span.priority:b} {code}"
         else:
             yield span.start, f"bx {code}"
-    if thread.spans:
+    if thread.spans and thread.has_ended:
         yield thread.spans[-1].end, f"bx {code}"
 
 
 def _dump(changes: list[Change], end: int) -> list[str]:
-    """The changes in the order of their times; those before the first instant are the values at the start."""
+    """The changes in the order of their times. Of those of one instant the last holds; the first are the values at 0."""
     changes.sort(key=itemgetter(0))
     last: dict[str, str] = {}
-    lines, now = ["$dumpvars"], -1
     pending: dict[str, str] = {}
+    lines, now = [], 0
     for time, change in changes:
         if time != now:
             _flush(pending, last, lines, now)
@@ -98,7 +98,7 @@ def _dump(changes: list[Change], end: int) -> list[str]:
         value, _, code = change.partition(" ")
         pending[code] = value
     _flush(pending, last, lines, now)
-    if f"#{end}" not in lines[-1:]:
+    if now < end:
         lines.append(f"#{end}")
     return lines
 
@@ -107,8 +107,10 @@ def _flush(pending: dict[str, str], last: dict[str, str], lines: list[str], now:
     changed = [f"{value} {code}" for code, value in pending.items() if last.get(code) != value]
     last.update(pending)
     pending.clear()
-    if now >= 0 and changed:
-        lines.append(f"#{now}")
-    lines.extend(changed)
-    if now < 0:
-        lines.append("$end")
+    if not changed:
+        return
+    lines.append(f"#{now}")
+    if now == 0:
+        lines += ["$dumpvars", *changed, "$end"]
+    else:
+        lines += changed
