@@ -5,7 +5,7 @@
     python3 tools/make_examples.py --check   changes nothing; says what differs, and ends with 1 where something does
 
 The traces come from tools/reference, which needs no build. tools/check_examples.sh holds the built program against them.
-The first line of an example is `# horizon N. TITLE.`
+The first line of an example is `# horizon N, stage STAGE. TITLE.`, where the stage is the first whose forms it keeps to.
 """
 from __future__ import annotations
 
@@ -25,7 +25,7 @@ from view.lines import read_trace  # noqa: E402
 from view.svg import draw  # noqa: E402
 from view.timeline import timeline_of  # noqa: E402
 
-HEAD = re.compile(r"# horizon (\d+)(?:\. (.*))?")
+HEAD = re.compile(r"# horizon (\d+), stage ([a-z]+)\. (.*)")
 
 GALLERY = """\
 # Examples
@@ -41,8 +41,8 @@ bin/pse52 run 26 < examples/04_inversion.task | bin/pse52-view text
 ```
 
 A script whose forms the program does not run yet is answered with `refused LINE 2 UnknownWord`; `tools/reference` runs each of
-them: `python3 tools/reference/simulate.py run 26 < examples/04_inversion.task`. In the list, the stage names the forms that an
-example needs.
+them: `python3 tools/reference/simulate.py run 26 < examples/04_inversion.task`. The stage in the first line of a script names the
+forms that it needs.
 
 `python3 tools/make_examples.py` makes all traces, pictures and this page anew, and `--check` tells what differs.
 
@@ -53,23 +53,18 @@ example needs.
 class Example:
     name: str
     horizon: int
+    stage: str
     title: str
     script: bytes
-
-    @property
-    def stage(self) -> Stage:
-        """The first stage whose forms the script keeps to."""
-        return next(stage for stage in Stage if answer(self.script, 0, stage)[0] is Status.DONE)
 
     def trace(self) -> bytes:
         status, text = answer(self.script, self.horizon, checked=True)
         if status is not Status.DONE:
             raise SystemExit(f"{self.name}: {text.decode().strip()}")
+        needed = next(stage for stage in Stage if answer(self.script, 0, stage)[0] is Status.DONE)
+        if self.stage != needed.name.lower():
+            raise SystemExit(f"{self.name}: its first line says stage {self.stage}, and it needs {needed.name.lower()}")
         return text
-
-    def comment(self) -> list[str]:
-        lines = self.script.decode().splitlines()
-        return [line[2:] for line in lines[1:] if line.startswith("# ")]
 
 
 def examples() -> Iterator[Example]:
@@ -78,15 +73,15 @@ def examples() -> Iterator[Example]:
         script = path.read_bytes()
         head = HEAD.fullmatch(script.decode().splitlines()[0])
         if head is None:
-            raise SystemExit(f"{path.name}: the first line is not '# horizon N. TITLE.'")
-        yield Example(path.stem, int(head[1]), (head[2] or path.stem.replace("_", " ")).strip(), script)
+            raise SystemExit(f"{path.name}: the first line is not '# horizon N, stage STAGE. TITLE.'")
+        yield Example(path.stem, int(head[1]), head[2], head[3], script)
 
 
 def gallery(shown: list[Example]) -> str:
     parts = [GALLERY]
     for example in shown:
         name = example.name
-        parts.append(f"## {name}\n\n{example.title} `run {example.horizon}`, stage `{example.stage.name.lower()}`: "
+        parts.append(f"## {name}\n\n{example.title} `run {example.horizon}`, stage `{example.stage}`: "
                      f"[script]({name}.task), [trace]({name}.trace)\n\n![{name}]({name}.svg)\n\n")
     return "".join(parts).rstrip("\n") + "\n"
 
