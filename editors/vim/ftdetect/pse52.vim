@@ -1,0 +1,1 @@
+autocmd BufRead,BufNewFile *.task setfiletype pse52

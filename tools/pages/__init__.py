@@ -1,0 +1,1 @@
+"""Runs the commands that stand in the pages of docs/."""

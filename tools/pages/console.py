@@ -1,0 +1,105 @@
+"""Runs what a page tells its reader to type, and compares what is printed with what the page says.
+
+In a block that begins with ```console a line with `$ ` is a command, and the lines up to the next one are what it prints. A line
+of three points stands for any lines. A block that begins with ```task or ```toml, after a sentence that names a file in back quotes, is
+the content of that file.
+"""
+from __future__ import annotations
+
+import os
+import re
+import subprocess
+from collections.abc import Iterator
+from dataclasses import dataclass, field
+from pathlib import Path
+
+TOP = Path(__file__).resolve().parents[2]
+ANY = "..."
+
+
+@dataclass
+class Command:
+    line: int
+    words: str
+    printed: list[str] = field(default_factory=list)
+
+
+@dataclass
+class File:
+    line: int
+    name: str
+    text: str
+
+
+def parts_of(page: str) -> Iterator[Command | File]:
+    """The commands and files of a page, in its order."""
+    kind, named, start = None, None, 0
+    block: list[str] = []
+    for number, line in enumerate(page.splitlines(), 1):
+        if kind is None:
+            opened = re.fullmatch(r"```(\w*)", line)
+            if opened:
+                kind, start, block = opened[1] or "plain", number, []
+            else:
+                named = (re.findall(r"`([\w./]+\.(?:task|toml))`", line) or [named])[-1]
+        elif line == "```":
+            if kind == "console":
+                yield from _commands(block, start)
+            elif kind in ("task", "toml") and named:
+                yield File(start, named, "\n".join(block) + "\n")
+            kind = None
+        else:
+            block.append(line)
+
+
+def _commands(block: list[str], start: int) -> Iterator[Command]:
+    command = None
+    for number, line in enumerate(block, start + 1):
+        if line.startswith("$ "):
+            if command:
+                yield command
+            command = Command(number, line[2:])
+        elif command:
+            command.printed.append(line)
+    if command:
+        yield command
+
+
+def clone(folder: Path) -> None:
+    """A folder that looks like a fresh clone whose program is the reference, so that nothing has to be built."""
+    for name in ("examples", "docs", "tools"):
+        (folder / name).symlink_to(TOP / name)
+    (folder / "bin").mkdir()
+    for name in ("pse52-view", "pse52-sweep"):
+        (folder / "bin" / name).symlink_to(TOP / "bin" / name)
+    program = folder / "bin" / "pse52"
+    program.write_text(f'#!/bin/sh\nexec python3 {TOP}/tools/reference/simulate.py "$@"\n')
+    program.chmod(0o755)
+
+
+def agrees(printed: list[str], told: list[str]) -> bool:
+    """Whether the lines are those of the page, where a line of points stands for any lines."""
+    if ANY not in told:
+        return printed == told
+    at = told.index(ANY)
+    rest = told[at + 1:]
+    return printed[:at] == told[:at] and any(agrees(printed[k:], rest) for k in range(at, len(printed) + 1))
+
+
+def faults_of(page: Path, folder: Path) -> list[str]:
+    """Types the page along, in one shell, and says where it does not do what the page tells."""
+    clone(folder)
+    faults = []
+    environment = dict(os.environ, PSE52=str(folder / "bin" / "pse52"))
+    last = 0
+    for part in parts_of(page.read_text()):
+        if isinstance(part, File):
+            (folder / part.name).parent.mkdir(parents=True, exist_ok=True)
+            (folder / part.name).write_text(part.text)
+            continue
+        ended = subprocess.run(["bash", "-c", f"(exit {last}); {part.words}"], cwd=folder, env=environment, capture_output=True,
+                               text=True, check=False, timeout=600)
+        last = ended.returncode
+        if not agrees(ended.stdout.splitlines(), part.printed):
+            faults.append(f"{page.name}:{part.line}: $ {part.words}\nprinted:\n{ended.stdout}{ended.stderr}")
+    return faults

@@ -1,0 +1,38 @@
+"""How far the work is, on standard error where that is a terminal."""
+from __future__ import annotations
+
+import os
+import stat
+import sys
+
+
+class Progress:
+    """Says how many lines are read, and what is done then. Silent where standard error is no terminal."""
+
+    def __init__(self) -> None:
+        self._on = sys.stderr.isatty()
+        self._size = _size_of_input()
+        self._shown = False
+
+    def lines(self, number: int, size: int) -> None:
+        of = f", {100 * size // self._size} %" if self._size else ""
+        self.say(f"{number} lines read{of}")
+
+    def say(self, what: str) -> None:
+        if self._on:
+            print(f"\r\033[K{what}", end="", file=sys.stderr, flush=True)
+            self._shown = True
+
+    def done(self) -> None:
+        if self._shown:
+            print("\r\033[K", end="", file=sys.stderr, flush=True)
+            self._shown = False
+
+
+def _size_of_input() -> int:
+    """The size of standard input where it is a file, else 0."""
+    try:
+        status = os.fstat(sys.stdin.fileno())
+    except (OSError, ValueError):
+        return 0
+    return status.st_size if stat.S_ISREG(status.st_mode) else 0

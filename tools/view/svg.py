@@ -1,0 +1,47 @@
+"""One picture of a trace: a row for each thread, in the order of declaration, over a time axis."""
+from __future__ import annotations
+
+from .axis import Axis
+from .colours import colours_of, digits_apart
+from .svg_axis import draw_axis
+from .svg_legend import draw_legend
+from .svg_rows import LEGIBLE_TICK, Rows, Sizes
+from .svg_writer import Writer
+from .timeline import Timeline
+
+LEAST_WIDTH, MOST_WIDTH = 400, 1500
+CUT_WIDTH = 34
+
+
+def plot_width(timeline: Timeline, gutter: float, width: int | None) -> float:
+    """How wide the axis is: as wide as ticks of a good size need, or what is left of the width that is asked for."""
+    if width is not None:
+        return max(200.0, width - gutter - Rows.MARGIN)
+    return min(MOST_WIDTH - gutter - Rows.MARGIN, max(560.0, timeline.end * 22.0))
+
+
+def draw(timeline: Timeline, width: int | None = None) -> str:
+    sizes = Sizes.for_threads(len(timeline.threads))
+    gutter = sizes.gutter(timeline.threads)
+    axis = Axis(timeline.instants, gutter, plot_width(timeline, gutter, width), CUT_WIDTH, LEGIBLE_TICK)
+    colours = colours_of(timeline.priorities)
+    rows = Rows(timeline, axis, colours, sizes)
+    out = Writer()
+    head = heading(timeline)
+    out.text(8, 19, head, size=13, weight="bold")
+    bottom = draw_axis(out, axis, rows.top, rows.bottom)
+    rows.draw(out)
+    wide = axis.right + Rows.MARGIN
+    high = draw_legend(out, timeline, axis, colours, wide, bottom)
+    return out.document(max(wide, 9 + 7.4 * len(head)), high, head)
+
+
+def heading(timeline: Timeline) -> str:
+    threads = len(timeline.threads)
+    idle = sum(end - start for start, end in timeline.idle)
+    text = f"{threads} thread{'s' if threads != 1 else ''}, ticks 0 to {digits_apart(timeline.end)}"
+    if idle:
+        text += f", idle for {digits_apart(idle)}"
+    if timeline.killed is not None:
+        text += f", killed by {timeline.killed.signal}"
+    return text if timeline.finished else f"{text}; the trace has no end"

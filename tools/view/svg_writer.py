@@ -1,0 +1,60 @@
+"""Writes the elements of an SVG document."""
+from __future__ import annotations
+
+from xml.sax.saxutils import escape, quoteattr
+
+FONT = "DejaVu Sans, Verdana, Helvetica, Arial, sans-serif"
+INK, FAINT, PALE = "#1d2433", "#69707d", "#e3e6eb"
+
+_PATTERNS = """<defs>
+<pattern id="low" width="6" height="6" patternUnits="userSpaceOnUse" patternTransform="rotate(45)"><rect width="2.4" height="6" fill="#ffffff" fill-opacity="0.6"/></pattern>
+<pattern id="wait" width="5" height="5" patternUnits="userSpaceOnUse"><circle cx="1.5" cy="2.5" r="0.9" fill="#8a93a3"/></pattern>
+<marker id="head" viewBox="0 0 8 8" refX="7" refY="4" markerWidth="6" markerHeight="6" orient="auto"><path d="M0,0 L8,4 L0,8 z" fill="#3b6fb5"/></marker>
+</defs>
+"""
+
+
+def short(number: float) -> str:
+    """A place with at most two digits behind the point."""
+    return f"{number:.2f}".rstrip("0").rstrip(".")
+
+
+class Writer:
+    """Elements in the order in which they are drawn."""
+
+    def __init__(self) -> None:
+        self._parts: list[str] = []
+
+    def raw(self, element: str) -> None:
+        self._parts.append(element)
+
+    def rect(self, x: float, y: float, width: float, height: float, title: str = "", **style: str) -> None:
+        place = f'x="{short(x)}" y="{short(y)}" width="{short(max(width, 0.3))}" height="{short(height)}"'
+        self._element("rect", place, title, style)
+
+    def line(self, x1: float, y1: float, x2: float, y2: float, title: str = "", **style: str) -> None:
+        self._element("line", f'x1="{short(x1)}" y1="{short(y1)}" x2="{short(x2)}" y2="{short(y2)}"', title, style)
+
+    def path(self, data: str, title: str = "", **style: str) -> None:
+        self._element("path", f'd="{data}"', title, style)
+
+    def text(self, x: float, y: float, text: str, size: float = 11, anchor: str = "start", fill: str = INK,
+             weight: str = "normal", title: str = "") -> None:
+        bold = "" if weight == "normal" else f' font-weight="{weight}"'
+        where = "" if anchor == "start" else f' text-anchor="{anchor}"'
+        inside = f"<title>{escape(title)}</title>" if title else ""
+        self._parts.append(f'<text x="{short(x)}" y="{short(y)}" font-size="{short(size)}"{where}{bold} '
+                           f'fill="{fill}">{inside}{escape(text)}</text>\n')
+
+    def _element(self, tag: str, place: str, title: str, style: dict[str, str]) -> None:
+        words = "".join(f" {name.rstrip('_').replace('_', '-')}={quoteattr(value)}" for name, value in style.items())
+        if title:
+            self._parts.append(f"<{tag} {place}{words}><title>{escape(title)}</title></{tag}>\n")
+        else:
+            self._parts.append(f"<{tag} {place}{words}/>\n")
+
+    def document(self, width: float, height: float, title: str) -> str:
+        size = f'width="{width:.0f}" height="{height:.0f}" viewBox="0 0 {width:.0f} {height:.0f}"'
+        return (f'<svg xmlns="http://www.w3.org/2000/svg" {size} font-family="{FONT}" role="img">\n'
+                f"<title>{escape(title)}</title>\n{_PATTERNS}"
+                f'<rect width="100%" height="100%" fill="#ffffff"/>\n{"".join(self._parts)}</svg>\n')

@@ -1,0 +1,93 @@
+"""What threads did, against worked traces read by hand and against the closing lines of every worked trace."""
+from __future__ import annotations
+
+import unittest
+
+from view.timeline import State
+
+from .worked import (
+    CONTROLLER, CONTROLLER_CAPACITY, CONTROLLER_RUNS, CONTROLLER_WAITS, SLEEPS, SLEEPS_RUNS, TWO_BUDGETS,
+    TWO_BUDGETS_CAPACITY, TWO_BUDGETS_RUNS, all_worked, joined, timeline, timeline_of_text)
+
+
+def runs(seen) -> list[tuple[int, int, str, int]]:
+    return joined([(span.start, span.end, thread.name, span.priority)
+                   for thread in seen.threads for span in thread.spans if span.state is State.RUNNING])
+
+
+class Timelines(unittest.TestCase):
+    def test_who_runs_in_the_controller(self) -> None:
+        seen = timeline(CONTROLLER)
+        self.assertEqual([thread.name for thread in seen.threads], ["ctl", "srv", "mon"])
+        self.assertEqual(runs(seen), CONTROLLER_RUNS)
+        self.assertEqual(seen.idle, [(7, 20)])
+        self.assertEqual([thread.name if thread else None for thread in map(seen.running_at, (0, 5, 7, 19, 25, 43))],
+                         ["ctl", "srv", None, None, "mon", "mon"])
+
+    def test_who_waits_in_the_controller(self) -> None:
+        seen = timeline(CONTROLLER)
+        waits = [(thread.name, span.start, span.end, span.call)
+                 for thread in seen.threads for span in thread.spans if span.state is State.WAITING]
+        self.assertEqual(waits, CONTROLLER_WAITS + [])
+        last = [thread.spans[-1].state for thread in seen.threads]
+        self.assertEqual(last, [State.OFF, State.OFF, State.RUNNING])
+
+    def test_a_preempted_thread_is_ready(self) -> None:
+        seen = timeline("preempted_resumes_at_head")
+        ready = {thread.name: [(s.start, s.end) for s in thread.spans if s.state is State.READY] for thread in seen.threads}
+        self.assertTrue(all(spans for name, spans in ready.items() if name in "ab"), ready)
+
+    def test_capacities_at_each_tick(self) -> None:
+        for name, wanted in ((CONTROLLER, CONTROLLER_CAPACITY), (TWO_BUDGETS, TWO_BUDGETS_CAPACITY)):
+            server = next(thread for thread in timeline(name).threads if thread.is_sporadic)
+            self.assertEqual({tick: server.capacity_at(tick) for tick in wanted}, wanted)
+            self.assertIsNone(server.capacity_at(min(wanted) - 1))
+
+    def test_two_budgets(self) -> None:
+        seen = timeline(TWO_BUDGETS)
+        server = seen.threads[0]
+        self.assertEqual(runs(seen), TWO_BUDGETS_RUNS)
+        self.assertEqual([(s.start, s.end, s.high) for s in server.spans if s.state is State.RUNNING],
+                         [(9, 12, True), (12, 15, True), (15, 17, False)])
+        self.assertEqual([(p.time, p.amount, p.due, p.refilled) for p in server.plans], [(12, 3, 12, 12), (15, 3, 22, None)])
+
+    def test_the_greatest_horizon(self) -> None:
+        self.assertEqual(runs(timeline(SLEEPS)), SLEEPS_RUNS)
+
+    def test_closing_lines_agree_with_the_stretches(self) -> None:
+        for name in all_worked():
+            for thread in timeline(name).threads:
+                self.assertEqual(thread.ticks, thread.closing.ticks, (name, thread.name))
+                budget = thread.closing.budget
+                if budget is not None and "setsched" not in name:
+                    self.assertEqual(thread.high_ticks, budget.high, (name, thread.name))
+                    last = thread.capacity[-1]
+                    self.assertEqual(last.last, budget.capacity, (name, thread.name))
+
+    def test_stretches_of_a_thread_follow_one_another(self) -> None:
+        for name in all_worked():
+            for thread in timeline(name).threads:
+                for before, after in zip(thread.spans, thread.spans[1:]):
+                    self.assertEqual(before.end, after.start, (name, thread.name))
+                    self.assertLess(before.start, before.end)
+
+    def test_an_idle_processor_tells_who_waits(self) -> None:
+        seen = timeline_of_text("0 start a\n0 dispatch a 5\n1 idle\n9 end\nthread a ticks 1\n")
+        self.assertEqual([(s.start, s.end, s.state) for s in seen.threads[0].spans],
+                         [(0, 1, State.RUNNING), (1, 9, State.WAITING)])
+
+    def test_a_wake_without_activate_is_at_low_priority(self) -> None:
+        seen = timeline_of_text(
+            "0 start s\n0 activate s 3\n0 dispatch s 8\n2 plan s 2 9\n2 idle\n4 return s nanosleep 0 0\n4 dispatch s 2\n"
+            "6 end\nthread s ticks 4 high 2 init 3 refilled 0 capacity 1\n")
+        self.assertEqual(seen.threads[0].high_ticks, 2)
+        self.assertEqual(seen.threads[0].capacity_at(5), 1)
+
+    def test_a_beginning_of_a_trace(self) -> None:
+        seen = timeline_of_text("0 start a\n0 dispatch a 5\n7 return a yield 0 0\n")
+        self.assertFalse(seen.finished)
+        self.assertEqual((seen.end, runs(seen)), (7, [(0, 7, "a", 5)]))
+
+
+if __name__ == "__main__":
+    unittest.main()
