@@ -12,6 +12,8 @@ ghost use Rattle.machine_flat.specs.Runnable.{IsRunnable};
 ghost use Rattle.rt_kernel.specs.Ran.{run_text};
 ghost use Rattle.script_tree.specs.declared.decl.Script.{Script};
 ghost use Rattle.pse52_tool.specs.Command.{command};
+ghost use Rattle.machine_rules.specs.Promises.{RunKeepsBudgets, RunStaysGood};
+ghost use Rattle.thread_laws.specs.HeadRuns.{HeadRuns};
 ghost use Rattle.pse52_tool.specs.Answer.{answer, run_answer, usage_line, too_long_line, Told, SinkFaults, IsLine};
 ghost use Rattle.pse52_tool.specs.Taken.{Answered, ReadToItsEnd};
 
@@ -142,7 +144,7 @@ fn run_text<K: Sink, L: Ledger>(
 /// where the script has a fault; then the run. `OutOfMemory` may come in place of any of these but `Usage`, before
 /// anything is written. A fault of the source or the sink is answered only where its count of faults rose in this call.
 /// Nothing is written before the source was read to its end, or to one byte more than the limit.
-#[tactic(auto, using(crate::proofs::HeadRuns::head_runs))]
+#[tactic(auto, using(crate::proofs::Promises::head_runs, crate::proofs::Promises::stays_good, crate::proofs::Promises::keeps_budgets))]
 pub fn run_tool<S: Source, K: Sink, L: Ledger>(
     alloc: Global,
     words: &[String],
@@ -157,6 +159,13 @@ pub fn run_tool<S: Source, K: Sink, L: Ledger>(
     // Whatever it tells, they are those of the answer to some bytes, as many as were taken.
     ensures answered { Answered (map string_bytes words.now) result (S.rest source.old) (S.rest source.new)
         (S.taken source.old) (S.taken source.new) (K.text sink.old) (K.text sink.new) }
+
+    // In the run of any script, each tick counts for the head of the highest list that is not empty, and for no other thread.
+    ensures head_runs { (script : Script) → (k : ℕ) → HeadRuns script k }
+
+    // Whatever bytes are read as a script: every state of its run is good, and in each the budgets of its servers are kept.
+    ensures good { (bytes : List ℕ) (script : Script) → read patterns bytes ≡ Ok script → RunStaysGood script }
+    ensures budgets { (bytes : List ℕ) (script : Script) → read patterns bytes ≡ Ok script → RunKeepsBudgets script }
 
     // The words decide alone whether there is a command.
     ensures usage { result ≡ Status.Usage → command (map string_bytes words.now) ≡ None }

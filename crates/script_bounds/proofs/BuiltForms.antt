@@ -12,7 +12,7 @@ use Rattle.script_table.specs.declared.form.Form.TheVariants as form
 use Rattle.script_table.specs.declared.form.BlockForm.TheVariants as block
 use Rattle.script_table.specs.Patterns.{Row}
 use Rattle.script_table.specs.Table.{patterns, declaration_patterns, step_patterns, call_patterns}
-use Rattle.script_table.specs.LineFaults.{fits, fitting}
+use Rattle.script_table.specs.LineFaults.{fits, fitting_row}
 use Rattle.script_table.specs.Structure.{row_of_line, said_from}
 use Rattle.script_table.specs.Read.{said}
 use Rattle.script_table.specs.Ranges.{object_kind}
@@ -71,7 +71,7 @@ built_case : (b c : Bool) → b ≡ true → (not b || c) ≡ true → c ≡ tru
 built_case true c e h = h
 built_case false c e h = absurd (let f : false ≡ true = e in cc)
 
-row_is_built : (words : List (List ℕ)) (row : Row) → fitting patterns words ≡ Some row → is_built_form row.form ≡ true
+row_is_built : (words : List (List ℕ)) (row : Row) → fitting_row patterns words ≡ Some row → is_built_form row.form ≡ true
 row_is_built words row found =
     let test : Row → Bool = λ r. r.built && fits r.places words in
     built_case row.built (is_built_form row.form) (both row.built (fits row.places words) (found_test test patterns row found)).0

@@ -2,7 +2,6 @@ mod Steps
 mod Blocks
 mod Decls
 pub mod Bounds
-pub mod Listed
 pub mod EachDecl
 pub mod EachBody
 pub mod Operands

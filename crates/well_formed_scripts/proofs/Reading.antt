@@ -29,7 +29,7 @@ use Rattle.script_table.specs.Patterns.{Row, greatest, is_barred, same_closer}
 use Rattle.script_table.specs.Table.{patterns}
 use Rattle.script_table.specs.Structure.{Open, Said, behind, behind_line, closed_by, closer_of, line_faults, not_here, opened, opened_by, phase_one, place_of_row, row_of_line, said_from}
 use Rattle.script_table.specs.Names.{Entry, declared, phase_two}
-use Rattle.script_table.specs.Ranges.{Tally, entered, is_too_many, left, no_tally, phase_three, range_faults, ranging, server_faults, tallied}
+use Rattle.script_table.specs.Ranges.{Tally, entered, is_too_many, left, no_tally, phase_three, range_faults, range_fault, server_faults, tallied}
 use Rattle.script_table.specs.Operands.{number_in}
 use Rattle.script_table.specs.Calls.{call_of}
 use Rattle.script_table.specs.Meaning.{action_decl, object_decl, plain_step, runs_cleanup}
@@ -221,7 +221,7 @@ well_formed_from es n m t openings b (line ∷ lines) one three k =
         let others = said_from patterns (n + 1) lines in
         let here = no_kinds 3 n (range_faults t' s) (nil_left (faults_at 3 n (range_faults t' s)) (phase_three m t' others) three') in
         let limits = nil_right (server_faults row.form s.words) (when (is_too_many t' row.form) TooMany)
-        (nil_right (place_faults ranging row.places s.words) (server_faults row.form s.words ++ when (is_too_many t' row.form) TooMany) here) in
+        (nil_right (place_faults range_fault row.places s.words) (server_faults row.form s.words ++ when (is_too_many t' row.form) TooMany) here) in
         let stands : not_here row.form row.bar openings ≡ [] = subst (λ (o : Option Row). place_of_row (Some openings) o ≡ []) e place in
         rest t' (opened row.form openings) (after es b s) (behind_it (Some row) e) (nil_right (faults_at 3 n (range_faults t' s)) (phase_three m t' others) three')
         (keeps_after es t openings b row.form row.bar s.words stands (not_so (is_too_many t' row.form) TooMany limits) (fitting_barred (line_words line) row e) k)

@@ -1,5 +1,5 @@
-use Rattle.script_bounds.proofs.Listed.{accepted_is_runnable}
+use Rattle.script_bounds.proofs.Runnable.{accepted_can_be_run}
 use Rattle.script_bounds.proofs.accepted_scripts_are_runnable.Goals as goal
 
 pub returns : goal.returns
-returns c = accepted_is_runnable
+returns c = accepted_can_be_run
