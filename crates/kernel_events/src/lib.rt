@@ -1,8 +1,11 @@
 //! The effects of calls and of due items: each is a step of a turn of the machine over flat code.
 #![tactic(auto)]
 
-mod calls;
 mod items;
+mod lives;
+mod scheduling;
+mod table;
+mod time;
 
-pub use calls::make_call;
 pub use items::do_item;
+pub use table::make_call;

@@ -187,7 +187,7 @@ impl Thread {
         ensures { self.new ≡ woken res value self.old }
     {
         self.status = Status::Runnable;
-        self.slice = 0;
+        self.clear_slice();
         self.answer(res, value);
     }
 

@@ -8,7 +8,7 @@ use Rattle.machine_rules.proofs.BehindCalls.{starts_behind}
 use Rattle.machine_flat.specs.FlatBodies.{flat_bodies}
 use Rattle.kernel_state.specs.Kernel.{Kernel, by}
 use Rattle.kernel_state.proofs.Turns.{then_told}
-use Rattle.kernel_events.proofs.calls.create_dormant.Goals as goal
+use Rattle.kernel_events.proofs.lives.create_dormant.Goals as goal
 
 pub returns-clause-told : goal.returns-clause-told
 returns-clause-told g c =

@@ -10,7 +10,7 @@ use Rattle.machine_rules.proofs.Behind.{activates_if_behind}
 use Rattle.kernel_state.specs.Kernel.{by, changes_policy, told, turn}
 use Rattle.kernel_state.proofs.TickParts.{moves_if_events}
 use Rattle.kernel_state.proofs.Turns.{then_told}
-use Rattle.kernel_events.proofs.calls.set_policy.Goals as goal
+use Rattle.kernel_events.proofs.scheduling.set_policy.Goals as goal
 
 pub returns-clause-told : goal.returns-clause-told
 returns-clause-told g c =

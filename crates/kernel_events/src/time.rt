@@ -1,0 +1,43 @@
+// Sleeping.
+ghost use Rattle.std.specs.Prelude.{◌≡◌, ◌≤◌, ◌<◌, ◌+◌, ◌*◌, ◌^◌, length};
+ghost use Rattle.pse52_trace.specs.Tells.{Tells};
+ghost use Rattle.machine_rules.specs.Turns.{returns};
+ghost use Rattle.machine_rules.specs.Timers.{sleeps_until};
+ghost use Rattle.kernel_state.specs.Kernel.{after, by, told};
+
+use kernel_state::Parts;
+use pse52_trace::Tracer;
+use rt_io::Sink;
+use script_tree::Call;
+use thread_blocks::Wait;
+use tick_num::{Res, Tick, Tid};
+
+/// `nanosleep` and `clock_nanosleep`.
+pub(crate) fn sleep_until<K: Sink>(
+    p: &mut Parts,
+    t: Tid,
+    call: &Call,
+    at: Tick,
+    out: &mut Tracer<'_, K>,
+)
+    requires { t < length p.old.names }
+    ensures state { p.new ≡ after (sleeps_until (by t call.now) at) p.old }
+    ensures told { Tells K.text K.faults p.old.names out.old out.new (told (sleeps_until (by t call.now) at) p.old) }
+{
+    if at <= p.instant() {
+        p.returns(t, call, Res::Zero, 0, out);
+    } else {
+        p.block_unordered(t, call, Wait::Time, Some(at));
+    }
+}
+
+/// So many ticks later.
+pub(crate) fn after_ticks(now: Tick, n: u64) -> Tick
+    requires { now + n ≤ 2 * 10 ^ 18 }
+    ensures { result ≡ now + n }
+{
+    match now.after(n) {
+        Some(at) => at,
+        None => unreachable!(),
+    }
+}
