@@ -72,7 +72,7 @@ module _ {P : Type 0} (given : Given P) (Q : ℕ → ℕ → Thread P → Type 0
       let woke = interrupts (waiting_of s.machine t) t out in
       let x = delivers t r woke in
       changes_hold given Q t (on_top (new_frame given.bodies frame.Signal (body_of.Handler n) (capped r.value))) x
-      (λ lt q. closed.catches x.machine.now t (thread_at x.machine t) n (capped r.value) known (delivers_catches t t r woke ∙ interrupts_catches (waiting_of s.machine t) t t out ∙ free) q)
+      (λ lt q. closed.catches x.machine.now t (thread_at x.machine t) n r.value known (delivers_catches t t r woke ∙ interrupts_catches (waiting_of s.machine t) t t out ∙ free) q)
       (delivers_hold given Q closed t r woke (interrupts_hold (waiting_of s.machine t) t out h))
 
   takes_record_hold : (r : Option SignalRecord) (t : ℕ) (s : Turn P) → catches_signal (thread_at s.machine t) ≡ false → Holding s → Holding (takes_record given.bodies r t s)

@@ -4,4 +4,6 @@ pub mod Calls
 pub mod Table
 pub mod Items
 pub mod Runs
+pub mod Known
+pub mod Within
 pub mod HeadRuns

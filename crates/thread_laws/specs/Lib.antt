@@ -1,2 +1,3 @@
 pub mod EachThread
 pub mod HeadRuns
+pub mod Within
