@@ -7,3 +7,8 @@ pub mod Runs
 pub mod Known
 pub mod Within
 pub mod HeadRuns
+pub mod MadeCalls
+pub mod Plain
+pub mod Begins
+pub mod Frames
+pub mod FramesTaken
