@@ -20,8 +20,9 @@ use Rattle.machine_rules.specs.Declarations.{ThreadDecl, cleanups_of, threads_of
 use Rattle.machine_rules.specs.Cancellation.{runs_cleanup, without_cleanup}
 use Rattle.machine_rules.specs.Units.{InUnit, begins_ending, begins_finish, in_unit, in_unit_if, in_unit_of, top_in_unit}
 use Rattle.machine_rules.specs.Ticks.{frames_charged, tick_charged}
-use Rattle.machine_rules.specs.Runs.{opening, thread_opened}
-use Rattle.machine_rules.specs.Throughout.{after_items}
+use Rattle.machine_rules.specs.Runs.{opening, thread_opened, ticks}
+use Rattle.machine_rules.specs.Turns.{Turn, turn_of}
+use Rattle.machine_rules.specs.DueItems.{items_done}
 use Rattle.machine_rules.specs.WellFormed.{is_guarding}
 use Rattle.machine_flat.specs.EachCall.{EachMade}
 use Rattle.machine_flat.specs.FlatBodies.{code_of, flat_bodies}
@@ -30,7 +31,7 @@ use Rattle.machine_flat.specs.Placed.{cursor_of}
 use Rattle.thread_laws.specs.EachThread.{Lasts, UnitKnown}
 use Rattle.thread_laws.specs.Frames.{AreInOrder, EachStands, FramesStand, RunStaysPlaced, TakenStands, UnitStands}
 use Rattle.thread_laws.specs.Placeable.{IsPlaceable}
-use Rattle.thread_laws.proofs.Changes.{at_all}
+use Rattle.thread_laws.proofs.Changes.{Holds, at_all}
 use Rattle.thread_laws.proofs.MadeCalls.{UnitMakes, all_made, fetched_makes}
 use Rattle.thread_laws.proofs.Plain.{IsPlain}
 use Rattle.thread_laws.proofs.Begins.{actions_known}
@@ -156,7 +157,7 @@ module _ (script : Script) (ok : IsPlaceable script) where
 
   -- ---- runs
 
-  frames_stand : (th : Thread Cursor) → StandsNow th → FramesStand script th
+  pub frames_stand : (th : Thread Cursor) → Stands (code_of script) (length (cleanups_of script)) th → FramesStand script th
   frames_stand th h = record {
     placed = all_placed code th.frames h.all;
     ordered = h.ordered;
@@ -167,21 +168,28 @@ module _ (script : Script) (ok : IsPlaceable script) where
     unit = (taken th h).unit;
   }
 
+  -- wherever in a run what is kept holds
+  pub each_stands : (s : Turn Cursor) → Holds (of_script script ok) (StandsIn script ok) s → EachStands script s.machine
+  each_stands s h = record {
+    each = λ t. frames_stand (thread_at s.machine t) (at_all (λ u th. StandsNow th) no_thread s.machine.threads h.each (λ u. record { all = tt; ordered = tt; cleanups = tt }) t);
+  }
+
   nothing_begun : (ds : List ThreadDecl) (t : ℕ) → StandsNow (slice_index_or (map (thread_opened {P = Cursor}) ds) t no_thread)
   nothing_begun [] t = record { all = tt; ordered = tt; cleanups = tt }
   nothing_begun (d ∷ ds) zero = record { all = tt; ordered = tt; cleanups = tt }
   nothing_begun (d ∷ ds) (suc t) = nothing_begun ds t
 
-  stands_after : (n most : ℕ) → EachStands script (after_items (flat_bodies code) (opening script) n most)
-  stands_after n most =
-      let ds = threads_of script in
-      let h = holds_throughout (of_script script ok) (StandsIn script ok) stands_lasts n most (opening script) (record {
-        each = λ u lt. nothing_begun ds u;
-        counted = length-map ds (thread_opened {P = Cursor});
-        handled = actions_known (of_script script ok) script ok (λ h lt. lt);
-      }) in
-      let m = after_items (flat_bodies code) (opening script) n most in
-      record { each = λ t. frames_stand (thread_at m t) (at_all (λ u th. StandsNow th) no_thread m.threads h.each (λ u. record { all = tt; ordered = tt; cleanups = tt }) t) }
+  pub opening_holds : Holds (of_script script ok) (StandsIn script ok) (turn_of (opening script))
+  opening_holds = record {
+    each = λ u lt. nothing_begun (threads_of script) u;
+    counted = length-map (threads_of script) (thread_opened {P = Cursor});
+    handled = actions_known (of_script script ok) script ok (λ h lt. lt);
+  }
+
+  pub run_holds : (n most : ℕ) → Holds (of_script script ok) (StandsIn script ok) (items_done (flat_bodies (code_of script)) most (turn_of (ticks (flat_bodies (code_of script)) n (opening script)).machine))
+  run_holds n most = holds_throughout (of_script script ok) (StandsIn script ok) stands_lasts n most (opening script) opening_holds
 
 pub frames_are_placed : (script : Script) → IsPlaceable script → RunStaysPlaced script
-frames_are_placed script ok = record { each = stands_after script ok }
+frames_are_placed script ok = record {
+  each = λ n most. let bodies = flat_bodies (code_of script) in each_stands script ok (items_done bodies most (turn_of (ticks bodies n (opening script)).machine)) (run_holds script ok n most);
+}
