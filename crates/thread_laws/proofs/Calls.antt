@@ -132,7 +132,7 @@ module _ {P : Type 0} (given : Given P) (Q : ℕ → ℕ → Thread P → Type 0
 
   -- ---- threads
 
-  joiner_hold : (t : ℕ) (j : Joiner) (s : Turn P) → Holding s → Holding (changes t (with_joiner j) s)
+  pub joiner_hold : (t : ℕ) (j : Joiner) (s : Turn P) → Holding s → Holding (changes t (with_joiner j) s)
   joiner_hold t j s h = changes_hold given Q t (with_joiner j) s (λ lt q. closed.joins s.machine.now t (thread_at s.machine t) j q) h
 
   pub creates_hold : (by : By) (u : ℕ) (s : Turn P) → Holding s → Holding (creates given.bodies by u s)
@@ -155,7 +155,7 @@ module _ {P : Type 0} (given : Given P) (Q : ℕ → ℕ → Thread P → Type 0
   wakes_joiner_hold has_joined t s h = h
   wakes_joiner_hold (waits_to_join u) t s h = wakes_hold given Q closed u res.Zero (thread_at s.machine t).exit_value (changes t (with_joiner has_joined) s) (joiner_hold t has_joined s h)
 
-  leaves_frame : (t : ℕ) (kind : FrameKind) (s : Turn P) → top_kind (thread_at s.machine t).frames ≡ kind → Holding s → Holding (finishes_in kind t s)
+  pub leaves_frame : (t : ℕ) (kind : FrameKind) (s : Turn P) → top_kind (thread_at s.machine t).frames ≡ kind → Holding s → Holding (finishes_in kind t s)
   leaves_frame t frame.Main s e h =
       wakes_joiner_hold (thread_at s.machine t).joiner t (changes_pending (without_target t) (tells (event.Exit t) (changes t without_life s)))
       (changes_hold given Q t without_life s (λ lt q. closed.ends s.machine.now t (thread_at s.machine t) e q) h)

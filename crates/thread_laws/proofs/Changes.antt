@@ -37,6 +37,12 @@ at_two B none y (x ∷ xs) (suc n) zero new all lt = all 0 (grind arith) lt
 at_two B none y (x ∷ xs) (suc n) (suc k) new all lt =
     at_two (λ j x. B (suc j) x) none y xs n k (λ lt. new (omega arith)) (λ j e lt. all (suc j) (grind arith) (omega arith)) (omega arith)
 
+-- what each member keeps, and what stands for none, each number keeps
+pub at_all : {X : Type 0} (Q : ℕ → X → Type 0) (none : X) (xs : List X) → ((j : ℕ) → j < length xs → Q j (slice_index_or xs j none)) → ((j : ℕ) → Q j none) → (k : ℕ) → Q k (slice_index_or xs k none)
+at_all Q none [] all past k = past k
+at_all Q none (x ∷ xs) all past zero = all 0 (omega arith)
+at_all Q none (x ∷ xs) all past (suc k) = at_all (λ j x. Q (suc j) x) none xs (λ j lt. all (suc j) (omega arith)) (λ j. past (suc j)) k
+
 -- ---- the machine between two effects
 
 module _ {P : Type 0} (given : Given P) (Q : ℕ → ℕ → Thread P → Type 0) where

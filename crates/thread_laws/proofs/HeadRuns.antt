@@ -3,11 +3,7 @@ use Rattle.std.proofs.Common.{Bool, List, None, Option, Some, [], add-one, arith
 use Rattle.std.specs.Prelude.{◌==◌, ◌&&◌}
 use Rattle.std.proofs.lemmas.List.{length-map}
 use Rattle.script_tree.specs.declared.decl.Script.{Script}
-use Rattle.script_flat.specs.declared.unit.Unit as units
-use Rattle.script_flat.specs.declared.unit.Unit.TheVariants as unit
 use Rattle.script_flat.specs.Next.{Place}
-use Rattle.machine_rules.specs.declared.signal.SigAction.{SigAction}
-use Rattle.machine_rules.specs.declared.signal.SigAction.TheVariants as action
 use Rattle.machine_rules.specs.Lists.{is}
 use Rattle.machine_rules.specs.Bodies.{Bodies}
 use Rattle.machine_rules.specs.State.{Frame, Machine, Thread}
@@ -21,28 +17,14 @@ use Rattle.machine_rules.specs.Units.{begins_ending, begins_finish, in_unit, in_
 use Rattle.machine_rules.specs.Ticks.{runs_head, tick, tick_charged, unless_killed}
 use Rattle.machine_rules.specs.Runs.{opening, thread_opened, ticks}
 use Rattle.machine_rules.specs.Machine.{bodies_of, machine}
-use Rattle.thread_laws.specs.EachThread.{ActionKnown, Closed, Given, Lasts, Passes, UnitKnown}
+use Rattle.thread_laws.specs.EachThread.{Closed, Passes}
 use Rattle.thread_laws.specs.HeadRuns.{HeadRuns, head_unless, one_at, share_of, ticks_run}
+use Rattle.thread_laws.specs.Within.{EachWithin, IsWithin}
 use Rattle.thread_laws.proofs.Changes.{Holds}
+use Rattle.thread_laws.proofs.Known.{all_known, any_action, any_unit}
+use Rattle.thread_laws.proofs.Within.{nothing_run, within_lasts}
 use Rattle.thread_laws.proofs.Items.{instant_hold}
 use Rattle.thread_laws.proofs.Runs.{runs_head_hold, ticks_hold}
-
--- ---- nothing is asked of handlers and calls
-
-module _ {P : Type 0} (bodies : Bodies P) (count : ℕ) where
-  abbrev pub all_known : Given P
-  all_known = record { bodies = bodies; count = count; Handles = λ h. Unit {0}; Known = λ th c. Unit {0} }
-
-  pub any_action : (a : SigAction) → ActionKnown all_known a
-  any_action action.Kill = tt
-  any_action action.Ignore = tt
-  any_action (action.Handler h) = tt
-
-  pub any_unit : (th : Thread P) (u : units.Unit) → UnitKnown all_known th u
-  any_unit th (unit.Run n) = tt
-  any_unit th (unit.Make c) = tt
-  any_unit th unit.Jump = tt
-  any_unit th unit.Finish = tt
 
 -- ---- no effect counts a tick
 
@@ -160,41 +142,10 @@ module _ {P : Type 0} (bodies : Bodies P) (count : ℕ) where
       (record { each = λ u lt. refl; counted = counted; handled = λ signal. any_action bodies count _ })) u lt
 
   -- and there are as many threads as before
-  nothing_lasts : Lasts (all_known bodies count) (λ now u th. Unit {0})
-  nothing_lasts = record {
-    closed = record {
-      answers = λ now u th r value q. q;
-      wakes = λ now u th r value q. q;
-      waits = λ now u th w q. q;
-      starts = λ now u th mask lt q. q;
-      activates = λ now u th q. q;
-      refills = λ now u th q. q;
-      plans = λ now u th q. q;
-      prices = λ now u th caller p known q. q;
-      renews = λ now u th caller new known q. q;
-      slices = λ now u th q. q;
-      joins = λ now u th joiner q. q;
-      masks = λ now u th mask q. q;
-      requests = λ now u th q. q;
-      enables = λ now u th on q. q;
-      pushes = λ now u th c known q. q;
-      pops = λ now u th runs known q. q;
-      catches = λ now u th h value known free q. q;
-      leaves = λ now u th inner q. q;
-      ending = λ now u th value q. q;
-      ends = λ now u th main q. q;
-    };
-    passes = λ to. record {
-      rests = λ now u th e q. q;
-      runs = λ now t th e q. q;
-      known = λ now t th e q. any_unit bodies count (tick_charged (in_unit bodies th).thread) (in_unit bodies th).unit;
-    };
-  }
-
-  pub ticks_length : (n : ℕ) (start : Machine P) → length start.threads ≡ count → length (ticks bodies n start).machine.threads ≡ count
-  ticks_length n start e =
-      (ticks_hold (all_known bodies count) (λ now u th. Unit {0}) nothing_lasts n start
-      (record { each = λ u lt. tt; counted = e; handled = λ signal. any_action bodies count _ })).counted
+  pub ticks_length : (n : ℕ) (start : Machine P) → length start.threads ≡ count → EachWithin start → length (ticks bodies n start).machine.threads ≡ count
+  ticks_length n start e begun =
+      (ticks_hold (all_known bodies count) (λ now u th. IsWithin now th) (within_lasts bodies count) n start
+      (record { each = λ u lt. begun.each u; counted = e; handled = λ signal. any_action bodies count _ })).counted
 
 -- so it is at every tick of a script
 pub head_runs : (script : Script) (k : ℕ) → HeadRuns script k
@@ -202,7 +153,7 @@ head_runs script k = record {
   counted = λ u lt.
       let count = length (threads_of script) in
       let bodies = bodies_of script in
-      let long = ticks_length bodies count k (opening script) (length-map (threads_of script) (thread_opened {P = Place})) in
+      let long = ticks_length bodies count k (opening script) (length-map (threads_of script) (thread_opened {P = Place})) (record { each = nothing_run (threads_of script) }) in
       let one = tick_counts bodies count (machine script k) long u lt in
       rw (add-one k) one;
 }

@@ -60,11 +60,11 @@ module _ {P : Type 0} (given : Given P) (Q : ℕ → ℕ → Thread P → Type 0
 
   -- ---- the sweep
 
-  interrupts_hold : (w : Option Waiting) (t : ℕ) (s : Turn P) → Holding s → Holding (interrupts w t s)
+  pub interrupts_hold : (w : Option Waiting) (t : ℕ) (s : Turn P) → Holding s → Holding (interrupts w t s)
   interrupts_hold None t s h = h
   interrupts_hold (Some w) t s h = wakes_hold given Q closed t res.Intr (ticks_left w.call w.due s.machine.now) s h
 
-  acts_hold : (a : SigAction) (t : ℕ) (r : SignalRecord) (s : Turn P) → ActionKnown given a → catches_signal (thread_at s.machine t) ≡ false → Holding s → Holding (acts given.bodies a t r s)
+  pub acts_hold : (a : SigAction) (t : ℕ) (r : SignalRecord) (s : Turn P) → ActionKnown given a → catches_signal (thread_at s.machine t) ≡ false → Holding s → Holding (acts given.bodies a t r s)
   acts_hold action.Kill t r s known free h = h
   acts_hold action.Ignore t r s known free h = h
   acts_hold (action.Handler n) t r s known free h =
@@ -72,14 +72,14 @@ module _ {P : Type 0} (given : Given P) (Q : ℕ → ℕ → Thread P → Type 0
       let woke = interrupts (waiting_of s.machine t) t out in
       let x = delivers t r woke in
       changes_hold given Q t (on_top (new_frame given.bodies frame.Signal (body_of.Handler n) (capped r.value))) x
-      (λ lt q. closed.catches x.machine.now t (thread_at x.machine t) n (capped r.value) known (delivers_catches t t r woke ∙ interrupts_catches (waiting_of s.machine t) t t out ∙ free) q)
+      (λ lt q. closed.catches x.machine.now t (thread_at x.machine t) n r.value known (delivers_catches t t r woke ∙ interrupts_catches (waiting_of s.machine t) t t out ∙ free) q)
       (delivers_hold given Q closed t r woke (interrupts_hold (waiting_of s.machine t) t out h))
 
-  takes_record_hold : (r : Option SignalRecord) (t : ℕ) (s : Turn P) → catches_signal (thread_at s.machine t) ≡ false → Holding s → Holding (takes_record given.bodies r t s)
+  pub takes_record_hold : (r : Option SignalRecord) (t : ℕ) (s : Turn P) → catches_signal (thread_at s.machine t) ≡ false → Holding s → Holding (takes_record given.bodies r t s)
   takes_record_hold None t s free h = h
   takes_record_hold (Some r) t s free h = acts_hold (action_of s.machine r.signal) t r s (h.handled r.signal) free h
 
-  sweeps_thread_hold : (killed : Option ℕ) (t : ℕ) (s : Turn P) → Holding s → Holding (sweeps_thread given.bodies killed t s)
+  pub sweeps_thread_hold : (killed : Option ℕ) (t : ℕ) (s : Turn P) → Holding s → Holding (sweeps_thread given.bodies killed t s)
   sweeps_thread_hold (Some signal) t s h = h
   sweeps_thread_hold None t s h = free_or_not (may_be_interrupted (thread_at s.machine t)) refl
     where
@@ -87,7 +87,7 @@ module _ {P : Type 0} (given : Given P) (Q : ℕ → ℕ → Thread P → Type 0
       free_or_not true e = takes_record_hold (selected s.machine (can_take s.machine t)) t s (grind arith) h
       free_or_not false e = h
 
-  sweeps_all_hold : (ts : List ℕ) (s : Turn P) → Holding s → Holding (sweeps_all given.bodies ts s)
+  pub sweeps_all_hold : (ts : List ℕ) (s : Turn P) → Holding s → Holding (sweeps_all given.bodies ts s)
   sweeps_all_hold [] s h = h
   sweeps_all_hold (t ∷ ts) s h = sweeps_all_hold ts (sweeps_thread given.bodies s.machine.killed t s) (sweeps_thread_hold s.machine.killed t s h)
 
@@ -102,7 +102,7 @@ module _ {P : Type 0} (given : Given P) (Q : ℕ → ℕ → Thread P → Type 0
   times_out_of_hold (for_signal set) t s h = wakes_hold given Q closed t res.Again 0 s h
   times_out_of_hold _ t s h = wakes_hold given Q closed t res.Timedout 0 s h
 
-  times_out_hold : (w : Option Waiting) (t : ℕ) (s : Turn P) → Holding s → Holding (times_out w t s)
+  pub times_out_hold : (w : Option Waiting) (t : ℕ) (s : Turn P) → Holding s → Holding (times_out w t s)
   times_out_hold None t s h = h
   times_out_hold (Some w) t s h = times_out_of_hold w.wait t s h
 

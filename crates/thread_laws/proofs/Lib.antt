@@ -4,4 +4,11 @@ pub mod Calls
 pub mod Table
 pub mod Items
 pub mod Runs
+pub mod Known
+pub mod Within
 pub mod HeadRuns
+pub mod MadeCalls
+pub mod Plain
+pub mod Begins
+pub mod Frames
+pub mod FramesTaken

@@ -1,11 +1,11 @@
 -- What threads keep, ticks and runs keep.
-use Rattle.std.proofs.Common.{Bool, None, Option, Some, arith, false, refl, subst, suc, sym, true, zero, ℕ, ◌+◌, ◌∙◌, ◌≡◌}
+use Rattle.std.proofs.Common.{Bool, None, Option, Some, arith, false, length, refl, subst, suc, sym, true, zero, ℕ, ◌+◌, ◌∙◌, ◌≡◌}
 use Rattle.script_flat.specs.declared.unit.Unit as units
 use Rattle.pse52_trace.specs.declared.event.Event.{Event}
 use Rattle.pse52_trace.specs.declared.event.Event.TheVariants as event
 use Rattle.machine_rules.specs.Lists.{is}
 use Rattle.machine_rules.specs.State.{Machine, Thread}
-use Rattle.machine_rules.specs.Threads.{can_run, no_thread, thread_at, top_left}
+use Rattle.machine_rules.specs.Threads.{action_of, can_run, no_thread, thread_at, top_left}
 use Rattle.machine_rules.specs.Turns.{Turn, becomes, changes, tells, turn_of}
 use Rattle.machine_rules.specs.Servers.{has_high, plans}
 use Rattle.machine_rules.specs.Dispatch.{dispatch_event, dispatches, head, is_same, tells_unless}
@@ -14,7 +14,8 @@ use Rattle.machine_rules.specs.Units.{in_unit}
 use Rattle.machine_rules.specs.Ticks.{TickEnd, completes_at, ends_tick, exhausting, later, nothing, planning, runs, runs_head, slicing, tick, tick_charged, tick_end, tick_ends, unit_ticked, unless_killed, without_slice}
 use Rattle.machine_rules.specs.Runs.{ticks}
 use Rattle.machine_rules.proofs.Reading.{changed-length}
-use Rattle.thread_laws.specs.EachThread.{Closed, Given, Lasts, Passes, UnitKnown}
+use Rattle.machine_rules.specs.Throughout.{HoldsThroughout}
+use Rattle.thread_laws.specs.EachThread.{ActionKnown, Closed, EachThread, Given, Lasts, Passes, UnitKnown}
 use Rattle.thread_laws.proofs.Changes.{Holds, at_self, at_two, changes_hold}
 use Rattle.thread_laws.proofs.Waking.{moves_if_hold, moves_unless_boosted_hold, plans_hold}
 use Rattle.thread_laws.proofs.Table.{unit_effect_hold}
@@ -49,29 +50,39 @@ module _ {P : Type 0} (given : Given P) (Q : ℕ → ℕ → Thread P → Type 0
 -- ---- a tick, from one law to another
 
 module _ {P : Type 0} (given : Given P) (Q R : ℕ → ℕ → Thread P → Type 0) (closed : Closed given R) (to : Option ℕ) (passes : Passes given Q R to) where
-  later_holds : (s : Turn P) → ((u : ℕ) → is to u ≡ false) → Holds given Q s → Holds given R (becomes later s)
+  pub later_holds : (s : Turn P) → ((u : ℕ) → is to u ≡ false) → Holds given Q s → Holds given R (becomes later s)
   later_holds s free h = record { each = λ u lt. passes.rests s.machine.now u (thread_at s.machine u) (free u) (h.each u lt); counted = h.counted; handled = h.handled }
 
-  ticked_holds : (before : Machine P) (t : ℕ) (s : Turn P) → to ≡ Some t → Holds given Q s → Holds given R (unit_ticked given.bodies before t (in_unit given.bodies (thread_at s.machine t)) s)
-  ticked_holds before t s e h =
+  -- the tick is charged, and the unit has not had its effect
+  abbrev pub charged_turn : ℕ → Turn P → Turn P
+  charged_turn t s = becomes later (changes t (λ th. tick_charged (in_unit given.bodies (thread_at s.machine t)).thread) s)
+
+  pub charged_known : (t : ℕ) (s : Turn P) → to ≡ Some t → Holds given Q s → UnitKnown given (thread_at (charged_turn t s).machine t) (in_unit given.bodies (thread_at s.machine t)).unit
+  charged_known t s e h =
+      let taken = in_unit given.bodies (thread_at s.machine t) in
+      at_self (λ (th : Thread P). UnitKnown given th taken.unit) no_thread (λ th. tick_charged taken.thread) s.machine.threads t
+      (λ lt. passes.known s.machine.now t (thread_at s.machine t) e (h.each t lt))
+      (λ none. subst (λ (th : Thread P). UnitKnown given no_thread (in_unit given.bodies th).unit) (sym none) tt)
+
+  pub charged_holds : (t : ℕ) (s : Turn P) → to ≡ Some t → Holds given Q s → Holds given R (charged_turn t s)
+  charged_holds t s e h =
       let now = s.machine.now in
       let ths = s.machine.threads in
       let taken = in_unit given.bodies (thread_at s.machine t) in
-      let f : Thread P → Thread P = λ th. tick_charged taken.thread in
-      let x = becomes later (changes t f s) in
-      let same = changed-length no_thread t f ths in
-      let known : UnitKnown given (thread_at x.machine t) taken.unit = at_self (λ (th : Thread P). UnitKnown given th taken.unit) no_thread f ths t
-      (λ lt. passes.known now t (thread_at s.machine t) e (h.each t lt))
-      (λ none. subst (λ (th : Thread P). UnitKnown given no_thread (in_unit given.bodies th).unit) (sym none) tt) in
-      let charged : Holds given R x = record {
+      let same = changed-length no_thread t (λ th. tick_charged taken.thread) ths in
+      record {
         each = λ u lt. at_two (R (now + 1)) no_thread (tick_charged taken.thread) ths t u (λ lt. passes.runs now t (thread_at s.machine t) e (h.each t lt))
             (λ j other lt. passes.rests now j (thread_at s.machine j) (rw e other) (h.each j lt)) (omega (arith, same, lt));
         counted = same ∙ h.counted;
         handled = h.handled;
-      } in
-      completes_hold given R closed (top_left (thread_at x.machine t).frames) t taken.unit x known charged
+      }
 
-  runs_hold : (o : Option ℕ) (s : Turn P) → to ≡ o → Holds given Q s → Holds given R (runs given.bodies o s)
+  pub ticked_holds : (before : Machine P) (t : ℕ) (s : Turn P) → to ≡ Some t → Holds given Q s → Holds given R (unit_ticked given.bodies before t (in_unit given.bodies (thread_at s.machine t)) s)
+  ticked_holds before t s e h =
+      let x = charged_turn t s in
+      completes_hold given R closed (top_left (thread_at x.machine t).frames) t (in_unit given.bodies (thread_at s.machine t)).unit x (charged_known t s e h) (charged_holds t s e h)
+
+  pub runs_hold : (o : Option ℕ) (s : Turn P) → to ≡ o → Holds given Q s → Holds given R (runs given.bodies o s)
   runs_hold None s e h = later_holds s (λ u. rw e refl) h
   runs_hold (Some t) s e h =
       let done = unit_ticked given.bodies s.machine t (in_unit given.bodies (thread_at s.machine t)) s in
@@ -103,3 +114,11 @@ module _ {P : Type 0} (given : Given P) (Q : ℕ → ℕ → Thread P → Type 0
   -- after some ticks, and some items of the next with their sweeps
   pub holds_throughout : (n most : ℕ) (start : Machine P) → Lasting (turn_of start) → Lasting (items_done given.bodies most (turn_of (ticks given.bodies n start).machine))
   holds_throughout n most start h = items_done_hold given Q lasts.closed most (turn_of (ticks given.bodies n start).machine) (ticks_hold n start h)
+
+-- What lasts holds of each thread at each instant of a run, and between its items, where it holds of each thread at first and the actions
+-- of the signals are known.
+pub each_throughout : {P : Type 0} (given : Given P) (Q : ℕ → ℕ → Thread P → Type 0) → Lasts given Q → (start : Machine P) → length start.threads ≡ given.count →
+    ((signal : ℕ) → ActionKnown given (action_of start signal)) → EachThread Q start → HoldsThroughout given.bodies start (EachThread Q)
+each_throughout given Q lasts start counted handled each = record {
+  each = λ n most. (holds_throughout given Q lasts n most start (record { each = each; counted = counted; handled = handled })).each;
+}

@@ -7,6 +7,7 @@ use Rattle.script_tree.specs.declared.call.Call.TheVariants as call
 use Rattle.script_tree.specs.declared.policy.Policy.{Policy}
 use Rattle.script_flat.specs.declared.unit.Unit as units
 use Rattle.script_flat.specs.declared.unit.Unit.TheVariants as unit
+use Rattle.script_flat.specs.Next.{capped}
 use Rattle.sporadic_server.specs.Server.{activate, plan, refill}
 use Rattle.machine_rules.specs.declared.frame.BodyOf.TheVariants as body_of
 use Rattle.machine_rules.specs.declared.frame.FrameKind.TheVariants as frame
@@ -77,7 +78,7 @@ pub record Closed {P : Type 0} (given : Given P) (Q : ℕ → ℕ → Thread P �
   pub pops : (now u : ℕ) (th : Thread P) (runs : Bool) → given.Known th (call.Pop runs) → Q now u th →
       Q now u (runs_cleanup_if runs given.bodies th.cleanups (answered res.Zero 0 (without_cleanup th)))
   pub catches : (now u : ℕ) (th : Thread P) (h value : ℕ) → given.Handles h → catches_signal th ≡ false → Q now u th →
-      Q now u (on_top (new_frame given.bodies frame.Signal (body_of.Handler h) value) th)
+      Q now u (on_top (new_frame given.bodies frame.Signal (body_of.Handler h) (capped value)) th)
   -- a frame ends, or the thread
   pub leaves : (now u : ℕ) (th : Thread P) → is_main (top_kind th.frames) ≡ false → Q now u th → Q now u (without_top th)
   pub ending : (now u : ℕ) (th : Thread P) (value : ℕ) → Q now u th → Q now u (ending_with value th)

@@ -1,0 +1,24 @@
+-- Where nothing is asked of handlers and calls, all of them are known.
+use Rattle.std.proofs.Common.{ℕ}
+use Rattle.script_flat.specs.declared.unit.Unit as units
+use Rattle.script_flat.specs.declared.unit.Unit.TheVariants as unit
+use Rattle.machine_rules.specs.declared.signal.SigAction.{SigAction}
+use Rattle.machine_rules.specs.declared.signal.SigAction.TheVariants as action
+use Rattle.machine_rules.specs.Bodies.{Bodies}
+use Rattle.machine_rules.specs.State.{Thread}
+use Rattle.thread_laws.specs.EachThread.{ActionKnown, Given, UnitKnown}
+
+module _ {P : Type 0} (bodies : Bodies P) (count : ℕ) where
+  abbrev pub all_known : Given P
+  all_known = record { bodies = bodies; count = count; Handles = λ h. Unit {0}; Known = λ th c. Unit {0} }
+
+  pub any_action : (a : SigAction) → ActionKnown all_known a
+  any_action action.Kill = tt
+  any_action action.Ignore = tt
+  any_action (action.Handler h) = tt
+
+  pub any_unit : (th : Thread P) (u : units.Unit) → UnitKnown all_known th u
+  any_unit th (unit.Run n) = tt
+  any_unit th (unit.Make c) = tt
+  any_unit th unit.Jump = tt
+  any_unit th unit.Finish = tt
