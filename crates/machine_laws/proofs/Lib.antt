@@ -12,3 +12,4 @@ pub mod Sweeps
 pub mod Items
 pub mod Good
 pub mod Premises
+pub mod Agenda
