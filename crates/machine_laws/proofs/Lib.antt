@@ -13,3 +13,4 @@ pub mod Items
 pub mod Good
 pub mod Premises
 pub mod Agenda
+pub mod Scripts

@@ -11,6 +11,7 @@ use Rattle.machine_rules.specs.Machine.{bodies_of, machine}
 use Rattle.machine_rules.specs.Eventful.{has_item, is_eventful, next_tick_matters, unless_ended}
 use Rattle.machine_rules.specs.WellFormed.{IsWellFormed}
 use Rattle.machine_leaps.proofs.Quiet.Runs.{charges, handled_swept, first_of, handled, handled_nothing, handled_stands, last_charge, quiet_ticks, second_of}
+use Rattle.machine_moves.proofs.Runs.Units.{bodies_fit}
 use Rattle.machine_leaps.specs.Quiet.{IsQuietBetween, at_once, one_charge}
 use Rattle.machine_leaps.proofs.Quiet.AnyMachine.{charged_at_once}
 use Rattle.machine_leaps.proofs.Leaps.Calm.{Handled}
@@ -38,8 +39,8 @@ module _ (script : Script) (fits : IsWellFormed script) where
 
   stands : (a : ℕ) → Handled (bodies_of script) (now a)
   stands a =
-      let r = handled_stands script fits a in
-      record { nothing = instant_ends (bodies_of script) (turn_of (machine script a)); listed = r.listed; stand = r.rest.0.0.stand; swept = handled_swept script fits a }
+      let r = handled_stands (bodies_of script) (bodies_fit script fits.priorities) script fits a in
+      record { nothing = instant_ends (bodies_of script) (turn_of (machine script a)); listed = r.listed; stand = r.rest.0.0.stand; swept = handled_swept (bodies_of script) (bodies_fit script fits.priorities) script fits a }
 
   -- so many charges, one after another, are one
   once : (a k : ℕ) → IsQuietBetween script a (a + suc k) → charges (bodies_of script) (suc k) (now a) ≡ at_once (bodies_of script) (suc k) (now a)
