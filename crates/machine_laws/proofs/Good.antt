@@ -1,47 +1,38 @@
 -- After each due item with its sweep all parts are right.
-use Rattle.std.proofs.Common.{None, ℕ, ◌≡◌}
+use Rattle.std.proofs.Common.{List, None, ℕ, ◌≡◌}
 use Rattle.script_tree.specs.declared.decl.Script.{Script}
-use Rattle.script_flat.specs.Next.{Place}
 use Rattle.machine_rules.specs.Bodies.{Bodies}
 use Rattle.machine_rules.specs.State.{Machine}
 use Rattle.machine_rules.specs.Turns.{turn_of}
-use Rattle.machine_rules.specs.Runs.{opening}
-use Rattle.machine_rules.specs.GoodState.{CleanupsAreRight, IsSwept, ListsAreRight, SerialsAreRight}
-use Rattle.machine_rules.specs.Machine.{bodies_of, machine}
-use Rattle.machine_rules.specs.Promises.{RunStaysGood, guards_in}
+use Rattle.machine_rules.specs.Runs.{opening, ticks}
+use Rattle.machine_rules.specs.declared.frame.BodyOf.{BodyOf}
+use Rattle.machine_rules.specs.GoodState.{StaysGood, CleanupsAreRight, IsSwept, ListsAreRight, SerialsAreRight}
 use Rattle.machine_rules.specs.WellFormed.{IsWellFormed}
 use Rattle.machine_moves.specs.UnitRanges.{BodiesFit}
 use Rattle.machine_rules.specs.Throughout.{HoldsThroughout, after_items}
-use Rattle.machine_moves.proofs.Runs.Units.{bodies_fit}
 use Rattle.machine_laws.proofs.Parts.Opening.{opening_listed}
 use Rattle.machine_moves.proofs.Runs.Since.{Rests, items_keep, run_since}
 use Rattle.machine_laws.proofs.Lists.Places.{lists_right}
 use Rattle.machine_laws.proofs.Lists.Priorities.{priorities}
 use Rattle.machine_laws.proofs.Lists.Kept.{Placed}
+use Rattle.machine_laws.specs.GuardedBodies.{BodiesGuarded}
 use Rattle.machine_laws.proofs.Sweeps.Visits.{is_swept}
 use Rattle.machine_laws.proofs.Sweeps.Kept.{EndHeard, InHeard, LawHeard, RestHeard, Swept, brings, items_after, opening_rest, run_quiet, tick_heard}
 use Rattle.machine_laws.proofs.Serials.Sweeps.{serials_right}
 use Rattle.machine_laws.proofs.Serials.Kept.{EndSourced, InSourced, LawSourced, RestSourced, items_few, opening_sourced, run_few, tick_sourced}
-use Rattle.machine_laws.proofs.Cleanups.Blocks.{bodies_guarded}
 use Rattle.machine_laws.proofs.Cleanups.Kept.{cleanups_right, items_clean, run_all_clean}
 use Rattle.machine_laws.proofs.Items.{mutexes_throughout, servers_throughout, signals_throughout, waits_throughout}
 
-module _ (script : Script) (fits : IsWellFormed script) where
-  abbrev bodies : Bodies Place
-  bodies = bodies_of script
-
-  abbrev after : ℕ → ℕ → Machine Place
+module _ {P : Type 0} (bodies : Bodies P) (ranges : BodiesFit bodies) (script : Script) (fits : IsWellFormed script) where
+  abbrev after : ℕ → ℕ → Machine P
   after n k = after_items bodies (opening script) n k
 
-  abbrev ranges : BodiesFit bodies
-  ranges = bodies_fit script fits.priorities
-
   -- at an instant, and then after k of its items
-  stands : (n : ℕ) → Rests bodies ranges (RestSourced bodies) (LawSourced bodies) (InSourced bodies) (InSourced bodies) (EndSourced bodies) (tick_sourced bodies) (turn_of (machine script n))
-  stands n = run_since bodies ranges (RestSourced bodies) (LawSourced bodies) (InSourced bodies) (InSourced bodies) (EndSourced bodies) (tick_sourced bodies) n (opening script) (opening_sourced script fits) (opening_listed script)
+  stands : (n : ℕ) → Rests bodies ranges (RestSourced bodies) (LawSourced bodies) (InSourced bodies) (InSourced bodies) (EndSourced bodies) (tick_sourced bodies) (turn_of (ticks bodies n (opening script)).machine)
+  stands n = run_since bodies ranges (RestSourced bodies) (LawSourced bodies) (InSourced bodies) (InSourced bodies) (EndSourced bodies) (tick_sourced bodies) n (opening script) (opening_sourced bodies ranges script fits) (opening_listed P script)
 
   rest_after : (n k : ℕ) → RestSourced bodies (after n k)
-  rest_after n k = (items_keep bodies ranges (RestSourced bodies) (LawSourced bodies) (InSourced bodies) (InSourced bodies) (EndSourced bodies) (tick_sourced bodies) k (turn_of (machine script n)) (stands n)).rest
+  rest_after n k = (items_keep bodies ranges (RestSourced bodies) (LawSourced bodies) (InSourced bodies) (InSourced bodies) (EndSourced bodies) (tick_sourced bodies) k (turn_of (ticks bodies n (opening script)).machine) (stands n)).rest
 
   placed_after : (n k : ℕ) → Placed (after n k)
   placed_after n k = (rest_after n k).0.0.0.0
@@ -51,34 +42,35 @@ module _ (script : Script) (fits : IsWellFormed script) where
 
   pub serials_throughout : HoldsThroughout bodies (opening script) SerialsAreRight
   serials_throughout = record {
-    each = λ n k. serials_right (after n k) (rest_after n k).0.1 (items_few bodies ranges k (turn_of (machine script n)) (stands n) (run_few script fits n));
+    each = λ n k. serials_right (after n k) (rest_after n k).0.1 (items_few bodies ranges k (turn_of (ticks bodies n (opening script)).machine) (stands n) (run_few bodies ranges script fits n));
   }
 
   swept_after : (n k : ℕ) → Swept bodies (after n k)
   swept_after n k =
-      let stands3 = run_since bodies ranges (RestHeard bodies) (LawHeard bodies) (InHeard bodies) (InHeard bodies) (EndHeard bodies) (tick_heard bodies) n (opening script) (opening_rest script fits) (opening_listed script) in
-      items_after bodies ranges (RestHeard bodies) (LawHeard bodies) (InHeard bodies) (InHeard bodies) (EndHeard bodies) (tick_heard bodies) (Swept bodies) (brings script fits) k (turn_of (machine script n)) stands3 (run_quiet script fits n)
+      let stands3 = run_since bodies ranges (RestHeard bodies) (LawHeard bodies) (InHeard bodies) (InHeard bodies) (EndHeard bodies) (tick_heard bodies) n (opening script) (opening_rest bodies ranges script fits) (opening_listed P script) in
+      items_after bodies ranges (RestHeard bodies) (LawHeard bodies) (InHeard bodies) (InHeard bodies) (EndHeard bodies) (tick_heard bodies) (Swept bodies) (brings bodies ranges script fits) k (turn_of (ticks bodies n (opening script)).machine) stands3 (run_quiet bodies ranges script fits n)
 
   pub swept_throughout : HoldsThroughout bodies (opening script) (λ m. m.killed ≡ None → IsSwept bodies m)
   swept_throughout = record { each = λ n k alive. is_swept bodies (after n k) (swept_after n k alive) (placed_after n k).stand }
 
-  pub cleanups_throughout : HoldsThroughout bodies (opening script) (CleanupsAreRight (guards_in script))
-  cleanups_throughout = record {
-    each = λ n k. let each_guards = bodies_guarded script fits.guards in
-        cleanups_right bodies ranges (guards_in script) each_guards (after n k) (items_clean bodies ranges (guards_in script) each_guards k (turn_of (machine script n)) (run_all_clean script fits n));
-  }
+  module _ (guards : BodyOf → P → List ℕ) (guarded : BodiesGuarded bodies guards) where
+    pub cleanups_throughout : HoldsThroughout bodies (opening script) (CleanupsAreRight guards)
+    cleanups_throughout = record {
+      each = λ n k. cleanups_right bodies ranges guards guarded (after n k) (items_clean bodies ranges guards guarded k (turn_of (ticks bodies n (opening script)).machine) (run_all_clean bodies ranges guards guarded script fits n));
+    }
 
-  pub good_throughout : RunStaysGood script
-  good_throughout = record {
-    each = λ n k. record {
-      lists = lists_throughout.each n k;
-      mutexes = (mutexes_throughout script fits).each n k;
-      servers = (servers_throughout script fits).each n k;
-      waits = (waits_throughout script fits).each n k;
-      slices = λ t here. (rest_after n k).0.0.0.1.each t;
-      signals = (signals_throughout script fits).each n k;
-      serials = serials_throughout.each n k;
-      cleanups = cleanups_throughout.each n k;
-      swept = swept_throughout.each n k;
-    };
-  }
+    -- all parts together
+    pub good_throughout : StaysGood bodies guards (opening script)
+    good_throughout = record {
+      each = λ n k. record {
+        lists = lists_throughout.each n k;
+        mutexes = (mutexes_throughout bodies ranges script fits).each n k;
+        servers = (servers_throughout bodies ranges script fits).each n k;
+        waits = (waits_throughout bodies ranges script fits).each n k;
+        slices = λ t here. (rest_after n k).0.0.0.1.each t;
+        signals = (signals_throughout bodies ranges script fits).each n k;
+        serials = serials_throughout.each n k;
+        cleanups = cleanups_throughout.each n k;
+        swept = swept_throughout.each n k;
+      };
+    }

@@ -8,12 +8,10 @@ use Rattle.machine_rules.specs.Turns.{Turn, turn_of}
 use Rattle.machine_rules.specs.DueItems.{item_done, item_then, items_done, next_item}
 use Rattle.machine_rules.specs.Runs.{opening, ticks}
 use Rattle.machine_rules.specs.GoodState.{MutexesAreRight, ServersAreRight, SignalsAreRight, WaitsAreRight}
-use Rattle.machine_rules.specs.Machine.{bodies_of}
 use Rattle.machine_rules.specs.WellFormed.{IsWellFormed}
 use Rattle.machine_moves.specs.UnitRanges.{BodiesFit}
 use Rattle.machine_rules.specs.Throughout.{HoldsThroughout, after_items}
 use Rattle.machine_moves.proofs.Runs.Listed.{AllRun}
-use Rattle.machine_moves.proofs.Runs.Units.{bodies_fit}
 use Rattle.machine_laws.proofs.Parts.Opening.{opening_listed, opening_right}
 use Rattle.machine_laws.proofs.Parts.Kept.{PartsRight, parts_tick}
 use Rattle.machine_laws.proofs.Signals.Records.{signals_right}
@@ -52,26 +50,26 @@ module _ {P : Type 0} (bodies : Bodies P) where
       by_next None e rest = sym (none_same e)
       by_next (Some i) e rest = rest (item_done bodies i s)
 
--- ---- of every script that keeps its ranges
+-- ---- of every well formed script, over any bodies that keep their ranges
 
-module _ (script : Script) (fits : IsWellFormed script) where
-  parts_throughout : HoldsThroughout (bodies_of script) (opening script) PartsRight
-  parts_throughout = throughout (bodies_of script) (bodies_fit script fits.priorities) PartsRight (λ was_high t s. PartsRight s.machine) (λ was_high t s. PartsRight s.machine) (parts_tick (bodies_of script)) (opening script) (opening_right script) (opening_listed script)
+module _ {P : Type 0} (bodies : Bodies P) (ranges : BodiesFit bodies) (script : Script) (fits : IsWellFormed script) where
+  parts_throughout : HoldsThroughout bodies (opening script) PartsRight
+  parts_throughout = throughout bodies ranges PartsRight (λ was_high t s. PartsRight s.machine) (λ was_high t s. PartsRight s.machine) (parts_tick bodies) (opening script) (opening_right P script) (opening_listed P script)
 
-  pub mutexes_throughout : HoldsThroughout (bodies_of script) (opening script) MutexesAreRight
+  pub mutexes_throughout : HoldsThroughout bodies (opening script) MutexesAreRight
   mutexes_throughout = record { each = λ n k. (parts_throughout.each n k).mutexes }
 
-  pub waits_throughout : HoldsThroughout (bodies_of script) (opening script) WaitsAreRight
+  pub waits_throughout : HoldsThroughout bodies (opening script) WaitsAreRight
   waits_throughout = record {
     each = λ n k. let parts = parts_throughout.each n k in record { semaphores = parts.semaphores; receivers = λ q w. (parts.queues q).receivers w; senders = λ q w. (parts.queues q).senders w };
   }
 
-  pub signals_throughout : HoldsThroughout (bodies_of script) (opening script) SignalsAreRight
-  signals_throughout = record { each = λ n k. signals_right (after_items (bodies_of script) (opening script) n k) (parts_throughout.each n k).records }
+  pub signals_throughout : HoldsThroughout bodies (opening script) SignalsAreRight
+  signals_throughout = record { each = λ n k. signals_right (after_items bodies (opening script) n k) (parts_throughout.each n k).records }
 
-  pub servers_throughout : HoldsThroughout (bodies_of script) (opening script) ServersAreRight
+  pub servers_throughout : HoldsThroughout bodies (opening script) ServersAreRight
   servers_throughout = record {
     each = λ n k.
-        let right = throughout (bodies_of script) (bodies_fit script fits.priorities) (λ m. ServedRight (bodies_of script) (turn_of m)) (ServedMid (bodies_of script)) (ServedDone (bodies_of script)) (served_tick (bodies_of script)) (opening script) (opening_served script) (opening_listed script) in
-        servers_right (bodies_of script) (after_items (bodies_of script) (opening script) n k) (right.each n k).1;
+        let right = throughout bodies ranges (λ m. ServedRight bodies (turn_of m)) (ServedMid bodies) (ServedDone bodies) (served_tick bodies) (opening script) (opening_served bodies script) (opening_listed P script) in
+        servers_right bodies (after_items bodies (opening script) n k) (right.each n k).1;
   }

@@ -12,3 +12,5 @@ pub mod Sweeps
 pub mod Items
 pub mod Good
 pub mod Premises
+pub mod Agenda
+pub mod Scripts

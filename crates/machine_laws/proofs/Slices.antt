@@ -5,7 +5,6 @@ use mathlib.Core.Path.{subst}
 use Rattle.script_tree.specs.declared.decl.Script.{Script}
 use Rattle.script_tree.specs.declared.policy.Policy.{Policy}
 use Rattle.script_tree.specs.declared.policy.Policy.TheVariants as policy
-use Rattle.script_flat.specs.Next.{Place}
 use Rattle.pse52_trace.specs.declared.event.Event.TheVariants as event
 use Rattle.sporadic_server.specs.Server.{ServerState, activate, oldest_pending, plan, refill}
 use Rattle.machine_rules.specs.Lists.{changed_at, is}
@@ -243,11 +242,11 @@ module _ {P : Type 0} (bodies : Bodies P) where
 
 -- ---- the opening
 
-opened_slice : (ds : List ThreadDecl) (t : ℕ) → (thread_in (map (λ (d : ThreadDecl). thread_opened {P = Place} d) ds) t).slice ≡ 0
-opened_slice [] t = refl
-opened_slice (d ∷ ds) zero = refl
-opened_slice (d ∷ ds) (suc t) = opened_slice ds t
+opened_slice : (P : Type 0) (ds : List ThreadDecl) (t : ℕ) → (thread_in (map (λ (d : ThreadDecl). thread_opened {P = P} d) ds) t).slice ≡ 0
+opened_slice P [] t = refl
+opened_slice P (d ∷ ds) zero = refl
+opened_slice P (d ∷ ds) (suc t) = opened_slice P ds t
 
-module _ (script : Script) (fits : IsWellFormed script) where
-  pub opening_slices : Slices None (opening {P = Place} script)
-  opening_slices = record { some = fits.quantum; each = λ t. subst (λ (n : ℕ). n < script.quantum) (sym (opened_slice (threads_of script) t)) fits.quantum }
+module _ (P : Type 0) (script : Script) (fits : IsWellFormed script) where
+  pub opening_slices : Slices None (opening {P = P} script)
+  opening_slices = record { some = fits.quantum; each = λ t. subst (λ (n : ℕ). n < script.quantum) (sym (opened_slice P (threads_of script) t)) fits.quantum }

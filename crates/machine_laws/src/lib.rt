@@ -6,7 +6,10 @@
 
 ghost use Rattle.std.specs.Prelude.{ℕ, suc, ◌≡◌};
 ghost use Rattle.script_tree.specs.declared.decl.Script.{Script};
-ghost use Rattle.machine_rules.specs.DueItems.{item_then, next_item};
+ghost use Rattle.script_flat.specs.Next.{Place};
+ghost use Rattle.machine_rules.specs.Agenda.{agenda, items_due};
+ghost use Rattle.machine_rules.specs.DueItems.{due_items, item_then, next_item};
+ghost use Rattle.machine_rules.specs.State.{Machine};
 ghost use Rattle.machine_rules.specs.Machine.{bodies_of};
 ghost use Rattle.machine_rules.specs.Promises.{RunKeepsBudgets, RunStaysGood};
 ghost use Rattle.machine_rules.specs.Runs.{opening};
@@ -27,4 +30,9 @@ pub fn budgets_are_kept()
 /// The states between the items of an instant are those that one item more leaves, with its moves and its sweep, as long as one is due.
 pub fn items_come_one_by_one()
     ensures { (script : Script) → (n k : ℕ) → let s = turn_after (bodies_of script) (opening script) n k in turn_after (bodies_of script) (opening script) n (suc k) ≡ item_then (bodies_of script) (next_item s.machine) (λ x. x) s }
+{}
+
+/// The items of an instant, as the machine finds them, are those of all that is to come whose due tick has come, in the same order.
+pub fn items_are_of_the_agenda()
+    ensures { (m : Machine Place) → due_items m ≡ items_due m.now (agenda m) }
 {}

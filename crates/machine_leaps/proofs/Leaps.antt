@@ -2,5 +2,7 @@ pub mod Calm
 pub mod LastTick
 pub mod Law
 pub mod Bounds
-pub mod Steps
+pub mod Ended
+pub mod Lengths
+pub mod Counts
 pub mod Scripts

@@ -2,5 +2,6 @@ pub mod Ticks
 pub mod Charges
 pub mod Runs
 pub mod Once
-pub mod Law
 pub mod Events
+pub mod AnyMachine
+pub mod Law

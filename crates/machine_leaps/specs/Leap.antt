@@ -1,20 +1,22 @@
 -- A leap: k ticks of the head at once, the last of them whole. All of it is this project's own.
-use Rattle.std.specs.Prelude.{None, Option, Some, false, true, ℕ, ◌+◌, ◌<◌, ◌≤◌, ◌≡◌}
+use Rattle.std.specs.Prelude.{List, None, Option, Some, [], false, max, min, suc, true, zero, ℕ, ◌+◌, ◌-◌, ◌<◌, ◌≤◌, ◌≡◌, ◌∷◌, ◌++◌, if◌then◌else◌}
 use Rattle.script_tree.specs.declared.policy.Policy.{Policy}
 use Rattle.script_tree.specs.declared.policy.Policy.TheVariants as policy
 use Rattle.sporadic_server.specs.Server.{ServerState, is_high}
 use Rattle.machine_rules.specs.Bodies.{Bodies}
 use Rattle.machine_rules.specs.State.{Machine, Thread}
 use Rattle.machine_rules.specs.Threads.{thread_at, top_left}
-use Rattle.machine_rules.specs.Turns.{Turn, becomes, changes, settles_since, ◌▷◌}
+use Rattle.machine_rules.specs.Turns.{Turn, becomes, changes, settles_since, turn_of, ◌▷◌}
 use Rattle.machine_rules.specs.Servers.{has_high}
 use Rattle.machine_rules.specs.Delivery.{sweeps}
-use Rattle.machine_rules.specs.DueItems.{instant, next_item}
+use Rattle.machine_rules.specs.Agenda.{Coming, agenda}
+use Rattle.machine_rules.specs.DueItems.{instant}
 use Rattle.machine_rules.specs.Dispatch.{dispatches, head}
 use Rattle.machine_rules.specs.Units.{InUnit, in_unit}
 use Rattle.machine_rules.specs.Ticks.{completes, tick_ends, unless_killed}
-use Rattle.machine_rules.specs.Eventful.{has_item, tick_matters}
-use Rattle.machine_leaps.specs.QuietSpans.{after_ticks}
+use Rattle.machine_rules.specs.Eventful.{busy, is_eventful}
+use Rattle.machine_rules.specs.Runs.{Ran, ran, ticks}
+use Rattle.machine_leaps.specs.Quiet.{after_ticks}
 
 abbrev pub later_by : {P : Type 0} → ℕ → Machine P → Machine P
 later_by k m = record m { now = m.now + k }
@@ -39,27 +41,78 @@ module _ {P : Type 0} (bodies : Bodies P) (k : ℕ) where
   abbrev pub leap : Turn P → Turn P
   leap s = s ▷ instant bodies ▷ leap_goes_on
 
--- ---- how long a leap may be
+-- ---- how long a leap is
 
--- nothing falls due before k ticks have passed
-abbrev pub NothingDue : {P : Type 0} → ℕ → Machine P → Type 0
-NothingDue k m = (n : ℕ) → n < k → next_item (later_by n m) ≡ None
+-- the ticks to the nearest due tick, at most so many
+abbrev pub ticks_to_next : ℕ → ℕ → List Coming → ℕ
+ticks_to_next most now [] = most
+ticks_to_next most now (c ∷ comings) = min (c.due - now) (ticks_to_next most now comings)
 
-abbrev pub SliceLasts : ℕ → ℕ → Policy → ℕ → Type 0
-SliceLasts k quantum (policy.Fifo p) slice = Unit {0}
-SliceLasts k quantum (policy.Rr p) slice = slice + k ≤ quantum
-SliceLasts k quantum (policy.Sporadic params) slice = Unit {0}
+-- the rest of the interval of a round robin thread
+abbrev pub slice_left : ℕ → ℕ → Policy → ℕ → ℕ
+slice_left most quantum (policy.Fifo p) slice = most
+slice_left most quantum (policy.Rr p) slice = quantum - slice
+slice_left most quantum (policy.Sporadic params) slice = most
 
-abbrev pub CapacityLasts : ℕ → Option ServerState → Type 0
-CapacityLasts k None = Unit {0}
-CapacityLasts k (Some s) = is_high s ≡ true → k ≤ s.capacity
+-- the capacity of a sporadic thread at its high priority
+abbrev pub capacity_left : ℕ → Option ServerState → ℕ
+capacity_left most None = most
+capacity_left most (Some s) = if is_high s then s.capacity else most
 
--- the unit, slice and capacity of a thread that has taken its unit do not end before the last of k ticks
-pub record Lasts {P : Type 0} (k quantum : ℕ) (th : Thread P) : Type 0 where
-  pub left : k ≤ top_left th.frames
-  pub slice : SliceLasts k quantum th.policy th.slice
-  pub capacity : CapacityLasts k th.server
+-- how long a thread that has taken its unit runs before its unit, its interval or its capacity ends, at most so many ticks
+abbrev pub thread_lasts : {P : Type 0} → ℕ → ℕ → Thread P → ℕ
+thread_lasts most quantum th = min (top_left th.frames) (min (slice_left most quantum th.policy th.slice) (capacity_left most th.server))
 
--- one of them ends with k ticks, or something falls due then
-abbrev pub Stops : {P : Type 0} → ℕ → Thread P → Machine P → Type 0
-Stops k th m = tick_matters (has_high th.server) m.quantum (after_ticks k th) ≡ false → has_item (later_by k m) ≡ true
+module _ {P : Type 0} (bodies : Bodies P) where
+  abbrev pub head_lasts : ℕ → Option ℕ → Machine P → ℕ
+  head_lasts most None m = most
+  head_lasts most (Some t) m = thread_lasts most m.quantum (in_unit bodies (thread_at m t)).thread
+
+  -- from an instant whose items are handled to where something falls due or the head's unit, interval or capacity ends; at least one
+  -- tick, and at most so many, which is where an ended process goes at once
+  abbrev pub length_from : Option ℕ → ℕ → Machine P → ℕ
+  length_from (Some signal) most m = most
+  length_from None most m = max 1 (min most (min (ticks_to_next most m.now (agenda m)) (head_lasts most (head m) m)))
+
+  abbrev pub leap_length : ℕ → Machine P → ℕ
+  leap_length most m = let ready = (instant bodies (turn_of m)).machine in length_from ready.killed most ready
+
+-- ---- a run in leaps
+
+-- how many leaps there were, and what came of them
+pub record Leapt (P : Type 0) : Type 0 where
+  pub count : ℕ
+  pub ran : Ran P
+
+abbrev pub nothing_leapt : {P : Type 0} → Machine P → Leapt P
+nothing_leapt m = record { count = 0; ran = record { machine = m; events = [] } }
+
+abbrev pub one_before : {P : Type 0} → Ran P → Leapt P → Leapt P
+one_before first rest = record { count = rest.count + 1; ran = record { machine = rest.ran.machine; events = first.events ++ rest.ran.events } }
+
+module _ {P : Type 0} (bodies : Bodies P) where
+  -- so many ticks in leaps, each as long as it can be; the first number bounds the leaps, and as many as there are ticks are enough
+  abbrev pub leaps : ℕ → ℕ → Machine P → Leapt P
+  leaps zero most m = nothing_leapt m
+  leaps (suc bound) zero m = nothing_leapt m
+  leaps (suc bound) (suc most) m =
+      let k = leap_length bodies (suc most) m in let first = ran (leap bodies k (turn_of m)) in one_before first (leaps bound (suc most - k) first.machine)
+
+  abbrev pub in_leaps : ℕ → Machine P → Leapt P
+  in_leaps most m = leaps most most m
+
+  -- ---- what is claimed of them
+
+  -- a leap is ticks, as long as is said, with no eventful instant inside; and it ends at one, unless it goes as far as it may
+  pub record IsLeap (most k : ℕ) (m : Machine P) : Type 0 where
+    pub some : 1 ≤ k
+    pub within : k ≤ most
+    pub same : ran (leap bodies k (turn_of m)) ≡ ticks bodies k m
+    pub inside : (i : ℕ) → 1 ≤ i → i < k → is_eventful bodies m i ≡ false
+    pub ends : k < most → is_eventful bodies m k ≡ true
+
+  -- so many ticks in leaps are these ticks, and there is one leap more than there are eventful instants inside, at most
+  pub record AreLeaps (most : ℕ) (m : Machine P) (l : Leapt P) : Type 0 where
+    pub same : l.ran ≡ ticks bodies most m
+    pub few : l.count ≤ busy bodies m 0 most + 1
+    pub none : most ≡ 0 → l.count ≡ 0

@@ -1,2 +1,2 @@
-pub mod QuietSpans
+pub mod Quiet
 pub mod Leap

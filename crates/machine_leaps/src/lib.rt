@@ -3,28 +3,36 @@
 //! Each function stands for a law, which its clauses state; none of them does anything when it is called.
 #![tactic(auto)]
 
-ghost use Rattle.std.specs.Prelude.{ℕ, suc, ◌≡◌, ◌≤◌, ◌<◌, ◌+◌, ◌++◌, None, Some};
+ghost use Rattle.std.specs.Prelude.{ℕ, ◌≡◌, ◌≤◌, ◌<◌, ◌+◌, ◌-◌, ◌++◌};
 ghost use Rattle.script_tree.specs.declared.decl.Script.{Script};
-ghost use Rattle.machine_rules.specs.Threads.{thread_at};
-ghost use Rattle.machine_rules.specs.Runs.{opening, ran, ticks};
-ghost use Rattle.machine_rules.specs.Turns.{turn_of};
-ghost use Rattle.machine_rules.specs.Units.{in_unit};
-ghost use Rattle.machine_leaps.specs.Leap.{Lasts, NothingDue, leap};
-ghost use Rattle.machine_rules.specs.Dispatch.{head};
+ghost use Rattle.script_flat.specs.Next.{Place};
+ghost use Rattle.machine_rules.specs.Bodies.{Bodies};
+ghost use Rattle.machine_rules.specs.State.{Machine};
 ghost use Rattle.machine_rules.specs.Machine.{bodies_of, events, machine};
+ghost use Rattle.machine_rules.specs.Promises.{busy_between};
 ghost use Rattle.machine_rules.specs.WellFormed.{IsWellFormed};
-ghost use Rattle.machine_leaps.specs.QuietSpans.{IsQuietBetween, handled_at, head_after, told_from};
+ghost use Rattle.machine_leaps.specs.Leap.{AreLeaps, IsLeap, in_leaps, leap_length};
+ghost use Rattle.machine_leaps.specs.Quiet.{AreCharges, IsHandled, IsQuiet, IsQuietBetween, at_once, handled_at, one_charge, told_from};
 
-/// Quiet ticks: where no instant between two is eventful, each of them has the machine of the first with its items handled and so many
-/// ticks charged to the head at once, and nothing is told after those items and the dispatch.
+/// Quiet ticks. Of any machine whose items are handled: where none of the next instants is eventful, so many ticks are what the head
+/// runs, charged at once, and they tell of the dispatch alone where that is a change; with the first part of one more tick the charge
+/// is one longer. In the run of a script so it is between any two instants, from the first of them with its items handled.
 pub fn quiet_ticks_are_charges()
-    ensures charged { (script : Script) → IsWellFormed script → (a k t : ℕ) → IsQuietBetween script a (a + k) → (handled_at script a).machine.killed ≡ None → head (handled_at script a).machine ≡ Some t → (j : ℕ) → 1 ≤ j → j < k → machine script (a + j) ≡ head_after (bodies_of script) j t (handled_at script a).machine }
+    ensures any { (bodies : Bodies Place) → (m : Machine Place) → IsHandled m → (k : ℕ) → IsQuiet bodies k m → AreCharges bodies k m }
+    ensures charged { (script : Script) → IsWellFormed script → (a k : ℕ) → IsQuietBetween script a (a + k) → (j : ℕ) → 1 ≤ j → j < k → machine script (a + j) ≡ at_once (bodies_of script) j (handled_at script a).machine }
+    ensures last { (script : Script) → IsWellFormed script → (a k : ℕ) → IsQuietBetween script a (a + k + 1) → 1 ≤ k → one_charge (bodies_of script) (machine script (a + k)) ≡ at_once (bodies_of script) (k + 1) (handled_at script a).machine }
     ensures told { (script : Script) → IsWellFormed script → (a k : ℕ) → IsQuietBetween script a (a + k) → (j : ℕ) → 1 ≤ j → j < k → events script (a + j) ≡ events script a ++ told_from (handled_at script a).machine.killed (handled_at script a) }
 {}
 
-/// Leaps: where the head's unit, slice and capacity do not end before the last of some ticks, and nothing falls due before it, these
-/// ticks are one leap: the items of the instant, the dispatch, all ticks charged at once, and then what every tick does after its charge.
+/// A leap goes to the least of so many ticks, the nearest due tick, and the ends of the head's unit, of its round robin interval and of
+/// its capacity. It is so many ticks; no eventful instant lies inside, and it ends at one unless it goes as far as it may.
 pub fn leaps_are_ticks()
-    ensures head { (script : Script) → IsWellFormed script → (n j t : ℕ) → (handled_at script n).machine.killed ≡ None → head (handled_at script n).machine ≡ Some t → Lasts (suc j) (handled_at script n).machine.quantum (in_unit (bodies_of script) (thread_at (handled_at script n).machine t)).thread → NothingDue (suc j) (handled_at script n).machine → ran (leap (bodies_of script) (suc j) (turn_of (machine script n))) ≡ ticks (bodies_of script) (suc j) (machine script n) }
-    ensures idle { (script : Script) → IsWellFormed script → (n j : ℕ) → (handled_at script n).machine.killed ≡ None → head (handled_at script n).machine ≡ None → NothingDue (suc j) (handled_at script n).machine → ran (leap (bodies_of script) (suc j) (turn_of (machine script n))) ≡ ticks (bodies_of script) (suc j) (machine script n) }
+    ensures { (script : Script) → IsWellFormed script → (n most : ℕ) → 1 ≤ most → IsLeap (bodies_of script) most (leap_length (bodies_of script) most (machine script n)) (machine script n) }
+{}
+
+/// From one instant of a run to another, ticks and leaps come to the same, and there is at most one leap more than there are eventful
+/// instants between the two, and none where they are equal.
+pub fn leaps_are_bounded()
+    ensures leaps { (script : Script) → IsWellFormed script → (a most : ℕ) → AreLeaps (bodies_of script) most (machine script a) (in_leaps (bodies_of script) most (machine script a)) }
+    ensures busy { (script : Script) → IsWellFormed script → (a b : ℕ) → a ≤ b → (in_leaps (bodies_of script) (b - a) (machine script a)).count ≤ busy_between script a b + 1 }
 {}

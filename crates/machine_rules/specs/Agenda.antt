@@ -1,5 +1,5 @@
 -- Everything that is to come, with its due tick, read off the records. Of this list the items of an instant are those that are due.
-use Rattle.std.specs.Prelude.{List, Option, filter_map, option_map, ℕ, ◌++◌}
+use Rattle.std.specs.Prelude.{Bool, List, Option, filter, filter_map, map, nat_le, option_map, ℕ, ◌++◌}
 use Rattle.tick_num.specs.declared.item.Item.{Item}
 use Rattle.tick_num.specs.declared.item.Item.TheVariants as item
 use Rattle.machine_rules.specs.Lists.{numbers}
@@ -26,3 +26,10 @@ agenda m =
     ++ coming_of item.Start start_due (thread_numbers m) m
     ++ coming_of item.Timeout timeout_due (thread_numbers m) m
     ++ coming_of item.Timer timer_due (numbers m.timers) m
+
+-- those of them that are due at an instant
+abbrev pub due_by : ℕ → Coming → Bool
+due_by now c = nat_le c.due now
+
+abbrev pub items_due : ℕ → List Coming → List Item
+items_due now comings = map (λ (c : Coming). c.item) (filter (due_by now) comings)

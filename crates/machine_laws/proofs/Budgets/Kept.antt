@@ -13,14 +13,14 @@ use Rattle.script_tree.specs.declared.decl.Script.{Script}
 use Rattle.script_tree.specs.declared.policy.Policy.{Policy}
 use Rattle.script_flat.specs.declared.unit.Unit.{Unit}
 use Rattle.script_flat.specs.declared.unit.Unit.TheVariants as unit
-use Rattle.script_flat.specs.Next.{Place, ticks_of}
+use Rattle.script_flat.specs.Next.{ticks_of}
 use Rattle.pse52_trace.specs.declared.event.Event.TheVariants as event
 use Rattle.pse52_trace.specs.Text.{Entry}
 use Rattle.sporadic_server.specs.declared.Replenish.{Replenish}
 use Rattle.sporadic_server.specs.Server.{ServerState, charge, is_high, next_due, plan, replenishment}
 use Rattle.machine_rules.specs.Throughout.{after_items, turn_after}
 use Rattle.machine_laws.proofs.Items.{servers_throughout}
-use Rattle.machine_rules.specs.Budget.{KeepsServer, Posting, account, account_after, all_posted, planned, posted_if, posted_tick, posted_unless_ended, renews, ticked_account, used}
+use Rattle.machine_rules.specs.Budget.{KeepsBudgets, KeepsServer, Posting, account, account_after, all_posted, planned, posted_if, posted_tick, posted_unless_ended, renews, ticked_account, used}
 use Rattle.machine_rules.specs.Bodies.{Bodies}
 use Rattle.machine_rules.specs.State.{Frame, Machine, Status, Thread, blocked, dormant, ended, runnable, waits_to_join}
 use Rattle.machine_rules.specs.Threads.{can_run, is_blocked, is_live, is_main, is_runnable, lives, no_thread, thread_at, thread_numbers, top_kind, top_left}
@@ -37,10 +37,8 @@ use Rattle.machine_rules.specs.Dispatch.{dispatch_event, dispatches, head, is_sa
 use Rattle.machine_rules.specs.Units.{begins_ending, begins_finish, in_unit, in_unit_if, in_unit_of, top_in_unit}
 use Rattle.machine_rules.specs.Ticks.{TickEnd, capacity_in, completes_at, consumed_in, ends_tick, exhausting, frames_charged, nothing, planning, runs, runs_head, slice_is_used, slicing, tick_charged, tick_end, unless_killed, without_slice}
 use Rattle.machine_rules.specs.Runs.{opening, tick_of, ticks}
-use Rattle.machine_rules.specs.Machine.{bodies_of}
 use Rattle.machine_rules.specs.Declarations.{threads_of}
 use Rattle.machine_rules.specs.GoodState.{is_sporadic}
-use Rattle.machine_rules.specs.Promises.{RunKeepsBudgets}
 use Rattle.machine_rules.proofs.ItemsEnd.{instant_ends}
 use Rattle.machine_rules.proofs.Reading.{changed-length, thread-other, thread-same}
 use Rattle.machine_moves.specs.Moves.{KeepsAwake, Stops, is_plain}
@@ -50,7 +48,7 @@ use Rattle.machine_moves.proofs.Waiters.Best.{Each, running_within}
 use Rattle.machine_moves.proofs.Runs.Listed.{AllRun, head_can_run}
 use Rattle.machine_moves.proofs.Calls.Objects.{answered_status}
 use Rattle.machine_moves.proofs.Calls.Table.{unit_keep}
-use Rattle.machine_moves.proofs.Runs.Units.{bodies_fit, in_unit_fits}
+use Rattle.machine_moves.proofs.Runs.Units.{in_unit_fits}
 use Rattle.machine_moves.proofs.Runs.Ticks.{Rests, RoundKeeps, charged_runs, charged_turn, completes_keep, dispatched, in_unit_status, instant_keep, items_keep, run_keep, sweeps_keep}
 use Rattle.machine_laws.proofs.Servers.Right.{Rising, only}
 use Rattle.machine_laws.proofs.Servers.Moves.{Threads, here}
@@ -546,27 +544,24 @@ keeps_server : {P : Type 0} (now : ℕ) (th : Thread P) (acc : List Posting) (o 
 keeps_server now th acc None e having h = absurd (grind arith)
 keeps_server now th acc (Some x) e having h = keeps_account now x acc (h x e).books
 
-module _ (script : Script) (fits : IsWellFormed script) where
-  no_books : (t : ℕ) → BooksOf {P = Place} 0 (thread_at (opening script) t) []
-  no_books t x e = let none = opened_server (threads_of script) t in absurd (grind arith)
+module _ {P : Type 0} (bodies : Bodies P) (ranges : BodiesFit bodies) (script : Script) (fits : IsWellFormed script) where
+  no_books : (t : ℕ) → BooksOf {P = P} 0 (thread_at (opening script) t) []
+  no_books t x e = let none = opened_server P (threads_of script) t in absurd (grind arith)
 
   booked_after : (t n k : ℕ) →
-      let s : Turn Place = turn_after (bodies_of script) (opening script) n k in BooksOf s.machine.now (thread_at s.machine t) (account_after (bodies_of script) (opening script) t n k)
+      let s : Turn P = turn_after bodies (opening script) n k in BooksOf s.machine.now (thread_at s.machine t) (account_after bodies (opening script) t n k)
   booked_after t n k =
-      let known = bodies_fit script fits.priorities in
-      let so = run_keep (bodies_of script) known (λ m. ServedRight (bodies_of script) (turn_of m)) (ServedMid (bodies_of script)) (ServedDone (bodies_of script)) (served_tick (bodies_of script)) n (opening script) (opening_served script) (opening_listed script) in
-      items_booked (bodies_of script) known t k (ticks (bodies_of script) n (opening script)).machine (account (bodies_of script) t (opening script) n) so.0 so.1
-      (run_booked (bodies_of script) known t n (opening script) (opening_served script) (opening_listed script) (no_books t))
+      let so = run_keep bodies ranges (λ m. ServedRight bodies (turn_of m)) (ServedMid bodies) (ServedDone bodies) (served_tick bodies) n (opening script) (opening_served bodies script) (opening_listed P script) in
+      items_booked bodies ranges t k (ticks bodies n (opening script)).machine (account bodies t (opening script) n) so.0 so.1
+      (run_booked bodies ranges t n (opening script) (opening_served bodies script) (opening_listed P script) (no_books t))
 
   -- The law of the budget holds in each state of the run.
-  pub run_budgets : RunKeepsBudgets script
-  run_budgets = record {
-    each = λ n k. record {
-      each = λ t live sporadic.
-          let m = after_items (bodies_of script) (opening script) n k in
-          keeps_server m.now (thread_at m t) (account_after (bodies_of script) (opening script) t n k) (thread_at m t).server refl
-          (((servers_throughout script fits).each n k).having t ∙ both live sporadic) (booked_after t n k);
-    };
+  pub run_budgets : (n k : ℕ) → KeepsBudgets bodies (opening script) n k
+  run_budgets n k = record {
+    each = λ t live sporadic.
+        let m = after_items bodies (opening script) n k in
+        keeps_server m.now (thread_at m t) (account_after bodies (opening script) t n k) (thread_at m t).server refl
+        (((servers_throughout bodies ranges script fits).each n k).having t ∙ both live sporadic) (booked_after t n k);
   }
     where
       both : {a b : Bool} → a ≡ true → b ≡ true → (a && b) ≡ true

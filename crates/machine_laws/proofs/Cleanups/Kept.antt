@@ -4,7 +4,6 @@ use Rattle.std.specs.Prelude.{map, ◌==◌, if◌then◌else◌}
 use mathlib.Core.Path.{subst, ◌∙◌}
 use Rattle.tick_num.specs.declared.item.Item.{Item}
 use Rattle.script_tree.specs.declared.decl.Script.{Script}
-use Rattle.script_flat.specs.Next.{Place}
 use Rattle.machine_rules.specs.declared.frame.BodyOf.{BodyOf}
 use Rattle.machine_rules.specs.declared.frame.BodyOf.TheVariants as body_of
 use Rattle.machine_rules.specs.Bodies.{Bodies}
@@ -19,9 +18,7 @@ use Rattle.machine_rules.specs.Dispatch.{dispatches, head}
 use Rattle.machine_rules.specs.Units.{in_unit}
 use Rattle.machine_rules.specs.Ticks.{runs, runs_head, tick_charged, tick_end, tick_ends, unit_ticked, unless_killed}
 use Rattle.machine_rules.specs.GoodState.{CleanupsAreRight, main_guards}
-use Rattle.machine_rules.specs.Promises.{guards_in}
 use Rattle.machine_rules.specs.Runs.{opening, thread_opened, ticks}
-use Rattle.machine_rules.specs.Machine.{bodies_of, machine}
 use Rattle.machine_rules.proofs.ItemsEnd.{next_is_due}
 use Rattle.machine_rules.proofs.Reading.{thread-other, thread-same}
 use Rattle.machine_rules.specs.WellFormed.{IsWellFormed}
@@ -29,12 +26,10 @@ use Rattle.machine_moves.specs.UnitRanges.{BodiesFit}
 use Rattle.machine_laws.specs.GuardedBodies.{BodiesGuarded, most_of}
 use Rattle.machine_moves.proofs.Waiters.Best.{Each, running_within}
 use Rattle.machine_moves.proofs.Runs.Listed.{AllRun, head_can_run}
-use Rattle.machine_moves.proofs.Runs.Units.{bodies_fit}
 use Rattle.machine_moves.proofs.Runs.Ticks.{charged_runs, charged_turn, dispatched}
 use Rattle.machine_moves.proofs.Runs.Since.{Rests, instant_keep, run_since}
 use Rattle.machine_laws.proofs.Lists.Kept.{Placed, Placing, opening_placed, placed_tick}
 use Rattle.machine_laws.proofs.Parts.Opening.{opening_listed}
-use Rattle.machine_laws.proofs.Cleanups.Blocks.{bodies_guarded}
 use Rattle.machine_laws.proofs.Cleanups.Frames.{Clean, FrameFits}
 use Rattle.machine_laws.proofs.Cleanups.Calls.{end_same, item_same}
 use Rattle.machine_laws.proofs.Cleanups.Units.{Before, all_visited, charged_before, completed}
@@ -131,13 +126,12 @@ module _ {P : Type 0} (bodies : Bodies P) (fits : BodiesFit bodies) (guards : Bo
 
 -- ---- of a script
 
-opened_clean : (script : Script) (ds : List ThreadDecl) (t : ℕ) → Clean (guards_in script) (thread_in (map (λ (d : ThreadDecl). thread_opened {P = Place} d) ds) t)
-opened_clean script [] t = (λ e. refl, λ e. refl, tt)
-opened_clean script (d ∷ ds) zero = (λ e. refl, λ e. refl, tt)
-opened_clean script (d ∷ ds) (suc t) = opened_clean script ds t
+opened_clean : {P : Type 0} (guards : BodyOf → P → List ℕ) (ds : List ThreadDecl) (t : ℕ) → Clean guards (thread_in (map (λ (d : ThreadDecl). thread_opened {P = P} d) ds) t)
+opened_clean guards [] t = (λ e. refl, λ e. refl, tt)
+opened_clean guards (d ∷ ds) zero = (λ e. refl, λ e. refl, tt)
+opened_clean guards (d ∷ ds) (suc t) = opened_clean guards ds t
 
-module _ (script : Script) (fits : IsWellFormed script) where
-  -- at every instant of the run of every script that keeps its ranges and guards
-  pub run_all_clean : (n : ℕ) → AllClean (bodies_of script) (bodies_fit script fits.priorities) (guards_in script) (bodies_guarded script fits.guards) (machine script n)
-  run_all_clean n =
-      run_clean (bodies_of script) (bodies_fit script fits.priorities) (guards_in script) (bodies_guarded script fits.guards) n (opening script) (opening_placed script fits) (opening_listed script) (opened_clean script (threads_of script))
+module _ {P : Type 0} (bodies : Bodies P) (ranges : BodiesFit bodies) (guards : BodyOf → P → List ℕ) (guarded : BodiesGuarded bodies guards) (script : Script) (fits : IsWellFormed script) where
+  -- at every instant of its run
+  pub run_all_clean : (n : ℕ) → AllClean bodies ranges guards guarded (ticks bodies n (opening script)).machine
+  run_all_clean n = run_clean bodies ranges guards guarded n (opening script) (opening_placed P script fits) (opening_listed P script) (opened_clean guards (threads_of script))

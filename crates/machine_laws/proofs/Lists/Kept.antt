@@ -8,7 +8,6 @@ use Rattle.script_tree.specs.declared.decl.Kind.TheVariants as kind
 use Rattle.script_tree.specs.declared.decl.Script.{Script}
 use Rattle.script_tree.specs.declared.policy.Policy.{Policy}
 use Rattle.script_tree.specs.declared.policy.Policy.TheVariants as policy
-use Rattle.script_flat.specs.Next.{Place}
 use Rattle.sporadic_server.specs.Server.{ServerState, plan}
 use Rattle.pse52_trace.specs.declared.event.Event.TheVariants as event
 use Rattle.machine_rules.specs.declared.dispatch.LastDispatch.{LastDispatch}
@@ -226,9 +225,9 @@ module _ {P : Type 0} (bodies : Bodies P) where
 
 -- ---- the opening
 
-opened_fit : (ds : List ThreadDecl) → Each units_fit.ThreadFits ds → Each ThreadFits (map (λ (d : ThreadDecl). thread_opened {P = Place} d) ds)
-opened_fit [] each = tt
-opened_fit (d ∷ ds) each = ((each.0.0, none_fits d.policy), opened_fit ds each.1)
+opened_fit : (P : Type 0) (ds : List ThreadDecl) → Each units_fit.ThreadFits ds → Each ThreadFits (map (λ (d : ThreadDecl). thread_opened {P = P} d) ds)
+opened_fit P [] each = tt
+opened_fit P (d ∷ ds) each = ((each.0.0, none_fits d.policy), opened_fit P ds each.1)
   where
     none_fits : (p : Policy) → HasParameters p None
     none_fits (policy.Fifo p) = refl
@@ -241,30 +240,30 @@ mutexes_fit (decl.Action signal handler ∷ ds) h = mutexes_fit ds h.1
 mutexes_fit (decl.Named name (kind.Mutex protocol recursive) ∷ ds) h = (h.0, mutexes_fit ds h.1)
 mutexes_fit (decl.Named name other ∷ ds) h = mutexes_fit ds h.1
 
-nobody_runs : (ds : List ThreadDecl) (t : ℕ) → is_runnable (thread_in (map (λ (d : ThreadDecl). thread_opened {P = Place} d) ds) t).status ≡ false
-nobody_runs [] t = refl
-nobody_runs (d ∷ ds) zero = refl
-nobody_runs (d ∷ ds) (suc t) = nobody_runs ds t
+nobody_runs : (P : Type 0) (ds : List ThreadDecl) (t : ℕ) → is_runnable (thread_in (map (λ (d : ThreadDecl). thread_opened {P = P} d) ds) t).status ≡ false
+nobody_runs P [] t = refl
+nobody_runs P (d ∷ ds) zero = refl
+nobody_runs P (d ∷ ds) (suc t) = nobody_runs P ds t
 
 none_stands : (n t i : ℕ) → stands t i (replicate n []) ≡ 0
 none_stands zero t i = refl
 none_stands (suc n) t zero = refl
 none_stands (suc n) t (suc i) = none_stands n t i
 
-module _ (script : Script) (fits : IsWellFormed script) where
-  abbrev first : Machine Place
-  first = opening script
+contra : {b : Bool} → b ≡ true → b ≡ false → ⊥
+contra p q = grind arith
 
-  contra : {b : Bool} → b ≡ true → b ≡ false → ⊥
-  contra p q = grind arith
+module _ (P : Type 0) (script : Script) (fits : IsWellFormed script) where
+  abbrev first : Machine P
+  first = opening script
 
   pub opening_placed : Placed first
   opening_placed = record {
-    parts = opening_right script;
-    fit = record { threads = opened_fit (threads_of script) (threads_fit script.decls fits.priorities); mutexes = mutexes_fit script.decls fits.priorities };
+    parts = opening_right P script;
+    fit = record { threads = opened_fit P (threads_of script) (threads_fit script.decls fits.priorities); mutexes = mutexes_fit script.decls fits.priorities };
     stand = record {
       every = refl;
-      runs = λ t i runs. absurd (contra runs (nobody_runs (threads_of script) t));
+      runs = λ t i runs. absurd (contra runs (nobody_runs P (threads_of script) t));
       others = λ t i off. none_stands 255 t i;
     };
   }

@@ -7,7 +7,6 @@ use Rattle.script_tree.specs.declared.decl.Decl.{Decl}
 use Rattle.script_tree.specs.declared.decl.Decl.TheVariants as decl
 use Rattle.script_tree.specs.declared.decl.Kind.TheVariants as kind
 use Rattle.script_tree.specs.declared.decl.Script.{Script}
-use Rattle.script_flat.specs.Next.{Place}
 use Rattle.machine_rules.specs.State.{Machine, Mutex, Wait, Waiting, nobody, waits_to_join}
 use Rattle.machine_rules.specs.Threads.{mutex_at, no_mutex, no_queue, thread_at, thread_in, waiting_in}
 use Rattle.machine_rules.specs.Waiters.{somebody_waits, waits_so}
@@ -24,19 +23,19 @@ use Rattle.machine_laws.proofs.Parts.Kept.{PartsRight}
 
 -- ---- nobody waits, and nobody joins
 
-opened_waits : (ds : List ThreadDecl) (t : ℕ) → waiting_in (thread_in (map (λ (d : ThreadDecl). thread_opened {P = Place} d) ds) t).status ≡ None
-opened_waits [] t = refl
-opened_waits (d ∷ ds) zero = refl
-opened_waits (d ∷ ds) (suc t) = opened_waits ds t
+opened_waits : (P : Type 0) (ds : List ThreadDecl) (t : ℕ) → waiting_in (thread_in (map (λ (d : ThreadDecl). thread_opened {P = P} d) ds) t).status ≡ None
+opened_waits P [] t = refl
+opened_waits P (d ∷ ds) zero = refl
+opened_waits P (d ∷ ds) (suc t) = opened_waits P ds t
 
-opened_joiner : (ds : List ThreadDecl) (t : ℕ) → (thread_in (map (λ (d : ThreadDecl). thread_opened {P = Place} d) ds) t).joiner ≡ nobody
-opened_joiner [] t = refl
-opened_joiner (d ∷ ds) zero = refl
-opened_joiner (d ∷ ds) (suc t) = opened_joiner ds t
+opened_joiner : (P : Type 0) (ds : List ThreadDecl) (t : ℕ) → (thread_in (map (λ (d : ThreadDecl). thread_opened {P = P} d) ds) t).joiner ≡ nobody
+opened_joiner P [] t = refl
+opened_joiner P (d ∷ ds) zero = refl
+opened_joiner P (d ∷ ds) (suc t) = opened_joiner P ds t
 
-opened_nobody : (passes : Wait → Bool) (ds : List ThreadDecl) → list_any (waits_so passes) (map (λ (d : ThreadDecl). thread_opened {P = Place} d) ds) ≡ false
-opened_nobody passes [] = refl
-opened_nobody passes (d ∷ ds) = opened_nobody passes ds
+opened_nobody : (P : Type 0) (passes : Wait → Bool) (ds : List ThreadDecl) → list_any (waits_so passes) (map (λ (d : ThreadDecl). thread_opened {P = P} d) ds) ≡ false
+opened_nobody P passes [] = refl
+opened_nobody P passes (d ∷ ds) = opened_nobody P passes ds
 
 -- ---- mutexes are free, and queues have no registration
 
@@ -67,15 +66,15 @@ contra p q = grind arith
 no_joiner : (u : ℕ) → nobody ≡ waits_to_join u → ⊥
 no_joiner u e = absurd (grind arith)
 
-module _ (script : Script) where
-  abbrev first : Machine Place
+module _ (P : Type 0) (script : Script) where
+  abbrev first : Machine P
   first = opening script
 
   nobody_at : (passes : Wait → Bool) → somebody_waits first passes ≡ false
-  nobody_at passes = opened_nobody passes (threads_of script)
+  nobody_at passes = opened_nobody P passes (threads_of script)
 
   idle_at : (passes : Wait → Bool) (t : ℕ) → waits_so passes (thread_at first t) ≡ false
-  idle_at passes t = ap (λ (o : Option Waiting). option_map_or (λ (w : Waiting). passes w.wait) o false) (opened_waits (threads_of script) t)
+  idle_at passes t = ap (λ (o : Option Waiting). option_map_or (λ (w : Waiting). passes w.wait) o false) (opened_waits P (threads_of script) t)
 
   free_owner : (k : ℕ) → OwnerIsRight first k (mutex_at first k).owner
   free_owner k = let free = mutexes_free script.decls k in subst (λ (o : Option ℕ). OwnerIsRight first k o) (sym free.0) (free.1, nobody_at (waits_for_mutex k))
@@ -86,13 +85,13 @@ module _ (script : Script) where
 
   pub opening_right : PartsRight first
   opening_right = record {
-    joiners = λ t u e. absurd (no_joiner u (sym (opened_joiner (threads_of script) t) ∙ e));
+    joiners = λ t u e. absurd (no_joiner u (sym (opened_joiner P (threads_of script) t) ∙ e));
     semaphores = λ k w. absurd (contra w (nobody_at (waits_on_semaphore k)));
     queues = λ q. let none = queues_empty script.decls q in record { room = rw none (omega arith); receivers = λ w. none; senders = λ w. absurd (contra w (nobody_at (waits_to_send q))) };
     records = record { few = omega arith; one_of_timer = λ k. omega arith; one_of_queue = λ q. omega arith; free = λ q r e. refl };
     mutexes = record {
       owners = free_owner;
-      no_cycle = λ t n. ap (λ (o : Option Waiting). leads_within first.threads first.mutexes n (option_and_then (λ (w : Waiting). mutex_waited w.wait) o) t) (opened_waits (threads_of script) t) ∙ no_wait_leads n t;
+      no_cycle = λ t n. ap (λ (o : Option Waiting). leads_within first.threads first.mutexes n (option_and_then (λ (w : Waiting). mutex_waited w.wait) o) t) (opened_waits P (threads_of script) t) ∙ no_wait_leads n t;
       owns_none = λ t w. absurd (contra w (idle_at is_in_condition_wait t));
     };
   }

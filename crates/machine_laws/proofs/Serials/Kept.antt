@@ -4,7 +4,6 @@ use Rattle.std.specs.Prelude.{map, nat_lt, ◌&&◌}
 use mathlib.Core.Path.{subst, ◌∙◌}
 use Rattle.tick_num.specs.declared.item.Item.{Item}
 use Rattle.script_tree.specs.declared.decl.Script.{Script}
-use Rattle.script_flat.specs.Next.{Place}
 use Rattle.script_flat.specs.declared.unit.Unit.{Unit}
 use Rattle.machine_rules.specs.Bodies.{Bodies}
 use Rattle.machine_rules.specs.State.{Machine, Thread}
@@ -18,13 +17,12 @@ use Rattle.machine_rules.specs.Dispatch.{dispatches, head}
 use Rattle.machine_rules.specs.Units.{in_unit}
 use Rattle.machine_rules.specs.Ticks.{completes_at, runs, runs_head, tick, tick_end, tick_ends, unit_ticked, unless_killed}
 use Rattle.machine_rules.specs.Runs.{opening, thread_opened, ticks}
-use Rattle.machine_rules.specs.Machine.{bodies_of, machine}
 use Rattle.machine_rules.proofs.ItemsEnd.{instant_ends, next_is_due}
 use Rattle.machine_rules.specs.WellFormed.{IsWellFormed}
 use Rattle.machine_moves.specs.UnitRanges.{BodiesFit}
 use Rattle.machine_moves.proofs.Calls.Table.{sweeps_all_keep}
 use Rattle.machine_moves.proofs.Runs.Listed.{AllRun, head_can_run}
-use Rattle.machine_moves.proofs.Runs.Units.{bodies_fit, in_unit_fits}
+use Rattle.machine_moves.proofs.Runs.Units.{in_unit_fits}
 use Rattle.machine_moves.proofs.Runs.Ticks.{charged_runs, charged_turn, dispatched}
 use Rattle.machine_moves.proofs.Runs.Since.{Rests, TickSince, asleep, completes_keep, ends_keep, handles_keep, instant_keep, item_done_keep, narrowed, run_since, settles_keep}
 use Rattle.machine_moves.proofs.Runs.Beside.{both}
@@ -164,17 +162,17 @@ module _ {P : Type 0} (bodies : Bodies P) (fits : BodiesFit bodies) where
 
 -- ---- the opening
 
-opened_waits : (n : ℕ) (ds : List ThreadDecl) → waits n (map (λ (d : ThreadDecl). thread_opened {P = Place} d) ds) ≡ 0
-opened_waits n [] = refl
-opened_waits n (d ∷ ds) = omega (arith, opened_waits n ds)
+opened_waits : (P : Type 0) (n : ℕ) (ds : List ThreadDecl) → waits n (map (λ (d : ThreadDecl). thread_opened {P = P} d) ds) ≡ 0
+opened_waits P n [] = refl
+opened_waits P n (d ∷ ds) = omega (arith, opened_waits P n ds)
 
-opened_sleepers : (ds : List ThreadDecl) → sleepers (map (λ (d : ThreadDecl). thread_opened {P = Place} d) ds) ≡ 0
-opened_sleepers [] = refl
-opened_sleepers (d ∷ ds) = omega (arith, opened_sleepers ds)
+opened_sleepers : (P : Type 0) (ds : List ThreadDecl) → sleepers (map (λ (d : ThreadDecl). thread_opened {P = P} d) ds) ≡ 0
+opened_sleepers P [] = refl
+opened_sleepers P (d ∷ ds) = omega (arith, opened_sleepers P ds)
 
-module _ (script : Script) (fits : IsWellFormed script) where
-  pub opening_sourced : RestSourced (bodies_of script) (opening {P = Place} script)
-  opening_sourced = ((opening_rest script fits, λ n. (let none = opened_waits n (threads_of script) in omega arith)), tt)
+module _ {P : Type 0} (bodies : Bodies P) (ranges : BodiesFit bodies) (script : Script) (fits : IsWellFormed script) where
+  pub opening_sourced : RestSourced bodies (opening {P = P} script)
+  opening_sourced = ((opening_rest bodies ranges script fits, λ n. (let none = opened_waits P n (threads_of script) in omega arith)), tt)
 
-  pub run_few : (n : ℕ) → Few (machine script n)
-  run_few n = run_few_from (bodies_of script) (bodies_fit script fits.priorities) n (opening script) opening_sourced (opening_listed script) (let none = opened_sleepers (threads_of script) in omega arith)
+  pub run_few : (n : ℕ) → Few (ticks bodies n (opening script)).machine
+  run_few n = run_few_from bodies ranges n (opening script) opening_sourced (opening_listed P script) (let none = opened_sleepers P (threads_of script) in omega arith)

@@ -6,7 +6,6 @@ use mathlib.Core.Path.{subst, ◌∙◌}
 use Rattle.script_tree.specs.declared.decl.Script.{Script}
 use Rattle.script_tree.specs.declared.policy.Policy.{Policy}
 use Rattle.script_tree.specs.declared.policy.Policy.TheVariants as policy
-use Rattle.script_flat.specs.Next.{Place}
 use Rattle.sporadic_server.specs.declared.Replenish.{Replenish}
 use Rattle.sporadic_server.specs.Server.{ServerState}
 use Rattle.machine_rules.specs.Bodies.{Bodies}
@@ -16,7 +15,6 @@ use Rattle.machine_rules.specs.Declarations.{ThreadDecl, threads_of}
 use Rattle.machine_rules.specs.Turns.{turn_of}
 use Rattle.machine_rules.specs.Runs.{opening, thread_opened}
 use Rattle.machine_rules.specs.GoodState.{HasParameters, ServerIsRight, ServersAreRight, is_sporadic}
-use Rattle.machine_rules.specs.Machine.{bodies_of}
 use Rattle.machine_moves.proofs.Waiters.Best.{Each}
 use Rattle.machine_laws.proofs.Servers.Right.{Rising, ServerIn, ThreadRight}
 use Rattle.machine_laws.proofs.Servers.Moves.{Threads}
@@ -64,16 +62,16 @@ no_server now th none dead = record {
     without (policy.Rr p) = refl
     without (policy.Sporadic params) = tt
 
-pub opened_server : (ds : List ThreadDecl) (t : ℕ) → (thread_in (map (λ (d : ThreadDecl). thread_opened {P = Place} d) ds) t).server ≡ None
-opened_server [] t = refl
-opened_server (d ∷ ds) zero = refl
-opened_server (d ∷ ds) (suc t) = opened_server ds t
+pub opened_server : (P : Type 0) (ds : List ThreadDecl) (t : ℕ) → (thread_in (map (λ (d : ThreadDecl). thread_opened {P = P} d) ds) t).server ≡ None
+opened_server P [] t = refl
+opened_server P (d ∷ ds) zero = refl
+opened_server P (d ∷ ds) (suc t) = opened_server P ds t
 
-opened_dead : (ds : List ThreadDecl) (t : ℕ) → is_live (thread_in (map (λ (d : ThreadDecl). thread_opened {P = Place} d) ds) t).status ≡ false
-opened_dead [] t = refl
-opened_dead (d ∷ ds) zero = refl
-opened_dead (d ∷ ds) (suc t) = opened_dead ds t
+opened_dead : (P : Type 0) (ds : List ThreadDecl) (t : ℕ) → is_live (thread_in (map (λ (d : ThreadDecl). thread_opened {P = P} d) ds) t).status ≡ false
+opened_dead P [] t = refl
+opened_dead P (d ∷ ds) zero = refl
+opened_dead P (d ∷ ds) (suc t) = opened_dead P ds t
 
-module _ (script : Script) where
-  pub opening_served : ServedRight (bodies_of script) (turn_of (opening script))
-  opening_served = (opening_right script, λ t. no_server 0 (thread_at (opening script) t) (opened_server (threads_of script) t) (opened_dead (threads_of script) t))
+module _ {P : Type 0} (bodies : Bodies P) (script : Script) where
+  pub opening_served : ServedRight bodies (turn_of (opening script))
+  opening_served = (opening_right P script, λ t. no_server 0 (thread_at (opening script) t) (opened_server P (threads_of script) t) (opened_dead P (threads_of script) t))

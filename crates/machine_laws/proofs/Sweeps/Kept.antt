@@ -3,7 +3,6 @@ use Rattle.std.proofs.Common.{Bool, None, Option, Some, ap, false, refl, suc, sy
 use mathlib.Core.Path.{subst, ◌∙◌}
 use Rattle.tick_num.specs.declared.item.Item.{Item}
 use Rattle.script_tree.specs.declared.decl.Script.{Script}
-use Rattle.script_flat.specs.Next.{Place}
 use Rattle.machine_rules.specs.Bodies.{Bodies}
 use Rattle.machine_rules.specs.State.{Machine}
 use Rattle.machine_rules.specs.Threads.{can_run, thread_at, top_left}
@@ -15,12 +14,11 @@ use Rattle.machine_rules.specs.Dispatch.{dispatches, head}
 use Rattle.machine_rules.specs.Units.{in_unit}
 use Rattle.machine_rules.specs.Ticks.{completes_at, later, runs, runs_head, tick, tick_ends, unit_ticked, unless_killed}
 use Rattle.machine_rules.specs.Runs.{opening, ticks}
-use Rattle.machine_rules.specs.Machine.{bodies_of, machine}
 use Rattle.machine_rules.proofs.ItemsEnd.{instant_ends, next_is_due}
 use Rattle.machine_rules.specs.WellFormed.{IsWellFormed}
 use Rattle.machine_moves.specs.UnitRanges.{BodiesFit}
 use Rattle.machine_moves.proofs.Runs.Listed.{AllRun, head_can_run}
-use Rattle.machine_moves.proofs.Runs.Units.{bodies_fit, in_unit_fits}
+use Rattle.machine_moves.proofs.Runs.Units.{in_unit_fits}
 use Rattle.machine_moves.proofs.Runs.Ticks.{charged_runs, charged_turn, dispatched}
 use Rattle.machine_moves.proofs.Runs.Since.{Rests, TickSince, completes_keep, ends_keep, handles_keep, instant_keep, item_done_keep, run_since, settles_keep}
 use Rattle.machine_moves.proofs.Runs.Beside.{TickBeside, both}
@@ -146,26 +144,23 @@ module _ {P : Type 0} (bodies : Bodies P) where
   pub swept_dispatched : (to : Option ℕ) (s : Turn P) → Swept s.machine → Swept (dispatches to s).machine
   swept_dispatched to s a = subst Swept (sym (dispatched to s)) a
 
-module _ (script : Script) (fits : IsWellFormed script) where
-  abbrev bodies : Bodies Place
-  bodies = bodies_of script
-
-  pub brings : SweepBrings bodies (bodies_fit script fits.priorities) (RestHeard bodies) (LawHeard bodies) (InHeard bodies) (InHeard bodies) (EndHeard bodies) (tick_heard bodies) (Swept bodies)
+module _ {P : Type 0} (bodies : Bodies P) (ranges : BodiesFit bodies) (script : Script) (fits : IsWellFormed script) where
+  pub brings : SweepBrings bodies ranges (RestHeard bodies) (LawHeard bodies) (InHeard bodies) (InHeard bodies) (EndHeard bodies) (tick_heard bodies) (Swept bodies)
   brings = record {
     sweep = λ s r alive t. sweeps_quiet bodies s r.1 alive t;
     idle = λ s a. swept_dispatched bodies None s a;
   }
 
-  pub opening_rest : RestHeard bodies (opening {P = Place} script)
-  opening_rest = ((opening_placed script fits, opening_slices script fits), tt)
+  pub opening_rest : RestHeard bodies (opening {P = P} script)
+  opening_rest = ((opening_placed P script fits, opening_slices P script fits), tt)
 
-  opening_swept : Swept bodies (opening {P = Place} script)
-  opening_swept alive t = by_case (may_be_interrupted (thread_at (opening {P = Place} script) t)) refl
+  opening_swept : Swept bodies (opening {P = P} script)
+  opening_swept alive t = by_case (may_be_interrupted (thread_at (opening {P = P} script) t)) refl
     where
-      by_case : (b : Bool) → may_be_interrupted (thread_at (opening {P = Place} script) t) ≡ b → Quiet bodies (opening {P = Place} script) t
+      by_case : (b : Bool) → may_be_interrupted (thread_at (opening {P = P} script) t) ≡ b → Quiet bodies (opening {P = P} script) t
       by_case true e = rw e refl
       by_case false e = rw e refl
 
-  pub run_quiet : (n : ℕ) → Swept bodies (machine script n)
+  pub run_quiet : (n : ℕ) → Swept bodies (ticks bodies n (opening script)).machine
   run_quiet n =
-      run_after bodies (bodies_fit script fits.priorities) (RestHeard bodies) (LawHeard bodies) (InHeard bodies) (InHeard bodies) (EndHeard bodies) (tick_heard bodies) (Swept bodies) brings n (opening script) opening_rest (opening_listed script) opening_swept
+      run_after bodies ranges (RestHeard bodies) (LawHeard bodies) (InHeard bodies) (InHeard bodies) (EndHeard bodies) (tick_heard bodies) (Swept bodies) brings n (opening script) opening_rest (opening_listed P script) opening_swept

@@ -1,5 +1,5 @@
-use Rattle.machine_laws.proofs.Budgets.Kept.{run_budgets}
+use Rattle.machine_laws.proofs.Scripts.{keeps_budgets}
 use Rattle.machine_laws.proofs.budgets_are_kept.Goals as goal
 
 pub returns : goal.returns
-returns c = run_budgets
+returns c = keeps_budgets

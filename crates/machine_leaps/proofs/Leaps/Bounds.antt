@@ -19,8 +19,8 @@ use Rattle.machine_rules.specs.DueItems.{due_of, first_item, has_come, next_item
 use Rattle.machine_rules.specs.Ticks.{capacity_in, slice_is_used}
 use Rattle.machine_rules.specs.Eventful.{has_item, head_matters, tick_matters, unless_ended}
 use Rattle.machine_rules.proofs.Reading.{changed-length, thread-same}
-use Rattle.machine_leaps.specs.QuietSpans.{after_ticks, frames_after, head_after, server_after, slice_after}
-use Rattle.machine_leaps.specs.Leap.{CapacityLasts, Lasts, NothingDue, SliceLasts, Stops, later_by}
+use Rattle.machine_leaps.specs.Quiet.{after_ticks, frames_after, head_after, server_after, slice_after}
+use Rattle.machine_leaps.specs.Leap.{later_by}
 use Rattle.machine_moves.proofs.Waiters.OfThreads.{changed_is}
 use Rattle.machine_moves.proofs.Runs.Ticks.{in_unit_status}
 use Rattle.machine_laws.proofs.Lists.Kept.{Plans, in_unit_plans}
@@ -30,9 +30,34 @@ use Rattle.machine_leaps.proofs.Quiet.Once.{Begins, begins_on, charges_once, idl
 use Rattle.machine_leaps.proofs.Leaps.Calm.{Calm, EndsAt, Handled}
 use Rattle.machine_leaps.proofs.Leaps.LastTick.{head_at, high_same, is_x}
 
+-- ---- how long a leap may be
+
+-- nothing falls due before k ticks have passed
+abbrev pub NothingDue : {P : Type 0} → ℕ → Machine P → Type 0
+NothingDue k m = (n : ℕ) → n < k → next_item (later_by n m) ≡ None
+
+abbrev pub SliceLasts : ℕ → ℕ → Policy → ℕ → Type 0
+SliceLasts k quantum (policy.Fifo p) slice = Unit {0}
+SliceLasts k quantum (policy.Rr p) slice = slice + k ≤ quantum
+SliceLasts k quantum (policy.Sporadic params) slice = Unit {0}
+
+abbrev pub CapacityLasts : ℕ → Option ServerState → Type 0
+CapacityLasts k None = Unit {0}
+CapacityLasts k (Some s) = is_high s ≡ true → k ≤ s.capacity
+
+-- the unit, slice and capacity of a thread that has taken its unit do not end before the last of k ticks
+pub record Lasts {P : Type 0} (k quantum : ℕ) (th : Thread P) : Type 0 where
+  pub left : k ≤ top_left th.frames
+  pub slice : SliceLasts k quantum th.policy th.slice
+  pub capacity : CapacityLasts k th.server
+
+-- one of them ends with k ticks, or something falls due then
+abbrev pub Stops : {P : Type 0} → ℕ → Thread P → Machine P → Type 0
+Stops k th m = tick_matters (has_high th.server) m.quantum (after_ticks k th) ≡ false → has_item (later_by k m) ≡ true
+
 -- ---- k ticks of a thread
 
-charged_capacity : (k : ℕ) (s : ServerState) → (charge_ticks k s).capacity ≡ s.capacity - k
+pub charged_capacity : (k : ℕ) (s : ServerState) → (charge_ticks k s).capacity ≡ s.capacity - k
 charged_capacity zero s = omega arith
 charged_capacity (suc k) s = (let e = charged_capacity k s in omega (arith, e))
 
@@ -136,10 +161,10 @@ module _ {P : Type 0} (bodies : Bodies P) where
 
   -- ---- calm, tick by tick
 
-  no_calm : (m : Machine P) → Calm bodies 0 m
+  pub no_calm : (m : Machine P) → Calm bodies 0 m
   no_calm m = record { quiet = λ i small. absurd (omega arith); idle = λ i small. absurd (omega arith) }
 
-  more_calm : (j : ℕ) (m : Machine P) → Calm bodies j m → unless_ended bodies (charges bodies j m).killed (charges bodies j m) ≡ false → next_item (charges bodies (suc j) m) ≡ None → Calm bodies (suc j) m
+  pub more_calm : (j : ℕ) (m : Machine P) → Calm bodies j m → unless_ended bodies (charges bodies j m).killed (charges bodies j m) ≡ false → next_item (charges bodies (suc j) m) ≡ None → Calm bodies (suc j) m
   more_calm j m c e none = record {
     quiet = λ i small. by_last (λ (n : ℕ). unless_ended bodies (charges bodies n m).killed (charges bodies n m) ≡ false) i small c.quiet e (i == j) refl;
     idle = λ i small. by_last (λ (n : ℕ). next_item (charges bodies (suc n) m) ≡ None) i small c.idle none (i == j) refl;

@@ -1,18 +1,16 @@
 -- Leaps from an arbitrary machine: where the items of an instant are handled, and nothing falls due and no tick matters for a while,
 -- so many ticks are as many charges of the head and then one ordinary tick.
-use Rattle.std.proofs.Common.{Bool, ◌+◌, List, None, Option, Some, [], ap, arith, false, refl, suc, sym, true, zero, ℕ, ◌<◌, ◌≤◌, ◌∷◌, ◌++◌, ◌≡◌}
+use Rattle.std.proofs.Common.{Bool, List, None, Option, Some, [], ap, arith, false, refl, suc, sym, true, zero, ℕ, ◌<◌, ◌∷◌, ◌++◌, ◌≡◌}
 use Rattle.std.specs.Prelude.{◌-◌, ◌==◌}
-use mathlib.Core.Path.{subst, ◌∙◌}
+use mathlib.Core.Path.{◌∙◌}
 use Rattle.pse52_trace.specs.Text.{Entry}
 use Rattle.machine_rules.specs.Bodies.{Bodies}
 use Rattle.machine_rules.specs.State.{Machine}
 use Rattle.machine_rules.specs.Threads.{can_run}
 use Rattle.machine_rules.specs.Turns.{Turn, turn_of}
 use Rattle.machine_rules.specs.Dispatch.{head}
-use Rattle.std.specs.Prelude.{filter, length, ◌||◌}
-use Rattle.std.specs.List.{range_with_len}
-use Rattle.machine_rules.specs.Eventful.{busy, has_item, is_eventful, next_tick_matters}
-use Rattle.machine_rules.proofs.Joined.{ticks_add}
+use Rattle.std.specs.Prelude.{◌||◌}
+use Rattle.machine_rules.specs.Eventful.{has_item, is_eventful, next_tick_matters}
 use Rattle.machine_rules.specs.DueItems.{instant, item_bound, next_item}
 use Rattle.machine_rules.specs.Runs.{Ran, follow, tick_of, ticks}
 use Rattle.machine_rules.specs.Eventful.{head_matters, unless_ended}
@@ -22,8 +20,10 @@ use Rattle.machine_moves.proofs.Waiters.Best.{Each}
 use Rattle.machine_moves.proofs.Runs.Listed.{AllRun}
 use Rattle.machine_laws.proofs.Lists.Places.{Stand}
 use Rattle.machine_laws.proofs.Sweeps.Visits.{Quiet}
-use Rattle.machine_leaps.proofs.Quiet.Ticks.{after_quiet, idle_items}
-use Rattle.machine_leaps.proofs.Quiet.Charges.{QuietTick, charged_can_run, charged_exec, charged_head, charged_quiet, charged_unless, goes_on_quiet, one_charge, told_by}
+use Rattle.machine_leaps.proofs.Quiet.Ticks.{idle_items}
+use Rattle.machine_leaps.specs.Quiet.{after_quiet}
+use Rattle.machine_leaps.proofs.Quiet.Charges.{QuietTick, charged_can_run, charged_exec, charged_quiet, goes_on_quiet}
+use Rattle.machine_leaps.specs.Quiet.{charged_head, charged_unless, one_charge, told_from}
 use Rattle.machine_leaps.proofs.Quiet.Runs.{charges}
 use Rattle.machine_leaps.proofs.Quiet.Events.{nothing_more, silent}
 
@@ -103,15 +103,15 @@ module _ {P : Type 0} (bodies : Bodies P) where
   -- j + 1 ticks that do not matter, from a machine whose items are not handled yet; at their end something may fall due
   pub calm_ticks : (j : ℕ) (m : Machine P) → let s = instant bodies (turn_of m) in s.direct ≡ [] → Handled s.machine → Calm j s.machine →
       unless_ended bodies (charges bodies j s.machine).killed (charges bodies j s.machine) ≡ false →
-      ticks bodies (suc j) m ≡ record { machine = charges bodies (suc j) s.machine; events = told_by bodies s.machine.killed s }
+      ticks bodies (suc j) m ≡ record { machine = charges bodies (suc j) s.machine; events = told_from s.machine.killed s }
   calm_ticks zero m none h c e =
       let s = instant bodies (turn_of m) in
       let q = quiet_of s none h e in
-      same_ran (ticks bodies 1 m) (record { machine = charges bodies 1 s.machine; events = told_by bodies s.machine.killed s }) q.machine q.events
+      same_ran (ticks bodies 1 m) (record { machine = charges bodies 1 s.machine; events = told_from s.machine.killed s }) q.machine q.events
   calm_ticks (suc j) m none h c e =
       let s = instant bodies (turn_of m) in
       let at = charges bodies (suc j) s.machine in
-      let told = told_by bodies s.machine.killed s in
+      let told = told_from s.machine.killed s in
       let there : Handled at = charges_handled (suc j) s.machine h c in
       let q = quiet_of (turn_of at) refl there e in
       ap (λ (r : Ran P). follow r (tick_of bodies)) (calm_ticks j m none h (fewer_calm j s.machine c) (c.quiet j (omega arith)))
@@ -123,7 +123,7 @@ module _ {P : Type 0} (bodies : Bodies P) where
   -- So many of them, and one ordinary tick.
   pub calm_then_tick : (j : ℕ) (m : Machine P) → let s = instant bodies (turn_of m) in s.direct ≡ [] → Handled s.machine → Calm (suc j) s.machine →
       let last = tick_of bodies (charges bodies (suc j) s.machine) in
-      ticks bodies (suc (suc j)) m ≡ record { machine = last.machine; events = told_by bodies s.machine.killed s ++ last.events }
+      ticks bodies (suc (suc j)) m ≡ record { machine = last.machine; events = told_from s.machine.killed s ++ last.events }
   calm_then_tick j m none h c =
       ap (λ (r : Ran P). follow r (tick_of bodies)) (calm_ticks j m none h (fewer_calm j (instant bodies (turn_of m)).machine c) (c.quiet j (omega arith)))
 
@@ -133,7 +133,7 @@ module _ {P : Type 0} (bodies : Bodies P) where
   pub record EndsAt (j : ℕ) (m : Machine P) : Type 0 where
     pub due : unless_ended bodies (charges bodies j m).killed (charges bodies j m) ≡ false → has_item (charges bodies (suc j) m) ≡ true
 
-  matters_after : (j : ℕ) (m : Machine P) → let s = instant bodies (turn_of m) in s.direct ≡ [] → Handled s.machine → Calm j s.machine →
+  pub matters_after : (j : ℕ) (m : Machine P) → let s = instant bodies (turn_of m) in s.direct ≡ [] → Handled s.machine → Calm j s.machine →
       next_tick_matters bodies (ticks bodies j m).machine ≡ unless_ended bodies (charges bodies j s.machine).killed (charges bodies j s.machine)
   matters_after zero m none h c = refl
   matters_after (suc j) m none h c =
@@ -159,64 +159,3 @@ module _ {P : Type 0} (bodies : Bodies P) where
       by_matters false e =
           ap (λ (r : Ran P). has_item r.machine || next_tick_matters bodies (ticks bodies j m).machine) (calm_ticks j m none h c e)
           ∙ ap (λ (b : Bool). b || next_tick_matters bodies (ticks bodies j m).machine) (end.due e)
-
-  -- the instants of a run, from a later one on
-  pub eventful_later : (a i : ℕ) (m : Machine P) → is_eventful bodies m (a + suc i) ≡ is_eventful bodies (ticks bodies a m).machine (suc i)
-  eventful_later a i m =
-      let one_more : a + suc i ≡ suc (a + i) = omega arith in
-      let on : suc (a + i) ≡ a + suc i = omega arith in
-      ap (is_eventful bodies m) one_more
-      ∙ ap (λ (n : ℕ). has_item (ticks bodies n m).machine || next_tick_matters bodies (ticks bodies (a + i) m).machine) on
-      ∙ ap (λ (r : Ran P). has_item r.machine || next_tick_matters bodies (ticks bodies (a + i) m).machine) (ticks_add bodies a (suc i) m)
-      ∙ ap (λ (r : Ran P). has_item (ticks bodies (suc i) (ticks bodies a m).machine).machine || next_tick_matters bodies r.machine) (ticks_add bodies a i m)
-
--- ---- how many eventful instants
-
-abbrev count : (ℕ → Bool) → ℕ → ℕ → ℕ
-count p a n = length (filter p (range_with_len a n))
-
-count_split : (p : ℕ → Bool) (a n d : ℕ) → count p a (n + d) ≡ count p a n + count p (a + n) d
-count_split p a zero d = (let none : a + 0 ≡ a = omega arith in let nothing : 0 + d ≡ d = omega arith in let sum : count p (a + 0) d ≡ 0 + count p (a + 0) d = omega arith in ap (count p a) nothing ∙ ap (λ (b : ℕ). count p b d) (sym none) ∙ sum)
-count_split p a (suc n) d =
-    let more : suc n + d ≡ suc (n + d) = omega arith in
-    let on : a + 1 + n ≡ a + suc n = omega arith in
-    ap (count p a) more ∙ by_first (p a) refl (count_split p (a + 1) n d ∙ ap (λ (b : ℕ). count p (a + 1) n + count p b d) on)
-  where
-    by_first : (b : Bool) → p a ≡ b → count p (a + 1) (n + d) ≡ count p (a + 1) n + count p (a + suc n) d → count p a (suc (n + d)) ≡ count p a (suc n) + count p (a + suc n) d
-    by_first true e h = rw e (omega (arith, h))
-    by_first false e h = rw e h
-
-count_first : (p : ℕ → Bool) (a : ℕ) → p a ≡ true → count p a 1 ≡ 1
-count_first p a e = rw e refl
-
--- one more eventful instant at the end
-pub count_more : (p : ℕ → Bool) (a n d : ℕ) → p (a + n + d) ≡ true → count p a n + 1 ≤ count p a (n + d + 1)
-count_more p a n d e =
-    let all = count_split p a (n + d) 1 in
-    let some = count_split p a n d in
-    let last = count_first p (a + n + d) e in
-    let same : count p (a + (n + d)) 1 ≡ count p (a + n + d) 1 = (let on : a + (n + d) ≡ a + n + d = omega arith in ap (λ (b : ℕ). count p b 1) on) in
-    omega (arith, all, some, last, same)
-
-module _ {P : Type 0} (bodies : Bodies P) (start : Machine P) where
-  -- one more leap, and one more eventful instant: those that end between a and b, with b
-  pub busy_more : (a b k : ℕ) → a ≤ b → is_eventful bodies start (b + suc k) ≡ true → busy bodies start a (b + 1) + 1 ≤ busy bodies start a (b + suc k + 1)
-  busy_more a b k le e =
-      let n : b + 1 - a - 1 ≡ b - a = omega arith in
-      let more : b + suc k + 1 - a - 1 ≡ b - a + k + 1 = omega arith in
-      let at : b + suc k ≡ a + 1 + (b - a) + k = omega arith in
-      let here = subst (λ (i : ℕ). is_eventful bodies start i ≡ true) at e in
-      let small = ap (count (is_eventful bodies start) (a + 1)) n in
-      let large = ap (count (is_eventful bodies start) (a + 1)) more in
-      let one = count_more (is_eventful bodies start) (a + 1) (b - a) k here in
-      omega (arith, small, large, one)
-
-  -- and before the horizon
-  pub busy_before : (a b c : ℕ) → a ≤ b → b < c → busy bodies start a (b + 1) ≤ busy bodies start a c
-  busy_before a b c le lt =
-      let n : b + 1 - a - 1 ≡ b - a = omega arith in
-      let more : c - a - 1 ≡ b - a + (c - b - 1) = omega arith in
-      let small = ap (count (is_eventful bodies start) (a + 1)) n in
-      let large = ap (count (is_eventful bodies start) (a + 1)) more in
-      let all = count_split (is_eventful bodies start) (a + 1) (b - a) (c - b - 1) in
-      omega (arith, small, large, all)

@@ -24,12 +24,14 @@ use Rattle.machine_rules.specs.Ticks.{completes, completes_at, frames_charged, r
 use Rattle.machine_rules.specs.Runs.{ran, tick_of}
 use Rattle.machine_rules.specs.Eventful.{head_matters, unless_ended}
 use Rattle.machine_rules.proofs.Reading.{thread-same}
-use Rattle.machine_leaps.specs.QuietSpans.{after_ticks, head_after, server_after}
+use Rattle.machine_leaps.specs.Quiet.{after_ticks, head_after, server_after}
 use Rattle.machine_leaps.specs.Leap.{leap_runs, unit_leapt}
 use Rattle.machine_laws.proofs.Lists.Kept.{Plans, in_unit_plans}
 use Rattle.machine_moves.proofs.Runs.Ticks.{charged_turn}
-use Rattle.machine_leaps.proofs.Quiet.Ticks.{after_quiet, left_over}
-use Rattle.machine_leaps.proofs.Quiet.Charges.{charged_can_run, charged_exec, one_charge}
+use Rattle.machine_leaps.proofs.Quiet.Ticks.{left_over}
+use Rattle.machine_leaps.specs.Quiet.{after_quiet}
+use Rattle.machine_leaps.proofs.Quiet.Charges.{charged_can_run, charged_exec}
+use Rattle.machine_leaps.specs.Quiet.{one_charge}
 use Rattle.machine_laws.proofs.Signals.Takers.{charge_of}
 use Rattle.machine_leaps.proofs.Quiet.Runs.{charges}
 use Rattle.machine_leaps.proofs.Quiet.Once.{Begins, StaysHigh, begins_on, charges_once, matters_of, one_is, stays_high}
@@ -153,9 +155,6 @@ module _ {P : Type 0} (bodies : Bodies P) where
 
     -- ---- the last tick
 
-    abbrev k_of : ℕ → ℕ
-    k_of j = suc (suc j)
-
     abbrev taken : InUnit P
     taken = in_unit bodies (thread_at m t)
 
@@ -175,9 +174,6 @@ module _ {P : Type 0} (bodies : Bodies P) where
       is_all : after_quiet bodies t x ≡ all
       is_all =
           sym (one_is bodies t x b.alive b.first) ∙ ap (one_charge bodies) (sym is_x) ∙ charges_once bodies (suc j) t m b c.quiet
-
-      begin_x : Begins bodies t x
-      begin_x = subst (Begins bodies t) is_x (begins_on bodies (suc j) t m b)
 
       handled_x : Handled bodies x
       handled_x = subst (Handled bodies) is_x (charges_handled bodies (suc j) m h c)

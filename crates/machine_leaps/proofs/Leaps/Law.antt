@@ -18,13 +18,13 @@ use Rattle.machine_rules.specs.Ticks.{completes, later, runs, runs_head, tick_en
 use Rattle.machine_rules.specs.Runs.{Ran, ran, tick_of, ticks}
 use Rattle.machine_rules.proofs.Behind.{AddsBehind, behind}
 use Rattle.machine_rules.proofs.BehindTicks.{completes_behind, sweeps_behind, tick_ends_behind}
-use Rattle.machine_leaps.specs.QuietSpans.{after_ticks}
+use Rattle.machine_leaps.specs.Quiet.{after_ticks}
 use Rattle.machine_leaps.specs.Leap.{later_by, leap, leap_goes_on, leap_head, leap_runs, unit_leapt}
 use Rattle.machine_moves.proofs.Waiters.Best.{running_within}
 use Rattle.machine_moves.proofs.Runs.Listed.{head_can_run}
 use Rattle.machine_moves.proofs.Runs.Ticks.{dispatched}
 use Rattle.machine_moves.proofs.Runs.Since.{dispatched_direct}
-use Rattle.machine_leaps.proofs.Quiet.Charges.{told_by}
+use Rattle.machine_leaps.specs.Quiet.{told_from}
 use Rattle.machine_leaps.proofs.Quiet.Runs.{charges}
 use Rattle.machine_leaps.proofs.Quiet.Once.{StaysHigh, charged_is, idle_once}
 use Rattle.machine_leaps.proofs.Quiet.Events.{nothing_more}
@@ -114,5 +114,5 @@ module _ {P : Type 0} (bodies : Bodies P) where
       ap ran (leap_alive (suc (suc j)) s alive)
       ∙ leap_told (suc (suc j)) to s none
       ∙ sym (calm_then_tick bodies j m none h c
-      ∙ ap (λ (r : Ran P). record { machine = r.machine; events = told_by bodies s.machine.killed s ++ r.events }) (last_by to j s.machine alive refl h c)
-      ∙ ap (λ (o : Option ℕ). (let l = ran (leap_runs bodies (suc (suc j)) to (turn_of (given to s.machine))) in record { machine = l.machine; events = told_by bodies o s ++ l.events })) alive)
+      ∙ ap (λ (r : Ran P). record { machine = r.machine; events = told_from s.machine.killed s ++ r.events }) (last_by to j s.machine alive refl h c)
+      ∙ ap (λ (o : Option ℕ). (let l = ran (leap_runs bodies (suc (suc j)) to (turn_of (given to s.machine))) in record { machine = l.machine; events = told_from o s ++ l.events })) alive)

@@ -1,39 +1,41 @@
--- Leaps in the run of a script.
-use Rattle.std.proofs.Common.{None, Some, suc, ℕ, ◌≡◌}
+-- Every state of the run of a well formed script is one to leap from.
+use Rattle.std.proofs.Common.{arith, ℕ, ◌+◌, ◌≤◌}
+use Rattle.std.specs.Prelude.{◌-◌}
 use Rattle.script_tree.specs.declared.decl.Script.{Script}
-use Rattle.machine_rules.specs.Threads.{thread_at}
 use Rattle.machine_rules.specs.Turns.{turn_of}
-use Rattle.machine_rules.specs.Dispatch.{head}
-use Rattle.machine_rules.specs.Units.{in_unit}
-use Rattle.machine_rules.specs.Runs.{ran, ticks}
+use Rattle.machine_rules.specs.Runs.{opening, ticks}
 use Rattle.machine_rules.specs.Machine.{bodies_of, machine}
-use Rattle.machine_rules.proofs.ItemsEnd.{instant_ends}
+use Rattle.machine_rules.specs.Promises.{busy_between}
 use Rattle.machine_rules.specs.WellFormed.{IsWellFormed}
-use Rattle.machine_leaps.specs.Leap.{Lasts, NothingDue, leap}
-use Rattle.machine_leaps.specs.QuietSpans.{handled_at}
-use Rattle.machine_moves.proofs.Waiters.Best.{running_within}
-use Rattle.machine_moves.proofs.Runs.Listed.{head_can_run}
+use Rattle.machine_rules.proofs.ItemsEnd.{instant_ends}
+use Rattle.machine_leaps.specs.Leap.{AreLeaps, IsLeap, in_leaps, leap_length}
 use Rattle.machine_leaps.proofs.Quiet.Runs.{handled_stands, handled_swept}
-use Rattle.machine_leaps.proofs.Leaps.Calm.{Handled}
-use Rattle.machine_leaps.proofs.Leaps.Law.{leap_is_ticks}
-use Rattle.machine_leaps.proofs.Leaps.Bounds.{idle_calm, lasts_calm}
+use Rattle.machine_rules.specs.Bodies.{Bodies}
+use Rattle.machine_moves.specs.UnitRanges.{BodiesFit}
+use Rattle.machine_moves.proofs.Runs.Units.{bodies_fit}
+use Rattle.machine_leaps.proofs.Leaps.Lengths.{is_leap}
+use Rattle.machine_leaps.proofs.Leaps.Counts.{StaysReady, are_leaps, busy_later, ready_on}
+
+module _ {P : Type 0} (bodies : Bodies P) (ranges : BodiesFit bodies) (script : Script) (fits : IsWellFormed script) where
+  -- over any bodies that keep their ranges
+  pub stays_ready : StaysReady bodies (opening script)
+  stays_ready n =
+      let r = handled_stands bodies ranges script fits n in
+      record {
+        still = r.still;
+        handled = record { nothing = instant_ends bodies (turn_of (ticks bodies n (opening script)).machine); listed = r.listed; stand = r.rest.0.0.stand; swept = handled_swept bodies ranges script fits n };
+        slices = r.rest.0.1.each;
+      }
 
 module _ (script : Script) (fits : IsWellFormed script) where
-  handled_is : (n : ℕ) → Handled (bodies_of script) (handled_at script n).machine
-  handled_is n =
-      let r = handled_stands script fits n in
-      record { nothing = instant_ends (bodies_of script) (turn_of (machine script n)); listed = r.listed; stand = r.rest.0.0.stand; swept = handled_swept script fits n }
+  ready : StaysReady (bodies_of script) (opening script)
+  ready = stays_ready (bodies_of script) (bodies_fit script fits.priorities) script fits
 
-  pub head_leaps : (n j t : ℕ) → (handled_at script n).machine.killed ≡ None → head (handled_at script n).machine ≡ Some t →
-      Lasts (suc j) (handled_at script n).machine.quantum (in_unit (bodies_of script) (thread_at (handled_at script n).machine t)).thread → NothingDue (suc j) (handled_at script n).machine →
-      ran (leap (bodies_of script) (suc j) (turn_of (machine script n))) ≡ ticks (bodies_of script) (suc j) (machine script n)
-  head_leaps n j t alive first lasts none =
-      let m = (handled_at script n).machine in
-      let h = handled_is n in
-      leap_is_ticks (bodies_of script) j (machine script n) (handled_stands script fits n).still h alive
-      (lasts_calm (bodies_of script) t m (record { alive = alive; first = first; here = running_within m.threads t (head_can_run m t h.listed first) }) h j lasts none)
+  pub run_leaps : (n most : ℕ) → 1 ≤ most → IsLeap (bodies_of script) most (leap_length (bodies_of script) most (machine script n)) (machine script n)
+  run_leaps n most some = is_leap (bodies_of script) (machine script n) most some (ready n)
 
-  pub idle_leaps : (n j : ℕ) → (handled_at script n).machine.killed ≡ None → head (handled_at script n).machine ≡ None → NothingDue (suc j) (handled_at script n).machine →
-      ran (leap (bodies_of script) (suc j) (turn_of (machine script n))) ≡ ticks (bodies_of script) (suc j) (machine script n)
-  idle_leaps n j alive nobody none =
-      leap_is_ticks (bodies_of script) j (machine script n) (handled_stands script fits n).still (handled_is n) alive (idle_calm (bodies_of script) (handled_at script n).machine alive nobody j none)
+  pub run_in_leaps : (a most : ℕ) → AreLeaps (bodies_of script) most (machine script a) (in_leaps (bodies_of script) most (machine script a))
+  run_in_leaps a most = are_leaps (bodies_of script) most most (machine script a) (omega arith) (ready_on (bodies_of script) a (opening script) ready)
+
+  pub run_busy : (a b : ℕ) → a ≤ b → (in_leaps (bodies_of script) (b - a) (machine script a)).count ≤ busy_between script a b + 1
+  run_busy a b le = let few = (run_in_leaps a (b - a)).few in let later = busy_later (bodies_of script) (opening script) a b in omega (arith, few, later)

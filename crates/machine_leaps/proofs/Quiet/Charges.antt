@@ -1,12 +1,10 @@
 -- A quiet tick is the charge of its head: nothing is delivered, and the lists stay.
-use Rattle.std.proofs.Common.{Bool, List, None, Option, Some, [], ap, arith, false, inl, inr, length, refl, suc, sym, true, zero, ℕ, ◌+◌, ◌∷◌, ◌≡◌, ◌⊎◌}
+use Rattle.std.proofs.Common.{Bool, List, None, Option, Some, [], ap, arith, false, inl, inr, length, refl, suc, sym, true, zero, ℕ, ◌∷◌, ◌≡◌, ◌⊎◌}
 use Rattle.std.specs.Prelude.{nat_lt, option_and_then, option_map, ◌-◌, ◌==◌, ◌&&◌, ◌||◌, if◌then◌else◌}
 use mathlib.Core.Path.{ap₂, subst, ◌∙◌}
-use Rattle.pse52_trace.specs.Text.{Entry}
 use Rattle.script_tree.specs.declared.policy.Policy.{Policy}
 use Rattle.script_tree.specs.declared.policy.Policy.TheVariants as policy
 use Rattle.sporadic_server.specs.Server.{ServerState, assigned, charge, is_high}
-use Rattle.machine_rules.specs.declared.dispatch.LastDispatch.TheVariants as last
 use Rattle.machine_rules.specs.Lists.{changed_at}
 use Rattle.machine_rules.specs.Bodies.{Bodies}
 use Rattle.machine_rules.specs.State.{Machine, Status, Thread, Waiting, blocked, dormant, ended, runnable}
@@ -31,7 +29,8 @@ use Rattle.machine_moves.proofs.Runs.Since.{dispatched_direct}
 use Rattle.machine_laws.proofs.Lists.Kept.{Plans, in_unit_plans}
 use Rattle.machine_laws.proofs.Signals.Ignored.{sent}
 use Rattle.machine_laws.proofs.Sweeps.Visits.{Quiet, sweeps_nothing}
-use Rattle.machine_leaps.proofs.Quiet.Ticks.{after_quiet, left_over, quiet_end}
+use Rattle.machine_leaps.proofs.Quiet.Ticks.{left_over, quiet_end}
+use Rattle.machine_leaps.specs.Quiet.{charged_head, charged_unless, one_charge, told_from}
 use Rattle.machine_laws.proofs.Signals.Takers.{Taker, charge_of, charged_taker, taken_by, taker_of}
 
 module _ {P : Type 0} (bodies : Bodies P) where
@@ -169,25 +168,8 @@ module _ {P : Type 0} (bodies : Bodies P) (t : ℕ) (s : Turn P) where
 
 -- ---- a tick from a machine in which nothing is due
 
--- the charge of the head
-abbrev pub charged_head : {P : Type 0} → Bodies P → Option ℕ → Machine P → Machine P
-charged_head bodies None m = record m { now = m.now + 1; last = last.Idle }
-charged_head bodies (Some t) m = after_quiet bodies t m
-
--- an ended process stays as it is
-abbrev pub charged_unless : {P : Type 0} → Bodies P → Option ℕ → Machine P → Machine P
-charged_unless bodies None m = charged_head bodies (head m) m
-charged_unless bodies (Some signal) m = m
-
-abbrev pub one_charge : {P : Type 0} → Bodies P → Machine P → Machine P
-one_charge bodies m = charged_unless bodies m.killed m
-
 module _ {P : Type 0} (bodies : Bodies P) where
   -- what a quiet tick leaves, and what it tells: the dispatch where that is a change
-  abbrev pub told_by : Option ℕ → Turn P → List Entry
-  told_by None s = (dispatches (head s.machine) s).events
-  told_by (Some signal) s = s.events
-
   record Quietly (to : Option ℕ) (s : Turn P) : Type 0 where
     machine : (runs bodies to (dispatches to s)).machine ≡ charged_head bodies to s.machine
     events : (runs bodies to (dispatches to s)).events ≡ (dispatches to s).events
@@ -211,7 +193,7 @@ module _ {P : Type 0} (bodies : Bodies P) where
 
   pub record QuietTick (s : Turn P) : Type 0 where
     pub machine : (goes_on bodies s).machine ≡ one_charge bodies s.machine
-    pub events : (goes_on bodies s).events ≡ told_by s.machine.killed s
+    pub events : (goes_on bodies s).events ≡ told_from s.machine.killed s
 
   -- one quiet tick, from where nothing is due any more
   pub goes_on_quiet : (s : Turn P) → s.direct ≡ [] → AllRun s.machine s.machine.lists → Stand s.machine → (s.machine.killed ≡ None → (u : ℕ) → Quiet bodies s.machine u) → unless_ended bodies s.machine.killed s.machine ≡ false → QuietTick s
@@ -221,6 +203,6 @@ module _ {P : Type 0} (bodies : Bodies P) where
       by_killed None alive matters = (runs_head_quiet (head s.machine) s refl none listed stand (q alive) matters).machine
       by_killed (Some signal) dead matters = refl
 
-      told : (k : Option ℕ) → s.machine.killed ≡ k → unless_ended bodies k s.machine ≡ false → (unless_killed k (runs_head bodies) s).events ≡ told_by k s
+      told : (k : Option ℕ) → s.machine.killed ≡ k → unless_ended bodies k s.machine ≡ false → (unless_killed k (runs_head bodies) s).events ≡ told_from k s
       told None alive matters = (runs_head_quiet (head s.machine) s refl none listed stand (q alive) matters).events
       told (Some signal) dead matters = refl

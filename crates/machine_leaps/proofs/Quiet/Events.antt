@@ -12,10 +12,9 @@ use Rattle.machine_rules.specs.Runs.{opening}
 use Rattle.machine_rules.specs.Machine.{bodies_of, events, machine}
 use Rattle.machine_rules.specs.Eventful.{has_item, is_eventful, next_tick_matters}
 use Rattle.machine_rules.specs.WellFormed.{IsWellFormed}
-use Rattle.machine_leaps.specs.QuietSpans.{IsQuietBetween, handled_at, told_from}
-use Rattle.machine_leaps.proofs.Quiet.Charges.{charged_head, charged_unless, one_charge, told_by}
+use Rattle.machine_leaps.specs.Quiet.{IsQuietBetween, told_from}
+use Rattle.machine_leaps.specs.Quiet.{charged_head, charged_unless, one_charge, told_from}
 use Rattle.machine_leaps.proofs.Quiet.Runs.{first_of, handled, handled_nothing, later_by, later_is, tick_charges, tick_quiet}
-use Rattle.machine_leaps.proofs.Quiet.Law.{QuietBetween}
 
 pub nothing_more : {X : Type 0} (xs : List X) → xs ++ [] ≡ xs
 nothing_more [] = refl
@@ -27,7 +26,7 @@ same_again (Some t) = grind arith
 
 module _ {P : Type 0} (bodies : Bodies P) where
   abbrev pub told : Turn P → List Entry
-  told s = told_by bodies s.machine.killed s
+  told s = told_from s.machine.killed s
 
   -- a dispatch of the same is not told
   dispatched_silent : (m : Machine P) (o : Option ℕ) → m.last ≡ dispatch_of o → (dispatches o (turn_of m)).events ≡ []
@@ -40,14 +39,14 @@ module _ {P : Type 0} (bodies : Bodies P) where
       by_head : (o : Option ℕ) → head m ≡ o → m.killed ≡ None → told (turn_of (charged_head bodies o m)) ≡ []
       by_head None first alive =
           let n = charged_head bodies None m in
-          ap (λ (k : Option ℕ). told_by bodies k (turn_of n)) alive ∙ ap (λ (o : Option ℕ). (dispatches o (turn_of n)).events) first ∙ dispatched_silent n None refl
+          ap (λ (k : Option ℕ). told_from k (turn_of n)) alive ∙ ap (λ (o : Option ℕ). (dispatches o (turn_of n)).events) first ∙ dispatched_silent n None refl
       by_head (Some t) first alive =
           let n = charged_head bodies (Some t) m in
-          ap (λ (k : Option ℕ). told_by bodies k (turn_of n)) alive ∙ ap (λ (o : Option ℕ). (dispatches o (turn_of n)).events) first ∙ dispatched_silent n (Some t) refl
+          ap (λ (k : Option ℕ). told_from k (turn_of n)) alive ∙ ap (λ (o : Option ℕ). (dispatches o (turn_of n)).events) first ∙ dispatched_silent n (Some t) refl
 
       by_killed : (k : Option ℕ) → m.killed ≡ k → told (turn_of (charged_unless bodies k m)) ≡ []
       by_killed None alive = by_head (head m) refl alive
-      by_killed (Some signal) dead = ap (λ (k : Option ℕ). told_by bodies k (turn_of m)) dead
+      by_killed (Some signal) dead = ap (λ (k : Option ℕ). told_from k (turn_of m)) dead
 
 module _ (script : Script) (fits : IsWellFormed script) where
   events_on : (a j : ℕ) → ((i : ℕ) → i ≤ j → is_eventful (bodies_of script) (opening script) (suc (later_by a i)) ≡ false) → events script (suc (later_by a j)) ≡ events script a ++ told (bodies_of script) (handled script fits a)
@@ -63,14 +62,6 @@ module _ (script : Script) (fits : IsWellFormed script) where
       ∙ events_on a j (λ i le. h i (omega arith))
 
   -- at each of the instants between: what was told before, the items of a, and the dispatch that follows them where it is a change
-  pub quiet_events : (a k : ℕ) → QuietBetween script fits a (a + k) → (j : ℕ) → 1 ≤ j → j < k → events script (a + j) ≡ events script a ++ told (bodies_of script) (handled script fits a)
-  quiet_events a k h zero low high = absurd (omega arith)
-  quiet_events a k h (suc j) low high = ap (events script) (sym (later_is a (suc j))) ∙ events_on a j (λ i le. (let e = later_is a i in h (suc (later_by a i)) (omega arith) (omega arith)))
-
-  -- the same, in the words of the law
-  pub quiet_told : (a k : ℕ) → IsQuietBetween script a (a + k) → (j : ℕ) → 1 ≤ j → j < k → events script (a + j) ≡ events script a ++ told_from (handled_at script a).machine.killed (handled_at script a)
-  quiet_told a k h j low high = quiet_events a k h j low high ∙ ap (λ (es : List Entry). events script a ++ es) (by_killed (handled_at script a).machine.killed)
-    where
-      by_killed : (o : Option ℕ) → told_by (bodies_of script) o (handled_at script a) ≡ told_from o (handled_at script a)
-      by_killed None = refl
-      by_killed (Some signal) = refl
+  pub quiet_told : (a k : ℕ) → IsQuietBetween script a (a + k) → (j : ℕ) → 1 ≤ j → j < k → events script (a + j) ≡ events script a ++ told (bodies_of script) (handled script fits a)
+  quiet_told a k h zero low high = absurd (omega arith)
+  quiet_told a k h (suc j) low high = ap (events script) (sym (later_is a (suc j))) ∙ events_on a j (λ i le. (let e = later_is a i in h (suc (later_by a i)) (omega arith) (omega arith)))

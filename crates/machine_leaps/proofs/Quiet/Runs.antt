@@ -9,16 +9,18 @@ use Rattle.machine_rules.specs.Bodies.{Bodies}
 use Rattle.machine_rules.specs.State.{Machine}
 use Rattle.machine_rules.specs.Turns.{Turn, turn_of}
 use Rattle.machine_rules.specs.DueItems.{instant, item_bound, next_item}
-use Rattle.machine_rules.specs.Runs.{opening}
+use Rattle.machine_rules.specs.Runs.{opening, ticks}
 use Rattle.machine_rules.specs.Machine.{bodies_of, machine}
 use Rattle.machine_rules.specs.Eventful.{has_item, is_eventful, next_tick_matters}
 use Rattle.machine_rules.specs.WellFormed.{IsWellFormed}
+use Rattle.machine_moves.specs.UnitRanges.{BodiesFit}
 use Rattle.machine_moves.proofs.Runs.Units.{bodies_fit}
 use Rattle.machine_laws.proofs.Parts.Opening.{opening_listed}
 use Rattle.machine_moves.proofs.Runs.Since.{Rests, instant_keep, run_since}
 use Rattle.machine_laws.proofs.Sweeps.Kept.{EndHeard, InHeard, LawHeard, RestHeard, Swept, brings, instant_after, opening_rest, run_quiet, tick_heard}
 use Rattle.machine_leaps.proofs.Quiet.Ticks.{idle_items}
-use Rattle.machine_leaps.proofs.Quiet.Charges.{QuietTick, goes_on_quiet, one_charge}
+use Rattle.machine_leaps.proofs.Quiet.Charges.{QuietTick, goes_on_quiet}
+use Rattle.machine_leaps.specs.Quiet.{one_charge}
 
 -- so many charges of the head, one after another
 abbrev pub charges : {P : Type 0} → Bodies P → ℕ → Machine P → Machine P
@@ -44,9 +46,31 @@ pub nothing_due : (o : Option Item) → is_some o ≡ false → o ≡ None
 nothing_due None e = refl
 nothing_due (Some i) e = absurd (grind arith)
 
+-- ---- where the items of an instant leave the run of a well formed script, over any bodies that keep their ranges
+
+module _ {P : Type 0} (bodies : Bodies P) (ranges : BodiesFit bodies) (script : Script) (fits : IsWellFormed script) where
+  abbrev pub Still : Turn P → Type 0
+  Still s = Rests bodies ranges (RestHeard bodies) (LawHeard bodies) (InHeard bodies) (InHeard bodies) (EndHeard bodies) (tick_heard bodies) s
+
+  stands : (n : ℕ) → Still (turn_of (ticks bodies n (opening script)).machine)
+  stands n = run_since bodies ranges (RestHeard bodies) (LawHeard bodies) (InHeard bodies) (InHeard bodies) (EndHeard bodies) (tick_heard bodies) n (opening script) (opening_rest bodies ranges script fits) (opening_listed P script)
+
+  pub handled_stands : (n : ℕ) → Still (instant bodies (turn_of (ticks bodies n (opening script)).machine))
+  handled_stands n =
+      instant_keep bodies ranges (RestHeard bodies) (LawHeard bodies) (InHeard bodies) (InHeard bodies) (EndHeard bodies) (tick_heard bodies) (turn_of (ticks bodies n (opening script)).machine) (stands n)
+
+  pub handled_swept : (n : ℕ) → Swept bodies (instant bodies (turn_of (ticks bodies n (opening script)).machine)).machine
+  handled_swept n =
+      instant_after bodies ranges (RestHeard bodies) (LawHeard bodies) (InHeard bodies) (InHeard bodies) (EndHeard bodies) (tick_heard bodies) (Swept bodies) (brings bodies ranges script fits) (turn_of (ticks bodies n (opening script)).machine) (stands n) (run_quiet bodies ranges script fits n)
+
+-- ---- over its trees
+
 module _ (script : Script) (fits : IsWellFormed script) where
   abbrev pub bodies : Bodies Place
   bodies = bodies_of script
+
+  abbrev ranges : BodiesFit bodies
+  ranges = bodies_fit script fits.priorities
 
   abbrev pub start : Machine Place
   start = opening script
@@ -55,23 +79,10 @@ module _ (script : Script) (fits : IsWellFormed script) where
   abbrev pub handled : ℕ → Turn Place
   handled n = instant bodies (turn_of (machine script n))
 
-  abbrev pub Still : Turn Place → Type 0
-  Still s = Rests bodies (bodies_fit script fits.priorities) (RestHeard bodies) (LawHeard bodies) (InHeard bodies) (InHeard bodies) (EndHeard bodies) (tick_heard bodies) s
-
-  stands : (n : ℕ) → Still (turn_of (machine script n))
-  stands n = run_since bodies (bodies_fit script fits.priorities) (RestHeard bodies) (LawHeard bodies) (InHeard bodies) (InHeard bodies) (EndHeard bodies) (tick_heard bodies) n start (opening_rest script fits) (opening_listed script)
-
-  pub handled_stands : (n : ℕ) → Still (handled n)
-  handled_stands n = instant_keep bodies (bodies_fit script fits.priorities) (RestHeard bodies) (LawHeard bodies) (InHeard bodies) (InHeard bodies) (EndHeard bodies) (tick_heard bodies) (turn_of (machine script n)) (stands n)
-
-  pub handled_swept : (n : ℕ) → Swept bodies (handled n).machine
-  handled_swept n =
-      instant_after bodies (bodies_fit script fits.priorities) (RestHeard bodies) (LawHeard bodies) (InHeard bodies) (InHeard bodies) (EndHeard bodies) (tick_heard bodies) (Swept bodies) (brings script fits) (turn_of (machine script n)) (stands n) (run_quiet script fits n)
-
   pub tick_quiet : (n : ℕ) → is_eventful bodies start (suc n) ≡ false → QuietTick bodies (handled n)
   tick_quiet n e =
-      let r = handled_stands n in
-      goes_on_quiet bodies (handled n) r.still r.listed r.rest.0.0.stand (handled_swept n) (second_of (has_item (machine script (suc n))) (next_tick_matters bodies (machine script n)) e)
+      let r = handled_stands bodies ranges script fits n in
+      goes_on_quiet bodies (handled n) r.still r.listed r.rest.0.0.stand (handled_swept bodies ranges script fits n) (second_of (has_item (machine script (suc n))) (next_tick_matters bodies (machine script n)) e)
 
   -- the tick to an instant that is not eventful is one charge
   pub tick_charges : (n : ℕ) → is_eventful bodies start (suc n) ≡ false → machine script (suc n) ≡ one_charge bodies (handled n).machine
