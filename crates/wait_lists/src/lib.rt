@@ -9,6 +9,7 @@
 ghost use Rattle.std.specs.Prelude.{◌≡◌, ◌<◌, ◌≤◌, None, Some, IfOk, IsSome, length, replicate, slice_set, option_map};
 ghost use Rattle.wait_lists.specs.Places.{place_in, repriced, best_of, best_for, next_of};
 ghost use Rattle.wait_lists.specs.Held.{id_of, number_of};
+ghost use Rattle.wait_lists.specs.Ties.{BestsAreAcceptors, BestsAreWaiters};
 
 mod order;
 
@@ -201,6 +202,14 @@ impl Waits {
             Some(node) => Tid::try_new(node as u16),
             None => None,
         }
+    }
+
+    /// `best` and `best_for_signal` answer by the rules of the machine whose waits these are, over flat code.
+    pub fn serve_by_the_rules(&self)
+        ensures waiters { BestsAreWaiters self.now }
+        ensures acceptors { BestsAreAcceptors self.now }
+    {
+        let _threads = self.places.len();
     }
 }
 
