@@ -1,0 +1,4 @@
+pub mod Held
+pub mod Places
+pub mod Service
+pub mod Ties
