@@ -4,8 +4,7 @@ use Rattle.script_tree.specs.declared.decl.Script.{Script}
 use Rattle.script_table.specs.Table.{patterns}
 use Rattle.script_table.specs.Read.{read}
 use Rattle.machine_rules.specs.Promises.{RunKeepsBudgets, RunStaysGood}
-use Rattle.machine_laws.proofs.Good.{good_throughout}
-use Rattle.machine_laws.proofs.Budgets.Kept.{run_budgets}
+use Rattle.machine_laws.proofs.Scripts as laws
 use Rattle.thread_laws.specs.HeadRuns.{HeadRuns}
 use Rattle.thread_laws.proofs.HeadRuns as heads
 use Rattle.well_formed_scripts.proofs.Reading.{accepted_is_well_formed}
@@ -14,7 +13,7 @@ pub head_runs : (script : Script) (k : ℕ) → HeadRuns script k
 head_runs = heads.head_runs
 
 pub stays_good : (bytes : List ℕ) (script : Script) → read patterns bytes ≡ Ok script → RunStaysGood script
-stays_good bytes script e = good_throughout script (accepted_is_well_formed bytes script e)
+stays_good bytes script e = laws.stays_good script (accepted_is_well_formed bytes script e)
 
 pub keeps_budgets : (bytes : List ℕ) (script : Script) → read patterns bytes ≡ Ok script → RunKeepsBudgets script
-keeps_budgets bytes script e = run_budgets script (accepted_is_well_formed bytes script e)
+keeps_budgets bytes script e = laws.keeps_budgets script (accepted_is_well_formed bytes script e)
