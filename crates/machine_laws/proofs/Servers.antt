@@ -1,3 +1,4 @@
+-- Sporadic servers.
 pub mod Right
 pub mod Moves
 pub mod Ticks
