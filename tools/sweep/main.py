@@ -43,7 +43,7 @@ def words_of(words: list[str]) -> argparse.Namespace:
     parser.add_argument("--program", metavar="WORDS", default=os.environ.get("PSE52"),
                         help="what runs a script; without it PSE52 of the environment, or bin/pse52")
     parser.add_argument("--engine", choices=("parallel", "xargs"), help="without it GNU parallel where that is here")
-    parser.add_argument("--anew", action="store_true", help="forget what an interrupted sweep has done")
+    parser.add_argument("--anew", action="store_true", help="forget the rows that are done")
     said = parser.parse_args(words)
     if said.jobs < 1:
         parser.error("--jobs is at least 1")
@@ -97,7 +97,7 @@ def _span(seconds: float) -> str:
 
 
 def carry_out(sweep: Sweep, said: argparse.Namespace) -> Path:
-    """Carries out the runs that are not done yet, and writes the table."""
+    """Carries out the runs that are not done yet, and writes the table. The rows stay, so that the same words need no run again."""
     program = program_of(said.program)
     kept_file = sweep.file(".rows")
     if said.anew:
@@ -113,7 +113,6 @@ def carry_out(sweep: Sweep, said: argparse.Namespace) -> Path:
         raise NoEngine(f"the engine ended with {len(kept.rows)} of {sweep.count} runs done; start the sweep again to go on")
     path = sweep.file(".csv")
     path.write_text(table(sweep.columns, kept.rows))
-    kept_file.unlink()
     return path
 
 

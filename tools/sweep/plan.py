@@ -69,8 +69,12 @@ class Sweep:
         return self.folder / f"{self.stem}{suffix}"
 
     def identity(self, program: list[str]) -> str:
-        """Two sweeps with the same identity have the same runs, so the one may go on where the other stopped."""
-        told = [self.template, self.horizon, list(self.values.items()), [measure.words for measure in self.measures], program]
+        """Two sweeps with the same identity have the same runs, so the one may go on where the other stopped.
+
+        Of the program it has the words, and the content of those that are files.
+        """
+        files = [hashlib.sha256(Path(word).read_bytes()).hexdigest() for word in program if Path(word).is_file()]
+        told = [self.template, self.horizon, list(self.values.items()), [measure.words for measure in self.measures], program, files]
         return hashlib.sha256(json.dumps(told).encode()).hexdigest()
 
 

@@ -18,10 +18,13 @@ class Pages(unittest.TestCase):
     def test_the_tutorial(self) -> None:
         self.check("TUTORIAL.md")
 
+    def test_the_page_on_sweeps(self) -> None:
+        self.check("SWEEP.md")
+
     def test_the_examples_of_the_manual_pages(self) -> None:
         for page in sorted((TOP / "docs").glob("*.1")):
             commands = re.findall(r"^\.Dl (bin/.*?)(?: && gtkwave .*)?$", page.read_text(), re.M)
-            self.assertTrue(commands, page.name)
+            self.assertTrue(commands or "sweep" in page.name, page.name)
             for command in commands:
                 with tempfile.TemporaryDirectory() as folder:
                     clone(Path(folder))

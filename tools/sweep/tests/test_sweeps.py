@@ -96,7 +96,9 @@ class Sweeps(Folder):
         self.assertEqual((ended.returncode, ended.stdout), (0, f"{self.folder / 'two.csv'}\n"), ended.stderr)
         self.assertEqual(self.table(), TABLE)
         self.assertIn("9 of 9 runs", ended.stderr)
-        self.assertFalse((self.folder / "two.rows").exists())
+        again = self.sweep("--jobs", "2")
+        self.assertIn("9 of 9 runs were done before", again.stderr)
+        self.assertEqual(self.table(), TABLE)
 
     def test_one_job_and_many_with_each_engine(self) -> None:
         grid = TOML.replace("[2, 5, 0]", "{ from = 1, to = 12 }")
@@ -108,7 +110,7 @@ class Sweeps(Folder):
                 continue
             for jobs in ("1", "5"):
                 self.write(grid)
-                ended = self.sweep("--jobs", jobs, "--engine", engine, program=f"{sys.executable} {self.folder / 'slow.py'}")
+                ended = self.sweep("--anew", "--jobs", jobs, "--engine", engine, program=f"{sys.executable} {self.folder / 'slow.py'}")
                 self.assertEqual(ended.returncode, 0, ended.stderr)
                 seen.add(self.table())
         self.assertEqual(len(seen), 1)
