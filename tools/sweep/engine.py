@@ -12,7 +12,7 @@ from collections.abc import Iterator
 from pathlib import Path
 
 WORKER = Path(__file__).with_name("worker.py")
-MOST_A_JOB = 100
+MOST_A_JOB = 1000
 
 
 class NoEngine(Exception):
@@ -30,7 +30,7 @@ def gnu_parallel() -> str | None:
 
 def runs_a_job(count: int, jobs: int) -> int:
     """So many runs that the start of a job does not count, and so few that all jobs have work up to the end."""
-    return max(1, min(MOST_A_JOB, count // (jobs * 8)))
+    return max(1, min(MOST_A_JOB, count // (jobs * 3)))
 
 
 def command(toml: Path, program: list[str]) -> list[str]:

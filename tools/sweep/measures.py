@@ -4,13 +4,15 @@ Each measure has one column or more. A column without a figure, as the greatest 
 """
 from __future__ import annotations
 
+import re
 from collections import deque
 from collections.abc import Callable
 from dataclasses import dataclass
 from fractions import Fraction
+from functools import cached_property
 
 from view.lines import Closing, Exhaust, Refill, Return, Trace
-from view.timeline import State, ThreadLine, Timeline
+from view.timeline import State, ThreadLine, Timeline, timeline_of
 
 Figure = int | Fraction | None
 LOCKS = frozenset(("lock", "timedlock"))
@@ -26,10 +28,39 @@ class Measure:
 
     words: dict[str, object]
     columns: tuple[str, ...]
-    read: Callable[[Timeline], list[Figure]]
+    read: Callable[["Seen"], list[Figure]]
 
-    def figures(self, timeline: Timeline) -> list[str]:
-        return [shown(figure) for figure in self.read(timeline)]
+    def figures(self, seen: "Seen") -> list[str]:
+        return [shown(figure) for figure in self.read(seen)]
+
+
+class Seen:
+    """A trace that is measured. What the threads did is put together only where a measure asks for it."""
+
+    def __init__(self, trace: Trace) -> None:
+        self.trace = trace
+
+    @cached_property
+    def timeline(self) -> Timeline:
+        return timeline_of(self.trace)
+
+    @cached_property
+    def closing(self) -> dict[str, Closing]:
+        """The closing lines by the names of their threads."""
+        return {event.name: event for event in self.trace.events if isinstance(event, Closing)}
+
+    @cached_property
+    def end(self) -> int:
+        return next((event.time for event in reversed(self.trace.events) if not isinstance(event, Closing)), 0)
+
+    def thread(self, name: object) -> ThreadLine | None:
+        return next((thread for thread in self.timeline.threads if thread.name == name), None)
+
+    def lines(self, words: list[str]) -> list[tuple[int, int]]:
+        """The events, as (line, time), whose words behind their time begin with these; `*` stands for any word."""
+        pattern = r"\d+ " + " ".join(r"\S+" if word == "*" else re.escape(word) for word in words) + r"(?: |$)"
+        found = re.compile(pattern).match
+        return [(number, self.trace.events[number][0]) for number, line in enumerate(self.trace.lines) if found(line)]
 
 
 def shown(figure: Figure) -> str:
@@ -66,58 +97,43 @@ def measure_of(table: dict[str, object]) -> Measure:
     if kind == "response" and table["from"] in ("start", "wake") and "thread" not in table:
         raise WrongMeasure(f"measure '{name}': from '{table['from']}' needs the 'thread' that does it")
     columns = tuple(f"{name}_{ending}" if ending else name for ending in endings)
-    return Measure(dict(table), columns, lambda timeline: reader(timeline, table))
+    return Measure(dict(table), columns, lambda seen: reader(seen, table))
 
 
 # Response times.
 
-def opens(table: dict[str, object], timeline: Timeline) -> tuple[list[tuple[int, int]], bool]:
+def beginnings(seen: Seen, table: dict[str, object]) -> tuple[list[tuple[int, int]], bool]:
     """The beginnings that a response is counted from, as (line, time), and whether only one can be open at a time."""
     begin = table["from"]
     if begin == "start":
-        words = ["start", table["thread"]]
-    elif begin == "wake":
-        thread = thread_of(timeline, table["thread"])
-        times = {span.end for span in thread.spans if span.state is State.WAITING} if thread else set()
-        return [(line, event.time) for line, event in enumerate(timeline.trace.events)
-                if isinstance(event, Return) and event.name == table["thread"] and event.time in times], True
-    else:
-        words = begin.split()
-    return matching(words, timeline.trace), begin == "start"
+        return seen.lines(["start", str(table["thread"])]), True
+    if begin != "wake":
+        return seen.lines(str(begin).split()), False
+    thread = seen.thread(table["thread"])
+    times = {span.end for span in thread.spans if span.state is State.WAITING} if thread else set()
+    return [(line, time) for line, time in seen.lines(["return", str(table["thread"])]) if time in times], True
 
 
-def matching(words: list[str], trace: Trace) -> list[tuple[int, int]]:
-    """The events whose words, behind their time, begin with these; `*` stands for any word."""
-    found = []
-    for number, (event, line) in enumerate(zip(trace.events, trace.lines)):
-        if isinstance(event, Closing):
-            break
-        have = line.split(" ")[1:]
-        if len(have) >= len(words) and all(want in ("*", word) for want, word in zip(words, have)):
-            found.append((number, event[0]))
-    return found
-
-
-def responses(timeline: Timeline, table: dict[str, object]) -> tuple[list[int], list[int]]:
+def responses(seen: Seen, table: dict[str, object]) -> tuple[list[int], list[int]]:
     """The response times, and the ages at the end of those that are not answered.
 
     Each event of `to` answers the oldest beginning that is open. A start or a wake opens nothing while one is open.
     """
-    begins, single = opens(table, timeline)
-    ends = matching(str(table["to"]).split(), timeline.trace)
+    begins, single = beginnings(seen, table)
+    events = [(line, time, True) for line, time in begins]
+    events += [(line, time, False) for line, time in seen.lines(str(table["to"]).split())]
     open_since: deque[int] = deque()
     times: list[int] = []
-    for line, time, begins_one in sorted([(line, time, True) for line, time in begins] + [(line, time, False) for line, time in ends]):
-        if begins_one:
-            if not (single and open_since):
-                open_since.append(time)
-        elif open_since:
+    for _, time, begin in sorted(events):
+        if begin and not (single and open_since):
+            open_since.append(time)
+        elif not begin and open_since:
             times.append(time - open_since.popleft())
-    return times, [timeline.end - time for time in open_since]
+    return times, [seen.end - time for time in open_since]
 
 
-def read_response(timeline: Timeline, table: dict[str, object]) -> list[Figure]:
-    times, ages = responses(timeline, table)
+def read_response(seen: Seen, table: dict[str, object]) -> list[Figure]:
+    times, ages = responses(seen, table)
     figures: list[Figure] = [len(times), max(times, default=None), Fraction(sum(times), len(times)) if times else None]
     if "deadline" in table:
         figures.append(sum(time > table["deadline"] for time in times + ages))
@@ -126,58 +142,53 @@ def read_response(timeline: Timeline, table: dict[str, object]) -> list[Figure]:
 
 # Threads, servers and locks.
 
-def thread_of(timeline: Timeline, name: object) -> ThreadLine | None:
-    return next((thread for thread in timeline.threads if thread.name == name), None)
+def read_ticks(seen: Seen, table: dict[str, object]) -> list[Figure]:
+    closing = seen.closing.get(str(table["thread"]))
+    return [closing.ticks if closing else None]
 
 
-def read_ticks(timeline: Timeline, table: dict[str, object]) -> list[Figure]:
-    thread = thread_of(timeline, table["thread"])
-    return [thread.ticks if thread else None]
-
-
-def read_share(timeline: Timeline, table: dict[str, object]) -> list[Figure]:
-    thread = thread_of(timeline, table["thread"])
+def read_share(seen: Seen, table: dict[str, object]) -> list[Figure]:
+    thread = seen.thread(table["thread"])
     return [Fraction(thread.high_ticks, thread.ticks) if thread and thread.ticks and thread.is_sporadic else None]
 
 
-def read_exhausted(timeline: Timeline, table: dict[str, object]) -> list[Figure]:
-    name = table["thread"]
-    if thread_of(timeline, name) is None:
-        return [None]
-    return [sum(isinstance(event, Exhaust) and event.name == name for event in timeline.trace.events)]
+def read_exhausted(seen: Seen, table: dict[str, object]) -> list[Figure]:
+    name = str(table["thread"])
+    return [len(seen.lines(["exhaust", name])) if name in seen.closing else None]
 
 
-def read_refill_wait(timeline: Timeline, table: dict[str, object]) -> list[Figure]:
+def read_refill_wait(seen: Seen, table: dict[str, object]) -> list[Figure]:
     """From each exhaustion to the refill that follows it, or to the end: all of them, and the longest."""
-    name = table["thread"]
-    if thread_of(timeline, name) is None:
+    name = str(table["thread"])
+    if name not in seen.closing:
         return [None, None]
     since, waits = None, []
-    for event in timeline.trace.events:
+    for event in seen.trace.events:
         if isinstance(event, Exhaust) and event.name == name:
             since = event.time
         elif isinstance(event, Refill) and event.name == name and since is not None:
             waits.append(event.time - since)
             since = None
     if since is not None:
-        waits.append(timeline.end - since)
+        waits.append(seen.end - since)
     return [sum(waits), max(waits, default=None)]
 
 
-def read_lock(timeline: Timeline, table: dict[str, object]) -> list[Figure]:
+def read_lock(seen: Seen, table: dict[str, object]) -> list[Figure]:
     """From the call to its return: one tick for the call, and the wait that ends with the return."""
-    names = [table["thread"]] if "thread" in table else [thread.name for thread in timeline.threads]
     longest: int | None = None
-    for thread in (thread for thread in timeline.threads if thread.name in names):
+    for thread in seen.timeline.threads:
+        if thread.name != table.get("thread", thread.name):
+            continue
         waits = {span.end: span.end - span.start + 1 for span in thread.spans
                  if span.state is State.WAITING and span.call in LOCKS}
-        for event in timeline.trace.events:
+        for event in seen.trace.events:
             if isinstance(event, Return) and event.name == thread.name and event.call in LOCKS:
                 longest = max(longest or 0, waits.get(event.time, 1))
     return [longest]
 
 
-Reader = Callable[[Timeline, dict[str, object]], list[Figure]]
+Reader = Callable[[Seen, dict[str, object]], list[Figure]]
 
 # Each kind: the keys that it needs, those that it may have, the endings of its columns, and its reader.
 KINDS: dict[str, tuple[set[str], set[str], tuple[str, ...], Reader]] = {

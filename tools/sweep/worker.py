@@ -15,9 +15,9 @@ from pathlib import Path
 
 sys.path.insert(0, str(Path(__file__).resolve().parents[1]))
 
+from sweep.measures import Seen  # noqa: E402
 from sweep.plan import Run, Sweep, read_sweep  # noqa: E402
 from view.lines import NotATraceLine, read_trace  # noqa: E402
-from view.timeline import timeline_of  # noqa: E402
 
 
 NOT_STARTED = 127
@@ -35,8 +35,8 @@ def row_of(sweep: Sweep, run: Run, program: list[str]) -> list[str]:
         fault = _first_line(ended.stdout) or _first_line(ended.stderr)
     else:
         try:
-            timeline = timeline_of(read_trace(ended.stdout.splitlines(keepends=True)))
-            figures = [figure for measure in sweep.measures for figure in measure.figures(timeline)]
+            seen = Seen(read_trace(ended.stdout.splitlines(keepends=True)))
+            figures = [figure for measure in sweep.measures for figure in measure.figures(seen)]
         except NotATraceLine as wrong:
             fault = str(wrong)
     return [*map(str, run.values), str(ended.returncode), fault, *figures]

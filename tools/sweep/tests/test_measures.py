@@ -4,23 +4,22 @@ from __future__ import annotations
 import unittest
 from pathlib import Path
 
-from sweep.measures import WrongMeasure, matching, measure_of
+from sweep.measures import Seen, WrongMeasure, measure_of
 from view.lines import read_trace
-from view.timeline import Timeline, timeline_of
 
 WORKED = Path(__file__).resolve().parents[3] / "tests" / "worked"
 CONTROLLER, TWO_BUDGETS, CHAIN = (
     "controller_with_server_and_monitor", "six_high_ticks_in_one_period", "timeout_within_an_inheritance_chain")
 
 
-def timeline(name: str) -> Timeline:
-    return timeline_of(read_trace((WORKED / f"{name}.trace").read_bytes().splitlines(keepends=True)))
+def seen(name: str) -> Seen:
+    return Seen(read_trace((WORKED / f"{name}.trace").read_bytes().splitlines(keepends=True)))
 
 
 class Measures(unittest.TestCase):
     def check(self, trace: str, wanted: dict[str, str], **table: object) -> None:
         measure = measure_of({"name": "m", **table})
-        self.assertEqual(dict(zip(measure.columns, measure.figures(timeline(trace)))), wanted)
+        self.assertEqual(dict(zip(measure.columns, measure.figures(seen(trace)))), wanted)
 
     def test_from_an_event(self) -> None:
         # The request of 33 is answered as the server unlocks at 40.
@@ -81,10 +80,10 @@ class Measures(unittest.TestCase):
         self.check(TWO_BUDGETS, {"m": ""}, kind="lock")
 
     def test_events_are_found_by_their_first_words(self) -> None:
-        trace = timeline(CONTROLLER).trace
-        self.assertEqual([time for _, time in matching(["return", "srv"], trace)], [33, 36, 40])
-        self.assertEqual([time for _, time in matching(["exhaust", "*"], trace)], [40, 43])
-        self.assertEqual(matching(["return", "s"], trace), [])
+        controller = seen(CONTROLLER)
+        self.assertEqual([time for _, time in controller.lines(["return", "srv"])], [33, 36, 40])
+        self.assertEqual([time for _, time in controller.lines(["exhaust", "*"])], [40, 43])
+        self.assertEqual(controller.lines(["return", "s"]), [])
 
     def test_tables_that_say_no_measure(self) -> None:
         for table in ({}, {"name": "a b"}, {"name": "a"}, {"name": "a", "kind": "speed"}, {"name": "a", "kind": "ticks"},
