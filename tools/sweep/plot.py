@@ -25,7 +25,7 @@ def greatest_at(rows: list[dict[str, str]], measure: str, over: list[str]) -> di
 def script(points: dict[tuple[int, ...], float], measure: str, over: list[str], out: Path) -> str:
     """The commands of gnuplot, data among them."""
     names = [name.replace("_", "\\_") for name in (measure, *over)]
-    lines = [f"set terminal svg size 760,440 dynamic enhanced font 'DejaVu Sans,12' background rgb 'white'",
+    lines = ["set terminal svg size 760,440 dynamic enhanced font 'DejaVu Sans,12' background rgb 'white'",
              f"set output {_quoted(out)}", f"set xlabel '{names[1]}'", f"set ylabel '{names[0]}'", "set grid",
              "set key outside right", "set offsets graph 0.03, graph 0.03, graph 0.05, graph 0.05"]
     if len(over) == 1:
