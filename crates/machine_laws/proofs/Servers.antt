@@ -3,3 +3,4 @@ pub mod Right
 pub mod Moves
 pub mod Ticks
 pub mod Kept
+pub mod Rest
