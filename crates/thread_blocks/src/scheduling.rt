@@ -3,17 +3,16 @@ ghost use Rattle.std.specs.Prelude.{◌≡◌, ◌≤◌, ◌<◌, ◌+◌, ◌^
 ghost use Rattle.machine_rules.specs.Threads.{is_runnable, is_blocked};
 ghost use Rattle.machine_rules.specs.Priorities.{assigned_of};
 ghost use Rattle.machine_rules.specs.Scheduling.{at_priority, takes_priority, with_policy, with_priority};
-ghost use Rattle.machine_rules.specs.Ticks.{slice_charged, slice_is_used, tick_charged, without_slice, tick_end};
-ghost use Rattle.machine_rules.specs.Units.{in_unit};
-ghost use Rattle.machine_flat.specs.FlatBodies.{flat_bodies};
-ghost use Rattle.machine_flat.specs.Placed.{ArePlaced};
+ghost use Rattle.machine_rules.specs.Ticks.{slice_is_used, without_slice, tick_end};
+ghost use Rattle.machine_leaps.specs.Quiet.{after_ticks, frames_after, slice_after};
 ghost use Rattle.thread_blocks.specs.Room.{HasRoom};
 ghost use Rattle.thread_blocks.specs.Ends.{end_of};
 
 use crate::ends::TickEnd;
+use crate::frame::Frame;
 use crate::server::{charge_server, new_server};
 use crate::thread::Thread;
-use script_flat::{Code, Unit};
+use arrayvec::ArrayVec;
 use script_tree::Policy;
 use tick_num::{Params, Prio, Tick};
 
@@ -63,31 +62,15 @@ impl Thread {
         self.slice = 0;
     }
 
-    /// One tick.
-    pub fn charge(&mut self)
-        requires { HasRoom self.old }
-        ensures { self.new ≡ tick_charged self.old }
+    /// So many ticks at once, of the unit that it has taken.
+    pub fn charge(&mut self, k: u64)
+        requires { HasRoom k self.old }
+        ensures { self.new ≡ after_ticks k self.old }
     {
-        self.ticks += 1;
-        self.slice = charged_slice(&self.policy, self.slice);
-        charge_server(&mut self.server);
-        if let Some(frame) = self.frames.get_mut(0) {
-            frame.charge();
-        }
-    }
-
-    /// One tick of its unit, and that unit.
-    #[tactic(auto, using(crate::proofs::Rooms::room_in_unit))]
-    pub fn tick(&mut self, code: &Code) -> Unit
-        requires goes_on { self.old.is_ending ≡ false }
-        requires placed { ArePlaced code.now self.old.frames }
-        requires room { HasRoom self.old }
-        ensures unit { result ≡ (in_unit (flat_bodies code.now) self.old).unit }
-        ensures thread { self.new ≡ tick_charged (in_unit (flat_bodies code.now) self.old).thread }
-    {
-        let unit = self.take(code);
-        self.charge();
-        unit
+        self.ticks += k;
+        self.slice = slice_after(&self.policy, self.slice, k);
+        charge_top(&mut self.frames, k);
+        charge_server(&mut self.server, k);
     }
 
     /// Whether its round robin interval is used up.
@@ -140,13 +123,21 @@ fn policy_at(policy: &Policy, p: Prio) -> Policy
     }
 }
 
-fn charged_slice(policy: &Policy, slice: u64) -> u64
-    requires { slice < 2 ^ 63 }
-    ensures { result ≡ slice_charged policy.now slice }
+fn slice_after(policy: &Policy, slice: u64, k: u64) -> u64
+    requires { slice + k ≤ 2 ^ 63 }
+    ensures { result ≡ slice_after k policy.now slice }
 {
     match policy {
         Policy::Fifo(_) => slice,
-        Policy::Rr(_) => slice + 1,
+        Policy::Rr(_) => slice + k,
         Policy::Sporadic(_) => slice,
+    }
+}
+
+fn charge_top(frames: &mut ArrayVec<Frame, 3>, k: u64)
+    ensures { frames.new.items ≡ frames_after k frames.old.items }
+{
+    if let Some(frame) = frames.get_mut(0) {
+        frame.charge(k);
     }
 }

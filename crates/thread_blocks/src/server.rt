@@ -1,7 +1,8 @@
 // The sporadic server of a thread.
 ghost use Rattle.std.specs.Prelude.{◌≡◌, ◌≤◌, ◌<◌, ◌^◌, None, option_map, option_and_then, true, false, is_some, Some};
 ghost use Rattle.sporadic_server.specs.Server.{ServerState, activate, next_due, plan, refill, replenishment, totals};
-ghost use Rattle.machine_rules.specs.Servers.{has_high, high_server, server_of, with_server, charged};
+ghost use Rattle.machine_rules.specs.Servers.{has_high, high_server, server_of, with_server};
+ghost use Rattle.machine_leaps.specs.Quiet.{server_after};
 ghost use Rattle.thread_blocks.specs.Room.{ServerHasRoom};
 ghost use Rattle.thread_blocks.specs.Unused.{IsUnused};
 ghost use Rattle.machine_rules.specs.Machine.{budget_of};
@@ -145,13 +146,13 @@ pub(crate) fn new_server(policy: &Policy, now: Tick) -> Option<Server>
     }
 }
 
-pub(crate) fn charge_server(server: &mut Option<Server>)
-    requires { ServerHasRoom server.old }
-    ensures { server.new ≡ option_map charged server.old }
+pub(crate) fn charge_server(server: &mut Option<Server>, k: u64)
+    requires { ServerHasRoom k server.old }
+    ensures { server.new ≡ option_map (server_after k) server.old }
 {
     if let Some(server) = server {
         if server.is_high() {
-            server.charge(1);
+            server.charge(k);
         }
     }
 }
