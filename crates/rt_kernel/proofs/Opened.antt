@@ -1,16 +1,14 @@
 -- What holds of the kernel of a script before the first tick.
-use Rattle.std.proofs.Common.{◌≡◌, ◌<◌, ◌≤◌, ◌-◌, ◌^◌, ℕ, zero, suc, Option, None, List, [], ◌∷◌, Bool, true, false, ap, arith, length, refl, sym, subst, replicate, ◌∙◌, Some}
-use Rattle.std.specs.Prelude.{All, map, slice_get, slice_index, slice_index_or}
+use Rattle.std.proofs.Common.{◌≡◌, ◌<◌, ◌^◌, ℕ, zero, suc, Option, None, List, [], ◌∷◌, arith, length, refl, sym, subst, ◌∙◌, Some}
+use Rattle.std.specs.Prelude.{All, map, slice_get, slice_index_or}
 use Rattle.std.proofs.lemmas.List.{length-map}
 use Rattle.script_tree.specs.Block.{Block, Nothing}
 use Rattle.script_tree.specs.declared.decl.Script.{Script}
 use Rattle.script_flat.specs.Flat as flat
-use Rattle.thread_lists.specs.Threads.{times}
-use Rattle.ready_lists.specs.Lists.{empty_lists}
 use Rattle.script_flat.specs.declared.cursor.Cursor.{Cursor}
 use Rattle.machine_rules.specs.State.{Thread}
 use Rattle.machine_rules.specs.Declarations.{ThreadDecl, threads_of}
-use Rattle.machine_rules.specs.Threads.{is_runnable, no_thread}
+use Rattle.machine_rules.specs.Threads.{no_thread}
 use Rattle.machine_rules.specs.Machine.{names_of}
 use Rattle.machine_rules.specs.Runs.{opening, thread_opened}
 use Rattle.machine_flat.proofs.Numbered.{Numbered, known, thread_blocks}
@@ -30,8 +28,6 @@ use Rattle.rt_kernel.proofs.MadeCalls.{calls_built}
 use Rattle.rt_kernel.proofs.HeldLaw.{stays_fit}
 use Rattle.rt_kernel.proofs.RestLaw.{all_idle, stays_rested}
 use Rattle.machine_flat.specs.Runnable.{HasBudget, IsRunnable}
-use Rattle.kernel_state.specs.Settled.{HavePriorities}
-use Rattle.kernel_state.specs.Stood.{StoodRight}
 use Rattle.kernel_state.proofs.Opened.{code_threads}
 
 -- ---- what is held of each thread is held at the beginning

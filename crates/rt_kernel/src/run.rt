@@ -7,8 +7,8 @@ ghost use Rattle.rt_kernel.specs.Fits.{StaysFit};
 ghost use Rattle.kernel_state.specs.Kernel.{Kernel};
 ghost use Rattle.kernel_state.specs.Stood.{StoodRight};
 
-use kernel_state::Parts;
 use crate::ticks::do_tick;
+use kernel_state::Parts;
 use pse52_trace::Tracer;
 use rt_io::Sink;
 use std::sync::ledger::Ledger;

@@ -13,9 +13,9 @@ ghost use Rattle.kernel_state.specs.Kernel.{Kernel, after, told};
 ghost use Rattle.kernel_state.specs.Stood.{StoodRight};
 
 use crate::instant::do_instant;
-use kernel_state::Parts;
 use crate::tick_ends::end_tick;
 use crate::units::tick_unit;
+use kernel_state::Parts;
 use pse52_trace::Tracer;
 use rt_io::Sink;
 use tick_num::Tid;
