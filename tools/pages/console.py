@@ -76,7 +76,10 @@ def clone(folder: Path) -> None:
     for name in ("pse52-view", "pse52-sweep"):
         (folder / "bin" / name).symlink_to(TOP / "bin" / name)
     program = folder / "bin" / "pse52"
-    program.write_text(f'#!/bin/sh\nexec python3 {TOP}/tools/reference/simulate.py "$@"\n')
+    program.write_text(f'''#!/bin/sh
+case $1 in rta) name=response_times ;; *) name=simulate ;; esac
+exec python3 {TOP}/tools/reference/$name.py "$@"
+''')
     program.chmod(0o755)
 
 

@@ -105,6 +105,14 @@ def words_of(line: bytes) -> list[str]:
     return [word.decode("ascii") for word in re.findall(rb"[!-~]+", line.split(b"#")[0])]
 
 
+def is_number(word: str) -> bool:
+    return _NUMBER.match(word) is not None
+
+
+def is_name(word: str) -> bool:
+    return _NAME.match(word) is not None
+
+
 def number_of(word: str) -> int:
     """The value of a number; one that lies far above every range is given as the least number above them."""
     digits = word.lstrip("0")
@@ -162,14 +170,14 @@ def read_line(number: int, words: list[str], built: Stage) -> tuple[Entry | None
 def operand_fault(place: str, word: str) -> FaultKind | None:
     """The fault of a word that is not what its place asks for."""
     if place in RANGES:
-        fits = bool(_NUMBER.match(word)) or (place == OPERAND and word == "reg")
+        fits = is_number(word) or (place == OPERAND and word == "reg")
         return None if fits else FaultKind.BadNumber
     if place == SIGNAL:
         fits = bool(_SIGNAL.match(word))
     elif place == SIGNAL_SET:
         fits = signals_of(word) is not None
     else:
-        fits = bool(_NAME.match(word))
+        fits = is_name(word)
     return None if fits else FaultKind.BadName
 
 

@@ -44,3 +44,27 @@ no_thread_is_refused = refl
 
 one_word_is_no_command : answer (codes "run" ∷ []) [] ≡ record { status = Usage; text = usage_line }
 one_word_is_no_command = refl
+
+tasks_have_responses : answer (codes "rta" ∷ codes "12" ∷ [])
+    (text (codes "task a 3 1 4 0" ∷ codes "task b 2 2 6 0" ∷ codes "task c 1 3 12 0" ∷ [])) ≡
+    done (codes "task a response 1" ∷ codes "task b response 3" ∷ codes "task c response 10" ∷ [])
+unfolding lines_of words_of digits
+tasks_have_responses = refl
+
+third_is_late : answer (codes "rta" ∷ codes "9" ∷ [])
+    (text (codes "task a 3 1 4 0" ∷ codes "task b 2 2 6 0" ∷ codes "task c 1 3 12 0" ∷ [])) ≡
+    done (codes "task a response 1" ∷ codes "task b response 3" ∷ codes "task c none" ∷ [])
+unfolding lines_of words_of digits
+third_is_late = refl
+
+same_priority_is_refused : answer (codes "rta" ∷ codes "5" ∷ []) (text (codes "task a 3 1 4 0" ∷ codes "task b 3 1 4 0" ∷ [])) ≡
+    record { status = Refused; text = codes "refused 2 17 SamePriority\n" }
+unfolding lines_of words_of digits
+same_priority_is_refused = refl
+
+no_task_is_refused : answer (codes "rta" ∷ codes "5" ∷ []) [] ≡ record { status = Refused; text = codes "refused 1 18 NoTask\n" }
+unfolding lines_of words_of digits
+no_task_is_refused = refl
+
+bound_above_the_limit : answer (codes "rta" ∷ codes "100000001" ∷ []) [] ≡ record { status = Usage; text = usage_line }
+bound_above_the_limit = refl

@@ -10,16 +10,18 @@ use Rattle.script_table.specs.Read.{read}
 use Rattle.machine_rules.specs.Machine.{trace}
 use Rattle.pse52_tool.specs.declared.status.Status.{Status}
 use Rattle.pse52_tool.specs.declared.status.Status.TheVariants.{Done, Usage, Refused, TooLong, ReadFault, WriteFault, OutOfMemory}
-use Rattle.pse52_tool.specs.Command.{command}
+use Rattle.pse52_tool.specs.declared.command.Command.{Command}
+use Rattle.pse52_tool.specs.declared.command.Command.TheVariants.{Run, ResponseTimes}
+use Rattle.pse52_tool.specs.Command.{command, limit_of}
+use Rattle.rta_core.specs.declared.task.Task.{Task}
+use Rattle.rta_core.specs.Faults as task_faults
+use Rattle.rta_core.specs.Read as task_lines
+use Rattle.rta_core.specs.Answer.{response_lines}
 
 -- a status, and the text that goes with it
 pub record Answer : Type 0 where
   pub status : Status
   pub text : List ℕ
-
--- how many bytes a script may have
-abbrev pub script_limit : ℕ
-script_limit = 1_048_576
 
 abbrev pub usage_line : List ℕ
 usage_line = codes "usage: pse52 COMMAND NUMBERS\n"
@@ -39,11 +41,21 @@ abbrev pub run_answer : ℕ → Result Script Fault → Answer
 run_answer n (Err fault) = record { status = Refused; text = fault_line fault }
 run_answer n (Ok script) = record { status = Done; text = trace script n }
 
-abbrev pub command_answer : Option ℕ → List ℕ → Answer
+-- the response times of tasks are told, and a text that declares none is refused
+abbrev pub responses_answer : ℕ → Result (List Task) task_faults.Fault → Answer
+responses_answer bound (Err f) = record { status = Refused; text = refused_line f.line (task_faults.number_of f.kind) (task_faults.name_of f.kind) }
+responses_answer bound (Ok tasks) = record { status = Done; text = response_lines bound tasks }
+
+-- what a command answers to a text that its limit allows
+abbrev pub text_answer : Command → List ℕ → Answer
+text_answer (Run n) bytes = run_answer n (read patterns bytes)
+text_answer (ResponseTimes n) bytes = responses_answer n (task_lines.read bytes)
+
+abbrev pub command_answer : Option Command → List ℕ → Answer
 command_answer None bytes = record { status = Usage; text = usage_line }
-command_answer (Some n) bytes =
-    if nat_lt script_limit (length bytes) then record { status = TooLong; text = too_long_line }
-    else run_answer n (read patterns bytes)
+command_answer (Some c) bytes =
+    if nat_lt (limit_of c) (length bytes) then record { status = TooLong; text = too_long_line }
+    else text_answer c bytes
 
 abbrev pub answer : List (List ℕ) → List ℕ → Answer
 answer words bytes = command_answer (command words) bytes

@@ -1,22 +1,23 @@
 -- What was taken of the source, and the answer to it. This project's own.
-use Rattle.std.specs.Prelude.{ℕ, ◌≤◌, ◌⊎◌, List, length, Option}
+use Rattle.std.specs.Prelude.{ℕ, ◌≤◌, ◌+◌, ◌⊎◌, List, length, Option}
 use Rattle.std.specs.Io.KnownBytes.{Consumes, IsAtEnd}
 use Rattle.rt_io.specs.Causes.{GrewBy}
 use Rattle.rt_io.specs.Whole.{TookAtMost}
 use Rattle.pse52_tool.specs.declared.status.Status.{Status}
+use Rattle.pse52_tool.specs.Command.{words_limit}
 use Rattle.pse52_tool.specs.Answer.{answer, Told}
 
 -- The status and the text are those of the answer to some bytes: as many as the source counted as taken, at most one more than
--- a script may have, and those that it tells where it tells any.
+-- the command allows, and those that it tells where it tells any.
 pub record Answered (words : List (List ℕ)) (status : Status) (rest_before rest_now : Option (List ℕ)) (taken_before taken_now : ℕ)
     (text_before text_now : Option (List ℕ)) : Type 0 where
   pub bytes : List ℕ
-  pub bound : length bytes ≤ 1_048_577
+  pub bound : length bytes ≤ words_limit words + 1
   pub moved : Consumes rest_before rest_now bytes
   pub count : GrewBy (length bytes) taken_before taken_now
   pub told : Told status (answer words bytes) text_before text_now
 
--- the source was read to its end, which the limit of a script allows, or to one byte more than that limit
-abbrev pub ReadToItsEnd : Option (List ℕ) → Option (List ℕ) → ℕ → ℕ → Type 0
-ReadToItsEnd rest_before rest_now taken_before taken_now =
-    (IsAtEnd rest_now × TookAtMost 1_048_576 rest_before rest_now taken_before taken_now) ⊎ GrewBy 1_048_577 taken_before taken_now
+-- the source was read to its end, which the limit allows, or to one byte more than that limit
+abbrev pub ReadToItsEnd : ℕ → Option (List ℕ) → Option (List ℕ) → ℕ → ℕ → Type 0
+ReadToItsEnd limit rest_before rest_now taken_before taken_now =
+    (IsAtEnd rest_now × TookAtMost limit rest_before rest_now taken_before taken_now) ⊎ GrewBy (limit + 1) taken_before taken_now

@@ -1,40 +1,88 @@
 // The words of the command line.
-ghost use Rattle.std.specs.Prelude.{◌≡◌, ◌≤◌, ◌^◌, map, string_bytes, IfSome};
-ghost use Rattle.pse52_tool.specs.Command.{command, horizon_of};
+ghost use Rattle.std.specs.Prelude.{◌≡◌, ◌≤◌, ◌^◌, Option, map, string_bytes, IfSome};
+ghost use Rattle.pse52_tool.specs.Command.{command, command_of, number_up_to, limit_of, IsWithinLimit};
 
 use script_table::{capped_value, is_number};
 use tick_num::Tick;
 
-const FARTHEST: u64 = 1_000_000_000_000_000_000;
+const FARTHEST_TICK: u64 = 1_000_000_000_000_000_000;
 
-// The horizon that a word names.
-fn horizon_of(word: &[u8]) -> Option<Tick>
-    ensures horizon { result ≡ horizon_of word.now }
-    ensures limit { IfSome result (λ n. n ≤ 10 ^ 18) }
+const GREATEST_BOUND: u64 = 100_000_000;
+
+/// A command of the tool.
+#[derive(Clone, Copy)]
+pub enum Command {
+    /// `run N`: the trace of a script's run to tick N, at most 10^18.
+    Run(Tick),
+    /// `rta N`: the response times of tasks, up to a bound of N ticks, at most 10^8.
+    ResponseTimes(u64),
+}
+
+impl Command {
+    /// How many bytes its source may have.
+    pub(crate) fn limit(&self) -> u64
+        ensures limit { result ≡ limit_of self.now }
+        ensures small { result ≤ 67_108_864 }
+    {
+        match *self {
+            Command::Run(_) => 1_048_576,
+            Command::ResponseTimes(_) => 67_108_864,
+        }
+    }
+}
+
+// The number that a word names, where it is at most so great.
+fn number_up_to(most: u64, word: &[u8]) -> Option<u64>
+    ensures number { result ≡ number_up_to most word.now }
+    ensures limit { IfSome result (λ n. n ≤ most) }
 {
     if !is_number(word) {
         return None;
     }
-    let value = capped_value(word, FARTHEST);
-    if value > FARTHEST as u128 {
+    let value = capped_value(word, most);
+    if value > most as u128 {
         return None;
     }
-    Tick::try_new(value as u64)
+    Some(value as u64)
 }
 
-/// The horizon of `run N`, in ticks, at most 10^18; `None` exactly where the words are no command.
-pub(crate) fn command(words: &[String]) -> Option<Tick>
-    ensures command { result ≡ command (map string_bytes words.now) }
+// The tick that a word names, at most 10^18.
+fn tick_of(word: &[u8]) -> Option<Tick>
+    ensures tick { result ≡ number_up_to (10 ^ 18) word.now }
     ensures limit { IfSome result (λ n. n ≤ 10 ^ 18) }
 {
-    match words {
-        [word, number] => {
-            if word.as_str() == "run" {
-                horizon_of(number.as_bytes())
-            } else {
-                None
-            }
+    match number_up_to(FARTHEST_TICK, word) {
+        None => None,
+        Some(n) => Tick::try_new(n),
+    }
+}
+
+fn command_of(word: &[u8], number: &[u8]) -> Option<Command>
+    ensures command { result ≡ command_of word.now number.now }
+    ensures limit { IfSome result IsWithinLimit }
+{
+    if word == b"run".as_slice() {
+        match tick_of(number) {
+            None => None,
+            Some(horizon) => Some(Command::Run(horizon)),
         }
+    } else if word == b"rta".as_slice() {
+        match number_up_to(GREATEST_BOUND, number) {
+            None => None,
+            Some(bound) => Some(Command::ResponseTimes(bound)),
+        }
+    } else {
+        None
+    }
+}
+
+/// The command of the words; `None` exactly where they are no command.
+pub(crate) fn command_of_words(words: &[String]) -> Option<Command>
+    ensures command { result ≡ command (map string_bytes words.now) }
+    ensures limit { IfSome result IsWithinLimit }
+{
+    match words {
+        [word, number] => command_of(word.as_bytes(), number.as_bytes()),
         _ => None,
     }
 }

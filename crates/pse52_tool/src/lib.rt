@@ -3,8 +3,10 @@
 
 mod command;
 mod message;
+mod responses;
 mod status;
 mod tool;
 
+pub use command::Command;
 pub use status::Status;
 pub use tool::run_tool;

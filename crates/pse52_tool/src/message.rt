@@ -1,10 +1,12 @@
-// The line of a refused script.
+// The line of a refused text.
 ghost use Rattle.std.specs.Prelude.{◌≡◌, ◌≤◌, ◌+◌, ◌++◌, [], length, decimal, codes};
-ghost use Rattle.script_table.specs.Faults.{number_of, name_of};
+ghost use Rattle.script_table.specs.Faults as faults;
+ghost use Rattle.rta_core.specs.Faults as task_faults;
 ghost use Rattle.pse52_tool.specs.Answer.{refused_line};
 
 use arrayvec::ArrayVec;
 use itoa::Buffer;
+use rta_core::TaskFault;
 use script_table::FaultKind;
 
 /// Room for the longest line of a fault.
@@ -26,25 +28,47 @@ fn add_number(message: &mut Message, n: u64)
     add(message, buffer.format(n).as_bytes());
 }
 
-// The name of a kind of fault is short.
-fn name_of(kind: FaultKind) -> &'static str
-    ensures name { result.now ≡ name_of kind }
-    ensures short { length result.now ≤ 13 }
-{
-    kind.name()
-}
-
-/// The line of a fault: its line, its number and its name.
-pub(crate) fn refused_line(line: u32, kind: FaultKind) -> Message
-    ensures { result.items ≡ refused_line line (number_of kind) (name_of kind) }
+fn fault_line(line: u32, number: u8, name: &str) -> Message
+    requires { length name.now ≤ 13 }
+    ensures { result.items ≡ refused_line line number name.now }
 {
     let mut message = ArrayVec::new();
     add(&mut message, b"refused ");
     add_number(&mut message, line as u64);
     add(&mut message, b" ");
-    add_number(&mut message, kind.number() as u64);
+    add_number(&mut message, number as u64);
     add(&mut message, b" ");
-    add(&mut message, name_of(kind).as_bytes());
+    add(&mut message, name.as_bytes());
     add(&mut message, b"\n");
     message
+}
+
+// The name of a kind of fault is short.
+fn name_of(kind: FaultKind) -> &'static str
+    ensures name { result.now ≡ faults.name_of kind }
+    ensures short { length result.now ≤ 13 }
+{
+    kind.name()
+}
+
+// The same of a text of tasks.
+fn task_name_of(kind: TaskFault) -> &'static str
+    ensures name { result.now ≡ task_faults.name_of kind }
+    ensures short { length result.now ≤ 13 }
+{
+    kind.name()
+}
+
+/// The line of a script's fault: its line, its number and its name.
+pub(crate) fn refused_line(line: u32, kind: FaultKind) -> Message
+    ensures { result.items ≡ refused_line line (faults.number_of kind) (faults.name_of kind) }
+{
+    fault_line(line, kind.number(), name_of(kind))
+}
+
+/// The line of the fault of a text of tasks: its line, its number and its name.
+pub(crate) fn refused_task_line(line: u32, kind: TaskFault) -> Message
+    ensures { result.items ≡ refused_line line (task_faults.number_of kind) (task_faults.name_of kind) }
+{
+    fault_line(line, kind.number(), task_name_of(kind))
 }

@@ -9,9 +9,9 @@ pub enum Status {
     Done,
     /// The words are no command.
     Usage,
-    /// The script has a fault.
+    /// The script, or the text of tasks, has a fault.
     Refused,
-    /// The source has more than 1,048,576 bytes.
+    /// The source has more bytes than the command allows.
     TooLong,
     /// A read failed.
     ReadFault,

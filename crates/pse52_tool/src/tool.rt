@@ -1,5 +1,5 @@
 // The top call.
-ghost use Rattle.std.specs.Prelude.{◌≡◌, ◌≤◌, ◌<◌, ◌^◌, ◌⊎◌, List, ℕ, Option, None, Some, true, false, Ok, length, map, string_bytes, IfSome, IsSome, OnOk, OnErr};
+ghost use Rattle.std.specs.Prelude.{◌≡◌, ◌≤◌, ◌<◌, ◌+◌, ◌^◌, ◌⊎◌, List, ℕ, Option, None, Some, true, false, Ok, length, map, string_bytes, IfSome, IsSome, OnOk, OnErr};
 ghost use Rattle.std.specs.Io.KnownBytes.{Appends, IsAtEnd};
 ghost use Rattle.rt_io.specs.Bytes.{AppendsPart};
 ghost use Rattle.rt_io.specs.Causes.{Rose, GrewBy};
@@ -11,15 +11,16 @@ ghost use Rattle.machine_rules.specs.Machine.{trace};
 ghost use Rattle.machine_flat.specs.Runnable.{IsRunnable};
 ghost use Rattle.rt_kernel.specs.Ran.{run_text};
 ghost use Rattle.script_tree.specs.declared.decl.Script.{Script};
-ghost use Rattle.pse52_tool.specs.Command.{command};
+ghost use Rattle.pse52_tool.specs.Command.{command, limit_of, words_limit, IsWithinLimit};
 ghost use Rattle.machine_rules.specs.Promises.{RunKeepsBudgets, RunStaysGood};
 ghost use Rattle.thread_laws.specs.HeadRuns.{HeadRuns};
-ghost use Rattle.pse52_tool.specs.Answer.{answer, run_answer, usage_line, too_long_line, Told, SinkFaults, IsLine};
+ghost use Rattle.pse52_tool.specs.Answer.{answer, run_answer, text_answer, usage_line, too_long_line, Told, SinkFaults, IsLine};
 ghost use Rattle.pse52_tool.specs.Taken.{Answered, ReadToItsEnd};
 
 use crate::Status;
-use crate::command::command;
+use crate::command::{Command, command_of_words};
 use crate::message::refused_line;
+use crate::responses::tell_responses;
 use pse52_trace::Tracer;
 use rt_io::{ReadEnd, Sink, Source, read_whole};
 use rt_kernel::{Kernel, RunEnd};
@@ -28,9 +29,6 @@ use std::sync::ledger::Ledger;
 use step_counter::Steps;
 use task_script::{Script, ScriptEnd, read_script};
 use tick_num::Tick;
-
-// How many bytes a script may have.
-const LIMIT: u64 = 1_048_576;
 
 // Runs a kernel from its first instant to the horizon, and prints the trace.
 fn run_kernel<K: Sink, L: Ledger>(
@@ -96,8 +94,8 @@ fn run_script<K: Sink, L: Ledger>(
     }
 }
 
-// Writes one line, and answers whether it was written.
-fn put_line<K: Sink>(sink: &mut K, text: &[u8], status: Status) -> Status
+/// Writes one line, and answers whether it was written.
+pub(crate) fn put_line<K: Sink>(sink: &mut K, text: &[u8], status: Status) -> Status
     requires { IsLine status }
     ensures status { (result ≡ status) ⊎ (result ≡ Status.WriteFault) }
     ensures told { Told result (record { status = status; text = text.now }) (K.text sink.old) (K.text sink.new) }
@@ -136,12 +134,34 @@ fn run_text<K: Sink, L: Ledger>(
     }
 }
 
+// Carries out a command on a text that its limit allows.
+fn answer_text<K: Sink, L: Ledger>(
+    alloc: Global,
+    command: &Command,
+    text: &[u8],
+    sink: &mut K,
+    steps: &mut Steps<L>,
+) -> Status
+    requires short { length text.now ≤ limit_of command.now }
+    requires limit { IsWithinLimit command.now }
+    ensures told { Told result (text_answer command.now text.now) (K.text sink.old) (K.text sink.new) }
+    ensures faults { SinkFaults result (K.faults sink.old) (K.faults sink.new) }
+    ensures read { result ≡ Status.ReadFault → ⊥ }
+    ensures unchanged { result ≡ Status.OutOfMemory → sink.new ≡ sink.old }
+{
+    match *command {
+        Command::Run(horizon) => run_text(alloc, text, horizon, sink, steps),
+        Command::ResponseTimes(bound) => tell_responses(alloc, text, bound, sink, steps),
+    }
+}
+
 /// Carries out the command of the words: reads the source, and writes to the sink.
 ///
 /// `run N` reads the source whole, at most 1,048,576 bytes, and runs its script to tick N; the text is the trace of the
-/// list machine. Where the words are no command the answer is `Usage`, or `WriteFault` where its line could not be
+/// list machine. `rta N` reads it whole, at most 67,108,864 bytes, and tells the least response times of its tasks, up to N
+/// ticks. Where the words are no command the answer is `Usage`, or `WriteFault` where its line could not be
 /// written; that takes no memory and no byte. Then come `ReadFault` or `TooLong`, by the bytes read; then `Refused`,
-/// where the script has a fault; then the run. `OutOfMemory` may come in place of any of these but `Usage`, before
+/// where the script or the text of tasks has a fault; then the answer. `OutOfMemory` may come in place of any of these but `Usage`, before
 /// anything is written. A fault of the source or the sink is answered only where its count of faults rose in this call.
 /// Nothing is written before the source was read to its end, or to one byte more than the limit.
 #[tactic(auto, using(crate::proofs::Promises::head_runs, crate::proofs::Promises::stays_good, crate::proofs::Promises::keeps_budgets))]
@@ -176,23 +196,28 @@ pub fn run_tool<S: Source, K: Sink, L: Ledger>(
         → AppendsPart (K.text sink.old) (K.text sink.new) usage_line }
 
     // Too long means that one byte more than the limit was taken.
-    ensures too_long { result ≡ Status.TooLong → GrewBy 1_048_577 (S.taken source.old) (S.taken source.new) }
+    ensures too_long { result ≡ Status.TooLong
+        → GrewBy (words_limit (map string_bytes words.now) + 1) (S.taken source.old) (S.taken source.new) }
     ensures too_long_text { result ≡ Status.TooLong → Appends (K.text sink.old) (K.text sink.new) too_long_line }
 
     // Refused or done means that all bytes were taken, which the limit allows.
     ensures read_whole { (result ≡ Status.Refused) ⊎ (result ≡ Status.Done) → IsAtEnd (S.rest source.new) }
     ensures whole_bytes { (result ≡ Status.Refused) ⊎ (result ≡ Status.Done)
-        → TookAtMost 1_048_576 (S.rest source.old) (S.rest source.new) (S.taken source.old) (S.taken source.new) }
+        → TookAtMost (words_limit (map string_bytes words.now))
+        (S.rest source.old) (S.rest source.new) (S.taken source.old) (S.taken source.new) }
 
     // A fault of reading comes before the byte past the limit, and nothing is read behind that byte.
     ensures fault_bytes { result ≡ Status.ReadFault
-        → TookAtMost 1_048_576 (S.rest source.old) (S.rest source.new) (S.taken source.old) (S.taken source.new) }
+        → TookAtMost (words_limit (map string_bytes words.now))
+        (S.rest source.old) (S.rest source.new) (S.taken source.old) (S.taken source.new) }
     ensures memory_bytes { result ≡ Status.OutOfMemory
-        → TookAtMost 1_048_577 (S.rest source.old) (S.rest source.new) (S.taken source.old) (S.taken source.new) }
+        → TookAtMost (words_limit (map string_bytes words.now) + 1)
+        (S.rest source.old) (S.rest source.new) (S.taken source.old) (S.taken source.new) }
 
     // A write failed where the words are no command, or the source was read before, to its end or past the limit.
     ensures write_fault { result ≡ Status.WriteFault → IsSome (command (map string_bytes words.now))
-        → ReadToItsEnd (S.rest source.old) (S.rest source.new) (S.taken source.old) (S.taken source.new) }
+        → ReadToItsEnd (words_limit (map string_bytes words.now))
+        (S.rest source.old) (S.rest source.new) (S.taken source.old) (S.taken source.new) }
 
     // A fault is answered only where it was counted, and no other is.
     ensures read_fault { result ≡ Status.ReadFault → Rose (S.faults source.old) (S.faults source.new) }
@@ -209,11 +234,11 @@ pub fn run_tool<S: Source, K: Sink, L: Ledger>(
         × Appends (K.text sink.old) (K.text sink.new) (answer (map string_bytes words.now) bytes).text)
         ⊎ ((result ≡ Status.OutOfMemory) × IsSome (command (map string_bytes words.now)) × (sink.new ≡ sink.old)) }
 {
-    let Some(horizon) = command(words) else {
+    let Some(command) = command_of_words(words) else {
         return put_line(sink, b"usage: pse52 COMMAND NUMBERS\n", Status::Usage);
     };
-    match read_whole(alloc, source, LIMIT) {
-        Ok(bytes) => run_text(alloc, bytes.as_slice(), horizon, sink, steps),
+    match read_whole(alloc, source, command.limit()) {
+        Ok(bytes) => answer_text(alloc, &command, bytes.as_slice(), sink, steps),
         Err(ReadEnd::ReadFault) => Status::ReadFault,
         Err(ReadEnd::TooLong) => put_line(sink, b"too long\n", Status::TooLong),
         Err(ReadEnd::OutOfMemory) => Status::OutOfMemory,

@@ -10,3 +10,5 @@ mod machine;
 mod order;
 #[cfg(test)]
 mod parts;
+#[cfg(test)]
+mod responses;
