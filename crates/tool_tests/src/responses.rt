@@ -80,9 +80,9 @@ fn texts_of_tasks_are_refused(rt: HostRuntime) -> Result<(), Fail> {
     Ok(())
 }
 
-// The bound of this command has a limit of its own, and its text another than a script.
+// The bound of this command has a limit of its own.
 #[test]
-fn limits_of_responses(rt: HostRuntime) -> Result<(), Fail> {
+fn bound_above_its_limit_is_no_command(rt: HostRuntime) -> Result<(), Fail> {
     let alloc = rt.alloc();
     let mut source = SureSource::new(Vec::new(alloc));
     let mut sink = MemSink::open(alloc, 100, Vec::new(alloc))?;
@@ -90,19 +90,5 @@ fn limits_of_responses(rt: HostRuntime) -> Result<(), Fail> {
         run_from(alloc, &["rta", "100000001"], &mut source, &mut sink)?,
         Status::Usage
     );
-    let mut source = SureSource::new(vec![in alloc; b'#'; 67_108_864]?);
-    let mut sink = MemSink::open(alloc, 100, Vec::new(alloc))?;
-    assert_eq!(rt;
-        run_from(alloc, &["rta", "1"], &mut source, &mut sink)?,
-        Status::Refused
-    );
-    assert_eq!(rt; sink.text(), b"refused 2 18 NoTask\n".as_slice());
-    let mut source = SureSource::new(vec![in alloc; b'#'; 67_108_865]?);
-    let mut sink = MemSink::open(alloc, 100, Vec::new(alloc))?;
-    assert_eq!(rt;
-        run_from(alloc, &["rta", "1"], &mut source, &mut sink)?,
-        Status::TooLong
-    );
-    assert_eq!(rt; sink.text(), b"too long\n".as_slice());
     Ok(())
 }
