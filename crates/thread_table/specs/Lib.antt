@@ -1,0 +1,4 @@
+pub mod Table
+pub mod Tied
+pub mod View
+pub mod Moves
