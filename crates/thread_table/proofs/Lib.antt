@@ -3,3 +3,4 @@ pub mod Places
 pub mod Moved
 pub mod Statuses
 pub mod Served
+pub mod Opening

@@ -25,7 +25,7 @@ set_none [] t = refl
 set_none (x ∷ xs) zero = refl
 set_none (x ∷ xs) (suc t) = set_none xs t
 
-bare_none : (p : Option Place) → option_map unpriced p ≡ None → p ≡ None
+pub bare_none : (p : Option Place) → option_map unpriced p ≡ None → p ≡ None
 bare_none None e = refl
 bare_none (Some p) e = absurd cc
 

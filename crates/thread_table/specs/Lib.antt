@@ -2,3 +2,4 @@ pub mod Table
 pub mod Tied
 pub mod View
 pub mod Moves
+pub mod Opening

@@ -7,6 +7,7 @@ mod changes;
 mod links;
 mod lives;
 mod mutexes;
+mod open;
 mod reads;
 mod table;
 

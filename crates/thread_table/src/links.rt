@@ -20,6 +20,7 @@ pub(crate) fn reassign(threads: &Threads, chain: &mut Chain, waits: &mut Waits, 
     requires placed { IsPlaced chain.old waits.old }
     ensures chain { chain.new ≡ with_claim t (assigned_to (assigned_of (thread_in threads.now t))) chain.old }
     ensures waits { ArePriced chain.new waits.old waits.new }
+    ensures placed { IsPlaced chain.new waits.new }
 {
     let p = threads.get(t).assigned();
     if chain.assigned(t).get() != p.get() {
