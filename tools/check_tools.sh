@@ -17,7 +17,7 @@ failed=0
 for folder in view sweep pages; do
     log=$(python3 -m unittest discover -s "tools/$folder/tests" -t tools 2>&1)
     if [ $? -eq 0 ]; then
-        printf '%s\n' "$log" | grep '^skipped: ' | sort -u
+        printf '%s\n' "$log" | grep -o 'skipped: .*' | sort -u
         echo "$folder: $(printf '%s\n' "$log" | sed -n 's/^Ran \([0-9]* tests\).*/\1/p'), each passed or was skipped"
     else
         printf '%s\n' "$log" | tail -n 60

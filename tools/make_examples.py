@@ -44,6 +44,8 @@ A script whose forms the program does not run yet is answered with `refused LINE
 them: `python3 tools/reference/simulate.py run 26 < examples/04_inversion.task`. The stage in the first line of a script names the
 forms that it needs.
 
+`examples/sweeps` has a script that is run with many values; docs/SWEEP.md is its page.
+
 `python3 tools/make_examples.py` makes all traces, pictures and this page anew, and `--check` tells what differs.
 
 """

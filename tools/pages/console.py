@@ -8,7 +8,9 @@ from __future__ import annotations
 
 import os
 import re
+import shutil
 import subprocess
+import sys
 from collections.abc import Iterator
 from dataclasses import dataclass, field
 from pathlib import Path
@@ -67,8 +69,9 @@ def _commands(block: list[str], start: int) -> Iterator[Command]:
 
 def clone(folder: Path) -> None:
     """A folder that looks like a fresh clone whose program is the reference, so that nothing has to be built."""
-    for name in ("examples", "docs", "tools"):
+    for name in ("docs", "tools"):
         (folder / name).symlink_to(TOP / name)
+    shutil.copytree(TOP / "examples", folder / "examples", ignore=shutil.ignore_patterns("*.rows"))
     (folder / "bin").mkdir()
     for name in ("pse52-view", "pse52-sweep"):
         (folder / "bin" / name).symlink_to(TOP / "bin" / name)
@@ -96,6 +99,9 @@ def faults_of(page: Path, folder: Path) -> list[str]:
         if isinstance(part, File):
             (folder / part.name).parent.mkdir(parents=True, exist_ok=True)
             (folder / part.name).write_text(part.text)
+            continue
+        if "--plot" in part.words and shutil.which("gnuplot") is None:
+            print(f"skipped: '{part.words}' of {page.name}, since gnuplot is not here", file=sys.stderr)
             continue
         ended = subprocess.run(["bash", "-c", f"(exit {last}); {part.words}"], cwd=folder, env=environment, capture_output=True,
                                text=True, check=False, timeout=600)

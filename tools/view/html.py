@@ -71,6 +71,6 @@ def _thread(thread: ThreadLine, points: Points) -> dict[str, object]:
                    -1 if span.high is None else int(span.high), span.call] for span in thread.spans],
         "marks": [[number[mark.time], mark.kind.value, mark.label] for mark in thread.marks
                   if mark.kind is not MarkKind.RETURN],
-        "server": thread.is_sporadic,
+        "server": thread.is_sporadic, "ended": None if thread.ended is None else number[thread.ended],
         "capacity": [[number[piece.start], number[piece.end], str(piece.value), piece.falls] for piece in thread.capacity],
         "plans": [[number[plan.time], str(plan.amount), str(plan.due), number.get(plan.due, -1)] for plan in thread.plans]}

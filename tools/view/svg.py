@@ -9,7 +9,7 @@ from .svg_rows import LEGIBLE_TICK, Rows, Sizes
 from .svg_writer import Writer
 from .timeline import Timeline
 
-LEAST_WIDTH, MOST_WIDTH = 400, 1500
+LEAST_WIDTH, MOST_WIDTH, TICK_WIDTH = 560.0, 1500.0, 22.0
 CUT_WIDTH = 34
 
 
@@ -17,7 +17,7 @@ def plot_width(timeline: Timeline, gutter: float, width: int | None) -> float:
     """How wide the axis is: as wide as ticks of a good size need, or what is left of the width that is asked for."""
     if width is not None:
         return max(200.0, width - gutter - Rows.MARGIN)
-    return min(MOST_WIDTH - gutter - Rows.MARGIN, max(560.0, timeline.end * 22.0))
+    return min(MOST_WIDTH - gutter - Rows.MARGIN, max(LEAST_WIDTH, timeline.end * TICK_WIDTH))
 
 
 def draw(timeline: Timeline, width: int | None = None) -> str:

@@ -113,8 +113,9 @@ class ThreadLine:
         return bool(self.capacity or self.plans)
 
     @property
-    def has_ended(self) -> bool:
-        return any(mark.kind is MarkKind.EXIT for mark in self.marks[-1:])
+    def ended(self) -> int | None:
+        """The instant at which the thread ended, if it did."""
+        return next((mark.time for mark in self.marks[-1:] if mark.kind is MarkKind.EXIT), None)
 
     @property
     def ticks(self) -> int:

@@ -34,8 +34,8 @@ def draw(timeline: Timeline, _width: int | None = None) -> str:
             head.append(f"$var reg 64 {capacity} capacity $end")
             changes.append((0, f"bx {capacity}"))
             changes += ((time, f"b{value:b} {capacity}") for time, value in capacity_steps(thread.capacity, most))
-            if thread.has_ended:
-                changes.append((thread.spans[-1].end, f"bx {capacity}"))
+            if thread.ended is not None:
+                changes.append((thread.ended, f"bx {capacity}"))
         head.append("$upscope $end")
     head += ["$upscope $end", "$enddefinitions $end"]
     return "\n".join(head + _dump(changes, timeline.end)) + "\n"
@@ -66,12 +66,10 @@ def _running(timeline: Timeline, number: str, name: str) -> Iterator[Change]:
 
 def _states(thread: ThreadLine, code: str) -> Iterator[Change]:
     yield 0, f"sdormant {code}"
-    end = None
     for span in thread.spans:
         yield span.start, f"s{NAMES[span.state]} {code}"
-        end = span.end
-    if end is not None and thread.has_ended:
-        yield end, f"sended {code}"
+    if thread.ended is not None:
+        yield thread.ended, f"sended {code}"
 
 
 def _priorities(thread: ThreadLine, code: str) -> Iterator[Change]:
@@ -81,8 +79,8 @@ def _priorities(thread: ThreadLine, code: str) -> Iterator[Change]:
             yield span.start, f"b{span.priority:b} {code}"
         else:
             yield span.start, f"bx {code}"
-    if thread.spans and thread.has_ended:
-        yield thread.spans[-1].end, f"bx {code}"
+    if thread.ended is not None:
+        yield thread.ended, f"bx {code}"
 
 
 def _dump(changes: list[Change], end: int) -> list[str]:

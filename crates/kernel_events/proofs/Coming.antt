@@ -1,41 +1,33 @@
 -- A thread that came to run has a direct move.
-use Rattle.std.proofs.Common.{◌≡◌, ◌<◌, ℕ, zero, suc, List, [], ◌∷◌, ◌++◌, Bool, true, false, ap, arith, refl, sym, subst, ◌∙◌}
-use Rattle.std.specs.Prelude.{None, Option, Some, ◌==◌, ◌&&◌, not, slice_index_or, if◌then◌else◌, is_some}
+use Rattle.std.proofs.Common.{◌≡◌, ℕ, zero, suc, List, [], ◌∷◌, ◌++◌, Bool, true, false, ap, arith, refl, sym, subst, ◌∙◌}
+use Rattle.std.specs.Prelude.{None, Option, Some, ◌==◌, ◌&&◌, not, slice_index_or, if◌then◌else◌}
 use Rattle.thread_lists.specs.Threads.{stands_in}
 use Rattle.tick_num.specs.declared.item.Item.{Item}
 use Rattle.tick_num.specs.declared.item.Item.TheVariants as item
 use Rattle.tick_num.specs.declared.res.Res.{Res}
 use Rattle.tick_num.specs.declared.res.Res.TheVariants as res
-use Rattle.sporadic_server.specs.Server.{ServerState, activate, oldest_pending, plan, refill}
-use Rattle.script_flat.specs.declared.cursor.Cursor.{Cursor}
-use Rattle.script_flat.specs.declared.unit.Unit as unit_type
-use Rattle.script_flat.specs.declared.unit.Unit.TheVariants as unit
+use Rattle.sporadic_server.specs.Server.{ServerState, activate, oldest_pending, refill}
 use Rattle.script_tree.specs.declared.call.Call.{Call}
 use Rattle.script_tree.specs.declared.call.Call.TheVariants as call
 use Rattle.pse52_trace.specs.declared.event.Event.{Event}
 use Rattle.pse52_trace.specs.declared.event.Event.TheVariants as event
-use Rattle.machine_rules.specs.declared.frame.FrameKind.{FrameKind}
 use Rattle.machine_rules.specs.Bodies.{Bodies}
-use Rattle.machine_rules.specs.State.{Frame, Joiner, Machine, Thread, Wait, Waiting, for_time, nobody}
+use Rattle.machine_rules.specs.State.{Machine, Thread, Wait, Waiting}
 use Rattle.machine_rules.specs.Lists.{changed_at}
-use Rattle.machine_rules.specs.Threads.{can_run, is_dormant, is_main, is_runnable, lives, no_thread, thread_at, top_kind, top_left, waiting_of}
-use Rattle.machine_rules.specs.Turns.{By, Turn, answered, changes, changes_pending, has_passed, moves, moves_if, returns, tells, with_thread}
+use Rattle.machine_rules.specs.Threads.{can_run, is_dormant, is_runnable, lives, no_thread, thread_at, waiting_of}
+use Rattle.machine_rules.specs.Turns.{By, Turn, answered, changes, has_passed, moves, moves_if, returns, tells, with_thread}
 use Rattle.machine_rules.specs.CallNames.{name_of}
-use Rattle.machine_rules.specs.Servers.{activates_if, activates_server, amount_of, high_server, plans, plans_for, refills_for, regains_high, with_server}
+use Rattle.machine_rules.specs.Servers.{activates_if, activates_server, amount_of, high_server, refills_for, regains_high, with_server}
 use Rattle.machine_rules.specs.Waking.{call_in, put_to_wait, started, starts, wakes, woken}
-use Rattle.machine_rules.specs.Lives.{ends, finishes_in, inherited_mask, wakes_joiner, without_life, without_target}
-use Rattle.machine_rules.specs.Cancellation.{is_cancellation_point, is_cancelled, request_acts}
+use Rattle.machine_rules.specs.Lives.{inherited_mask}
 use Rattle.machine_rules.specs.Scheduling.{takes_priority, with_policy, with_priority}
 use Rattle.machine_rules.specs.Mutexes.{owns_boosting}
-use Rattle.machine_rules.specs.Calls.{call_effect, makes_call, unit_effect}
+use Rattle.machine_rules.specs.Calls.{call_effect}
 use Rattle.machine_rules.specs.DueItems.{handles, times_out, times_out_of}
-use Rattle.machine_rules.specs.Ticks.{TickEnd, completes_at, ends_tick, exhausting, nothing, planning, slicing, tick_charged, without_slice}
-use Rattle.machine_rules.specs.Units.{in_unit, in_unit_if, in_unit_of, top_in_unit}
 use Rattle.machine_rules.proofs.Reading.{changed-keeps, thread-other}
 use Rattle.kernel_events.specs.Built.{IsBuilt}
 use Rattle.kernel_state.specs.Due.{IsKnown}
 use Rattle.kernel_events.specs.Handled.{OnlySleeps}
-use Rattle.kernel_state.specs.Kernel.{by}
 use Rattle.kernel_state.proofs.StoodAgain.{HaveCome}
 
 last_in : (t : ℕ) (us : List ℕ) → stands_in t (us ++ t ∷ []) ≡ true

@@ -1,33 +1,22 @@
 -- The kernel of a script, before the first tick.
-use Rattle.std.proofs.Common.{◌≡◌, ◌<◌, ◌≤◌, ◌-◌, ◌^◌, ℕ, zero, suc, Option, None, List, [], ◌∷◌, Bool, true, false, ap, arith, length, refl, sym, subst, replicate, ◌∙◌, Some}
+use Rattle.std.proofs.Common.{◌≡◌, ◌<◌, ℕ, zero, suc, List, [], ◌∷◌, Bool, true, false, ap, arith, length, refl, sym, replicate, ◌∙◌, Some}
 use Rattle.std.specs.Prelude.{map, slice_get, slice_index, slice_index_or}
 use Rattle.std.proofs.lemmas.List.{length-map}
-use Rattle.script_tree.specs.Block.{Block, Nothing}
+use Rattle.script_tree.specs.Block.{Block}
 use Rattle.script_tree.specs.declared.decl.Script.{Script}
 use Rattle.script_flat.specs.Flat as flat
 use Rattle.thread_lists.specs.Threads.{times}
-use Rattle.ready_lists.specs.Lists.{empty_lists}
 use Rattle.script_flat.specs.declared.cursor.Cursor.{Cursor}
-use Rattle.machine_rules.specs.State.{Thread}
 use Rattle.machine_rules.specs.Declarations.{ThreadDecl, threads_of}
 use Rattle.machine_rules.specs.Threads.{is_runnable, no_thread}
 use Rattle.machine_rules.specs.Machine.{names_of}
 use Rattle.machine_rules.specs.Runs.{opening, thread_opened}
 use Rattle.machine_flat.proofs.Numbered.{Numbered, known, thread_blocks}
 use Rattle.machine_flat.specs.FlatBodies.{code_of}
-use Rattle.script_flat.specs.declared.op.Op.{Op}
-use Rattle.script_flat.specs.Fetch.{ops_of}
-use Rattle.script_flat.specs.Next.{body_start}
-use Rattle.script_flat.proofs.Opens.{is_body_of_script}
-use Rattle.sporadic_server.specs.Server.{ServerState}
-use Rattle.machine_rules.specs.declared.frame.BodyOf.TheVariants as body_of
-use Rattle.machine_flat.specs.FlatBodies.{number_of}
-use Rattle.thread_blocks.specs.Room.{HasRoom, ServerHasRoom}
-use Rattle.kernel_state.specs.Kernel.{opened}
 use Rattle.machine_flat.specs.Runnable.{IsRunnable}
 use Rattle.kernel_state.specs.Settled.{HavePriorities}
 use Rattle.kernel_state.specs.Stood.{StoodRight}
-use Rattle.kernel_state.specs.Tied.{HaveBodies, IsTied}
+use Rattle.kernel_state.specs.Tied.{IsTied}
 
 -- a number that is there does not depend on what stands past the end
 pub number_known : (ns : List ℕ) (t d : ℕ) → t < length ns → slice_index_or ns t d ≡ slice_index ns t

@@ -4,3 +4,4 @@ pub mod View
 pub mod Settled
 pub mod Stood
 pub mod Due
+pub mod Leaps

@@ -7,10 +7,9 @@ ghost use Rattle.machine_rules.specs.Threads.{thread_at};
 ghost use Rattle.machine_rules.specs.Lives.{without_life};
 ghost use Rattle.machine_rules.specs.Scheduling.{takes_priority, with_policy, with_priority};
 ghost use Rattle.machine_rules.specs.Waking.{new_frame, started};
-ghost use Rattle.machine_rules.specs.Ticks.{tick_charged, without_slice};
+ghost use Rattle.machine_rules.specs.Ticks.{without_slice};
 ghost use Rattle.machine_rules.specs.Units.{in_unit};
 ghost use Rattle.machine_flat.specs.Placed.{ArePlaced};
-ghost use Rattle.thread_blocks.specs.Room.{HasRoom};
 ghost use Rattle.machine_flat.specs.FlatBodies.{flat_bodies};
 ghost use Rattle.machine_rules.specs.Turns.{answered, changes};
 ghost use Rattle.machine_rules.specs.Waking.{put_to_wait, woken};
@@ -98,17 +97,16 @@ impl Parts {
         self.threads.get_mut(t).set_policy(new, self.instant);
     }
 
-    /// One tick of a thread's unit, and that unit.
-    pub fn tick_thread(&mut self, t: Tid) -> Unit
+    /// The unit that a thread is in, or takes next. It is not ending.
+    pub fn take_unit(&mut self, t: Tid) -> Unit
         requires known { t < length self.old.names }
         requires goes_on { (thread_at self.old.machine t).is_ending ≡ false }
         requires placed { ArePlaced self.old.code (thread_at self.old.machine t).frames }
-        requires room { HasRoom (thread_at self.old.machine t) }
         ensures unit { result ≡ (in_unit (flat_bodies self.old.code) (thread_at self.old.machine t)).unit }
-        ensures state { self.new ≡ after (changes t (λ th. tick_charged (in_unit (flat_bodies self.old.code) (thread_at self.old.machine t)).thread)) self.old }
-        ensures thread { thread_at self.new.machine t ≡ tick_charged (in_unit (flat_bodies self.old.code) (thread_at self.old.machine t)).thread }
+        ensures state { self.new ≡ after (changes t (λ th. (in_unit (flat_bodies self.old.code) (thread_at self.old.machine t)).thread)) self.old }
+        ensures thread { thread_at self.new.machine t ≡ (in_unit (flat_bodies self.old.code) (thread_at self.old.machine t)).thread }
     {
-        self.threads.get_mut(t).tick(&self.code)
+        self.threads.get_mut(t).take(&self.code)
     }
 
     pub fn clear_slice(&mut self, t: Tid)

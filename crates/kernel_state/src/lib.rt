@@ -4,6 +4,7 @@
 mod changes;
 mod dispatch;
 mod due;
+mod leaps;
 mod lists;
 mod open;
 mod parts;

@@ -4,7 +4,6 @@ ghost use Rattle.pse52_trace.specs.Text.{IsNamed};
 ghost use Rattle.pse52_trace.specs.Tells.{Tells};
 ghost use Rattle.machine_rules.specs.Lives.{without_target};
 ghost use Rattle.machine_rules.specs.Dispatch.{dispatch_of, is_same};
-ghost use Rattle.machine_rules.specs.Ticks.{later};
 ghost use Rattle.machine_rules.specs.Delivery.{sweeps};
 ghost use Rattle.kernel_state.specs.Stood.{StoodRight};
 ghost use Rattle.machine_flat.specs.FlatBodies.{flat_bodies};
@@ -151,17 +150,6 @@ impl Parts {
             None => LastDispatch::Idle,
             Some(t) => LastDispatch::Ran(*t),
         };
-    }
-
-    /// The instant is one later.
-    pub fn wait_tick(&mut self)
-        requires { self.old.machine.now < 10 ^ 18 }
-        ensures { self.new ≡ after (becomes later) self.old }
-    {
-        match self.instant.after(1) {
-            Some(next) => self.instant = next,
-            None => unreachable!(),
-        }
     }
 
     pub fn is_killed(&self) -> bool

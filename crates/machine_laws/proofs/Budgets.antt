@@ -1,3 +1,5 @@
+-- The law of the budget.
 pub mod Accounts
 pub mod Moves
+pub mod Units
 pub mod Kept

@@ -1,3 +1,4 @@
+-- The cleanup handlers that a thread has pushed.
 pub mod Blocks
 pub mod Frames
 pub mod Calls

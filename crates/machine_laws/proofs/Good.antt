@@ -1,4 +1,4 @@
--- After each due item with its sweep all parts are right.
+-- Every state of a run is good, also after each due item with its sweep.
 use Rattle.std.proofs.Common.{List, None, ℕ, ◌≡◌}
 use Rattle.script_tree.specs.declared.decl.Script.{Script}
 use Rattle.machine_rules.specs.Bodies.{Bodies}

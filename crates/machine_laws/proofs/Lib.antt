@@ -14,3 +14,4 @@ pub mod Good
 pub mod Premises
 pub mod Agenda
 pub mod Scripts
+pub mod Times

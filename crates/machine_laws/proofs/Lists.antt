@@ -1,3 +1,4 @@
+-- Ready lists and execution priorities.
 pub mod Places
 pub mod Arrivals
 pub mod Priorities

@@ -1,2 +1,3 @@
+-- Owners and waiters of mutexes.
 pub mod Chains
 pub mod Owners

@@ -1,3 +1,4 @@
+-- The serials of waits and records.
 pub mod Distinct
 pub mod Sweeps
 pub mod Costs

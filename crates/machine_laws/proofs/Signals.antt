@@ -1,3 +1,4 @@
+-- Pending signals.
 pub mod Records
 pub mod Ignored
 pub mod Sources

@@ -1,2 +1,3 @@
+-- What a sweep leaves.
 pub mod Visits
 pub mod Kept

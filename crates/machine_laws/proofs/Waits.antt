@@ -1,3 +1,4 @@
+-- Who waits for what is there: nobody.
 pub mod Semaphores
 pub mod Queues
 pub mod Joiners

@@ -1,1 +1,3 @@
 pub mod GuardedBodies
+pub mod Times
+pub mod Rest

@@ -13,7 +13,9 @@ ghost use Rattle.machine_rules.specs.State.{Machine};
 ghost use Rattle.machine_rules.specs.Machine.{bodies_of};
 ghost use Rattle.machine_rules.specs.Promises.{RunKeepsBudgets, RunStaysGood};
 ghost use Rattle.machine_rules.specs.Runs.{opening};
-ghost use Rattle.machine_rules.specs.Throughout.{turn_after};
+ghost use Rattle.machine_rules.specs.Throughout.{HoldsThroughout, turn_after};
+ghost use Rattle.machine_laws.specs.Rest.{ServersRest};
+ghost use Rattle.machine_laws.specs.Times.{TimesAreRight};
 ghost use Rattle.machine_rules.specs.WellFormed.{IsWellFormed};
 
 /// Every state of the run of every well formed script is good: that after each number of ticks, and each that a due item leaves with
@@ -25,6 +27,13 @@ pub fn states_are_good()
 /// In each of these states the events so far and the server of each live sporadic thread keep the law of the budget.
 pub fn budgets_are_kept()
     ensures { (script : Script) → IsWellFormed script → RunKeepsBudgets script }
+{}
+
+/// In each of these states no thread has run longer than the machine, in all, in its interval or at its high priority; and servers rest:
+/// where the thread does not run, or not at its high priority, nothing is consumed that is not planned, and what is consumed can be.
+pub fn threads_run_in_time()
+    ensures times { (script : Script) → IsWellFormed script → HoldsThroughout (bodies_of script) (opening script) TimesAreRight }
+    ensures rest { (script : Script) → IsWellFormed script → HoldsThroughout (bodies_of script) (opening script) ServersRest }
 {}
 
 /// The states between the items of an instant are those that one item more leaves, with its moves and its sweep, as long as one is due.

@@ -1,3 +1,4 @@
+-- Leaps: so many ticks at once.
 pub mod Calm
 pub mod LastTick
 pub mod Law

@@ -1,2 +1,3 @@
 pub mod Quiet
 pub mod Leaps
+pub mod Examples

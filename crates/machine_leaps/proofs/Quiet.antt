@@ -1,3 +1,4 @@
+-- Quiet ticks: one charge.
 pub mod Ticks
 pub mod Charges
 pub mod Runs

@@ -1,3 +1,4 @@
+-- Every call of the table is made of moves.
 pub mod Answers
 pub mod Commuting
 pub mod Objects

@@ -1,3 +1,4 @@
+-- What moves and the parts of a tick keep, every run keeps.
 pub mod Listed
 pub mod Units
 pub mod Ticks

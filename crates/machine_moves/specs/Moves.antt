@@ -44,6 +44,7 @@ pub record Core (P : Type 0) : Type 0 where
   pub policy : Policy
   pub server : Option ServerState
   pub slice : ℕ
+  pub ticks : ℕ
   pub shapes : List (Shape P)
   pub is_ending : Bool
   pub cleanups : List ℕ
@@ -55,6 +56,7 @@ core_of th = record {
   policy = th.policy;
   server = th.server;
   slice = th.slice;
+  ticks = th.ticks;
   shapes = map shape_of th.frames;
   is_ending = th.is_ending;
   cleanups = th.cleanups;

@@ -7,3 +7,4 @@ pub mod Signals
 pub mod Messages
 pub mod Counts
 pub mod Cleanups
+pub mod States

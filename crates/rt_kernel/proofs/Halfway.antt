@@ -1,5 +1,5 @@
 -- An instant in which some items are done.
-use Rattle.std.proofs.Common.{◌≡◌, ℕ, zero, suc, List, [], Option, None, Some, ap, refl, subst, sym, ◌∙◌}
+use Rattle.std.proofs.Common.{◌≡◌, ℕ, suc, List, [], Option, None, Some, ap, refl, subst, sym, ◌∙◌}
 use Rattle.pse52_trace.specs.declared.tracer.Tracer.{Tracer}
 use Rattle.pse52_trace.specs.Tells.{Tells}
 use Rattle.pse52_trace.proofs.Tells.{tells_nothing}
@@ -8,8 +8,6 @@ use Rattle.script_flat.specs.declared.cursor.Cursor.{Cursor}
 use Rattle.machine_rules.specs.Turns.{Turn}
 use Rattle.machine_rules.specs.DueItems.{instant, item_done, items_done, next_item}
 use Rattle.machine_rules.proofs.BehindTicks.{item_done_behind}
-use Rattle.machine_rules.proofs.Coming.{coming}
-use Rattle.machine_rules.proofs.ItemsEnd.{item_falls}
 use Rattle.machine_flat.specs.FlatBodies.{flat_bodies}
 use Rattle.rt_kernel.specs.Fits.{Fits, ItemsFit}
 use Rattle.kernel_state.specs.Kernel.{Kernel, after, told, turn}

@@ -1,6 +1,6 @@
 -- What is held of each thread stays held through a run.
 use Rattle.std.proofs.Common.{◌≡◌, ◌<◌, ◌≤◌, ◌+◌, ℕ, zero, suc, List, [], ◌∷◌, Bool, true, false, Option, None, Some, ap, arith, drop, length, refl, subst, sym, ◌∙◌}
-use Rattle.std.specs.Prelude.{not, option_map, slice_index_or, ◌&&◌, ◌==◌, ◌^◌, if◌then◌else◌, filter}
+use Rattle.std.specs.Prelude.{not, option_map, slice_index_or, ◌&&◌, ◌==◌, if◌then◌else◌}
 use Rattle.tick_num.specs.declared.item.Item.{Item}
 use Rattle.tick_num.specs.declared.item.Item.TheVariants as item
 use Rattle.tick_num.specs.declared.res.Res.{Res}
@@ -15,7 +15,7 @@ use Rattle.script_flat.specs.declared.op.Op.TheVariants as op
 use Rattle.script_flat.specs.declared.unit.Unit as unit_type
 use Rattle.script_flat.specs.declared.unit.Unit.TheVariants as unit
 use Rattle.script_flat.specs.Flat as flat
-use Rattle.script_flat.specs.Fetch.{after_pass, carried_out, fetched, found_in, innermost, moved_on, or_search, ops_of, started}
+use Rattle.script_flat.specs.Fetch.{after_pass, carried_out, fetched, found_in, innermost, moved_on, or_search, ops_of}
 use Rattle.script_flat.specs.Stands.{IsPlaced}
 use Rattle.script_flat.proofs.Agrees.{fetched_placed}
 use Rattle.pse52_trace.specs.declared.event.Event.{Event}
@@ -25,11 +25,9 @@ use Rattle.sporadic_server.specs.Server.{ServerState, activate, charge, is_high,
 use Rattle.machine_rules.specs.declared.frame.FrameKind.{FrameKind}
 use Rattle.machine_rules.specs.declared.frame.FrameKind.TheVariants as kind
 use Rattle.machine_rules.specs.declared.dispatch.LastDispatch.{LastDispatch}
-use Rattle.machine_rules.specs.declared.frame.BodyOf.TheVariants as body_of
-use Rattle.machine_rules.specs.Bodies.{Bodies}
 use Rattle.machine_rules.specs.State.{Frame, Joiner, Machine, Thread, Wait, Waiting, for_time, nobody, Timer}
 use Rattle.machine_rules.specs.Lists.{changed_at}
-use Rattle.machine_rules.specs.Threads.{can_run, is_dormant, is_main, lives, no_thread, no_timer, thread_at, thread_numbers, top_kind, top_left, waiting_in, waiting_of}
+use Rattle.machine_rules.specs.Threads.{can_run, is_dormant, is_main, lives, no_thread, no_timer, thread_at, thread_numbers, top_kind, top_left, waiting_of}
 use Rattle.machine_rules.specs.Turns.{By, Turn, answered, becomes, changes, changes_pending, frames_answered, has_passed, moves, moves_if, returns, settles_since, tells, turn_of, with_thread}
 use Rattle.machine_rules.specs.CallNames.{name_of}
 use Rattle.machine_rules.specs.Servers.{activates_if, activates_server, amount_of, charged, has_high, high_server, plans, plans_for, refills_for, regains_high, server_of, with_server}
@@ -39,20 +37,20 @@ use Rattle.machine_rules.specs.Lives.{finishes_in, inherited_mask, wakes_joiner,
 use Rattle.machine_rules.specs.Cancellation.{is_cancellation_point, is_cancelled, request_acts}
 use Rattle.machine_rules.specs.Scheduling.{takes_priority, with_policy, with_priority}
 use Rattle.machine_rules.specs.Mutexes.{owns_boosting}
-use Rattle.machine_rules.specs.Calls.{call_effect, makes_call, unit_effect}
+use Rattle.machine_rules.specs.Calls.{call_effect, unit_effect}
 use Rattle.machine_rules.specs.Delivery.{sweeps}
 use Rattle.machine_rules.specs.DueItems.{handles, has_come, instant, item_bound, item_done, item_then, items_done, next_item, times_out, times_out_of}
 use Rattle.machine_rules.specs.Dispatch.{dispatch_event, dispatch_of, dispatches, head, is_same, tells_unless}
-use Rattle.machine_rules.specs.Ticks.{TickEnd, completes_at, ends_tick, exhausting, frames_charged, goes_on, later, nothing, planning, runs, runs_head, slice_charged, slicing, tick, tick_charged, tick_end, tick_ends, unit_ticked, unless_killed, without_slice}
+use Rattle.machine_rules.specs.Ticks.{TickEnd, completes_at, ends_tick, exhausting, frames_charged, later, nothing, planning, runs, runs_head, slice_charged, slicing, tick, tick_charged, tick_end, tick_ends, unit_ticked, unless_killed, without_slice}
 use Rattle.machine_rules.specs.Units.{InUnit, in_unit, in_unit_if, in_unit_of, next_of, top_in_unit}
-use Rattle.machine_rules.specs.Runs.{tick_of, ticks}
+use Rattle.machine_rules.specs.Runs.{ticks}
 use Rattle.machine_rules.proofs.ItemsEnd.{is_due, next_is_due}
 use Rattle.machine_rules.proofs.Reading.{changed-length}
 use Rattle.machine_flat.specs.FlatBodies.{flat_bodies}
 use Rattle.machine_flat.specs.Placed.{ArePlaced, cursor_of}
 use Rattle.kernel_events.specs.Built.{IsBuilt}
 use Rattle.kernel_events.specs.Handled.{OnlySleeps}
-use Rattle.rt_kernel.specs.Completes.{CanComplete, CanTick}
+use Rattle.rt_kernel.specs.Completes.{CanComplete}
 use Rattle.rt_kernel.specs.Fits.{Fits, FitsThread, HighWithin, Rests, StaysFit, StaysRested}
 use Rattle.rt_kernel.specs.Held.{AreBuilt, AreMain, Held, IsCode, IsHeld}
 use Rattle.kernel_state.specs.Kernel.{Kernel, by}

@@ -7,3 +7,4 @@ pub mod HeldLaw
 pub mod RestLaw
 pub mod MadeCalls
 pub mod Opened
+pub mod Charged

@@ -1,6 +1,6 @@
 -- The calls of a runnable script's flat code are built.
-use Rattle.std.proofs.Common.{◌≡◌, ◌<◌, ℕ, zero, suc, ◌+◌, List, [], ◌∷◌, ◌++◌, None, Some, arith, length, subst, sym, true}
-use Rattle.std.specs.Prelude.{All, get_or, map, slice_index_or}
+use Rattle.std.proofs.Common.{ℕ, zero, suc, ◌+◌, List, [], ◌∷◌, ◌++◌, None, Some, arith, length}
+use Rattle.std.specs.Prelude.{All, map, slice_index_or}
 use Rattle.script_tree.specs.Block.{Block, Nothing, Running, Making, Setting, Adding, Taking, Testing, Looping, Guarding}
 use Rattle.script_tree.specs.declared.call.Call.{Call}
 use Rattle.script_tree.specs.declared.call.Call.TheVariants as call
@@ -40,9 +40,10 @@ module _ (Holds Q : Call → Type 0) (so : (c : Call) → Holds c → Q c) where
       made_both Q (flat at inner ++ op.Again at ∷ []) (flat (at + (1 + op_number inner)) rest) (made_both Q (flat at inner) (op.Again at ∷ []) (flat_made at inner h.0) tt) (flat_made (at + (1 + op_number inner)) rest h.1)
   flat_made at (Looping (Some n) inner rest) h =
       made_both Q (flat (at + 1) inner ++ op.Repeat (at + 1) ∷ []) (flat (at + (2 + op_number inner)) rest) (made_both Q (flat (at + 1) inner) (op.Repeat (at + 1) ∷ []) (flat_made (at + 1) inner h.0) tt) (flat_made (at + (2 + op_number inner)) rest h.1)
-  flat_made at (Guarding cleanup run inner rest) (push, pop, inside, behind) =
-      (so (call.Push cleanup) push,
-      made_both Q (flat (at + 1) inner ++ op.Make (call.Pop run) ∷ []) (flat (at + (2 + op_number inner)) rest) (made_both Q (flat (at + 1) inner) (op.Make (call.Pop run) ∷ []) (flat_made (at + 1) inner inside) (so (call.Pop run) pop, tt)) (flat_made (at + (2 + op_number inner)) rest behind))
+  flat_made at (Guarding cleanup run inner rest) (push, pop, inside, behind) = (
+    so (call.Push cleanup) push,
+    made_both Q (flat (at + 1) inner ++ op.Make (call.Pop run) ∷ []) (flat (at + (2 + op_number inner)) rest) (made_both Q (flat (at + 1) inner) (op.Make (call.Pop run) ∷ []) (flat_made (at + 1) inner inside) (so (call.Pop run) pop, tt)) (flat_made (at + (2 + op_number inner)) rest behind),
+  )
 
   all_made : (all : List Block) (n : ℕ) → All (EachCall Holds) all → EachMade Q (slice_index_or (map (flat 0) all) n [])
   all_made [] n h = tt

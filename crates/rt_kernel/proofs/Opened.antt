@@ -1,16 +1,14 @@
 -- What holds of the kernel of a script before the first tick.
-use Rattle.std.proofs.Common.{◌≡◌, ◌<◌, ◌≤◌, ◌-◌, ◌^◌, ℕ, zero, suc, Option, None, List, [], ◌∷◌, Bool, true, false, ap, arith, length, refl, sym, subst, replicate, ◌∙◌, Some}
-use Rattle.std.specs.Prelude.{All, map, slice_get, slice_index, slice_index_or}
+use Rattle.std.proofs.Common.{◌≡◌, ◌<◌, ◌≤◌, ◌^◌, ℕ, rules, true, zero, suc, Option, None, List, [], ◌∷◌, arith, length, refl, sym, subst, ◌∙◌, Some}
+use Rattle.std.specs.Prelude.{All, map, slice_get, slice_index_or}
 use Rattle.std.proofs.lemmas.List.{length-map}
 use Rattle.script_tree.specs.Block.{Block, Nothing}
 use Rattle.script_tree.specs.declared.decl.Script.{Script}
 use Rattle.script_flat.specs.Flat as flat
-use Rattle.thread_lists.specs.Threads.{times}
-use Rattle.ready_lists.specs.Lists.{empty_lists}
 use Rattle.script_flat.specs.declared.cursor.Cursor.{Cursor}
 use Rattle.machine_rules.specs.State.{Thread}
 use Rattle.machine_rules.specs.Declarations.{ThreadDecl, threads_of}
-use Rattle.machine_rules.specs.Threads.{is_runnable, no_thread}
+use Rattle.machine_rules.specs.Threads.{no_thread}
 use Rattle.machine_rules.specs.Machine.{names_of}
 use Rattle.machine_rules.specs.Runs.{opening, thread_opened}
 use Rattle.machine_flat.proofs.Numbered.{Numbered, known, thread_blocks}
@@ -19,7 +17,7 @@ use Rattle.script_flat.specs.declared.op.Op.{Op}
 use Rattle.script_flat.specs.Fetch.{ops_of}
 use Rattle.script_flat.specs.Next.{body_start}
 use Rattle.script_flat.proofs.Opens.{is_body_of_script}
-use Rattle.sporadic_server.specs.Server.{ServerState}
+use Rattle.sporadic_server.specs.Server.{ServerState, is_high}
 use Rattle.machine_rules.specs.declared.frame.BodyOf.TheVariants as body_of
 use Rattle.machine_flat.specs.FlatBodies.{number_of}
 use Rattle.thread_blocks.specs.Room.{HasRoom, ServerHasRoom}
@@ -30,18 +28,19 @@ use Rattle.rt_kernel.proofs.MadeCalls.{calls_built}
 use Rattle.rt_kernel.proofs.HeldLaw.{stays_fit}
 use Rattle.rt_kernel.proofs.RestLaw.{all_idle, stays_rested}
 use Rattle.machine_flat.specs.Runnable.{HasBudget, IsRunnable}
-use Rattle.kernel_state.specs.Settled.{HavePriorities}
-use Rattle.kernel_state.specs.Stood.{StoodRight}
 use Rattle.kernel_state.proofs.Opened.{code_threads}
 
 -- ---- what is held of each thread is held at the beginning
 
-pub room_within : (now : ℕ) (th : Thread Cursor) → now < 10 ^ 18 → IsWithin now th → HasRoom th
+pub room_within : (now : ℕ) (th : Thread Cursor) → now < 10 ^ 18 → IsWithin now th → HasRoom 1 th
 room_within now th early h = record { ticks = (let k = h.ticks in omega (arith, k, early)); slice = (let k = h.slice in omega (arith, k, early)); server = by_server th.server h.high }
   where
-    by_server : (o : Option ServerState) → HighWithin now o → ServerHasRoom o
+    has_some : (s : ServerState) → is_high s ≡ true → 1 ≤ s.capacity
+    has_some s high = search rules
+
+    by_server : (o : Option ServerState) → HighWithin now o → ServerHasRoom 1 o
     by_server None high = tt
-    by_server (Some s) high = omega (arith, early, high)
+    by_server (Some s) high = record { high = has_some s; total = omega (arith, early, high) }
 
 nothing_yet : (code : flat.Bodies (List Op)) (ds : List ThreadDecl) (t : ℕ) → IsHeld code 0 (slice_index_or (map (thread_opened {P = Cursor}) ds) t no_thread)
 nothing_yet code [] t = record { goes_on = refl; free = refl; alone = refl; sleeps = tt; placed = tt; main = tt; ticks = omega arith; slice = omega arith; high = tt }

@@ -1,6 +1,6 @@
 -- A server that could be activated has used nothing that is not planned: a law over runs.
-use Rattle.std.proofs.Common.{◌≡◌, ◌<◌, ◌≤◌, ◌+◌, ◌⊎◌, inl, inr, ℕ, zero, suc, List, [], ◌∷◌, Bool, true, false, Option, None, Some, ap, arith, length, refl, subst, sym, ◌∙◌}
-use Rattle.std.specs.Prelude.{is_some, nat_lt, not, option_map, slice_index_or, ◌&&◌, ◌||◌, ◌==◌, if◌then◌else◌}
+use Rattle.std.proofs.Common.{◌≡◌, ◌<◌, ◌≤◌, ◌⊎◌, inl, inr, ℕ, zero, suc, List, [], ◌∷◌, Bool, true, false, Option, None, Some, ap, arith, length, refl, subst, sym, ◌∙◌}
+use Rattle.std.specs.Prelude.{is_some, nat_lt, not, option_map, slice_index_or, ◌&&◌, ◌==◌, if◌then◌else◌}
 use Rattle.tick_num.specs.declared.item.Item.{Item}
 use Rattle.tick_num.specs.declared.item.Item.TheVariants as item
 use Rattle.tick_num.specs.declared.res.Res.{Res}
@@ -37,7 +37,7 @@ use Rattle.machine_rules.specs.Calls.{call_effect, unit_effect}
 use Rattle.machine_rules.specs.Delivery.{sweeps}
 use Rattle.machine_rules.specs.DueItems.{handles, instant, item_bound, item_done, item_then, items_done, next_item, times_out, times_out_of}
 use Rattle.machine_rules.specs.Dispatch.{dispatch_event, dispatch_of, dispatches, head, is_same, tells_unless}
-use Rattle.machine_rules.specs.Ticks.{TickEnd, capacity_in, completes_at, consumed_in, ends_tick, exhausting, goes_on, later, nothing, planning, runs, runs_head, slice_is_used, slicing, tick, tick_charged, tick_end, tick_ends, unit_ticked, unless_killed, without_slice}
+use Rattle.machine_rules.specs.Ticks.{TickEnd, capacity_in, completes_at, consumed_in, ends_tick, exhausting, later, nothing, planning, runs, runs_head, slice_is_used, slicing, tick, tick_charged, tick_end, tick_ends, unit_ticked, unless_killed, without_slice}
 use Rattle.machine_rules.specs.Units.{in_unit, in_unit_if, in_unit_of, top_in_unit}
 use Rattle.machine_rules.specs.Runs.{ticks}
 use Rattle.machine_rules.proofs.ItemsEnd.{is_due, next_is_due}
@@ -51,7 +51,7 @@ use Rattle.rt_kernel.specs.Completes.{CanComplete}
 use Rattle.rt_kernel.specs.Fits.{Rests, StaysRested}
 use Rattle.rt_kernel.specs.Held.{Held, IsCode}
 use Rattle.kernel_state.specs.Kernel.{Kernel, by}
-use Rattle.rt_kernel.proofs.HeldLaw.{at_self, dispatched_held, ends_tick_held, handles_held, item_held, items_held, no_alarm, settled_held, taken, tick_held, ticks_held, unit_can, unit_ticked_held}
+use Rattle.rt_kernel.proofs.HeldLaw.{at_self, dispatched_held, ends_tick_held, handles_held, item_held, items_held, no_alarm, ticks_held, unit_can, unit_ticked_held}
 use Rattle.kernel_state.proofs.SweepNothing.{sweeps_none}
 
 -- ---- what is so of a server at every time

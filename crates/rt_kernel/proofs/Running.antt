@@ -1,6 +1,5 @@
 -- A run in which some ticks are done.
-use Rattle.std.proofs.Common.{◌≡◌, ◌≤◌, ◌+◌, ℕ, zero, suc, List, [], ◌++◌, Option, None, Some, ap, arith, length, refl, subst, sym, true, ◌∙◌}
-use Rattle.pse52_trace.specs.Text.{Entry}
+use Rattle.std.proofs.Common.{◌≡◌, ◌≤◌, ◌+◌, ℕ, suc, List, [], Option, ap, arith, length, refl, subst, sym, true, ◌∙◌}
 use Rattle.pse52_trace.specs.declared.tracer.Tracer.{Tracer}
 use Rattle.pse52_trace.specs.Tells.{Tells}
 use Rattle.pse52_trace.proofs.Tells.{tells_both, tells_nothing, tells_stopped}
@@ -9,7 +8,7 @@ use Rattle.machine_rules.specs.State.{Machine}
 use Rattle.machine_rules.specs.Turns.{Turn, turn_of}
 use Rattle.machine_rules.specs.Ticks.{tick}
 use Rattle.machine_rules.specs.DueItems.{items_done}
-use Rattle.machine_rules.specs.Runs.{Ran, follow, tick_of, ticks}
+use Rattle.machine_rules.specs.Runs.{Ran, tick_of, ticks}
 use Rattle.machine_rules.proofs.Joined.{ticks_add}
 use Rattle.machine_flat.specs.FlatBodies.{flat_bodies}
 use Rattle.rt_kernel.specs.Fits.{Fits, ItemsFit, StaysFit}

@@ -1,5 +1,5 @@
 -- The run of a script's kernel and its closing lines are the script's trace.
-use Rattle.std.proofs.Common.{◌≡◌, ◌-◌, ◌++◌, ℕ, List, Option, ap, arith, subst, sym, true, ◌∙◌}
+use Rattle.std.proofs.Common.{◌≡◌, ◌-◌, ℕ, List, Option, ap, arith, subst, true, ◌∙◌}
 use Rattle.pse52_trace.specs.Prints.{Prints}
 use Rattle.pse52_trace.specs.Tells.{Tells}
 use Rattle.pse52_trace.specs.Text.{lines}

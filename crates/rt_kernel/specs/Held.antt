@@ -1,11 +1,10 @@
 -- What holds of each thread, as long as only these calls are built, and of the code.
-use Rattle.std.specs.Prelude.{◌≡◌, ◌≤◌, ◌<◌, ℕ, List, None, Option, Some, [], ◌∷◌, false, length, All}
+use Rattle.std.specs.Prelude.{◌≡◌, ◌≤◌, ◌<◌, ℕ, List, [], ◌∷◌, false, length}
 use Rattle.script_flat.specs.declared.cursor.Cursor.{Cursor}
 use Rattle.script_flat.specs.declared.op.Op.{Op}
 use Rattle.script_flat.specs.Flat as flat
 use Rattle.script_flat.specs.Fetch.{ops_of, started}
 use Rattle.script_flat.specs.Stands.{IsPlaced}
-use Rattle.sporadic_server.specs.Server.{ServerState}
 use Rattle.machine_rules.specs.declared.frame.BodyOf.TheVariants as body_of
 use Rattle.machine_rules.specs.declared.frame.FrameKind.TheVariants as frame
 use Rattle.machine_rules.specs.State.{Frame, Machine, Thread, nobody}

@@ -1,5 +1,5 @@
 // The kernel of a script.
-ghost use Rattle.std.specs.Prelude.{◌≡◌, ◌≤◌, ◌<◌, ◌-◌, ◌^◌, [], length, false, true, option_map, IfOk};
+ghost use Rattle.std.specs.Prelude.{◌≡◌, ◌≤◌, ◌<◌, ◌+◌, ◌-◌, ◌^◌, [], length, false, true, option_map, IfOk};
 ghost use Rattle.pse52_trace.specs.Prints.{Prints};
 ghost use Rattle.pse52_trace.specs.Tells.{Tells};
 ghost use Rattle.sporadic_server.specs.Server.{totals};
@@ -88,7 +88,7 @@ impl Kernel {
         self.parts.totals(t)
     }
 
-    /// Runs to the horizon, at most 10^18, or until a write fails. It takes no memory. Where it ended, the state is that of the
+    /// Runs to the horizon, at most 10^18, or until a write fails. It takes no memory, and is one step a tick. Where it ended, the state is that of the
     /// machine run tick by tick; what it printed is what happens until then, or a part of it where a write failed. A kernel that
     /// stopped may be asked for `now` alone.
     pub fn run_until<K: Sink, L: Ledger>(
@@ -107,6 +107,7 @@ impl Kernel {
         ensures stopped { result ≡ RunEnd.Stopped → out.new.failed ≡ true }
         ensures later { self.old.machine.now ≤ self.new.machine.now }
         ensures not_beyond { self.new.machine.now ≤ horizon }
+        ensures steps { steps.new + self.old.machine.now ≡ steps.old + self.new.machine.now }
     {
         run_ticks(&mut self.parts, horizon, out, steps)
     }

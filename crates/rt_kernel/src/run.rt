@@ -7,8 +7,8 @@ ghost use Rattle.rt_kernel.specs.Fits.{StaysFit};
 ghost use Rattle.kernel_state.specs.Kernel.{Kernel};
 ghost use Rattle.kernel_state.specs.Stood.{StoodRight};
 
-use kernel_state::Parts;
 use crate::ticks::do_tick;
+use kernel_state::Parts;
 use pse52_trace::Tracer;
 use rt_io::Sink;
 use std::sync::ledger::Ledger;
@@ -24,7 +24,7 @@ pub enum RunEnd {
     Stopped,
 }
 
-/// Runs tick by tick to the horizon, or until a write fails, and adds one to the steps for each tick.
+/// Runs tick by tick to the horizon, or until a write fails, in one step a tick.
 #[tactic(auto, using(crate::proofs::Running::still_fits))]
 pub(crate) fn run_ticks<K: Sink, L: Ledger>(
     p: &mut Parts,
@@ -48,10 +48,10 @@ pub(crate) fn run_ticks<K: Sink, L: Ledger>(
     ensures fits { StaysFit p.new (length p.new.names) }
     ensures later { p.old.machine.now ≤ p.new.machine.now }
     ensures not_beyond { p.new.machine.now ≤ horizon }
+    ensures steps { steps.new + p.old.machine.now ≡ steps.old + p.new.machine.now }
 {
     for k in 0..horizon.get() - p.instant().get() {
-        do_tick(p, out);
-        steps.tick();
+        do_tick(p, out, steps);
         if out.failed() {
             return RunEnd::Stopped;
         }

@@ -13,15 +13,22 @@ ghost use Rattle.kernel_state.specs.Kernel.{Kernel, after, told};
 ghost use Rattle.kernel_state.specs.Stood.{StoodRight};
 
 use crate::instant::do_instant;
-use kernel_state::Parts;
 use crate::tick_ends::end_tick;
 use crate::units::tick_unit;
+use kernel_state::Parts;
 use pse52_trace::Tracer;
 use rt_io::Sink;
+use std::sync::ledger::Ledger;
+use step_counter::Steps;
 use tick_num::Tid;
 
 // A tick of a thread's unit and the rule of the tick's end, each with its moves.
-fn run_unit<K: Sink>(p: &mut Parts, t: Tid, out: &mut Tracer<'_, K>)
+fn run_unit<K: Sink, L: Ledger>(
+    p: &mut Parts,
+    t: Tid,
+    out: &mut Tracer<'_, K>,
+    steps: &mut Steps<L>,
+)
     requires known { t < length p.old.names }
     requires quiet { p.old.direct ≡ [] }
     requires stood { StoodRight p.old.machine }
@@ -30,14 +37,20 @@ fn run_unit<K: Sink>(p: &mut Parts, t: Tid, out: &mut Tracer<'_, K>)
     ensures state { p.new ≡ after (λ s. s ▷ unit_ticked (flat_bodies p.old.code) s.machine t (in_unit (flat_bodies p.old.code) (thread_at s.machine t)) ▷ tick_ends (has_high (thread_at s.machine t).server) t) p.old }
     ensures told { Tells K.text K.faults p.old.names out.old out.new (told (λ s. s ▷ unit_ticked (flat_bodies p.old.code) s.machine t (in_unit (flat_bodies p.old.code) (thread_at s.machine t)) ▷ tick_ends (has_high (thread_at s.machine t).server) t) p.old) }
     ensures stood { StoodRight p.new.machine }
+    ensures step { steps.new ≡ steps.old + 1 }
 {
     let was_high = p.has_high(t);
-    tick_unit(p, t, out);
+    tick_unit(p, t, out, steps);
     end_tick(p, was_high, t, out);
 }
 
 // A tick of a thread.
-fn run_thread<K: Sink>(p: &mut Parts, t: Tid, out: &mut Tracer<'_, K>)
+fn run_thread<K: Sink, L: Ledger>(
+    p: &mut Parts,
+    t: Tid,
+    out: &mut Tracer<'_, K>,
+    steps: &mut Steps<L>,
+)
     requires known { t < length p.old.names }
     requires quiet { p.old.direct ≡ [] }
     requires stood { StoodRight p.old.machine }
@@ -46,13 +59,19 @@ fn run_thread<K: Sink>(p: &mut Parts, t: Tid, out: &mut Tracer<'_, K>)
     ensures state { p.new ≡ after (runs (flat_bodies p.old.code) (Some t)) p.old }
     ensures told { Tells K.text K.faults p.old.names out.old out.new (told (runs (flat_bodies p.old.code) (Some t)) p.old) }
     ensures stood { StoodRight p.new.machine }
+    ensures step { steps.new ≡ steps.old + 1 }
 {
-    run_unit(p, t, out);
+    run_unit(p, t, out, steps);
     p.sweep(out);
 }
 
 // A tick of a thread, or an idle one.
-fn run<K: Sink>(p: &mut Parts, to: &Option<Tid>, out: &mut Tracer<'_, K>)
+fn run<K: Sink, L: Ledger>(
+    p: &mut Parts,
+    to: &Option<Tid>,
+    out: &mut Tracer<'_, K>,
+    steps: &mut Steps<L>,
+)
     requires known { IfSome to.now (λ t. t < length p.old.names) }
     requires quiet { p.old.direct ≡ [] }
     requires stood { StoodRight p.old.machine }
@@ -63,15 +82,16 @@ fn run<K: Sink>(p: &mut Parts, to: &Option<Tid>, out: &mut Tracer<'_, K>)
     ensures stood { StoodRight p.new.machine }
     ensures quiet { p.new.direct ≡ [] }
     ensures time { p.new.machine.now ≡ p.old.machine.now + 1 }
+    ensures step { steps.new ≡ steps.old + 1 }
 {
     match to {
-        None => p.wait_tick(),
-        Some(t) => run_thread(p, *t, out),
+        None => p.leap(&None, 1, steps),
+        Some(t) => run_thread(p, *t, out, steps),
     }
 }
 
 // The dispatch, and a tick of the head.
-fn run_head<K: Sink>(p: &mut Parts, out: &mut Tracer<'_, K>)
+fn run_head<K: Sink, L: Ledger>(p: &mut Parts, out: &mut Tracer<'_, K>, steps: &mut Steps<L>)
     requires quiet { p.old.direct ≡ [] }
     requires stood { StoodRight p.old.machine }
     requires fits { Fits (length p.old.names) p.old.code p.old.machine }
@@ -81,13 +101,14 @@ fn run_head<K: Sink>(p: &mut Parts, out: &mut Tracer<'_, K>)
     ensures stood { StoodRight p.new.machine }
     ensures quiet { p.new.direct ≡ [] }
     ensures time { p.new.machine.now ≡ p.old.machine.now + 1 }
+    ensures step { steps.new ≡ steps.old + 1 }
 {
     let to = p.dispatch(out);
-    run(p, &to, out);
+    run(p, &to, out, steps);
 }
 
 // The rest of a tick, unless the process has ended.
-fn go_on<K: Sink>(p: &mut Parts, out: &mut Tracer<'_, K>)
+fn go_on<K: Sink, L: Ledger>(p: &mut Parts, out: &mut Tracer<'_, K>, steps: &mut Steps<L>)
     requires quiet { p.old.direct ≡ [] }
     requires stood { StoodRight p.old.machine }
     requires fits { Fits (length p.old.names) p.old.code p.old.machine }
@@ -98,15 +119,20 @@ fn go_on<K: Sink>(p: &mut Parts, out: &mut Tracer<'_, K>)
     ensures quiet { p.new.direct ≡ [] }
     ensures later { p.old.machine.now ≤ p.new.machine.now }
     ensures time { p.new.machine.now ≤ p.old.machine.now + 1 }
+    ensures steps { steps.new + p.old.machine.now ≡ steps.old + p.new.machine.now }
 {
     if p.is_killed() {
         return;
     }
-    run_head(p, out);
+    run_head(p, out, steps);
 }
 
 /// One tick.
-pub(crate) fn do_tick<K: Sink>(p: &mut Parts, out: &mut Tracer<'_, K>)
+pub(crate) fn do_tick<K: Sink, L: Ledger>(
+    p: &mut Parts,
+    out: &mut Tracer<'_, K>,
+    steps: &mut Steps<L>,
+)
     requires quiet { p.old.direct ≡ [] }
     requires stood { StoodRight p.old.machine }
     requires fits { ItemsFit p.old (length p.old.names) }
@@ -117,7 +143,8 @@ pub(crate) fn do_tick<K: Sink>(p: &mut Parts, out: &mut Tracer<'_, K>)
     ensures quiet { p.new.direct ≡ [] }
     ensures later { p.old.machine.now ≤ p.new.machine.now }
     ensures time { p.new.machine.now ≤ p.old.machine.now + 1 }
+    ensures steps { steps.new + p.old.machine.now ≡ steps.old + p.new.machine.now }
 {
     do_instant(p, out);
-    go_on(p, out);
+    go_on(p, out, steps);
 }

@@ -1,5 +1,5 @@
 // One tick of a thread's unit.
-ghost use Rattle.std.specs.Prelude.{◌≡◌, ◌≤◌, ◌<◌, ◌^◌, [], length, false};
+ghost use Rattle.std.specs.Prelude.{◌≡◌, ◌≤◌, ◌<◌, ◌+◌, ◌^◌, [], length, false};
 ghost use Rattle.pse52_trace.specs.Tells.{Tells};
 ghost use Rattle.script_flat.specs.declared.unit.Unit.{Unit};
 ghost use Rattle.script_flat.specs.declared.unit.Unit.TheVariants as unit;
@@ -26,21 +26,24 @@ use pse52_trace::{Event, Tracer};
 use rt_io::Sink;
 use script_flat::Unit;
 use script_tree::Call;
+use std::sync::ledger::Ledger;
+use step_counter::Steps;
 use tick_num::Tid;
 
 // The unit that a thread is in, with a tick of it charged.
-fn charge_unit(p: &mut Parts, t: Tid) -> Unit
+fn charge_unit<L: Ledger>(p: &mut Parts, t: Tid, steps: &mut Steps<L>) -> Unit
     requires known { t < length p.old.names }
     requires goes_on { (thread_at p.old.machine t).is_ending ≡ false }
     requires placed { ArePlaced p.old.code (thread_at p.old.machine t).frames }
-    requires room { HasRoom (thread_at p.old.machine t) }
+    requires room { HasRoom 1 (thread_at p.old.machine t) }
     requires early { p.old.machine.now < 10 ^ 18 }
     ensures unit { result ≡ (in_unit (flat_bodies p.old.code) (thread_at p.old.machine t)).unit }
     ensures state { p.new ≡ after (λ s. s ▷ changes t (λ th. tick_charged (in_unit (flat_bodies p.old.code) (thread_at p.old.machine t)).thread) ▷ becomes later) p.old }
     ensures thread { thread_at p.new.machine t ≡ tick_charged (in_unit (flat_bodies p.old.code) (thread_at p.old.machine t)).thread }
+    ensures step { steps.new ≡ steps.old + 1 }
 {
-    let unit = p.tick_thread(t);
-    p.wait_tick();
+    let unit = p.take_unit(t);
+    p.leap(&Some(t), 1, steps);
     unit
 }
 
@@ -101,7 +104,12 @@ fn complete_at_end<K: Sink>(p: &mut Parts, t: Tid, unit: &Unit, out: &mut Tracer
 
 /// A tick of a thread's unit: the charge, the effect, and the moves of both.
 #[tactic(auto, using(crate::proofs::Opened::room_within))]
-pub(crate) fn tick_unit<K: Sink>(p: &mut Parts, t: Tid, out: &mut Tracer<'_, K>)
+pub(crate) fn tick_unit<K: Sink, L: Ledger>(
+    p: &mut Parts,
+    t: Tid,
+    out: &mut Tracer<'_, K>,
+    steps: &mut Steps<L>,
+)
     requires known { t < length p.old.names }
     requires quiet { p.old.direct ≡ [] }
     requires stood { StoodRight p.old.machine }
@@ -110,8 +118,9 @@ pub(crate) fn tick_unit<K: Sink>(p: &mut Parts, t: Tid, out: &mut Tracer<'_, K>)
     ensures state { p.new ≡ after (λ s. s ▷ unit_ticked (flat_bodies p.old.code) s.machine t (in_unit (flat_bodies p.old.code) (thread_at s.machine t))) p.old }
     ensures told { Tells K.text K.faults p.old.names out.old out.new (told (λ s. s ▷ unit_ticked (flat_bodies p.old.code) s.machine t (in_unit (flat_bodies p.old.code) (thread_at s.machine t))) p.old) }
     ensures stood { StoodRight p.new.machine }
+    ensures step { steps.new ≡ steps.old + 1 }
 {
-    let unit = charge_unit(p, t);
+    let unit = charge_unit(p, t, steps);
     complete_at_end(p, t, &unit, out);
     p.settle();
 }

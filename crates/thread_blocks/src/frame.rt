@@ -89,11 +89,11 @@ impl Frame {
         self.at.value = value;
     }
 
-    /// One tick of its unit.
-    pub fn charge(&mut self)
-        ensures { self.new ≡ record self.old { left = self.old.left - 1 } }
+    /// So many ticks of its unit at once.
+    pub fn charge(&mut self, k: u64)
+        ensures { self.new ≡ record self.old { left = self.old.left - k } }
     {
-        self.left = self.left.saturating_sub(1);
+        self.left = self.left.saturating_sub(k);
     }
 
     /// It begins the next unit of its body.

@@ -112,3 +112,6 @@ each_weaker Holds Q so (Testing named equal inner rest) h = (each_weaker Holds Q
 each_weaker Holds Q so (Looping times inner rest) h = (each_weaker Holds Q so inner h.0, each_weaker Holds Q so rest h.1)
 each_weaker Holds Q so (Guarding cleanup run inner rest) (push, pop, inside, behind) =
     (so (call.Push cleanup) push, so (call.Pop run) pop, each_weaker Holds Q so inner inside, each_weaker Holds Q so rest behind)
+
+pub all_weaker : (Holds Q : Call → Type 0) → ((c : Call) → Holds c → Q c) → (all : List Block) → All (EachCall Holds) all → All (EachCall Q) all
+all_weaker Holds Q so all h = λ k b lt. each_weaker Holds Q so (slice_index_or all k b) (h k b lt)

@@ -5,6 +5,8 @@
 #[cfg(test)]
 mod commands;
 #[cfg(test)]
+mod machine;
+#[cfg(test)]
 mod order;
 #[cfg(test)]
 mod parts;

@@ -60,7 +60,7 @@ function tell() {
   let who = over ? "the run is over" : "idle";
   const states = data.threads.map((thread) => {
     const span = spanOf(thread, at.point);
-    let text = span === null ? "has not started, or has ended" : STATE_NAMES[span[2]];
+    let text = span !== null ? STATE_NAMES[span[2]] : thread.ended !== null && at.point >= thread.ended ? "has ended" : over ? "" : "has not started";
     if (span && span[2] === RUNNING) {
       text += " at priority " + span[3] + (span[4] === 0 ? " (the server's low)" : "");
       who = thread.name + " " + text + ", from " + ticks[span[0]] + " to " + ticks[span[1]];

@@ -256,6 +256,8 @@ const over = (tick) => mouse("mousemove", xOf(tick + 0.5));
 for (const tick of [0, 5, 6, 7, 19, 24, 27, 34, 36, 43]) { over(tick); show("over"); }
 over(24);
 said.push("list: " + [...document.querySelectorAll("#list li.now")].map((li) => li.textContent).join(" | "));
+over(1);
+said.push("mon: " + [...document.querySelectorAll("#states li")].map((li) => li.textContent)[2]);
 over(38);
 said.push("srv: " + [...document.querySelectorAll("#states li")].map((li) => li.textContent)[1]);
 const key = (name) => window.dispatchEvent(new KeyboardEvent("keydown", { key: name }));
@@ -285,6 +287,7 @@ over: 34 · ctl runs at priority 30, from 29 to 35
 over: 36 · srv runs at priority 20, from 35 to 40
 over: 43 · mon runs at priority 10, from 43 to 44
 list: 24 deliver ctl rt5 TIMER 0 | 24 return ctl sigwaitinfo 0 5 | 24 dispatch ctl 30
+mon: mon has not started
 srv: srv runs at priority 20, capacity 2
 right: 39 · srv runs at priority 20, from 35 to 40
 left left: 37 · srv runs at priority 20, from 35 to 40

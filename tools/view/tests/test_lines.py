@@ -1,11 +1,15 @@
 """The reader: which lines are trace lines, and where a line may stand."""
 from __future__ import annotations
 
+import os
+import pty
+import subprocess
+import sys
 import unittest
 
-from view.lines import Budget, Closing, Deliver, Dispatch, NotATraceLine, Plan, Return, read_trace
+from view.lines import CALLS, Budget, Closing, Deliver, Dispatch, NotATraceLine, Plan, Return, read_trace
 
-from .worked import all_worked, text_of, view
+from .worked import TOP, VIEW, all_worked, text_of, view
 
 
 def refused(*lines: str) -> tuple[int, str]:
@@ -49,6 +53,13 @@ class Lines(unittest.TestCase):
         self.assertEqual(refused("5 end", "thread a ticks 1 high 1 init 1 refilled 0")[0], 2)
         self.assertEqual(refused()[0], 1)
 
+    def test_every_call_of_the_language_is_known(self) -> None:
+        sys.path.append(str(TOP / "tools" / "reference"))
+        from forms import FORMS, Role
+        no_calls = {"run", "set", "add", "take", "end", "if", "unless", "loop", "forever"}
+        heads = {form.head for form in FORMS if form.role in (Role.STEP, Role.BLOCK, Role.CLOSE)}
+        self.assertEqual(CALLS, heads - no_calls)
+
     def test_a_beginning_is_read(self) -> None:
         self.assertEqual(len(read_trace([b"0 start a\n", b"0 dispatch a 5"]).events), 2)
 
@@ -84,11 +95,6 @@ class Command(unittest.TestCase):
         self.assertIn(b"perfetto", ended.stdout)
 
     def test_a_full_device(self) -> None:
-        import os
-        import subprocess
-        import sys
-
-        from .worked import VIEW
         if not os.path.exists("/dev/full"):
             self.skipTest("there is no /dev/full here")
         with open("/dev/full", "wb") as full:
@@ -96,6 +102,20 @@ class Command(unittest.TestCase):
                                    stderr=subprocess.PIPE, check=False)
         self.assertEqual(ended.returncode, 5)
         self.assertNotIn(b"Traceback", ended.stderr)
+
+
+    def test_it_says_how_far_it_is_on_a_terminal(self) -> None:
+        trace = b"0 start a\n" + b"0 return a yield 0 0\n" * 45_000 + b"0 end\n"
+        ours, theirs = pty.openpty()
+        with open(theirs, "wb") as terminal:
+            ended = subprocess.run([sys.executable, str(VIEW), "text"], input=trace, stdout=subprocess.PIPE, stderr=terminal,
+                                   check=False)
+        said = os.read(ours, 4096)
+        os.close(ours)
+        self.assertEqual(ended.returncode, 0)
+        self.assertIn(b"20000 lines read", said)
+        self.assertIn(b"40000 lines read", said)
+        self.assertEqual(view(["text"], trace).stderr, b"")
 
 
 if __name__ == "__main__":

@@ -1,4 +1,4 @@
--- Cleanup handlers are right at every instant of every run, and so is the whole state but for its servers.
+-- Every run keeps the cleanup handlers of each thread right.
 use Rattle.std.proofs.Common.{Bool, List, None, Option, Some, [], ap, arith, false, length, refl, suc, sym, true, zero, ℕ, ◌≤◌, ◌∷◌, ◌≡◌}
 use Rattle.std.specs.Prelude.{map, ◌==◌, if◌then◌else◌}
 use mathlib.Core.Path.{subst, ◌∙◌}

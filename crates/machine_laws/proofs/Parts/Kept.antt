@@ -1,4 +1,4 @@
--- The parts that go by statuses, at every instant of every run: mutexes, semaphores, pending records, and who joins.
+-- The parts that go by statuses, kept by every tick: mutexes, semaphores, queues, pending records, and who joins.
 use Rattle.std.proofs.Common.{Bool, List, None, Option, Some, [], ap, arith, false, inl, inr, refl, suc, sym, true, zero, ℕ, ◌+◌, ◌∷◌, ◌≡◌, ◌⊎◌}
 use Rattle.std.specs.Prelude.{◌==◌, ◌&&◌}
 use mathlib.Core.Path.{subst, ◌∙◌}

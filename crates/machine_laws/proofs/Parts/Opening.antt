@@ -1,4 +1,4 @@
--- The opening of every script, and so every instant of its run.
+-- At the opening of every script nobody waits, joins or owns, and no list has a member.
 use Rattle.std.proofs.Common.{Bool, List, None, Option, [], ap, arith, false, refl, suc, sym, true, zero, ℕ, ◌∷◌, ◌≡◌}
 use Rattle.std.specs.Prelude.{filter_map, map, option_and_then, replicate, slice_index_or}
 use Rattle.std.specs.List.{list_any}

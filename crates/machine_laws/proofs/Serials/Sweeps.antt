@@ -1,4 +1,4 @@
--- Serials are right at every instant of every run.
+-- What a sweep costs: the record of a handler that begins is paid for by its frame. And serials in the words of a good state.
 use Rattle.std.proofs.Common.{Bool, List, None, Option, Some, [], ap, arith, false, length, refl, suc, sym, true, zero, ℕ, ◌+◌, ◌<◌, ◌≤◌, ◌∷◌, ◌≡◌}
 use Rattle.std.specs.Prelude.{filter, is_some, nat_lt, not, ◌&&◌}
 use mathlib.Core.Path.{subst, ◌∙◌}

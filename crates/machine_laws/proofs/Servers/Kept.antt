@@ -1,4 +1,4 @@
--- The servers are right at every instant of the run of every script that keeps its ranges.
+-- The servers in the words of a good state, and at the opening.
 use Rattle.std.proofs.Common.{Bool, List, None, [], ap, arith, false, length, refl, suc, sym, zero, ℕ, ◌+◌, ◌<◌, ◌≤◌, ◌∷◌, ◌≡◌}
 use Rattle.std.specs.Prelude.{All, is_some, map, slice_index_or, ◌&&◌}
 use Rattle.std.specs.List.{AllAdjacentBelow}

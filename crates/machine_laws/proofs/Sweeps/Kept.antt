@@ -1,4 +1,4 @@
--- What holds after each sweep holds at every instant of every run, and so do all parts together.
+-- What holds after each sweep, every run keeps: that no signal can be taken, beside lists, intervals and pending records.
 use Rattle.std.proofs.Common.{Bool, None, Option, Some, ap, false, refl, suc, sym, true, zero, ℕ, ◌≡◌}
 use mathlib.Core.Path.{subst, ◌∙◌}
 use Rattle.tick_num.specs.declared.item.Item.{Item}

@@ -1,4 +1,4 @@
--- What every move keeps, every call keeps.
+-- What every move keeps, answers, wakings, and the calls on mutexes, conditions and semaphores keep.
 use Rattle.std.proofs.Common.{Bool, None, Option, Some, ap, arith, false, inl, refl, suc, sym, true, zero, ℕ, ◌≡◌}
 use Rattle.std.specs.Prelude.{nat_lt, not, option_and_then, ◌==◌, if◌then◌else◌}
 use Rattle.std.specs.Option.{option_map_or}

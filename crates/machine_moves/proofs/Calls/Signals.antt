@@ -1,4 +1,4 @@
--- What every move keeps, signals, timers and queues keep.
+-- What every move keeps, signals, sleeps and expiries of timers keep.
 use Rattle.std.proofs.Common.{Bool, None, Option, Some, ap, arith, false, refl, suc, sym, true, zero, ℕ, ◌+◌, ◌≡◌}
 use Rattle.std.specs.Prelude.{is_none, not, ◌&&◌, if◌then◌else◌}
 use mathlib.Core.Path.{subst, ◌∙◌}

@@ -1,4 +1,4 @@
--- What every move keeps, every call, item and sweep keeps.
+-- What every move keeps, every call of the table keeps, and so every unit, every timeout and every sweep.
 use Rattle.std.proofs.Common.{Bool, List, None, Option, Some, [], ap, arith, false, inl, inr, length, refl, suc, sym, true, zero, ℕ, ◌+◌, ◌∷◌, ◌≡◌, ◌⊎◌}
 use Rattle.std.specs.Prelude.{filter, not, option_and_then, ◌==◌, ◌&&◌, ◌||◌, if◌then◌else◌}
 use mathlib.Core.Path.{subst, ◌∙◌}

@@ -1,4 +1,4 @@
--- Every unit of a script that keeps its ranges keeps them.
+-- Every unit of a well formed script is in its ranges.
 use Rattle.std.proofs.Common.{Bool, List, None, Option, Some, [], false, suc, true, zero, ℕ, ◌+◌, ◌∷◌}
 use Rattle.std.specs.Prelude.{filter_map, if◌then◌else◌, map, slice_index_or, ◌==◌, ◌&&◌}
 use Rattle.tick_num.specs.declared.res.Res.{Res}

@@ -1,4 +1,4 @@
-use Rattle.std.proofs.Common.{ap, subst, sym, ◌∙◌}
+use Rattle.std.proofs.Common.{ap, ◌∙◌}
 use Rattle.machine_rules.specs.Delivery.{sweeps}
 use Rattle.machine_rules.specs.DueItems.{handles}
 use Rattle.machine_rules.specs.Turns.{settles_since, ◌▷◌}

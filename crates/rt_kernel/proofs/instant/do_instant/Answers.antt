@@ -1,8 +1,7 @@
-use Rattle.std.proofs.Common.{sym, subst, ◌∙◌}
+use Rattle.std.proofs.Common.{sym, ◌∙◌}
 use Rattle.machine_rules.proofs.ItemsEnd.{item_falls}
-use Rattle.machine_rules.proofs.Coming.{coming}
 use Rattle.machine_flat.specs.FlatBodies.{flat_bodies}
-use Rattle.kernel_state.specs.Kernel.{Kernel, turn}
+use Rattle.kernel_state.specs.Kernel.{turn}
 use Rattle.rt_kernel.proofs.Halfway.{all_state, all_told, one_done}
 use Rattle.rt_kernel.proofs.instant.do_instant.Goals as goal
 

@@ -1,10 +1,4 @@
-use Rattle.std.proofs.Common.{◌≡◌, ℕ, []}
-use Rattle.pse52_trace.specs.Tells.{Tells}
-use Rattle.machine_rules.specs.DueItems.{items_done}
 use Rattle.machine_rules.proofs.Coming.{coming}
-use Rattle.machine_flat.specs.FlatBodies.{flat_bodies}
-use Rattle.kernel_state.specs.Kernel.{Kernel, after, told}
-use Rattle.kernel_state.specs.Stood.{StoodRight}
 use Rattle.rt_kernel.proofs.Halfway.{Halfway}
 use Rattle.rt_kernel.proofs.instant.do_instant.Given as goal
 

@@ -10,6 +10,7 @@ loop-k-preserved g c = record {
   running = one_tick _ _ c.args.p.now c.loop-k.p c.do_tick.new.p c.loop-k.k c.args.out.now c.loop-k.out c.do_tick.new.out c.loop-k.invariant.running
       c.do_tick.ensures.state c.do_tick.ensures.told c.do_tick.ensures.stood c.do_tick.ensures.quiet c.do_tick.ensures.later c.do_tick.ensures.time;
   good = sym c.failed.ensures ∙ c.if-failed.false;
+  steps = (let one = c.do_tick.ensures.steps in let before = c.loop-k.invariant.steps in omega (arith, one, before));
 }
 
 pub returns-then-failed-clause-told : goal.returns-then-failed-clause-told

@@ -1,5 +1,4 @@
 use Rattle.std.proofs.Common.{ap, subst, sym}
-use Rattle.script_flat.specs.declared.cursor.Cursor.{Cursor}
 use Rattle.machine_rules.specs.Threads.{thread_at}
 use Rattle.machine_rules.specs.Ticks.{ends_tick, tick_end}
 use Rattle.machine_rules.proofs.Instants.{ends_tick_kept}

@@ -4,7 +4,7 @@ use Rattle.machine_rules.specs.Dispatch.{dispatches, head}
 use Rattle.machine_rules.specs.Ticks.{runs}
 use Rattle.machine_rules.proofs.BehindTicks.{runs_behind}
 use Rattle.machine_flat.specs.FlatBodies.{flat_bodies}
-use Rattle.kernel_state.specs.Kernel.{Kernel, after, told}
+use Rattle.kernel_state.specs.Kernel.{after, told}
 use Rattle.kernel_state.proofs.Turns.{then_state_in, then_told_in}
 use Rattle.rt_kernel.proofs.ticks.run_head.Goals as goal
 

@@ -8,7 +8,7 @@ use Rattle.machine_rules.specs.Turns.{Turn, ◌▷◌}
 use Rattle.machine_rules.specs.Units.{in_unit}
 use Rattle.machine_rules.proofs.BehindTicks.{tick_ends_behind}
 use Rattle.machine_flat.specs.FlatBodies.{flat_bodies}
-use Rattle.kernel_state.specs.Kernel.{Kernel, after, told}
+use Rattle.kernel_state.specs.Kernel.{after, told}
 use Rattle.kernel_state.proofs.Turns.{then_state_in, then_told_in}
 use Rattle.rt_kernel.proofs.ticks.run_unit.Goals as goal
 

@@ -1,0 +1,52 @@
+// So many ticks at once.
+ghost use Rattle.std.specs.Prelude.{◌≡◌, ◌≤◌, ◌<◌, ◌+◌, ◌^◌, length, IfSome};
+ghost use Rattle.machine_rules.specs.Threads.{thread_at};
+ghost use Rattle.machine_rules.specs.Turns.{becomes, changes};
+ghost use Rattle.machine_leaps.specs.Leap.{later_by};
+ghost use Rattle.machine_leaps.specs.Quiet.{after_ticks};
+ghost use Rattle.thread_blocks.specs.Room.{HasRoom};
+ghost use Rattle.kernel_state.specs.Kernel.{after};
+ghost use Rattle.kernel_state.specs.Leaps.{leaps_by};
+
+use crate::parts::Parts;
+use std::sync::ledger::Ledger;
+use step_counter::Steps;
+use tick_num::Tid;
+
+impl Parts {
+    fn charge_thread(&mut self, t: Tid, k: u64)
+        requires known { t < length self.old.names }
+        requires room { HasRoom k (thread_at self.old.machine t) }
+        ensures state { self.new ≡ after (changes t (after_ticks k)) self.old }
+        ensures thread { thread_at self.new.machine t ≡ after_ticks k (thread_at self.old.machine t) }
+    {
+        self.threads.get_mut(t).charge(k);
+    }
+
+    fn pass(&mut self, k: u64)
+        requires { self.old.machine.now + k ≤ 10 ^ 18 }
+        ensures { self.new ≡ after (becomes (later_by k)) self.old }
+    {
+        match self.instant.after(k) {
+            Some(then) => self.instant = then,
+            None => unreachable!(),
+        }
+    }
+
+    /// So many ticks of that thread, which has taken its unit, or so many idle ticks. It is one step, and nothing else changes the
+    /// instant.
+    pub fn leap<L: Ledger>(&mut self, to: &Option<Tid>, k: u64, steps: &mut Steps<L>)
+        requires known { IfSome to.now (λ t. t < length self.old.names) }
+        requires room { IfSome to.now (λ t. HasRoom k (thread_at self.old.machine t)) }
+        requires early { self.old.machine.now + k ≤ 10 ^ 18 }
+        ensures state { self.new ≡ after (leaps_by k to.now) self.old }
+        ensures thread { IfSome to.now (λ t. thread_at self.new.machine t ≡ after_ticks k (thread_at self.old.machine t)) }
+        ensures step { steps.new ≡ steps.old + 1 }
+    {
+        if let Some(t) = to {
+            self.charge_thread(*t, k);
+        }
+        self.pass(k);
+        steps.tick();
+    }
+}

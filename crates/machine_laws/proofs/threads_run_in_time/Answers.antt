@@ -1,0 +1,8 @@
+use Rattle.machine_laws.proofs.Scripts.{rests, runs_in_time}
+use Rattle.machine_laws.proofs.threads_run_in_time.Goals as goal
+
+pub returns-clause-times : goal.returns-clause-times
+returns-clause-times c = runs_in_time
+
+pub returns-clause-rest : goal.returns-clause-rest
+returns-clause-rest c = rests

@@ -1,0 +1,186 @@
+// The sporadic server of a thread.
+ghost use Rattle.std.specs.Prelude.{◌≡◌, ◌≤◌, ◌<◌, ◌^◌, None, option_map, option_and_then, true, false, is_some, Some};
+ghost use Rattle.sporadic_server.specs.Server.{ServerState, activate, next_due, plan, refill, replenishment, totals};
+ghost use Rattle.machine_rules.specs.Servers.{has_high, high_server, server_of, with_server};
+ghost use Rattle.machine_leaps.specs.Quiet.{server_after};
+ghost use Rattle.thread_blocks.specs.Room.{ServerHasRoom};
+ghost use Rattle.thread_blocks.specs.Unused.{IsUnused};
+ghost use Rattle.machine_rules.specs.Machine.{budget_of};
+ghost use Rattle.machine_rules.specs.Ticks.{capacity_in, consumed_in};
+ghost use Rattle.thread_blocks.specs.Ends.{refilled_of};
+
+use crate::ends::Refilled;
+use crate::thread::Thread;
+use pse52_trace::BudgetView;
+use script_tree::Policy;
+use sporadic_server::{BudgetLine, Replenish, Server};
+use tick_num::Tick;
+
+impl Thread {
+    /// The capacity of its server.
+    pub fn capacity(&self) -> Option<u64>
+        ensures { result ≡ option_map (λ (s : ServerState). s.capacity) self.now.server }
+    {
+        match &self.server {
+            None => None,
+            Some(server) => Some(server.capacity()),
+        }
+    }
+
+    /// The capacity of its server, where the assigned priority is the high one.
+    pub fn high_capacity(&self) -> Option<u64>
+        ensures { result ≡ option_map (λ (s : ServerState). s.capacity) (high_server self.now.server) }
+    {
+        match &self.server {
+            None => None,
+            Some(server) => {
+                if server.is_high() {
+                    Some(server.capacity())
+                } else {
+                    None
+                }
+            }
+        }
+    }
+
+    /// The activation time of its server is now.
+    pub fn activate(&mut self, now: Tick)
+        requires unused { IsUnused self.old.server }
+        requires small { now ≤ 10 ^ 18 }
+        ensures { self.new ≡ with_server (activate now) self.old }
+    {
+        if let Some(server) = &mut self.server {
+            server.activate(now);
+        }
+    }
+
+    /// When its oldest pending replenishment is due.
+    pub fn refill_due(&self) -> Option<Tick>
+        ensures { result ≡ option_and_then next_due self.now.server }
+    {
+        match &self.server {
+            None => None,
+            Some(server) => server.next_due(),
+        }
+    }
+
+    pub fn has_server(&self) -> bool
+        ensures { result ≡ is_some self.now.server }
+    {
+        self.server.is_some()
+    }
+
+    /// Whether its server has the high priority.
+    pub fn has_high(&self) -> bool
+        ensures { result ≡ has_high self.now.server }
+    {
+        match &self.server {
+            None => false,
+            Some(server) => server.is_high(),
+        }
+    }
+
+    /// What its server consumed and did not plan.
+    pub fn consumed(&self) -> u64
+        ensures { result ≡ consumed_in self.now.server }
+    {
+        match &self.server {
+            None => 0,
+            Some(server) => server.consumed(),
+        }
+    }
+
+    /// The capacity of its server, 0 where it has none.
+    pub fn capacity_left(&self) -> u64
+        ensures { result ≡ capacity_in self.now.server }
+    {
+        match &self.server {
+            None => 0,
+            Some(server) => server.capacity(),
+        }
+    }
+
+    /// What its server consumed becomes a pending replenishment.
+    pub fn plan(&mut self) -> Replenish
+        requires { 1 ≤ consumed_in self.old.server }
+        ensures value { Some result ≡ option_map replenishment self.old.server }
+        ensures thread { self.new ≡ with_server plan self.old }
+    {
+        match &mut self.server {
+            None => unreachable!(),
+            Some(server) => server.plan(),
+        }
+    }
+
+    /// The oldest pending replenishment of its server is carried out.
+    pub fn refill(&mut self) -> Refilled
+        requires { is_some self.old.server ≡ true }
+        ensures value { Some result ≡ option_map refilled_of self.old.server }
+        ensures thread { self.new ≡ with_server refill self.old }
+    {
+        match &mut self.server {
+            None => unreachable!(),
+            Some(server) => refill_server(server),
+        }
+    }
+
+    /// The totals of its server.
+    pub fn totals(&self) -> Option<BudgetLine>
+        ensures { result ≡ option_map totals self.now.server }
+    {
+        match &self.server {
+            None => None,
+            Some(server) => Some(server.totals()),
+        }
+    }
+}
+
+pub(crate) fn new_server(policy: &Policy, now: Tick) -> Option<Server>
+    requires { now ≤ 10 ^ 18 }
+    ensures { result ≡ server_of policy.now now }
+{
+    match policy {
+        Policy::Fifo(_) => None,
+        Policy::Rr(_) => None,
+        Policy::Sporadic(params) => Some(Server::new(*params, now)),
+    }
+}
+
+pub(crate) fn charge_server(server: &mut Option<Server>, k: u64)
+    requires { ServerHasRoom k server.old }
+    ensures { server.new ≡ option_map (server_after k) server.old }
+{
+    if let Some(server) = server {
+        if server.is_high() {
+            server.charge(k);
+        }
+    }
+}
+
+fn refill_server(server: &mut Server) -> Refilled
+    ensures value { result ≡ refilled_of server.old }
+    ensures after { server.new ≡ refill server.old }
+{
+    let was_high = server.is_high();
+    let amount = match server.refill() {
+        None => 0,
+        Some(r) => r.amount,
+    };
+    Refilled {
+        amount,
+        capacity: server.capacity(),
+        regains_high: !was_high && server.is_high(),
+    }
+}
+
+pub(crate) fn budget_of(server: &Server) -> BudgetView
+    ensures { result ≡ budget_of server.now }
+{
+    let totals = server.totals();
+    BudgetView {
+        high: totals.high,
+        init: totals.init,
+        refilled: totals.refilled,
+        capacity: totals.capacity,
+    }
+}

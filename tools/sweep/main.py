@@ -1,0 +1,154 @@
+"""The command `pse52-sweep SWEEP.toml`."""
+from __future__ import annotations
+
+import argparse
+import os
+import shlex
+import shutil
+import subprocess
+import sys
+import time
+from enum import IntEnum
+from pathlib import Path
+
+from .engine import NoEngine, results
+from .plan import Sweep, WrongSweep, read_sweep
+from .plot import NoPlot, draw
+from .table import Kept, read_table, table
+
+TOP = Path(__file__).resolve().parents[2]
+BUILT = TOP / "crates" / "pse52" / "out" / "pse52"
+
+
+class Status(IntEnum):
+    DONE = 0
+    USAGE = 1
+    REFUSED = 2
+    MISSING = 3
+    INTERRUPTED = 130
+
+
+class NoProgram(Exception):
+    """The program that runs the scripts cannot be found or built."""
+
+
+def words_of(words: list[str]) -> argparse.Namespace:
+    parser = argparse.ArgumentParser(
+        prog="pse52-sweep", description="Runs one script with many values, and writes a table SWEEP.csv with a line for each run.")
+    parser.add_argument("sweep", type=Path, metavar="SWEEP.toml")
+    parser.add_argument("--jobs", type=int, default=os.cpu_count() or 1, metavar="N", help="runs at once, on each machine")
+    parser.add_argument("--sshlogin", metavar="HOSTS", help="machines, as GNU parallel takes them; ':' is this one")
+    parser.add_argument("--plot", metavar="COLUMN", help="also draw this column, as SWEEP-COLUMN.svg")
+    parser.add_argument("--over", metavar="NAME[,NAME]", help="the one or two names that it is drawn over")
+    parser.add_argument("--program", metavar="WORDS", default=os.environ.get("PSE52"),
+                        help="what runs a script; without it PSE52 of the environment, or bin/pse52")
+    parser.add_argument("--engine", choices=("parallel", "xargs"), help="without it GNU parallel where that is here")
+    parser.add_argument("--anew", action="store_true", help="forget the rows that are done")
+    said = parser.parse_args(words)
+    if said.jobs < 1:
+        parser.error("--jobs is at least 1")
+    return said
+
+
+def program_of(said: str | None) -> list[str]:
+    """The words of the program. That of this repository is built where it must be, once, and then started without its wrapper."""
+    if said:
+        words = shlex.split(said)
+        if not words or shutil.which(words[0]) is None:
+            raise NoProgram(f"'{said}' is no program that can be started")
+        return [str(Path(word).resolve()) if os.sep in word and Path(word).exists() else word for word in words]
+    ended = subprocess.run([str(TOP / "bin" / "pse52"), "run", "0"], stdin=subprocess.DEVNULL, stdout=subprocess.DEVNULL, check=False)
+    if ended.returncode == 70 or not BUILT.exists():
+        raise NoProgram("bin/pse52 could not be built; --program names another one")
+    return [str(BUILT)]
+
+
+class Progress:
+    """How many runs are done and about how long is left, on standard error: often on a terminal, else at each tenth."""
+
+    def __init__(self, done: int, count: int) -> None:
+        self._first, self._done, self._count = done, done, count
+        self._began = time.monotonic()
+        self._shown = 0.0
+        self._tenth = 10 * done // max(1, count)
+        self._terminal = sys.stderr.isatty()
+        if done:
+            print(f"{done} of {count} runs were done before", file=sys.stderr)
+
+    def one(self) -> None:
+        self._done += 1
+        now, tenth = time.monotonic(), 10 * self._done // self._count
+        if self._terminal and (now - self._shown > 0.2 or self._done == self._count):
+            self._shown = now
+            print(f"\r\033[K{self._told(now)}", end="\n" if self._done == self._count else "", file=sys.stderr, flush=True)
+        elif not self._terminal and tenth > self._tenth:
+            print(self._told(now), file=sys.stderr, flush=True)
+        self._tenth = tenth
+
+    def _told(self, now: float) -> str:
+        left = (now - self._began) / (self._done - self._first) * (self._count - self._done)
+        return f"{self._done} of {self._count} runs, about {_span(left)} left"
+
+
+def _span(seconds: float) -> str:
+    if seconds < 100:
+        return f"{seconds:.0f} s"
+    return f"{seconds / 60:.0f} min" if seconds < 6000 else f"{seconds / 3600:.1f} h"
+
+
+def carry_out(sweep: Sweep, said: argparse.Namespace) -> Path:
+    """Carries out the runs that are not done yet, and writes the table. The rows stay, so that the same words need no run again."""
+    program = program_of(said.program)
+    kept_file = sweep.file(".rows")
+    if said.anew:
+        kept_file.unlink(missing_ok=True)
+    with Kept(kept_file, sweep.identity(program)) as kept:
+        left = [run.number for run in sweep.runs() if run.number not in kept.rows]
+        progress = Progress(len(kept.rows), sweep.count)
+        if left:
+            for line in results(said.sweep.resolve(), program, left, said.jobs, said.sshlogin, said.engine):
+                kept.add(line)
+                progress.one()
+    if len(kept.rows) != sweep.count:
+        raise NoEngine(f"the engine ended with {len(kept.rows)} of {sweep.count} runs done; start the sweep again to go on")
+    path = sweep.file(".csv")
+    path.write_text(table(sweep.columns, kept.rows))
+    return path
+
+
+def over_of(sweep: Sweep, said: str | None) -> list[str]:
+    """The names that are drawn over: those that are asked for, or the first two that have more than one value."""
+    names = said.split(",") if said else [name for name, values in sweep.values.items() if len(values) > 1][:2]
+    if not names:
+        names = sweep.names[:1]
+    if len(names) > 2 or any(name not in sweep.values for name in names):
+        raise WrongSweep(f"--over is one or two of {', '.join(sweep.names)}")
+    return names
+
+
+def main(words: list[str]) -> Status:
+    try:
+        said = words_of(words)
+    except SystemExit as ended:
+        return Status.DONE if ended.code == 0 else Status.USAGE
+    try:
+        sweep = read_sweep(said.sweep)
+        over = over_of(sweep, said.over)
+        if said.plot is not None and said.plot not in sweep.columns:
+            raise WrongSweep(f"no column has the name '{said.plot}'; there are {', '.join(sweep.columns)}")
+        path = carry_out(sweep, said)
+        print(path)
+        if said.plot is not None:
+            picture = sweep.file(f"-{said.plot}.svg")
+            draw(read_table(path), said.plot, over, picture)
+            print(picture)
+    except (WrongSweep, OSError) as wrong:
+        print(f"pse52-sweep: {wrong}", file=sys.stderr)
+        return Status.REFUSED
+    except (NoEngine, NoProgram, NoPlot) as missing:
+        print(f"pse52-sweep: {missing}", file=sys.stderr)
+        return Status.MISSING
+    except KeyboardInterrupt:
+        print("\npse52-sweep: interrupted; the same words go on from here", file=sys.stderr)
+        return Status.INTERRUPTED
+    return Status.DONE

@@ -1,0 +1,164 @@
+"""The file of a sweep, read: its script, the values of each name, the horizon, and what is measured. docs/SWEEP.md explains it."""
+from __future__ import annotations
+
+import hashlib
+import json
+import math
+import re
+import tomllib
+from collections.abc import Iterator
+from dataclasses import dataclass
+from itertools import product
+from pathlib import Path
+
+from .measures import Measure, WrongMeasure, measure_of
+
+MOST_RUNS = 1_000_000
+GREATEST_NUMBER = 10**18
+PLACE = re.compile(r"\{([a-z][a-z0-9_]*)\}")
+RESERVED = ("status", "fault")
+
+
+class WrongSweep(Exception):
+    """What is wrong with the file of a sweep."""
+
+
+@dataclass(frozen=True)
+class Run:
+    """One run of the grid: its number, from 0, and its values in the order of the names."""
+
+    number: int
+    values: tuple[int, ...]
+
+
+@dataclass(frozen=True)
+class Sweep:
+    """A sweep as its file says it."""
+
+    folder: Path
+    stem: str
+    template: str
+    horizon: int | str
+    values: dict[str, list[int]]
+    measures: list[Measure]
+
+    @property
+    def names(self) -> list[str]:
+        return list(self.values)
+
+    @property
+    def count(self) -> int:
+        return math.prod(len(values) for values in self.values.values())
+
+    @property
+    def columns(self) -> list[str]:
+        return [*self.names, *RESERVED, *(column for measure in self.measures for column in measure.columns)]
+
+    def runs(self) -> Iterator[Run]:
+        """The grid, the last name changing quickest."""
+        for number, values in enumerate(product(*self.values.values())):
+            yield Run(number, values)
+
+    def script(self, run: Run) -> str:
+        return filled(self.template, dict(zip(self.names, run.values)))
+
+    def horizon_of(self, run: Run) -> int:
+        return self.horizon if isinstance(self.horizon, int) else int(filled(self.horizon, dict(zip(self.names, run.values))))
+
+    def file(self, suffix: str) -> Path:
+        return self.folder / f"{self.stem}{suffix}"
+
+    def identity(self, program: list[str]) -> str:
+        """Two sweeps with the same identity have the same runs, so the one may go on where the other stopped.
+
+        Of the program it has the words, and the content of those that are files.
+        """
+        files = [hashlib.sha256(Path(word).read_bytes()).hexdigest() for word in program if Path(word).is_file()]
+        told = [self.template, self.horizon, list(self.values.items()), [measure.words for measure in self.measures], program, files]
+        return hashlib.sha256(json.dumps(told).encode()).hexdigest()
+
+
+def filled(template: str, values: dict[str, int]) -> str:
+    """The text with a number in each place."""
+    return PLACE.sub(lambda place: str(values[place[1]]), template)
+
+
+def read_sweep(path: Path) -> Sweep:
+    """Reads the file of a sweep and its script. Raises WrongSweep, and OSError where a file cannot be read."""
+    try:
+        said = tomllib.loads(path.read_text())
+    except (tomllib.TOMLDecodeError, UnicodeDecodeError) as error:
+        raise WrongSweep(f"{path.name}: {error}") from None
+    _only(said, {"script", "horizon", "values", "measure"}, "the file")
+    script = said.get("script")
+    if not isinstance(script, str):
+        raise WrongSweep("'script' is the name of a file")
+    template = (path.parent / script).read_text()
+    values = _values(said.get("values", {}))
+    sweep = Sweep(path.parent, path.stem, template, _horizon(said.get("horizon")), values, _measures(said.get("measure", [])))
+    _places(sweep)
+    if sweep.count > MOST_RUNS:
+        raise WrongSweep(f"the grid has {sweep.count} runs, and a sweep at most {MOST_RUNS}")
+    columns = sweep.columns
+    for column in columns:
+        if columns.count(column) > 1:
+            raise WrongSweep(f"two columns have the name '{column}'")
+    return sweep
+
+
+def _only(table: dict, keys: set[str], what: str) -> None:
+    for key in table:
+        if key not in keys:
+            raise WrongSweep(f"{what} has no '{key}'; it has {', '.join(sorted(keys))}")
+
+
+def _is_number(value: object) -> bool:
+    return isinstance(value, int) and not isinstance(value, bool) and 0 <= value <= GREATEST_NUMBER
+
+
+def _horizon(said: object) -> int | str:
+    if _is_number(said) or (isinstance(said, str) and PLACE.fullmatch(said)):
+        return said
+    raise WrongSweep("'horizon' is a number of ticks, or \"{name}\"")
+
+
+def _values(said: object) -> dict[str, list[int]]:
+    if not isinstance(said, dict) or not said:
+        raise WrongSweep("[values] names at least one value")
+    values = {}
+    for name, choice in said.items():
+        if not PLACE.fullmatch("{" + name + "}"):
+            raise WrongSweep(f"'{name}' is no name: a small letter, then small letters, digits and '_'")
+        values[name] = _range(name, choice) if isinstance(choice, dict) else choice
+        if not isinstance(values[name], list) or not values[name] or not all(map(_is_number, values[name])):
+            raise WrongSweep(f"'{name}' is a list of numbers, or has from, to and step")
+    return values
+
+
+def _range(name: str, choice: dict) -> list[int]:
+    _only(choice, {"from", "to", "step"}, f"'{name}'")
+    first, last, step = choice.get("from"), choice.get("to"), choice.get("step", 1)
+    if not (_is_number(first) and _is_number(last) and _is_number(step)) or step == 0 or first > last:
+        raise WrongSweep(f"'{name}' goes from a number to one that is not below it, by a step of at least 1")
+    if (last - first) // step >= MOST_RUNS:
+        raise WrongSweep(f"'{name}' has more than {MOST_RUNS} values")
+    return list(range(first, last + 1, step))
+
+
+def _measures(said: object) -> list[Measure]:
+    if not isinstance(said, list) or not all(isinstance(table, dict) for table in said):
+        raise WrongSweep("what is measured stands in tables [[measure]]")
+    try:
+        return [measure_of(table) for table in said]
+    except WrongMeasure as wrong:
+        raise WrongSweep(str(wrong)) from None
+
+
+def _places(sweep: Sweep) -> None:
+    """Each place has a value, and each value a place."""
+    places = set(PLACE.findall(sweep.template)) | (set() if isinstance(sweep.horizon, int) else set(PLACE.findall(sweep.horizon)))
+    for name in sorted(places - set(sweep.names)):
+        raise WrongSweep(f"the script has {{{name}}}, and [values] has no '{name}'")
+    for name in sweep.names:
+        if name not in places:
+            raise WrongSweep(f"[values] has '{name}', and the script has no {{{name}}}")

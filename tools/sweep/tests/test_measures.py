@@ -1,0 +1,98 @@
+"""The measures against worked traces, with figures read off them by hand."""
+from __future__ import annotations
+
+import unittest
+from pathlib import Path
+
+from sweep.measures import Seen, WrongMeasure, measure_of
+from view.lines import read_trace
+
+WORKED = Path(__file__).resolve().parents[3] / "tests" / "worked"
+CONTROLLER, TWO_BUDGETS, CHAIN = (
+    "controller_with_server_and_monitor", "six_high_ticks_in_one_period", "timeout_within_an_inheritance_chain")
+
+
+def seen(name: str) -> Seen:
+    return Seen(read_trace((WORKED / f"{name}.trace").read_bytes().splitlines(keepends=True)))
+
+
+class Measures(unittest.TestCase):
+    def check(self, trace: str, wanted: dict[str, str], **table: object) -> None:
+        measure = measure_of({"name": "m", **table})
+        self.assertEqual(dict(zip(measure.columns, measure.figures(seen(trace)))), wanted)
+
+    def test_from_an_event(self) -> None:
+        # The request of 33 is answered as the server unlocks at 40.
+        self.check(CONTROLLER, {"m_count": "1", "m_greatest": "7", "m_mean": "7.000", "m_late": "1", "m_open": "0"},
+                   kind="response", **{"from": "return ctl mq_send", "to": "return srv unlock"}, deadline=6)
+        self.check(CONTROLLER, {"m_count": "1", "m_greatest": "7", "m_mean": "7.000", "m_late": "0", "m_open": "0"},
+                   kind="response", **{"from": "return ctl mq_send", "to": "return srv unlock"}, deadline=7)
+
+    def test_from_any_thread(self) -> None:
+        # Calls of mutexes: locks return at 21, 29, 36 and 44, unlocks at 29, 32 and 40. The lock of 21 waits until 29, 8 ticks;
+        # that of 29 for 3 and that of 36 for 4; the one of 44 is open.
+        self.check(CONTROLLER, {"m_count": "3", "m_greatest": "8", "m_mean": "5.000", "m_open": "1"},
+                   kind="response", **{"from": "return * lock 0", "to": "return * unlock 0"})
+
+    def test_from_a_start(self) -> None:
+        # mon starts at 3, and its first lock returns at 21. The second has no start before it.
+        self.check(CONTROLLER, {"m_count": "1", "m_greatest": "18", "m_mean": "18.000", "m_open": "0"},
+                   kind="response", thread="mon", **{"from": "start", "to": "return mon lock"})
+
+    def test_from_a_wake(self) -> None:
+        # ctl wakes at 24 from its wait for the signal, and at 29 with the mutex; its unlock returns at 32.
+        self.check(CONTROLLER, {"m_count": "1", "m_greatest": "8", "m_mean": "8.000", "m_open": "0"},
+                   kind="response", thread="ctl", **{"from": "wake", "to": "return ctl unlock"})
+
+    def test_what_is_not_answered(self) -> None:
+        # mon sleeps until 20 and 42 and unlocks at 29 alone: 9 ticks, and one that is 2 ticks old at the end.
+        for deadline, late in ((8, "1"), (9, "0"), (1, "2"), (2, "1")):
+            self.check(CONTROLLER, {"m_count": "1", "m_greatest": "9", "m_mean": "9.000", "m_late": late, "m_open": "1"},
+                       kind="response", **{"from": "return mon clock_nanosleep", "to": "return mon unlock"}, deadline=deadline)
+
+    def test_nothing_to_measure(self) -> None:
+        self.check(CONTROLLER, {"m_count": "0", "m_greatest": "", "m_mean": "", "m_open": "0"},
+                   kind="response", **{"from": "return ctl join", "to": "return ctl yield"})
+        self.check(CONTROLLER, {"m": ""}, kind="ticks", thread="nobody")
+        self.check(CONTROLLER, {"m": ""}, kind="high_share", thread="mon")
+
+    def test_threads_and_servers(self) -> None:
+        for thread, ticks in (("ctl", "12"), ("srv", "7"), ("mon", "12")):
+            self.check(CONTROLLER, {"m": ticks}, kind="ticks", thread=thread)
+        self.check(CONTROLLER, {"m": "1.000"}, kind="high_share", thread="srv")
+        self.check(TWO_BUDGETS, {"m": "0.750"}, kind="high_share", thread="s")
+        self.check(CONTROLLER, {"m": "2"}, kind="exhausted", thread="srv")
+        self.check(CONTROLLER, {"m": "0"}, kind="exhausted", thread="mon")
+        # From 40 to the refill at 42, and from 43 to the end at 44.
+        self.check(CONTROLLER, {"m_total": "3", "m_longest": "2"}, kind="refill_wait", thread="srv")
+        # At 12 the refill comes at once; from 15 to the end at 17.
+        self.check(TWO_BUDGETS, {"m_total": "2", "m_longest": "2"}, kind="refill_wait", thread="s")
+
+    def test_locks(self) -> None:
+        # ctl calls lock in the tick from 24 on and has the mutex at 29. The locks of the others take their tick.
+        self.check(CONTROLLER, {"m": "5"}, kind="lock")
+        self.check(CONTROLLER, {"m": "5"}, kind="lock", thread="ctl")
+        self.check(CONTROLLER, {"m": "1"}, kind="lock", thread="mon")
+        # b calls timedlock from 2 on and gives up at 20; c calls lock from 4 on and has it at 21; d from 5 on, at 22.
+        for thread, wanted in (("a", "1"), ("b", "18"), ("c", "17"), ("d", "17")):
+            self.check(CHAIN, {"m": wanted}, kind="lock", thread=thread)
+        self.check(CHAIN, {"m": "18"}, kind="lock")
+        self.check(TWO_BUDGETS, {"m": ""}, kind="lock")
+
+    def test_events_are_found_by_their_first_words(self) -> None:
+        controller = seen(CONTROLLER)
+        self.assertEqual([time for _, time in controller.lines(["return", "srv"])], [33, 36, 40])
+        self.assertEqual([time for _, time in controller.lines(["exhaust", "*"])], [40, 43])
+        self.assertEqual(controller.lines(["return", "s"]), [])
+
+    def test_tables_that_say_no_measure(self) -> None:
+        for table in ({}, {"name": "a b"}, {"name": "a"}, {"name": "a", "kind": "speed"}, {"name": "a", "kind": "ticks"},
+                      {"name": "a", "kind": "ticks", "thread": 5}, {"name": "a", "kind": "ticks", "thread": "t", "deadline": 1},
+                      {"name": "a", "kind": "response", "from": "wake", "to": "return t lock"},
+                      {"name": "a", "kind": "response", "from": "x", "to": "y", "deadline": -1}):
+            with self.assertRaises(WrongMeasure, msg=table):
+                measure_of(table)
+
+
+if __name__ == "__main__":
+    unittest.main()
