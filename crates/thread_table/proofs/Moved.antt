@@ -1,11 +1,11 @@
 -- The ties of a table where a thread's claim or wait changes: the chain has put each waiter at its new priority.
-use Rattle.std.proofs.Common.{◌≡◌, ◌<◌, ◌∙◌, ◌⊎◌, inl, inr, ℕ, zero, suc, List, [], ◌∷◌, Bool, true, false, None, Option, Some, ap, arith, length, refl, subst, sym}
-use Rattle.std.specs.Prelude.{◌==◌, IfSome, map, option_and_then, option_map, slice_index_or, slice_set}
-use Rattle.std.proofs.lemmas.List.{length-map, length-set}
+use Rattle.std.proofs.Common.{◌≡◌, ◌<◌, ◌∙◌, ℕ, zero, suc, List, [], ◌∷◌, Bool, true, false, None, Option, Some, ap, arith, length, refl, subst, sym}
+use Rattle.std.specs.Prelude.{◌==◌, IfSome, option_and_then, option_map, slice_set}
+use Rattle.std.proofs.lemmas.List.{length-set}
 use Rattle.script_flat.specs.declared.cursor.Cursor.{Cursor}
 use Rattle.machine_rules.specs.Lists.{changed_at}
 use Rattle.machine_rules.specs.Priorities.{Claim, assigned_of, claim_of, claims, exec_in, mutex_waited}
-use Rattle.machine_rules.specs.State.{Mutex, Thread, Waiting}
+use Rattle.machine_rules.specs.State.{Thread, Waiting}
 use Rattle.machine_rules.specs.Threads.{no_thread, thread_in, waiting_in}
 use Rattle.machine_rules.proofs.Reading.{changed-keeps, changed-length, changed-other, changed-same, changed-twice}
 use Rattle.wait_lists.specs.declared.Place.{Place}
@@ -17,7 +17,7 @@ use Rattle.inherit_chain.specs.Moves.{SamePlaces, left, unpriced}
 use Rattle.machine_rules.specs.Waking.{put_to_wait}
 use Rattle.thread_table.specs.Moves.{ArePriced, beginning, begun}
 use Rattle.thread_table.proofs.Places.{set_other, set_same}
-use Rattle.thread_table.specs.Tied.{AreWaiting, IsTied}
+use Rattle.thread_table.specs.Tied.{IsTied}
 
 -- ---- claims
 
@@ -146,9 +146,9 @@ restated_tied threads chain mid new_chain places between after t f new known is 
     let a = assigned_of (thread_in (slice_set threads t new) t) in
     let g : Claim → Claim = λ (c : Claim). assigned_to a (waiting_for None c) in
     let both : new_chain ≡ with_claim t g chain = second ∙ ap (λ (s : Links). with_claim t (assigned_to a) s) first
-        ∙ ap (λ (cs : List Claim). links_of cs chain.mutexes) (changed-twice no_claim t (waiting_for None) (assigned_to a) chain.claims) in
+    ∙ ap (λ (cs : List Claim). links_of cs chain.mutexes) (changed-twice no_claim t (waiting_for None) (assigned_to a) chain.claims) in
     let claim : claim_of (f (thread_in threads t)) ≡ g (claim_of (thread_in threads t)) =
-        rw (set_same threads t new no_thread known, is) (ap (λ (w : Option Waiting). record { assigned = assigned_of (f (thread_in threads t)); awaited = option_and_then (λ (x : Waiting). mutex_waited x.wait) w }) none) in
+    rw (set_same threads t new no_thread known, is) (ap (λ (w : Option Waiting). record { assigned = assigned_of (f (thread_in threads t)); awaited = option_and_then (λ (x : Waiting). mutex_waited x.wait) w }) none) in
     subst (λ (th : Thread Cursor). IsTied (slice_set threads t th) new_chain after) (sym is)
     (moved_tied threads chain new_chain places (left t places) after t f g both claim
     (wait_set threads chain places t f None known (ap (λ (w : Option Waiting). bare (place_of 0 w)) (sym none)) tied)
@@ -180,7 +180,7 @@ begun_tied threads chain mid new_chain places between after t w new known is fir
     let f = put_to_wait w in
     let g : Claim → Claim = λ (c : Claim). waiting_for (mutex_waited w.wait) (waiting_for None c) in
     let both : new_chain ≡ with_claim t g chain = second ∙ ap (λ (s : Links). with_claim t (waiting_for (mutex_waited w.wait)) s) first
-        ∙ ap (λ (cs : List Claim). links_of cs chain.mutexes) (changed-twice no_claim t (waiting_for None) (waiting_for (mutex_waited w.wait)) chain.claims) in
+    ∙ ap (λ (cs : List Claim). links_of cs chain.mutexes) (changed-twice no_claim t (waiting_for None) (waiting_for (mutex_waited w.wait)) chain.claims) in
     let p = beginning mid t w in
     subst (λ (th : Thread Cursor). IsTied (slice_set threads t th) new_chain after) (sym is)
     (moved_tied threads chain new_chain places (slice_set places t p) after t f g both refl

@@ -1,14 +1,16 @@
 -- The chain takes the assigned priorities, one thread after the other.
-use Rattle.std.proofs.Common.{◌≡◌, ◌<◌, ◌≤◌, ◌∙◌, ℕ, zero, suc, ◌+◌, ◌-◌, None, Option, Some, List, [], ◌∷◌, ◌++◌, ap, append-nil, arith, get_or, length, refl, replicate, subst, sym, take}
-use Rattle.std.specs.Prelude.{map, option_and_then, option_map}
+use Rattle.std.proofs.Common.{◌≡◌, ◌<◌, ◌≤◌, ◌∙◌, ℕ, zero, suc, ◌+◌, ◌-◌, None, Option, Some, List, [], ◌∷◌, ◌++◌, ap, append-nil, append_assoc, arith, get_or, length, refl, replicate, sym, take}
+use Rattle.std.specs.List.{filter_map}
+use Rattle.std.specs.Prelude.{map, option_and_then, option_map, option_to_list}
+use Rattle.script_tree.specs.declared.decl.Decl.{Decl}
 use Rattle.std.proofs.lemmas.List.{length-map, take_all}
 use Rattle.script_flat.specs.declared.cursor.Cursor.{Cursor}
-use Rattle.machine_rules.specs.Declarations.{ThreadDecl}
+use Rattle.machine_rules.specs.Declarations.{ThreadDecl, mutex_kind, named}
 use Rattle.machine_rules.specs.Lists.{changed_at}
 use Rattle.machine_rules.specs.Priorities.{Claim, assigned_of, claim_of, claims as claims_of, exec_in, mutex_waited}
 use Rattle.machine_rules.specs.Runs.{thread_opened}
 use Rattle.machine_rules.specs.State.{Mutex, Thread, Waiting}
-use Rattle.machine_rules.specs.Threads.{no_thread, thread_in, waiting_in}
+use Rattle.machine_rules.specs.Threads.{thread_in}
 use Rattle.wait_lists.specs.declared.Place.{Place}
 use Rattle.wait_lists.specs.Places.{place_in}
 use Rattle.wait_lists.specs.Ties.{place_of}
@@ -46,7 +48,7 @@ one_more threads n owned chain new places after lt none changed priced placed h 
     let g = assigned_to (assigned_of (thread_in threads n)) in
     let long : length (claims_of threads) ≡ length threads = length-map threads claim_of in
     let same : g fresh_claim ≡ get_or (claims_of threads) n fresh_claim =
-        sym (claim_at threads n fresh_claim lt ∙ ap (λ (w : Option Waiting). record { assigned = assigned_of (thread_in threads n); awaited = option_and_then (λ (x : Waiting). mutex_waited x.wait) w }) (none n)) in
+    sym (claim_at threads n fresh_claim lt ∙ ap (λ (w : Option Waiting). record { assigned = assigned_of (thread_in threads n); awaited = option_and_then (λ (x : Waiting). mutex_waited x.wait) w }) (none n)) in
     let joined = rw long at (seam (claims_of threads) n fresh_claim g (omega (arith, lt, long)) same) in
     record {
       claims = ap (λ (s : Links). s.claims) changed ∙ ap (λ (cs : List Claim). changed_at no_claim n g cs) h.claims ∙ joined;
@@ -76,3 +78,19 @@ pub none_waits : (ds : List ThreadDecl) → NoneWaits (map (thread_opened {P = C
 none_waits [] t = refl
 none_waits (d ∷ ds) zero = refl
 none_waits (d ∷ ds) (suc t) = none_waits ds t
+
+filter_cons : (o : Option Mutex) (x : Decl) (xs : List Decl) → named mutex_kind x ≡ o → filter_map (named mutex_kind) (x ∷ xs) ≡ option_to_list o ++ filter_map (named mutex_kind) xs
+filter_cons None x xs is = rw is refl
+filter_cons (Some d) x xs is = rw is refl
+
+-- one declaration more
+pub mutexes_more : (decls : List Decl) (i : ℕ) (d : Decl) → i < length decls →
+    filter_map (named mutex_kind) (take (i + 1) decls) ≡ filter_map (named mutex_kind) (take i decls) ++ option_to_list (named mutex_kind (get_or decls i d))
+mutexes_more [] i d lt = absurd (omega arith)
+mutexes_more (x ∷ xs) zero d lt = filter_cons (named mutex_kind x) x [] refl ∙ append-nil (option_to_list (named mutex_kind x))
+mutexes_more (x ∷ xs) (suc i) d lt =
+    let one : suc i + 1 ≡ suc (i + 1) = omega arith in
+    let ih = mutexes_more xs i d (omega arith) in
+    rw one (filter_cons (named mutex_kind x) x (take (i + 1) xs) refl ∙ (ap (λ ys. option_to_list (named mutex_kind x) ++ ys) ih ∙
+    (sym (append_assoc (option_to_list (named mutex_kind x)) (filter_map (named mutex_kind) (take i xs)) (option_to_list (named mutex_kind (get_or xs i d)))) ∙
+    ap (λ ys. ys ++ option_to_list (named mutex_kind (get_or xs i d))) (sym (filter_cons (named mutex_kind x) x (take i xs) refl)))))

@@ -1,11 +1,11 @@
 -- The places where a thread no longer waits.
-use Rattle.std.proofs.Common.{◌≡◌, ◌<◌, ◌≤◌, ◌∙◌, ℕ, zero, suc, Bool, true, false, None, Option, Some, List, [], ◌∷◌, ap, arith, length, refl, subst, sym}
+use Rattle.std.proofs.Common.{◌≡◌, ◌<◌, ◌∙◌, ℕ, zero, suc, Bool, true, false, None, Option, Some, List, [], ◌∷◌, ap, arith, length, refl, subst, sym}
 use Rattle.std.specs.Prelude.{◌==◌, IfSome, option_map, slice_index_or, slice_set}
 use Rattle.std.proofs.lemmas.List.{length-set}
 use Rattle.wait_lists.specs.declared.Place.{Place}
 use Rattle.wait_lists.specs.Places.{place_in}
-use Rattle.inherit_chain.specs.Chains.{Links, awaited_in, exec_of, with_claim, waiting_for}
-use Rattle.inherit_chain.specs.Moves.{IsPlaced, SamePlaces, left, mutex_placed, unpriced}
+use Rattle.inherit_chain.specs.Chains.{Links, awaited_in, exec_of}
+use Rattle.inherit_chain.specs.Moves.{IsPlaced, left, mutex_placed, unpriced}
 use Rattle.thread_table.specs.Moves.{ArePriced}
 
 pub set_same : {X : Type 0} (xs : List X) (t : ℕ) (y d : X) → t < length xs → slice_index_or (slice_set xs t y) t d ≡ y

@@ -1,5 +1,5 @@
 -- Who is served first, by the waiters' own law.
-use Rattle.std.proofs.Common.{◌≡◌, ◌∙◌, ℕ, Bool, List, Option, ap}
+use Rattle.std.proofs.Common.{◌≡◌, ◌∙◌, ℕ, Bool, List, Option}
 use Rattle.script_flat.specs.declared.cursor.Cursor.{Cursor}
 use Rattle.machine_rules.specs.State.{Thread, Wait}
 use Rattle.wait_lists.specs.declared.Place.{Place}

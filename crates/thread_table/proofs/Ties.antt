@@ -1,11 +1,9 @@
 -- The ties of a table stay where a thread changes in nothing that they go by.
-use Rattle.std.proofs.Common.{◌≡◌, ◌<◌, ◌∙◌, ℕ, List, None, Option, ap, arith, length, refl, subst, sym}
-use Rattle.std.specs.Prelude.{map}
-use Rattle.std.proofs.lemmas.List.{length-map}
+use Rattle.std.proofs.Common.{◌≡◌, ◌∙◌, ℕ, List, None, Option, ap, arith, subst, sym}
 use Rattle.script_flat.specs.declared.cursor.Cursor.{Cursor}
 use Rattle.machine_rules.specs.Lists.{changed_at}
 use Rattle.machine_rules.specs.Priorities.{Claim, claim_of, claims, exec_in, mutex_awaited_by}
-use Rattle.machine_rules.specs.State.{Mutex, Thread, Waiting}
+use Rattle.machine_rules.specs.State.{Thread, Waiting}
 use Rattle.machine_rules.specs.Threads.{no_thread, thread_in, waiting_in}
 use Rattle.machine_rules.proofs.Reading.{changed-keeps, changed-length, changed-map}
 use Rattle.wait_lists.specs.declared.Place.{Place}
@@ -14,7 +12,7 @@ use Rattle.inherit_chain.specs.Chains.{Links, awaited_in, links_of}
 use Rattle.inherit_chain.specs.Moves.{IsPlaced}
 use Rattle.inherit_chain.proofs.Machine.{awaited_is, waits_placed}
 use Rattle.thread_table.specs.Table.{machine_with}
-use Rattle.thread_table.specs.Tied.{AreWaiting, IsTied}
+use Rattle.thread_table.specs.Tied.{IsTied}
 
 -- the chain's priorities are those of the threads
 pub exec_kept : (threads : List (Thread Cursor)) (chain : Links) (places : List (Option Place)) (t : ℕ) → IsTied threads chain places →

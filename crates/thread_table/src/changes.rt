@@ -4,7 +4,8 @@ ghost use Rattle.sporadic_server.specs.Server.{activate, plan, refill, replenish
 ghost use Rattle.machine_rules.specs.Scheduling.{takes_priority, with_policy, with_priority};
 ghost use Rattle.machine_rules.specs.Servers.{with_server};
 ghost use Rattle.machine_rules.specs.Threads.{thread_in};
-ghost use Rattle.machine_rules.specs.Ticks.{consumed_in, tick_charged, without_slice};
+ghost use Rattle.machine_rules.specs.Ticks.{consumed_in, without_slice};
+ghost use Rattle.machine_leaps.specs.Quiet.{after_ticks};
 ghost use Rattle.machine_rules.specs.Turns.{answered};
 ghost use Rattle.machine_rules.specs.Units.{in_unit};
 ghost use Rattle.machine_rules.specs.Waking.{woken};
@@ -109,19 +110,30 @@ impl Table {
         refilled
     }
 
-    /// One tick of its unit, and that unit.
+    /// The unit that it is in, or takes next. It is not ending.
     #[tactic(auto, using(crate::proofs::Ties::placed))]
-    pub fn tick(&mut self, t: Tid, code: &Code) -> Unit
+    pub fn take_unit(&mut self, t: Tid, code: &Code) -> Unit
         requires known { t < length self.old.threads }
         requires goes_on { (thread_in self.old.threads t).is_ending ≡ false }
         requires placed { ArePlaced code.now (thread_in self.old.threads t).frames }
-        requires room { HasRoom (thread_in self.old.threads t) }
         ensures unit { result ≡ (in_unit (flat_bodies code.now) (thread_in self.old.threads t)).unit }
-        ensures table { self.new ≡ with_thread t (λ th. tick_charged (in_unit (flat_bodies code.now) th).thread) self.old }
-        ensures thread { thread_in self.new.threads t ≡ tick_charged (in_unit (flat_bodies code.now) (thread_in self.old.threads t)).thread }
+        ensures table { self.new ≡ with_thread t (λ th. (in_unit (flat_bodies code.now) th).thread) self.old }
+        ensures thread { thread_in self.new.threads t ≡ (in_unit (flat_bodies code.now) (thread_in self.old.threads t)).thread }
     {
-        let unit = self.threads.get_mut(t).tick(code);
+        let unit = self.threads.get_mut(t).take(code);
         reassign(&self.threads, &mut self.chain, &mut self.waits, t);
         unit
+    }
+
+    /// So many ticks at once, of the unit that it has taken.
+    #[tactic(auto, using(crate::proofs::Ties::placed))]
+    pub fn charge(&mut self, t: Tid, k: u64)
+        requires known { t < length self.old.threads }
+        requires room { HasRoom k (thread_in self.old.threads t) }
+        ensures table { self.new ≡ with_thread t (after_ticks k) self.old }
+        ensures thread { thread_in self.new.threads t ≡ after_ticks k (thread_in self.old.threads t) }
+    {
+        self.threads.get_mut(t).charge(k);
+        reassign(&self.threads, &mut self.chain, &mut self.waits, t);
     }
 }

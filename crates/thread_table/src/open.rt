@@ -21,10 +21,13 @@ fn add_mutex(kinds: &mut Vec<MutexKind>, decl: &Decl) -> Result<(), AllocError>
     ensures { IfOk result (λ _. map free_mutex kinds.new.items ≡ map free_mutex kinds.old.items ++ option_to_list (named mutex_kind decl.now)) }
 {
     match decl {
-        Decl::Named(_, Kind::Mutex {
-            protocol,
-            recursive,
-        }) => {
+        Decl::Named(
+            _,
+            Kind::Mutex {
+                protocol,
+                recursive,
+            },
+        ) => {
             kinds.push(MutexKind {
                 protocol: *protocol,
                 is_recursive: *recursive,

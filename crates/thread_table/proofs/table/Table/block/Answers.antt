@@ -1,4 +1,4 @@
-use Rattle.std.proofs.Common.{ap, refl, ◌∙◌}
+use Rattle.std.proofs.Common.{ap, ◌∙◌}
 use Rattle.machine_rules.specs.Waking.{put_to_wait}
 use Rattle.thread_blocks.specs.Plain.{waiting_of}
 use Rattle.thread_table.proofs.Moved.{begun_tied}

@@ -1,4 +1,4 @@
-use Rattle.std.proofs.Common.{[], ◌∷◌, ap, refl, ◌∙◌}
+use Rattle.std.proofs.Common.{ap, refl, ◌∙◌}
 use Rattle.machine_rules.specs.Lives.{without_life}
 use Rattle.thread_table.proofs.Moved.{restated_tied}
 use Rattle.thread_table.proofs.table.Table.end.Goals as goal
