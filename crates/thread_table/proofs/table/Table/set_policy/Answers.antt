@@ -1,0 +1,16 @@
+use Rattle.std.proofs.Common.{ap, refl, ◌∙◌}
+use Rattle.machine_rules.specs.Scheduling.{with_policy}
+use Rattle.thread_table.proofs.Ties.{placed}
+use Rattle.thread_table.proofs.Moved.{reassigned_tied}
+use Rattle.thread_table.proofs.table.Table.set_policy.Goals as goal
+
+pub invariant_of-self : goal.invariant_of-self
+invariant_of-self c =
+    let s = c.self.inside in
+    let f = with_policy c.args.new c.args.now in
+    let known = rw (← c.self.view_is) at c.requires.known in
+    reassigned_tied s.threads s.chain c.reassign.new.chain s.waits c.reassign.new.waits c.args.t f c.set_policy.new.self known
+    (c.set_policy.ensures ∙ ap f c.get_mut.ensures.value) (λ th. refl) c.reassign.ensures.chain c.reassign.ensures.waits c.self.invariant
+
+pub reassign-requires-clause-placed : goal.reassign-requires-clause-placed
+reassign-requires-clause-placed c = placed c.self.inside.threads c.self.inside.chain c.self.inside.waits c.self.invariant

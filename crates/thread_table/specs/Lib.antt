@@ -1,0 +1,5 @@
+pub mod Table
+pub mod Tied
+pub mod View
+pub mod Moves
+pub mod Opening

@@ -1,0 +1,94 @@
+// The chain and the waiters, together.
+ghost use Rattle.std.specs.Prelude.{◌≡◌, ◌<◌, None, Some, length, slice_set};
+ghost use Rattle.machine_rules.specs.Priorities.{assigned_of, mutex_waited};
+ghost use Rattle.machine_rules.specs.Threads.{thread_in};
+ghost use Rattle.wait_lists.specs.Places.{place_in};
+ghost use Rattle.thread_blocks.specs.Plain.{wait_of, waiting_of};
+ghost use Rattle.inherit_chain.specs.Chains.{assigned_to, exec_of, waiting_for, with_claim};
+ghost use Rattle.inherit_chain.specs.Moves.{IsPlaced, entered, left, mutex_named};
+ghost use Rattle.thread_table.specs.Moves.{ArePriced, MayAwait, begun};
+
+use inherit_chain::Chain;
+use thread_blocks::{Threads, Wait, Waiting};
+use tick_num::{ObjId, Tid};
+use wait_lists::{WaitObj, Waits};
+
+/// The chain takes the assigned priority of the thread, where it is another.
+pub(crate) fn reassign(threads: &Threads, chain: &mut Chain, waits: &mut Waits, t: Tid)
+    requires thread { t < length threads.now }
+    requires known { t < length chain.old.claims }
+    requires placed { IsPlaced chain.old waits.old }
+    ensures chain { chain.new ≡ with_claim t (assigned_to (assigned_of (thread_in threads.now t))) chain.old }
+    ensures waits { ArePriced chain.new waits.old waits.new }
+    ensures placed { IsPlaced chain.new waits.new }
+{
+    let p = threads.get(t).assigned();
+    if chain.assigned(t).get() != p.get() {
+        chain.set_base(waits, t, p);
+    }
+}
+
+/// The thread waits for nothing in an order.
+#[tactic(auto, using(crate::proofs::Places::left_placed, crate::proofs::Places::left_nowhere))]
+pub(crate) fn stop_waiting(chain: &mut Chain, waits: &mut Waits, t: Tid)
+    requires known { t < length chain.old.claims }
+    requires placed { IsPlaced chain.old waits.old }
+    ensures chain { chain.new ≡ with_claim t (waiting_for None) chain.old }
+    ensures waits { ArePriced chain.new (left t waits.old) waits.new }
+    ensures placed { IsPlaced chain.new waits.new }
+    ensures nowhere { place_in waits.new t ≡ None }
+{
+    if chain.awaits(t) {
+        chain.stop_wait(waits, t);
+    } else if waits.place_of(t).is_some() {
+        waits.leave(t);
+    }
+}
+
+/// The thread, which waits for nothing in an order, begins to wait at its execution priority.
+pub(crate) fn begin_waiting(chain: &mut Chain, waits: &mut Waits, t: Tid, w: &Waiting)
+    requires known { t < length chain.old.claims }
+    requires placed { IsPlaced chain.old waits.old }
+    requires nowhere { place_in waits.old t ≡ None }
+    requires may { MayAwait chain.old t (mutex_waited (wait_of w.now.wait)) }
+    ensures chain { chain.new ≡ with_claim t (waiting_for (mutex_waited (wait_of w.now.wait))) chain.old }
+    ensures waits { ArePriced chain.new (begun chain.old t (waiting_of w.now) waits.old) waits.new }
+{
+    match w.wait {
+        Wait::Mutex(k) => await_mutex(chain, waits, t, k, w.serial),
+        Wait::MutexAgain(k, _) => await_mutex(chain, waits, t, k, w.serial),
+        Wait::Condition(c, _) => stand_at(chain, waits, t, WaitObj::Cond(c), w.serial),
+        Wait::Semaphore(k) => stand_at(chain, waits, t, WaitObj::Sem(k), w.serial),
+        Wait::Room(q, _) => stand_at(chain, waits, t, WaitObj::Sender(q), w.serial),
+        Wait::Message(q) => stand_at(chain, waits, t, WaitObj::Receiver(q), w.serial),
+        Wait::Signal(_) => stand_at(chain, waits, t, WaitObj::SigWait, w.serial),
+        Wait::End(_) => return,
+        Wait::Time => return,
+    }
+}
+
+// It awaits a mutex.
+fn await_mutex(chain: &mut Chain, waits: &mut Waits, t: Tid, k: ObjId, serial: u64)
+    requires known { t < length chain.old.claims }
+    requires placed { IsPlaced chain.old waits.old }
+    requires nowhere { place_in waits.old t ≡ None }
+    requires may { MayAwait chain.old t (Some k) }
+    ensures chain { chain.new ≡ with_claim t (waiting_for (Some k)) chain.old }
+    ensures waits { ArePriced chain.new (entered t k serial chain.old waits.old) waits.new }
+{
+    if let Some(owner) = chain.mutex(k).owner() {
+        chain.wait_on(waits, t, k, owner, serial);
+    }
+}
+
+// It stands among the waiters of an object that is no mutex.
+fn stand_at(chain: &Chain, waits: &mut Waits, t: Tid, object: WaitObj, serial: u64)
+    requires known { t < length chain.now.claims }
+    requires placed { IsPlaced chain.now waits.old }
+    requires nowhere { place_in waits.old t ≡ None }
+    requires other { mutex_named object ≡ None }
+    ensures chain { chain.now ≡ with_claim t (waiting_for None) chain.now }
+    ensures waits { ArePriced chain.now (slice_set waits.old t (Some (record { object = object; priority = exec_of chain.now t; serial = serial }))) waits.new }
+{
+    waits.enter(object, t, chain.exec(t), serial);
+}

@@ -1,0 +1,90 @@
+// The threads and mutexes of a script, before anything has happened.
+ghost use Rattle.std.specs.Prelude.{◌≡◌, ◌≤◌, ◌<◌, ◌+◌, ◌++◌, None, IfOk, length, map, option_to_list, replicate};
+ghost use Rattle.machine_rules.specs.Declarations.{mutex_kind, mutexes_of, named, threads_of};
+ghost use Rattle.machine_rules.specs.Runs.{thread_opened};
+ghost use Rattle.machine_rules.specs.Threads.{mutex_in};
+ghost use Rattle.inherit_chain.specs.Fresh.{fresh, free_mutex};
+ghost use Rattle.thread_table.specs.Opening.{AreAssigned, NoneWaits};
+ghost use Rattle.thread_table.specs.Table as table;
+
+use crate::links::reassign;
+use crate::table::Table;
+use inherit_chain::{Chain, MutexKind};
+use script_tree::{Decl, Kind, Script};
+use std::alloc::{AllocError, Global};
+use thread_blocks::Threads;
+use tick_num::Tid;
+use wait_lists::Waits;
+
+// A mutex that is declared there is put behind the others.
+fn add_mutex(kinds: &mut Vec<MutexKind>, decl: &Decl) -> Result<(), AllocError>
+    ensures { IfOk result (λ _. map free_mutex kinds.new.items ≡ map free_mutex kinds.old.items ++ option_to_list (named mutex_kind decl.now)) }
+{
+    match decl {
+        Decl::Named(
+            _,
+            Kind::Mutex {
+                protocol,
+                recursive,
+            },
+        ) => {
+            kinds.push(MutexKind {
+                protocol: *protocol,
+                is_recursive: *recursive,
+            })?;
+            Ok(())
+        }
+        _ => Ok(()),
+    }
+}
+
+// What the mutexes of a script are.
+fn mutex_kinds(alloc: Global, script: &Script) -> Result<Vec<MutexKind>, AllocError>
+    ensures { IfOk result (λ v. map free_mutex v.items ≡ mutexes_of script.now) }
+{
+    let mut kinds = Vec::new(alloc);
+    for decl in script.decls.items() {
+        add_mutex(&mut kinds, decl)?;
+    }
+    Ok(kinds)
+}
+
+fn tid_of(number: u16) -> Tid
+    requires { number < 256 }
+    ensures { result ≡ number }
+{
+    match Tid::try_new(number) {
+        Some(t) => t,
+        None => unreachable!(),
+    }
+}
+
+// The chain takes the assigned priority of each thread.
+fn assign_all(threads: &Threads, chain: &mut Chain, waits: &mut Waits)
+    requires none { NoneWaits threads.now }
+    requires first { AreAssigned threads.now 0 chain.old.mutexes chain.old waits.old }
+    ensures { AreAssigned threads.now (length threads.now) chain.old.mutexes chain.new waits.new }
+{
+    for number in 0..threads.count() {
+        reassign(threads, chain, waits, tid_of(number));
+    }
+}
+
+impl Table {
+    /// The dormant threads and the free mutexes of a script.
+    pub fn open(alloc: Global, script: &Script) -> Result<Table, AllocError>
+        requires { length (threads_of script.now) ≤ 64 }
+        ensures { IfOk result (λ t. t ≡ record { threads = map thread_opened (threads_of script.now); mutexes = mutexes_of script.now }) }
+    {
+        let threads = Threads::open(alloc, script)?;
+        let kinds = mutex_kinds(alloc, script)?;
+        let mut chain = Chain::open(alloc, threads.count(), kinds.as_slice())?;
+        let mut waits = Waits::open(alloc, threads.count())?;
+        assign_all(&threads, &mut chain, &mut waits);
+        Ok(Table {
+            threads,
+            chain,
+            waits,
+        })
+    }
+}

@@ -1,0 +1,51 @@
+// What can be asked of the threads and mutexes.
+ghost use Rattle.std.specs.Prelude.{◌≡◌, ◌<◌, ◌≤◌, length};
+ghost use Rattle.machine_rules.specs.Threads.{mutex_in, thread_in};
+ghost use Rattle.inherit_chain.specs.Chains.{closes_cycle_in};
+ghost use Rattle.machine_rules.specs.Priorities.{claims};
+ghost use Rattle.thread_table.specs.Table.{exec};
+
+use crate::table::Table;
+use inherit_chain::MutexState;
+use thread_blocks::Thread;
+use tick_num::{ObjId, Prio, Tid};
+
+impl Table {
+    pub fn count(&self) -> u16
+        ensures value { result ≡ length self.now.threads }
+        ensures few { result ≤ 64 }
+    {
+        self.threads.count()
+    }
+
+    pub fn thread(&self, t: Tid) -> &Thread
+        requires { t < length self.now.threads }
+        ensures { result.now ≡ thread_in self.now.threads t }
+    {
+        self.threads.get(t)
+    }
+
+    pub fn mutex(&self, k: ObjId) -> &MutexState
+        requires { k < length self.now.mutexes }
+        ensures { result.now ≡ mutex_in self.now.mutexes k }
+    {
+        self.chain.mutex(k)
+    }
+
+    /// The execution priority.
+    #[tactic(auto, using(crate::proofs::Ties::exec_kept))]
+    pub fn exec(&self, t: Tid) -> Prio
+        requires { t < length self.now.threads }
+        ensures { result ≡ exec self.now t }
+    {
+        self.chain.exec(t)
+    }
+
+    /// Whether owners and their mutex waits lead from the mutex to the thread.
+    pub fn closes_cycle(&self, t: Tid, k: ObjId) -> bool
+        requires { k < length self.now.mutexes }
+        ensures { result ≡ closes_cycle_in (claims self.now.threads) self.now.mutexes t k }
+    {
+        self.chain.closes_cycle(t, k)
+    }
+}

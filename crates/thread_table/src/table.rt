@@ -1,0 +1,27 @@
+// The threads, the chain of their claims, and their places as waiters.
+ghost use Rattle.std.specs.Prelude.{◌≡◌, ◌<◌, ◌≤◌, length};
+
+use inherit_chain::Chain;
+use std::marker::Model;
+use thread_blocks::Threads;
+use wait_lists::Waits;
+
+/// The threads with their mutexes, priorities and waits.
+#[derive(Drop)]
+pub struct Table {
+    pub(crate) threads: Threads,
+    pub(crate) chain: Chain,
+    pub(crate) waits: Waits,
+}
+
+impl Model for Table {
+    ghost use Rattle.thread_table.specs.Table as table;
+
+    ghost Value = { table.Table };
+
+    ghost use Rattle.thread_table.specs.View.{IsInside, table_of};
+
+    ghost view = { table_of };
+
+    ghost invariant = { IsInside };
+}
