@@ -1,0 +1,6 @@
+pub mod Split
+pub mod Behind
+pub mod Held
+pub mod Numbers
+pub mod Spelling
+pub mod Printed

@@ -1,0 +1,24 @@
+//! A trace beside the one that is due: the first line that differs, and what a line says.
+//!
+//! [`Limited`] holds the due trace as far as it matters, [`first_difference`] finds the line, and [`read_line`] reads it.
+//! [`divide`] splits a script from the trace behind it, and [`compare`] tells of the line that differs. No other call but [`Limited::open`] takes
+//! memory.
+#![tactic(auto)]
+
+mod comparison;
+mod difference;
+mod form;
+mod limited;
+mod line;
+mod lines;
+mod words;
+
+pub use comparison::compare;
+pub use difference::first_difference;
+pub use form::Form;
+pub use limited::Limited;
+pub use line::{TraceLine, read_line};
+pub use lines::divide;
+
+#[cfg(test)]
+mod tests;
