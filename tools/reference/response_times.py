@@ -11,7 +11,7 @@ from collections.abc import Iterator
 from dataclasses import dataclass
 from enum import IntEnum
 
-from reader import has_bad_byte, is_name, is_number, lines_of, number_of, words_of
+from reader import FaultKind, has_bad_byte, is_name, is_number, lines_of, number_of, words_of
 from simulate import Status
 
 GREATEST_TEXT = 67_108_864
@@ -19,16 +19,9 @@ GREATEST_BOUND = 100_000_000
 RANGES = {"priority": (1, 255), "cost": (1, 1_000_000), "period": (1, 1_000_000_000), "blocking": (0, 1_000_000)}
 
 
-class TaskFault(IntEnum):
-    BadByte = 1
-    UnknownWord = 2
-    WordCount = 3
-    BadNumber = 4
-    NumberRange = 5
-    BadName = 6
-    DuplicateName = 7
-    SamePriority = 17
-    NoTask = 18
+# The kinds that a text of tasks has as a script has them, and two of its own.
+TaskFault = IntEnum(
+    "TaskFault", {kind.name: kind.value for kind in FaultKind if kind <= FaultKind.DuplicateName} | {"SamePriority": 17, "NoTask": 18})
 
 
 @dataclass(frozen=True)
