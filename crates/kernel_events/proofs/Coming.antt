@@ -1,5 +1,5 @@
 -- A thread that came to run has a direct move.
-use Rattle.std.proofs.Common.{◌≡◌, ℕ, zero, suc, List, [], ◌∷◌, ◌++◌, Bool, true, false, ap, arith, refl, sym, subst, ◌∙◌}
+use Rattle.std.proofs.Common.{◌≡◌, ℕ, zero, suc, List, [], ◌∷◌, ◌++◌, Bool, true, false, ap, arith, refl, sym, ◌∙◌}
 use Rattle.std.specs.Prelude.{None, Option, Some, ◌==◌, ◌&&◌, not, slice_index_or, if◌then◌else◌}
 use Rattle.thread_lists.specs.Threads.{stands_in}
 use Rattle.tick_num.specs.declared.item.Item.{Item}
@@ -12,7 +12,7 @@ use Rattle.script_tree.specs.declared.call.Call.TheVariants as call
 use Rattle.pse52_trace.specs.declared.event.Event.{Event}
 use Rattle.pse52_trace.specs.declared.event.Event.TheVariants as event
 use Rattle.machine_rules.specs.Bodies.{Bodies}
-use Rattle.machine_rules.specs.State.{Machine, Thread, Wait, Waiting}
+use Rattle.machine_rules.specs.State.{Machine, Thread, Wait, Waiting, for_mutex, for_time}
 use Rattle.machine_rules.specs.Lists.{changed_at}
 use Rattle.machine_rules.specs.Threads.{can_run, is_dormant, is_runnable, lives, no_thread, thread_at, waiting_of}
 use Rattle.machine_rules.specs.Turns.{By, Turn, answered, changes, has_passed, moves, moves_if, returns, tells, with_thread}
@@ -25,9 +25,10 @@ use Rattle.machine_rules.specs.Mutexes.{owns_boosting}
 use Rattle.machine_rules.specs.Calls.{call_effect}
 use Rattle.machine_rules.specs.DueItems.{handles, times_out, times_out_of}
 use Rattle.machine_rules.proofs.Reading.{changed-keeps, thread-other}
+use Rattle.machine_flat.specs.KnownCalls.{Objects}
 use Rattle.kernel_events.specs.Built.{IsBuilt}
 use Rattle.kernel_state.specs.Due.{IsKnown}
-use Rattle.kernel_events.specs.Handled.{OnlySleeps}
+use Rattle.kernel_events.specs.Handled.{AreBuiltWaits, IsBuiltWait}
 use Rattle.kernel_state.proofs.StoodAgain.{HaveCome}
 
 last_in : (t : ℕ) (us : List ℕ) → stands_in t (us ++ t ∷ []) ≡ true
@@ -103,19 +104,23 @@ refills_fewer t (Some server) s u r =
 
 -- ---- items
 
-times_out_come : {P : Type 0} (w : Option Waiting) (t : ℕ) (s : Turn P) → OnlySleeps w → HaveCome s.machine (times_out w t s).direct (times_out w t s).machine
-times_out_come None t s sleeps = fewer_come s.machine s.machine s.direct (λ u r. r)
-times_out_come (Some w) t s sleeps =
-    subst (λ (x : Wait). HaveCome s.machine (times_out_of x t s).direct (times_out_of x t s).machine) (sym sleeps) (wakes_come t res.Zero 0 s)
+times_out_of_come : {P : Type 0} (x : Wait) (t : ℕ) (s : Turn P) → IsBuiltWait x → HaveCome s.machine (times_out_of x t s).direct (times_out_of x t s).machine
+times_out_of_come (for_mutex k) t s built = wakes_come t res.Timedout 0 s
+times_out_of_come for_time t s built = wakes_come t res.Zero 0 s
+times_out_of_come _ t s built = absurd built
 
-pub handles_come : {P : Type 0} (bodies : Bodies P) (n : ℕ) (i : Item) (s : Turn P) → IsKnown n i → ((t : ℕ) → OnlySleeps (waiting_of s.machine t)) →
+times_out_come : {P : Type 0} (w : Option Waiting) (t : ℕ) (s : Turn P) → AreBuiltWaits w → HaveCome s.machine (times_out w t s).direct (times_out w t s).machine
+times_out_come None t s built = fewer_come s.machine s.machine s.direct (λ u r. r)
+times_out_come (Some w) t s built = times_out_of_come w.wait t s built
+
+pub handles_come : {P : Type 0} (bodies : Bodies P) (n : ℕ) (i : Item) (s : Turn P) → IsKnown n i → ((t : ℕ) → AreBuiltWaits (waiting_of s.machine t)) →
     HaveCome s.machine (handles bodies i s).direct (handles bodies i s).machine
-handles_come bodies n (item.Refill t) s known sleeps =
+handles_come bodies n (item.Refill t) s known waits =
     let o = (thread_at s.machine t).server in
     fewer_come s.machine (refills_for t o s).machine (refills_for t o s).direct (refills_fewer t o s)
-handles_come bodies n (item.Start t) s known sleeps = starts_come bodies t 0 s
-handles_come bodies n (item.Timeout t) s known sleeps = times_out_come (waiting_of s.machine t) t s (sleeps t)
-handles_come bodies n (item.Timer k) s known sleeps = absurd known
+handles_come bodies n (item.Start t) s known waits = starts_come bodies t 0 s
+handles_come bodies n (item.Timeout t) s known waits = times_out_come (waiting_of s.machine t) t s (waits t)
+handles_come bodies n (item.Timer k) s known waits = absurd known
 
 -- ---- calls
 
@@ -165,18 +170,17 @@ setsched_come b u new now a d s =
 sleeps_come : {P : Type 0} (b : By) (w : Waiting) (s : Turn P) → Comes s (changes b.thread (put_to_wait w) s)
 sleeps_come b w s = fewer_come s.machine (changes b.thread (put_to_wait w) s).machine s.direct (changes_fewer b.thread (put_to_wait w) s (λ h. absurd cc))
 
-pub calls_come : {P : Type 0} (bodies : Bodies P) (n : ℕ) (b : By) (c : Call) (s : Turn P) → IsBuilt n c → Comes s (call_effect bodies b c s)
-calls_come bodies n b call.Yield s built = fewer_come s.machine (returns b res.Zero 0 (moves b.thread s)).machine (moves b.thread s).direct (returns_fewer b res.Zero 0 s)
-calls_come bodies n b (call.Create u) s built =
+pub calls_come : {P : Type 0} (bodies : Bodies P) (o : Objects) (b : By) (c : Call) (s : Turn P) → IsBuilt o c → Comes s (call_effect bodies b c s)
+calls_come bodies o b call.Yield s built = fewer_come s.machine (returns b res.Zero 0 (moves b.thread s)).machine (moves b.thread s).direct (returns_fewer b res.Zero 0 s)
+calls_come bodies o b (call.Create u) s built =
     if_come (is_dormant (thread_at s.machine u).status) _ _ s (creates_come bodies b u (inherited_mask (thread_at s.machine b.thread)) s) (returns_come b res.Again 0 s)
-calls_come bodies n b call.Testcancel s built = returns_come b res.Zero 0 s
-calls_come bodies n b (call.Setprio u p) s built =
+calls_come bodies o b (call.Setprio u p) s built =
     if_come (lives s.machine u) _ _ s (if_come (takes_priority (thread_at s.machine u).policy p) _ _ s (setprio_come b u p s) (returns_come b res.Inval 0 s)) (returns_come b res.Srch 0 s)
-calls_come bodies n b (call.Setsched u policy) s built =
+calls_come bodies o b (call.Setsched u policy) s built =
     let r = returns b res.Zero 0 s in
     let c = changes u (with_policy policy s.machine.now) r in
     let x = activates_if (can_run s.machine u) u c in
     if_come (lives s.machine u) _ _ s (setsched_come b u policy s.machine.now (can_run s.machine u) (not (owns_boosting x.machine u)) s) (returns_come b res.Srch 0 s)
-calls_come bodies n b (call.Nanosleep k) s built = if_come (has_passed _ s.machine) _ _ s (returns_come b res.Zero 0 s) (sleeps_come b _ s)
-calls_come bodies n b call.Gettime s built = returns_come b res.Zero s.machine.now s
-calls_come bodies n b _ s built = absurd built
+calls_come bodies o b (call.Nanosleep k) s built = if_come (has_passed _ s.machine) _ _ s (returns_come b res.Zero 0 s) (sleeps_come b _ s)
+calls_come bodies o b call.Gettime s built = returns_come b res.Zero s.machine.now s
+calls_come bodies o b _ s built = absurd (let e : false ≡ true = built.built in cc)

@@ -31,8 +31,8 @@ pub(crate) fn sleep_until<K: Sink>(
     }
 }
 
-/// So many ticks later.
-pub(crate) fn after_ticks(now: Tick, n: u64) -> Tick
+/// When a sleep of so many ticks ends.
+pub(crate) fn end_of_sleep(now: Tick, n: u64) -> Tick
     requires { now + n ≤ 2 * 10 ^ 18 }
     ensures { result ≡ now + n }
 {

@@ -3,6 +3,8 @@ ghost use Rattle.std.specs.Prelude.{◌≡◌, ◌<◌, length, option_map};
 ghost use Rattle.sporadic_server.specs.Server.{ServerState};
 ghost use Rattle.machine_rules.specs.Servers.{high_server};
 ghost use Rattle.machine_rules.specs.Threads.{can_run, is_dormant, lives, thread_at, waiting_of as waiting_at};
+ghost use Rattle.machine_rules.specs.State.{Waiting};
+ghost use Rattle.thread_blocks.specs.Plain.{wait_of};
 ghost use Rattle.machine_rules.specs.Lives.{inherited_mask};
 ghost use Rattle.machine_rules.specs.Scheduling.{takes_priority};
 ghost use Rattle.machine_rules.specs.Waking.{call_in};
@@ -19,7 +21,7 @@ ghost use Rattle.thread_blocks.specs.Ends.{end_of};
 use crate::parts::Parts;
 use script_tree::Call;
 use sporadic_server::BudgetLine;
-use thread_blocks::TickEnd;
+use thread_blocks::{TickEnd, Wait};
 use tick_num::{Prio, SigSet, Tick, Tid};
 
 impl Parts {
@@ -58,6 +60,14 @@ impl Parts {
         ensures { result ≡ call_in (waiting_at self.now.machine t) }
     {
         self.threads.get(t).waiting_call()
+    }
+
+    /// What it waits for.
+    pub fn wait(&self, t: Tid) -> Option<Wait>
+        requires { t < length self.now.names }
+        ensures { option_map wait_of result ≡ option_map (λ (w : Waiting). w.wait) (waiting_at self.now.machine t) }
+    {
+        self.threads.get(t).wait()
     }
 
     /// The signals that a thread which it creates blocks.

@@ -1,5 +1,5 @@
 // One thread of the kernel.
-ghost use Rattle.std.specs.Prelude.{◌≡◌, ◌≤◌, ◌<◌, ◌^◌, ◌∷◌, [], None, option_and_then, true, false, Some};
+ghost use Rattle.std.specs.Prelude.{◌≡◌, ◌≤◌, ◌<◌, ◌^◌, ◌∷◌, [], None, option_and_then, option_map, true, false, Some};
 ghost use Rattle.script_flat.specs.declared.cursor.Cursor.{Cursor};
 ghost use Rattle.machine_rules.specs.Threads.{is_runnable, is_dormant, no_thread, catches_signal, is_live, waiting_in, top_left, is_blocked};
 ghost use Rattle.machine_rules.specs.Servers.{server_of, charged};
@@ -12,13 +12,13 @@ ghost use Rattle.machine_rules.specs.Units.{in_unit};
 ghost use Rattle.machine_flat.specs.FlatBodies.{flat_bodies};
 ghost use Rattle.machine_flat.specs.Placed.{ArePlaced};
 ghost use Rattle.thread_blocks.specs.Room.{HasRoom, ServerHasRoom};
-ghost use Rattle.thread_blocks.specs.Plain.{status_of, waiting_of};
+ghost use Rattle.thread_blocks.specs.Plain.{status_of, wait_of, waiting_of};
 ghost use Rattle.pse52_trace.specs.declared.report.Report.{Report};
 ghost use Rattle.machine_rules.specs.Machine.{budget_of, report_of};
 
 use crate::frame::Frame;
 use crate::server::{budget_of, new_server};
-use crate::status::{Joiner, Status, Waiting};
+use crate::status::{Joiner, Status, Wait, Waiting};
 use arrayvec::ArrayVec;
 use pse52_trace::Report;
 use script_flat::{Code, Unit};
@@ -163,6 +163,16 @@ impl Thread {
         match self.status {
             Status::Blocked(w) => w.call,
             _ => Call::Yield,
+        }
+    }
+
+    /// What it waits for.
+    pub fn wait(&self) -> Option<Wait>
+        ensures { option_map wait_of result ≡ option_map (λ (w : machine.Waiting). w.wait) (waiting_in self.now.status) }
+    {
+        match self.status {
+            Status::Blocked(w) => Some(w.wait),
+            _ => None,
         }
     }
 
