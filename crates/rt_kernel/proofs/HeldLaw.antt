@@ -1,6 +1,6 @@
 -- What is held of each thread stays held through a run, as long as only these calls are built.
 use Rattle.std.proofs.Common.{◌≡◌, ◌∙◌, ℕ, zero, suc, List, [], ◌∷◌, Bool, true, false, Option, None, Some, ap, arith, length, refl, subst, sym}
-use Rattle.std.specs.Prelude.{not, slice_index_or, ◌&&◌, ◌==◌, if◌then◌else◌}
+use Rattle.std.specs.Prelude.{nat_lt, not, slice_index_or, ◌&&◌, ◌==◌, if◌then◌else◌}
 use Rattle.tick_num.specs.declared.item.Item.{Item}
 use Rattle.tick_num.specs.declared.item.Item.TheVariants as item
 use Rattle.tick_num.specs.declared.res.Res.{Res}
@@ -19,10 +19,10 @@ use Rattle.sporadic_server.specs.Server.{ServerState, activate, oldest_pending, 
 use Rattle.machine_rules.specs.declared.frame.FrameKind.{FrameKind}
 use Rattle.machine_rules.specs.declared.frame.FrameKind.TheVariants as kind
 use Rattle.machine_rules.specs.declared.dispatch.LastDispatch.{LastDispatch}
-use Rattle.machine_rules.specs.State.{Frame, Joiner, Machine, Thread, Timer, Wait, Waiting, for_mutex, for_time, nobody}
+use Rattle.machine_rules.specs.State.{Frame, Joiner, Machine, Mutex, Thread, Timer, Wait, Waiting, for_mutex, for_time, nobody}
 use Rattle.machine_rules.specs.Lists.{changed_at}
-use Rattle.machine_rules.specs.Threads.{can_run, is_dormant, is_main, lives, no_thread, no_timer, thread_at, thread_in, thread_numbers, top_kind, top_left, waiting_of}
-use Rattle.machine_rules.specs.Turns.{By, Turn, answered, becomes, changes, changes_pending, frames_answered, has_passed, moves, moves_if, returns, settles_since, tells, turn_of}
+use Rattle.machine_rules.specs.Threads.{can_run, is_dormant, is_main, lives, mutex_at, no_mutex, no_thread, no_timer, number_of, thread_at, thread_in, thread_numbers, top_kind, top_left, waiting_of}
+use Rattle.machine_rules.specs.Turns.{By, Turn, answered, becomes, changes, changes_mutex, changes_pending, frames_answered, has_passed, moves, moves_if, returns, settles_since, tells, turn_of}
 use Rattle.machine_rules.specs.CallNames.{name_of}
 use Rattle.machine_rules.specs.Servers.{activates_if, activates_server, amount_of, has_high, high_server, plans, plans_for, refills_for, regains_high, with_server}
 use Rattle.machine_rules.specs.Waking.{call_in, put_to_wait, starts, wakes, woken}
@@ -30,7 +30,8 @@ use Rattle.machine_rules.specs.Waking as waking
 use Rattle.machine_rules.specs.Lives.{finishes_in, inherited_mask, wakes_joiner, without_life, without_target}
 use Rattle.machine_rules.specs.Cancellation.{is_cancellation_point, is_cancelled, request_acts}
 use Rattle.machine_rules.specs.Scheduling.{takes_priority, with_policy, with_priority}
-use Rattle.machine_rules.specs.Mutexes.{owns_boosting}
+use Rattle.machine_rules.specs.Waiters.{Waiter, best_waiter}
+use Rattle.machine_rules.specs.Mutexes.{LockAnswer, counted_down, counted_up, counts, freed, hands_over, lock_answer, locks_on, must_wait, owns, owns_boosting, refused, releases, taken_by, takes, trylock_answer, unless_late, unlocks, waits_for_mutex, wakes_owner}
 use Rattle.machine_rules.specs.Calls.{call_effect, unit_effect}
 use Rattle.machine_rules.specs.Delivery.{sweeps}
 use Rattle.machine_rules.specs.DueItems.{handles, has_come, instant, item_bound, item_done, item_then, items_done, next_item, times_out, times_out_of}
@@ -44,6 +45,7 @@ use Rattle.machine_flat.specs.EachCall.{EachMade}
 use Rattle.machine_flat.specs.FlatBodies.{flat_bodies}
 use Rattle.machine_flat.specs.KnownCalls.{Objects}
 use Rattle.machine_flat.specs.Placed.{cursor_of}
+use Rattle.machine_moves.proofs.Waiters.Best.{best_waits}
 use Rattle.thread_laws.proofs.MadeCalls.{UnitMakes, fetched_makes}
 use Rattle.kernel_state.specs.Kernel.{by}
 use Rattle.kernel_state.proofs.SweepNothing.{sweeps_none}
@@ -226,6 +228,45 @@ module _ (o : Objects) (code : flat.Bodies (List Op)) (calls : (n : ℕ) → Eac
   items_held (suc most) s h =
       then_held (next_item s.machine) (items_done (flat_bodies code) most) s (λ i e. items_held most (item_done (flat_bodies code) i s) (item_held i s (next_is_due s.machine i e) h)) h
 
+  -- ---- mutexes
+
+  mutex_held : (k : ℕ) (f : Mutex → Mutex) (s : Turn Cursor) → Holds s → Holds (changes_mutex k f s)
+  mutex_held k f s h = record {
+    each = h.each;
+    counted = h.counted;
+    counts = ap (λ (n : ℕ). record (counts_of s.machine) { mutexes = n }) (changed-length no_mutex k f s.machine.mutexes) ∙ h.counts;
+    pending = h.pending;
+  }
+
+  locks_on_held : (a : LockAnswer) (b : By) (k : ℕ) (due : Option ℕ) (s : Turn Cursor) → Holds s → Holds (locks_on a b k due s)
+  locks_on_held (refused r) b k due s h = returns_held b r 0 s h
+  locks_on_held counts b k due s h = returns_held b res.Zero 0 (changes_mutex k counted_up s) (mutex_held k counted_up s h)
+  locks_on_held takes b k due s h = returns_held b res.Zero 0 (changes_mutex k (taken_by b.thread) s) (mutex_held k (taken_by b.thread) s h)
+  locks_on_held must_wait b k due s h =
+      let w : Waiting = record { wait = for_mutex k; serial = s.machine.next_serial; due = due; call = b.call } in
+      let there = changes_held b.thread (put_to_wait w) s (held_asleep w (thread_at s.machine b.thread) tt (h.each b.thread)) h in
+      record { each = there.each; counted = there.counted; counts = there.counts; pending = there.pending }
+
+  wakes_owner_held : (x : Wait) (t : ℕ) (s : Turn Cursor) → IsBuiltWait x → Holds s → Holds (wakes_owner x t s)
+  wakes_owner_held (for_mutex k) t s built h = wakes_held t res.Zero 0 s h
+  wakes_owner_held for_time t s built h = wakes_held t res.Zero 0 s h
+  wakes_owner_held _ t s built h = absurd built
+
+  releases_held : (k : ℕ) (s : Turn Cursor) → Holds s → Holds (releases k s)
+  releases_held k s h = to_best (best_waiter s.machine (waits_for_mutex k)) refl
+    where
+      to_best : (best : Option Waiter) → best_waiter s.machine (waits_for_mutex k) ≡ best → Holds (hands_over best k s)
+      to_best None e = mutex_held k freed s h
+      to_best (Some w) e =
+          let built : AreBuiltWaits (Some w.waiting) = subst AreBuiltWaits (best_waits s.machine (waits_for_mutex k) w e).0 (h.each w.thread).waits in
+          wakes_owner_held w.waiting.wait w.thread (changes_mutex k (taken_by w.thread) s) built (mutex_held k (taken_by w.thread) s h)
+
+  unlocks_held : (b : By) (k : ℕ) (s : Turn Cursor) → Holds s → Holds (unlocks b k s)
+  unlocks_held b k s h =
+      let back = returns_held b res.Zero 0 s h in
+      if_held (not (owns s.machine b.thread k)) _ _ (returns_held b res.Perm 0 s h)
+      (if_held (nat_lt 1 (mutex_at s.machine k).count) _ _ (mutex_held k counted_down (returns b res.Zero 0 s) back) (releases_held k (returns b res.Zero 0 s) back))
+
   -- ---- calls and units
 
   moves_if_held : (b : Bool) (t : ℕ) (s : Turn Cursor) → Holds s → Holds (moves_if b t s)
@@ -252,6 +293,11 @@ module _ (o : Objects) (code : flat.Bodies (List Op)) (calls : (n : ℕ) → Eac
   calls_held b (call.Nanosleep d) s built h =
       if_held (has_passed _ s.machine) _ _ (returns_held b res.Zero 0 s h) (changes_held b.thread (put_to_wait _) s (held_asleep _ (thread_at s.machine b.thread) tt (h.each b.thread)) h)
   calls_held b call.Gettime s built h = returns_held b res.Zero s.machine.now s h
+  calls_held b (call.Lock k) s built h = locks_on_held (lock_answer s.machine b.thread k) b k None s h
+  calls_held b (call.Timedlock k at) s built h =
+      let due = Some (number_of s.machine b.thread at) in locks_on_held (unless_late due s.machine (lock_answer s.machine b.thread k)) b k due s h
+  calls_held b (call.Trylock k) s built h = locks_on_held (trylock_answer s.machine b.thread k) b k None s h
+  calls_held b (call.Unlock k) s built h = unlocks_held b k s h
   calls_held b _ s built h = absurd (let e : false ≡ true = built.built in cc)
 
   ends_held : (t : ℕ) (j : Joiner) (s : Turn Cursor) → j ≡ nobody → Holds s → Holds (wakes_joiner j t (changes_pending (without_target t) (tells (event.Exit t) (changes t without_life s))))
