@@ -1,12 +1,12 @@
 -- Flat code knows the same of bodies as the trees.
-use Rattle.std.proofs.Common.{◌≡◌, ℕ, zero, suc, ◌+◌, List, [], ◌++◌, drop, refl, ap, sym, ◌∙◌, Some, None, append-nil, arith, add-zero}
+use Rattle.std.proofs.Common.{◌≡◌, ℕ, ◌+◌, List, [], drop, refl, ap, sym, ◌∙◌, Some, None, append-nil, arith, add-zero}
 use Rattle.tick_num.specs.declared.res.Res.TheVariants as res
 use Rattle.script_tree.specs.Block.{Block, Nothing, Running, Making, Setting, Adding, Taking, Testing, Looping, Guarding}
 use Rattle.script_tree.specs.declared.decl.Script.{Script}
 use Rattle.script_flat.specs.declared.cursor.Cursor.{Cursor}
 use Rattle.script_flat.specs.declared.op.Op.{Op}
 use Rattle.script_flat.specs.declared.unit.Unit.TheVariants.{Finish}
-use Rattle.script_flat.specs.Next.{At, Due, Ended, Outcome, Place, from_place, next, or_finish, step_number}
+use Rattle.script_flat.specs.Next.{Due, Ended, Outcome, Place, from_place, or_finish, step_number}
 use Rattle.script_flat.specs.Flat as flat_code
 use Rattle.script_flat.specs.Flat.{flat, op_number}
 use Rattle.script_flat.specs.Fetch.{fetched, found_in, ops_of}

@@ -1,5 +1,5 @@
 -- The numbers of a script's bodies.
-use Rattle.std.proofs.Common.{◌≡◌, ◌<◌, ℕ, zero, suc, List, [], ◌∷◌, ◌++◌, refl, sym, ◌∙◌, ap, subst, arith, Some, length, append-nil, append_assoc}
+use Rattle.std.proofs.Common.{◌≡◌, ℕ, zero, suc, List, [], ◌∷◌, ◌++◌, refl, subst, Some, length, append-nil, append_assoc}
 use Rattle.std.specs.Prelude.{map, slice_get, slice_index_or}
 use Rattle.std.specs.List.{filter_map}
 use Rattle.script_tree.specs.Block.{Block, Nothing}
@@ -7,12 +7,11 @@ use Rattle.script_tree.specs.declared.decl.Script.{Script}
 use Rattle.script_tree.specs.declared.decl.Decl.{Decl}
 use Rattle.script_tree.specs.declared.decl.Decl.TheVariants.{Named, Action}
 use Rattle.script_tree.specs.declared.decl.Kind.TheVariants.{Thread, Handler, Cleanup, Mutex, Cond, Sem, Queue, Timer}
-use Rattle.script_flat.specs.declared.op.Op.{Op}
 use Rattle.script_flat.specs.Flat.{Bodies, flat, no_bodies, with_decl, with_decls, bodies_of}
 use Rattle.script_flat.specs.Fetch.{ops_of}
 use Rattle.machine_rules.specs.declared.frame.BodyOf.{BodyOf}
 use Rattle.machine_rules.specs.declared.frame.BodyOf.TheVariants as body_of
-use Rattle.machine_rules.specs.Declarations.{ThreadDecl, cleanup_kind, cleanups_of, declared_thread, handler_kind, handlers_of, named, threads_of}
+use Rattle.machine_rules.specs.Declarations.{ThreadDecl, cleanup_kind, declared_thread, handler_kind, named}
 use Rattle.machine_rules.specs.Machine.{block_of}
 use Rattle.machine_flat.specs.FlatBodies.{code_of, number_of}
 

@@ -1,6 +1,5 @@
 -- What the kernel asks of a script. Whatever the reader accepts has it.
 use Rattle.std.specs.Prelude.{◌≡◌, ◌≤◌, ◌<◌, ℕ, [], All, None, Some, length, replicate, true}
-use Rattle.script_tree.specs.Block.{Block}
 use Rattle.script_tree.specs.declared.call.Call.{Call}
 use Rattle.script_tree.specs.declared.call.Call.TheVariants as call
 use Rattle.script_tree.specs.declared.decl.Decl.{Decl}
