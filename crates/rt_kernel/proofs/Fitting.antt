@@ -1,6 +1,6 @@
 -- What fits goes from the states of a run to the kernel that is in them.
-use Rattle.std.proofs.Common.{◌≡◌, ◌∙◌, ◌<◌, ◌≤◌, ◌^◌, ◌+◌, ℕ, zero, suc, List, [], ◌∷◌, Bool, true, false, Option, None, Some, ap, arith, length, refl, subst, sym}
-use Rattle.std.specs.Prelude.{slice_index_or, ◌==◌, IfSome, if◌then◌else◌}
+use Rattle.std.proofs.Common.{◌≡◌, ◌∙◌, ◌<◌, ◌^◌, ◌+◌, ℕ, suc, List, [], ◌∷◌, Bool, true, false, Option, None, Some, ap, arith, length, refl, subst, sym}
+use Rattle.std.specs.Prelude.{slice_index_or, ◌==◌, IfSome}
 use Rattle.thread_lists.specs.Threads.{times}
 use Rattle.script_flat.specs.declared.cursor.Cursor.{Cursor}
 use Rattle.script_flat.specs.declared.op.Op.{Op}
@@ -10,7 +10,7 @@ use Rattle.machine_rules.specs.State.{Machine, Status, Thread, blocked, dormant,
 use Rattle.machine_rules.specs.Threads.{can_run, is_blocked, is_runnable, thread_at}
 use Rattle.machine_rules.specs.Turns.{Turn, becomes, changes, with_thread}
 use Rattle.machine_rules.specs.Dispatch.{dispatch_of, dispatches, head}
-use Rattle.machine_rules.specs.DueItems.{instant, item_bound, items_done}
+use Rattle.machine_rules.specs.DueItems.{instant, item_bound}
 use Rattle.machine_rules.specs.Ticks.{later, tick_charged}
 use Rattle.machine_rules.specs.Units.{in_unit}
 use Rattle.machine_rules.proofs.Reading.{changed-length, thread-other}

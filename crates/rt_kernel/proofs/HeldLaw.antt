@@ -21,7 +21,7 @@ use Rattle.machine_rules.specs.declared.frame.FrameKind.TheVariants as kind
 use Rattle.machine_rules.specs.declared.dispatch.LastDispatch.{LastDispatch}
 use Rattle.machine_rules.specs.State.{Frame, Joiner, Machine, Mutex, Thread, Timer, Wait, Waiting, for_mutex, for_time, nobody}
 use Rattle.machine_rules.specs.Lists.{changed_at}
-use Rattle.machine_rules.specs.Threads.{can_run, is_dormant, is_main, lives, mutex_at, no_mutex, no_thread, no_timer, number_of, thread_at, thread_in, thread_numbers, top_kind, top_left, waiting_of}
+use Rattle.machine_rules.specs.Threads.{can_run, is_dormant, is_main, lives, mutex_at, no_mutex, no_thread, no_timer, number_of, thread_at, thread_numbers, top_kind, top_left, waiting_of}
 use Rattle.machine_rules.specs.Turns.{By, Turn, answered, becomes, changes, changes_mutex, changes_pending, frames_answered, has_passed, moves, moves_if, returns, settles_since, tells, turn_of}
 use Rattle.machine_rules.specs.CallNames.{name_of}
 use Rattle.machine_rules.specs.Servers.{activates_if, activates_server, amount_of, has_high, high_server, plans, plans_for, refills_for, regains_high, with_server}
@@ -53,7 +53,7 @@ use Rattle.kernel_events.specs.Built.{IsBuilt}
 use Rattle.kernel_events.specs.Handled.{AreBuiltWaits, IsBuiltWait}
 use Rattle.rt_kernel.specs.Completes.{CanComplete, CanTick}
 use Rattle.rt_kernel.specs.Counts.{counts_of}
-use Rattle.rt_kernel.specs.Held.{AreMain, Held, IsHeld, IsHeldBy}
+use Rattle.rt_kernel.specs.Held.{AreMain, Held, IsHeld}
 
 -- ---- one member of a list
 

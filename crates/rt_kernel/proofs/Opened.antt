@@ -1,6 +1,6 @@
 -- What holds of the kernel of a script before the first tick, and from then on.
 use Rattle.std.proofs.Common.{◌≡◌, ◌∙◌, ◌<◌, ◌≤◌, ◌^◌, ℕ, rules, false, true, zero, suc, Option, None, Some, List, [], ◌∷◌, ap, arith, length, refl, sym, subst}
-use Rattle.std.specs.Prelude.{All, is_some, map, slice_index_or}
+use Rattle.std.specs.Prelude.{map, slice_index_or}
 use Rattle.std.proofs.lemmas.List.{length-map}
 use Rattle.script_tree.specs.Block.{Block}
 use Rattle.script_tree.specs.declared.decl.Script.{Script}

@@ -1,5 +1,5 @@
 -- The flat code of a script keeps the ranges of its calls.
-use Rattle.std.proofs.Common.{List, [], ◌∷◌, ◌++◌, ℕ}
+use Rattle.std.proofs.Common.{List, [], ◌∷◌, ◌++◌}
 use Rattle.std.specs.Prelude.{All}
 use Rattle.std.proofs.lemmas.List.Elements.{All-append, All-cons, All-nil}
 use Rattle.script_tree.specs.Block.{Adding, Block, Guarding, Looping, Making, Nothing, Running, Setting, Taking, Testing}

@@ -1,8 +1,7 @@
 -- Serials are left until 10^18 ticks.
-use Rattle.std.proofs.Common.{◌≡◌, ◌≤◌, ◌<◌, ◌+◌, ◌^◌, ℕ, List, [], ◌∷◌, Bool, true, false, ap, arith, length, refl}
-use Rattle.std.specs.Prelude.{filter}
+use Rattle.std.proofs.Common.{◌≡◌, ◌≤◌, List, [], ◌∷◌, Bool, true, false, ap, arith, length, refl}
 use Rattle.script_flat.specs.declared.cursor.Cursor.{Cursor}
-use Rattle.machine_rules.specs.State.{Machine, SignalRecord}
+use Rattle.machine_rules.specs.State.{Machine}
 use Rattle.machine_rules.specs.Threads.{catches_signal}
 use Rattle.machine_rules.specs.GoodState.{SerialsAreRight, count_of, from_timers_and_queues}
 use Rattle.rt_kernel.specs.Fits.{HasSerials}
