@@ -1,6 +1,6 @@
 -- What threads keep, calls on semaphores, signals, timers, queues and threads keep.
-use Rattle.std.proofs.Common.{Bool, List, None, Option, Some, ap, refl, subst, suc, sym, zero, ℕ, ◌+◌, ◌∙◌, ◌∷◌, ◌≡◌}
-use Rattle.std.specs.Prelude.{nat_lt, not, pred, ◌==◌}
+use Rattle.std.proofs.Common.{Bool, List, None, Option, Some, ap, false, inl, inr, refl, subst, suc, sym, true, zero, ℕ, ◌+◌, ◌∙◌, ◌∷◌, ◌≡◌}
+use Rattle.std.specs.Prelude.{nat_lt, not, pred, ◌==◌, if◌then◌else◌}
 use Rattle.tick_num.specs.declared.res.Res.{Res}
 use Rattle.tick_num.specs.declared.res.Res.TheVariants as res
 use Rattle.script_tree.specs.declared.call.Call.TheVariants as call
@@ -24,10 +24,10 @@ use Rattle.machine_rules.specs.Cancellation.{acts_if_blocked, cancels, is_cancel
 use Rattle.machine_rules.specs.Scheduling.{sets_policy, sets_priority, takes_priority, with_policy, with_priority}
 use Rattle.machine_rules.specs.Servers.{activates_if}
 use Rattle.machine_rules.specs.Lists.{changed_at}
-use Rattle.machine_rules.proofs.Reading.{changed-twice}
+use Rattle.machine_rules.proofs.Reading.{changed-keeps, changed-twice}
 use Rattle.thread_laws.specs.EachThread.{Closed, Given}
 use Rattle.thread_laws.proofs.Changes.{Holds, HoldsIn, changes_hold, if_holds}
-use Rattle.thread_laws.proofs.Waking.{activates_if_hold, blocks_hold, blocks_unless_late_hold, blocks_unordered_hold, contends_hold, ending_hold, moves_unless_boosted_hold, returns_hold, starts_hold, wakes_cancelled_hold, wakes_hold}
+use Rattle.thread_laws.proofs.Waking.{MayBlock, activates_if_hold, blocks_hold, blocks_unless_late_hold, blocks_unordered_hold, contends_hold, ending_hold, moves_unless_boosted_hold, returns_hold, starts_hold, wakes_cancelled_hold, wakes_hold}
 
 module _ {P : Type 0} (given : Given P) (Q : ℕ → ℕ → Thread P → Type 0) (closed : Closed given Q) where
   abbrev Holding : Turn P → Type 0
@@ -38,9 +38,13 @@ module _ {P : Type 0} (given : Given P) (Q : ℕ → ℕ → Thread P → Type 0
 
   -- ---- semaphores
 
-  pub waits_semaphore_hold : (by : By) (k : ℕ) (due : Option ℕ) (s : Turn P) → Holding s → Holding (waits_semaphore by k due s)
-  waits_semaphore_hold by k due s h =
-      if_holds given Q (nat_lt 0 (semaphore_at s.machine k)) _ _ (back by res.Zero 0 (changes_semaphore k pred s) h) (blocks_unless_late_hold given Q closed by (for_semaphore k) due s h)
+  -- a known call may wait so
+  abbrev May : By → Wait → Type 0
+  May by wait = MayBlock given Q closed by wait
+
+  pub waits_semaphore_hold : (by : By) (k : ℕ) (due : Option ℕ) (s : Turn P) → MayBlock given Q closed by (for_semaphore k) → Holding s → Holding (waits_semaphore by k due s)
+  waits_semaphore_hold by k due s may h =
+      if_holds given Q (nat_lt 0 (semaphore_at s.machine k)) _ _ (back by res.Zero 0 (changes_semaphore k pred s) h) (blocks_unless_late_hold given Q closed by (for_semaphore k) due s may h)
 
   pub tries_semaphore_hold : (by : By) (k : ℕ) (s : Turn P) → Holding s → Holding (tries_semaphore by k s)
   tries_semaphore_hold by k s h = if_holds given Q (semaphore_at s.machine k == 0) _ _ (back by res.Again 0 s h) (back by res.Zero 0 (changes_semaphore k pred s) h)
@@ -75,20 +79,20 @@ module _ {P : Type 0} (given : Given P) (Q : ℕ → ℕ → Thread P → Type 0
       let t = by.thread in
       back by res.Zero 0 (changes t f s) (changes_hold given Q t f s (λ lt q. closed.masks s.machine.now t (thread_at s.machine t) (change (thread_at s.machine t).mask) q) h)
 
-  pub waits_ticks_hold : (n : Option ℕ) (by : By) (set : ℕ) (s : Turn P) → Holding s → Holding (waits_ticks n by set s)
-  waits_ticks_hold None by set s h = blocks_hold given Q closed by (for_signal set) None s h
-  waits_ticks_hold (Some zero) by set s h = back by res.Again 0 s h
-  waits_ticks_hold (Some (suc n)) by set s h = blocks_hold given Q closed by (for_signal set) (Some (s.machine.now + suc n)) s h
+  waits_ticks_hold : (n : Option ℕ) (by : By) (set : ℕ) (s : Turn P) → May by (for_signal set) → Holding s → Holding (waits_ticks n by set s)
+  waits_ticks_hold None by set s may h = blocks_hold given Q closed by (for_signal set) None s may h
+  waits_ticks_hold (Some zero) by set s may h = back by res.Again 0 s h
+  waits_ticks_hold (Some (suc n)) by set s may h = blocks_hold given Q closed by (for_signal set) (Some (s.machine.now + suc n)) s may h
 
-  pub waits_signal_on_hold : (r : Option SignalRecord) (n : Option ℕ) (by : By) (set : ℕ) (s : Turn P) → Holding s → Holding (waits_signal_on r n by set s)
-  waits_signal_on_hold (Some r) n by set s h =
+  pub waits_signal_on_hold : (r : Option SignalRecord) (n : Option ℕ) (by : By) (set : ℕ) (s : Turn P) → MayBlock given Q closed by (for_signal set) → Holding s → Holding (waits_signal_on r n by set s)
+  waits_signal_on_hold (Some r) n by set s may h =
       let out = changes_pending (without_record r) s in back by res.Zero r.signal (delivers by.thread r out) (delivers_hold by.thread r out h)
-  waits_signal_on_hold None n by set s h = waits_ticks_hold n by set s h
+  waits_signal_on_hold None n by set s may h = waits_ticks_hold n by set s may h
 
   -- ---- sleeps and timers
 
-  pub sleeps_until_hold : (by : By) (at : ℕ) (s : Turn P) → Holding s → Holding (sleeps_until by at s)
-  sleeps_until_hold by at s h = if_holds given Q (has_passed at s.machine) _ _ (back by res.Zero 0 s h) (blocks_unordered_hold given Q closed by for_time (Some at) s h)
+  pub sleeps_until_hold : (by : By) (at : ℕ) (s : Turn P) → MayBlock given Q closed by for_time → Holding s → Holding (sleeps_until by at s)
+  sleeps_until_hold by at s may h = if_holds given Q (has_passed at s.machine) _ _ (back by res.Zero 0 s h) (blocks_unordered_hold given Q closed by for_time (Some at) s may h)
 
   pub expires_hold : (k : ℕ) (s : Turn P) → Holding s → Holding (expires k s)
   expires_hold k s h = if_holds given Q (is_pending_from k s.machine) (changes_timer k overrun_once_more s) (generates (record_of_timer k (timer_at s.machine k)) s) h (generates_hold (record_of_timer k (timer_at s.machine k)) s h)
@@ -103,37 +107,37 @@ module _ {P : Type 0} (given : Given P) (Q : ℕ → ℕ → Thread P → Type 0
   enters_hold q x told s keeps h =
       let there = changes_queue q (with_message x) s in notifies_hold (fired_by_message s.machine q) q (told there) (keeps there h)
 
-  pub blocks_unless_nonblock_hold : (by : By) (q : ℕ) (wait : Wait) (due : Option ℕ) (s : Turn P) → Holding s → Holding (blocks_unless_nonblock by q wait due s)
-  blocks_unless_nonblock_hold by q wait due s h =
-      if_holds given Q (queue_at s.machine q).is_nonblock _ _ (back by res.Again 0 s h) (blocks_unless_late_hold given Q closed by wait due s h)
+  blocks_unless_nonblock_hold : (by : By) (q : ℕ) (wait : Wait) (due : Option ℕ) (s : Turn P) → May by wait → Holding s → Holding (blocks_unless_nonblock by q wait due s)
+  blocks_unless_nonblock_hold by q wait due s may h =
+      if_holds given Q (queue_at s.machine q).is_nonblock _ _ (back by res.Again 0 s h) (blocks_unless_late_hold given Q closed by wait due s may h)
 
-  pub sends_to_hold : (w : Option Waiter) (by : By) (q : ℕ) (x : Message) (due : Option ℕ) (s : Turn P) → Holding s → Holding (sends_to w by q x due s)
-  sends_to_hold (Some w) by q x due s h = wakes_hold given Q closed w.thread res.Zero x.value (returns by res.Zero 0 s) (back by res.Zero 0 s h)
-  sends_to_hold None by q x due s h =
-      if_holds given Q (has_room (queue_at s.machine q)) _ _ (enters_hold q x (returns by res.Zero 0) s (back by res.Zero 0) h) (blocks_unless_nonblock_hold by q (for_room q x) due s h)
+  sends_to_hold : (w : Option Waiter) (by : By) (q : ℕ) (x : Message) (due : Option ℕ) (s : Turn P) → May by (for_room q x) → Holding s → Holding (sends_to w by q x due s)
+  sends_to_hold (Some w) by q x due s may h = wakes_hold given Q closed w.thread res.Zero x.value (returns by res.Zero 0 s) (back by res.Zero 0 s h)
+  sends_to_hold None by q x due s may h =
+      if_holds given Q (has_room (queue_at s.machine q)) _ _ (enters_hold q x (returns by res.Zero 0) s (back by res.Zero 0) h) (blocks_unless_nonblock_hold by q (for_room q x) due s may h)
 
-  pub sends_message_hold : (by : By) (q len : ℕ) (x : Message) (due : Option ℕ) (s : Turn P) → Holding s → Holding (sends_message by q len x due s)
-  sends_message_hold by q len x due s h =
-      if_holds given Q (nat_lt (queue_at s.machine q).longest len) _ _ (back by res.Msgsize 0 s h) (sends_to_hold (best_waiter s.machine (waits_to_receive q)) by q x due s h)
+  pub sends_message_hold : (by : By) (q len : ℕ) (x : Message) (due : Option ℕ) (s : Turn P) → MayBlock given Q closed by (for_room q x) → Holding s → Holding (sends_message by q len x due s)
+  sends_message_hold by q len x due s may h =
+      if_holds given Q (nat_lt (queue_at s.machine q).longest len) _ _ (back by res.Msgsize 0 s h) (sends_to_hold (best_waiter s.machine (waits_to_receive q)) by q x due s may h)
 
   pub takes_over_hold : (w : Option Waiter) (q : ℕ) (s : Turn P) → Holding s → Holding (takes_over w q s)
   takes_over_hold None q s h = h
   takes_over_hold (Some w) q s h = enters_hold q (message_of w.waiting.wait) (wakes w.thread res.Zero 0) s (wakes_hold given Q closed w.thread res.Zero 0) h
 
-  pub receives_on_hold : (n : Option ℕ) (by : By) (q : ℕ) (due : Option ℕ) (s : Turn P) → Holding s → Holding (receives_on n by q due s)
-  receives_on_hold (Some n) by q due s h =
+  pub receives_on_hold : (n : Option ℕ) (by : By) (q : ℕ) (due : Option ℕ) (s : Turn P) → MayBlock given Q closed by (for_message q) → Holding s → Holding (receives_on n by q due s)
+  receives_on_hold (Some n) by q due s may h =
       let out = changes_queue q (without_message n) s in
       let value = value_at (queue_at s.machine q).messages n in
       takes_over_hold (best_waiter s.machine (waits_to_send q)) q (returns by res.Zero value out) (back by res.Zero value out h)
-  receives_on_hold None by q due s h = blocks_unless_nonblock_hold by q (for_message q) due s h
+  receives_on_hold None by q due s may h = blocks_unless_nonblock_hold by q (for_message q) due s may h
 
   pub asks_notification_hold : (by : By) (q : ℕ) (r : Registration) (s : Turn P) → Holding s → Holding (asks_notification by q r s)
   asks_notification_hold by q r s h = if_holds given Q (is_notifying s.machine q) _ _ (back by res.Busy 0 s h) (back by res.Zero 0 (changes_queue q (registered (Some r)) s) h)
 
   -- ---- threads
 
-  pub joiner_hold : (t : ℕ) (j : Joiner) (s : Turn P) → Holding s → Holding (changes t (with_joiner j) s)
-  joiner_hold t j s h = changes_hold given Q t (with_joiner j) s (λ lt q. closed.joins s.machine.now t (thread_at s.machine t) j q) h
+  joiner_hold : (t : ℕ) (j : Joiner) (caller : Thread P) (s : Turn P) → given.Known caller (call.Join t) → Holding s → Holding (changes t (with_joiner j) s)
+  joiner_hold t j caller s known h = changes_hold given Q t (with_joiner j) s (λ lt q. closed.joins s.machine.now t (thread_at s.machine t) caller j known q) h
 
   pub creates_hold : (by : By) (u : ℕ) (s : Turn P) → Holding s → Holding (creates given.bodies by u s)
   creates_hold by u s h =
@@ -141,23 +145,26 @@ module _ {P : Type 0} (given : Given P) (Q : ℕ → ℕ → Thread P → Type 0
       (starts_hold given Q closed u (inherited_mask (thread_at s.machine by.thread)) (returns by res.Zero 0 s) (back by res.Zero 0 s h))
       (back by res.Again 0 s h)
 
-  pub joins_hold : (by : By) (u : ℕ) (s : Turn P) → Holding s → Holding (joins by u s)
-  joins_hold by u s h =
+  pub joins_hold : (by : By) (u : ℕ) (s : Turn P) → given.Known (thread_at s.machine by.thread) (call.Join u) → MayBlock given Q closed by (for_end u) → Holding s → Holding (joins by u s)
+  joins_hold by u s known may h =
       if_holds given Q (u == by.thread) _ _ (back by res.Deadlk 0 s h)
       (if_holds given Q (is_dormant (thread_at s.machine u).status) _ _ (back by res.Srch 0 s h)
       (if_holds given Q (not (is_nobody (thread_at s.machine u).joiner)) _ _ (back by res.Inval 0 s h)
       (if_holds given Q (lives s.machine u) _ _
-      (blocks_unordered_hold given Q closed by (for_end u) None (changes u (with_joiner (waits_to_join by.thread)) s) (joiner_hold u (waits_to_join by.thread) s h))
-      (back by res.Zero (thread_at s.machine u).exit_value (changes u (with_joiner has_joined) s) (joiner_hold u has_joined s h)))))
+      (blocks_unordered_hold given Q closed by (for_end u) None (changes u (with_joiner (waits_to_join by.thread)) s) may (joiner_hold u (waits_to_join by.thread) (thread_at s.machine by.thread) s known h))
+      (back by res.Zero (thread_at s.machine u).exit_value (changes u (with_joiner has_joined) s) (joiner_hold u has_joined (thread_at s.machine by.thread) s known h)))))
 
-  pub wakes_joiner_hold : (j : Joiner) (t : ℕ) (s : Turn P) → Holding s → Holding (wakes_joiner j t s)
-  wakes_joiner_hold nobody t s h = h
-  wakes_joiner_hold has_joined t s h = h
-  wakes_joiner_hold (waits_to_join u) t s h = wakes_hold given Q closed u res.Zero (thread_at s.machine t).exit_value (changes t (with_joiner has_joined) s) (joiner_hold t has_joined s h)
+  wakes_joiner_hold : (j : Joiner) (t : ℕ) (s : Turn P) → (thread_at s.machine t).joiner ≡ j → Holding s → Holding (wakes_joiner j t s)
+  wakes_joiner_hold nobody t s e h = h
+  wakes_joiner_hold has_joined t s e h = h
+  wakes_joiner_hold (waits_to_join u) t s e h =
+      wakes_hold given Q closed u res.Zero (thread_at s.machine t).exit_value (changes t (with_joiner has_joined) s)
+      (changes_hold given Q t (with_joiner has_joined) s (λ lt q. closed.joined s.machine.now t (thread_at s.machine t) u e q) h)
 
   pub leaves_frame : (t : ℕ) (kind : FrameKind) (s : Turn P) → top_kind (thread_at s.machine t).frames ≡ kind → Holding s → Holding (finishes_in kind t s)
   leaves_frame t frame.Main s e h =
       wakes_joiner_hold (thread_at s.machine t).joiner t (changes_pending (without_target t) (tells (event.Exit t) (changes t without_life s)))
+      (changed-keeps no_thread t t without_life (λ th. th.joiner) (λ th. refl) s.machine.threads)
       (changes_hold given Q t without_life s (λ lt q. closed.ends s.machine.now t (thread_at s.machine t) e q) h)
   leaves_frame t frame.Cleanup s e h = changes_hold given Q t without_top s (λ lt q. closed.leaves s.machine.now t (thread_at s.machine t) (rw e refl) q) h
   leaves_frame t frame.Signal s e h = changes_hold given Q t without_top s (λ lt q. closed.leaves s.machine.now t (thread_at s.machine t) (rw e refl) q) h
@@ -167,35 +174,41 @@ module _ {P : Type 0} (given : Given P) (Q : ℕ → ℕ → Thread P → Type 0
 
   -- ---- cancellation
 
-  pub is_cancelled_hold : (t : ℕ) (s : Turn P) → Holding s → Holding (is_cancelled t s)
-  is_cancelled_hold t s h = ending_hold given Q closed t cancelled_value (tells (event.Cancel t) s) h
+  pub is_cancelled_hold : (t : ℕ) (s : Turn P) → request_acts (thread_at s.machine t) ≡ true → Holding s → Holding (is_cancelled t s)
+  is_cancelled_hold t s acts h = ending_hold given Q closed t cancelled_value (tells (event.Cancel t) s) (inr (inl acts)) h
 
-  pub leaves_hold : (wait : Wait) (u : ℕ) (s : Turn P) → Holding s → Holding (leaves wait u s)
-  leaves_hold (for_mutex k) u s h = h
-  leaves_hold (for_mutex_again k how) u s h = h
-  leaves_hold (for_condition c k) u s h = contends_hold given Q closed u cond_end.Cancelled s h
-  leaves_hold (for_end t) u s h = wakes_cancelled_hold given Q closed u (changes t (with_joiner nobody) s) (joiner_hold t nobody s h)
-  leaves_hold _ u s h = wakes_cancelled_hold given Q closed u s h
+  leaves_hold : (wait : Wait) (u : ℕ) (s : Turn P) → request_acts (thread_at s.machine u) ≡ true → Holding s → Holding (leaves wait u s)
+  leaves_hold (for_mutex k) u s acts h = h
+  leaves_hold (for_mutex_again k how) u s acts h = h
+  leaves_hold (for_condition c k) u s acts h = contends_hold given Q closed u cond_end.Cancelled s (inl acts) h
+  leaves_hold (for_end t) u s acts h =
+      wakes_cancelled_hold given Q closed u (changes t (with_joiner nobody) s) (inl (changed-keeps no_thread t u (with_joiner nobody) request_acts (λ th. refl) s.machine.threads ∙ acts))
+      (changes_hold given Q t (with_joiner nobody) s (λ lt q. closed.unjoins s.machine.now t (thread_at s.machine t) q) h)
+  leaves_hold _ u s acts h = wakes_cancelled_hold given Q closed u s (inl acts) h
 
-  leaves_wait_hold : (w : Option Waiting) (u : ℕ) (s : Turn P) → Holding s → Holding (leaves_wait w u s)
-  leaves_wait_hold None u s h = h
-  leaves_wait_hold (Some w) u s h = leaves_hold w.wait u s h
+  leaves_wait_hold : (w : Option Waiting) (u : ℕ) (s : Turn P) → request_acts (thread_at s.machine u) ≡ true → Holding s → Holding (leaves_wait w u s)
+  leaves_wait_hold None u s acts h = h
+  leaves_wait_hold (Some w) u s acts h = leaves_hold w.wait u s acts h
 
-  pub acts_if_blocked_hold : (u : ℕ) (s : Turn P) → Holding s → Holding (acts_if_blocked u s)
-  acts_if_blocked_hold u s h = if_holds given Q (request_acts (thread_at s.machine u)) _ _ (leaves_wait_hold (waiting_of s.machine u) u s h) h
+  acts_if_blocked_hold : (u : ℕ) (s : Turn P) → Holding s → Holding (acts_if_blocked u s)
+  acts_if_blocked_hold u s h = by_request (request_acts (thread_at s.machine u)) refl
+    where
+      by_request : (b : Bool) → request_acts (thread_at s.machine u) ≡ b → Holding (if b then leaves_wait (waiting_of s.machine u) u s else s)
+      by_request true acts = leaves_wait_hold (waiting_of s.machine u) u s acts h
+      by_request false e = h
 
-  pub cancels_hold : (by : By) (u : ℕ) (s : Turn P) → Holding s → Holding (cancels by u s)
-  cancels_hold by u s h =
+  pub cancels_hold : (by : By) (u : ℕ) (s : Turn P) → given.Known (thread_at s.machine by.thread) (call.Cancel u) → Holding s → Holding (cancels by u s)
+  cancels_hold by u s known h =
       let r = returns by res.Zero 0 s in
       if_holds given Q (lives s.machine u) _ _
-      (acts_if_blocked_hold u (changes u requested r) (changes_hold given Q u requested r (λ lt q. closed.requests r.machine.now u (thread_at r.machine u) q) (back by res.Zero 0 s h)))
+      (acts_if_blocked_hold u (changes u requested r) (changes_hold given Q u requested r (λ lt q. closed.requests r.machine.now u (thread_at r.machine u) (thread_at s.machine by.thread) known q) (back by res.Zero 0 s h)))
       (back by res.Srch 0 s h)
 
-  pub sets_cancelability_hold : (by : By) (on : Bool) (s : Turn P) → Holding s → Holding (sets_cancelability by on s)
-  sets_cancelability_hold by on s h =
+  pub sets_cancelability_hold : (by : By) (on : Bool) (s : Turn P) → given.Known (thread_at s.machine by.thread) (call.Setcancel on) → Holding s → Holding (sets_cancelability by on s)
+  sets_cancelability_hold by on s known h =
       let t = by.thread in
       let f : Thread P → Thread P = λ th. record th { is_enabled = on } in
-      back by res.Zero 0 (changes t f s) (changes_hold given Q t f s (λ lt q. closed.enables s.machine.now t (thread_at s.machine t) on q) h)
+      back by res.Zero 0 (changes t f s) (changes_hold given Q t f s (λ lt q. closed.enables s.machine.now t (thread_at s.machine t) on known q) h)
 
   pub pushes_hold : (by : By) (u : ℕ) (s : Turn P) → given.Known (thread_at s.machine by.thread) (call.Push u) → Holding s → Holding (pushes_cleanup by u s)
   pushes_hold by u s known h =

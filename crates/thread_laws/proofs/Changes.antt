@@ -1,14 +1,14 @@
 -- One thread changes, and each keeps its law.
-use Rattle.std.proofs.Common.{Bool, List, [], arith, false, length, refl, suc, true, zero, ℕ, ◌<◌, ◌∙◌, ◌∷◌, ◌≡◌}
+use Rattle.std.proofs.Common.{Bool, List, None, Option, Some, [], arith, false, length, refl, suc, true, zero, ℕ, ◌<◌, ◌∙◌, ◌∷◌, ◌≡◌}
 use Rattle.std.specs.Prelude.{if◌then◌else◌, slice_index_or, ◌==◌}
 use Rattle.machine_rules.specs.declared.signal.SigAction.{SigAction}
 use Rattle.machine_rules.specs.declared.signal.SigAction.TheVariants as action
 use Rattle.machine_rules.specs.Lists.{changed_at}
-use Rattle.machine_rules.specs.State.{Thread}
-use Rattle.machine_rules.specs.Threads.{no_thread, thread_at}
+use Rattle.machine_rules.specs.State.{Thread, Waiting}
+use Rattle.machine_rules.specs.Threads.{no_thread, thread_at, waiting_in, waiting_of}
 use Rattle.machine_rules.specs.Turns.{Turn, changes}
 use Rattle.machine_rules.proofs.Reading.{changed-length}
-use Rattle.thread_laws.specs.EachThread.{ActionKnown, EachIn, Given}
+use Rattle.thread_laws.specs.EachThread.{ActionKnown, Closed, EachIn, Given}
 
 -- ---- one member of a list
 
@@ -68,3 +68,9 @@ module _ {P : Type 0} (given : Given P) (Q : ℕ → ℕ → Thread P → Type 0
         counted = same ∙ h.counted;
         handled = h.handled;
       }
+
+  -- what a thread waits for, it may wait for
+  pub waiting_known : Closed given Q → (t : ℕ) (w : Waiting) (s : Turn P) → waiting_of s.machine t ≡ Some w → Holds s → given.Waits w.wait
+  waiting_known closed t w s e h =
+      at_all (λ u th. (w : Waiting) → waiting_in th.status ≡ Some w → given.Waits w.wait) no_thread s.machine.threads
+      (λ j lt w e. closed.waiting s.machine.now j (thread_at s.machine j) w (h.each j lt) e) (λ j w e. absurd (cc)) t w e

@@ -113,6 +113,7 @@ module _ (script : Script) (ok : IsPlaceable script) where
     count = length (threads_of script);
     Handles = λ h. h < length (handlers_of script);
     Known = λ th c. CallStands (objects_of script) (top_kind th.frames) c;
+    Waits = λ w. Unit {0};
   }
 
   abbrev pub StandsIn : ℕ → ℕ → Thread Cursor → Type 0
@@ -188,7 +189,9 @@ module _ (script : Script) (ok : IsPlaceable script) where
   stands_closed = record {
     answers = λ now u th r value q. stands_answered r value th _ refl refl q;
     wakes = λ now u th r value q. stands_answered r value th _ refl refl q;
-    waits = λ now u th w q. same th _ refl refl q;
+    waits = λ now u th caller w known makes q. same th _ refl refl q;
+    again = λ now u th w c k how waits is q. same th _ refl refl q;
+    waiting = λ now u th w q is. tt;
     starts = λ now u th mask lt q. record {
       all = (record { placed = placed_same code _ _ (thread_begins script ok u lt) refl refl refl refl; plain = λ inner. absurd (not_main frame.Main refl inner) }, tt);
       ordered = (tt, tt);
@@ -200,14 +203,16 @@ module _ (script : Script) (ok : IsPlaceable script) where
     prices = λ now u th caller p known q. same th _ refl refl q;
     renews = λ now u th caller new known q. same th _ refl refl q;
     slices = λ now u th q. same th _ refl refl q;
-    joins = λ now u th joiner q. same th _ refl refl q;
+    joins = λ now u th caller joiner known q. same th _ refl refl q;
+    joined = λ now u th t is q. same th _ refl refl q;
+    unjoins = λ now u th q. same th _ refl refl q;
     masks = λ now u th mask q. same th _ refl refl q;
-    requests = λ now u th q. same th _ refl refl q;
-    enables = λ now u th on q. same th _ refl refl q;
+    requests = λ now u th caller known q. same th _ refl refl q;
+    enables = λ now u th on known q. same th _ refl refl q;
     pushes = λ now u th c known q. record { all = q.all; ordered = q.ordered; cleanups = (known.objects, q.cleanups) };
     pops = λ now u th runs known q. pops_stands runs th (known.guards refl) q;
     catches = λ now u th h value known free q. on_top_stands _ th _ refl refl (handler_stands h value known) (over_unsignalled th.frames free) q;
     leaves = λ now u th inner q. record { all = all_dropped th.frames q.all; ordered = order_dropped th.frames q.ordered; cleanups = q.cleanups };
-    ending = λ now u th value q. same th _ refl refl q;
+    ending = λ now u th value may q. same th _ refl refl q;
     ends = λ now u th main q. record { all = tt; ordered = tt; cleanups = q.cleanups };
   }

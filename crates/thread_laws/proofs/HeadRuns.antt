@@ -42,7 +42,9 @@ module _ {P : Type 0} (bodies : Bodies P) (count : ℕ) (T : ℕ → ℕ) where
   counts_closed = record {
     answers = λ now u th r value q. q;
     wakes = λ now u th r value q. q;
-    waits = λ now u th w q. q;
+    waits = λ now u th caller w known makes q. q;
+    again = λ now u th w c k how waits is q. q;
+    waiting = λ now u th w q is. tt;
     starts = λ now u th mask lt q. q;
     activates = λ now u th q. q;
     refills = λ now u th q. q;
@@ -50,15 +52,17 @@ module _ {P : Type 0} (bodies : Bodies P) (count : ℕ) (T : ℕ → ℕ) where
     prices = λ now u th caller p known q. q;
     renews = λ now u th caller new known q. q;
     slices = λ now u th q. q;
-    joins = λ now u th joiner q. q;
+    joins = λ now u th caller joiner known q. q;
+    joined = λ now u th t is q. q;
+    unjoins = λ now u th q. q;
     masks = λ now u th mask q. q;
-    requests = λ now u th q. q;
-    enables = λ now u th on q. q;
+    requests = λ now u th caller known q. q;
+    enables = λ now u th on known q. q;
     pushes = λ now u th c known q. q;
     pops = λ now u th runs known q. cleanup_ticks runs th.cleanups _ ∙ q;
     catches = λ now u th h value known free q. q;
     leaves = λ now u th inner q. q;
-    ending = λ now u th value q. q;
+    ending = λ now u th value may q. q;
     ends = λ now u th main q. q;
   }
 

@@ -97,7 +97,7 @@ module _ {P : Type 0} (given : Given P) (Q : ℕ → ℕ → Thread P → Type 0
   -- ---- due items
 
   times_out_of_hold : (wait : Wait) (t : ℕ) (s : Turn P) → Holding s → Holding (times_out_of wait t s)
-  times_out_of_hold (for_condition c k) t s h = contends_hold given Q closed t cond_end.Timedout s h
+  times_out_of_hold (for_condition c k) t s h = contends_hold given Q closed t cond_end.Timedout s tt h
   times_out_of_hold for_time t s h = wakes_hold given Q closed t res.Zero 0 s h
   times_out_of_hold (for_signal set) t s h = wakes_hold given Q closed t res.Again 0 s h
   times_out_of_hold _ t s h = wakes_hold given Q closed t res.Timedout 0 s h

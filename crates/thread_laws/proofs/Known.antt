@@ -10,7 +10,7 @@ use Rattle.thread_laws.specs.EachThread.{ActionKnown, Given, UnitKnown}
 
 module _ {P : Type 0} (bodies : Bodies P) (count : ℕ) where
   abbrev pub all_known : Given P
-  all_known = record { bodies = bodies; count = count; Handles = λ h. Unit {0}; Known = λ th c. Unit {0} }
+  all_known = record { bodies = bodies; count = count; Handles = λ h. Unit {0}; Known = λ th c. Unit {0}; Waits = λ w. Unit {0} }
 
   pub any_action : (a : SigAction) → ActionKnown all_known a
   any_action action.Kill = tt

@@ -80,7 +80,9 @@ module _ {P : Type 0} (bodies : Bodies P) (count : ℕ) where
   within_closed = record {
     answers = λ now u th r value q. same now th _ refl refl refl q;
     wakes = λ now u th r value q. fresh now th _ refl refl q.high q;
-    waits = λ now u th w q. same now th _ refl refl refl q;
+    waits = λ now u th caller w known makes q. same now th _ refl refl refl q;
+    again = λ now u th w c k how waits is q. same now th _ refl refl refl q;
+    waiting = λ now u th w q is. tt;
     starts = λ now u th mask lt q. fresh now th _ refl refl (high_new now th.policy now) q;
     activates = λ now u th q. counted_by now th _ refl refl (high_kept now (activate now) th.server (λ s. refl) q.high) q;
     refills = λ now u th q. counted_by now th _ refl refl (high_kept now refill th.server (λ s. refill_high s.pending s) q.high) q;
@@ -88,15 +90,17 @@ module _ {P : Type 0} (bodies : Bodies P) (count : ℕ) where
     prices = λ now u th caller p known q. counted_by now th _ refl refl (high_kept now (set_high p) th.server (λ s. refl) q.high) q;
     renews = λ now u th caller new known q. fresh now th _ refl refl (high_new now new now) q;
     slices = λ now u th q. fresh now th _ refl refl q.high q;
-    joins = λ now u th joiner q. same now th _ refl refl refl q;
+    joins = λ now u th caller joiner known q. same now th _ refl refl refl q;
+    joined = λ now u th t is q. same now th _ refl refl refl q;
+    unjoins = λ now u th q. same now th _ refl refl refl q;
     masks = λ now u th mask q. same now th _ refl refl refl q;
-    requests = λ now u th q. same now th _ refl refl refl q;
-    enables = λ now u th on q. same now th _ refl refl refl q;
+    requests = λ now u th caller known q. same now th _ refl refl refl q;
+    enables = λ now u th on known q. same now th _ refl refl refl q;
     pushes = λ now u th c known q. same now th _ refl refl refl q;
     pops = λ now u th runs known q. popped now runs th.cleanups _ (same now th _ refl refl refl q);
     catches = λ now u th h value known free q. same now th _ refl refl refl q;
     leaves = λ now u th inner q. same now th _ refl refl refl q;
-    ending = λ now u th value q. same now th _ refl refl refl q;
+    ending = λ now u th value may q. same now th _ refl refl refl q;
     ends = λ now u th main q. counted_by now th _ refl refl tt q;
   }
 

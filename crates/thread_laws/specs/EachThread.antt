@@ -1,9 +1,10 @@
 -- What holds of each single thread, and which changes of a thread a machine makes. All of it is this project's own.
-use Rattle.std.specs.Prelude.{Bool, List, Option, Some, false, length, ℕ, ◌+◌, ◌<◌, ◌∷◌, ◌≡◌}
+use Rattle.std.specs.Prelude.{Bool, List, Option, Some, false, length, true, ℕ, ◌+◌, ◌<◌, ◌∷◌, ◌≡◌, ◌⊎◌}
 use Rattle.tick_num.specs.declared.res.Res.{Res}
 use Rattle.tick_num.specs.declared.res.Res.TheVariants as res
 use Rattle.script_tree.specs.declared.call.Call.{Call}
 use Rattle.script_tree.specs.declared.call.Call.TheVariants as call
+use Rattle.script_tree.specs.declared.call.Operand.{Operand}
 use Rattle.script_tree.specs.declared.policy.Policy.{Policy}
 use Rattle.script_flat.specs.declared.unit.Unit as units
 use Rattle.script_flat.specs.declared.unit.Unit.TheVariants as unit
@@ -13,15 +14,17 @@ use Rattle.machine_rules.specs.declared.frame.BodyOf.TheVariants as body_of
 use Rattle.machine_rules.specs.declared.frame.FrameKind.TheVariants as frame
 use Rattle.machine_rules.specs.declared.signal.SigAction.{SigAction}
 use Rattle.machine_rules.specs.declared.signal.SigAction.TheVariants as action
+use Rattle.machine_rules.specs.declared.thread.CondEnd.{CondEnd}
+use Rattle.machine_rules.specs.declared.thread.CondEnd.TheVariants as cond_end
 use Rattle.machine_rules.specs.Lists.{is}
 use Rattle.machine_rules.specs.Bodies.{Bodies}
-use Rattle.machine_rules.specs.State.{Joiner, Machine, Thread, Waiting}
-use Rattle.machine_rules.specs.Threads.{catches_signal, is_main, thread_in, top_kind}
+use Rattle.machine_rules.specs.State.{Joiner, Machine, Message, Thread, Wait, Waiting, for_condition, for_end, for_message, for_mutex, for_mutex_again, for_room, for_semaphore, for_signal, for_time, has_joined, nobody, waits_to_join}
+use Rattle.machine_rules.specs.Threads.{catches_signal, is_main, thread_in, top_kind, waiting_in}
 use Rattle.machine_rules.specs.Turns.{answered}
 use Rattle.machine_rules.specs.Servers.{with_server}
 use Rattle.machine_rules.specs.Waking.{ending_with, new_frame, on_top, put_to_wait, started, woken}
 use Rattle.machine_rules.specs.Lives.{with_joiner, without_life, without_top}
-use Rattle.machine_rules.specs.Cancellation.{requested, runs_cleanup_if, without_cleanup}
+use Rattle.machine_rules.specs.Cancellation.{request_acts, requested, runs_cleanup_if, without_cleanup}
 use Rattle.machine_rules.specs.Scheduling.{with_policy, with_priority}
 use Rattle.machine_rules.specs.Units.{in_unit}
 use Rattle.machine_rules.specs.Ticks.{tick_charged, without_slice}
@@ -36,12 +39,33 @@ EachThread Q m = EachIn Q m.now m.threads
 
 -- ---- what is known of a machine
 
--- its bodies, how many threads it has, which handlers its signals may have, and which calls a thread may make
+-- its bodies, how many threads it has, which handlers its signals may have, which calls a thread may make, and what it may wait for
 pub record Given (P : Type 0) : Type 1 where
   pub bodies : Bodies P
   pub count : ℕ
   pub Handles : ℕ → Type 0
   pub Known : Thread P → Call → Type 0
+  pub Waits : Wait → Type 0
+
+-- what a call may wait for
+abbrev pub MakesWait : Call → Wait → Type 0
+MakesWait (call.Join u) w = w ≡ for_end u
+MakesWait (call.Lock k) w = w ≡ for_mutex k
+MakesWait (call.Timedlock k at) w = w ≡ for_mutex k
+MakesWait (call.Trylock k) w = w ≡ for_mutex k
+MakesWait (call.Wait c k) w = w ≡ for_condition c k
+MakesWait (call.Timedwait c k at) w = w ≡ for_condition c k
+MakesWait (call.SemWait k) w = w ≡ for_semaphore k
+MakesWait (call.SemTimedwait k at) w = w ≡ for_semaphore k
+MakesWait (call.Nanosleep n) w = w ≡ for_time
+MakesWait (call.ClockNanosleep at) w = w ≡ for_time
+MakesWait (call.Sigwaitinfo set) w = w ≡ for_signal set
+MakesWait (call.Sigtimedwait set n) w = w ≡ for_signal set
+MakesWait (call.MqSend q len p v) w = (x : Message) × (w ≡ for_room q x)
+MakesWait (call.MqTimedsend q len p v at) w = (x : Message) × (w ≡ for_room q x)
+MakesWait (call.MqReceive q) w = w ≡ for_message q
+MakesWait (call.MqTimedreceive q at) w = w ≡ for_message q
+MakesWait other w = ⊥
 
 module _ {P : Type 0} (given : Given P) where
   abbrev pub ActionKnown : SigAction → Type 0
@@ -53,13 +77,24 @@ module _ {P : Type 0} (given : Given P) where
   UnitKnown th (unit.Make c) = given.Known th c
   UnitKnown th other = Unit {0}
 
+  -- a request acts, or the condition wait that was cancelled is over
+  abbrev pub Cancels : Thread P → Type 0
+  Cancels th = (request_acts th ≡ true) ⊎ ((k : ℕ) × given.Waits (for_mutex_again k cond_end.Cancelled))
+
+  -- why a thread is ending: it called for that, or is cancelled
+  abbrev pub MayEnd : Thread P → Type 0
+  MayEnd th = ((v : Operand) × given.Known th (call.Exit v)) ⊎ Cancels th
+
 -- ---- the changes of a thread at an instant
 
 -- a law that survives each of them
 pub record Closed {P : Type 0} (given : Given P) (Q : ℕ → ℕ → Thread P → Type 0) : Type 0 where
   pub answers : (now u : ℕ) (th : Thread P) (result : Res) (value : ℕ) → Q now u th → Q now u (answered result value th)
   pub wakes : (now u : ℕ) (th : Thread P) (result : Res) (value : ℕ) → Q now u th → Q now u (woken result value th)
-  pub waits : (now u : ℕ) (th : Thread P) (w : Waiting) → Q now u th → Q now u (put_to_wait w th)
+  -- a wait is that of a known call, or that for the mutex of a condition wait, which is over
+  pub waits : (now u : ℕ) (th caller : Thread P) (w : Waiting) → given.Known caller w.call → MakesWait w.call w.wait → Q now u th → Q now u (put_to_wait w th)
+  pub again : (now u : ℕ) (th : Thread P) (w : Waiting) (c k : ℕ) (how : CondEnd) → given.Waits (for_condition c k) → w.wait ≡ for_mutex_again k how → Q now u th → Q now u (put_to_wait w th)
+  pub waiting : (now u : ℕ) (th : Thread P) (w : Waiting) → Q now u th → waiting_in th.status ≡ Some w → given.Waits w.wait
   pub starts : (now u : ℕ) (th : Thread P) (mask : ℕ) → u < given.count → Q now u th → Q now u (started given.bodies u mask now th)
   -- its server is activated, refilled, or plans a replenishment
   pub activates : (now u : ℕ) (th : Thread P) → Q now u th → Q now u (with_server (activate now) th)
@@ -69,11 +104,14 @@ pub record Closed {P : Type 0} (given : Given P) (Q : ℕ → ℕ → Thread P �
   pub prices : (now u : ℕ) (th caller : Thread P) (p : ℕ) → given.Known caller (call.Setprio u p) → Q now u th → Q now u (with_priority p th)
   pub renews : (now u : ℕ) (th caller : Thread P) (new : Policy) → given.Known caller (call.Setsched u new) → Q now u th → Q now u (with_policy new now th)
   pub slices : (now u : ℕ) (th : Thread P) → Q now u th → Q now u (without_slice th)
-  pub joins : (now u : ℕ) (th : Thread P) (joiner : Joiner) → Q now u th → Q now u (with_joiner joiner th)
+  -- another thread may have called to join it, and may have been told its end, or may have left it
+  pub joins : (now u : ℕ) (th caller : Thread P) (joiner : Joiner) → given.Known caller (call.Join u) → Q now u th → Q now u (with_joiner joiner th)
+  pub joined : (now u : ℕ) (th : Thread P) (t : ℕ) → th.joiner ≡ waits_to_join t → Q now u th → Q now u (with_joiner has_joined th)
+  pub unjoins : (now u : ℕ) (th : Thread P) → Q now u th → Q now u (with_joiner nobody th)
   -- signals and cancellation
   pub masks : (now u : ℕ) (th : Thread P) (mask : ℕ) → Q now u th → Q now u (record th { mask = mask })
-  pub requests : (now u : ℕ) (th : Thread P) → Q now u th → Q now u (requested th)
-  pub enables : (now u : ℕ) (th : Thread P) (on : Bool) → Q now u th → Q now u (record th { is_enabled = on })
+  pub requests : (now u : ℕ) (th caller : Thread P) → given.Known caller (call.Cancel u) → Q now u th → Q now u (requested th)
+  pub enables : (now u : ℕ) (th : Thread P) (on : Bool) → given.Known th (call.Setcancel on) → Q now u th → Q now u (record th { is_enabled = on })
   pub pushes : (now u : ℕ) (th : Thread P) (c : ℕ) → given.Known th (call.Push c) → Q now u th → Q now u (record th { cleanups = c ∷ th.cleanups })
   pub pops : (now u : ℕ) (th : Thread P) (runs : Bool) → given.Known th (call.Pop runs) → Q now u th →
       Q now u (runs_cleanup_if runs given.bodies th.cleanups (answered res.Zero 0 (without_cleanup th)))
@@ -81,7 +119,7 @@ pub record Closed {P : Type 0} (given : Given P) (Q : ℕ → ℕ → Thread P �
       Q now u (on_top (new_frame given.bodies frame.Signal (body_of.Handler h) (capped value)) th)
   -- a frame ends, or the thread
   pub leaves : (now u : ℕ) (th : Thread P) → is_main (top_kind th.frames) ≡ false → Q now u th → Q now u (without_top th)
-  pub ending : (now u : ℕ) (th : Thread P) (value : ℕ) → Q now u th → Q now u (ending_with value th)
+  pub ending : (now u : ℕ) (th : Thread P) (value : ℕ) → MayEnd given th → Q now u th → Q now u (ending_with value th)
   pub ends : (now u : ℕ) (th : Thread P) → top_kind th.frames ≡ frame.Main → Q now u th → Q now u (without_life th)
 
 -- From one law to another, by a tick that is given to that thread or to none: its unit makes only calls that it may make.
