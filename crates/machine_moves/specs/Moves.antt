@@ -24,7 +24,7 @@ use Rattle.machine_rules.specs.Queues.{has_room, next_message, record_of_notific
 use Rattle.machine_rules.specs.Lives.{is_nobody, with_joiner, without_life, without_target, without_top}
 use Rattle.machine_rules.specs.Cancellation.{without_cleanup}
 use Rattle.machine_rules.specs.Scheduling.{takes_priority, with_policy, with_priority}
-use Rattle.machine_rules.specs.DueItems.{has_come, refill_due}
+use Rattle.machine_rules.specs.DueItems.{has_come, refill_due, timer_due}
 use Rattle.machine_rules.specs.GoodState.{is_in_condition_wait}
 use Rattle.machine_rules.specs.Lists.{is}
 use Rattle.machine_rules.specs.WellFormed.{IsPriority, PolicyFits}
@@ -180,6 +180,8 @@ pub record MayPend {P : Type 0} (m : Machine P) (r : SignalRecord) : Type 0 wher
   pub few : is_counted r.code ≡ true → is_full m ≡ false
   pub timer : (k : ℕ) → is r.timer k ≡ true → is_pending_from k m ≡ false
   pub queue : r.queue ≡ None
+  -- a timer sends it when it is due
+  pub due : (k : ℕ) → is r.timer k ≡ true → has_come (timer_due m k) m.now ≡ true
   -- a timer's signal is for the process
   pub aimed : is_some r.target ≡ true → r.timer ≡ None
 

@@ -5,6 +5,7 @@ pub mod Halfway
 pub mod Running
 pub mod WholeTrace
 pub mod HeldLaw
+pub mod ObjectsLaw
 pub mod Ranges
 pub mod Serials
 pub mod Opened

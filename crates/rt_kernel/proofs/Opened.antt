@@ -33,9 +33,11 @@ use Rattle.thread_blocks.specs.Room.{HasRoom, ServerHasRoom}
 use Rattle.thread_blocks.specs.Unused.{IsUnused}
 use Rattle.kernel_state.specs.Kernel.{opened}
 use Rattle.kernel_events.specs.Built.{IsBuilt, objects_in}
+use Rattle.rt_kernel.specs.Counts.{counts_in}
 use Rattle.rt_kernel.specs.Fits.{Fits, StaysFit}
 use Rattle.rt_kernel.specs.Held.{Held, IsHeld}
 use Rattle.rt_kernel.proofs.HeldLaw.{can_tick, held_throughout}
+use Rattle.rt_kernel.proofs.ObjectsLaw.{objects_throughout}
 use Rattle.rt_kernel.proofs.Ranges.{flat_bodies_fit}
 use Rattle.rt_kernel.proofs.Serials.{serials_left}
 
@@ -102,8 +104,6 @@ held_opening : (script : Script) → Held (objects_of script) (opening script)
 held_opening script = record {
   each = nothing_yet (threads_of script);
   counted = length-map (threads_of script) (thread_opened {P = Cursor});
-  counts = refl;
-  pending = refl;
 }
 
 placeable : (script : Script) → IsRunnable script → IsWellFormed script → IsPlaceable script
@@ -125,21 +125,21 @@ module _ (script : Script) (ok : IsRunnable script) (fits : IsWellFormed script)
       let bodies = flat_bodies (code_of script) in
       let m = after_items bodies (opening script) n most in
       let ranges = flat_bodies_fit script fits.priorities in
-      let still : (objects_of script).timers ≡ 0 = ap length ok.timers in
-      let held : Held (objects_of script) m = held_throughout (objects_of script) (code_of script) calls_built still n most (opening script) (held_opening script) in
+      let held : Held (objects_of script) m = held_throughout (objects_of script) (code_of script) calls_built n most (opening script) ok.actions (held_opening script) in
+      let objects = (objects_throughout bodies ranges script fits).each n most in
       let rest = (rest_throughout bodies ranges script fits).each n most in
       let placed = (frames_are_placed script (placeable script ok fits)).each n most in
       let within = (threads_are_within script).over_code.each n most in
       record {
         items = record { waits = λ t. (held.each t).waits; rests = blocked_unused m rest; rests_low = low_unused m rest };
         top = λ t e. record {
-          can = can_tick (objects_of script) (code_of script) calls_built still (thread_at m t) (held.each t);
+          can = can_tick (objects_of script) (code_of script) calls_built (thread_at m t) (held.each t);
           placed = (placed.each t).placed;
           room = within.each t;
         };
-        serial = serials_left m (let few = ok.few in let c = held.counted in omega (arith, few, c)) held.pending ((serials_throughout bodies ranges script fits).each n most);
+        serial = serials_left (counts_in (objects_of script)) (ap length ok.timers) (ap length ok.queues) m (let few = ok.few in let c = held.counted in omega (arith, few, c)) objects.1 ((serials_throughout bodies ranges script fits).each n most);
         threads = held.counted;
-        counts = held.counts;
+        counts = objects.0;
       }
 
   pub script_fits : StaysFit (opened script) (objects_in (opened script))

@@ -2,11 +2,10 @@
 use Rattle.std.specs.Prelude.{◌≡◌, ℕ, Bool, List, Option, [], ◌∷◌, false, length}
 use Rattle.script_flat.specs.declared.cursor.Cursor.{Cursor}
 use Rattle.machine_rules.specs.declared.frame.FrameKind.TheVariants as frame
-use Rattle.machine_rules.specs.State.{Frame, Joiner, Machine, SignalRecord, Thread, Waiting, nobody}
-use Rattle.machine_rules.specs.Threads.{thread_in, waiting_in}
+use Rattle.machine_rules.specs.State.{Frame, Joiner, Machine, Thread, Waiting, nobody}
+use Rattle.machine_rules.specs.Threads.{thread_at, waiting_in}
 use Rattle.machine_flat.specs.KnownCalls.{Objects}
 use Rattle.kernel_events.specs.Handled.{AreBuiltWaits}
-use Rattle.rt_kernel.specs.Counts.{Counts, counts_in, counts_of}
 
 abbrev pub AreMain : List (Frame Cursor) → Type 0
 AreMain [] = Unit {0}
@@ -23,11 +22,6 @@ pub record IsHeldBy (ending requested : Bool) (joiner : Joiner) (wait : Option W
 abbrev pub IsHeld : Thread Cursor → Type 0
 IsHeld th = IsHeldBy th.is_ending th.is_requested th.joiner (waiting_in th.status) th.frames
 
-pub record HeldIn (o : Objects) (threads : List (Thread Cursor)) (sizes : Counts) (records : List SignalRecord) : Type 0 where
-  pub each : (t : ℕ) → IsHeld (thread_in threads t)
-  pub counted : length threads ≡ o.threads
-  pub counts : sizes ≡ counts_in o
-  pub pending : records ≡ []
-
-abbrev pub Held : Objects → Machine Cursor → Type 0
-Held o m = HeldIn o m.threads (counts_of m) m.pending
+pub record Held (o : Objects) (m : Machine Cursor) : Type 0 where
+  pub each : (t : ℕ) → IsHeld (thread_at m t)
+  pub counted : length m.threads ≡ o.threads

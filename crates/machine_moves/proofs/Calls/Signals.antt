@@ -13,6 +13,7 @@ use Rattle.machine_rules.specs.Threads.{action_of, thread_in, timer_at, waiting_
 use Rattle.machine_rules.specs.Waiters.{Waiter}
 use Rattle.machine_rules.specs.Turns.{By, Turn, answered, has_passed, returns, tells}
 use Rattle.machine_rules.specs.Signals.{acceptor, accepts, delivers, generates, generates_for, goes_to, has_no_room, is_full, is_ignore, selected, sends_signal, tells_overrun, waits_signal, waits_signal_on, waits_ticks, with_overrun_told}
+use Rattle.machine_rules.specs.DueItems.{has_come, timer_due}
 use Rattle.machine_rules.specs.Timers.{armed_again, expires, is_pending_from, overrun_once_more, record_of_timer, signals_expiry, sleeps_until}
 use Rattle.machine_moves.specs.Moves.{KeepsAwake, Stops, is_for_end, Runs, MayPend, record_in, record_out, sets_timer_by, tells_of}
 use Rattle.machine_moves.proofs.Waiters.Best.{WaitsSo}
@@ -80,6 +81,7 @@ module _ {P : Type 0} (bodies : Bodies P) (who : Option ℕ) (Law Done : Turn P 
     few = λ counted. full (acceptor s.machine r) (is_ignore (action_of s.machine r.signal)) (is_full s.machine) (sym (acceptor_kept s.machine by.thread (answered res.Zero 0) r (λ th. refl) (λ th. refl)) ∙ none) taken room;
     timer = λ k h. absurd (of_none k h);
     queue = sent.queue;
+    due = λ k h. absurd (of_none k h);
     aimed = λ e. sent.timer;
   }
     where
@@ -113,16 +115,17 @@ module _ {P : Type 0} (bodies : Bodies P) (who : Option ℕ) (Law Done : Turn P 
   sleeps_until_keep by at s runs q =
       branch' (has_passed at s.machine) _ _ (λ passed. reply by res.Zero 0 s q) (λ later. stops.dozes by for_time (Some at) s runs runs refl q)
 
-  timer_may : (k : ℕ) (m : Machine P) (timer : Timer) → is_pending_from k m ≡ false → MayPend m (record_of_timer k timer)
-  timer_may k m timer h = record {
+  timer_may : (k : ℕ) (m : Machine P) (timer : Timer) → has_come (timer_due m k) m.now ≡ true → is_pending_from k m ≡ false → MayPend m (record_of_timer k timer)
+  timer_may k m timer due h = record {
     few = λ counted. absurd (grind arith);
     timer = λ j e. let same : k ≡ j = grind arith in subst (λ (i : ℕ). is_pending_from i m ≡ false) same h;
     queue = refl;
+    due = λ j e. let same : k ≡ j = grind arith in subst (λ (i : ℕ). has_come (timer_due m i) m.now ≡ true) same due;
     aimed = λ e. absurd (grind arith);
   }
 
-  pub expires_keep : (k : ℕ) (s : Turn P) → Law s → Law (expires k s)
-  expires_keep k s q =
+  pub expires_keep : (k : ℕ) (s : Turn P) → has_come (timer_due s.machine k) s.machine.now ≡ true → Law s → Law (expires k s)
+  expires_keep k s due q =
       keeps (sets_timer_by k (armed_again s.machine.now)) (signals_expiry k s) tt
       (either' (is_pending_from k s.machine) _ _ (λ pending. keeps (sets_timer_by k overrun_once_more) s tt q)
-      (λ none. generates_keep (record_of_timer k (timer_at s.machine k)) s (λ e taken. timer_may k s.machine (timer_at s.machine k) none) q))
+      (λ none. generates_keep (record_of_timer k (timer_at s.machine k)) s (λ e taken. timer_may k s.machine (timer_at s.machine k) due none) q))

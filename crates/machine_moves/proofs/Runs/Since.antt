@@ -107,7 +107,7 @@ module _ {P : Type 0} (bodies : Bodies P) (fits : BodiesFit bodies) (Rest : Mach
   handles_keep before (item.Refill t) s e q = all.moves before (refills_one t) s (e, refl) q
   handles_keep before (item.Start t) s e q = all.moves before (begins t 0) s (start_dormant t s e) q
   handles_keep before (item.Timeout t) s e q = times_out_keep bodies None (Law before) (Law before) (narrowed bodies None (Law before) (all.moves before)) (asleep before) (all.joined before) (waiting_of s.machine t) t s refl e q
-  handles_keep before (item.Timer k) s e q = expires_keep bodies None (Law before) (Law before) (narrowed bodies None (Law before) (all.moves before)) (asleep before) k s q
+  handles_keep before (item.Timer k) s e q = expires_keep bodies None (Law before) (Law before) (narrowed bodies None (Law before) (all.moves before)) (asleep before) k s e q
 
   pub settles_keep : (before : Machine P) (s : Turn P) → Law before s → Rests (settles_since before s)
   settles_keep before s q = record { rest = all.settles before s q; listed = settled_run s.machine before s.direct; still = refl }

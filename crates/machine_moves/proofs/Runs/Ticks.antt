@@ -128,7 +128,7 @@ module _ {P : Type 0} (bodies : Bodies P) (Law : Turn P → Type 0) (all : Round
   handles_keep (item.Refill t) s e q = all.moves (refills_one t) s (e, refl) q
   handles_keep (item.Start t) s e q = all.moves (begins t 0) s (start_dormant t s e) q
   handles_keep (item.Timeout t) s e q = times_out_keep bodies None Law Law all.moves asleep all.joined (waiting_of s.machine t) t s refl e q
-  handles_keep (item.Timer k) s e q = expires_keep bodies None Law Law all.moves asleep k s q
+  handles_keep (item.Timer k) s e q = expires_keep bodies None Law Law all.moves asleep k s e q
 
   pub sweeps_keep : (s : Turn P) → Law s → Rests bodies Law (sweeps bodies s)
   sweeps_keep s q =
