@@ -1,11 +1,16 @@
 // Owners, mutex waits, and the execution priorities that follow from them.
 ghost use Rattle.std.specs.Prelude.{◌≡◌, ◌<◌, ◌≤◌, IfOk, IsSome, None, Some, false, is_some, length};
-ghost use Rattle.machine_rules.specs.Mutexes.{freed, taken_by};
+ghost use Rattle.std.specs.Prelude.{filter};
+ghost use Rattle.std.specs.List.{list_any};
+ghost use Rattle.machine_rules.specs.Lists.{is};
+ghost use Rattle.machine_rules.specs.Mutexes.{freed, is_boosting, taken_by};
+ghost use Rattle.machine_rules.specs.State.{Mutex};
 ghost use Rattle.wait_lists.specs.Places.{place_in};
-ghost use Rattle.inherit_chain.specs.Chains.{Links, SameExec, assigned_at, counted, assigned_to, awaited_in, closes_cycle_in, exec_of, mutex_at, waiting_for, with_claim, with_mutex};
+ghost use Rattle.inherit_chain.specs.Chains.{Links, OwnersAreThreads, SameExec, assigned_at, counted, assigned_to, awaited_in, closes_cycle_in, exec_of, mutex_at, waiting_for, with_claim, with_mutex};
 ghost use Rattle.inherit_chain.specs.Fresh.{fresh};
 ghost use Rattle.inherit_chain.specs.Moves.{Changes, IsPlaced, entered, left};
 
+use crate::boosts::owns_boosting;
 use crate::changes::{begin_wait, change_base, end_wait, recount, release, take};
 use crate::claims::{
     MutexKind, MutexState, ThreadClaim, free_mutexes, fresh_claims, leads_to, lowest,
@@ -87,6 +92,20 @@ impl Chain {
         ensures same { SameExec self.old self.new }
     {
         recount(&self.claims, &mut self.mutexes, &self.exec, k, n);
+    }
+
+    /// Whether the thread owns a mutex that can raise its priority.
+    pub fn owns_boosting(&self, t: Tid) -> bool
+        ensures { result ≡ list_any (λ (k : Mutex). is_boosting k.protocol) (filter (λ (k : Mutex). is k.owner t) self.now.mutexes) }
+    {
+        owns_boosting(&self.mutexes, t)
+    }
+
+    /// Costs nothing when it runs: each owner of a mutex is a thread.
+    pub fn owners_are_threads(&self)
+        ensures { OwnersAreThreads self.now.claims self.now.mutexes }
+    {
+        let _ = &self.mutexes;
     }
 
     /// Whether owners and their mutex waits lead from the mutex to the thread.

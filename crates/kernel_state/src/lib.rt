@@ -6,6 +6,7 @@ mod dispatch;
 mod due;
 mod leaps;
 mod lists;
+mod mutexes;
 mod open;
 mod parts;
 mod report;

@@ -18,7 +18,7 @@ use ready_lists::Ready;
 use rt_io::Sink;
 use script_flat::Code;
 use std::marker::Model;
-use thread_blocks::Threads;
+use thread_table::Table;
 use tick_num::{Tick, Tid};
 
 /// All parts of the kernel.
@@ -26,7 +26,7 @@ use tick_num::{Tick, Tid};
 pub struct Parts {
     pub(crate) code: Code,
     pub(crate) names: Names,
-    pub(crate) threads: Threads,
+    pub(crate) table: Table,
     pub(crate) ready: Ready,
     pub(crate) semaphores: Vec<u32>,
     pub(crate) quantum: u64,
@@ -76,7 +76,7 @@ impl Parts {
         ensures threads { result ≡ length self.now.machine.threads }
     {
         let _ = &self.names;
-        self.threads.count()
+        self.table.count()
     }
 
     /// The thread of a number.
