@@ -5,14 +5,14 @@ use Rattle.script_flat.specs.declared.cursor.Cursor.{Cursor}
 use Rattle.machine_rules.specs.State.{Machine, Status, Thread, Wait, Waiting, blocked, dormant, ended, for_condition, for_end, for_message, for_mutex, for_mutex_again, for_room, for_semaphore, for_signal, for_time, runnable}
 use Rattle.machine_rules.specs.Threads.{can_run, is_blocked, is_runnable, thread_at, thread_in, waiting_in, waiting_of}
 use Rattle.machine_rules.specs.Priorities.{claims, mutex_awaited_by, mutex_waited}
-use Rattle.machine_rules.specs.Mutexes.{closes_cycle, waits_for_mutex}
+use Rattle.machine_rules.specs.Mutexes.{closes_cycle}
 use Rattle.machine_rules.specs.Waiters.{Waiter, best_waiter}
 use Rattle.machine_moves.proofs.Waiters.Best.{best_waits}
-use Rattle.wait_lists.specs.declared.WaitObj.TheVariants.{Mutex}
+use Rattle.wait_lists.specs.declared.WaitObj.{WaitObj}
 use Rattle.wait_lists.specs.Ties.{is_object, object_of}
 use Rattle.inherit_chain.specs.Chains.{closes_cycle_in}
 use Rattle.inherit_chain.proofs.Machine.{closes_cycle_is}
-use Rattle.thread_table.specs.Table.{CanAwait, best_in}
+use Rattle.thread_table.specs.Table.{CanAwait}
 use Rattle.thread_table.specs.Table as table
 use Rattle.kernel_state.specs.Waits.{CanWait}
 
@@ -37,23 +37,6 @@ pub can_await : (m : Machine Cursor) (t : ℕ) (o : Option ℕ) → CanWait m t 
 can_await m t None can = tt
 can_await m t (Some k) (known, owned, free) = (known, owned, closes_cycle_is m t k ∙ free)
 
-passes_for : (k : ℕ) (w : Wait) → waits_for_mutex k w ≡ is_object (Mutex k) (object_of w)
-passes_for k (for_mutex j) = refl
-passes_for k (for_mutex_again j how) = refl
-passes_for k (for_condition c j) = refl
-passes_for k (for_end u) = refl
-passes_for k (for_semaphore j) = refl
-passes_for k for_time = refl
-passes_for k (for_room q message) = refl
-passes_for k (for_message q) = refl
-passes_for k (for_signal signals) = refl
-
--- the one that is served first of a mutex's waiters
-pub best_for_mutex : (m : Machine Cursor) (k : ℕ) (r : Option ℕ) →
-    ((passes : Wait → Bool) → ((w : Wait) → passes w ≡ is_object (Mutex k) (object_of w)) → r ≡ best_in (record { threads = m.threads; mutexes = m.mutexes }) passes) →
-    r ≡ option_map (λ (w : Waiter). w.thread) (best_waiter m (waits_for_mutex k))
-best_for_mutex m k r best = best (waits_for_mutex k) (passes_for k)
-
 waits_blocked : (status : Status) (w : Waiting) → waiting_in status ≡ Some w → is_blocked status ≡ true
 waits_blocked (dormant at) w h = absurd cc
 waits_blocked runnable w h = absurd cc
@@ -65,14 +48,23 @@ waits_known [] t w h = absurd cc
 waits_known (th ∷ ths) zero w h = omega arith
 waits_known (th ∷ ths) (suc t) w h = let lt = waits_known ths t w h in omega (arith, lt)
 
-module _ (m : Machine Cursor) (k : ℕ) (r : Option ℕ) (is : r ≡ option_map (λ (w : Waiter). w.thread) (best_waiter m (waits_for_mutex k))) where
-  -- what holds of each thread that waits holds of the best waiter
+-- ---- the one that is served first
+
+-- what is said of the thread that is served first of those that wait for an object
+abbrev pub IsBest : Machine Cursor → WaitObj → Option ℕ → Type 0
+IsBest m obj r = (passes : Wait → Bool) → ((w : Wait) → passes w ≡ is_object obj (object_of w)) → r ≡ option_map (λ (w : Waiter). w.thread) (best_waiter m passes)
+
+module _ (m : Machine Cursor) (obj : WaitObj) (r : Option ℕ) (is : IsBest m obj r) where
+  abbrev passes : Wait → Bool
+  passes w = is_object obj (object_of w)
+
+  -- what holds of each thread that waits holds of it
   each_best : (Q : ℕ → Type 0) → ((t : ℕ) (w : Waiting) → waiting_of m t ≡ Some w → Q t) → IfSome r Q
-  each_best Q all = rw is (by_best (best_waiter m (waits_for_mutex k)) refl)
+  each_best Q all = rw (is passes (λ w. refl)) (by_best (best_waiter m passes) refl)
     where
-      by_best : (o : Option Waiter) → best_waiter m (waits_for_mutex k) ≡ o → IfSome (option_map (λ (w : Waiter). w.thread) o) Q
+      by_best : (o : Option Waiter) → best_waiter m passes ≡ o → IfSome (option_map (λ (w : Waiter). w.thread) o) Q
       by_best None e = tt
-      by_best (Some w) e = all w.thread w.waiting (best_waits m (waits_for_mutex k) w e).0
+      by_best (Some w) e = all w.thread w.waiting (best_waits m passes w e).0
 
   pub best_is_blocked : IfSome r (λ t. is_blocked (thread_at m t).status ≡ true)
   best_is_blocked = each_best (λ t. is_blocked (thread_at m t).status ≡ true) (λ t w e. waits_blocked (thread_at m t).status w e)

@@ -13,12 +13,11 @@ ghost use Rattle.machine_flat.specs.Placed.{ArePlaced};
 ghost use Rattle.machine_flat.specs.FlatBodies.{flat_bodies};
 ghost use Rattle.machine_rules.specs.Turns.{answered, changes};
 ghost use Rattle.machine_rules.specs.Waking.{put_to_wait, woken};
-ghost use Rattle.machine_rules.specs.Priorities.{mutex_waited};
-ghost use Rattle.machine_rules.specs.Threads.{can_run};
+ghost use Rattle.machine_rules.specs.Priorities.{mutex_awaited_by, mutex_waited};
 ghost use Rattle.thread_blocks.specs.Plain.{wait_of, waiting_of};
 ghost use Rattle.kernel_state.specs.Waits.{CanWait};
 ghost use Rattle.kernel_state.specs.Kernel.{after};
-ghost use Rattle.std.specs.Prelude.{Some, is_some};
+ghost use Rattle.std.specs.Prelude.{None, Some, is_some};
 ghost use Rattle.sporadic_server.specs.Server.{plan, refill, replenishment};
 ghost use Rattle.machine_rules.specs.Ticks.{consumed_in};
 ghost use Rattle.thread_blocks.specs.Ends.{refilled_of};
@@ -46,10 +45,10 @@ impl Parts {
         self.table.wake(t, res, value);
     }
 
-    #[tactic(auto, using(crate::proofs::Waits::awaits_none, crate::proofs::Waits::can_await))]
-    pub fn block_thread(&mut self, t: Tid, waiting: Waiting)
+    #[tactic(auto, using(crate::proofs::Waits::can_await))]
+    pub(crate) fn block_thread(&mut self, t: Tid, waiting: Waiting)
         requires known { t < length self.old.names }
-        requires runs { can_run self.old.machine t ≡ true }
+        requires waits_not { mutex_awaited_by (thread_at self.old.machine t) ≡ None }
         requires may { CanWait self.old.machine t (mutex_waited (wait_of waiting.wait)) }
         ensures { self.new ≡ after (changes t (put_to_wait (waiting_of waiting))) self.old }
     {

@@ -10,6 +10,7 @@ mod mutexes;
 mod open;
 mod parts;
 mod report;
+mod semaphore_values;
 mod settling;
 mod threads;
 mod waking;

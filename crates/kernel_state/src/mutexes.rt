@@ -1,8 +1,10 @@
 // Owners and counts of mutexes, and who waits for them.
-ghost use Rattle.std.specs.Prelude.{◌≡◌, ◌≤◌, ◌<◌, ◌^◌, IfSome, None, Some, length, option_map, true};
+ghost use Rattle.std.specs.Prelude.{◌≡◌, ◌≤◌, ◌<◌, ◌^◌, Bool, IfSome, None, Some, length, option_map, true};
 ghost use Rattle.tick_num.specs.declared.res.Res.TheVariants as res;
 ghost use Rattle.pse52_trace.specs.Tells.{Tells};
-ghost use Rattle.machine_rules.specs.Mutexes.{closes_cycle, freed, is_above_ceiling, taken_by, waits_for_mutex};
+ghost use Rattle.machine_rules.specs.Mutexes.{closes_cycle, freed, is_above_ceiling, taken_by};
+ghost use Rattle.machine_rules.specs.State.{Wait};
+ghost use Rattle.wait_lists.specs.Ties.{is_object, object_of};
 ghost use Rattle.machine_rules.specs.Threads.{can_run, is_blocked, mutex_at, thread_at};
 ghost use Rattle.machine_rules.specs.Turns.{changes, changes_mutex, ◌▷◌};
 ghost use Rattle.machine_rules.specs.Waiters.{Waiter, best_waiter};
@@ -106,13 +108,12 @@ impl Parts {
         self.rise(&Event::Return(t, call_name(&call), Res::Zero, 0), t, out);
     }
 
-    /// The thread that is served first of those that wait for the mutex; `None` exactly where nobody does.
-    #[tactic(auto, using(crate::proofs::Waits::best_for_mutex))]
-    pub fn best_waiter(&self, k: ObjId) -> Option<Tid>
-        ensures value { result ≡ option_map (λ (w : Waiter). w.thread) (best_waiter self.now.machine (waits_for_mutex k)) }
+    /// The thread that is served first of those that wait for the object; `None` exactly where nobody does.
+    pub fn best_waiter(&self, object: WaitObj) -> Option<Tid>
+        ensures value { (passes : Wait → Bool) → ((w : Wait) → passes w ≡ is_object object (object_of w)) → result ≡ option_map (λ (w : Waiter). w.thread) (best_waiter self.now.machine passes) }
         ensures known { IfSome result (λ t. t < length self.now.names) }
         ensures blocked { IfSome result (λ t. is_blocked (thread_at self.now.machine t).status ≡ true) }
     {
-        self.table.best(WaitObj::Mutex(k))
+        self.table.best(object)
     }
 }

@@ -1,10 +1,11 @@
 // The kernel of a script.
-ghost use Rattle.std.specs.Prelude.{◌≡◌, ◌≤◌, ◌<◌, ◌+◌, ◌++◌, map, length, option_to_list, IfOk};
+ghost use Rattle.std.specs.Prelude.{◌≡◌, ◌≤◌, ◌<◌, ◌+◌, ◌++◌, All, map, length, option_to_list, IfOk};
 ghost use Rattle.machine_rules.specs.Declarations.{declared_thread, threads_of};
 ghost use Rattle.machine_rules.specs.Machine.{names_of};
 ghost use Rattle.thread_blocks.specs.Opening.{with_name};
 ghost use Rattle.kernel_state.specs.Kernel.{Kernel, opened};
 ghost use Rattle.machine_flat.specs.Runnable.{IsRunnable};
+ghost use Rattle.semaphores.specs.Values.{HasValue};
 ghost use Rattle.kernel_state.specs.Settled.{HavePriorities};
 
 use crate::parts::Parts;
@@ -13,6 +14,7 @@ use machine_rules::LastDispatch;
 use pse52_trace::Names;
 use ready_lists::Ready;
 use script_flat::Code;
+use semaphores::Semaphores;
 use script_tree::{Decl, Kind, Script};
 use std::alloc::{AllocError, Global};
 use thread_table::Table;
@@ -61,19 +63,21 @@ fn open_names(alloc: Global, script: &Script, threads: u16) -> Result<Names, All
 impl Parts {
     /// The kernel of a script, before the first tick. It takes all memory that the run needs.
     pub fn open(alloc: Global, script: &Script) -> Result<Parts, AllocError>
-        requires { IsRunnable script.now }
+        requires runnable { IsRunnable script.now }
+        requires values { All HasValue script.now.decls }
         ensures { IfOk result (λ k. k ≡ opened script.now) }
     {
         let table = Table::open(alloc, script)?;
         let names = open_names(alloc, script, table.count())?;
         let code = Code::open(alloc, script)?;
         let ready = Ready::open(alloc, table.count())?;
+        let semaphores = Semaphores::open(alloc, script)?;
         Ok(Parts {
             code,
             names,
             table,
             ready,
-            semaphores: Vec::new(alloc),
+            semaphores,
             quantum: script.quantum,
             instant: Tick::default(),
             last: LastDispatch::NoTick,

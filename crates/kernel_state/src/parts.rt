@@ -17,6 +17,7 @@ use pse52_trace::{Event, Names, Tracer};
 use ready_lists::Ready;
 use rt_io::Sink;
 use script_flat::Code;
+use semaphores::Semaphores;
 use std::marker::Model;
 use thread_table::Table;
 use tick_num::{Tick, Tid};
@@ -28,7 +29,7 @@ pub struct Parts {
     pub(crate) names: Names,
     pub(crate) table: Table,
     pub(crate) ready: Ready,
-    pub(crate) semaphores: Vec<u32>,
+    pub(crate) semaphores: Semaphores,
     pub(crate) quantum: u64,
     pub(crate) instant: Tick,
     pub(crate) last: LastDispatch,

@@ -1,8 +1,11 @@
 // What can be asked of a thread.
-ghost use Rattle.std.specs.Prelude.{◌≡◌, ◌<◌, length, option_map};
+ghost use Rattle.std.specs.Prelude.{◌≡◌, ◌≤◌, ◌<◌, ◌*◌, ◌^◌, length, option_map};
 ghost use Rattle.sporadic_server.specs.Server.{ServerState};
 ghost use Rattle.machine_rules.specs.Servers.{high_server};
-ghost use Rattle.machine_rules.specs.Threads.{can_run, is_dormant, lives, thread_at, waiting_of as waiting_at};
+ghost use Rattle.machine_rules.specs.Threads.{can_run, is_dormant, lives, number_of, thread_at, waiting_of as waiting_at};
+ghost use Rattle.machine_rules.specs.State.{Waiting};
+ghost use Rattle.machine_flat.specs.KnownCalls.{IsOperand};
+ghost use Rattle.thread_blocks.specs.Plain.{wait_of};
 ghost use Rattle.machine_rules.specs.Lives.{inherited_mask};
 ghost use Rattle.machine_rules.specs.Scheduling.{takes_priority};
 ghost use Rattle.machine_rules.specs.Waking.{call_in};
@@ -17,9 +20,9 @@ ghost use Rattle.machine_rules.specs.Ticks.{tick_end};
 ghost use Rattle.thread_blocks.specs.Ends.{end_of};
 
 use crate::parts::Parts;
-use script_tree::Call;
+use script_tree::{Call, Operand};
 use sporadic_server::BudgetLine;
-use thread_blocks::TickEnd;
+use thread_blocks::{TickEnd, Wait};
 use tick_num::{Prio, SigSet, Tick, Tid};
 
 impl Parts {
@@ -58,6 +61,36 @@ impl Parts {
         ensures { result ≡ call_in (waiting_at self.now.machine t) }
     {
         self.table.thread(t).waiting_call()
+    }
+
+    /// What it waits for.
+    pub fn wait(&self, t: Tid) -> Option<Wait>
+        requires { t < length self.now.names }
+        ensures { option_map wait_of result ≡ option_map (λ (w : Waiting). w.wait) (waiting_at self.now.machine t) }
+    {
+        self.table.thread(t).wait()
+    }
+
+    /// The number that an operand of its call stands for, at most 2·10^18.
+    pub fn number(&self, t: Tid, operand: &Operand) -> u64
+        requires known { t < length self.now.names }
+        requires fits { IsOperand operand.now }
+        ensures value { result ≡ number_of self.now.machine t operand.now }
+        ensures limit { result ≤ 2 * 10 ^ 18 }
+    {
+        self.table.thread(t).number(operand)
+    }
+
+    /// The moment that an operand of its call stands for.
+    pub fn moment(&self, t: Tid, operand: &Operand) -> Tick
+        requires known { t < length self.now.names }
+        requires fits { IsOperand operand.now }
+        ensures { result ≡ number_of self.now.machine t operand.now }
+    {
+        match Tick::try_new(self.number(t, operand)) {
+            Some(at) => at,
+            None => unreachable!(),
+        }
     }
 
     /// The signals that a thread which it creates blocks.

@@ -43,6 +43,7 @@ impl Parts {
     }
 
     /// The caller blocks; its wait takes the next serial. A mutex that it waits for is owned, and to wait for it closes no cycle.
+    #[tactic(auto, using(crate::proofs::Waits::awaits_none))]
     pub fn block(&mut self, t: Tid, call: &Call, wait: Wait, due: Option<Tick>)
         requires known { t < length self.old.names }
         requires runs { can_run self.old.machine t ≡ true }
@@ -63,6 +64,7 @@ impl Parts {
     }
 
     /// A wait with no order among its waiters.
+    #[tactic(auto, using(crate::proofs::Waits::awaits_none))]
     pub fn block_unordered(&mut self, t: Tid, call: &Call, wait: Wait, due: Option<Tick>)
         requires known { t < length self.old.names }
         requires runs { can_run self.old.machine t ≡ true }

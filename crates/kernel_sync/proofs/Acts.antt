@@ -23,7 +23,7 @@ module _ {P : Type 0} (m : Machine P) (t k : ℕ) where
 
   owned_is : (o : Option ℕ) → is_none o ≡ false → IsSome o
   owned_is None h = absurd cc
-  owned_is (Some u) h = tt
+  owned_is (Some u) h = refl
 
   pub lock_can : CanAct m t k (lock_answer m t k)
   lock_can = by_case (is_above_ceiling (thread_at m t) (mutex_at m k).protocol) (owns m t k) (is_free m k) refl (closes_cycle m k t) refl

@@ -3,12 +3,11 @@ ghost use Rattle.std.specs.Prelude.{◌≡◌, ◌≤◌, ◌<◌, ◌==◌, ◌
 ghost use Rattle.tick_num.specs.declared.res.Res.TheVariants as res;
 ghost use Rattle.pse52_trace.specs.Tells.{Tells};
 ghost use Rattle.machine_rules.specs.Mutexes.{counted_up, counted_down, locks, locks_on, recursion_limit, releases, taken_by, tries_lock, unlocks};
-ghost use Rattle.machine_rules.specs.Threads.{can_run, is_blocked, mutex_at, thread_at};
+ghost use Rattle.machine_rules.specs.Threads.{can_run, mutex_at};
 ghost use Rattle.machine_rules.specs.Turns.{changes_mutex, returns, ◌▷◌};
-ghost use Rattle.thread_blocks.specs.Unused.{IsUnused};
 ghost use Rattle.kernel_state.specs.Kernel.{after, by, told};
 ghost use Rattle.kernel_sync.specs.Answers.{CanAct, answer_of};
-ghost use Rattle.kernel_sync.specs.Waits.{OnlyPlainWaits};
+ghost use Rattle.kernel_sync.specs.Waits.{BlockedRest, OnlyPlainWaits};
 
 use crate::answer::{LockAnswer, lock_answer, trylock_answer};
 use kernel_state::Parts;
@@ -103,7 +102,7 @@ fn release<K: Sink>(p: &mut Parts, t: Tid, k: ObjId, out: &mut Tracer<'_, K>)
     requires owned { (mutex_at p.old.machine k).owner ≡ Some t }
     requires room { length p.old.direct < 256 }
     requires waits { OnlyPlainWaits p.old.machine }
-    requires rests { (u : ℕ) → is_blocked (thread_at p.old.machine u).status ≡ true → IsUnused (thread_at p.old.machine u).server }
+    requires rests { BlockedRest p.old.machine }
     requires early { p.old.machine.now ≤ 10 ^ 18 }
     ensures state { p.new ≡ after (releases k) p.old }
     ensures told { Tells K.text K.faults p.old.names out.old out.new (told (releases k) p.old) }
@@ -135,7 +134,7 @@ fn give_up<K: Sink>(p: &mut Parts, t: Tid, call: &Call, k: ObjId, out: &mut Trac
     requires owned { (mutex_at p.old.machine k).owner ≡ Some t }
     requires room { length p.old.direct < 256 }
     requires waits { OnlyPlainWaits p.old.machine }
-    requires rests { (u : ℕ) → is_blocked (thread_at p.old.machine u).status ≡ true → IsUnused (thread_at p.old.machine u).server }
+    requires rests { BlockedRest p.old.machine }
     requires early { p.old.machine.now ≤ 10 ^ 18 }
     ensures state { p.new ≡ after (λ s. s ▷ returns (by t call.now) res.Zero 0 ▷ releases k) p.old }
     ensures told { Tells K.text K.faults p.old.names out.old out.new (told (λ s. s ▷ returns (by t call.now) res.Zero 0 ▷ releases k) p.old) }
@@ -151,7 +150,7 @@ pub fn unlock<K: Sink>(p: &mut Parts, t: Tid, call: &Call, k: ObjId, out: &mut T
     requires mutex { k < length p.old.machine.mutexes }
     requires room { length p.old.direct < 256 }
     requires waits { OnlyPlainWaits p.old.machine }
-    requires rests { (u : ℕ) → is_blocked (thread_at p.old.machine u).status ≡ true → IsUnused (thread_at p.old.machine u).server }
+    requires rests { BlockedRest p.old.machine }
     requires early { p.old.machine.now ≤ 10 ^ 18 }
     ensures state { p.new ≡ after (unlocks (by t call.now) k) p.old }
     ensures told { Tells K.text K.faults p.old.names out.old out.new (told (unlocks (by t call.now) k) p.old) }
