@@ -1,16 +1,21 @@
--- The calls whose effects are built, with what each asks of its operands.
-use Rattle.std.specs.Prelude.{◌<◌, ◌+◌, ◌^◌, ℕ}
+-- The calls whose effects are built, over the objects of a kernel.
+use Rattle.std.specs.Prelude.{length}
 use Rattle.script_tree.specs.declared.call.Call.{Call}
-use Rattle.script_tree.specs.declared.call.Call.TheVariants as call
-use Rattle.machine_flat.specs.Runnable.{HasBudget}
+use Rattle.machine_flat.specs.KnownCalls.{Objects}
+use Rattle.machine_flat.specs.Runnable.{CallIsRunnable}
+use Rattle.kernel_state.specs.Kernel.{Kernel}
 
--- a call is built, and its threads are known
-abbrev pub IsBuilt : ℕ → Call → Type 0
-IsBuilt threads call.Yield = Unit {0}
-IsBuilt threads (call.Create u) = u < threads
-IsBuilt threads (call.Setprio u p) = u < threads
-IsBuilt threads (call.Setsched u new) = (u < threads) × HasBudget new
-IsBuilt threads (call.Nanosleep n) = n < 10 ^ 18 + 1
-IsBuilt threads call.Gettime = Unit {0}
-IsBuilt threads call.Testcancel = Unit {0}
-IsBuilt threads other = ⊥
+-- how many objects of each kind a kernel has
+abbrev pub objects_in : Kernel → Objects
+objects_in k = record {
+  threads = length k.names;
+  cleanups = length k.code.cleanups;
+  mutexes = length k.machine.mutexes;
+  semaphores = length k.machine.semaphores;
+  queues = length k.machine.queues;
+  timers = length k.machine.timers;
+}
+
+-- a call is built, and names what there is
+abbrev pub IsBuilt : Objects → Call → Type 0
+IsBuilt o c = CallIsRunnable o c

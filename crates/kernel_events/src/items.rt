@@ -8,14 +8,15 @@ ghost use Rattle.machine_rules.specs.DueItems.{handles, item_done, times_out};
 ghost use Rattle.machine_flat.specs.FlatBodies.{flat_bodies};
 ghost use Rattle.thread_blocks.specs.Unused.{IsUnused};
 ghost use Rattle.kernel_state.specs.Due.{IsKnown};
-ghost use Rattle.kernel_events.specs.Handled.{CanHandle, OnlySleeps};
+ghost use Rattle.kernel_sync.specs.Waits.{AreBuiltWaits};
+ghost use Rattle.kernel_events.specs.Handled.{CanHandle};
 ghost use Rattle.kernel_state.specs.Kernel.{Kernel, after, refilled_telling, told};
 ghost use Rattle.kernel_state.specs.Stood.{StoodRight};
 
 use kernel_state::Parts;
 use pse52_trace::{Event, Tracer};
 use rt_io::Sink;
-use thread_blocks::Refilled;
+use thread_blocks::{Refilled, Wait};
 use tick_num::{Item, Res, SigSet, Tid};
 
 // It is told, and the thread is activated where it got its high priority back and can run.
@@ -48,18 +49,22 @@ fn refill<K: Sink>(p: &mut Parts, t: Tid, out: &mut Tracer<'_, K>)
     tell_refill(p, t, &r, runs, out);
 }
 
-// A sleep ends.
+// A wait ends at its time: a sleep is over, and what was waited for is given up.
 fn time_out<K: Sink>(p: &mut Parts, t: Tid, out: &mut Tracer<'_, K>)
     requires known { t < length p.old.names }
-    requires sleeps { OnlySleeps (waiting_of p.old.machine t) }
+    requires waits { AreBuiltWaits (waiting_of p.old.machine t) }
     requires rests { is_blocked (thread_at p.old.machine t).status ≡ true → IsUnused (thread_at p.old.machine t).server }
     requires quiet { p.old.direct ≡ [] }
     requires early { p.old.machine.now ≤ 10 ^ 18 }
     ensures state { p.new ≡ after (λ s. times_out (waiting_of s.machine t) t s) p.old }
     ensures told { Tells K.text K.faults p.old.names out.old out.new (told (λ s. times_out (waiting_of s.machine t) t s) p.old) }
 {
-    if p.is_blocked(t) {
-        p.wake(t, Res::Zero, 0, out);
+    match p.wait(t) {
+        None => return,
+        Some(Wait::Time) => p.wake(t, Res::Zero, 0, out),
+        Some(Wait::Mutex(_)) => p.wake(t, Res::Timedout, 0, out),
+        Some(Wait::Semaphore(_)) => p.wake(t, Res::Timedout, 0, out),
+        Some(_) => unreachable!(),
     }
 }
 

@@ -1,11 +1,10 @@
 // The kernel of a script.
-ghost use Rattle.std.specs.Prelude.{◌≡◌, ◌≤◌, ◌<◌, ◌+◌, ◌++◌, All, map, length, option_to_list, IfOk};
+ghost use Rattle.std.specs.Prelude.{◌≡◌, ◌≤◌, ◌<◌, ◌+◌, ◌++◌, map, length, option_to_list, IfOk};
 ghost use Rattle.machine_rules.specs.Declarations.{declared_thread, threads_of};
 ghost use Rattle.machine_rules.specs.Machine.{names_of};
 ghost use Rattle.thread_blocks.specs.Opening.{with_name};
 ghost use Rattle.kernel_state.specs.Kernel.{Kernel, opened};
 ghost use Rattle.machine_flat.specs.Runnable.{IsRunnable};
-ghost use Rattle.semaphores.specs.Values.{HasValue};
 ghost use Rattle.kernel_state.specs.Settled.{HavePriorities};
 
 use crate::parts::Parts;
@@ -63,8 +62,7 @@ fn open_names(alloc: Global, script: &Script, threads: u16) -> Result<Names, All
 impl Parts {
     /// The kernel of a script, before the first tick. It takes all memory that the run needs.
     pub fn open(alloc: Global, script: &Script) -> Result<Parts, AllocError>
-        requires runnable { IsRunnable script.now }
-        requires values { All HasValue script.now.decls }
+        requires { IsRunnable script.now }
         ensures { IfOk result (λ k. k ≡ opened script.now) }
     {
         let table = Table::open(alloc, script)?;

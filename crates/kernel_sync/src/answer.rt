@@ -1,11 +1,12 @@
 // How a lock comes out.
 ghost use Rattle.std.specs.Prelude.{◌≡◌, ◌<◌, length};
-ghost use Rattle.machine_rules.specs.Mutexes.{lock_answer, locked_again, trylock_answer};
+ghost use Rattle.machine_rules.specs.Mutexes.{lock_answer, locked_again, trylock_answer, unless_late};
+ghost use Rattle.machine_rules.specs.Turns.{is_late};
 ghost use Rattle.kernel_sync.specs.Answers.{answer_of};
 
 use inherit_chain::MutexState;
 use kernel_state::Parts;
-use tick_num::{ObjId, Res, Tid};
+use tick_num::{ObjId, Res, Tick, Tid};
 
 /// How a lock comes out.
 #[derive(Clone, Copy)]
@@ -69,5 +70,31 @@ pub(crate) fn trylock_answer(p: &Parts, t: Tid, k: ObjId) -> LockAnswer
         LockAnswer::Takes
     } else {
         LockAnswer::Refused(Res::Busy)
+    }
+}
+
+// Whether an absolute time is there, and is not in the future.
+pub(crate) fn is_late(p: &Parts, due: &Option<Tick>) -> bool
+    ensures { result ≡ is_late due.now p.now.machine }
+{
+    match due {
+        None => false,
+        Some(at) => *at <= p.instant(),
+    }
+}
+
+/// Only a lock that must wait looks at its time.
+pub(crate) fn unless_late(p: &Parts, due: &Option<Tick>, answer: LockAnswer) -> LockAnswer
+    ensures { answer_of result ≡ unless_late due.now p.now.machine (answer_of answer) }
+{
+    match answer {
+        LockAnswer::MustWait => {
+            if is_late(p, due) {
+                LockAnswer::Refused(Res::Timedout)
+            } else {
+                LockAnswer::MustWait
+            }
+        }
+        _ => answer,
     }
 }

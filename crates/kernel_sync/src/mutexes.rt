@@ -7,15 +7,16 @@ ghost use Rattle.machine_rules.specs.Threads.{can_run, mutex_at};
 ghost use Rattle.machine_rules.specs.Turns.{changes_mutex, returns, ◌▷◌};
 ghost use Rattle.kernel_state.specs.Kernel.{after, by, told};
 ghost use Rattle.kernel_sync.specs.Answers.{CanAct, answer_of};
-ghost use Rattle.kernel_sync.specs.Waits.{BlockedRest, OnlyPlainWaits};
+ghost use Rattle.kernel_sync.specs.Waits.{BlockedRest, OnlyBuiltWaits};
 
-use crate::answer::{LockAnswer, lock_answer, trylock_answer};
+use crate::answer::{LockAnswer, lock_answer, trylock_answer, unless_late};
 use kernel_state::Parts;
 use pse52_trace::Tracer;
 use rt_io::Sink;
 use script_tree::Call;
 use thread_blocks::Wait;
-use tick_num::{ObjId, Res, Tid};
+use tick_num::{ObjId, Res, Tick, Tid};
+use wait_lists::WaitObj;
 
 // The caller's mutex is counted once more.
 fn count_up<K: Sink>(p: &mut Parts, t: Tid, call: &Call, k: ObjId, out: &mut Tracer<'_, K>)
@@ -49,6 +50,7 @@ fn act<K: Sink>(
     t: Tid,
     call: &Call,
     k: ObjId,
+    due: Option<Tick>,
     answer: LockAnswer,
     out: &mut Tracer<'_, K>,
 )
@@ -57,29 +59,36 @@ fn act<K: Sink>(
     requires mutex { k < length p.old.machine.mutexes }
     requires can { CanAct p.old.machine t k (answer_of answer) }
     requires serial { p.old.machine.next_serial < 2 ^ 63 }
-    ensures state { p.new ≡ after (locks_on (answer_of answer) (by t call.now) k None) p.old }
-    ensures told { Tells K.text K.faults p.old.names out.old out.new (told (locks_on (answer_of answer) (by t call.now) k None) p.old) }
+    ensures state { p.new ≡ after (locks_on (answer_of answer) (by t call.now) k due) p.old }
+    ensures told { Tells K.text K.faults p.old.names out.old out.new (told (locks_on (answer_of answer) (by t call.now) k due) p.old) }
 {
     match answer {
         LockAnswer::Refused(refusal) => p.returns(t, call, refusal, 0, out),
         LockAnswer::Counts => count_up(p, t, call, k, out),
         LockAnswer::Takes => take(p, t, call, k, out),
-        LockAnswer::MustWait => p.block(t, call, Wait::Mutex(k), None),
+        LockAnswer::MustWait => p.block(t, call, Wait::Mutex(k), due),
     }
 }
 
-/// `pthread_mutex_lock`.
-#[tactic(auto, using(crate::proofs::Acts::lock_can))]
-pub fn lock<K: Sink>(p: &mut Parts, t: Tid, call: &Call, k: ObjId, out: &mut Tracer<'_, K>)
+/// `pthread_mutex_lock`, and with a time `pthread_mutex_timedlock`.
+#[tactic(auto, using(crate::proofs::Acts::lock_acts))]
+pub fn lock<K: Sink>(
+    p: &mut Parts,
+    t: Tid,
+    call: &Call,
+    k: ObjId,
+    due: Option<Tick>,
+    out: &mut Tracer<'_, K>,
+)
     requires known { t < length p.old.names }
     requires runs { can_run p.old.machine t ≡ true }
     requires mutex { k < length p.old.machine.mutexes }
     requires serial { p.old.machine.next_serial < 2 ^ 63 }
-    ensures state { p.new ≡ after (locks (by t call.now) k None) p.old }
-    ensures told { Tells K.text K.faults p.old.names out.old out.new (told (locks (by t call.now) k None) p.old) }
+    ensures state { p.new ≡ after (locks (by t call.now) k due) p.old }
+    ensures told { Tells K.text K.faults p.old.names out.old out.new (told (locks (by t call.now) k due) p.old) }
 {
-    let answer = lock_answer(p, t, k);
-    act(p, t, call, k, answer, out);
+    let answer = unless_late(p, &due, lock_answer(p, t, k));
+    act(p, t, call, k, due, answer, out);
 }
 
 /// `pthread_mutex_trylock`. It never waits.
@@ -93,7 +102,7 @@ pub fn try_lock<K: Sink>(p: &mut Parts, t: Tid, call: &Call, k: ObjId, out: &mut
     ensures told { Tells K.text K.faults p.old.names out.old out.new (told (tries_lock (by t call.now) k) p.old) }
 {
     let answer = trylock_answer(p, t, k);
-    act(p, t, call, k, answer, out);
+    act(p, t, call, k, None, answer, out);
 }
 
 // The owner's mutex goes to its best waiter, or is free.
@@ -101,13 +110,13 @@ fn release<K: Sink>(p: &mut Parts, t: Tid, k: ObjId, out: &mut Tracer<'_, K>)
     requires mutex { k < length p.old.machine.mutexes }
     requires owned { (mutex_at p.old.machine k).owner ≡ Some t }
     requires room { length p.old.direct < 256 }
-    requires waits { OnlyPlainWaits p.old.machine }
+    requires waits { OnlyBuiltWaits p.old.machine }
     requires rests { BlockedRest p.old.machine }
     requires early { p.old.machine.now ≤ 10 ^ 18 }
     ensures state { p.new ≡ after (releases k) p.old }
     ensures told { Tells K.text K.faults p.old.names out.old out.new (told (releases k) p.old) }
 {
-    match p.best_waiter(k) {
+    match p.best_waiter(WaitObj::Mutex(k)) {
         None => p.release_mutex(k, t),
         Some(w) => p.wake_owner(k, t, w, out),
     }
@@ -133,7 +142,7 @@ fn give_up<K: Sink>(p: &mut Parts, t: Tid, call: &Call, k: ObjId, out: &mut Trac
     requires mutex { k < length p.old.machine.mutexes }
     requires owned { (mutex_at p.old.machine k).owner ≡ Some t }
     requires room { length p.old.direct < 256 }
-    requires waits { OnlyPlainWaits p.old.machine }
+    requires waits { OnlyBuiltWaits p.old.machine }
     requires rests { BlockedRest p.old.machine }
     requires early { p.old.machine.now ≤ 10 ^ 18 }
     ensures state { p.new ≡ after (λ s. s ▷ returns (by t call.now) res.Zero 0 ▷ releases k) p.old }
@@ -149,7 +158,7 @@ pub fn unlock<K: Sink>(p: &mut Parts, t: Tid, call: &Call, k: ObjId, out: &mut T
     requires runs { can_run p.old.machine t ≡ true }
     requires mutex { k < length p.old.machine.mutexes }
     requires room { length p.old.direct < 256 }
-    requires waits { OnlyPlainWaits p.old.machine }
+    requires waits { OnlyBuiltWaits p.old.machine }
     requires rests { BlockedRest p.old.machine }
     requires early { p.old.machine.now ≤ 10 ^ 18 }
     ensures state { p.new ≡ after (unlocks (by t call.now) k) p.old }

@@ -8,6 +8,7 @@ ghost use Rattle.pse52_trace.specs.Prints.{Prints};
 ghost use Rattle.script_table.specs.Table.{patterns};
 ghost use Rattle.script_table.specs.Read.{read};
 ghost use Rattle.machine_rules.specs.Machine.{trace};
+ghost use Rattle.machine_rules.specs.WellFormed.{IsWellFormed};
 ghost use Rattle.machine_flat.specs.Runnable.{IsRunnable};
 ghost use Rattle.rt_kernel.specs.Ran.{run_text};
 ghost use Rattle.script_tree.specs.declared.decl.Script.{Script};
@@ -57,6 +58,7 @@ fn print_trace<K: Sink, L: Ledger>(
     steps: &mut Steps<L>,
 ) -> Result<(), AllocError>
     requires runnable { IsRunnable script.now }
+    requires well_formed { IsWellFormed script.now }
     requires limit { horizon ≤ 10 ^ 18 }
     requires unfailed { out.old.failed ≡ false }
     ensures printed { OnOk result (Prints K.text K.faults out.old out.new (trace script.now horizon)) }
@@ -76,6 +78,7 @@ fn run_script<K: Sink, L: Ledger>(
     steps: &mut Steps<L>,
 ) -> Status
     requires runnable { IsRunnable script.now }
+    requires well_formed { IsWellFormed script.now }
     requires limit { horizon ≤ 10 ^ 18 }
     ensures told { Told result (record { status = Status.Done; text = trace script.now horizon })
         (K.text sink.old) (K.text sink.new) }

@@ -19,6 +19,7 @@ use Rattle.machine_rules.specs.Mutexes.{owns_boosting}
 use Rattle.machine_rules.specs.Calls.{call_effect, unit_effect}
 use Rattle.machine_rules.specs.Ticks.{TickEnd, completes_at, ends_tick, exhausting, nothing, planning, slicing, tick_charged, without_slice}
 use Rattle.machine_rules.specs.Units.{in_unit, in_unit_if, in_unit_of, top_in_unit}
+use Rattle.machine_flat.specs.KnownCalls.{Objects}
 use Rattle.rt_kernel.specs.Completes.{CanComplete}
 use Rattle.kernel_events.proofs.Coming.{Comes, Fewer, calls_come, changes_fewer, fewer_come, moves_if_machine}
 use Rattle.kernel_state.specs.Kernel.{by}
@@ -34,18 +35,18 @@ and_false : (b : Bool) → (b && false) ≡ false
 and_false true = refl
 and_false false = refl
 
-unit_come : (bodies : Bodies Cursor) (n t : ℕ) (u : unit_type.Unit) (s : Turn Cursor) → CanComplete n (thread_at s.machine t) u → Comes s (unit_effect bodies t u s)
-unit_come bodies n t (unit.Run k) s can = fewer_come s.machine s.machine s.direct (λ u r. r)
-unit_come bodies n t unit.Jump s can = fewer_come s.machine s.machine s.direct (λ u r. r)
-unit_come bodies n t unit.Finish s (alone, main) =
+unit_come : (bodies : Bodies Cursor) (o : Objects) (t : ℕ) (u : unit_type.Unit) (s : Turn Cursor) → CanComplete o (thread_at s.machine t) u → Comes s (unit_effect bodies t u s)
+unit_come bodies o t (unit.Run k) s can = fewer_come s.machine s.machine s.direct (λ u r. r)
+unit_come bodies o t unit.Jump s can = fewer_come s.machine s.machine s.direct (λ u r. r)
+unit_come bodies o t unit.Finish s (alone, main) =
     subst (λ (k : FrameKind). Comes s (finishes_in k t s)) (sym main) (ends_come t (thread_at s.machine t).joiner s alone)
-unit_come bodies n t (unit.Make c) s (free, built) =
+unit_come bodies o t (unit.Make c) s (free, built) =
     let no : (is_cancellation_point c && request_acts (thread_at s.machine t)) ≡ false = ap (λ (b : Bool). is_cancellation_point c && b) free ∙ and_false (is_cancellation_point c) in
-    subst (λ (b : Bool). Comes s (if b then is_cancelled t s else call_effect bodies (by t c) c s)) (sym no) (calls_come bodies n (by t c) c s built)
+    subst (λ (b : Bool). Comes s (if b then is_cancelled t s else call_effect bodies (by t c) c s)) (sym no) (calls_come bodies o (by t c) c s built)
 
-pub completes_come : (bodies : Bodies Cursor) (n left t : ℕ) (u : unit_type.Unit) (s : Turn Cursor) → CanComplete n (thread_at s.machine t) u → Comes s (completes_at bodies left t u s)
-completes_come bodies n zero t u s can = unit_come bodies n t u s can
-completes_come bodies n (suc left) t u s can = fewer_come s.machine s.machine s.direct (λ u r. r)
+pub completes_come : (bodies : Bodies Cursor) (o : Objects) (left t : ℕ) (u : unit_type.Unit) (s : Turn Cursor) → CanComplete o (thread_at s.machine t) u → Comes s (completes_at bodies left t u s)
+completes_come bodies o zero t u s can = unit_come bodies o t u s can
+completes_come bodies o (suc left) t u s can = fewer_come s.machine s.machine s.direct (λ u r. r)
 
 -- ---- the charge
 

@@ -9,7 +9,10 @@ use Rattle.machine_rules.specs.Turns.{Turn}
 use Rattle.machine_rules.specs.DueItems.{instant, item_done, items_done, next_item}
 use Rattle.machine_rules.proofs.BehindTicks.{item_done_behind}
 use Rattle.machine_flat.specs.FlatBodies.{flat_bodies}
+use Rattle.machine_flat.specs.KnownCalls.{Objects}
+use Rattle.kernel_events.specs.Built.{objects_in}
 use Rattle.rt_kernel.specs.Fits.{Fits, ItemsFit}
+use Rattle.rt_kernel.proofs.Fitting.{objects_same}
 use Rattle.kernel_state.specs.Kernel.{Kernel, after, told, turn}
 use Rattle.kernel_state.specs.Stood.{StoodRight}
 use Rattle.rt_kernel.proofs.ItemsLaw.{instant_is, items_more}
@@ -28,8 +31,12 @@ module _ {K : Type 0} (text : K → Option (List ℕ)) (faults : K → ℕ) wher
   pub none_done : (start : Kernel) (a : Tracer K) → StoodRight start.machine → start.direct ≡ [] → Halfway text faults start start a a
   none_done start a stood quiet = record { done = 0; state = refl; told = tells_nothing text faults start.names a; stood = stood; quiet = quiet; time = refl }
 
-  pub fits_now : (start k : Kernel) (a b : Tracer K) → Halfway text faults start k a b → {n : ℕ} → ItemsFit start n → Fits n k.code k.machine
-  fits_now start k a b half {n} fit = subst (λ (x : Kernel). Fits n x.code x.machine) (sym half.state) (fit.each half.done)
+  pub fits_now : (start k : Kernel) (a b : Tracer K) → Halfway text faults start k a b → ItemsFit start (objects_in start) → Fits (objects_in k) k.code k.machine
+  fits_now start k a b half fit =
+      let m = (items_done (flat_bodies start.code) half.done (turn start)).machine in
+      let here : Fits (objects_in start) start.code m = fit.each half.done in
+      let there : Fits (objects_in (record start { machine = m })) start.code m = subst (λ (o : Objects). Fits o start.code m) (sym (objects_same start m here.counts)) here in
+      subst (λ (x : Kernel). Fits (objects_in x) x.code x.machine) (sym half.state) there
 
   -- one more
   pub one_done : (start k l : Kernel) (a b c : Tracer K) (i : Item) → Halfway text faults start k a b → next_item k.machine ≡ Some i →

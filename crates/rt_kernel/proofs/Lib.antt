@@ -1,10 +1,11 @@
 pub mod ComingUnits
+pub mod Fitting
 pub mod ItemsLaw
 pub mod Halfway
 pub mod Running
 pub mod WholeTrace
 pub mod HeldLaw
-pub mod RestLaw
-pub mod MadeCalls
+pub mod Ranges
+pub mod Serials
 pub mod Opened
 pub mod Charged

@@ -1,36 +1,43 @@
--- What holds of the kernel of a script before the first tick.
-use Rattle.std.proofs.Common.{◌≡◌, ◌<◌, ◌≤◌, ◌^◌, ℕ, rules, true, zero, suc, Option, None, List, [], ◌∷◌, arith, length, refl, sym, subst, ◌∙◌, Some}
-use Rattle.std.specs.Prelude.{All, map, slice_get, slice_index_or}
+-- What holds of the kernel of a script before the first tick, and from then on.
+use Rattle.std.proofs.Common.{◌≡◌, ◌∙◌, ◌<◌, ◌≤◌, ◌^◌, ℕ, rules, false, true, zero, suc, Option, None, Some, List, [], ◌∷◌, ap, arith, length, refl, sym, subst}
+use Rattle.std.specs.Prelude.{All, is_some, map, slice_index_or}
 use Rattle.std.proofs.lemmas.List.{length-map}
-use Rattle.script_tree.specs.Block.{Block, Nothing}
+use Rattle.script_tree.specs.Block.{Block}
 use Rattle.script_tree.specs.declared.decl.Script.{Script}
 use Rattle.script_flat.specs.Flat as flat
 use Rattle.script_flat.specs.declared.cursor.Cursor.{Cursor}
-use Rattle.machine_rules.specs.State.{Thread}
-use Rattle.machine_rules.specs.Declarations.{ThreadDecl, threads_of}
-use Rattle.machine_rules.specs.Threads.{no_thread}
+use Rattle.sporadic_server.specs.Server.{ServerState, is_high}
+use Rattle.machine_rules.specs.State.{Machine, Status, Thread, blocked, dormant, ended, runnable}
+use Rattle.machine_rules.specs.Declarations.{ThreadDecl, cleanups_of, threads_of}
+use Rattle.machine_rules.specs.Servers.{has_high}
+use Rattle.machine_rules.specs.Threads.{is_blocked, is_runnable, no_thread, thread_at}
+use Rattle.machine_rules.specs.Throughout.{after_items}
 use Rattle.machine_rules.specs.Machine.{names_of}
 use Rattle.machine_rules.specs.Runs.{opening, thread_opened}
-use Rattle.machine_flat.proofs.Numbered.{Numbered, known, thread_blocks}
-use Rattle.machine_flat.specs.FlatBodies.{code_of}
-use Rattle.script_flat.specs.declared.op.Op.{Op}
+use Rattle.machine_rules.specs.WellFormed.{IsWellFormed}
+use Rattle.machine_flat.proofs.Numbered.{Numbered, cleanup_blocks, known}
+use Rattle.machine_flat.specs.EachCall.{EachMade}
+use Rattle.machine_flat.specs.FlatBodies.{code_of, flat_bodies}
+use Rattle.machine_flat.specs.KnownCalls.{KnowsObjects, Objects, objects_of}
+use Rattle.machine_flat.specs.Runnable.{CallIsRunnable, IsRunnable}
 use Rattle.script_flat.specs.Fetch.{ops_of}
-use Rattle.script_flat.specs.Next.{body_start}
-use Rattle.script_flat.proofs.Opens.{is_body_of_script}
-use Rattle.sporadic_server.specs.Server.{ServerState, is_high}
-use Rattle.machine_rules.specs.declared.frame.BodyOf.TheVariants as body_of
-use Rattle.machine_flat.specs.FlatBodies.{number_of}
+use Rattle.machine_laws.specs.Rest.{ServersRest}
+use Rattle.machine_laws.proofs.Good.{serials_throughout}
+use Rattle.machine_laws.proofs.Servers.Rest.{rest_throughout}
+use Rattle.thread_laws.specs.Placeable.{IsPlaceable}
+use Rattle.thread_laws.specs.Within.{HighWithin, IsWithin}
+use Rattle.thread_laws.proofs.FramesTaken.{frames_are_placed}
+use Rattle.thread_laws.proofs.MadeCalls.{all_made, all_weaker}
+use Rattle.thread_laws.proofs.Within.{threads_are_within}
 use Rattle.thread_blocks.specs.Room.{HasRoom, ServerHasRoom}
-use Rattle.rt_kernel.specs.Fits.{HighWithin, IsWithin, StaysFit}
-use Rattle.rt_kernel.specs.Held.{AreBuilt, Held, IsCode, IsHeld}
+use Rattle.thread_blocks.specs.Unused.{IsUnused}
 use Rattle.kernel_state.specs.Kernel.{opened}
-use Rattle.rt_kernel.proofs.MadeCalls.{calls_built}
-use Rattle.rt_kernel.proofs.HeldLaw.{stays_fit}
-use Rattle.rt_kernel.proofs.RestLaw.{all_idle, stays_rested}
-use Rattle.machine_flat.specs.Runnable.{HasBudget, IsRunnable}
-use Rattle.kernel_state.proofs.Opened.{code_threads}
-
--- ---- what is held of each thread is held at the beginning
+use Rattle.kernel_events.specs.Built.{IsBuilt, objects_in}
+use Rattle.rt_kernel.specs.Fits.{Fits, StaysFit}
+use Rattle.rt_kernel.specs.Held.{Held, IsHeld}
+use Rattle.rt_kernel.proofs.HeldLaw.{can_tick, held_throughout}
+use Rattle.rt_kernel.proofs.Ranges.{flat_bodies_fit}
+use Rattle.rt_kernel.proofs.Serials.{serials_left}
 
 pub room_within : (now : ℕ) (th : Thread Cursor) → now < 10 ^ 18 → IsWithin now th → HasRoom 1 th
 room_within now th early h = record { ticks = (let k = h.ticks in omega (arith, k, early)); slice = (let k = h.slice in omega (arith, k, early)); server = by_server th.server h.high }
@@ -42,54 +49,101 @@ room_within now th early h = record { ticks = (let k = h.ticks in omega (arith, 
     by_server None high = tt
     by_server (Some s) high = record { high = has_some s; total = omega (arith, early, high) }
 
-nothing_yet : (code : flat.Bodies (List Op)) (ds : List ThreadDecl) (t : ℕ) → IsHeld code 0 (slice_index_or (map (thread_opened {P = Cursor}) ds) t no_thread)
-nothing_yet code [] t = record { goes_on = refl; free = refl; alone = refl; sleeps = tt; placed = tt; main = tt; ticks = omega arith; slice = omega arith; high = tt }
-nothing_yet code (d ∷ ds) zero = record { goes_on = refl; free = refl; alone = refl; sleeps = tt; placed = tt; main = tt; ticks = omega arith; slice = omega arith; high = tt }
-nothing_yet code (d ∷ ds) (suc t) = nothing_yet code ds t
+-- ---- servers rest
 
-pub held_opening : (script : Script) → IsRunnable script → Held (length (names_of script)) (code_of script) (opening script)
-held_opening script ok = record {
-  each = nothing_yet (code_of script) (threads_of script);
-  counted = length-map (threads_of script) (thread_opened {P = Cursor}) ∙ sym (length-map (threads_of script) (λ (d : ThreadDecl). d.name));
+not_running : (s : Status) → is_blocked s ≡ true → is_runnable s ≡ false
+not_running (dormant at) e = refl
+not_running runnable e = absurd (cc)
+not_running (blocked w) e = refl
+not_running ended e = refl
+
+low_of : (s : ServerState) → has_high (Some s) ≡ false → is_high s ≡ false
+low_of s e = grind arith
+
+module _ (m : Machine Cursor) (rest : ServersRest m) where
+  blocked_unused : (t : ℕ) → is_blocked (thread_at m t).status ≡ true → IsUnused (thread_at m t).server
+  blocked_unused t e = by_server (thread_at m t).server refl
+    where
+      by_server : (o : Option ServerState) → (thread_at m t).server ≡ o → IsUnused o
+      by_server None k = tt
+      by_server (Some s) k = rest.idle t s k (not_running (thread_at m t).status e)
+
+  low_unused : (t : ℕ) → has_high (thread_at m t).server ≡ false → IsUnused (thread_at m t).server
+  low_unused t e = by_server (thread_at m t).server refl
+    where
+      by_server : (o : Option ServerState) → (thread_at m t).server ≡ o → IsUnused o
+      by_server None k = tt
+      by_server (Some s) k = rest.low t s k (low_of s (sym (ap has_high k) ∙ e))
+
+-- ---- the objects of the kernel are those of the script
+
+as_many : (all : List Block) (ns : List ℕ) (bs : List Block) → Numbered all ns bs → length ns ≡ length bs
+as_many all [] [] h = refl
+as_many all [] (b ∷ bs) h = absurd h
+as_many all (n ∷ ns) [] h = absurd h
+as_many all (n ∷ ns) (b ∷ bs) h = ap suc (as_many all ns bs h.1)
+
+pub objects_opened : (script : Script) → objects_in (opened script) ≡ objects_of script
+objects_opened script =
+    let b = flat.bodies_of script.decls in
+    let cleanups : length (code_of script).cleanups ≡ length (cleanups_of script) = as_many b.all b.cleanups (cleanup_blocks script.decls) (known script).cleanups in
+    let threads : length (names_of script) ≡ length (threads_of script) = length-map (threads_of script) (λ (d : ThreadDecl). d.name) in
+    ap (λ (n : ℕ). record (objects_of script) { threads = n; cleanups = length (code_of script).cleanups }) threads
+    ∙ ap (λ (n : ℕ). record (objects_of script) { cleanups = n }) cleanups
+
+-- ---- what is held of each thread is held at the beginning
+
+nothing_yet : (ds : List ThreadDecl) (t : ℕ) → IsHeld (slice_index_or (map (thread_opened {P = Cursor}) ds) t no_thread)
+nothing_yet [] t = record { goes_on = refl; free = refl; alone = refl; waits = tt; main = tt }
+nothing_yet (d ∷ ds) zero = record { goes_on = refl; free = refl; alone = refl; waits = tt; main = tt }
+nothing_yet (d ∷ ds) (suc t) = nothing_yet ds t
+
+held_opening : (script : Script) → Held (objects_of script) (opening script)
+held_opening script = record {
+  each = nothing_yet (threads_of script);
+  counted = length-map (threads_of script) (thread_opened {P = Cursor});
+  counts = refl;
   pending = refl;
-  timers = ok.timers;
 }
 
-numbered_at : (all : List Block) (ns : List ℕ) (bs : List Block) (t d : ℕ) → Numbered all ns bs → t < length ns → slice_get all (slice_index_or ns t d) ≡ Some (slice_index_or bs t Nothing)
-numbered_at all [] bs t d is lt = absurd (omega arith)
-numbered_at all (n ∷ ns) [] t d is lt = absurd is
-numbered_at all (n ∷ ns) (b ∷ bs) zero d (one, rest) lt = one
-numbered_at all (n ∷ ns) (b ∷ bs) (suc t) d (one, rest) lt = numbered_at all ns bs t d rest (omega arith)
+placeable : (script : Script) → IsRunnable script → IsWellFormed script → IsPlaceable script
+placeable script ok fits = record {
+  flattenable = ok.flattenable;
+  calls = all_weaker (CallIsRunnable (objects_of script)) (KnowsObjects (objects_of script)) (λ c h. h.objects) (flat.bodies_of script.decls).all ok.calls;
+  actions = ok.handlers;
+  guards = fits.guards;
+}
 
-pub code_opening : (script : Script) → IsRunnable script → IsCode (length (names_of script)) (code_of script)
-code_opening script ok =
-    let b = flat.bodies_of script.decls in
-    let named : length (names_of script) ≡ length (threads_of script) = length-map (threads_of script) (λ (d : ThreadDecl). d.name) in
-    record {
-      calls = λ n. subst (λ (k : ℕ). AreBuilt k (ops_of (code_of script) n)) (sym named) (calls_built script ok n);
-      starts = λ t lt.
-          let at = numbered_at b.all b.threads (thread_blocks script.decls) t (length (code_of script).all) (known script).threads (omega (arith, code_threads script, named)) in
-          record {
-            body = slice_index_or (thread_blocks script.decls) t Nothing;
-            is_body = is_body_of_script b (code_of script) (number_of (code_of script) (body_of.Thread t)) (slice_index_or (thread_blocks script.decls) t Nothing) refl ok.flattenable at;
-            place = body_start;
-            stands = record { at = refl; passes = refl; register = omega arith };
-          };
-    }
+-- ---- and so the run fits
 
-no_server_yet : (ds : List ThreadDecl) (t : ℕ) → (slice_index_or (map (thread_opened {P = Cursor}) ds) t no_thread).server ≡ None
-no_server_yet [] t = refl
-no_server_yet (d ∷ ds) zero = refl
-no_server_yet (d ∷ ds) (suc t) = no_server_yet ds t
+module _ (script : Script) (ok : IsRunnable script) (fits : IsWellFormed script) where
+  calls_built : (n : ℕ) → EachMade (IsBuilt (objects_of script)) (ops_of (code_of script) n)
+  calls_built n = all_made (CallIsRunnable (objects_of script)) (flat.bodies_of script.decls).all n ok.calls
 
-budgets_in : (ds : List ThreadDecl) → All (λ (d : ThreadDecl). HasBudget d.policy) ds → (t : ℕ) → HasBudget (slice_index_or (map (thread_opened {P = Cursor}) ds) t no_thread).policy
-budgets_in [] h t = tt
-budgets_in (d ∷ ds) h zero = h 0 d (omega arith)
-budgets_in (d ∷ ds) h (suc t) = budgets_in ds (λ k e lt. h (suc k) e (omega arith)) t
+  fits_after : (n most : ℕ) → Fits (objects_of script) (code_of script) (after_items (flat_bodies (code_of script)) (opening script) n most)
+  fits_after n most =
+      let bodies = flat_bodies (code_of script) in
+      let m = after_items bodies (opening script) n most in
+      let ranges = flat_bodies_fit script fits.priorities in
+      let still : (objects_of script).timers ≡ 0 = ap length ok.timers in
+      let held : Held (objects_of script) m = held_throughout (objects_of script) (code_of script) calls_built still n most (opening script) (held_opening script) in
+      let rest = (rest_throughout bodies ranges script fits).each n most in
+      let placed = (frames_are_placed script (placeable script ok fits)).each n most in
+      let within = (threads_are_within script).over_code.each n most in
+      record {
+        items = record { waits = λ t. (held.each t).waits; rests = blocked_unused m rest; rests_low = low_unused m rest };
+        top = λ t e. record {
+          can = can_tick (objects_of script) (code_of script) calls_built still (thread_at m t) (held.each t);
+          placed = (placed.each t).placed;
+          room = within.each t;
+        };
+        serial = serials_left m (let few = ok.few in let c = held.counted in omega (arith, few, c)) held.pending ((serials_throughout bodies ranges script fits).each n most);
+        threads = held.counted;
+        counts = held.counts;
+      }
 
-pub script_fits : (script : Script) → IsRunnable script → StaysFit (opened script) (length (names_of script))
-script_fits script ok =
-    let n = length (names_of script) in
-    let is = code_opening script ok in
-    let held = held_opening script ok in
-    stays_fit (opened script) n is held (stays_rested (opened script) n is held (all_idle (opening script) (no_server_yet (threads_of script)) (budgets_in (threads_of script) ok.budgets)))
+  pub script_fits : StaysFit (opened script) (objects_in (opened script))
+  script_fits = record {
+    each = λ n most.
+        subst (λ (o : Objects). Fits o (code_of script) (after_items (flat_bodies (code_of script)) (opening script) n most)) (sym (objects_opened script)) (fits_after n most);
+  }

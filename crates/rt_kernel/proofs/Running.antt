@@ -11,7 +11,10 @@ use Rattle.machine_rules.specs.DueItems.{items_done}
 use Rattle.machine_rules.specs.Runs.{Ran, tick_of, ticks}
 use Rattle.machine_rules.proofs.Joined.{ticks_add}
 use Rattle.machine_flat.specs.FlatBodies.{flat_bodies}
+use Rattle.machine_flat.specs.KnownCalls.{Objects}
+use Rattle.kernel_events.specs.Built.{objects_in}
 use Rattle.rt_kernel.specs.Fits.{Fits, ItemsFit, StaysFit}
+use Rattle.rt_kernel.proofs.Fitting.{objects_same}
 use Rattle.kernel_state.specs.Kernel.{Kernel, after, told, turn}
 use Rattle.kernel_state.specs.Stood.{StoodRight}
 
@@ -41,29 +44,30 @@ ticked_is k l quiet still state =
     ∙ ap (λ (d : List ℕ). record k { machine = (tick_of (flat_bodies k.code) k.machine).machine; direct = d }) none
 
 -- what stays so from a kernel on stays so from each later one on
-pub stays_fit_later : (start k : Kernel) (n threads : ℕ) → k ≡ record start { machine = (ticks (flat_bodies start.code) n start.machine).machine } → StaysFit start threads → StaysFit k threads
-stays_fit_later start k n threads state fit =
+stays_fit_later : (start k : Kernel) (n : ℕ) (o : Objects) → k ≡ record start { machine = (ticks (flat_bodies start.code) n start.machine).machine } → StaysFit start o → StaysFit k o
+stays_fit_later start k n o state fit =
     let bodies = flat_bodies start.code in
     let first = (ticks bodies n start.machine).machine in
-    let later : StaysFit (record start { machine = first }) threads = record {
-      each = λ i most. subst (λ (r : Ran Cursor). Fits threads start.code (items_done bodies most (turn_of r.machine)).machine) (ticks_add bodies n i start.machine) (fit.each (n + i) most);
+    let later : StaysFit (record start { machine = first }) o = record {
+      each = λ i most. subst (λ (r : Ran Cursor). Fits o start.code (items_done bodies most (turn_of r.machine)).machine) (ticks_add bodies n i start.machine) (fit.each (n + i) most);
     } in
-    subst (λ (x : Kernel). StaysFit x threads) (sym state) later
+    subst (λ (x : Kernel). StaysFit x o) (sym state) later
 
--- of all threads of the kernel
-pub still_fits : (start k : Kernel) (n : ℕ) → k ≡ record start { machine = (ticks (flat_bodies start.code) n start.machine).machine } → StaysFit start (length start.names) → StaysFit k (length k.names)
-still_fits start k n state fit = subst (λ (x : Kernel). StaysFit k (length x.names)) (sym state) (stays_fit_later start k n (length start.names) state fit)
+-- of all objects of the kernel
+pub still_fits : (start k : Kernel) (n : ℕ) → k ≡ record start { machine = (ticks (flat_bodies start.code) n start.machine).machine } → StaysFit start (objects_in start) → StaysFit k (objects_in k)
+still_fits start k n state fit =
+    let same = ap objects_in state ∙ objects_same start (ticks (flat_bodies start.code) n start.machine).machine (fit.each n 0).counts in
+    subst (λ (o : Objects). StaysFit k o) (sym same) (stays_fit_later start k n (objects_in start) state fit)
+
+-- and so do the items of its instant
+pub items_fit : (k : Kernel) → k.direct ≡ [] → StaysFit k (objects_in k) → ItemsFit k (objects_in k)
+items_fit k quiet fit = record {
+  each = λ most. subst (λ (s : Turn Cursor). Fits (objects_in k) k.code (items_done (flat_bodies k.code) most s).machine) (sym (turn_is k quiet)) (fit.each 0 most);
+}
 
 module _ {K : Type 0} (text : K → Option (List ℕ)) (faults : K → ℕ) where
   pub no_ticks : (start : Kernel) (a : Tracer K) → StoodRight start.machine → start.direct ≡ [] → Running text faults start start 0 a a
   no_ticks start a stood quiet = record { state = refl; told = tells_nothing text faults start.names a; stood = stood; quiet = quiet; later = omega arith; time = omega arith }
-
-  pub fits_at : (start k : Kernel) (n : ℕ) (a b : Tracer K) → Running text faults start k n a b → (threads : ℕ) → StaysFit start threads → ItemsFit k threads
-  fits_at start k n a b running threads fit = record {
-    each = λ most.
-        let at = subst (λ (x : Kernel). Fits threads x.code (items_done (flat_bodies x.code) most (turn_of x.machine)).machine) (sym running.state) (fit.each n most) in
-        subst (λ (s : Turn Cursor). Fits threads k.code (items_done (flat_bodies k.code) most s).machine) (sym (turn_is k running.quiet)) at;
-  }
 
   -- one more
   pub one_tick : (start k l : Kernel) (n : ℕ) (a b c : Tracer K) → Running text faults start k n a b → l ≡ after (tick (flat_bodies k.code)) k →

@@ -1,5 +1,5 @@
 -- What a thread asks for as it completes a unit.
-use Rattle.std.specs.Prelude.{◌≡◌, ℕ, false}
+use Rattle.std.specs.Prelude.{◌≡◌, ◌<◌, ◌^◌, ℕ, length, false, true}
 use Rattle.script_flat.specs.declared.cursor.Cursor.{Cursor}
 use Rattle.script_flat.specs.declared.unit.Unit as unit_type
 use Rattle.script_flat.specs.declared.unit.Unit.TheVariants as unit
@@ -7,19 +7,32 @@ use Rattle.machine_rules.specs.declared.frame.FrameKind.TheVariants as frame
 use Rattle.machine_rules.specs.Bodies.{Bodies}
 use Rattle.machine_rules.specs.Cancellation.{request_acts}
 use Rattle.machine_rules.specs.State.{Thread, nobody}
-use Rattle.machine_rules.specs.Threads.{top_kind}
+use Rattle.machine_rules.specs.Threads.{can_run, is_blocked, thread_at, top_kind}
 use Rattle.machine_rules.specs.Ticks.{tick_charged}
 use Rattle.machine_rules.specs.Units.{in_unit}
+use Rattle.machine_flat.specs.KnownCalls.{Objects}
+use Rattle.thread_blocks.specs.Unused.{IsUnused}
+use Rattle.kernel_state.specs.Kernel.{Kernel}
+use Rattle.kernel_sync.specs.Waits.{OnlyBuiltWaits}
 use Rattle.kernel_events.specs.Built.{IsBuilt}
 
 -- A thread can complete a unit: nothing that is not built is asked for.
-abbrev pub CanComplete : ℕ → Thread Cursor → unit_type.Unit → Type 0
-CanComplete threads th (unit.Run n) = Unit {0}
-CanComplete threads th (unit.Make c) = (request_acts th ≡ false) × IsBuilt threads c
-CanComplete threads th unit.Jump = Unit {0}
-CanComplete threads th unit.Finish = (th.joiner ≡ nobody) × (top_kind th.frames ≡ frame.Main)
+abbrev pub CanComplete : Objects → Thread Cursor → unit_type.Unit → Type 0
+CanComplete o th (unit.Run n) = Unit {0}
+CanComplete o th (unit.Make c) = (request_acts th ≡ false) × IsBuilt o c
+CanComplete o th unit.Jump = Unit {0}
+CanComplete o th unit.Finish = (th.joiner ≡ nobody) × (top_kind th.frames ≡ frame.Main)
 
 -- a thread can have a tick
-pub record CanTick (threads : ℕ) (bodies : Bodies Cursor) (th : Thread Cursor) : Type 0 where
+pub record CanTick (o : Objects) (bodies : Bodies Cursor) (th : Thread Cursor) : Type 0 where
   pub goes_on : th.is_ending ≡ false
-  pub completes : CanComplete threads (tick_charged (in_unit bodies th).thread) (in_unit bodies th).unit
+  pub completes : CanComplete o (tick_charged (in_unit bodies th).thread) (in_unit bodies th).unit
+
+-- What an effect of a thread's unit may count on: the thread runs, only what is built is waited for, blocked threads have used nothing,
+-- and a serial is left.
+pub record CanAct (k : Kernel) (t : ℕ) : Type 0 where
+  pub threads : length k.machine.threads ≡ length k.names
+  pub runs : can_run k.machine t ≡ true
+  pub waits : OnlyBuiltWaits k.machine
+  pub rests : (u : ℕ) → is_blocked (thread_at k.machine u).status ≡ true → IsUnused (thread_at k.machine u).server
+  pub serial : k.machine.next_serial < 2 ^ 63

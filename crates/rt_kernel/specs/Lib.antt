@@ -1,3 +1,4 @@
+pub mod Counts
 pub mod Completes
 pub mod Fits
 pub mod Held

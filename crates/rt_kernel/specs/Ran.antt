@@ -6,8 +6,8 @@ use Rattle.machine_rules.specs.Runs.{ticks}
 use Rattle.machine_flat.specs.FlatBodies.{flat_bodies}
 use Rattle.kernel_state.specs.Kernel.{Kernel}
 
-abbrev pub after_ticks : ℕ → Kernel → Kernel
-after_ticks n k = record k { machine = (ticks (flat_bodies k.code) n k.machine).machine }
+abbrev pub ticked_by : ℕ → Kernel → Kernel
+ticked_by n k = record k { machine = (ticks (flat_bodies k.code) n k.machine).machine }
 
 -- the text of a run of n ticks, with the closing lines
 abbrev pub run_text : Kernel → ℕ → List ℕ

@@ -1,8 +1,9 @@
 // The items of an instant.
-ghost use Rattle.std.specs.Prelude.{◌≡◌, ◌≤◌, ◌^◌, [], length};
+ghost use Rattle.std.specs.Prelude.{◌≡◌, ◌≤◌, ◌^◌, []};
 ghost use Rattle.pse52_trace.specs.Tells.{Tells};
 ghost use Rattle.machine_rules.specs.DueItems.{instant};
 ghost use Rattle.machine_flat.specs.FlatBodies.{flat_bodies};
+ghost use Rattle.kernel_events.specs.Built.{objects_in};
 ghost use Rattle.rt_kernel.specs.Fits.{ItemsFit};
 ghost use Rattle.kernel_state.specs.Kernel.{Kernel, after, told};
 ghost use Rattle.kernel_state.specs.Stood.{StoodRight};
@@ -16,7 +17,7 @@ use rt_io::Sink;
 pub(crate) fn do_instant<K: Sink>(p: &mut Parts, out: &mut Tracer<'_, K>)
     requires quiet { p.old.direct ≡ [] }
     requires stood { StoodRight p.old.machine }
-    requires fits { ItemsFit p.old (length p.old.names) }
+    requires fits { ItemsFit p.old (objects_in p.old) }
     requires early { p.old.machine.now ≤ 10 ^ 18 }
     ensures state { p.new ≡ after (instant (flat_bodies p.old.code)) p.old }
     ensures told { Tells K.text K.faults p.old.names out.old out.new (told (instant (flat_bodies p.old.code)) p.old) }

@@ -7,11 +7,13 @@ ghost use Rattle.machine_rules.specs.Machine.{closing};
 ghost use Rattle.machine_rules.specs.Runs.{ticks};
 ghost use Rattle.machine_rules.specs.Threads.{thread_at};
 ghost use Rattle.machine_flat.specs.FlatBodies.{flat_bodies};
+ghost use Rattle.machine_rules.specs.WellFormed.{IsWellFormed};
 ghost use Rattle.machine_flat.specs.Runnable.{IsRunnable};
 ghost use Rattle.kernel_state.specs.Kernel.{opened, ran};
 ghost use Rattle.kernel_state.specs.Stood.{StoodRight};
+ghost use Rattle.kernel_events.specs.Built.{objects_in};
 ghost use Rattle.rt_kernel.specs.Fits.{StaysFit};
-ghost use Rattle.rt_kernel.specs.Ran.{after_ticks};
+ghost use Rattle.rt_kernel.specs.Ran.{ticked_by};
 
 use crate::run::{RunEnd, run_ticks};
 use kernel_state::Parts;
@@ -46,10 +48,11 @@ impl Model for Kernel {
 // The parts of a script's kernel, all of whose threads stand right.
 #[tactic(auto, using(crate::proofs::Opened::script_fits))]
 fn open_parts(alloc: Global, script: &Script) -> Result<Parts, AllocError>
-    requires { IsRunnable script.now }
+    requires runnable { IsRunnable script.now }
+    requires well_formed { IsWellFormed script.now }
     ensures kernel { IfOk result (λ k. k ≡ opened script.now) }
     ensures stood { IfOk result (λ k. StoodRight k.machine) }
-    ensures fits { IfOk result (λ k. StaysFit k (length k.names)) }
+    ensures fits { IfOk result (λ k. StaysFit k (objects_in k)) }
 {
     let parts = Parts::open(alloc, script)?;
     parts.know_priorities();
@@ -59,7 +62,8 @@ fn open_parts(alloc: Global, script: &Script) -> Result<Parts, AllocError>
 impl Kernel {
     /// The kernel of a script, before the first tick. It takes all memory that the run needs.
     pub fn open(alloc: Global, script: &Script) -> Result<Kernel, AllocError>
-        requires { IsRunnable script.now }
+        requires runnable { IsRunnable script.now }
+        requires well_formed { IsWellFormed script.now }
         ensures { IfOk result (λ k. k ≡ opened script.now) }
     {
         let parts = open_parts(alloc, script)?;
@@ -100,7 +104,7 @@ impl Kernel {
         requires ahead { self.old.machine.now ≤ horizon }
         requires limit { horizon ≤ 10 ^ 18 }
         requires unfailed { out.old.failed ≡ false }
-        ensures state { result ≡ RunEnd.Ended → self.new ≡ after_ticks (horizon - self.old.machine.now) self.old }
+        ensures state { result ≡ RunEnd.Ended → self.new ≡ ticked_by (horizon - self.old.machine.now) self.old }
         ensures told { Tells K.text K.faults self.old.names out.old out.new
             (ticks (flat_bodies self.old.code) (horizon - self.old.machine.now) self.old.machine).events }
         ensures ended { result ≡ RunEnd.Ended → out.new.failed ≡ false }

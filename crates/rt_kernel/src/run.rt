@@ -1,8 +1,9 @@
 // A run.
-ghost use Rattle.std.specs.Prelude.{◌≡◌, ◌≤◌, ◌<◌, ◌+◌, ◌-◌, ◌^◌, [], length, true, false};
+ghost use Rattle.std.specs.Prelude.{◌≡◌, ◌≤◌, ◌<◌, ◌+◌, ◌-◌, ◌^◌, [], true, false};
 ghost use Rattle.pse52_trace.specs.Tells.{Tells};
 ghost use Rattle.machine_rules.specs.Runs.{ticks};
 ghost use Rattle.machine_flat.specs.FlatBodies.{flat_bodies};
+ghost use Rattle.kernel_events.specs.Built.{objects_in};
 ghost use Rattle.rt_kernel.specs.Fits.{StaysFit};
 ghost use Rattle.kernel_state.specs.Kernel.{Kernel};
 ghost use Rattle.kernel_state.specs.Stood.{StoodRight};
@@ -37,7 +38,7 @@ pub(crate) fn run_ticks<K: Sink, L: Ledger>(
     requires unfailed { out.old.failed ≡ false }
     requires quiet { p.old.direct ≡ [] }
     requires stood { StoodRight p.old.machine }
-    requires fits { StaysFit p.old (length p.old.names) }
+    requires fits { StaysFit p.old (objects_in p.old) }
     ensures state { result ≡ RunEnd.Ended
         → p.new ≡ record p.old { machine = (ticks (flat_bodies p.old.code) (horizon - p.old.machine.now) p.old.machine).machine } }
     ensures told { Tells K.text K.faults p.old.names out.old out.new (ticks (flat_bodies p.old.code) (horizon - p.old.machine.now) p.old.machine).events }
@@ -45,7 +46,7 @@ pub(crate) fn run_ticks<K: Sink, L: Ledger>(
     ensures stopped { result ≡ RunEnd.Stopped → out.new.failed ≡ true }
     ensures stood { StoodRight p.new.machine }
     ensures quiet { p.new.direct ≡ [] }
-    ensures fits { StaysFit p.new (length p.new.names) }
+    ensures fits { StaysFit p.new (objects_in p.new) }
     ensures later { p.old.machine.now ≤ p.new.machine.now }
     ensures not_beyond { p.new.machine.now ≤ horizon }
     ensures steps { steps.new + p.old.machine.now ≡ steps.old + p.new.machine.now }

@@ -8,7 +8,8 @@ ghost use Rattle.machine_rules.specs.Ticks.{goes_on, runs, runs_head, tick, tick
 ghost use Rattle.machine_rules.specs.Turns.{Turn, ◌▷◌};
 ghost use Rattle.machine_rules.specs.Units.{in_unit};
 ghost use Rattle.machine_flat.specs.FlatBodies.{flat_bodies};
-ghost use Rattle.rt_kernel.specs.Fits.{Fits, FitsThread, ItemsFit};
+ghost use Rattle.kernel_events.specs.Built.{objects_in};
+ghost use Rattle.rt_kernel.specs.Fits.{Fits, FitsTick, ItemsFit};
 ghost use Rattle.kernel_state.specs.Kernel.{Kernel, after, told};
 ghost use Rattle.kernel_state.specs.Stood.{StoodRight};
 
@@ -32,7 +33,7 @@ fn run_unit<K: Sink, L: Ledger>(
     requires known { t < length p.old.names }
     requires quiet { p.old.direct ≡ [] }
     requires stood { StoodRight p.old.machine }
-    requires fits { FitsThread (length p.old.names) p.old.code p.old.machine.now (thread_at p.old.machine t) }
+    requires fits { FitsTick (objects_in p.old) p.old.code p.old.machine t }
     requires early { p.old.machine.now < 10 ^ 18 }
     ensures state { p.new ≡ after (λ s. s ▷ unit_ticked (flat_bodies p.old.code) s.machine t (in_unit (flat_bodies p.old.code) (thread_at s.machine t)) ▷ tick_ends (has_high (thread_at s.machine t).server) t) p.old }
     ensures told { Tells K.text K.faults p.old.names out.old out.new (told (λ s. s ▷ unit_ticked (flat_bodies p.old.code) s.machine t (in_unit (flat_bodies p.old.code) (thread_at s.machine t)) ▷ tick_ends (has_high (thread_at s.machine t).server) t) p.old) }
@@ -54,7 +55,7 @@ fn run_thread<K: Sink, L: Ledger>(
     requires known { t < length p.old.names }
     requires quiet { p.old.direct ≡ [] }
     requires stood { StoodRight p.old.machine }
-    requires fits { FitsThread (length p.old.names) p.old.code p.old.machine.now (thread_at p.old.machine t) }
+    requires fits { FitsTick (objects_in p.old) p.old.code p.old.machine t }
     requires early { p.old.machine.now < 10 ^ 18 }
     ensures state { p.new ≡ after (runs (flat_bodies p.old.code) (Some t)) p.old }
     ensures told { Tells K.text K.faults p.old.names out.old out.new (told (runs (flat_bodies p.old.code) (Some t)) p.old) }
@@ -75,7 +76,7 @@ fn run<K: Sink, L: Ledger>(
     requires known { IfSome to.now (λ t. t < length p.old.names) }
     requires quiet { p.old.direct ≡ [] }
     requires stood { StoodRight p.old.machine }
-    requires fits { IfSome to.now (λ t. FitsThread (length p.old.names) p.old.code p.old.machine.now (thread_at p.old.machine t)) }
+    requires fits { IfSome to.now (λ t. FitsTick (objects_in p.old) p.old.code p.old.machine t) }
     requires early { p.old.machine.now < 10 ^ 18 }
     ensures state { p.new ≡ after (runs (flat_bodies p.old.code) to.now) p.old }
     ensures told { Tells K.text K.faults p.old.names out.old out.new (told (runs (flat_bodies p.old.code) to.now) p.old) }
@@ -94,7 +95,7 @@ fn run<K: Sink, L: Ledger>(
 fn run_head<K: Sink, L: Ledger>(p: &mut Parts, out: &mut Tracer<'_, K>, steps: &mut Steps<L>)
     requires quiet { p.old.direct ≡ [] }
     requires stood { StoodRight p.old.machine }
-    requires fits { Fits (length p.old.names) p.old.code p.old.machine }
+    requires fits { Fits (objects_in p.old) p.old.code p.old.machine }
     requires early { p.old.machine.now < 10 ^ 18 }
     ensures state { p.new ≡ after (runs_head (flat_bodies p.old.code)) p.old }
     ensures told { Tells K.text K.faults p.old.names out.old out.new (told (runs_head (flat_bodies p.old.code)) p.old) }
@@ -111,7 +112,7 @@ fn run_head<K: Sink, L: Ledger>(p: &mut Parts, out: &mut Tracer<'_, K>, steps: &
 fn go_on<K: Sink, L: Ledger>(p: &mut Parts, out: &mut Tracer<'_, K>, steps: &mut Steps<L>)
     requires quiet { p.old.direct ≡ [] }
     requires stood { StoodRight p.old.machine }
-    requires fits { Fits (length p.old.names) p.old.code p.old.machine }
+    requires fits { Fits (objects_in p.old) p.old.code p.old.machine }
     requires early { p.old.machine.now < 10 ^ 18 }
     ensures state { p.new ≡ after (goes_on (flat_bodies p.old.code)) p.old }
     ensures told { Tells K.text K.faults p.old.names out.old out.new (told (goes_on (flat_bodies p.old.code)) p.old) }
@@ -135,7 +136,7 @@ pub(crate) fn do_tick<K: Sink, L: Ledger>(
 )
     requires quiet { p.old.direct ≡ [] }
     requires stood { StoodRight p.old.machine }
-    requires fits { ItemsFit p.old (length p.old.names) }
+    requires fits { ItemsFit p.old (objects_in p.old) }
     requires early { p.old.machine.now < 10 ^ 18 }
     ensures state { p.new ≡ after (tick (flat_bodies p.old.code)) p.old }
     ensures told { Tells K.text K.faults p.old.names out.old out.new (told (tick (flat_bodies p.old.code)) p.old) }

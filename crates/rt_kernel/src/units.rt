@@ -1,5 +1,5 @@
 // One tick of a thread's unit.
-ghost use Rattle.std.specs.Prelude.{◌≡◌, ◌≤◌, ◌<◌, ◌+◌, ◌^◌, [], length, false};
+ghost use Rattle.std.specs.Prelude.{◌≡◌, ◌≤◌, ◌<◌, ◌+◌, ◌^◌, [], length, false, true};
 ghost use Rattle.pse52_trace.specs.Tells.{Tells};
 ghost use Rattle.script_flat.specs.declared.unit.Unit.{Unit};
 ghost use Rattle.script_flat.specs.declared.unit.Unit.TheVariants as unit;
@@ -8,15 +8,16 @@ ghost use Rattle.machine_rules.specs.Cancellation.{request_acts};
 ghost use Rattle.machine_rules.specs.Calls.{makes_call, unit_effect};
 ghost use Rattle.machine_rules.specs.Lives.{ends, finishes};
 ghost use Rattle.machine_rules.specs.State.{nobody};
-ghost use Rattle.machine_rules.specs.Threads.{thread_at, top_kind};
+ghost use Rattle.machine_rules.specs.Threads.{can_run, thread_at, top_kind};
 ghost use Rattle.machine_rules.specs.Ticks.{completes, later, tick_charged, unit_ticked};
 ghost use Rattle.machine_rules.specs.Turns.{becomes, changes, ◌▷◌};
 ghost use Rattle.machine_rules.specs.Units.{in_unit};
 ghost use Rattle.machine_flat.specs.FlatBodies.{flat_bodies};
 ghost use Rattle.machine_flat.specs.Placed.{ArePlaced};
 ghost use Rattle.thread_blocks.specs.Room.{HasRoom};
-ghost use Rattle.rt_kernel.specs.Completes.{CanComplete};
-ghost use Rattle.rt_kernel.specs.Fits.{FitsThread};
+ghost use Rattle.kernel_events.specs.Built.{objects_in};
+ghost use Rattle.rt_kernel.specs.Completes.{CanAct, CanComplete};
+ghost use Rattle.rt_kernel.specs.Fits.{FitsTick};
 ghost use Rattle.kernel_state.specs.Kernel.{Kernel, after, by, told};
 ghost use Rattle.kernel_state.specs.Stood.{StoodRight};
 
@@ -50,6 +51,7 @@ fn charge_unit<L: Ledger>(p: &mut Parts, t: Tid, steps: &mut Steps<L>) -> Unit
 // A thread ends that nobody waits for.
 fn end<K: Sink>(p: &mut Parts, t: Tid, out: &mut Tracer<'_, K>)
     requires known { t < length p.old.names }
+    requires runs { can_run p.old.machine t ≡ true }
     requires alone { (thread_at p.old.machine t).joiner ≡ nobody }
     ensures state { p.new ≡ after (ends t) p.old }
     ensures told { Tells K.text K.faults p.old.names out.old out.new (told (ends t) p.old) }
@@ -62,7 +64,8 @@ fn end<K: Sink>(p: &mut Parts, t: Tid, out: &mut Tracer<'_, K>)
 // A call is made, where no request for cancellation acts in its place.
 fn make<K: Sink>(p: &mut Parts, t: Tid, call: &Call, out: &mut Tracer<'_, K>)
     requires known { t < length p.old.names }
-    requires can { CanComplete (length p.old.names) (thread_at p.old.machine t) (unit.Make call.now) }
+    requires can { CanComplete (objects_in p.old) (thread_at p.old.machine t) (unit.Make call.now) }
+    requires acts { CanAct p.old t }
     requires room { length p.old.direct < 256 }
     requires early { p.old.machine.now ≤ 10 ^ 18 }
     ensures state { p.new ≡ after (makes_call (flat_bodies p.old.code) (by t call.now)) p.old }
@@ -74,7 +77,8 @@ fn make<K: Sink>(p: &mut Parts, t: Tid, call: &Call, out: &mut Tracer<'_, K>)
 // What a unit does once it is complete.
 fn complete<K: Sink>(p: &mut Parts, t: Tid, unit: &Unit, out: &mut Tracer<'_, K>)
     requires known { t < length p.old.names }
-    requires can { CanComplete (length p.old.names) (thread_at p.old.machine t) unit.now }
+    requires can { CanComplete (objects_in p.old) (thread_at p.old.machine t) unit.now }
+    requires acts { CanAct p.old t }
     requires room { length p.old.direct < 256 }
     requires early { p.old.machine.now ≤ 10 ^ 18 }
     ensures state { p.new ≡ after (unit_effect (flat_bodies p.old.code) t unit.now) p.old }
@@ -91,7 +95,8 @@ fn complete<K: Sink>(p: &mut Parts, t: Tid, unit: &Unit, out: &mut Tracer<'_, K>
 // The effect of the unit, where no tick of it is left.
 fn complete_at_end<K: Sink>(p: &mut Parts, t: Tid, unit: &Unit, out: &mut Tracer<'_, K>)
     requires known { t < length p.old.names }
-    requires can { CanComplete (length p.old.names) (thread_at p.old.machine t) unit.now }
+    requires can { CanComplete (objects_in p.old) (thread_at p.old.machine t) unit.now }
+    requires acts { CanAct p.old t }
     requires room { length p.old.direct < 256 }
     requires early { p.old.machine.now ≤ 10 ^ 18 }
     ensures state { p.new ≡ after (completes (flat_bodies p.old.code) t unit.now) p.old }
@@ -113,7 +118,7 @@ pub(crate) fn tick_unit<K: Sink, L: Ledger>(
     requires known { t < length p.old.names }
     requires quiet { p.old.direct ≡ [] }
     requires stood { StoodRight p.old.machine }
-    requires fits { FitsThread (length p.old.names) p.old.code p.old.machine.now (thread_at p.old.machine t) }
+    requires fits { FitsTick (objects_in p.old) p.old.code p.old.machine t }
     requires early { p.old.machine.now < 10 ^ 18 }
     ensures state { p.new ≡ after (λ s. s ▷ unit_ticked (flat_bodies p.old.code) s.machine t (in_unit (flat_bodies p.old.code) (thread_at s.machine t))) p.old }
     ensures told { Tells K.text K.faults p.old.names out.old out.new (told (λ s. s ▷ unit_ticked (flat_bodies p.old.code) s.machine t (in_unit (flat_bodies p.old.code) (thread_at s.machine t))) p.old) }

@@ -27,7 +27,7 @@ use Rattle.script_text.specs.Names.{sort_of}
 use Rattle.machine_rules.specs.declared.signal.SigAction.{SigAction}
 use Rattle.machine_rules.specs.Declarations.{ThreadDecl, declared_thread, named, mutex_kind, semaphore_kind, queue_kind, timer_kind, with_action}
 use Rattle.machine_flat.specs.EachCall.{EachCall}
-use Rattle.machine_flat.specs.Runnable.{HasBudget}
+use Rattle.machine_flat.specs.Runnable.{ActionNames, HasBudget}
 use Rattle.script_bounds.proofs.BuiltForms.{is_built_sort, builds_actions, is_built_form}
 use Rattle.script_bounds.proofs.Decls.{bodies_in, decl_more}
 use Rattle.script_bounds.proofs.EachDecl.{Each}
@@ -184,3 +184,8 @@ module _ (P : Call → Type 0) where
   no_actions [] actions all = refl
   no_actions (Named name kind ∷ decls) actions all = no_actions decls actions all.1
   no_actions (Action sig handler ∷ decls) actions all = absurd (let e : false ≡ true = all.0 in cc)
+
+  pub no_handlers : (handlers : ℕ) (decls : List Decl) → Each Runs decls → All (ActionNames handlers) decls
+  no_handlers handlers [] all = All-nil (ActionNames handlers)
+  no_handlers handlers (Named name kind ∷ decls) all = All-cons (ActionNames handlers) (Named name kind) decls tt (no_handlers handlers decls all.1)
+  no_handlers handlers (Action sig handler ∷ decls) all = absurd (let e : false ≡ true = all.0 in cc)

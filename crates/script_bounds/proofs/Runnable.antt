@@ -1,5 +1,5 @@
 -- Whatever is read without a fault, the kernel can run.
-use Rattle.std.proofs.Common.{ℕ, ◌≡◌, ◌<◌, ◌∙◌, List, Ok, Bool, true, false, sym, subst}
+use Rattle.std.proofs.Common.{ℕ, ◌≡◌, ◌<◌, ◌∙◌, List, Ok, Bool, true, false, length, sym, subst}
 use Rattle.std.specs.Prelude.{◌&&◌, replicate}
 use Rattle.std.specs.Option.{IfSome}
 use Rattle.script_lex.proofs.Rejoined.{both}
@@ -21,9 +21,10 @@ use Rattle.script_table.specs.Calls.{call_of}
 use Rattle.script_table.specs.Build.{script_of}
 use Rattle.script_table.specs.Read.{said, read}
 use Rattle.machine_rules.specs.declared.signal.SigAction.TheVariants as action
+use Rattle.machine_rules.specs.Declarations.{handlers_of}
 use Rattle.machine_flat.specs.Built.{is_built}
 use Rattle.machine_flat.specs.EachCall.{EachCall}
-use Rattle.machine_flat.specs.KnownCalls.{KnowsObjects}
+use Rattle.machine_flat.specs.KnownCalls.{KnowsObjects, objects_of}
 use Rattle.machine_flat.specs.Runnable.{CallHasBudget, CallIsRunnable, IsRunnable}
 use Rattle.canonical_law.proofs.Accepted.{is_read}
 use Rattle.canonical_law.proofs.Again.{statements}
@@ -31,7 +32,7 @@ use Rattle.canonical_law.proofs.Table.{table_now}
 use Rattle.script_bounds.proofs.Bounds.{IsBounded, read_is_bounded}
 use Rattle.script_bounds.proofs.BuiltForms.{is_built_form, IsBuiltForm, all_are_built}
 use Rattle.script_bounds.proofs.Calls.{objects_by, Fits, call_fits}
-use Rattle.script_bounds.proofs.Declared.{DeclRuns, object_runs, action_runs, body_runs, all_bodies, all_budgets, no_mutexes, no_semaphores, no_queues, no_timers, no_actions}
+use Rattle.script_bounds.proofs.Declared.{DeclRuns, object_runs, action_runs, body_runs, all_bodies, all_budgets, no_mutexes, no_semaphores, no_queues, no_timers, no_actions, no_handlers}
 use Rattle.script_bounds.proofs.EachBody.{Guards, OneStep, more_calls, plain_calls, GuardsBy, block_calls}
 use Rattle.script_bounds.proofs.EachDecl.{Each, Says, each_decl}
 use Rattle.script_bounds.proofs.Objects.{declared_count, all_below, objects_same}
@@ -47,7 +48,7 @@ pop_built e false = (both (is_built (Pop true)) (is_built (Pop false)) (both (is
 
 module _ (script : Script) (es : List Entry) (below : AllBelow (declared_count script.decls) es) where
   abbrev Runs : Call → Type 0
-  Runs c = CallIsRunnable script c
+  Runs c = CallIsRunnable (objects_of script) c
 
   runs : (c : Call) → KnowsObjects (objects_by (declared_count script.decls)) c → CallHasBudget c → is_built c ≡ true → Runs c
   runs c known budget built = record { objects = subst (λ o. KnowsObjects o c) (objects_same script) known; budget = budget; built = built }
@@ -75,19 +76,20 @@ module _ (script : Script) (es : List Entry) (below : AllBelow (declared_count s
     body = λ f words steps built inside. body_runs Runs f words steps inside;
   }
 
-decls_run : (script : Script) → IsBounded script → Each (DeclRuns (CallIsRunnable script)) script.decls → IsRunnable script
+decls_run : (script : Script) → IsBounded script → Each (DeclRuns (CallIsRunnable (objects_of script))) script.decls → IsRunnable script
 decls_run script bounded all =
     let ds : List Decl = script.decls in
     record {
       few = bounded.few;
       flattenable = bounded.flattenable;
-      calls = all_bodies (CallIsRunnable script) ds all;
-      budgets = all_budgets (CallIsRunnable script) ds all;
-      mutexes = no_mutexes (CallIsRunnable script) ds all;
-      semaphores = no_semaphores (CallIsRunnable script) ds all;
-      queues = no_queues (CallIsRunnable script) ds all;
-      timers = no_timers (CallIsRunnable script) ds all;
-      actions = no_actions (CallIsRunnable script) ds (replicate 32 action.Kill) all;
+      calls = all_bodies (CallIsRunnable (objects_of script)) ds all;
+      handlers = no_handlers (CallIsRunnable (objects_of script)) (length (handlers_of script)) ds all;
+      budgets = all_budgets (CallIsRunnable (objects_of script)) ds all;
+      mutexes = no_mutexes (CallIsRunnable (objects_of script)) ds all;
+      semaphores = no_semaphores (CallIsRunnable (objects_of script)) ds all;
+      queues = no_queues (CallIsRunnable (objects_of script)) ds all;
+      timers = no_timers (CallIsRunnable (objects_of script)) ds all;
+      actions = no_actions (CallIsRunnable (objects_of script)) ds (replicate 32 action.Kill) all;
     }
 
 pub accepted_can_be_run : (text : List ℕ) (script : Script) → read patterns text ≡ Ok script → IsRunnable script
@@ -97,6 +99,6 @@ accepted_can_be_run text script e =
     let own : Script = script_of es ss in
     let means : own ≡ script = (is_read patterns table_now text script e).means in
     let below : AllBelow (declared_count own.decls) es = all_below es own.decls (statements patterns table_now text script e).known in
-    let all : Each (DeclRuns (CallIsRunnable own)) own.decls =
-    each_decl IsBuiltForm es (EachCall (CallIsRunnable own)) (DeclRuns (CallIsRunnable own)) (lines_run own es below) ss (all_are_built text) in
+    let all : Each (DeclRuns (CallIsRunnable (objects_of own))) own.decls =
+    each_decl IsBuiltForm es (EachCall (CallIsRunnable (objects_of own))) (DeclRuns (CallIsRunnable (objects_of own))) (lines_run own es below) ss (all_are_built text) in
     subst IsRunnable means (decls_run own (subst IsBounded (sym means) (read_is_bounded patterns text script e)) all)

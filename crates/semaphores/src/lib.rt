@@ -7,7 +7,7 @@ ghost use Rattle.std.specs.Prelude.{◌≡◌, ◌≤◌, ◌<◌, ◌++◌, All
 ghost use Rattle.machine_rules.specs.Declarations.{named, semaphore_kind, semaphores_of};
 ghost use Rattle.machine_rules.specs.Lists.{changed_at};
 ghost use Rattle.machine_rules.specs.Semaphores.{semaphore_limit};
-ghost use Rattle.semaphores.specs.Values.{HasValue};
+ghost use Rattle.machine_flat.specs.Runnable.{HasValue};
 
 mod value;
 

@@ -19,7 +19,8 @@ use Rattle.machine_rules.specs.Declarations.{ThreadDecl, actions_of, cleanups_of
 use Rattle.machine_flat.specs.FlatBodies.{code_of, number_of}
 use Rattle.machine_flat.proofs.Numbered.{Numbered, cleanup_blocks, handler_blocks, known, thread_blocks}
 use Rattle.thread_laws.specs.EachThread.{ActionKnown, Given}
-use Rattle.thread_laws.specs.Placeable.{ActionNames, IsPlaceable}
+use Rattle.machine_flat.specs.Runnable.{ActionNames}
+use Rattle.thread_laws.specs.Placeable.{IsPlaceable}
 
 -- ---- bodies by number
 

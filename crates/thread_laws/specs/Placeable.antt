@@ -1,19 +1,12 @@
 -- What of a script keeps the frames of its threads at places of its flat code. Whatever the reader accepts has it.
-use Rattle.std.specs.Prelude.{All, None, Some, length, ℕ, ◌<◌}
-use Rattle.script_tree.specs.declared.decl.Decl.{Decl}
-use Rattle.script_tree.specs.declared.decl.Decl.TheVariants as decl
+use Rattle.std.specs.Prelude.{All, length}
 use Rattle.script_tree.specs.declared.decl.Script.{Script}
 use Rattle.script_flat.specs.Flat.{IsFlattenable, bodies_of}
 use Rattle.machine_rules.specs.Declarations.{handlers_of}
 use Rattle.machine_rules.specs.WellFormed.{DeclsGuarded}
 use Rattle.machine_flat.specs.EachCall.{EachCall}
 use Rattle.machine_flat.specs.KnownCalls.{KnowsObjects, objects_of}
-
--- the handler of a signal's action is one of so many
-abbrev pub ActionNames : ℕ → Decl → Type 0
-ActionNames handlers (decl.Named name kind) = Unit {0}
-ActionNames handlers (decl.Action signal None) = Unit {0}
-ActionNames handlers (decl.Action signal (Some h)) = h < handlers
+use Rattle.machine_flat.specs.Runnable.{ActionNames}
 
 -- bodies that are not too long and not nested too deeply, calls that name what is declared, actions that name handlers that are
 -- declared, and cleanup handlers that the bodies of threads alone push and pop

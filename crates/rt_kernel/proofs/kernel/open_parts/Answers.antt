@@ -1,8 +1,9 @@
-use Rattle.std.proofs.Common.{length, subst, sym}
+use Rattle.std.proofs.Common.{subst, sym}
 use Rattle.kernel_state.specs.Kernel.{Kernel}
 use Rattle.kernel_state.specs.Settled.{HavePriorities}
 use Rattle.kernel_state.specs.Stood.{StoodRight}
 use Rattle.kernel_state.proofs.Opened.{stood_opening}
+use Rattle.kernel_events.specs.Built.{objects_in}
 use Rattle.rt_kernel.specs.Fits.{StaysFit}
 use Rattle.rt_kernel.proofs.Opened.{script_fits}
 use Rattle.rt_kernel.proofs.kernel.open_parts.Goals as goal
@@ -13,4 +14,4 @@ returns-clause-stood c =
     subst (λ (k : Kernel). StoodRight k.machine) (sym e) (stood_opening c.args.script.now (subst (λ (k : Kernel). HavePriorities k.machine) e c.know_priorities.ensures))
 
 pub returns-clause-fits : goal.returns-clause-fits
-returns-clause-fits c = subst (λ (k : Kernel). StaysFit k (length k.names)) (sym c.in_ok-parts.ensures) (script_fits c.args.script.now c.requires)
+returns-clause-fits c = subst (λ (k : Kernel). StaysFit k (objects_in k)) (sym c.in_ok-parts.ensures) (script_fits c.args.script.now c.requires.runnable c.requires.well_formed)

@@ -2,8 +2,11 @@ use Rattle.std.proofs.Common.{◌≡◌, ◌+◌, ◌-◌, ℕ, arith, subst, sy
 use Rattle.pse52_trace.specs.Tells.{Tells}
 use Rattle.machine_rules.specs.Runs.{ticks}
 use Rattle.machine_flat.specs.FlatBodies.{flat_bodies}
-use Rattle.rt_kernel.proofs.Running.{one_tick, still_fits, stopped_told}
+use Rattle.rt_kernel.proofs.Running.{items_fit, one_tick, still_fits, stopped_told}
 use Rattle.rt_kernel.proofs.run.run_ticks.Goals as goal
+
+pub do_tick-requires-clause-fits : goal.do_tick-requires-clause-fits
+do_tick-requires-clause-fits g c = items_fit c.loop-k.p c.loop-k.invariant.running.quiet (still_fits c.args.p.now c.loop-k.p c.loop-k.k c.loop-k.invariant.running.state c.requires.fits)
 
 pub loop-k-preserved : goal.loop-k-preserved
 loop-k-preserved g c = record {

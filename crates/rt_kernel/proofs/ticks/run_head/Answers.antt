@@ -6,7 +6,12 @@ use Rattle.machine_rules.proofs.BehindTicks.{runs_behind}
 use Rattle.machine_flat.specs.FlatBodies.{flat_bodies}
 use Rattle.kernel_state.specs.Kernel.{after, told}
 use Rattle.kernel_state.proofs.Turns.{then_state_in, then_told_in}
+use Rattle.rt_kernel.proofs.Fitting.{dispatched_fits}
 use Rattle.rt_kernel.proofs.ticks.run_head.Goals as goal
+
+pub run-requires-clause-fits : goal.run-requires-clause-fits
+run-requires-clause-fits g c =
+    dispatched_fits c.args.p.now c.dispatch-to.new.self c.dispatch-to.result c.dispatch-to.ensures.top c.dispatch-to.ensures.state c.requires.stood c.requires.fits
 
 pub returns-clause-state : goal.returns-clause-state
 returns-clause-state g c =

@@ -1,8 +1,9 @@
-use Rattle.std.proofs.Common.{◌≡◌, ℕ, zero, suc, List, ap, length, refl, subst, sym, ◌∙◌}
+use Rattle.std.proofs.Common.{◌≡◌, ℕ, zero, suc, List, ap, refl, subst, sym, ◌∙◌}
 use Rattle.machine_rules.specs.State.{Thread}
 use Rattle.rt_kernel.specs.Completes.{CanComplete}
 use Rattle.kernel_state.specs.Settled.{HavePriorities}
 use Rattle.kernel_state.specs.Stood.{StoodRight}
+use Rattle.kernel_events.specs.Built.{objects_in}
 use Rattle.kernel_events.proofs.Coming.{come_later}
 use Rattle.rt_kernel.proofs.ComingUnits.{charge_same, completes_come}
 use Rattle.kernel_state.proofs.StoodAgain.{stood_again}
@@ -23,6 +24,7 @@ use Rattle.machine_flat.specs.FlatBodies.{flat_bodies}
 use Rattle.kernel_state.specs.Kernel.{Kernel, after, turn}
 use Rattle.kernel_state.proofs.SettleIs.{settles_after}
 use Rattle.kernel_state.proofs.Turns.{then_state}
+use Rattle.rt_kernel.proofs.Fitting.{charged_acts}
 use Rattle.rt_kernel.proofs.units.tick_unit.Goals as goal
 
 completes_kept : (bodies : Bodies Cursor) (left t : ℕ) (u : unit.Unit) (s : Turn Cursor) → kept (completes_at bodies left t u s) ≡ kept s
@@ -32,6 +34,9 @@ completes_kept bodies (suc left) t u s = refl
 completes_behind : (bodies : Bodies Cursor) (left t : ℕ) (u : unit.Unit) → AddsBehind (completes_at bodies left t u)
 completes_behind bodies zero t u told s = unit_effect_behind bodies t u told s
 completes_behind bodies (suc left) t u told s = refl
+
+pub complete_at_end-requires-clause-acts : goal.complete_at_end-requires-clause-acts
+complete_at_end-requires-clause-acts g c = charged_acts c.args.p.now c.charge_unit-unit.new.p c.args.t c.requires.fits c.requires.early c.charge_unit-unit.ensures.state
 
 pub returns-clause-state : goal.returns-clause-state
 returns-clause-state g c =
@@ -68,7 +73,7 @@ returns-clause-stood g c =
     let s = completes_at bodies left t taken.unit before in
     let fits = subst (λ (k : Kernel). HavePriorities k.machine) both c.settle.ensures.fits in
     let at = sym (ap (λ (k : Kernel). thread_at k.machine t) c.charge_unit-unit.ensures.state) ∙ c.charge_unit-unit.ensures.thread in
-    let can = subst (λ (th : Thread Cursor). CanComplete (length p.names) th taken.unit) (sym at) c.requires.fits.can.completes in
-    let come = come_later p.machine before.machine s.machine s.direct (λ u. charge_same bodies p.machine t u c.requires.fits.can.goes_on) (completes_come bodies (length p.names) left t taken.unit before can) in
+    let can = subst (λ (th : Thread Cursor). CanComplete (objects_in p) th taken.unit) (sym at) c.requires.fits.thread.can.completes in
+    let come = come_later p.machine before.machine s.machine s.direct (λ u. charge_same bodies p.machine t u c.requires.fits.thread.can.goes_on) (completes_come bodies (objects_in p) left t taken.unit before can) in
     let again = stood_again p.machine s.machine s.direct c.requires.stood (ap (λ (x : Kept). x.lists) (completes_kept bodies left t taken.unit before)) fits come in
     subst (λ (k : Kernel). StoodRight k.machine) (sym (returns-clause-state g c)) again

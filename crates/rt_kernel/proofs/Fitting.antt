@@ -1,0 +1,148 @@
+-- What fits goes from the states of a run to the kernel that is in them.
+use Rattle.std.proofs.Common.{◌≡◌, ◌∙◌, ◌<◌, ◌≤◌, ◌^◌, ◌+◌, ℕ, zero, suc, List, [], ◌∷◌, Bool, true, false, Option, None, Some, ap, arith, length, refl, subst, sym}
+use Rattle.std.specs.Prelude.{slice_index_or, ◌==◌, IfSome, if◌then◌else◌}
+use Rattle.thread_lists.specs.Threads.{times}
+use Rattle.script_flat.specs.declared.cursor.Cursor.{Cursor}
+use Rattle.script_flat.specs.declared.op.Op.{Op}
+use Rattle.script_flat.specs.Flat as flat
+use Rattle.machine_rules.specs.declared.dispatch.LastDispatch.{LastDispatch}
+use Rattle.machine_rules.specs.State.{Machine, Status, Thread, blocked, dormant, ended, runnable}
+use Rattle.machine_rules.specs.Threads.{can_run, is_blocked, is_runnable, thread_at, waiting_in}
+use Rattle.machine_rules.specs.Turns.{Turn, becomes, changes, with_thread}
+use Rattle.machine_rules.specs.Dispatch.{dispatch_of, dispatches, head}
+use Rattle.machine_rules.specs.DueItems.{instant, item_bound, items_done}
+use Rattle.machine_rules.specs.Ticks.{later, tick_charged}
+use Rattle.machine_rules.specs.Units.{in_unit}
+use Rattle.machine_rules.proofs.Reading.{changed-length, thread-other}
+use Rattle.machine_rules.specs.Threads.{no_thread}
+use Rattle.machine_flat.specs.FlatBodies.{flat_bodies}
+use Rattle.machine_flat.specs.KnownCalls.{Objects}
+use Rattle.machine_moves.proofs.Runs.Listed.{AllRun, head_can_run}
+use Rattle.machine_moves.proofs.Runs.Ticks.{dispatched}
+use Rattle.machine_moves.proofs.Waiters.Best.{Each}
+use Rattle.thread_blocks.specs.Unused.{IsUnused}
+use Rattle.kernel_sync.specs.Waits.{AreBuiltWaits}
+use Rattle.kernel_state.specs.Kernel.{Kernel, after, turn}
+use Rattle.kernel_state.specs.Stood.{StoodRight}
+use Rattle.kernel_events.specs.Built.{objects_in}
+use Rattle.rt_kernel.specs.Completes.{CanAct}
+use Rattle.rt_kernel.specs.Counts.{Counts, counts_in, counts_of}
+use Rattle.rt_kernel.specs.Fits.{Fits, FitsTick, ItemsFit}
+use Rattle.rt_kernel.proofs.ComingUnits.{charge_same}
+
+-- ---- the objects stay the same
+
+abbrev objects_by : List (List ℕ) → ℕ → Counts → Objects
+objects_by names cleanups c = record { threads = length names; cleanups = cleanups; mutexes = c.mutexes; semaphores = c.semaphores; queues = c.queues; timers = c.timers }
+
+pub objects_same : (start : Kernel) (m : Machine Cursor) → counts_of m ≡ counts_in (objects_in start) → objects_in (record start { machine = m }) ≡ objects_in start
+objects_same start m e = ap (objects_by start.names (length start.code.cleanups)) e
+
+-- after the items of an instant
+pub instant_fits : (p q : Kernel) → q ≡ after (instant (flat_bodies p.code)) p → ItemsFit p (objects_in p) → Fits (objects_in q) q.code q.machine
+instant_fits p q state fit =
+    let m = (instant (flat_bodies p.code) (turn p)).machine in
+    let here : Fits (objects_in p) p.code m = fit.each (item_bound p.machine) in
+    let there : Fits (objects_in (record p { machine = m })) p.code m = subst (λ (o : Objects). Fits o p.code m) (sym (objects_same p m here.counts)) here in
+    subst (λ (x : Kernel). Fits (objects_in x) x.code x.machine) (sym state) there
+
+-- ---- the head can run
+
+not_both : {X : Type 0} (b : Bool) → b ≡ false → b ≡ true → X
+not_both b off on = let a : true ≡ false = sym on ∙ off in absurd cc
+
+here_once : (u : ℕ) (us : List ℕ) → times u (u ∷ us) ≡ 0 → ⊥
+here_once u us e = grind arith
+
+none_later : (t u : ℕ) (us : List ℕ) → times t (u ∷ us) ≡ 0 → times t us ≡ 0
+none_later t u us e = omega (arith, e)
+
+module _ {P : Type 0} (m : Machine P) where
+  each_runs : (ts : List ℕ) → ((t : ℕ) → can_run m t ≡ false → times t ts ≡ 0) → Each (λ (t : ℕ). can_run m t ≡ true) ts
+  each_runs [] none = tt
+  each_runs (u ∷ us) none = (first (can_run m u) refl, each_runs us (λ t off. none_later t u us (none t off)))
+    where
+      first : (b : Bool) → can_run m u ≡ b → can_run m u ≡ true
+      first true e = e
+      first false e = absurd (here_once u us (none u e))
+
+  all_run : (lists : List (List ℕ)) → ((t i : ℕ) → can_run m t ≡ false → times t (slice_index_or lists i []) ≡ 0) → AllRun m lists
+  all_run [] none = tt
+  all_run (ts ∷ lists) none = (each_runs ts (λ t off. none t 0 off), all_run lists (λ t i off. none t (suc i) off))
+
+  pub head_runs : (t : ℕ) → StoodRight m → head m ≡ Some t → can_run m t ≡ true
+  head_runs t stood e = head_can_run m t (all_run m.lists stood.others) e
+
+-- ---- so it may have a tick
+
+head_fits : (o : Objects) (code : flat.Bodies (List Op)) (m : Machine Cursor) (last : LastDispatch) (t : ℕ) → StoodRight m → head m ≡ Some t → Fits o code m → FitsTick o code (record m { last = last }) t
+head_fits o code m last t stood e fit = record { thread = fit.top t e; runs = head_runs m t stood e; waits = fit.items.waits; rests = fit.items.rests; serial = fit.serial; threads = fit.threads }
+
+pub dispatched_fits : (p l : Kernel) (to : Option ℕ) → to ≡ head p.machine → l ≡ after (dispatches (head p.machine)) p → StoodRight p.machine → Fits (objects_in p) p.code p.machine →
+    IfSome to (λ t. FitsTick (objects_in l) l.code l.machine t)
+dispatched_fits p l to top state stood fit = subst (λ (o : Option ℕ). IfSome o (λ t. FitsTick (objects_in l) l.code l.machine t)) (sym top) (by_head (head p.machine) refl)
+  where
+    by_head : (o : Option ℕ) → head p.machine ≡ o → IfSome o (λ t. FitsTick (objects_in l) l.code l.machine t)
+    by_head None e = tt
+    by_head (Some t) e =
+        let last = dispatch_of (head p.machine) in
+        let there : FitsTick (objects_in (record p { machine = (dispatches (head p.machine) (turn p)).machine })) p.code (dispatches (head p.machine) (turn p)).machine t =
+        subst (λ (m : Machine Cursor). FitsTick (objects_in (record p { machine = m })) p.code m t) (sym (dispatched (head p.machine) (turn p))) (head_fits (objects_in p) p.code p.machine last t stood e fit) in
+        subst (λ (x : Kernel). FitsTick (objects_in x) x.code x.machine t) (sym state) there
+
+-- ---- and its effect may count on this
+
+blocked_rests : (s : Status) → is_blocked s ≡ true → is_runnable s ≡ false
+blocked_rests (dormant at) e = refl
+blocked_rests runnable e = absurd (cc)
+blocked_rests (blocked w) e = refl
+blocked_rests ended e = refl
+
+running_waits : (s : Status) → is_runnable s ≡ true → AreBuiltWaits (waiting_in s)
+running_waits (dormant at) e = tt
+running_waits runnable e = tt
+running_waits (blocked w) e = absurd (cc)
+running_waits ended e = tt
+
+same_number : (t u : ℕ) → (t == u) ≡ true → t ≡ u
+same_number t u e = grind arith
+
+pub charged_acts : (p l : Kernel) (t : ℕ) → FitsTick (objects_in p) p.code p.machine t → p.machine.now < 10 ^ 18 →
+    l ≡ after (λ (s : Turn Cursor). becomes later (changes t (λ th. tick_charged (in_unit (flat_bodies p.code) (thread_at p.machine t)).thread) s)) p → CanAct l t
+charged_acts p l t fit early state = subst (λ (k : Kernel). CanAct k t) (sym state) acts
+  where
+    f : Thread Cursor → Thread Cursor
+    f th = tick_charged (in_unit (flat_bodies p.code) (thread_at p.machine t)).thread
+
+    acts : CanAct (record p { machine = record p.machine { threads = (with_thread t f p.machine).threads; now = p.machine.now + 1 } }) t
+    acts = record {
+      threads = changed-length no_thread t f p.machine.threads ∙ fit.threads;
+      runs = charge_same (flat_bodies p.code) p.machine t t fit.thread.can.goes_on ∙ fit.runs;
+      waits = waits_at;
+      rests = rests_at;
+      serial = fit.serial (omega (arith, early));
+    }
+      where
+        waits_at : (u : ℕ) → AreBuiltWaits (waiting_in (thread_at (with_thread t f p.machine) u).status)
+        waits_at u = by_number (t == u) refl
+          where
+            by_number : (b : Bool) → (t == u) ≡ b → AreBuiltWaits (waiting_in (thread_at (with_thread t f p.machine) u).status)
+            by_number true it =
+                let runs = charge_same (flat_bodies p.code) p.machine t t fit.thread.can.goes_on ∙ fit.runs in
+                subst (λ (k : ℕ). AreBuiltWaits (waiting_in (thread_at (with_thread t f p.machine) k).status)) (same_number t u it)
+                (running_waits (thread_at (with_thread t f p.machine) t).status runs)
+            by_number false other =
+                let kept = thread-other p.machine t u f other in
+                subst (λ (th : Thread Cursor). AreBuiltWaits (waiting_in th.status)) (sym kept) (fit.waits u)
+
+        rests_at : (u : ℕ) → is_blocked (thread_at (with_thread t f p.machine) u).status ≡ true → IsUnused (thread_at (with_thread t f p.machine) u).server
+        rests_at u e = by_number (t == u) refl
+          where
+            off : can_run p.machine u ≡ false
+            off = sym (charge_same (flat_bodies p.code) p.machine t u fit.thread.can.goes_on) ∙ blocked_rests (thread_at (with_thread t f p.machine) u).status e
+
+            by_number : (b : Bool) → (t == u) ≡ b → IsUnused (thread_at (with_thread t f p.machine) u).server
+            by_number true it = not_both (can_run p.machine u) off (subst (λ (k : ℕ). can_run p.machine k ≡ true) (same_number t u it) fit.runs)
+            by_number false other =
+                let kept = thread-other p.machine t u f other in
+                subst (λ (th : Thread Cursor). IsUnused th.server) (sym kept) (fit.rests u (sym (ap (λ (th : Thread Cursor). is_blocked th.status) kept) ∙ e))
