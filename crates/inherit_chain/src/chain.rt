@@ -1,5 +1,5 @@
 // Owners, mutex waits, and the execution priorities that follow from them.
-ghost use Rattle.std.specs.Prelude.{◌≡◌, ◌<◌, ◌≤◌, IfOk, IsSome, None, Some, false, is_some, length};
+ghost use Rattle.std.specs.Prelude.{◌≡◌, ◌<◌, ◌≤◌, IfOk, IfSome, IsSome, None, Some, false, is_some, length};
 ghost use Rattle.std.specs.Prelude.{filter};
 ghost use Rattle.std.specs.List.{list_any};
 ghost use Rattle.machine_rules.specs.Lists.{is};
@@ -116,12 +116,13 @@ impl Chain {
         leads_to(&self.claims, &self.mutexes, k, t)
     }
 
-    /// The assigned priority of the thread is another.
+    /// The assigned priority of the thread is another. Of a thread that waits for no mutex, no other priority changes with it.
     pub fn set_base(&mut self, w: &mut Waits, t: Tid, p: Prio) -> Option<Moved>
         requires known { t < length self.old.claims }
         requires placed { IsPlaced self.old w.old }
         ensures chain { self.new ≡ with_claim t (assigned_to p) self.old }
         ensures changes { Changes self.old self.new w.old w.new result }
+        ensures alone { awaited_in self.old.claims t ≡ None → IfSome result (λ m. m.thread ≡ t) }
     {
         change_base(&mut self.claims, &self.mutexes, &mut self.exec, w, t, p)
     }
@@ -167,7 +168,7 @@ impl Chain {
         end_wait(&mut self.claims, &self.mutexes, &mut self.exec, w, t)
     }
 
-    /// The thread, which waits for no mutex, owns the mutex, which was free.
+    /// The thread, which waits for no mutex, owns the mutex, which was free. No other priority changes than its own.
     pub fn take(&mut self, w: &mut Waits, k: ObjId, t: Tid) -> Option<Moved>
         requires known { t < length self.old.claims }
         requires mutex { k < length self.old.mutexes }
@@ -176,6 +177,7 @@ impl Chain {
         requires waits_not { awaited_in self.old.claims t ≡ None }
         ensures chain { self.new ≡ with_mutex k (taken_by t) self.old }
         ensures changes { Changes self.old self.new w.old w.new result }
+        ensures alone { IfSome result (λ m. m.thread ≡ t) }
     {
         take(&self.claims, &mut self.mutexes, &mut self.exec, w, k, t)
     }
