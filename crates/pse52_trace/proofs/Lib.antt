@@ -1,5 +1,4 @@
 mod Examples
 pub mod Lines
-pub mod ShortLines
 pub mod Prints
 pub mod Tells
