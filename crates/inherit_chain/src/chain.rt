@@ -1,11 +1,16 @@
 // Owners, mutex waits, and the execution priorities that follow from them.
-ghost use Rattle.std.specs.Prelude.{◌≡◌, ◌<◌, ◌≤◌, IfOk, IsSome, None, Some, false, is_some, length};
-ghost use Rattle.machine_rules.specs.Mutexes.{freed, taken_by};
+ghost use Rattle.std.specs.Prelude.{◌≡◌, ◌<◌, ◌≤◌, IfOk, IfSome, IsSome, None, Some, false, is_some, length};
+ghost use Rattle.std.specs.Prelude.{filter};
+ghost use Rattle.std.specs.List.{list_any};
+ghost use Rattle.machine_rules.specs.Lists.{is};
+ghost use Rattle.machine_rules.specs.Mutexes.{freed, is_boosting, taken_by};
+ghost use Rattle.machine_rules.specs.State.{Mutex};
 ghost use Rattle.wait_lists.specs.Places.{place_in};
-ghost use Rattle.inherit_chain.specs.Chains.{Links, SameExec, assigned_at, counted, assigned_to, awaited_in, closes_cycle_in, exec_of, mutex_at, waiting_for, with_claim, with_mutex};
+ghost use Rattle.inherit_chain.specs.Chains.{Links, OwnersAreThreads, SameExec, assigned_at, counted, assigned_to, awaited_in, closes_cycle_in, exec_of, mutex_at, waiting_for, with_claim, with_mutex};
 ghost use Rattle.inherit_chain.specs.Fresh.{fresh};
 ghost use Rattle.inherit_chain.specs.Moves.{Changes, IsPlaced, entered, left};
 
+use crate::boosts::owns_boosting;
 use crate::changes::{begin_wait, change_base, end_wait, recount, release, take};
 use crate::claims::{
     MutexKind, MutexState, ThreadClaim, free_mutexes, fresh_claims, leads_to, lowest,
@@ -89,6 +94,20 @@ impl Chain {
         recount(&self.claims, &mut self.mutexes, &self.exec, k, n);
     }
 
+    /// Whether the thread owns a mutex that can raise its priority.
+    pub fn owns_boosting(&self, t: Tid) -> bool
+        ensures { result ≡ list_any (λ (k : Mutex). is_boosting k.protocol) (filter (λ (k : Mutex). is k.owner t) self.now.mutexes) }
+    {
+        owns_boosting(&self.mutexes, t)
+    }
+
+    /// Costs nothing when it runs: each owner of a mutex is a thread.
+    pub fn owners_are_threads(&self)
+        ensures { OwnersAreThreads self.now.claims self.now.mutexes }
+    {
+        let _ = &self.mutexes;
+    }
+
     /// Whether owners and their mutex waits lead from the mutex to the thread.
     pub fn closes_cycle(&self, t: Tid, k: ObjId) -> bool
         requires { k < length self.now.mutexes }
@@ -97,12 +116,13 @@ impl Chain {
         leads_to(&self.claims, &self.mutexes, k, t)
     }
 
-    /// The assigned priority of the thread is another.
+    /// The assigned priority of the thread is another. Of a thread that waits for no mutex, no other priority changes with it.
     pub fn set_base(&mut self, w: &mut Waits, t: Tid, p: Prio) -> Option<Moved>
         requires known { t < length self.old.claims }
         requires placed { IsPlaced self.old w.old }
         ensures chain { self.new ≡ with_claim t (assigned_to p) self.old }
         ensures changes { Changes self.old self.new w.old w.new result }
+        ensures alone { awaited_in self.old.claims t ≡ None → IfSome result (λ m. m.thread ≡ t) }
     {
         change_base(&mut self.claims, &self.mutexes, &mut self.exec, w, t, p)
     }
@@ -148,7 +168,7 @@ impl Chain {
         end_wait(&mut self.claims, &self.mutexes, &mut self.exec, w, t)
     }
 
-    /// The thread, which waits for no mutex, owns the mutex, which was free.
+    /// The thread, which waits for no mutex, owns the mutex, which was free. No other priority changes than its own.
     pub fn take(&mut self, w: &mut Waits, k: ObjId, t: Tid) -> Option<Moved>
         requires known { t < length self.old.claims }
         requires mutex { k < length self.old.mutexes }
@@ -157,6 +177,7 @@ impl Chain {
         requires waits_not { awaited_in self.old.claims t ≡ None }
         ensures chain { self.new ≡ with_mutex k (taken_by t) self.old }
         ensures changes { Changes self.old self.new w.old w.new result }
+        ensures alone { IfSome result (λ m. m.thread ≡ t) }
     {
         take(&self.claims, &mut self.mutexes, &mut self.exec, w, k, t)
     }

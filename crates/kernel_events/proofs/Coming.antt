@@ -1,6 +1,6 @@
 -- A thread that came to run has a direct move.
 use Rattle.std.proofs.Common.{◌≡◌, ℕ, zero, suc, List, [], ◌∷◌, ◌++◌, Bool, true, false, ap, arith, refl, sym, ◌∙◌}
-use Rattle.std.specs.Prelude.{None, Option, Some, ◌==◌, ◌&&◌, not, slice_index_or, if◌then◌else◌}
+use Rattle.std.specs.Prelude.{None, Option, Some, ◌==◌, ◌&&◌, nat_lt, not, pred, slice_index_or, if◌then◌else◌}
 use Rattle.thread_lists.specs.Threads.{stands_in}
 use Rattle.tick_num.specs.declared.item.Item.{Item}
 use Rattle.tick_num.specs.declared.item.Item.TheVariants as item
@@ -12,23 +12,27 @@ use Rattle.script_tree.specs.declared.call.Call.TheVariants as call
 use Rattle.pse52_trace.specs.declared.event.Event.{Event}
 use Rattle.pse52_trace.specs.declared.event.Event.TheVariants as event
 use Rattle.machine_rules.specs.Bodies.{Bodies}
-use Rattle.machine_rules.specs.State.{Machine, Thread, Wait, Waiting, for_mutex, for_time}
+use Rattle.machine_rules.specs.State.{Machine, Thread, Wait, Waiting, for_condition, for_end, for_message, for_mutex, for_mutex_again, for_room, for_semaphore, for_signal, for_time}
+use Rattle.machine_rules.specs.declared.thread.CondEnd.{CondEnd}
+use Rattle.machine_rules.specs.declared.thread.CondEnd.TheVariants as cond_end
 use Rattle.machine_rules.specs.Lists.{changed_at}
-use Rattle.machine_rules.specs.Threads.{can_run, is_dormant, is_runnable, lives, no_thread, thread_at, waiting_of}
-use Rattle.machine_rules.specs.Turns.{By, Turn, answered, changes, has_passed, moves, moves_if, returns, tells, with_thread}
+use Rattle.machine_rules.specs.Threads.{can_run, is_dormant, is_runnable, lives, mutex_at, no_thread, number_of, semaphore_at, thread_at, waiting_of}
+use Rattle.machine_rules.specs.Turns.{By, Turn, answered, changes, changes_mutex, changes_semaphore, has_passed, is_late, moves, moves_if, returns, tells, with_thread}
 use Rattle.machine_rules.specs.CallNames.{name_of}
 use Rattle.machine_rules.specs.Servers.{activates_if, activates_server, amount_of, high_server, refills_for, regains_high, with_server}
-use Rattle.machine_rules.specs.Waking.{call_in, put_to_wait, started, starts, wakes, woken}
+use Rattle.machine_rules.specs.Waking.{blocks, call_in, cancelled_value, ending_with, put_to_wait, started, starts, wakes, wakes_cancelled, wakes_telling, woken}
 use Rattle.machine_rules.specs.Lives.{inherited_mask}
 use Rattle.machine_rules.specs.Scheduling.{takes_priority, with_policy, with_priority}
-use Rattle.machine_rules.specs.Mutexes.{owns_boosting}
+use Rattle.machine_rules.specs.Mutexes.{LockAnswer, counted_up, counts, hands_over, lock_answer, locks_on, must_wait, owns, owns_boosting, refused, releases, returns_from_wait, taken_by, takes, trylock_answer, unless_late, unlocks, waits_for_mutex, wakes_owner}
+use Rattle.machine_rules.specs.Semaphores.{posts_to, semaphore_limit, waits_on_semaphore, waits_semaphore}
+use Rattle.machine_rules.specs.Waiters.{Waiter, best_waiter}
 use Rattle.machine_rules.specs.Calls.{call_effect}
 use Rattle.machine_rules.specs.DueItems.{handles, times_out, times_out_of}
 use Rattle.machine_rules.proofs.Reading.{changed-keeps, thread-other}
 use Rattle.machine_flat.specs.KnownCalls.{Objects}
 use Rattle.kernel_events.specs.Built.{IsBuilt}
 use Rattle.kernel_state.specs.Due.{IsKnown}
-use Rattle.kernel_events.specs.Handled.{AreBuiltWaits, IsBuiltWait}
+use Rattle.kernel_sync.specs.Waits.{AreBuiltWaits, IsBuiltWait}
 use Rattle.kernel_state.proofs.StoodAgain.{HaveCome}
 
 last_in : (t : ℕ) (us : List ℕ) → stands_in t (us ++ t ∷ []) ≡ true
@@ -67,9 +71,11 @@ starts_come bodies t mask s =
     let f = started bodies t mask s.machine.now in
     moved_comes t f (event.Start t) (thread_at (with_thread t f s.machine) t).server s
 
+wakes_telling_come : {P : Type 0} (e : Event) (t : ℕ) (r : Res) (value : ℕ) (s : Turn P) → HaveCome s.machine (wakes_telling e t r value s).direct (wakes_telling e t r value s).machine
+wakes_telling_come e t r value s = moved_comes t (woken r value) e (high_server (thread_at (with_thread t (woken r value) s.machine) t).server) s
+
 wakes_come : {P : Type 0} (t : ℕ) (r : Res) (value : ℕ) (s : Turn P) → HaveCome s.machine (wakes t r value s).direct (wakes t r value s).machine
-wakes_come t r value s =
-    moved_comes t (woken r value) (event.Return t (name_of (call_in (waiting_of s.machine t))) r value) (high_server (thread_at (with_thread t (woken r value) s.machine) t).server) s
+wakes_come t r value s = wakes_telling_come (event.Return t (name_of (call_in (waiting_of s.machine t))) r value) t r value s
 
 -- ---- where nobody came
 
@@ -106,6 +112,7 @@ refills_fewer t (Some server) s u r =
 
 times_out_of_come : {P : Type 0} (x : Wait) (t : ℕ) (s : Turn P) → IsBuiltWait x → HaveCome s.machine (times_out_of x t s).direct (times_out_of x t s).machine
 times_out_of_come (for_mutex k) t s built = wakes_come t res.Timedout 0 s
+times_out_of_come (for_semaphore k) t s built = wakes_come t res.Timedout 0 s
 times_out_of_come for_time t s built = wakes_come t res.Zero 0 s
 times_out_of_come _ t s built = absurd built
 
@@ -170,6 +177,66 @@ setsched_come b u new now a d s =
 sleeps_come : {P : Type 0} (b : By) (w : Waiting) (s : Turn P) → Comes s (changes b.thread (put_to_wait w) s)
 sleeps_come b w s = fewer_come s.machine (changes b.thread (put_to_wait w) s).machine s.direct (changes_fewer b.thread (put_to_wait w) s (λ h. absurd cc))
 
+blocks_come : {P : Type 0} (b : By) (wait : Wait) (due : Option ℕ) (s : Turn P) → Comes s (blocks b wait due s)
+blocks_come b wait due s = sleeps_come b _ s
+
+-- ---- mutexes
+
+locks_on_come : {P : Type 0} (a : LockAnswer) (b : By) (k : ℕ) (due : Option ℕ) (s : Turn P) → Comes s (locks_on a b k due s)
+locks_on_come (refused r) b k due s = returns_come b r 0 s
+locks_on_come counts b k due s = returns_come b res.Zero 0 (changes_mutex k counted_up s)
+locks_on_come takes b k due s = returns_come b res.Zero 0 (changes_mutex k (taken_by b.thread) s)
+locks_on_come must_wait b k due s = blocks_come b (for_mutex k) due s
+
+cancelled_come : {P : Type 0} (t : ℕ) (s : Turn P) → Comes s (wakes_cancelled t s)
+cancelled_come t s =
+    let x = wakes_telling (event.Cancel t) t res.Zero 0 s in
+    λ u off runs. wakes_telling_come (event.Cancel t) t res.Zero 0 s u off (changes_fewer t (ending_with cancelled_value) x (λ h. h) u runs)
+
+returns_from_wait_come : {P : Type 0} (how : CondEnd) (t : ℕ) (s : Turn P) → Comes s (returns_from_wait how t s)
+returns_from_wait_come cond_end.Signalled t s = wakes_come t res.Zero 0 s
+returns_from_wait_come cond_end.Timedout t s = wakes_come t res.Timedout 0 s
+returns_from_wait_come cond_end.Cancelled t s = cancelled_come t s
+
+wakes_owner_come : {P : Type 0} (wait : Wait) (t : ℕ) (s : Turn P) → Comes s (wakes_owner wait t s)
+wakes_owner_come (for_mutex_again k how) t s = returns_from_wait_come how t s
+wakes_owner_come (for_mutex k) t s = wakes_come t res.Zero 0 s
+wakes_owner_come (for_condition c k) t s = wakes_come t res.Zero 0 s
+wakes_owner_come (for_end u) t s = wakes_come t res.Zero 0 s
+wakes_owner_come (for_semaphore k) t s = wakes_come t res.Zero 0 s
+wakes_owner_come for_time t s = wakes_come t res.Zero 0 s
+wakes_owner_come (for_room q message) t s = wakes_come t res.Zero 0 s
+wakes_owner_come (for_message q) t s = wakes_come t res.Zero 0 s
+wakes_owner_come (for_signal signals) t s = wakes_come t res.Zero 0 s
+
+hands_over_come : {P : Type 0} (o : Option Waiter) (k : ℕ) (s : Turn P) → Comes s (hands_over o k s)
+hands_over_come None k s = fewer_come s.machine s.machine s.direct (λ u r. r)
+hands_over_come (Some w) k s = wakes_owner_come w.waiting.wait w.thread (changes_mutex k (taken_by w.thread) s)
+
+-- behind the caller's return
+returned_come : {P : Type 0} (b : By) (r : Res) (value : ℕ) (f : Turn P → Turn P) (s : Turn P) → Comes (returns b r value s) (f (returns b r value s)) → Comes s (f (returns b r value s))
+returned_come b r value f s h = let x = f (returns b r value s) in come_later s.machine (returns b r value s).machine x.machine x.direct (returns_same b r value s) h
+
+unlocks_come : {P : Type 0} (b : By) (k : ℕ) (s : Turn P) → Comes s (unlocks b k s)
+unlocks_come b k s =
+    if_come (not (owns s.machine b.thread k)) _ _ s (returns_come b res.Perm 0 s)
+    (if_come (nat_lt 1 (mutex_at s.machine k).count) _ _ s (returns_come b res.Zero 0 s)
+    (returned_come b res.Zero 0 (releases k) s (hands_over_come (best_waiter (returns b res.Zero 0 s).machine (waits_for_mutex k)) k (returns b res.Zero 0 s))))
+
+-- ---- semaphores
+
+waits_semaphore_come : {P : Type 0} (b : By) (k : ℕ) (due : Option ℕ) (s : Turn P) → Comes s (waits_semaphore b k due s)
+waits_semaphore_come b k due s =
+    if_come (nat_lt 0 (semaphore_at s.machine k)) _ _ s (returns_come b res.Zero 0 (changes_semaphore k pred s))
+    (if_come (is_late due s.machine) _ _ s (returns_come b res.Timedout 0 s) (blocks_come b (for_semaphore k) due s))
+
+posts_come : {P : Type 0} (o : Option Waiter) (b : By) (k : ℕ) (s : Turn P) → Comes s (posts_to o b k s)
+posts_come (Some w) b k s = returned_come b res.Zero 0 (wakes w.thread res.Zero 0) s (wakes_come w.thread res.Zero 0 (returns b res.Zero 0 s))
+posts_come None b k s =
+    if_come (semaphore_at s.machine k == semaphore_limit) _ _ s (returns_come b res.Overflow 0 s) (returns_come b res.Zero 0 (changes_semaphore k suc s))
+
+-- ---- the table of calls
+
 pub calls_come : {P : Type 0} (bodies : Bodies P) (o : Objects) (b : By) (c : Call) (s : Turn P) → IsBuilt o c → Comes s (call_effect bodies b c s)
 calls_come bodies o b call.Yield s built = fewer_come s.machine (returns b res.Zero 0 (moves b.thread s)).machine (moves b.thread s).direct (returns_fewer b res.Zero 0 s)
 calls_come bodies o b (call.Create u) s built =
@@ -181,6 +248,17 @@ calls_come bodies o b (call.Setsched u policy) s built =
     let c = changes u (with_policy policy s.machine.now) r in
     let x = activates_if (can_run s.machine u) u c in
     if_come (lives s.machine u) _ _ s (setsched_come b u policy s.machine.now (can_run s.machine u) (not (owns_boosting x.machine u)) s) (returns_come b res.Srch 0 s)
+calls_come bodies o b (call.Lock k) s built = locks_on_come (lock_answer s.machine b.thread k) b k None s
+calls_come bodies o b (call.Timedlock k at) s built =
+    let due = Some (number_of s.machine b.thread at) in locks_on_come (unless_late due s.machine (lock_answer s.machine b.thread k)) b k due s
+calls_come bodies o b (call.Trylock k) s built = locks_on_come (trylock_answer s.machine b.thread k) b k None s
+calls_come bodies o b (call.Unlock k) s built = unlocks_come b k s
+calls_come bodies o b (call.SemWait k) s built = waits_semaphore_come b k None s
+calls_come bodies o b (call.SemTimedwait k at) s built = waits_semaphore_come b k (Some (number_of s.machine b.thread at)) s
+calls_come bodies o b (call.SemTrywait k) s built = if_come (semaphore_at s.machine k == 0) _ _ s (returns_come b res.Again 0 s) (returns_come b res.Zero 0 (changes_semaphore k pred s))
+calls_come bodies o b (call.SemGetvalue k) s built = returns_come b res.Zero (semaphore_at s.machine k) s
+calls_come bodies o b (call.SemPost k) s built = posts_come (best_waiter s.machine (waits_on_semaphore k)) b k s
+calls_come bodies o b (call.ClockNanosleep at) s built = if_come (has_passed _ s.machine) _ _ s (returns_come b res.Zero 0 s) (sleeps_come b _ s)
 calls_come bodies o b (call.Nanosleep k) s built = if_come (has_passed _ s.machine) _ _ s (returns_come b res.Zero 0 s) (sleeps_come b _ s)
 calls_come bodies o b call.Gettime s built = returns_come b res.Zero s.machine.now s
 calls_come bodies o b _ s built = absurd (let e : false ≡ true = built.built in cc)

@@ -1,20 +1,11 @@
 -- What a due item asks of the machine.
-use Rattle.std.specs.Prelude.{◌≡◌, ℕ, None, Option, Some, true, false}
+use Rattle.std.specs.Prelude.{◌≡◌, ℕ, true, false}
 use Rattle.script_flat.specs.declared.cursor.Cursor.{Cursor}
-use Rattle.machine_rules.specs.State.{Machine, Wait, Waiting, for_mutex, for_time}
+use Rattle.machine_rules.specs.State.{Machine}
 use Rattle.machine_rules.specs.Threads.{is_blocked, thread_at, waiting_of}
 use Rattle.machine_rules.specs.Servers.{has_high}
 use Rattle.thread_blocks.specs.Unused.{IsUnused}
-
--- the waits that are built
-abbrev pub IsBuiltWait : Wait → Type 0
-IsBuiltWait (for_mutex k) = Unit {0}
-IsBuiltWait for_time = Unit {0}
-IsBuiltWait other = ⊥
-
-abbrev pub AreBuiltWaits : Option Waiting → Type 0
-AreBuiltWaits None = Unit {0}
-AreBuiltWaits (Some w) = IsBuiltWait w.wait
+use Rattle.kernel_sync.specs.Waits.{AreBuiltWaits}
 
 -- a timeout ends a wait that is built; what wakes is activated, and so is what a refill gives its high priority back
 pub record CanHandle (m : Machine Cursor) : Type 0 where

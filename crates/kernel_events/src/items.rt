@@ -8,7 +8,8 @@ ghost use Rattle.machine_rules.specs.DueItems.{handles, item_done, times_out};
 ghost use Rattle.machine_flat.specs.FlatBodies.{flat_bodies};
 ghost use Rattle.thread_blocks.specs.Unused.{IsUnused};
 ghost use Rattle.kernel_state.specs.Due.{IsKnown};
-ghost use Rattle.kernel_events.specs.Handled.{AreBuiltWaits, CanHandle};
+ghost use Rattle.kernel_sync.specs.Waits.{AreBuiltWaits};
+ghost use Rattle.kernel_events.specs.Handled.{CanHandle};
 ghost use Rattle.kernel_state.specs.Kernel.{Kernel, after, refilled_telling, told};
 ghost use Rattle.kernel_state.specs.Stood.{StoodRight};
 
@@ -48,7 +49,7 @@ fn refill<K: Sink>(p: &mut Parts, t: Tid, out: &mut Tracer<'_, K>)
     tell_refill(p, t, &r, runs, out);
 }
 
-// A wait ends at its time: a sleep is over, and a lock is given up.
+// A wait ends at its time: a sleep is over, and what was waited for is given up.
 fn time_out<K: Sink>(p: &mut Parts, t: Tid, out: &mut Tracer<'_, K>)
     requires known { t < length p.old.names }
     requires waits { AreBuiltWaits (waiting_of p.old.machine t) }
@@ -62,6 +63,7 @@ fn time_out<K: Sink>(p: &mut Parts, t: Tid, out: &mut Tracer<'_, K>)
         None => return,
         Some(Wait::Time) => p.wake(t, Res::Zero, 0, out),
         Some(Wait::Mutex(_)) => p.wake(t, Res::Timedout, 0, out),
+        Some(Wait::Semaphore(_)) => p.wake(t, Res::Timedout, 0, out),
         Some(_) => unreachable!(),
     }
 }

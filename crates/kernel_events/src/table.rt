@@ -1,18 +1,19 @@
 // The table of calls: the effect of each.
-ghost use Rattle.std.specs.Prelude.{◌≡◌, ◌≤◌, ◌<◌, ◌^◌, ℕ, length, true};
+ghost use Rattle.std.specs.Prelude.{◌≡◌, ◌≤◌, ◌<◌, ◌^◌, length, true};
 ghost use Rattle.pse52_trace.specs.Tells.{Tells};
-ghost use Rattle.machine_rules.specs.Threads.{can_run, is_blocked, thread_at};
+ghost use Rattle.machine_rules.specs.Threads.{can_run};
 ghost use Rattle.machine_rules.specs.Turns.{returns};
 ghost use Rattle.machine_rules.specs.Calls.{call_effect};
 ghost use Rattle.kernel_events.specs.Built.{IsBuilt, objects_in};
 ghost use Rattle.machine_flat.specs.FlatBodies.{flat_bodies};
-ghost use Rattle.thread_blocks.specs.Unused.{IsUnused};
+ghost use Rattle.kernel_sync.specs.Waits.{BlockedRest, OnlyBuiltWaits};
 ghost use Rattle.kernel_state.specs.Kernel.{after, by, told};
 
 use crate::lives::make_create;
 use crate::scheduling::{make_setprio, make_setsched, make_yield};
 use crate::time::{end_of_sleep, sleep_until};
 use kernel_state::Parts;
+use kernel_sync::{get_value, lock, post, try_lock, try_wait, unlock, wait};
 use pse52_trace::Tracer;
 use rt_io::Sink;
 use script_tree::Call;
@@ -24,7 +25,8 @@ pub fn make_call<K: Sink>(p: &mut Parts, t: Tid, call: &Call, out: &mut Tracer<'
     requires built { IsBuilt (objects_in p.old) call.now }
     requires threads { length p.old.machine.threads ≡ length p.old.names }
     requires runs { can_run p.old.machine t ≡ true }
-    requires rests { (u : ℕ) → is_blocked (thread_at p.old.machine u).status ≡ true → IsUnused (thread_at p.old.machine u).server }
+    requires waits { OnlyBuiltWaits p.old.machine }
+    requires rests { BlockedRest p.old.machine }
     requires serial { p.old.machine.next_serial < 2 ^ 63 }
     requires room { length p.old.direct < 256 }
     requires early { p.old.machine.now ≤ 10 ^ 18 }
@@ -36,7 +38,17 @@ pub fn make_call<K: Sink>(p: &mut Parts, t: Tid, call: &Call, out: &mut Tracer<'
         Call::Create(u) => make_create(p, t, call, *u, out),
         Call::Setprio(u, prio) => make_setprio(p, t, call, *u, *prio, out),
         Call::Setsched(u, policy) => make_setsched(p, t, call, *u, *policy, out),
+        Call::Lock(k) => lock(p, t, call, *k, None, out),
+        Call::Timedlock { mutex, at } => lock(p, t, call, *mutex, Some(p.moment(t, at)), out),
+        Call::Trylock(k) => try_lock(p, t, call, *k, out),
+        Call::Unlock(k) => unlock(p, t, call, *k, out),
+        Call::SemWait(k) => wait(p, t, call, *k, None, out),
+        Call::SemTimedwait { sem, at } => wait(p, t, call, *sem, Some(p.moment(t, at)), out),
+        Call::SemTrywait(k) => try_wait(p, t, call, *k, out),
+        Call::SemGetvalue(k) => get_value(p, t, call, *k, out),
+        Call::SemPost(k) => post(p, t, call, *k, out),
         Call::Nanosleep(n) => sleep_until(p, t, call, end_of_sleep(p.instant(), *n), out),
+        Call::ClockNanosleep { at } => sleep_until(p, t, call, p.moment(t, at), out),
         Call::Gettime => p.returns(t, call, Res::Zero, p.instant().get(), out),
         _ => unreachable!(),
     }

@@ -1,6 +1,7 @@
 // Sleeping.
-ghost use Rattle.std.specs.Prelude.{◌≡◌, ◌≤◌, ◌<◌, ◌+◌, ◌*◌, ◌^◌, length};
+ghost use Rattle.std.specs.Prelude.{◌≡◌, ◌≤◌, ◌<◌, ◌+◌, ◌*◌, ◌^◌, length, true};
 ghost use Rattle.pse52_trace.specs.Tells.{Tells};
+ghost use Rattle.machine_rules.specs.Threads.{can_run};
 ghost use Rattle.machine_rules.specs.Turns.{returns};
 ghost use Rattle.machine_rules.specs.Timers.{sleeps_until};
 ghost use Rattle.kernel_state.specs.Kernel.{after, by, told};
@@ -20,7 +21,8 @@ pub(crate) fn sleep_until<K: Sink>(
     at: Tick,
     out: &mut Tracer<'_, K>,
 )
-    requires { t < length p.old.names }
+    requires known { t < length p.old.names }
+    requires runs { can_run p.old.machine t ≡ true }
     ensures state { p.new ≡ after (sleeps_until (by t call.now) at) p.old }
     ensures told { Tells K.text K.faults p.old.names out.old out.new (told (sleeps_until (by t call.now) at) p.old) }
 {

@@ -1,5 +1,5 @@
 pub mod Turns
-pub mod Alone
+pub mod InRange
 pub mod SettlingSteps
 pub mod SettledSame
 pub mod SweepNothing
@@ -9,3 +9,4 @@ pub mod DueFirst
 pub mod TickParts
 pub mod Opened
 pub mod Closing
+pub mod Waits

@@ -5,3 +5,4 @@ pub mod Settled
 pub mod Stood
 pub mod Due
 pub mod Leaps
+pub mod Waits

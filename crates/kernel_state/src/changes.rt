@@ -13,9 +13,11 @@ ghost use Rattle.machine_flat.specs.Placed.{ArePlaced};
 ghost use Rattle.machine_flat.specs.FlatBodies.{flat_bodies};
 ghost use Rattle.machine_rules.specs.Turns.{answered, changes};
 ghost use Rattle.machine_rules.specs.Waking.{put_to_wait, woken};
-ghost use Rattle.thread_blocks.specs.Plain.{waiting_of};
+ghost use Rattle.machine_rules.specs.Priorities.{mutex_awaited_by, mutex_waited};
+ghost use Rattle.thread_blocks.specs.Plain.{wait_of, waiting_of};
+ghost use Rattle.kernel_state.specs.Waits.{CanWait};
 ghost use Rattle.kernel_state.specs.Kernel.{after};
-ghost use Rattle.std.specs.Prelude.{Some, is_some};
+ghost use Rattle.std.specs.Prelude.{None, Some, is_some};
 ghost use Rattle.sporadic_server.specs.Server.{plan, refill, replenishment};
 ghost use Rattle.machine_rules.specs.Ticks.{consumed_in};
 ghost use Rattle.thread_blocks.specs.Ends.{refilled_of};
@@ -33,21 +35,24 @@ impl Parts {
         requires { t < length self.old.names }
         ensures { self.new ≡ after (changes t (answered res value)) self.old }
     {
-        self.threads.get_mut(t).answer(res, value);
+        self.table.answer(t, res, value);
     }
 
     pub fn wake_thread(&mut self, t: Tid, res: Res, value: u64)
         requires { t < length self.old.names }
         ensures { self.new ≡ after (changes t (woken res value)) self.old }
     {
-        self.threads.get_mut(t).wake(res, value);
+        self.table.wake(t, res, value);
     }
 
-    pub fn block_thread(&mut self, t: Tid, waiting: Waiting)
-        requires { t < length self.old.names }
+    #[tactic(auto, using(crate::proofs::Waits::can_await))]
+    pub(crate) fn block_thread(&mut self, t: Tid, waiting: Waiting)
+        requires known { t < length self.old.names }
+        requires waits_not { mutex_awaited_by (thread_at self.old.machine t) ≡ None }
+        requires may { CanWait self.old.machine t (mutex_waited (wait_of waiting.wait)) }
         ensures { self.new ≡ after (changes t (put_to_wait (waiting_of waiting))) self.old }
     {
-        self.threads.get_mut(t).block(waiting);
+        self.table.block(t, waiting);
     }
 
     pub fn activate_thread(&mut self, t: Tid)
@@ -56,7 +61,7 @@ impl Parts {
         requires early { self.old.machine.now ≤ 10 ^ 18 }
         ensures { self.new ≡ after (changes t (with_server (activate self.old.machine.now))) self.old }
     {
-        self.threads.get_mut(t).activate(self.instant);
+        self.table.activate(t, self.instant);
     }
 
     // The main frame of a thread, at its beginning.
@@ -78,7 +83,7 @@ impl Parts {
         ensures { self.new ≡ after (changes t (started (flat_bodies self.old.code) t mask self.old.machine.now)) self.old }
     {
         let main = self.main_frame(t);
-        self.threads.get_mut(t).start(mask, self.instant, main);
+        self.table.start(t, mask, self.instant, main);
     }
 
     pub fn set_thread_priority(&mut self, t: Tid, p: Prio)
@@ -86,7 +91,7 @@ impl Parts {
         requires takes { takes_priority (thread_at self.old.machine t).policy p ≡ true }
         ensures { self.new ≡ after (changes t (with_priority p)) self.old }
     {
-        self.threads.get_mut(t).set_priority(p);
+        self.table.set_priority(t, p);
     }
 
     pub fn set_thread_policy(&mut self, t: Tid, new: Policy)
@@ -94,7 +99,7 @@ impl Parts {
         requires early { self.old.machine.now ≤ 10 ^ 18 }
         ensures { self.new ≡ after (changes t (with_policy new self.old.machine.now)) self.old }
     {
-        self.threads.get_mut(t).set_policy(new, self.instant);
+        self.table.set_policy(t, new, self.instant);
     }
 
     /// The unit that a thread is in, or takes next. It is not ending.
@@ -106,21 +111,21 @@ impl Parts {
         ensures state { self.new ≡ after (changes t (λ th. (in_unit (flat_bodies self.old.code) (thread_at self.old.machine t)).thread)) self.old }
         ensures thread { thread_at self.new.machine t ≡ (in_unit (flat_bodies self.old.code) (thread_at self.old.machine t)).thread }
     {
-        self.threads.get_mut(t).take(&self.code)
+        self.table.take_unit(t, &self.code)
     }
 
     pub fn clear_slice(&mut self, t: Tid)
         requires { t < length self.old.names }
         ensures { self.new ≡ after (changes t without_slice) self.old }
     {
-        self.threads.get_mut(t).clear_slice();
+        self.table.clear_slice(t);
     }
 
     pub fn end_thread(&mut self, t: Tid)
         requires { t < length self.old.names }
         ensures { self.new ≡ after (changes t without_life) self.old }
     {
-        self.threads.get_mut(t).end();
+        self.table.end(t);
     }
 
     pub fn plan_thread(&mut self, t: Tid) -> Replenish
@@ -129,7 +134,7 @@ impl Parts {
         ensures value { Some result ≡ option_map replenishment (thread_at self.old.machine t).server }
         ensures state { self.new ≡ after (changes t (with_server plan)) self.old }
     {
-        self.threads.get_mut(t).plan()
+        self.table.plan(t)
     }
 
     pub fn refill_thread(&mut self, t: Tid) -> Refilled
@@ -138,6 +143,6 @@ impl Parts {
         ensures value { Some result ≡ option_map refilled_of (thread_at self.old.machine t).server }
         ensures state { self.new ≡ after (changes t (with_server refill)) self.old }
     {
-        self.threads.get_mut(t).refill()
+        self.table.refill(t)
     }
 }

@@ -20,7 +20,7 @@ impl Parts {
         ensures state { self.new ≡ after (changes t (after_ticks k)) self.old }
         ensures thread { thread_at self.new.machine t ≡ after_ticks k (thread_at self.old.machine t) }
     {
-        self.threads.get_mut(t).charge(k);
+        self.table.charge(t, k);
     }
 
     fn pass(&mut self, k: u64)

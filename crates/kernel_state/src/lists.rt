@@ -10,13 +10,12 @@ use crate::parts::Parts;
 use tick_num::{Prio, Tid};
 
 impl Parts {
-    /// The execution priority. No mutex is built yet, so it is the one that the policy gives.
-    #[tactic(auto, using(crate::proofs::Alone::exec_alone))]
+    /// The execution priority.
     pub fn exec(&self, t: Tid) -> Prio
         requires { t < length self.now.names }
         ensures { result ≡ exec self.now.machine t }
     {
-        self.threads.get(t).assigned()
+        self.table.exec(t)
     }
 
     /// The priority of the list on which it stands.
@@ -57,20 +56,22 @@ impl Parts {
     }
 
     // Costs nothing when it runs: no priority is out of its range.
-    #[tactic(auto, using(crate::proofs::Alone::all_small))]
+    #[tactic(auto, using(crate::proofs::InRange::all_small))]
     pub(crate) fn fits(&self)
         requires { (t : ℕ) → t < length self.now.machine.threads → IsPriority (exec self.now.machine t) }
         ensures { HavePriorities self.now.machine }
     {
-        let _ = &self.names;
+        self.table.owners_are_threads();
     }
 
-    /// No mutex is built yet, so none boosts it.
+    /// It becomes the tail of its list at the next settling, unless it owns a mutex that can raise its priority.
     pub fn move_unless_boosted(&mut self, t: Tid)
         requires known { t < length self.old.names }
         requires room { length self.old.direct < 256 }
         ensures { self.new ≡ after (moves_unless_boosted t) self.old }
     {
-        self.direct.push(t);
+        if !self.table.owns_boosting(t) {
+            self.direct.push(t);
+        }
     }
 }

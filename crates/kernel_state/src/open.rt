@@ -13,9 +13,10 @@ use machine_rules::LastDispatch;
 use pse52_trace::Names;
 use ready_lists::Ready;
 use script_flat::Code;
+use semaphores::Semaphores;
 use script_tree::{Decl, Kind, Script};
 use std::alloc::{AllocError, Global};
-use thread_blocks::Threads;
+use thread_table::Table;
 use tick_num::{Tick, Tid};
 
 fn tid_of(place: usize) -> Tid
@@ -64,16 +65,17 @@ impl Parts {
         requires { IsRunnable script.now }
         ensures { IfOk result (λ k. k ≡ opened script.now) }
     {
-        let threads = Threads::open(alloc, script)?;
-        let names = open_names(alloc, script, threads.count())?;
+        let table = Table::open(alloc, script)?;
+        let names = open_names(alloc, script, table.count())?;
         let code = Code::open(alloc, script)?;
-        let ready = Ready::open(alloc, threads.count())?;
+        let ready = Ready::open(alloc, table.count())?;
+        let semaphores = Semaphores::open(alloc, script)?;
         Ok(Parts {
             code,
             names,
-            threads,
+            table,
             ready,
-            semaphores: Vec::new(alloc),
+            semaphores,
             quantum: script.quantum,
             instant: Tick::default(),
             last: LastDispatch::NoTick,

@@ -17,8 +17,9 @@ use pse52_trace::{Event, Names, Tracer};
 use ready_lists::Ready;
 use rt_io::Sink;
 use script_flat::Code;
+use semaphores::Semaphores;
 use std::marker::Model;
-use thread_blocks::Threads;
+use thread_table::Table;
 use tick_num::{Tick, Tid};
 
 /// All parts of the kernel.
@@ -26,9 +27,9 @@ use tick_num::{Tick, Tid};
 pub struct Parts {
     pub(crate) code: Code,
     pub(crate) names: Names,
-    pub(crate) threads: Threads,
+    pub(crate) table: Table,
     pub(crate) ready: Ready,
-    pub(crate) semaphores: Vec<u32>,
+    pub(crate) semaphores: Semaphores,
     pub(crate) quantum: u64,
     pub(crate) instant: Tick,
     pub(crate) last: LastDispatch,
@@ -76,7 +77,7 @@ impl Parts {
         ensures threads { result ≡ length self.now.machine.threads }
     {
         let _ = &self.names;
-        self.threads.count()
+        self.table.count()
     }
 
     /// The thread of a number.

@@ -1,9 +1,10 @@
 // What can be asked of a thread.
-ghost use Rattle.std.specs.Prelude.{◌≡◌, ◌<◌, length, option_map};
+ghost use Rattle.std.specs.Prelude.{◌≡◌, ◌≤◌, ◌<◌, ◌*◌, ◌^◌, length, option_map};
 ghost use Rattle.sporadic_server.specs.Server.{ServerState};
 ghost use Rattle.machine_rules.specs.Servers.{high_server};
-ghost use Rattle.machine_rules.specs.Threads.{can_run, is_dormant, lives, thread_at, waiting_of as waiting_at};
+ghost use Rattle.machine_rules.specs.Threads.{can_run, is_dormant, lives, number_of, thread_at, waiting_of as waiting_at};
 ghost use Rattle.machine_rules.specs.State.{Waiting};
+ghost use Rattle.machine_flat.specs.KnownCalls.{IsOperand};
 ghost use Rattle.thread_blocks.specs.Plain.{wait_of};
 ghost use Rattle.machine_rules.specs.Lives.{inherited_mask};
 ghost use Rattle.machine_rules.specs.Scheduling.{takes_priority};
@@ -19,7 +20,7 @@ ghost use Rattle.machine_rules.specs.Ticks.{tick_end};
 ghost use Rattle.thread_blocks.specs.Ends.{end_of};
 
 use crate::parts::Parts;
-use script_tree::Call;
+use script_tree::{Call, Operand};
 use sporadic_server::BudgetLine;
 use thread_blocks::{TickEnd, Wait};
 use tick_num::{Prio, SigSet, Tick, Tid};
@@ -29,7 +30,7 @@ impl Parts {
         requires { t < length self.now.names }
         ensures { result ≡ can_run self.now.machine t }
     {
-        self.threads.get(t).is_runnable()
+        self.table.thread(t).is_runnable()
     }
 
     /// The capacity of a server at the high priority.
@@ -37,21 +38,21 @@ impl Parts {
         requires { t < length self.now.names }
         ensures { result ≡ option_map (λ (s : ServerState). s.capacity) (high_server (thread_at self.now.machine t).server) }
     {
-        self.threads.get(t).high_capacity()
+        self.table.thread(t).high_capacity()
     }
 
     pub fn is_dormant(&self, t: Tid) -> bool
         requires { t < length self.now.names }
         ensures { result ≡ is_dormant (thread_at self.now.machine t).status }
     {
-        self.threads.get(t).is_dormant()
+        self.table.thread(t).is_dormant()
     }
 
     pub fn is_live(&self, t: Tid) -> bool
         requires { t < length self.now.names }
         ensures { result ≡ lives self.now.machine t }
     {
-        self.threads.get(t).is_live()
+        self.table.thread(t).is_live()
     }
 
     /// The call in which it is blocked.
@@ -59,7 +60,7 @@ impl Parts {
         requires { t < length self.now.names }
         ensures { result ≡ call_in (waiting_at self.now.machine t) }
     {
-        self.threads.get(t).waiting_call()
+        self.table.thread(t).waiting_call()
     }
 
     /// What it waits for.
@@ -67,7 +68,29 @@ impl Parts {
         requires { t < length self.now.names }
         ensures { option_map wait_of result ≡ option_map (λ (w : Waiting). w.wait) (waiting_at self.now.machine t) }
     {
-        self.threads.get(t).wait()
+        self.table.thread(t).wait()
+    }
+
+    /// The number that an operand of its call stands for, at most 2·10^18.
+    pub fn number(&self, t: Tid, operand: &Operand) -> u64
+        requires known { t < length self.now.names }
+        requires fits { IsOperand operand.now }
+        ensures value { result ≡ number_of self.now.machine t operand.now }
+        ensures limit { result ≤ 2 * 10 ^ 18 }
+    {
+        self.table.thread(t).number(operand)
+    }
+
+    /// The moment that an operand of its call stands for.
+    pub fn moment(&self, t: Tid, operand: &Operand) -> Tick
+        requires known { t < length self.now.names }
+        requires fits { IsOperand operand.now }
+        ensures { result ≡ number_of self.now.machine t operand.now }
+    {
+        match Tick::try_new(self.number(t, operand)) {
+            Some(at) => at,
+            None => unreachable!(),
+        }
     }
 
     /// The signals that a thread which it creates blocks.
@@ -75,14 +98,14 @@ impl Parts {
         requires { t < length self.now.names }
         ensures { result ≡ inherited_mask (thread_at self.now.machine t) }
     {
-        self.threads.get(t).inherited_mask()
+        self.table.thread(t).inherited_mask()
     }
 
     pub fn takes_priority(&self, t: Tid, p: Prio) -> bool
         requires { t < length self.now.names }
         ensures { result ≡ takes_priority (thread_at self.now.machine t).policy p }
     {
-        self.threads.get(t).takes_priority(p)
+        self.table.thread(t).takes_priority(p)
     }
 
     /// The capacity of its server.
@@ -90,7 +113,7 @@ impl Parts {
         requires { t < length self.now.names }
         ensures { result ≡ option_map (λ (s : ServerState). s.capacity) (thread_at self.now.machine t).server }
     {
-        self.threads.get(t).capacity()
+        self.table.thread(t).capacity()
     }
 
     /// The totals of a live sporadic thread's server.
@@ -98,7 +121,7 @@ impl Parts {
         requires { t < length self.now.names }
         ensures { result ≡ option_map totals (thread_at self.now.machine t).server }
     {
-        self.threads.get(t).totals()
+        self.table.thread(t).totals()
     }
 
     /// The ticks left of a thread's unit.
@@ -106,7 +129,7 @@ impl Parts {
         requires { t < length self.now.names }
         ensures { result ≡ top_left (thread_at self.now.machine t).frames }
     {
-        self.threads.get(t).left()
+        self.table.thread(t).left()
     }
 
     /// Whether a thread's round robin interval is used up.
@@ -114,42 +137,42 @@ impl Parts {
         requires { t < length self.now.names }
         ensures { result ≡ slice_is_used (thread_at self.now.machine t).policy (thread_at self.now.machine t).slice self.now.machine.quantum }
     {
-        self.threads.get(t).slice_is_used(self.quantum)
+        self.table.thread(t).slice_is_used(self.quantum)
     }
 
     pub fn refill_due(&self, t: Tid) -> Option<Tick>
         requires { t < length self.now.names }
         ensures { result ≡ refill_due self.now.machine t }
     {
-        self.threads.get(t).refill_due()
+        self.table.thread(t).refill_due()
     }
 
     pub fn start_due(&self, t: Tid) -> Option<u64>
         requires { t < length self.now.names }
         ensures { result ≡ start_due self.now.machine t }
     {
-        self.threads.get(t).start_due()
+        self.table.thread(t).start_due()
     }
 
     pub fn timeout_due(&self, t: Tid) -> Option<Tick>
         requires { t < length self.now.names }
         ensures { result ≡ timeout_due self.now.machine t }
     {
-        self.threads.get(t).wait_due()
+        self.table.thread(t).wait_due()
     }
 
     pub fn is_blocked(&self, t: Tid) -> bool
         requires { t < length self.now.names }
         ensures { result ≡ is_blocked (thread_at self.now.machine t).status }
     {
-        self.threads.get(t).is_blocked()
+        self.table.thread(t).is_blocked()
     }
 
     pub fn has_server(&self, t: Tid) -> bool
         requires { t < length self.now.names }
         ensures { result ≡ is_some (thread_at self.now.machine t).server }
     {
-        self.threads.get(t).has_server()
+        self.table.thread(t).has_server()
     }
 
     /// Whether its server has the high priority.
@@ -157,7 +180,7 @@ impl Parts {
         requires { t < length self.now.names }
         ensures { result ≡ has_high (thread_at self.now.machine t).server }
     {
-        self.threads.get(t).has_high()
+        self.table.thread(t).has_high()
     }
 
     /// The rule of the tick's end.
@@ -165,6 +188,6 @@ impl Parts {
         requires { t < length self.now.names }
         ensures { end_of result ≡ tick_end was_high self.now.machine.quantum (thread_at self.now.machine t) }
     {
-        self.threads.get(t).tick_end(was_high, self.quantum)
+        self.table.thread(t).tick_end(was_high, self.quantum)
     }
 }

@@ -8,7 +8,10 @@ ghost use Rattle.machine_rules.specs.Threads.{can_run, thread_at};
 ghost use Rattle.machine_rules.specs.Turns.{answered, changes, moves, returns, takes_serial, tells, ◌▷◌};
 ghost use Rattle.machine_rules.specs.Servers.{activates, activates_if_high, with_server};
 ghost use Rattle.machine_rules.specs.Waking.{blocks, blocks_unordered, put_to_wait, starts, wakes, wakes_telling, woken};
+ghost use Rattle.std.specs.Prelude.{None, true};
+ghost use Rattle.machine_rules.specs.Priorities.{mutex_waited};
 ghost use Rattle.thread_blocks.specs.Plain.{wait_of, waiting_of};
+ghost use Rattle.kernel_state.specs.Waits.{CanWait};
 ghost use Rattle.thread_blocks.specs.Unused.{IsUnused};
 ghost use Rattle.machine_flat.specs.FlatBodies.{flat_bodies};
 ghost use Rattle.kernel_state.specs.Kernel.{Kernel, after, by, told, activates_now, starts_telling};
@@ -39,9 +42,12 @@ impl Parts {
         self.tell(&Event::Return(t, call_name(call), res, value), out);
     }
 
-    /// The caller blocks; its wait takes the next serial.
+    /// The caller blocks; its wait takes the next serial. A mutex that it waits for is owned, and to wait for it closes no cycle.
+    #[tactic(auto, using(crate::proofs::Waits::awaits_none))]
     pub fn block(&mut self, t: Tid, call: &Call, wait: Wait, due: Option<Tick>)
         requires known { t < length self.old.names }
+        requires runs { can_run self.old.machine t ≡ true }
+        requires may { CanWait self.old.machine t (mutex_waited (wait_of wait)) }
         requires serial { self.old.machine.next_serial < 2 ^ 63 }
         ensures { self.new ≡ after (blocks (by t call.now) (wait_of wait) due) self.old }
     {
@@ -58,8 +64,11 @@ impl Parts {
     }
 
     /// A wait with no order among its waiters.
+    #[tactic(auto, using(crate::proofs::Waits::awaits_none))]
     pub fn block_unordered(&mut self, t: Tid, call: &Call, wait: Wait, due: Option<Tick>)
-        requires { t < length self.old.names }
+        requires known { t < length self.old.names }
+        requires runs { can_run self.old.machine t ≡ true }
+        requires unordered { mutex_waited (wait_of wait) ≡ None }
         ensures { self.new ≡ after (blocks_unordered (by t call.now) (wait_of wait) due) self.old }
     {
         self.block_thread(
@@ -99,6 +108,21 @@ impl Parts {
         }
     }
 
+    /// A thread that is runnable again becomes the tail of its list, with that line, and is activated where it has the high priority.
+    pub(crate) fn rise<K: Sink>(&mut self, e: &Event, t: Tid, out: &mut Tracer<'_, K>)
+        requires known { t < length self.old.names }
+        requires named { IsNamed self.old.names e.now }
+        requires room { length self.old.direct < 256 }
+        requires unused { IsUnused (thread_at self.old.machine t).server }
+        requires early { self.old.machine.now ≤ 10 ^ 18 }
+        ensures state { self.new ≡ after (λ s. s ▷ moves t ▷ tells e.now ▷ activates_if_high t) self.old }
+        ensures told { Tells K.text K.faults self.old.names out.old out.new (told (λ s. s ▷ moves t ▷ tells e.now ▷ activates_if_high t) self.old) }
+    {
+        self.move_later(t);
+        self.tell(e, out);
+        self.activate_if_high(t, out);
+    }
+
     /// A blocked thread is runnable again, with its answer.
     pub fn wake_telling<K: Sink>(
         &mut self,
@@ -117,9 +141,7 @@ impl Parts {
         ensures told { Tells K.text K.faults self.old.names out.old out.new (told (wakes_telling e.now t res value) self.old) }
     {
         self.wake_thread(t, res, value);
-        self.move_later(t);
-        self.tell(e, out);
-        self.activate_if_high(t, out);
+        self.rise(e, t, out);
     }
 
     /// A blocked thread wakes, and its call returns.

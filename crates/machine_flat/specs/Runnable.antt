@@ -4,12 +4,14 @@ use Rattle.script_tree.specs.declared.call.Call.{Call}
 use Rattle.script_tree.specs.declared.call.Call.TheVariants as call
 use Rattle.script_tree.specs.declared.decl.Decl.{Decl}
 use Rattle.script_tree.specs.declared.decl.Decl.TheVariants as decl
+use Rattle.script_tree.specs.declared.decl.Kind.TheVariants as kind
 use Rattle.script_tree.specs.declared.decl.Script.{Script}
 use Rattle.script_tree.specs.declared.policy.Policy.{Policy}
 use Rattle.script_tree.specs.declared.policy.Policy.TheVariants as policy
 use Rattle.script_flat.specs.Flat.{IsFlattenable, bodies_of}
 use Rattle.machine_rules.specs.declared.signal.SigAction.TheVariants as action
-use Rattle.machine_rules.specs.Declarations.{ThreadDecl, actions_of, handlers_of, mutexes_of, queues_of, semaphores_of, threads_of, timers_of}
+use Rattle.machine_rules.specs.Declarations.{ThreadDecl, actions_of, handlers_of, queues_of, threads_of, timers_of}
+use Rattle.machine_rules.specs.Semaphores.{semaphore_limit}
 use Rattle.machine_flat.specs.Built.{is_built}
 use Rattle.machine_flat.specs.EachCall.{EachCall}
 use Rattle.machine_flat.specs.KnownCalls.{KnowsObjects, Objects, objects_of}
@@ -36,6 +38,11 @@ ActionNames handlers (decl.Named name kind) = Unit {0}
 ActionNames handlers (decl.Action signal None) = Unit {0}
 ActionNames handlers (decl.Action signal (Some h)) = h < handlers
 
+-- the first value of a semaphore is at most the greatest that one may have
+abbrev pub HasValue : Decl → Type 0
+HasValue (decl.Named name (kind.Sem value)) = value ≤ semaphore_limit
+HasValue other = Unit {0}
+
 -- at most 64 threads, bodies that are not too long and not nested too deeply, and calls and actions that name what is declared
 pub record IsRunnable (script : Script) : Type 0 where
   pub few : length (threads_of script) ≤ 64
@@ -43,9 +50,8 @@ pub record IsRunnable (script : Script) : Type 0 where
   pub calls : All (EachCall (CallIsRunnable (objects_of script))) (bodies_of script.decls).all
   pub handlers : All (ActionNames (length (handlers_of script))) script.decls
   pub budgets : All (λ (d : ThreadDecl). HasBudget d.policy) (threads_of script)
+  pub values : All HasValue script.decls
   -- none of these is built yet
-  pub mutexes : mutexes_of script ≡ []
-  pub semaphores : semaphores_of script ≡ []
   pub queues : queues_of script ≡ []
   pub timers : timers_of script ≡ []
   pub actions : actions_of script ≡ replicate 32 action.Kill

@@ -7,7 +7,7 @@ use Rattle.script_flat.specs.declared.op.Op.{Op}
 use Rattle.script_flat.specs.Flat as flat
 use Rattle.machine_rules.specs.declared.dispatch.LastDispatch.{LastDispatch}
 use Rattle.machine_rules.specs.State.{Machine, Status, Thread, blocked, dormant, ended, runnable}
-use Rattle.machine_rules.specs.Threads.{can_run, is_blocked, is_runnable, thread_at}
+use Rattle.machine_rules.specs.Threads.{can_run, is_blocked, is_runnable, thread_at, waiting_in}
 use Rattle.machine_rules.specs.Turns.{Turn, becomes, changes, with_thread}
 use Rattle.machine_rules.specs.Dispatch.{dispatch_of, dispatches, head}
 use Rattle.machine_rules.specs.DueItems.{instant, item_bound}
@@ -21,6 +21,7 @@ use Rattle.machine_moves.proofs.Runs.Listed.{AllRun, head_can_run}
 use Rattle.machine_moves.proofs.Runs.Ticks.{dispatched}
 use Rattle.machine_moves.proofs.Waiters.Best.{Each}
 use Rattle.thread_blocks.specs.Unused.{IsUnused}
+use Rattle.kernel_sync.specs.Waits.{AreBuiltWaits}
 use Rattle.kernel_state.specs.Kernel.{Kernel, after, turn}
 use Rattle.kernel_state.specs.Stood.{StoodRight}
 use Rattle.kernel_events.specs.Built.{objects_in}
@@ -75,7 +76,7 @@ module _ {P : Type 0} (m : Machine P) where
 -- ---- so it may have a tick
 
 head_fits : (o : Objects) (code : flat.Bodies (List Op)) (m : Machine Cursor) (last : LastDispatch) (t : ℕ) → StoodRight m → head m ≡ Some t → Fits o code m → FitsTick o code (record m { last = last }) t
-head_fits o code m last t stood e fit = record { thread = fit.top t e; runs = head_runs m t stood e; rests = fit.items.rests; serial = fit.serial; threads = fit.threads }
+head_fits o code m last t stood e fit = record { thread = fit.top t e; runs = head_runs m t stood e; waits = fit.items.waits; rests = fit.items.rests; serial = fit.serial; threads = fit.threads }
 
 pub dispatched_fits : (p l : Kernel) (to : Option ℕ) → to ≡ head p.machine → l ≡ after (dispatches (head p.machine)) p → StoodRight p.machine → Fits (objects_in p) p.code p.machine →
     IfSome to (λ t. FitsTick (objects_in l) l.code l.machine t)
@@ -97,6 +98,12 @@ blocked_rests runnable e = absurd (cc)
 blocked_rests (blocked w) e = refl
 blocked_rests ended e = refl
 
+running_waits : (s : Status) → is_runnable s ≡ true → AreBuiltWaits (waiting_in s)
+running_waits (dormant at) e = tt
+running_waits runnable e = tt
+running_waits (blocked w) e = absurd (cc)
+running_waits ended e = tt
+
 same_number : (t u : ℕ) → (t == u) ≡ true → t ≡ u
 same_number t u e = grind arith
 
@@ -111,10 +118,23 @@ charged_acts p l t fit early state = subst (λ (k : Kernel). CanAct k t) (sym st
     acts = record {
       threads = changed-length no_thread t f p.machine.threads ∙ fit.threads;
       runs = charge_same (flat_bodies p.code) p.machine t t fit.thread.can.goes_on ∙ fit.runs;
+      waits = waits_at;
       rests = rests_at;
       serial = fit.serial (omega (arith, early));
     }
       where
+        waits_at : (u : ℕ) → AreBuiltWaits (waiting_in (thread_at (with_thread t f p.machine) u).status)
+        waits_at u = by_number (t == u) refl
+          where
+            by_number : (b : Bool) → (t == u) ≡ b → AreBuiltWaits (waiting_in (thread_at (with_thread t f p.machine) u).status)
+            by_number true it =
+                let runs = charge_same (flat_bodies p.code) p.machine t t fit.thread.can.goes_on ∙ fit.runs in
+                subst (λ (k : ℕ). AreBuiltWaits (waiting_in (thread_at (with_thread t f p.machine) k).status)) (same_number t u it)
+                (running_waits (thread_at (with_thread t f p.machine) t).status runs)
+            by_number false other =
+                let kept = thread-other p.machine t u f other in
+                subst (λ (th : Thread Cursor). AreBuiltWaits (waiting_in th.status)) (sym kept) (fit.waits u)
+
         rests_at : (u : ℕ) → is_blocked (thread_at (with_thread t f p.machine) u).status ≡ true → IsUnused (thread_at (with_thread t f p.machine) u).server
         rests_at u e = by_number (t == u) refl
           where

@@ -31,7 +31,7 @@ use Rattle.thread_laws.proofs.Changes.{at_all}
 use Rattle.thread_laws.proofs.MadeCalls.{UnitMakes, fetched_makes}
 use Rattle.thread_laws.proofs.Runs.{holds_throughout}
 use Rattle.kernel_events.specs.Built.{IsBuilt}
-use Rattle.kernel_events.specs.Handled.{AreBuiltWaits, IsBuiltWait}
+use Rattle.kernel_sync.specs.Waits.{AreBuiltWaits, IsBuiltWait}
 use Rattle.rt_kernel.specs.Completes.{CanComplete, CanTick}
 use Rattle.rt_kernel.specs.Held.{AreMain, Held, IsHeld, IsHeldBy}
 
@@ -44,6 +44,8 @@ built_wait : (c : Call) (x : Wait) → is_built c ≡ true → MakesWait c x →
 built_wait (call.Lock k) x is e = subst IsBuiltWait (sym e) tt
 built_wait (call.Timedlock k at) x is e = subst IsBuiltWait (sym e) tt
 built_wait (call.Trylock k) x is e = subst IsBuiltWait (sym e) tt
+built_wait (call.SemWait k) x is e = subst IsBuiltWait (sym e) tt
+built_wait (call.SemTimedwait k at) x is e = subst IsBuiltWait (sym e) tt
 built_wait (call.Nanosleep n) x is e = subst IsBuiltWait (sym e) tt
 built_wait (call.ClockNanosleep at) x is e = subst IsBuiltWait (sym e) tt
 built_wait call.Yield x is e = absurd e
@@ -52,6 +54,9 @@ built_wait (call.Setprio u p) x is e = absurd e
 built_wait (call.Setsched u policy) x is e = absurd e
 built_wait call.Gettime x is e = absurd e
 built_wait (call.Unlock k) x is e = absurd e
+built_wait (call.SemTrywait k) x is e = absurd e
+built_wait (call.SemGetvalue k) x is e = absurd e
+built_wait (call.SemPost k) x is e = absurd e
 built_wait _ x is e = absurd (let off : false ≡ true = is in cc)
 
 -- ---- frames
@@ -116,7 +121,7 @@ module _ (o : Objects) (code : flat.Bodies (List Op)) (calls : (n : ℕ) → Eac
     answers = λ now u th r value q. held_answered r value th q;
     wakes = λ now u th r value q. held_woken r value th q;
     waits = λ now u th caller w known makes q. held_asleep w th (built_wait w.call w.wait known.built makes) q;
-    again = λ now u th w c k how waits is q. absurd waits;
+    again = λ now u th w c k how waits may is q. absurd waits;
     waiting = λ now u th w q is. subst AreBuiltWaits is q.waits;
     starts = λ now u th mask lt q. held_started u mask now th q;
     activates = λ now u th q. q;

@@ -5,7 +5,7 @@ use Rattle.machine_rules.specs.declared.frame.FrameKind.TheVariants as frame
 use Rattle.machine_rules.specs.State.{Frame, Joiner, Machine, Thread, Waiting, nobody}
 use Rattle.machine_rules.specs.Threads.{thread_at, waiting_in}
 use Rattle.machine_flat.specs.KnownCalls.{Objects}
-use Rattle.kernel_events.specs.Handled.{AreBuiltWaits}
+use Rattle.kernel_sync.specs.Waits.{AreBuiltWaits}
 
 abbrev pub AreMain : List (Frame Cursor) → Type 0
 AreMain [] = Unit {0}

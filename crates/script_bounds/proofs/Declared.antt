@@ -1,6 +1,6 @@
 -- What a line declares can be run, where its form is built, and what follows of all that is declared.
 use Rattle.std.proofs.Common.{ℕ, ◌≡◌, List, [], ◌∷◌, Option, None, Some, Bool, true, false, refl, sym, subst}
-use Rattle.std.specs.Prelude.{All, filter_map, fold}
+use Rattle.std.specs.Prelude.{◌≤◌, All, filter_map, fold}
 use Rattle.std.specs.Option.{IfSome}
 use Rattle.std.proofs.lemmas.List.Elements.{All-nil, All-cons, All-append}
 use Rattle.script_tree.specs.Block.{Block}
@@ -25,19 +25,21 @@ use Rattle.script_table.specs.Meaning.{protect, queue, kind_of_object, object_de
 use Rattle.script_text.specs.declared.names.Sort.TheVariants as sort
 use Rattle.script_text.specs.Names.{sort_of}
 use Rattle.machine_rules.specs.declared.signal.SigAction.{SigAction}
-use Rattle.machine_rules.specs.Declarations.{ThreadDecl, declared_thread, named, mutex_kind, semaphore_kind, queue_kind, timer_kind, with_action}
+use Rattle.machine_rules.specs.Declarations.{ThreadDecl, declared_thread, named, queue_kind, timer_kind, with_action}
+use Rattle.machine_rules.specs.Semaphores.{semaphore_limit}
 use Rattle.machine_flat.specs.EachCall.{EachCall}
-use Rattle.machine_flat.specs.Runnable.{ActionNames, HasBudget}
+use Rattle.machine_flat.specs.Runnable.{ActionNames, HasBudget, HasValue}
 use Rattle.script_bounds.proofs.BuiltForms.{is_built_sort, builds_actions, is_built_form}
 use Rattle.script_bounds.proofs.Decls.{bodies_in, decl_more}
 use Rattle.script_bounds.proofs.EachDecl.{Each}
-use Rattle.script_bounds.proofs.Operands.{mapped, mapped_two, Any, anything, fifo_within, rr_within, sporadic_within}
+use Rattle.script_bounds.proofs.Operands.{IsFrom, mapped, mapped_two, number_within, Any, anything, fifo_within, rr_within, sporadic_within}
 
--- P holds of each call of a body, a thread's policy has a budget, and other things are of a kind that is built
+-- P holds of each call of a body, a thread's policy has a budget, a semaphore a value, and other things are of a kind that is built
 abbrev pub KindRuns : (Call → Type 0) → Kind → Type 0
 KindRuns P (kinds.Thread policy start steps) = HasBudget policy × EachCall P steps
 KindRuns P (kinds.Handler steps) = EachCall P steps
 KindRuns P (kinds.Cleanup steps) = EachCall P steps
+KindRuns P (kinds.Sem value) = value ≤ semaphore_limit
 KindRuns P other = is_built_sort (sort_of other) ≡ true
 
 abbrev pub DeclRuns : (Call → Type 0) → Decl → Type 0
@@ -72,7 +74,7 @@ module _ (P : Call → Type 0) where
   kind_runs object.MutexProtect words built = protect_runs false (priority_at 3 words) built
   kind_runs object.MutexProtectRecursive words built = protect_runs true (priority_at 3 words) built
   kind_runs object.Cond words built = built
-  kind_runs object.Sem words built = mapped Any KindOf kinds.Sem (λ n any. built) (number_in 0 32767 2 words) (anything (number_in 0 32767 2 words))
+  kind_runs object.Sem words built = mapped (IsFrom 0 32767) KindOf kinds.Sem (λ n from. from.1) (number_in 0 32767 2 words) (number_within 0 32767 2 words)
   kind_runs object.Queue words built = queue_runs false (number_in 1 64 2 words) (number_in 1 65536 3 words) built
   kind_runs object.QueueNonblock words built = queue_runs true (number_in 1 64 2 words) (number_in 1 65536 3 words) built
   kind_runs object.Timer words built =
@@ -152,14 +154,6 @@ module _ (P : Call → Type 0) where
   none_read read none [] all = refl
   none_read read none (d ∷ decls) all = rw (none d all.0) (none_read read none decls all.1)
 
-  no_mutex : (d : Decl) → Runs d → named mutex_kind d ≡ None
-  no_mutex (Named name (kinds.Mutex protocol recursive)) h = absurd (let e : false ≡ true = h in cc)
-  no_mutex other h = refl
-
-  no_semaphore : (d : Decl) → Runs d → named semaphore_kind d ≡ None
-  no_semaphore (Named name (kinds.Sem value)) h = absurd (let e : false ≡ true = h in cc)
-  no_semaphore other h = refl
-
   no_queue : (d : Decl) → Runs d → named queue_kind d ≡ None
   no_queue (Named name (kinds.Queue depth longest nonblock)) h = absurd (let e : false ≡ true = h in cc)
   no_queue other h = refl
@@ -167,12 +161,6 @@ module _ (P : Call → Type 0) where
   no_timer : (d : Decl) → Runs d → named timer_kind d ≡ None
   no_timer (Named name (kinds.Timer sig value)) h = absurd (let e : false ≡ true = h in cc)
   no_timer other h = refl
-
-  pub no_mutexes : (decls : List Decl) → Each Runs decls → filter_map (named mutex_kind) decls ≡ []
-  no_mutexes = none_read (named mutex_kind) no_mutex
-
-  pub no_semaphores : (decls : List Decl) → Each Runs decls → filter_map (named semaphore_kind) decls ≡ []
-  no_semaphores = none_read (named semaphore_kind) no_semaphore
 
   pub no_queues : (decls : List Decl) → Each Runs decls → filter_map (named queue_kind) decls ≡ []
   no_queues = none_read (named queue_kind) no_queue
@@ -189,3 +177,8 @@ module _ (P : Call → Type 0) where
   no_handlers handlers [] all = All-nil (ActionNames handlers)
   no_handlers handlers (Named name kind ∷ decls) all = All-cons (ActionNames handlers) (Named name kind) decls tt (no_handlers handlers decls all.1)
   no_handlers handlers (Action sig handler ∷ decls) all = absurd (let e : false ≡ true = all.0 in cc)
+
+  pub all_values : (decls : List Decl) → Each Runs decls → All HasValue decls
+  all_values [] all = All-nil HasValue
+  all_values (Named name (kinds.Sem value) ∷ decls) all = All-cons HasValue (Named name (kinds.Sem value)) decls all.0 (all_values decls all.1)
+  all_values (d ∷ decls) all = All-cons HasValue d decls tt (all_values decls all.1)

@@ -32,7 +32,7 @@ use Rattle.canonical_law.proofs.Table.{table_now}
 use Rattle.script_bounds.proofs.Bounds.{IsBounded, read_is_bounded}
 use Rattle.script_bounds.proofs.BuiltForms.{is_built_form, IsBuiltForm, all_are_built}
 use Rattle.script_bounds.proofs.Calls.{objects_by, Fits, call_fits}
-use Rattle.script_bounds.proofs.Declared.{DeclRuns, object_runs, action_runs, body_runs, all_bodies, all_budgets, no_mutexes, no_semaphores, no_queues, no_timers, no_actions, no_handlers}
+use Rattle.script_bounds.proofs.Declared.{DeclRuns, object_runs, action_runs, body_runs, all_bodies, all_budgets, all_values, no_queues, no_timers, no_actions, no_handlers}
 use Rattle.script_bounds.proofs.EachBody.{Guards, OneStep, more_calls, plain_calls, GuardsBy, block_calls}
 use Rattle.script_bounds.proofs.EachDecl.{Each, Says, each_decl}
 use Rattle.script_bounds.proofs.Objects.{declared_count, all_below, objects_same}
@@ -85,8 +85,7 @@ decls_run script bounded all =
       calls = all_bodies (CallIsRunnable (objects_of script)) ds all;
       handlers = no_handlers (CallIsRunnable (objects_of script)) (length (handlers_of script)) ds all;
       budgets = all_budgets (CallIsRunnable (objects_of script)) ds all;
-      mutexes = no_mutexes (CallIsRunnable (objects_of script)) ds all;
-      semaphores = no_semaphores (CallIsRunnable (objects_of script)) ds all;
+      values = all_values (CallIsRunnable (objects_of script)) ds all;
       queues = no_queues (CallIsRunnable (objects_of script)) ds all;
       timers = no_timers (CallIsRunnable (objects_of script)) ds all;
       actions = no_actions (CallIsRunnable (objects_of script)) ds (replicate 32 action.Kill) all;

@@ -42,14 +42,14 @@ declaration_patterns =
     row (form.Body body.SporadicDormant) Nowhere true (Keyword (codes "thread") ∷ Declares kind.Thread ∷ Keyword (codes "sporadic") ∷ priority ∷ priority ∷ amount ∷ amount ∷ amount ∷ Keyword (codes "dormant") ∷ []) ∷
     row (form.Body body.Handler) Nowhere true (Keyword (codes "handler") ∷ Declares kind.Handler ∷ []) ∷
     row (form.Body body.Cleanup) Nowhere true (Keyword (codes "cleanup") ∷ Declares kind.Cleanup ∷ []) ∷
-    row (form.Object object.MutexNone) Nowhere false (Keyword (codes "mutex") ∷ Declares kind.Mutex ∷ Keyword (codes "none") ∷ []) ∷
-    row (form.Object object.MutexNoneRecursive) Nowhere false (Keyword (codes "mutex") ∷ Declares kind.Mutex ∷ Keyword (codes "none") ∷ Keyword (codes "recursive") ∷ []) ∷
-    row (form.Object object.MutexInherit) Nowhere false (Keyword (codes "mutex") ∷ Declares kind.Mutex ∷ Keyword (codes "inherit") ∷ []) ∷
-    row (form.Object object.MutexInheritRecursive) Nowhere false (Keyword (codes "mutex") ∷ Declares kind.Mutex ∷ Keyword (codes "inherit") ∷ Keyword (codes "recursive") ∷ []) ∷
-    row (form.Object object.MutexProtect) Nowhere false (Keyword (codes "mutex") ∷ Declares kind.Mutex ∷ Keyword (codes "protect") ∷ priority ∷ []) ∷
-    row (form.Object object.MutexProtectRecursive) Nowhere false (Keyword (codes "mutex") ∷ Declares kind.Mutex ∷ Keyword (codes "protect") ∷ priority ∷ Keyword (codes "recursive") ∷ []) ∷
+    row (form.Object object.MutexNone) Nowhere true (Keyword (codes "mutex") ∷ Declares kind.Mutex ∷ Keyword (codes "none") ∷ []) ∷
+    row (form.Object object.MutexNoneRecursive) Nowhere true (Keyword (codes "mutex") ∷ Declares kind.Mutex ∷ Keyword (codes "none") ∷ Keyword (codes "recursive") ∷ []) ∷
+    row (form.Object object.MutexInherit) Nowhere true (Keyword (codes "mutex") ∷ Declares kind.Mutex ∷ Keyword (codes "inherit") ∷ []) ∷
+    row (form.Object object.MutexInheritRecursive) Nowhere true (Keyword (codes "mutex") ∷ Declares kind.Mutex ∷ Keyword (codes "inherit") ∷ Keyword (codes "recursive") ∷ []) ∷
+    row (form.Object object.MutexProtect) Nowhere true (Keyword (codes "mutex") ∷ Declares kind.Mutex ∷ Keyword (codes "protect") ∷ priority ∷ []) ∷
+    row (form.Object object.MutexProtectRecursive) Nowhere true (Keyword (codes "mutex") ∷ Declares kind.Mutex ∷ Keyword (codes "protect") ∷ priority ∷ Keyword (codes "recursive") ∷ []) ∷
     row (form.Object object.Cond) Nowhere false (Keyword (codes "cond") ∷ Declares kind.Cond ∷ []) ∷
-    row (form.Object object.Sem) Nowhere false (Keyword (codes "sem") ∷ Declares kind.Sem ∷ Number 0 32767 ∷ []) ∷
+    row (form.Object object.Sem) Nowhere true (Keyword (codes "sem") ∷ Declares kind.Sem ∷ Number 0 32767 ∷ []) ∷
     row (form.Object object.Queue) Nowhere false (Keyword (codes "queue") ∷ Declares kind.Queue ∷ Number 1 64 ∷ Number 1 65536 ∷ []) ∷
     row (form.Object object.QueueNonblock) Nowhere false (Keyword (codes "queue") ∷ Declares kind.Queue ∷ Number 1 64 ∷ Number 1 65536 ∷ Keyword (codes "nonblock") ∷ []) ∷
     row (form.Object object.Timer) Nowhere false (Keyword (codes "timer") ∷ Declares kind.Timer ∷ Signal ∷ amount ∷ []) ∷
@@ -89,21 +89,21 @@ call_patterns =
     row (form.Call (call.Thread thread.SetschedFifo)) Nowhere true (Keyword (codes "setsched") ∷ Uses kind.Thread ∷ Keyword (codes "fifo") ∷ priority ∷ []) ∷
     row (form.Call (call.Thread thread.SetschedRr)) Nowhere true (Keyword (codes "setsched") ∷ Uses kind.Thread ∷ Keyword (codes "rr") ∷ priority ∷ []) ∷
     row (form.Call (call.Thread thread.SetschedSporadic)) Nowhere true (Keyword (codes "setsched") ∷ Uses kind.Thread ∷ Keyword (codes "sporadic") ∷ priority ∷ priority ∷ amount ∷ amount ∷ amount ∷ []) ∷
-    row (form.Call (call.Mutex mutex.Lock)) HandlersAndCleanups false (Keyword (codes "lock") ∷ Uses kind.Mutex ∷ []) ∷
-    row (form.Call (call.Mutex mutex.Timedlock)) HandlersAndCleanups false (Keyword (codes "timedlock") ∷ Uses kind.Mutex ∷ Operand ∷ []) ∷
-    row (form.Call (call.Mutex mutex.Trylock)) Nowhere false (Keyword (codes "trylock") ∷ Uses kind.Mutex ∷ []) ∷
-    row (form.Call (call.Mutex mutex.Unlock)) Nowhere false (Keyword (codes "unlock") ∷ Uses kind.Mutex ∷ []) ∷
+    row (form.Call (call.Mutex mutex.Lock)) HandlersAndCleanups true (Keyword (codes "lock") ∷ Uses kind.Mutex ∷ []) ∷
+    row (form.Call (call.Mutex mutex.Timedlock)) HandlersAndCleanups true (Keyword (codes "timedlock") ∷ Uses kind.Mutex ∷ Operand ∷ []) ∷
+    row (form.Call (call.Mutex mutex.Trylock)) Nowhere true (Keyword (codes "trylock") ∷ Uses kind.Mutex ∷ []) ∷
+    row (form.Call (call.Mutex mutex.Unlock)) Nowhere true (Keyword (codes "unlock") ∷ Uses kind.Mutex ∷ []) ∷
     row (form.Call (call.Mutex mutex.Wait)) HandlersAndCleanups false (Keyword (codes "wait") ∷ Uses kind.Cond ∷ Uses kind.Mutex ∷ []) ∷
     row (form.Call (call.Mutex mutex.Timedwait)) HandlersAndCleanups false (Keyword (codes "timedwait") ∷ Uses kind.Cond ∷ Uses kind.Mutex ∷ Operand ∷ []) ∷
     row (form.Call (call.Mutex mutex.Signal)) Nowhere false (Keyword (codes "signal") ∷ Uses kind.Cond ∷ []) ∷
     row (form.Call (call.Mutex mutex.Broadcast)) Nowhere false (Keyword (codes "broadcast") ∷ Uses kind.Cond ∷ []) ∷
-    row (form.Call (call.Sem sem.Wait)) HandlersAndCleanups false (Keyword (codes "sem_wait") ∷ Uses kind.Sem ∷ []) ∷
-    row (form.Call (call.Sem sem.Timedwait)) HandlersAndCleanups false (Keyword (codes "sem_timedwait") ∷ Uses kind.Sem ∷ Operand ∷ []) ∷
-    row (form.Call (call.Sem sem.Trywait)) Nowhere false (Keyword (codes "sem_trywait") ∷ Uses kind.Sem ∷ []) ∷
-    row (form.Call (call.Sem sem.Getvalue)) Nowhere false (Keyword (codes "sem_getvalue") ∷ Uses kind.Sem ∷ []) ∷
-    row (form.Call (call.Sem sem.Post)) Nowhere false (Keyword (codes "sem_post") ∷ Uses kind.Sem ∷ []) ∷
+    row (form.Call (call.Sem sem.Wait)) HandlersAndCleanups true (Keyword (codes "sem_wait") ∷ Uses kind.Sem ∷ []) ∷
+    row (form.Call (call.Sem sem.Timedwait)) HandlersAndCleanups true (Keyword (codes "sem_timedwait") ∷ Uses kind.Sem ∷ Operand ∷ []) ∷
+    row (form.Call (call.Sem sem.Trywait)) Nowhere true (Keyword (codes "sem_trywait") ∷ Uses kind.Sem ∷ []) ∷
+    row (form.Call (call.Sem sem.Getvalue)) Nowhere true (Keyword (codes "sem_getvalue") ∷ Uses kind.Sem ∷ []) ∷
+    row (form.Call (call.Sem sem.Post)) Nowhere true (Keyword (codes "sem_post") ∷ Uses kind.Sem ∷ []) ∷
     row (form.Call (call.Time time.Nanosleep)) HandlersAndCleanups true (Keyword (codes "nanosleep") ∷ amount ∷ []) ∷
-    row (form.Call (call.Time time.ClockNanosleep)) HandlersAndCleanups false (Keyword (codes "clock_nanosleep") ∷ Operand ∷ []) ∷
+    row (form.Call (call.Time time.ClockNanosleep)) HandlersAndCleanups true (Keyword (codes "clock_nanosleep") ∷ Operand ∷ []) ∷
     row (form.Call (call.Time time.Gettime)) Nowhere true (Keyword (codes "gettime") ∷ []) ∷
     row (form.Call (call.Time time.TimerSettimeRel)) Nowhere false (Keyword (codes "timer_settime") ∷ Uses kind.Timer ∷ Keyword (codes "rel") ∷ amount ∷ amount ∷ []) ∷
     row (form.Call (call.Time time.TimerSettimeAbs)) Nowhere false (Keyword (codes "timer_settime") ∷ Uses kind.Timer ∷ Keyword (codes "abs") ∷ Operand ∷ amount ∷ []) ∷

@@ -6,3 +6,4 @@ pub mod Room
 pub mod Held
 pub mod Ends
 pub mod Opening
+pub mod Operands

@@ -1,7 +1,7 @@
 // The frames of a thread.
-ghost use Rattle.std.specs.Prelude.{◌≡◌, ◌-◌};
+ghost use Rattle.std.specs.Prelude.{◌≡◌, ◌-◌, ◌≤◌};
 ghost use Rattle.machine_rules.specs.Threads.{is_signal};
-ghost use Rattle.script_flat.specs.Next.{ticks_of};
+ghost use Rattle.script_flat.specs.Next.{register_limit, ticks_of};
 ghost use Rattle.script_flat.specs.Stands.{IsPlaced};
 ghost use Rattle.machine_rules.specs.Units.{frame_begins, next_of};
 ghost use Rattle.machine_flat.specs.FlatBodies.{flat_bodies};
@@ -33,6 +33,11 @@ impl Model for Frame {
     ghost use Rattle.thread_blocks.specs.View.{frame_of};
 
     ghost view = { frame_of };
+
+    ghost use Rattle.std.specs.Prelude.{◌≤◌};
+    ghost use Rattle.script_flat.specs.Next.{register_limit};
+
+    ghost invariant = { λ f. f.at.register ≤ register_limit };
 }
 
 impl Default for Frame {
@@ -56,6 +61,7 @@ impl Default for Frame {
 impl Frame {
     /// A frame at the start of its body.
     pub fn new(kind: FrameKind, body: BodyOf, at: Cursor) -> Frame
+        requires { at.register ≤ register_limit }
         ensures { result ≡ record { kind = kind; body = body; place = place_of at; register = at.register; result = at.result; value = at.value; left = 0 } }
     {
         Frame {
@@ -70,6 +76,14 @@ impl Frame {
         ensures { result ≡ self.now.left }
     {
         self.left
+    }
+
+    /// The register of its body, at most 2·10^18.
+    pub fn register(&self) -> u64
+        ensures value { result ≡ self.now.register }
+        ensures limit { result ≤ register_limit }
+    {
+        self.at.register
     }
 
     pub fn is_signal(&self) -> bool

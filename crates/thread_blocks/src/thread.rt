@@ -1,7 +1,10 @@
 // One thread of the kernel.
-ghost use Rattle.std.specs.Prelude.{◌≡◌, ◌≤◌, ◌<◌, ◌^◌, ◌∷◌, [], None, option_and_then, option_map, true, false, Some};
+ghost use Rattle.std.specs.Prelude.{◌≡◌, ◌≤◌, ◌<◌, ◌*◌, ◌^◌, ◌∷◌, [], None, option_and_then, option_map, true, false, Some};
 ghost use Rattle.script_flat.specs.declared.cursor.Cursor.{Cursor};
-ghost use Rattle.machine_rules.specs.Threads.{is_runnable, is_dormant, no_thread, catches_signal, is_live, waiting_in, top_left, is_blocked};
+ghost use Rattle.machine_rules.specs.Threads.{is_runnable, is_dormant, no_thread, catches_signal, is_live, waiting_in, top_left, top_register, is_blocked};
+ghost use Rattle.script_flat.specs.Next.{register_limit};
+ghost use Rattle.machine_flat.specs.KnownCalls.{IsOperand};
+ghost use Rattle.thread_blocks.specs.Operands.{number_in};
 ghost use Rattle.machine_rules.specs.Servers.{server_of, charged};
 ghost use Rattle.machine_rules.specs.Turns.{answered};
 ghost use Rattle.machine_rules.specs.Waking.{woken, put_to_wait, call_in};
@@ -22,7 +25,7 @@ use crate::status::{Joiner, Status, Wait, Waiting};
 use arrayvec::ArrayVec;
 use pse52_trace::Report;
 use script_flat::{Code, Unit};
-use script_tree::{Call, Policy};
+use script_tree::{Call, Operand, Policy};
 use sporadic_server::Server;
 use std::marker::Model;
 use tick_num::{ObjId, Res, SigSet, Tick};
@@ -213,6 +216,29 @@ impl Thread {
         match self.frames.first() {
             None => false,
             Some(frame) => frame.is_signal(),
+        }
+    }
+
+    // What the register of its body holds, at most 2·10^18.
+    fn register(&self) -> u64
+        ensures value { result ≡ top_register self.now.frames }
+        ensures limit { result ≤ register_limit }
+    {
+        match self.frames.first() {
+            None => 0,
+            Some(frame) => frame.register(),
+        }
+    }
+
+    /// The number that an operand of its call stands for, at most 2·10^18.
+    pub fn number(&self, operand: &Operand) -> u64
+        requires { IsOperand operand.now }
+        ensures value { result ≡ number_in operand.now self.now.frames }
+        ensures limit { result ≤ 2 * 10 ^ 18 }
+    {
+        match operand {
+            Operand::Num(n) => *n,
+            Operand::Reg => self.register(),
         }
     }
 

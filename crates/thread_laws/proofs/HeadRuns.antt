@@ -43,7 +43,7 @@ module _ {P : Type 0} (bodies : Bodies P) (count : ℕ) (T : ℕ → ℕ) where
     answers = λ now u th r value q. q;
     wakes = λ now u th r value q. q;
     waits = λ now u th caller w known makes q. q;
-    again = λ now u th w c k how waits is q. q;
+    again = λ now u th w c k how waits may is q. q;
     waiting = λ now u th w q is. tt;
     starts = λ now u th mask lt q. q;
     activates = λ now u th q. q;

@@ -169,7 +169,7 @@ module _ {P : Type 0} (given : Given P) (Q : ℕ → ℕ → Thread P → Type 0
   contends_for_hold c k t how s waits may h =
       let w : Waiting = record { wait = for_mutex_again k how; serial = s.machine.next_serial; due = None; call = call_in (waiting_of s.machine t) } in
       if_holds given Q (is_free s.machine k) _ _ (returns_from_wait_hold how t (changes_mutex k (taken_by t) s) may h)
-      (changes_hold given Q t (put_to_wait w) s (λ lt q. closed.again s.machine.now t (thread_at s.machine t) w c k how waits refl q) h)
+      (changes_hold given Q t (put_to_wait w) s (λ lt q. closed.again s.machine.now t (thread_at s.machine t) w c k how waits (λ e. subst (λ (how : CondEnd). MayReturn how (thread_at s.machine t)) e may) refl q) h)
 
   pub contends_hold : (t : ℕ) (how : CondEnd) (s : Turn P) → MayReturn how (thread_at s.machine t) → Holding s → Holding (contends t how s)
   contends_hold t how s may h = by_waiting (waiting_of s.machine t) refl

@@ -81,7 +81,7 @@ module _ {P : Type 0} (bodies : Bodies P) (count : ℕ) where
     answers = λ now u th r value q. same now th _ refl refl refl q;
     wakes = λ now u th r value q. fresh now th _ refl refl q.high q;
     waits = λ now u th caller w known makes q. same now th _ refl refl refl q;
-    again = λ now u th w c k how waits is q. same now th _ refl refl refl q;
+    again = λ now u th w c k how waits may is q. same now th _ refl refl refl q;
     waiting = λ now u th w q is. tt;
     starts = λ now u th mask lt q. fresh now th _ refl refl (high_new now th.policy now) q;
     activates = λ now u th q. counted_by now th _ refl refl (high_kept now (activate now) th.server (λ s. refl) q.high) q;

@@ -93,7 +93,8 @@ pub record Closed {P : Type 0} (given : Given P) (Q : ℕ → ℕ → Thread P �
   pub wakes : (now u : ℕ) (th : Thread P) (result : Res) (value : ℕ) → Q now u th → Q now u (woken result value th)
   -- a wait is that of a known call, or that for the mutex of a condition wait, which is over
   pub waits : (now u : ℕ) (th caller : Thread P) (w : Waiting) → given.Known caller w.call → MakesWait w.call w.wait → Q now u th → Q now u (put_to_wait w th)
-  pub again : (now u : ℕ) (th : Thread P) (w : Waiting) (c k : ℕ) (how : CondEnd) → given.Waits (for_condition c k) → w.wait ≡ for_mutex_again k how → Q now u th → Q now u (put_to_wait w th)
+  pub again : (now u : ℕ) (th : Thread P) (w : Waiting) (c k : ℕ) (how : CondEnd) → given.Waits (for_condition c k) → (how ≡ cond_end.Cancelled → Cancels given th) → w.wait ≡ for_mutex_again k how →
+      Q now u th → Q now u (put_to_wait w th)
   pub waiting : (now u : ℕ) (th : Thread P) (w : Waiting) → Q now u th → waiting_in th.status ≡ Some w → given.Waits w.wait
   pub starts : (now u : ℕ) (th : Thread P) (mask : ℕ) → u < given.count → Q now u th → Q now u (started given.bodies u mask now th)
   -- its server is activated, refilled, or plans a replenishment

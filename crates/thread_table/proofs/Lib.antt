@@ -4,3 +4,4 @@ pub mod Moved
 pub mod Statuses
 pub mod Served
 pub mod Opening
+pub mod Movers

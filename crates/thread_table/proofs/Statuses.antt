@@ -37,6 +37,32 @@ module _ {P : Type 0} (bodies : Bodies P) where
   pub unit_status : (th : Thread P) → (in_unit bodies th).thread.status ≡ th.status
   unit_status th = by_choice (th.is_ending && is_main (top_kind th.frames) && top_left th.frames == 0) th
 
+  -- ---- claims
+
+  top_claim : (left : ℕ) (f : Frame P) (fs : List (Frame P)) (th : Thread P) → claim_of (top_in_unit bodies left f fs th).thread ≡ claim_of th
+  top_claim zero f fs th = refl
+  top_claim (suc left) f fs th = refl
+
+  of_claim : (fs : List (Frame P)) (th : Thread P) → claim_of (in_unit_of bodies fs th).thread ≡ claim_of th
+  of_claim [] th = refl
+  of_claim (f ∷ fs) th = top_claim f.left f fs th
+
+  finish_claim : (fs : List (Frame P)) (th : Thread P) → claim_of (begins_finish fs th).thread ≡ claim_of th
+  finish_claim [] th = refl
+  finish_claim (f ∷ fs) th = refl
+
+  ending_claim : (us : List ℕ) (th : Thread P) → claim_of (begins_ending bodies us th).thread ≡ claim_of th
+  ending_claim [] th = finish_claim th.frames th
+  ending_claim (u ∷ us) th = let begun = runs_cleanup bodies (u ∷ us) (without_cleanup th) in of_claim begun.frames begun
+
+  claim_by : (b : Bool) (th : Thread P) → claim_of (in_unit_if bodies b th).thread ≡ claim_of th
+  claim_by true th = ending_claim th.cleanups th
+  claim_by false th = of_claim th.frames th
+
+  -- and its claim
+  pub unit_claim : (th : Thread P) → claim_of (in_unit bodies th).thread ≡ claim_of th
+  unit_claim th = claim_by (th.is_ending && is_main (top_kind th.frames) && top_left th.frames == 0) th
+
 activated_under : (now : ℕ) (p : Policy) (o : Option ServerState) → assigned_under p (option_map (activate now) o) ≡ assigned_under p o
 activated_under now (policy.Fifo p) o = refl
 activated_under now (policy.Rr p) o = refl

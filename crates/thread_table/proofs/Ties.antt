@@ -8,7 +8,7 @@ use Rattle.machine_rules.specs.Threads.{no_thread, thread_in, waiting_in}
 use Rattle.machine_rules.proofs.Reading.{changed-keeps, changed-length, changed-map}
 use Rattle.wait_lists.specs.declared.Place.{Place}
 use Rattle.wait_lists.specs.Ties.{place_of}
-use Rattle.inherit_chain.specs.Chains.{Links, awaited_in, links_of}
+use Rattle.inherit_chain.specs.Chains.{Links, awaited_in, exec_of, links_of}
 use Rattle.inherit_chain.specs.Moves.{IsPlaced}
 use Rattle.inherit_chain.proofs.Machine.{awaited_is, waits_placed}
 use Rattle.thread_table.specs.Table.{machine_with}
@@ -48,3 +48,9 @@ awaited_claim threads t = awaited_is threads t
 -- a thread that awaits no mutex
 pub awaits_none : (threads : List (Thread Cursor)) (chain : Links) (places : List (Option Place)) (t : ℕ) → mutex_awaited_by (thread_in threads t) ≡ None → IsTied threads chain places → awaited_in chain.claims t ≡ None
 awaits_none threads chain places t none tied = ap (λ (cs : List Claim). awaited_in cs t) tied.claims ∙ awaited_claim threads t ∙ none
+
+-- another count of a mutex changes no priority
+pub count_kept : (threads : List (Thread Cursor)) (chain new : Links) (places : List (Option Place)) (u : ℕ) → IsTied threads chain places → new.claims ≡ chain.claims →
+    exec_of new u ≡ exec_of chain u → exec_in (claims threads) new.mutexes u ≡ exec_in (claims threads) chain.mutexes u
+count_kept threads chain new places u tied same kept =
+    ap (λ (cs : List Claim). exec_in cs new.mutexes u) (sym (same ∙ tied.claims)) ∙ kept ∙ exec_kept threads chain places u tied

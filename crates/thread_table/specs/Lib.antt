@@ -3,3 +3,4 @@ pub mod Tied
 pub mod View
 pub mod Moves
 pub mod Opening
+pub mod Movers

@@ -1,58 +1,78 @@
 // The chain and the waiters, together.
-ghost use Rattle.std.specs.Prelude.{◌≡◌, ◌<◌, None, Some, length, slice_set};
+ghost use Rattle.std.specs.Prelude.{◌≡◌, ◌<◌, IfSome, None, Some, length, option_map, slice_set};
 ghost use Rattle.machine_rules.specs.Priorities.{assigned_of, mutex_waited};
 ghost use Rattle.machine_rules.specs.Threads.{thread_in};
 ghost use Rattle.wait_lists.specs.Places.{place_in};
 ghost use Rattle.thread_blocks.specs.Plain.{wait_of, waiting_of};
-ghost use Rattle.inherit_chain.specs.Chains.{assigned_to, exec_of, waiting_for, with_claim};
-ghost use Rattle.inherit_chain.specs.Moves.{IsPlaced, entered, left, mutex_named};
+ghost use Rattle.inherit_chain.specs.Chains.{assigned_to, awaited_in, exec_of, waiting_for, with_claim};
+ghost use Rattle.inherit_chain.specs.Moves.{IsPlaced, TellsMoved, entered, left, mutex_named};
+ghost use Rattle.inherit_chain.specs.declared.walk.Moved.{Moved};
 ghost use Rattle.thread_table.specs.Moves.{ArePriced, MayAwait, begun};
+ghost use Rattle.thread_table.specs.Movers.{beside};
 
-use inherit_chain::Chain;
+use inherit_chain::{Chain, Moved};
 use thread_blocks::{Threads, Wait, Waiting};
 use tick_num::{ObjId, Tid};
 use wait_lists::{WaitObj, Waits};
 
 /// The chain takes the assigned priority of the thread, where it is another.
-pub(crate) fn reassign(threads: &Threads, chain: &mut Chain, waits: &mut Waits, t: Tid)
+pub(crate) fn reassign(
+    threads: &Threads,
+    chain: &mut Chain,
+    waits: &mut Waits,
+    t: Tid,
+) -> Option<Moved>
     requires thread { t < length threads.now }
     requires known { t < length chain.old.claims }
     requires placed { IsPlaced chain.old waits.old }
     ensures chain { chain.new ≡ with_claim t (assigned_to (assigned_of (thread_in threads.now t))) chain.old }
     ensures waits { ArePriced chain.new waits.old waits.new }
     ensures placed { IsPlaced chain.new waits.new }
+    ensures moved { TellsMoved (length chain.old.claims) (exec_of chain.old) (exec_of chain.new) waits.new result }
+    ensures alone { awaited_in chain.old.claims t ≡ None → IfSome result (λ m. m.thread ≡ t) }
 {
     let p = threads.get(t).assigned();
-    if chain.assigned(t).get() != p.get() {
-        chain.set_base(waits, t, p);
+    if chain.assigned(t).get() == p.get() {
+        return None;
     }
+    chain.set_base(waits, t, p)
 }
 
 /// The thread waits for nothing in an order.
 #[tactic(auto, using(crate::proofs::Places::left_placed, crate::proofs::Places::left_nowhere))]
-pub(crate) fn stop_waiting(chain: &mut Chain, waits: &mut Waits, t: Tid)
+pub(crate) fn stop_waiting(chain: &mut Chain, waits: &mut Waits, t: Tid) -> Option<Moved>
     requires known { t < length chain.old.claims }
     requires placed { IsPlaced chain.old waits.old }
     ensures chain { chain.new ≡ with_claim t (waiting_for None) chain.old }
     ensures waits { ArePriced chain.new (left t waits.old) waits.new }
     ensures placed { IsPlaced chain.new waits.new }
     ensures nowhere { place_in waits.new t ≡ None }
+    ensures moved { TellsMoved (length chain.old.claims) (exec_of chain.old) (exec_of chain.new) waits.new result }
 {
     if chain.awaits(t) {
-        chain.stop_wait(waits, t);
-    } else if waits.place_of(t).is_some() {
-        waits.leave(t);
+        return chain.stop_wait(waits, t);
     }
+    if waits.place_of(t).is_none() {
+        return None;
+    }
+    waits.leave(t);
+    None
 }
 
 /// The thread, which waits for nothing in an order, begins to wait at its execution priority.
-pub(crate) fn begin_waiting(chain: &mut Chain, waits: &mut Waits, t: Tid, w: &Waiting)
+pub(crate) fn begin_waiting(
+    chain: &mut Chain,
+    waits: &mut Waits,
+    t: Tid,
+    w: &Waiting,
+) -> Option<Moved>
     requires known { t < length chain.old.claims }
     requires placed { IsPlaced chain.old waits.old }
     requires nowhere { place_in waits.old t ≡ None }
     requires may { MayAwait chain.old t (mutex_waited (wait_of w.now.wait)) }
     ensures chain { chain.new ≡ with_claim t (waiting_for (mutex_waited (wait_of w.now.wait))) chain.old }
     ensures waits { ArePriced chain.new (begun chain.old t (waiting_of w.now) waits.old) waits.new }
+    ensures moved { TellsMoved (length chain.old.claims) (exec_of chain.old) (exec_of chain.new) waits.new result }
 {
     match w.wait {
         Wait::Mutex(k) => await_mutex(chain, waits, t, k, w.serial),
@@ -62,33 +82,54 @@ pub(crate) fn begin_waiting(chain: &mut Chain, waits: &mut Waits, t: Tid, w: &Wa
         Wait::Room(q, _) => stand_at(chain, waits, t, WaitObj::Sender(q), w.serial),
         Wait::Message(q) => stand_at(chain, waits, t, WaitObj::Receiver(q), w.serial),
         Wait::Signal(_) => stand_at(chain, waits, t, WaitObj::SigWait, w.serial),
-        Wait::End(_) => return,
-        Wait::Time => return,
+        Wait::End(_) => None,
+        Wait::Time => None,
     }
 }
 
 // It awaits a mutex.
-fn await_mutex(chain: &mut Chain, waits: &mut Waits, t: Tid, k: ObjId, serial: u64)
+fn await_mutex(chain: &mut Chain, waits: &mut Waits, t: Tid, k: ObjId, serial: u64) -> Option<Moved>
     requires known { t < length chain.old.claims }
     requires placed { IsPlaced chain.old waits.old }
     requires nowhere { place_in waits.old t ≡ None }
     requires may { MayAwait chain.old t (Some k) }
     ensures chain { chain.new ≡ with_claim t (waiting_for (Some k)) chain.old }
     ensures waits { ArePriced chain.new (entered t k serial chain.old waits.old) waits.new }
+    ensures moved { TellsMoved (length chain.old.claims) (exec_of chain.old) (exec_of chain.new) waits.new result }
 {
-    if let Some(owner) = chain.mutex(k).owner() {
-        chain.wait_on(waits, t, k, owner, serial);
+    match chain.mutex(k).owner() {
+        Some(owner) => chain.wait_on(waits, t, k, owner, serial),
+        None => unreachable!(),
     }
 }
 
-// It stands among the waiters of an object that is no mutex.
-fn stand_at(chain: &Chain, waits: &mut Waits, t: Tid, object: WaitObj, serial: u64)
+// It stands among the waiters of an object that is no mutex, and no priority changes.
+fn stand_at(chain: &Chain, waits: &mut Waits, t: Tid, object: WaitObj, serial: u64) -> Option<Moved>
     requires known { t < length chain.now.claims }
     requires placed { IsPlaced chain.now waits.old }
     requires nowhere { place_in waits.old t ≡ None }
     requires other { mutex_named object ≡ None }
     ensures chain { chain.now ≡ with_claim t (waiting_for None) chain.now }
     ensures waits { ArePriced chain.now (slice_set waits.old t (Some (record { object = object; priority = exec_of chain.now t; serial = serial }))) waits.new }
+    ensures nobody { result ≡ None }
 {
     waits.enter(object, t, chain.exec(t), serial);
+    None
+}
+
+/// The thread of a change of priority.
+pub(crate) fn thread_of(moved: Option<Moved>) -> Option<Tid>
+    ensures { result ≡ option_map (λ (m : Moved). m.thread) moved }
+{
+    moved.map(|m| m.thread)
+}
+
+/// The thread, where it is another than t.
+pub(crate) fn beside(t: Tid, moved: Option<Tid>) -> Option<Tid>
+    ensures { result ≡ beside t moved }
+{
+    match moved {
+        Some(u) if u.get() != t.get() => Some(u),
+        _ => None,
+    }
 }

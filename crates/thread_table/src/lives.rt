@@ -8,46 +8,56 @@ ghost use Rattle.machine_rules.specs.Waking.{put_to_wait};
 ghost use Rattle.thread_blocks.specs.Plain.{status_of, wait_of, waiting_of};
 ghost use Rattle.thread_table.specs.Table as table;
 ghost use Rattle.thread_table.specs.Table.{CanAwait, with_thread};
+ghost use Rattle.thread_table.specs.Movers.{TellsMoved, TellsMovedBeside};
 
-use crate::links::{begin_waiting, reassign, stop_waiting};
+use crate::links::{begin_waiting, beside, reassign, stop_waiting, thread_of};
 use crate::table::Table;
 use thread_blocks::{Frame, Status, Waiting};
 use tick_num::{SigSet, Tick, Tid};
 
 impl Table {
-    /// It is runnable in that frame, with a new server where it is sporadic.
+    /// It is runnable in that frame, with a new server where it is sporadic. The answer is the one other thread that stands among no
+    /// waiters and whose execution priority changed; `None` exactly where there is none.
     #[tactic(auto, using(crate::proofs::Ties::placed))]
-    pub fn start(&mut self, t: Tid, mask: SigSet, now: Tick, main: Frame)
+    pub fn start(&mut self, t: Tid, mask: SigSet, now: Tick, main: Frame) -> Option<Tid>
         requires known { t < length self.old.threads }
         requires early { now ≤ 10 ^ 18 }
-        ensures { self.new ≡ with_thread t (λ th. record th { status = status_of Status.Runnable; slice = 0; mask = mask; frames = main ∷ []; server = server_of th.policy now }) self.old }
+        ensures table { self.new ≡ with_thread t (λ th. record th { status = status_of Status.Runnable; slice = 0; mask = mask; frames = main ∷ []; server = server_of th.policy now }) self.old }
+        ensures moved { TellsMovedBeside t self.old self.new result }
     {
-        stop_waiting(&mut self.chain, &mut self.waits, t);
+        let moved = stop_waiting(&mut self.chain, &mut self.waits, t);
         self.threads.get_mut(t).start(mask, now, main);
         reassign(&self.threads, &mut self.chain, &mut self.waits, t);
+        beside(t, thread_of(moved))
     }
 
-    /// It has ended. What it owns stays owned.
+    /// It has ended. What it owns stays owned. The answer is the one other thread that stands among no waiters and whose execution priority
+    /// changed; `None` exactly where there is none.
     #[tactic(auto, using(crate::proofs::Ties::placed))]
-    pub fn end(&mut self, t: Tid)
+    pub fn end(&mut self, t: Tid) -> Option<Tid>
         requires { t < length self.old.threads }
-        ensures { self.new ≡ with_thread t without_life self.old }
+        ensures table { self.new ≡ with_thread t without_life self.old }
+        ensures moved { TellsMovedBeside t self.old self.new result }
     {
-        stop_waiting(&mut self.chain, &mut self.waits, t);
+        let moved = stop_waiting(&mut self.chain, &mut self.waits, t);
         self.threads.get_mut(t).end();
         reassign(&self.threads, &mut self.chain, &mut self.waits, t);
+        beside(t, thread_of(moved))
     }
 
-    /// It waits; what it waited for before, it leaves. The mutex that it begins to await is owned, and no cycle comes of it.
+    /// It waits; what it waited for before, it leaves. The mutex that it begins to await is owned, and no cycle comes of it. The answer is
+    /// the one thread that stands among no waiters and whose execution priority changed; `None` exactly where there is none.
     #[tactic(auto, using(crate::proofs::Ties::placed))]
-    pub fn block(&mut self, t: Tid, waiting: Waiting)
+    pub fn block(&mut self, t: Tid, waiting: Waiting) -> Option<Tid>
         requires known { t < length self.old.threads }
         requires waits_not { mutex_awaited_by (thread_in self.old.threads t) ≡ None }
         requires may { CanAwait self.old t (mutex_waited (wait_of waiting.wait)) }
-        ensures { self.new ≡ with_thread t (put_to_wait (waiting_of waiting)) self.old }
+        ensures table { self.new ≡ with_thread t (put_to_wait (waiting_of waiting)) self.old }
+        ensures moved { TellsMoved self.old self.new result }
     {
         stop_waiting(&mut self.chain, &mut self.waits, t);
-        begin_waiting(&mut self.chain, &mut self.waits, t, &waiting);
+        let moved = begin_waiting(&mut self.chain, &mut self.waits, t, &waiting);
         self.threads.get_mut(t).block(waiting);
+        thread_of(moved)
     }
 }

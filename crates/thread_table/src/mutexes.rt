@@ -1,5 +1,5 @@
 // Owners and counts of mutexes, and who is served first.
-ghost use Rattle.std.specs.Prelude.{◌≡◌, ◌<◌, Bool, Option, None, Some, length, option_map};
+ghost use Rattle.std.specs.Prelude.{◌≡◌, ◌<◌, Bool, IfSome, Option, None, Some, length, option_map};
 ghost use Rattle.machine_rules.specs.Mutexes.{freed, taken_by};
 ghost use Rattle.machine_rules.specs.Priorities.{mutex_awaited_by};
 ghost use Rattle.machine_rules.specs.State.{Wait};
@@ -9,55 +9,74 @@ ghost use Rattle.wait_lists.specs.Ties.{is_object, object_of};
 ghost use Rattle.inherit_chain.specs.Chains.{counted};
 ghost use Rattle.thread_table.specs.Table as table;
 ghost use Rattle.thread_table.specs.Table.{best_in, with_mutex, with_thread};
+ghost use Rattle.thread_table.specs.Movers.{KeepsExec, KeepsOthers, TellsMoved};
 
-use crate::links::stop_waiting;
+use crate::links::{stop_waiting, thread_of};
 use crate::table::Table;
 use tick_num::{ObjId, Res, Tid};
 use wait_lists::WaitObj;
 
 impl Table {
-    /// The mutex is counted so often, with the same owner.
+    /// The mutex is counted so often, with the same owner. No execution priority changes.
     pub fn set_count(&mut self, k: ObjId, n: u16)
         requires { k < length self.old.mutexes }
-        ensures { self.new ≡ with_mutex k (counted n) self.old }
+        ensures table { self.new ≡ with_mutex k (counted n) self.old }
+        ensures same { KeepsExec self.old self.new }
     {
         self.chain.set_count(k, n);
     }
 
-    /// The thread, which awaits no mutex, owns the mutex, which was free.
+    /// The thread, which awaits no mutex, owns the mutex, which was free. The answer is the thread, where it stands among no waiters and its
+    /// execution priority changed, as none other did; else `None`.
     #[tactic(auto, using(crate::proofs::Ties::placed, crate::proofs::Ties::awaits_none))]
-    pub fn take(&mut self, k: ObjId, t: Tid)
+    pub fn take(&mut self, k: ObjId, t: Tid) -> Option<Tid>
         requires known { t < length self.old.threads }
         requires mutex { k < length self.old.mutexes }
         requires free { (mutex_in self.old.mutexes k).owner ≡ None }
         requires waits_not { mutex_awaited_by (thread_in self.old.threads t) ≡ None }
-        ensures { self.new ≡ with_mutex k (taken_by t) self.old }
+        ensures table { self.new ≡ with_mutex k (taken_by t) self.old }
+        ensures moved { TellsMoved self.old self.new result }
+        ensures alone { IfSome result (λ u. u ≡ t) }
     {
-        self.chain.take(&mut self.waits, k, t);
+        thread_of(self.chain.take(&mut self.waits, k, t))
     }
 
-    /// The mutex, which the thread owned, is free.
+    /// The mutex, which the thread owned, is free. The answer is the one thread that stands among no waiters and whose execution priority
+    /// changed; `None` exactly where there is none.
     #[tactic(auto, using(crate::proofs::Ties::placed))]
-    pub fn release(&mut self, k: ObjId, t: Tid)
+    pub fn release(&mut self, k: ObjId, t: Tid) -> Option<Tid>
         requires mutex { k < length self.old.mutexes }
         requires owned { (mutex_in self.old.mutexes k).owner ≡ Some t }
-        ensures { self.new ≡ with_mutex k freed self.old }
+        ensures table { self.new ≡ with_mutex k freed self.old }
+        ensures moved { TellsMoved self.old self.new result }
     {
-        self.chain.release(&mut self.waits, k, t);
+        thread_of(self.chain.release(&mut self.waits, k, t))
     }
 
-    /// The mutex goes from its owner to a thread that wakes.
+    /// The mutex goes from its owner to a thread that wakes. The answers are the one thread that stands among no waiters and whose execution
+    /// priority changed as the owner lost the mutex, and then as the other thread woke; beside that thread no other such one changed.
     #[tactic(auto, using(crate::proofs::Ties::placed))]
-    pub fn hand_over(&mut self, k: ObjId, owner: Tid, t: Tid, res: Res, value: u64)
+    pub fn hand_over(
+        &mut self,
+        k: ObjId,
+        owner: Tid,
+        t: Tid,
+        res: Res,
+        value: u64,
+    ) -> (Option<Tid>, Option<Tid>)
         requires known { t < length self.old.threads }
         requires mutex { k < length self.old.mutexes }
         requires owned { (mutex_in self.old.mutexes k).owner ≡ Some owner }
-        ensures { self.new ≡ with_thread t (woken res value) (with_mutex k (taken_by t) self.old) }
+        ensures table { self.new ≡ with_thread t (woken res value) (with_mutex k (taken_by t) self.old) }
+        ensures released { TellsMoved self.old (with_mutex k freed self.old) result.0 }
+        ensures woken { TellsMoved (with_mutex k freed self.old) (with_thread t (woken res value) (with_mutex k freed self.old)) result.1 }
+        ensures others { KeepsOthers t result.0 result.1 self.old self.new }
     {
-        self.chain.release(&mut self.waits, k, owner);
-        stop_waiting(&mut self.chain, &mut self.waits, t);
+        let released = self.chain.release(&mut self.waits, k, owner);
+        let woken = stop_waiting(&mut self.chain, &mut self.waits, t);
         self.chain.take(&mut self.waits, k, t);
         self.threads.get_mut(t).wake(res, value);
+        (thread_of(released), thread_of(woken))
     }
 
     /// The thread that is served first of those that wait for the object; `None` exactly where nobody does.

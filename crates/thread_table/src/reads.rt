@@ -1,7 +1,11 @@
 // What can be asked of the threads and mutexes.
-ghost use Rattle.std.specs.Prelude.{◌≡◌, ◌<◌, ◌≤◌, length};
+ghost use Rattle.std.specs.Prelude.{◌≡◌, ◌<◌, ◌≤◌, filter, length};
+ghost use Rattle.std.specs.List.{list_any};
+ghost use Rattle.machine_rules.specs.Lists.{is};
+ghost use Rattle.machine_rules.specs.Mutexes.{is_boosting};
+ghost use Rattle.machine_rules.specs.State.{Mutex};
 ghost use Rattle.machine_rules.specs.Threads.{mutex_in, thread_in};
-ghost use Rattle.inherit_chain.specs.Chains.{closes_cycle_in};
+ghost use Rattle.inherit_chain.specs.Chains.{OwnersAreThreads, closes_cycle_in};
 ghost use Rattle.machine_rules.specs.Priorities.{claims};
 ghost use Rattle.thread_table.specs.Table.{exec};
 
@@ -39,6 +43,20 @@ impl Table {
         ensures { result ≡ exec self.now t }
     {
         self.chain.exec(t)
+    }
+
+    /// Whether the thread owns a mutex that can raise its priority.
+    pub fn owns_boosting(&self, t: Tid) -> bool
+        ensures { result ≡ list_any (λ (k : Mutex). is_boosting k.protocol) (filter (λ (k : Mutex). is k.owner t) self.now.mutexes) }
+    {
+        self.chain.owns_boosting(t)
+    }
+
+    /// Costs nothing when it runs: each owner of a mutex is a thread.
+    pub fn owners_are_threads(&self)
+        ensures { OwnersAreThreads (claims self.now.threads) self.now.mutexes }
+    {
+        self.chain.owners_are_threads();
     }
 
     /// Whether owners and their mutex waits lead from the mutex to the thread.

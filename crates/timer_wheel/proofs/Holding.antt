@@ -8,7 +8,7 @@ use Rattle.raw_links.specs.Links.{Lists, list_at, stands_in, on_a_list, stands_a
 use Rattle.timer_wheel.proofs.Order.{lt_or}
 use Rattle.timer_wheel.specs.Bits.{is_set, ChangesBit, IsLowestSet, NoneIsSet}
 use Rattle.timer_wheel.specs.Dues.{due_of, NoneIsArmed, IsLeastDue, NoneIsDue, IsFirstDue, earlier}
-use Rattle.timer_wheel.specs.Slots.{list_for, AreMarked, AreFiled, AreSmall, IsLeastLater, IsLeastOf}
+use Rattle.timer_wheel.specs.Slots.{list_for, AreMarked, AreFiled, AreSmall, IsEarly, IsLeastLater, IsLeastOf}
 use Rattle.timer_wheel.specs.Moves.{IsFiled, IsTaken, with_last, AreDraining, AreEmptyBelow, AreToRefile, AreRefiling}
 use Rattle.timer_wheel.specs.Held.{AreHeld}
 use Rattle.raw_links.proofs.Chains.{decide, equal}
@@ -119,6 +119,19 @@ still_small dues id v small here l i d h = ⊎_elim
     (λ same. here d (sym (set_same id v dues l) ∙ subst (λ m. due_of m (set dues id v) ≡ Some d) same h))
     (λ other. small i d (sym (set_other id i v dues other) ∙ h))
     (equal i id)
+
+-- nothing that is due then or later comes before
+pub early_armed : (dues : List (Option ℕ)) (id d early less : ℕ) → IsEarly dues early → less ≤ early → less ≤ d → id < length dues → IsEarly (set dues id (Some d)) less
+early_armed dues id d early less before le here l i e h = ⊎_elim
+    (λ same. let q : Some d ≡ Some e = sym (set_same id (Some d) dues l) ∙ subst (λ m. due_of m (set dues id (Some d)) ≡ Some e) same h in
+    let de : d ≡ e = cc in omega (arith, de, here))
+    (λ other. let under = before i e (sym (set_other id i (Some d) dues other) ∙ h) in omega (arith, under, le))
+    (equal i id)
+
+pub set_twice : (i : ℕ) (v w : Option ℕ) (dues : List (Option ℕ)) → set (set dues i v) i w ≡ set dues i w
+set_twice i v w [] = refl
+set_twice zero v w (x ∷ dues) = refl
+set_twice (suc i) v w (x ∷ dues) = ap (λ ds. x ∷ ds) (set_twice i v w dues)
 
 -- ---- nothing is armed
 

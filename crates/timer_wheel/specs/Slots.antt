@@ -38,8 +38,13 @@ pub record IsLeastOf (dues : List (Option ℕ)) (items : List ℕ) (tick : ℕ) 
   pub least : (i d : ℕ) → stands_in i items ≡ true → due_of i dues ≡ Some d → tick ≤ d
   pub holds : (tick ≡ 2 ^ 64 - 1) ⊎ ((i : ℕ) × (stands_in i items ≡ true) × (due_of i dues ≡ Some tick))
 
--- what a wheel keeps beside its slots: the least later due tick, and the last now
-pub record IsCached (slots : Placed) (least last : ℕ) : Type 0 where
+-- nothing is due before that tick
+abbrev pub IsEarly : List (Option ℕ) → ℕ → Type 0
+IsEarly dues tick = (i d : ℕ) → due_of i dues ≡ Some d → tick ≤ d
+
+-- what a wheel keeps beside its slots: the least later due tick, a tick before which nothing is due, and the last now
+pub record IsCached (slots : Placed) (least early last : ℕ) : Type 0 where
   pub later : IsLeastLater slots.base slots.dues least
   pub behind : slots.base ≤ last
   pub small : AreSmall slots.dues
+  pub none_before : IsEarly slots.dues early

@@ -3,10 +3,11 @@
 //! Contracts see a finite map from item number to due tick, and the last `now` of `pop_due`; `specs/Dues.antt` states what each call
 //! answers. The wheel stands at a tick that is at most that last `now`. An item that is due later stands on the list of its slot, a
 //! word of bits for each level tells which slots are taken, and an item whose tick has passed is a bit of a set, so that the least
-//! number is found at once. The least later due tick is kept, so that `next` searches no slot. No call after `open` takes memory.
+//! number is found at once. The least later due tick is kept, so that `next` searches no slot, and a tick before which nothing is due,
+//! so that `first_due` is one comparison where nothing is. No call after `open` takes memory.
 #![tactic(auto)]
 
-ghost use Rattle.std.specs.Prelude.{◌≡◌, ◌≢◌, ◌≤◌, ◌<◌, ◌*◌, ◌^◌, ℕ, None, Some, true, false, length, replicate, slice_set, IfOk, MatchOption};
+ghost use Rattle.std.specs.Prelude.{◌≡◌, ◌≢◌, ◌≤◌, ◌<◌, ◌*◌, ◌^◌, ℕ, None, Some, true, false, length, max, replicate, slice_set, IfOk, MatchOption};
 ghost use Rattle.timer_wheel.specs.Dues.{due_of, NoneIsArmed, IsLeastDue, NoneIsDue, IsFirstDue, earlier};
 ghost use Rattle.timer_wheel.specs.Slots.{IsLeastLater};
 
@@ -26,6 +27,8 @@ pub struct Wheel {
     slots: Slots,
     // the least due tick after that of the slots
     least: u64,
+    // nothing is due before that tick
+    early: u64,
     last: u64,
 }
 
@@ -37,7 +40,7 @@ impl Model for Wheel {
 
     ghost view = { λ w. record { dues = w.slots.dues; last = w.last } };
 
-    ghost invariant = { λ w. IsCached w.slots w.least w.last };
+    ghost invariant = { λ w. IsCached w.slots w.least w.early w.last };
 }
 
 /// Whether that is the due tick.
@@ -76,6 +79,30 @@ fn earlier(one: Option<Tick>, other: Option<Tick>) -> Option<Tick>
     if b < a { other } else { one }
 }
 
+/// Whether that is now or has passed.
+fn has_come(due: Option<Tick>, now: Tick) -> bool
+    ensures come { result ≡ true → (d : ℕ) × (due ≡ Some d) × (d ≤ now) }
+    ensures to_come { result ≡ false → (d : ℕ) → due ≡ Some d → now < d }
+{
+    match due {
+        Some(d) => d <= now,
+        None => false,
+    }
+}
+
+/// The item with the least number that is due at or before now. None exactly where none is.
+fn first_of(dues: &[Option<Tick>], now: Tick) -> Option<ItemId>
+    requires { length dues.now ≤ 1024 }
+    ensures { MatchOption result (NoneIsDue now dues.now) (λ id. IsFirstDue now dues.now id.number) }
+{
+    for at in 0..dues.len() {
+        if has_come(dues[at], now) {
+            return Some(ItemId { number: at as u32 });
+        }
+    }
+    None
+}
+
 /// Where an item is due by now, the slots go on to now. The answer is the least due tick after theirs.
 fn caught_up(slots: &mut Slots, least: u64, now: u64) -> u64
     requires least { IsLeastLater slots.old.base slots.old.dues least }
@@ -102,6 +129,7 @@ impl Wheel {
         Ok(Wheel {
             slots,
             least: u64::MAX,
+            early: u64::MAX,
             last: 0,
         })
     }
@@ -112,6 +140,7 @@ impl Wheel {
         ensures { self.new ≡ record self.old { dues = slice_set self.old.dues id.number (Some due) } }
     {
         self.slots.arm(id.number, due);
+        self.early = self.early.min(due.get());
         if due.get() > self.slots.base() && due.get() < self.least {
             self.least = due.get();
         }
@@ -126,6 +155,20 @@ impl Wheel {
         self.slots.disarm(id.number);
         if is_due_at(due, self.least) {
             self.least = self.slots.least_later();
+        }
+    }
+
+    /// The item falls due then; it is not armed afterwards where that is `None`.
+    pub fn set_due(&mut self, id: ItemId, due: Option<Tick>)
+        requires { id.number < length self.old.dues }
+        ensures { self.new ≡ record self.old { dues = slice_set self.old.dues id.number due } }
+    {
+        if self.due_of(id) == due {
+            return;
+        }
+        self.disarm(id);
+        if let Some(tick) = due {
+            self.arm(id, tick);
         }
     }
 
@@ -145,6 +188,29 @@ impl Wheel {
             Some(_) => least_of(self.slots.dues()),
             None => Tick::try_new(self.least),
         }
+    }
+
+    /// The item with the least number that is due at or before now. None exactly where none is. It stays armed. The instants need not
+    /// rise: one before the last is answered by a search.
+    pub fn first_due(&mut self, now: Tick) -> Option<ItemId>
+        ensures item { MatchOption result (NoneIsDue now self.old.dues) (λ id. IsFirstDue now self.old.dues id.number) }
+        ensures same { self.new.dues ≡ self.old.dues }
+        ensures last { self.new.last ≡ max self.old.last now }
+    {
+        let is_earlier = now.get() < self.last;
+        self.last = self.last.max(now.get());
+        if now.get() < self.early {
+            return None;
+        }
+        if is_earlier {
+            return first_of(self.slots.dues(), now);
+        }
+        self.least = caught_up(&mut self.slots, self.least, now.get());
+        let Some(number) = self.slots.first_passed() else {
+            self.early = self.least;
+            return None;
+        };
+        Some(ItemId { number })
     }
 
     /// Takes out the item with the least number that is due at or before now. None exactly where none is.

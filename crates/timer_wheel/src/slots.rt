@@ -93,6 +93,7 @@ impl Slots {
     pub(crate) fn dues(&self) -> &[Option<Tick>]
         ensures value { result.now ≡ self.now.dues }
         ensures small { AreSmall self.now.dues }
+        ensures few { length self.now.dues ≤ 1024 }
     {
         self.dues.as_slice()
     }

@@ -54,7 +54,7 @@ static REFUSED: [(&str, &str); 7] = [
     (
         "thread a fifo 5 at 0\nlock nope\nend\nthread b fifo 5 at 0\nrun 1\nend\nthread c fifo 5 at 0\nrun 1\n\
             frob\nend\n",
-        "refused 2 2 UnknownWord\n",
+        "refused 9 2 UnknownWord\n",
     ),
     (
         "thread a fifo 5 at 0\nloop 0\nend\nend\nthread a fifo 5 at 0\nend\n",

@@ -1,7 +1,9 @@
-use Rattle.std.proofs.Common.{ap, refl, ◌∙◌}
+use Rattle.std.proofs.Common.{ap, refl, slice_set, ◌∙◌}
 use Rattle.machine_rules.specs.Scheduling.{with_priority}
 use Rattle.thread_table.proofs.Moved.{reassigned_tied}
 use Rattle.thread_table.proofs.Ties.{placed}
+use Rattle.std.proofs.lemmas.List.{length-set}
+use Rattle.thread_table.proofs.Movers.{told}
 use Rattle.thread_table.proofs.table.Table.set_priority.Goals as goal
 
 pub invariant_of-self : goal.invariant_of-self
@@ -14,3 +16,10 @@ invariant_of-self c =
 
 pub reassign-requires-clause-placed : goal.reassign-requires-clause-placed
 reassign-requires-clause-placed c = placed c.self.inside.threads c.self.inside.chain c.self.inside.waits c.self.invariant
+
+pub returns-clause-moved : goal.returns-clause-moved
+returns-clause-moved c =
+    let s = c.self.inside in
+    rw (← c.self.view_is, c.thread_of.ensures)
+    (told s.threads (slice_set s.threads c.args.t c.set_priority.new.self) s.chain c.reassign.new.chain s.waits c.reassign.new.waits c.reassign.result (length-set s.threads c.args.t c.set_priority.new.self) c.self.invariant
+    (invariant_of-self c) c.reassign.ensures.moved)

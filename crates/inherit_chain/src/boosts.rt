@@ -1,0 +1,43 @@
+// Whether a thread owns a mutex that can raise its priority.
+ghost use Rattle.std.specs.Prelude.{◌≡◌, ◌≤◌, ◌<◌, ℕ, filter, length};
+ghost use Rattle.std.specs.List.{list_any};
+ghost use Rattle.machine_rules.specs.Lists.{is};
+ghost use Rattle.machine_rules.specs.Mutexes.{is_boosting};
+ghost use Rattle.machine_rules.specs.State.{Mutex};
+ghost use Rattle.inherit_chain.specs.Chains.{prio_in};
+
+use crate::claims::MutexState;
+use script_tree::Protocol;
+use tick_num::{Prio, Tid};
+
+impl MutexState {
+    // Whether it can raise its owner's priority.
+    fn is_boosting(&self) -> bool
+        ensures { result ≡ is_boosting self.now.protocol }
+    {
+        match self.protocol {
+            Protocol::Plain => false,
+            Protocol::Inherit => true,
+            Protocol::Protect(_) => true,
+        }
+    }
+}
+
+/// Whether the thread owns a mutex that can raise its priority.
+#[tactic(auto, using(crate::proofs::Owned::none_more, crate::proofs::Owned::found))]
+pub(crate) fn owns_boosting(mutexes: &[MutexState], t: Tid) -> bool
+    ensures { result ≡ list_any (λ (k : Mutex). is_boosting k.protocol) (filter (λ (k : Mutex). is k.owner t) mutexes.now) }
+{
+    for k in mutexes {
+        if k.is_owned_by(t) && k.is_boosting() {
+            return true;
+        }
+    }
+    false
+}
+
+pub(crate) fn in_range(exec: &[Prio])
+    ensures { (t : ℕ) → t < length exec.now → 1 ≤ prio_in exec.now t }
+{
+    let _ = exec;
+}

@@ -1,0 +1,17 @@
+use Rattle.std.proofs.Common.{subst}
+use Rattle.pse52_trace.specs.Tells.{Tells}
+use Rattle.script_flat.specs.declared.cursor.Cursor.{Cursor}
+use Rattle.machine_rules.specs.Turns.{Turn, moves, tells, ◌▷◌}
+use Rattle.machine_rules.specs.Servers.{activates_if_high}
+use Rattle.machine_rules.proofs.Behind.{activates_server_behind}
+use Rattle.kernel_state.specs.Kernel.{Kernel, told}
+use Rattle.kernel_state.proofs.Turns.{then_told}
+use Rattle.kernel_state.proofs.parts.Parts.rise.Goals as goal
+
+pub returns-clause-told : goal.returns-clause-told
+returns-clause-told g c =
+    let t = c.args.t in
+    let first = c.move_later.ensures in
+    let one = subst (λ (x : Kernel). Tells g.K.Sink.text g.K.Sink.faults x.names c.args.out.now c.tell.new.out (told (tells c.args.e.now) x)) first c.tell.ensures in
+    then_told _ _ (λ (s : Turn Cursor). s ▷ moves t ▷ tells c.args.e.now) (activates_if_high t) _ _ _ _ _
+    (λ told s. activates_server_behind t _ told s) first one c.activate_if_high.ensures.told

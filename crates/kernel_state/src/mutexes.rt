@@ -1,0 +1,119 @@
+// Owners and counts of mutexes, and who waits for them.
+ghost use Rattle.std.specs.Prelude.{◌≡◌, ◌≤◌, ◌<◌, ◌^◌, Bool, IfSome, None, Some, length, option_map, true};
+ghost use Rattle.tick_num.specs.declared.res.Res.TheVariants as res;
+ghost use Rattle.pse52_trace.specs.Tells.{Tells};
+ghost use Rattle.machine_rules.specs.Mutexes.{closes_cycle, freed, is_above_ceiling, taken_by};
+ghost use Rattle.machine_rules.specs.State.{Wait};
+ghost use Rattle.wait_lists.specs.Ties.{is_object, object_of};
+ghost use Rattle.machine_rules.specs.Threads.{can_run, is_blocked, mutex_at, thread_at};
+ghost use Rattle.machine_rules.specs.Turns.{changes, changes_mutex, ◌▷◌};
+ghost use Rattle.machine_rules.specs.Waiters.{Waiter, best_waiter};
+ghost use Rattle.machine_rules.specs.Waking.{wakes, woken};
+ghost use Rattle.inherit_chain.specs.Chains.{counted};
+ghost use Rattle.thread_blocks.specs.Unused.{IsUnused};
+ghost use Rattle.kernel_state.specs.Kernel.{after, told};
+
+use crate::parts::Parts;
+use inherit_chain::MutexState;
+use machine_rules::call_name;
+use pse52_trace::{Event, Tracer};
+use rt_io::Sink;
+use script_tree::Protocol;
+use tick_num::{ObjId, Res, Tid};
+use wait_lists::WaitObj;
+
+impl Parts {
+    /// A mutex as it stands.
+    pub fn mutex(&self, k: ObjId) -> &MutexState
+        requires { k < length self.now.machine.mutexes }
+        ensures { result.now ≡ mutex_at self.now.machine k }
+    {
+        self.table.mutex(k)
+    }
+
+    /// Whether the assigned priority of the thread is above the mutex's ceiling.
+    pub fn is_above_ceiling(&self, t: Tid, k: ObjId) -> bool
+        requires thread { t < length self.now.names }
+        requires mutex { k < length self.now.machine.mutexes }
+        ensures { result ≡ is_above_ceiling (thread_at self.now.machine t) (mutex_at self.now.machine k).protocol }
+    {
+        match self.table.mutex(k).protocol() {
+            Protocol::Plain => false,
+            Protocol::Inherit => false,
+            Protocol::Protect(ceiling) => ceiling < self.table.thread(t).assigned(),
+        }
+    }
+
+    /// Whether to wait for the mutex would close a cycle.
+    #[tactic(auto, using(crate::proofs::Waits::cycle_is))]
+    pub fn closes_cycle(&self, t: Tid, k: ObjId) -> bool
+        requires { k < length self.now.machine.mutexes }
+        ensures { result ≡ closes_cycle self.now.machine k t }
+    {
+        self.table.closes_cycle(t, k)
+    }
+
+    /// The mutex is counted so often, with the same owner.
+    pub fn set_count(&mut self, k: ObjId, n: u16)
+        requires { k < length self.old.machine.mutexes }
+        ensures { self.new ≡ after (changes_mutex k (counted n)) self.old }
+    {
+        self.table.set_count(k, n);
+    }
+
+    /// The thread owns the mutex, which was free.
+    #[tactic(auto, using(crate::proofs::Waits::awaits_none))]
+    pub fn take_mutex(&mut self, k: ObjId, t: Tid)
+        requires known { t < length self.old.names }
+        requires mutex { k < length self.old.machine.mutexes }
+        requires free { (mutex_at self.old.machine k).owner ≡ None }
+        requires runs { can_run self.old.machine t ≡ true }
+        ensures { self.new ≡ after (changes_mutex k (taken_by t)) self.old }
+    {
+        self.table.take(k, t);
+    }
+
+    /// The mutex, which the thread owned, is free.
+    pub fn release_mutex(&mut self, k: ObjId, t: Tid)
+        requires mutex { k < length self.old.machine.mutexes }
+        requires owned { (mutex_at self.old.machine k).owner ≡ Some t }
+        ensures { self.new ≡ after (changes_mutex k freed) self.old }
+    {
+        self.table.release(k, t);
+    }
+
+    // The mutex goes from its owner to a thread that is runnable again.
+    fn hand_over(&mut self, k: ObjId, owner: Tid, t: Tid)
+        requires known { t < length self.old.names }
+        requires mutex { k < length self.old.machine.mutexes }
+        requires owned { (mutex_at self.old.machine k).owner ≡ Some owner }
+        ensures { self.new ≡ after (λ s. s ▷ changes_mutex k (taken_by t) ▷ changes t (woken res.Zero 0)) self.old }
+    {
+        self.table.hand_over(k, owner, t, Res::Zero, 0);
+    }
+
+    /// The mutex goes from its owner to a waiter, which wakes.
+    pub fn wake_owner<K: Sink>(&mut self, k: ObjId, owner: Tid, t: Tid, out: &mut Tracer<'_, K>)
+        requires known { t < length self.old.names }
+        requires mutex { k < length self.old.machine.mutexes }
+        requires owned { (mutex_at self.old.machine k).owner ≡ Some owner }
+        requires room { length self.old.direct < 256 }
+        requires unused { IsUnused (thread_at self.old.machine t).server }
+        requires early { self.old.machine.now ≤ 10 ^ 18 }
+        ensures state { self.new ≡ after (λ s. s ▷ changes_mutex k (taken_by t) ▷ wakes t res.Zero 0) self.old }
+        ensures told { Tells K.text K.faults self.old.names out.old out.new (told (λ s. s ▷ changes_mutex k (taken_by t) ▷ wakes t res.Zero 0) self.old) }
+    {
+        let call = self.waiting_call(t);
+        self.hand_over(k, owner, t);
+        self.rise(&Event::Return(t, call_name(&call), Res::Zero, 0), t, out);
+    }
+
+    /// The thread that is served first of those that wait for the object; `None` exactly where nobody does.
+    pub fn best_waiter(&self, object: WaitObj) -> Option<Tid>
+        ensures value { (passes : Wait → Bool) → ((w : Wait) → passes w ≡ is_object object (object_of w)) → result ≡ option_map (λ (w : Waiter). w.thread) (best_waiter self.now.machine passes) }
+        ensures known { IfSome result (λ t. t < length self.now.names) }
+        ensures blocked { IfSome result (λ t. is_blocked (thread_at self.now.machine t).status ≡ true) }
+    {
+        self.table.best(object)
+    }
+}

@@ -1,0 +1,12 @@
+use Rattle.tick_num.specs.declared.res.Res.TheVariants as res
+use Rattle.machine_rules.specs.Turns.{returns}
+use Rattle.machine_rules.specs.Waking.{wakes}
+use Rattle.machine_rules.proofs.Behind.{wakes_behind}
+use Rattle.kernel_state.specs.Kernel.{by}
+use Rattle.kernel_state.proofs.Turns.{then_told}
+use Rattle.kernel_sync.proofs.counting.hand_on.Goals as goal
+
+pub returns-clause-told : goal.returns-clause-told
+returns-clause-told g c =
+    then_told _ _ (returns (by c.args.t c.args.call.now) res.Zero 0) (wakes c.args.w res.Zero 0) _ _ _ _ _
+    (wakes_behind c.args.w res.Zero 0) c.returns.ensures.state c.returns.ensures.told c.wake.ensures.told

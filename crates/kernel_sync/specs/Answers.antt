@@ -1,0 +1,20 @@
+-- How a lock comes out, and what the machine is then.
+use Rattle.std.specs.Prelude.{◌≡◌, ◌==◌, ℕ, IsSome, None, false}
+use Rattle.machine_rules.specs.State.{Machine}
+use Rattle.machine_rules.specs.Threads.{mutex_at}
+use Rattle.machine_rules.specs.Mutexes.{LockAnswer, closes_cycle, counts, must_wait, recursion_limit, refused, takes}
+use Rattle.kernel_sync.specs.declared.answer.LockAnswer as declared
+use Rattle.kernel_sync.specs.declared.answer.LockAnswer.TheVariants as answer
+
+abbrev pub answer_of : declared.LockAnswer → LockAnswer
+answer_of (answer.Refused result) = refused result
+answer_of answer.Counts = counts
+answer_of answer.Takes = takes
+answer_of answer.MustWait = must_wait
+
+-- what an answer means for the mutex
+abbrev pub CanAct : {P : Type 0} → Machine P → ℕ → ℕ → LockAnswer → Type 0
+CanAct m t k (refused result) = Unit {0}
+CanAct m t k counts = ((mutex_at m k).count == recursion_limit) ≡ false
+CanAct m t k takes = (mutex_at m k).owner ≡ None
+CanAct m t k must_wait = IsSome (mutex_at m k).owner × (closes_cycle m k t ≡ false)

@@ -1,0 +1,100 @@
+// How a lock comes out.
+ghost use Rattle.std.specs.Prelude.{◌≡◌, ◌<◌, length};
+ghost use Rattle.machine_rules.specs.Mutexes.{lock_answer, locked_again, trylock_answer, unless_late};
+ghost use Rattle.machine_rules.specs.Turns.{is_late};
+ghost use Rattle.kernel_sync.specs.Answers.{answer_of};
+
+use inherit_chain::MutexState;
+use kernel_state::Parts;
+use tick_num::{ObjId, Res, Tick, Tid};
+
+/// How a lock comes out.
+#[derive(Clone, Copy)]
+pub(crate) enum LockAnswer {
+    Refused(Res),
+    /// It is the caller's already, and is counted once more.
+    Counts,
+    /// It was free.
+    Takes,
+    MustWait,
+}
+
+/// How often an owner may lock a recursive mutex.
+const RECURSION_LIMIT: u16 = 65_535;
+
+// A lock by the owner.
+fn locked_again(k: &MutexState, otherwise: Res) -> LockAnswer
+    ensures { answer_of result ≡ locked_again k.now otherwise }
+{
+    if !k.is_recursive() {
+        LockAnswer::Refused(otherwise)
+    } else if k.count() == RECURSION_LIMIT {
+        LockAnswer::Refused(Res::Again)
+    } else {
+        LockAnswer::Counts
+    }
+}
+
+/// How `pthread_mutex_lock` comes out.
+pub(crate) fn lock_answer(p: &Parts, t: Tid, k: ObjId) -> LockAnswer
+    requires known { t < length p.now.names }
+    requires mutex { k < length p.now.machine.mutexes }
+    ensures { answer_of result ≡ lock_answer p.now.machine t k }
+{
+    let mutex = p.mutex(k);
+    if p.is_above_ceiling(t, k) {
+        LockAnswer::Refused(Res::Inval)
+    } else if mutex.is_owned_by(t) {
+        locked_again(mutex, Res::Deadlk)
+    } else if mutex.owner().is_none() {
+        LockAnswer::Takes
+    } else if p.closes_cycle(t, k) {
+        LockAnswer::Refused(Res::Deadlk)
+    } else {
+        LockAnswer::MustWait
+    }
+}
+
+/// How `pthread_mutex_trylock` comes out.
+pub(crate) fn trylock_answer(p: &Parts, t: Tid, k: ObjId) -> LockAnswer
+    requires known { t < length p.now.names }
+    requires mutex { k < length p.now.machine.mutexes }
+    ensures { answer_of result ≡ trylock_answer p.now.machine t k }
+{
+    let mutex = p.mutex(k);
+    if p.is_above_ceiling(t, k) {
+        LockAnswer::Refused(Res::Inval)
+    } else if mutex.is_owned_by(t) {
+        locked_again(mutex, Res::Busy)
+    } else if mutex.owner().is_none() {
+        LockAnswer::Takes
+    } else {
+        LockAnswer::Refused(Res::Busy)
+    }
+}
+
+// Whether an absolute time is there, and is not in the future.
+pub(crate) fn is_late(p: &Parts, due: &Option<Tick>) -> bool
+    ensures { result ≡ is_late due.now p.now.machine }
+{
+    match due {
+        None => false,
+        Some(at) => *at <= p.instant(),
+    }
+}
+
+/// Only a lock that must wait looks at its time.
+pub(crate) fn unless_late(p: &Parts, due: &Option<Tick>, answer: LockAnswer) -> LockAnswer
+    ensures { answer_of result ≡ unless_late due.now p.now.machine (answer_of answer) }
+{
+    match answer {
+        LockAnswer::MustWait => {
+            if is_late(p, due) {
+                LockAnswer::Refused(Res::Timedout)
+            } else {
+                LockAnswer::MustWait
+            }
+        }
+        _ => answer,
+    }
+}

@@ -1,0 +1,174 @@
+// Locking and unlocking.
+ghost use Rattle.std.specs.Prelude.{◌≡◌, ◌≤◌, ◌<◌, ◌==◌, ◌^◌, None, Some, IfSome, false, length, true};
+ghost use Rattle.tick_num.specs.declared.res.Res.TheVariants as res;
+ghost use Rattle.pse52_trace.specs.Tells.{Tells};
+ghost use Rattle.machine_rules.specs.Mutexes.{counted_up, counted_down, locks, locks_on, recursion_limit, releases, taken_by, tries_lock, unlocks};
+ghost use Rattle.machine_rules.specs.Threads.{can_run, mutex_at};
+ghost use Rattle.machine_rules.specs.Turns.{changes_mutex, returns, ◌▷◌};
+ghost use Rattle.kernel_state.specs.Kernel.{after, by, told};
+ghost use Rattle.kernel_sync.specs.Answers.{CanAct, answer_of};
+ghost use Rattle.kernel_sync.specs.Waits.{BlockedRest, OnlyBuiltWaits};
+
+use crate::answer::{LockAnswer, lock_answer, trylock_answer, unless_late};
+use kernel_state::Parts;
+use pse52_trace::Tracer;
+use rt_io::Sink;
+use script_tree::Call;
+use thread_blocks::Wait;
+use tick_num::{ObjId, Res, Tick, Tid};
+use wait_lists::WaitObj;
+
+// The caller's mutex is counted once more.
+fn count_up<K: Sink>(p: &mut Parts, t: Tid, call: &Call, k: ObjId, out: &mut Tracer<'_, K>)
+    requires known { t < length p.old.names }
+    requires mutex { k < length p.old.machine.mutexes }
+    requires below { ((mutex_at p.old.machine k).count == recursion_limit) ≡ false }
+    ensures state { p.new ≡ after (λ s. s ▷ changes_mutex k counted_up ▷ returns (by t call.now) res.Zero 0) p.old }
+    ensures told { Tells K.text K.faults p.old.names out.old out.new (told (λ s. s ▷ changes_mutex k counted_up ▷ returns (by t call.now) res.Zero 0) p.old) }
+{
+    let count = p.mutex(k).count();
+    p.set_count(k, count + 1);
+    p.returns(t, call, Res::Zero, 0, out);
+}
+
+// The caller takes the mutex, which was free.
+fn take<K: Sink>(p: &mut Parts, t: Tid, call: &Call, k: ObjId, out: &mut Tracer<'_, K>)
+    requires known { t < length p.old.names }
+    requires runs { can_run p.old.machine t ≡ true }
+    requires mutex { k < length p.old.machine.mutexes }
+    requires free { (mutex_at p.old.machine k).owner ≡ None }
+    ensures state { p.new ≡ after (λ s. s ▷ changes_mutex k (taken_by t) ▷ returns (by t call.now) res.Zero 0) p.old }
+    ensures told { Tells K.text K.faults p.old.names out.old out.new (told (λ s. s ▷ changes_mutex k (taken_by t) ▷ returns (by t call.now) res.Zero 0) p.old) }
+{
+    p.take_mutex(k, t);
+    p.returns(t, call, Res::Zero, 0, out);
+}
+
+// What an answer does.
+fn act<K: Sink>(
+    p: &mut Parts,
+    t: Tid,
+    call: &Call,
+    k: ObjId,
+    due: Option<Tick>,
+    answer: LockAnswer,
+    out: &mut Tracer<'_, K>,
+)
+    requires known { t < length p.old.names }
+    requires runs { can_run p.old.machine t ≡ true }
+    requires mutex { k < length p.old.machine.mutexes }
+    requires can { CanAct p.old.machine t k (answer_of answer) }
+    requires serial { p.old.machine.next_serial < 2 ^ 63 }
+    ensures state { p.new ≡ after (locks_on (answer_of answer) (by t call.now) k due) p.old }
+    ensures told { Tells K.text K.faults p.old.names out.old out.new (told (locks_on (answer_of answer) (by t call.now) k due) p.old) }
+{
+    match answer {
+        LockAnswer::Refused(refusal) => p.returns(t, call, refusal, 0, out),
+        LockAnswer::Counts => count_up(p, t, call, k, out),
+        LockAnswer::Takes => take(p, t, call, k, out),
+        LockAnswer::MustWait => p.block(t, call, Wait::Mutex(k), due),
+    }
+}
+
+/// `pthread_mutex_lock`, and with a time `pthread_mutex_timedlock`.
+#[tactic(auto, using(crate::proofs::Acts::lock_acts))]
+pub fn lock<K: Sink>(
+    p: &mut Parts,
+    t: Tid,
+    call: &Call,
+    k: ObjId,
+    due: Option<Tick>,
+    out: &mut Tracer<'_, K>,
+)
+    requires known { t < length p.old.names }
+    requires runs { can_run p.old.machine t ≡ true }
+    requires mutex { k < length p.old.machine.mutexes }
+    requires serial { p.old.machine.next_serial < 2 ^ 63 }
+    ensures state { p.new ≡ after (locks (by t call.now) k due) p.old }
+    ensures told { Tells K.text K.faults p.old.names out.old out.new (told (locks (by t call.now) k due) p.old) }
+{
+    let answer = unless_late(p, &due, lock_answer(p, t, k));
+    act(p, t, call, k, due, answer, out);
+}
+
+/// `pthread_mutex_trylock`. It never waits.
+#[tactic(auto, using(crate::proofs::Acts::trylock_can))]
+pub fn try_lock<K: Sink>(p: &mut Parts, t: Tid, call: &Call, k: ObjId, out: &mut Tracer<'_, K>)
+    requires known { t < length p.old.names }
+    requires runs { can_run p.old.machine t ≡ true }
+    requires mutex { k < length p.old.machine.mutexes }
+    requires serial { p.old.machine.next_serial < 2 ^ 63 }
+    ensures state { p.new ≡ after (tries_lock (by t call.now) k) p.old }
+    ensures told { Tells K.text K.faults p.old.names out.old out.new (told (tries_lock (by t call.now) k) p.old) }
+{
+    let answer = trylock_answer(p, t, k);
+    act(p, t, call, k, None, answer, out);
+}
+
+// The owner's mutex goes to its best waiter, or is free.
+fn release<K: Sink>(p: &mut Parts, t: Tid, k: ObjId, out: &mut Tracer<'_, K>)
+    requires mutex { k < length p.old.machine.mutexes }
+    requires owned { (mutex_at p.old.machine k).owner ≡ Some t }
+    requires room { length p.old.direct < 256 }
+    requires waits { OnlyBuiltWaits p.old.machine }
+    requires rests { BlockedRest p.old.machine }
+    requires early { p.old.machine.now ≤ 10 ^ 18 }
+    ensures state { p.new ≡ after (releases k) p.old }
+    ensures told { Tells K.text K.faults p.old.names out.old out.new (told (releases k) p.old) }
+{
+    match p.best_waiter(WaitObj::Mutex(k)) {
+        None => p.release_mutex(k, t),
+        Some(w) => p.wake_owner(k, t, w, out),
+    }
+}
+
+// The caller's mutex is counted once less.
+fn count_down<K: Sink>(p: &mut Parts, t: Tid, call: &Call, k: ObjId, out: &mut Tracer<'_, K>)
+    requires known { t < length p.old.names }
+    requires mutex { k < length p.old.machine.mutexes }
+    requires counted { 1 < (mutex_at p.old.machine k).count }
+    ensures state { p.new ≡ after (λ s. s ▷ returns (by t call.now) res.Zero 0 ▷ changes_mutex k counted_down) p.old }
+    ensures told { Tells K.text K.faults p.old.names out.old out.new (told (λ s. s ▷ returns (by t call.now) res.Zero 0 ▷ changes_mutex k counted_down) p.old) }
+{
+    p.returns(t, call, Res::Zero, 0, out);
+    let count = p.mutex(k).count();
+    p.set_count(k, count - 1);
+}
+
+// The caller, which has locked the mutex once, gives it up.
+fn give_up<K: Sink>(p: &mut Parts, t: Tid, call: &Call, k: ObjId, out: &mut Tracer<'_, K>)
+    requires known { t < length p.old.names }
+    requires runs { can_run p.old.machine t ≡ true }
+    requires mutex { k < length p.old.machine.mutexes }
+    requires owned { (mutex_at p.old.machine k).owner ≡ Some t }
+    requires room { length p.old.direct < 256 }
+    requires waits { OnlyBuiltWaits p.old.machine }
+    requires rests { BlockedRest p.old.machine }
+    requires early { p.old.machine.now ≤ 10 ^ 18 }
+    ensures state { p.new ≡ after (λ s. s ▷ returns (by t call.now) res.Zero 0 ▷ releases k) p.old }
+    ensures told { Tells K.text K.faults p.old.names out.old out.new (told (λ s. s ▷ returns (by t call.now) res.Zero 0 ▷ releases k) p.old) }
+{
+    p.returns(t, call, Res::Zero, 0, out);
+    release(p, t, k, out);
+}
+
+/// `pthread_mutex_unlock`.
+pub fn unlock<K: Sink>(p: &mut Parts, t: Tid, call: &Call, k: ObjId, out: &mut Tracer<'_, K>)
+    requires known { t < length p.old.names }
+    requires runs { can_run p.old.machine t ≡ true }
+    requires mutex { k < length p.old.machine.mutexes }
+    requires room { length p.old.direct < 256 }
+    requires waits { OnlyBuiltWaits p.old.machine }
+    requires rests { BlockedRest p.old.machine }
+    requires early { p.old.machine.now ≤ 10 ^ 18 }
+    ensures state { p.new ≡ after (unlocks (by t call.now) k) p.old }
+    ensures told { Tells K.text K.faults p.old.names out.old out.new (told (unlocks (by t call.now) k) p.old) }
+{
+    if !p.mutex(k).is_owned_by(t) {
+        p.returns(t, call, Res::Perm, 0, out);
+    } else if p.mutex(k).count() > 1 {
+        count_down(p, t, call, k, out);
+    } else {
+        give_up(p, t, call, k, out);
+    }
+}

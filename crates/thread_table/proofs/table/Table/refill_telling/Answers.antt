@@ -1,0 +1,26 @@
+use Rattle.std.proofs.Common.{ap, refl, slice_set, ◌∙◌}
+use Rattle.sporadic_server.specs.Server.{refill}
+use Rattle.machine_rules.specs.Servers.{with_server}
+use Rattle.thread_table.proofs.Ties.{placed}
+use Rattle.thread_table.proofs.Moved.{reassigned_tied}
+use Rattle.std.proofs.lemmas.List.{length-set}
+use Rattle.thread_table.proofs.Movers.{told}
+use Rattle.thread_table.proofs.table.Table.refill_telling.Goals as goal
+
+pub invariant_of-self : goal.invariant_of-self
+invariant_of-self c =
+    let s = c.self.inside in
+    let f = with_server refill in
+    let known = rw (← c.self.view_is) at c.requires.known in
+    reassigned_tied s.threads s.chain c.reassign-moved.new.chain s.waits c.reassign-moved.new.waits c.args.t f c.refill-refilled.new.self known
+    (c.refill-refilled.ensures.thread ∙ ap f c.get_mut.ensures.value) (λ th. refl) c.reassign-moved.ensures.chain c.reassign-moved.ensures.waits c.self.invariant
+
+pub reassign-moved-requires-clause-placed : goal.reassign-moved-requires-clause-placed
+reassign-moved-requires-clause-placed c = placed c.self.inside.threads c.self.inside.chain c.self.inside.waits c.self.invariant
+
+pub returns-clause-moved : goal.returns-clause-moved
+returns-clause-moved c =
+    let s = c.self.inside in
+    rw (← c.self.view_is, c.thread_of.ensures)
+    (told s.threads (slice_set s.threads c.args.t c.refill-refilled.new.self) s.chain c.reassign-moved.new.chain s.waits c.reassign-moved.new.waits c.reassign-moved.result (length-set s.threads c.args.t c.refill-refilled.new.self) c.self.invariant
+    (invariant_of-self c) c.reassign-moved.ensures.moved)
