@@ -5,3 +5,5 @@ pub mod Statuses
 pub mod Served
 pub mod Opening
 pub mod Movers
+pub mod Armed
+pub mod Coming

@@ -54,7 +54,7 @@ nowhere_free threads chain places u tied lt none = record {
   nowhere = awaits_no_object (exec_in (claims threads) chain.mutexes u) (waiting_in (thread_in threads u).status) (sym (tied.waiting.each u lt) ∙ none);
 }
 
-claims_long : (threads : List (Thread Cursor)) (chain : Links) (places : List (Option Place)) → IsTied threads chain places → length chain.claims ≡ length threads
+pub claims_long : (threads : List (Thread Cursor)) (chain : Links) (places : List (Option Place)) → IsTied threads chain places → length chain.claims ≡ length threads
 claims_long threads chain places tied = ap length tied.claims ∙ length-map threads claim_of
 
 -- ---- one walk

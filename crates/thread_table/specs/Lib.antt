@@ -4,3 +4,4 @@ pub mod View
 pub mod Moves
 pub mod Opening
 pub mod Movers
+pub mod Times

@@ -54,6 +54,10 @@ machine_with threads mutexes = record {
   pending = [];
 }
 
+-- the same at an instant
+abbrev pub machine_at : ℕ → Table → Machine Cursor
+machine_at now table = record (machine_with table.threads table.mutexes) { now = now }
+
 -- the thread that is served first of those whose waits pass
 abbrev pub best_in : Table → (Wait → Bool) → Option ℕ
 best_in table passes = option_map (λ (w : Waiter). w.thread) (best_waiter (machine_with table.threads table.mutexes) passes)

@@ -1,10 +1,11 @@
 -- The threads and mutexes that a table stands for.
 use Rattle.thread_table.specs.declared.table.Table.TheInside.{Inside}
 use Rattle.thread_table.specs.Table.{Table}
-use Rattle.thread_table.specs.Tied.{IsTied}
+use Rattle.thread_table.specs.Tied.{AreArmed, IsTied}
 
 abbrev pub table_of : Inside → Table
 table_of t = record { threads = t.threads; mutexes = t.chain.mutexes }
 
-abbrev pub IsInside : Inside → Type 0
-IsInside t = IsTied t.threads t.chain t.waits
+pub record IsInside (t : Inside) : Type 0 where
+  pub tied : IsTied t.threads t.chain t.waits
+  pub armed : AreArmed t.threads t.wheel.dues

@@ -20,6 +20,7 @@ ghost use Rattle.thread_table.specs.Movers.{KeepsExec, TellsMoved};
 
 use crate::links::{reassign, stop_waiting, thread_of};
 use crate::table::Table;
+use crate::times::retime;
 use script_flat::{Code, Unit};
 use script_tree::Policy;
 use sporadic_server::Replenish;
@@ -46,6 +47,7 @@ impl Table {
     {
         let moved = stop_waiting(&mut self.chain, &mut self.waits, t);
         self.threads.get_mut(t).wake(res, value);
+        retime(&self.threads, &mut self.wheel, t);
         thread_of(moved)
     }
 
@@ -92,6 +94,7 @@ impl Table {
         ensures moved { TellsMoved self.old self.new result }
     {
         self.threads.get_mut(t).set_policy(new, now);
+        retime(&self.threads, &mut self.wheel, t);
         thread_of(reassign(&self.threads, &mut self.chain, &mut self.waits, t))
     }
 
@@ -115,6 +118,7 @@ impl Table {
         ensures moved { TellsMoved self.old self.new result.1 }
     {
         let planned = self.threads.get_mut(t).plan();
+        retime(&self.threads, &mut self.wheel, t);
         let moved = reassign(&self.threads, &mut self.chain, &mut self.waits, t);
         (planned, thread_of(moved))
     }
@@ -139,6 +143,7 @@ impl Table {
         ensures moved { TellsMoved self.old self.new result.1 }
     {
         let refilled = self.threads.get_mut(t).refill();
+        retime(&self.threads, &mut self.wheel, t);
         let moved = reassign(&self.threads, &mut self.chain, &mut self.waits, t);
         (refilled, thread_of(moved))
     }

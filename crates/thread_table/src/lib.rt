@@ -1,4 +1,5 @@
-//! The threads of a kernel with what is kept beside them: execution priorities, owners of mutexes, and the waiters of each object.
+//! The threads of a kernel with what is kept beside them: execution priorities, owners of mutexes, the waiters of each object, and what
+//! falls due of the threads.
 //!
 //! Contracts see the threads and the mutexes of the machine, and nothing of what is kept beside them.
 #![tactic(auto)]
@@ -10,5 +11,6 @@ mod mutexes;
 mod open;
 mod reads;
 mod table;
+mod times;
 
 pub use table::Table;

@@ -12,6 +12,7 @@ ghost use Rattle.thread_table.specs.Movers.{TellsMoved, TellsMovedBeside};
 
 use crate::links::{begin_waiting, beside, reassign, stop_waiting, thread_of};
 use crate::table::Table;
+use crate::times::retime;
 use thread_blocks::{Frame, Status, Waiting};
 use tick_num::{SigSet, Tick, Tid};
 
@@ -27,6 +28,7 @@ impl Table {
     {
         let moved = stop_waiting(&mut self.chain, &mut self.waits, t);
         self.threads.get_mut(t).start(mask, now, main);
+        retime(&self.threads, &mut self.wheel, t);
         reassign(&self.threads, &mut self.chain, &mut self.waits, t);
         beside(t, thread_of(moved))
     }
@@ -41,6 +43,7 @@ impl Table {
     {
         let moved = stop_waiting(&mut self.chain, &mut self.waits, t);
         self.threads.get_mut(t).end();
+        retime(&self.threads, &mut self.wheel, t);
         reassign(&self.threads, &mut self.chain, &mut self.waits, t);
         beside(t, thread_of(moved))
     }
@@ -58,6 +61,7 @@ impl Table {
         stop_waiting(&mut self.chain, &mut self.waits, t);
         let moved = begin_waiting(&mut self.chain, &mut self.waits, t, &waiting);
         self.threads.get_mut(t).block(waiting);
+        retime(&self.threads, &mut self.wheel, t);
         thread_of(moved)
     }
 }

@@ -9,11 +9,13 @@ ghost use Rattle.thread_table.specs.Table as table;
 
 use crate::links::reassign;
 use crate::table::Table;
+use crate::times::time_all;
 use inherit_chain::{Chain, MutexKind};
 use script_tree::{Decl, Kind, Script};
 use std::alloc::{AllocError, Global};
 use thread_blocks::Threads;
 use tick_num::Tid;
+use timer_wheel::Wheel;
 use wait_lists::Waits;
 
 // A mutex that is declared there is put behind the others.
@@ -49,7 +51,7 @@ fn mutex_kinds(alloc: Global, script: &Script) -> Result<Vec<MutexKind>, AllocEr
     Ok(kinds)
 }
 
-fn tid_of(number: u16) -> Tid
+pub(crate) fn tid_of(number: u16) -> Tid
     requires { number < 256 }
     ensures { result ≡ number }
 {
@@ -81,10 +83,13 @@ impl Table {
         let mut chain = Chain::open(alloc, threads.count(), kinds.as_slice())?;
         let mut waits = Waits::open(alloc, threads.count())?;
         assign_all(&threads, &mut chain, &mut waits);
+        let mut wheel = Wheel::open(alloc, 1024)?;
+        time_all(&threads, &mut wheel);
         Ok(Table {
             threads,
             chain,
             waits,
+            wheel,
         })
     }
 }

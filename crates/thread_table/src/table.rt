@@ -1,9 +1,10 @@
-// The threads, the chain of their claims, and their places as waiters.
+// The threads, the chain of their claims, their places as waiters, and the wheel of what falls due of them.
 ghost use Rattle.std.specs.Prelude.{◌≡◌, ◌<◌, ◌≤◌, length};
 
 use inherit_chain::Chain;
 use std::marker::Model;
 use thread_blocks::Threads;
+use timer_wheel::Wheel;
 use wait_lists::Waits;
 
 /// The threads with their mutexes, priorities and waits.
@@ -12,6 +13,7 @@ pub struct Table {
     pub(crate) threads: Threads,
     pub(crate) chain: Chain,
     pub(crate) waits: Waits,
+    pub(crate) wheel: Wheel,
 }
 
 impl Model for Table {

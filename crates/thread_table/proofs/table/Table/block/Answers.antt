@@ -7,23 +7,30 @@ use Rattle.inherit_chain.specs.Chains.{Links, exec_of}
 use Rattle.inherit_chain.specs.Moves.{TellsMoved}
 use Rattle.thread_table.proofs.Movers.{same_links, told}
 use Rattle.thread_table.proofs.Ties.{awaits_none}
+use Rattle.thread_table.proofs.Armed.{armed_after}
 use Rattle.thread_table.proofs.table.Table.block.Goals as goal
 
 pub invariant_of-self : goal.invariant_of-self
-invariant_of-self c =
-    let s = c.self.inside in
-    let w = waiting_of c.args.waiting in
-    let known = rw (← c.self.view_is) at c.requires.known in
-    begun_tied s.threads s.chain c.stop_waiting.new.chain c.begin_waiting-moved.new.chain s.waits c.stop_waiting.new.waits c.begin_waiting-moved.new.waits c.args.t w c.block.new.self known
-    (c.block.ensures ∙ ap (put_to_wait w) c.get_mut.ensures.value) c.stop_waiting.ensures.chain c.stop_waiting.ensures.waits c.begin_waiting-moved.ensures.chain c.begin_waiting-moved.ensures.waits c.self.invariant
+invariant_of-self c = record {
+  tied = (let s = c.self.inside in
+      let w = waiting_of c.args.waiting in
+      let known = rw (← c.self.view_is) at c.requires.known in
+      begun_tied s.threads s.chain c.stop_waiting.new.chain c.begin_waiting-moved.new.chain s.waits c.stop_waiting.new.waits c.begin_waiting-moved.new.waits c.args.t w c.block.new.self known
+      (c.block.ensures ∙ ap (put_to_wait w) c.get_mut.ensures.value) c.stop_waiting.ensures.chain c.stop_waiting.ensures.waits c.begin_waiting-moved.ensures.chain c.begin_waiting-moved.ensures.waits c.self.invariant.tied);
+  armed = (let s = c.self.inside in
+      armed_after s.threads s.wheel.dues _ c.args.t c.block.new.self c.self.invariant.tied.few (rw (← c.self.view_is) at c.requires.known) c.retime.ensures c.self.invariant.armed);
+}
 
 pub returns-clause-moved : goal.returns-clause-moved
 returns-clause-moved c =
     let s = c.self.inside in
     let b = c.begin_waiting-moved in
-    let none = awaits_none s.threads s.chain s.waits c.args.t (rw (← c.self.view_is) at c.requires.waits_not) c.self.invariant in
+    let none = awaits_none s.threads s.chain s.waits c.args.t (rw (← c.self.view_is) at c.requires.waits_not) c.self.invariant.tied in
     let kept = c.stop_waiting.ensures.chain ∙ same_links s.chain c.args.t none in
     let moved = subst (λ (l : Links). TellsMoved (length l.claims) (exec_of l) (exec_of b.new.chain) b.new.waits b.result) kept b.ensures.moved in
     rw (← c.self.view_is, c.thread_of.ensures)
-    (told s.threads (slice_set s.threads c.args.t c.block.new.self) s.chain b.new.chain s.waits b.new.waits b.result (length-set s.threads c.args.t c.block.new.self) c.self.invariant
-    (invariant_of-self c) moved)
+    (told s.threads (slice_set s.threads c.args.t c.block.new.self) s.chain b.new.chain s.waits b.new.waits b.result (length-set s.threads c.args.t c.block.new.self) c.self.invariant.tied
+    (invariant_of-self c).tied moved)
+
+pub retime-requires-clause-numbers : goal.retime-requires-clause-numbers
+retime-requires-clause-numbers c = c.self.invariant.armed.numbers

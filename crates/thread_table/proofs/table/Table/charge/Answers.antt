@@ -6,22 +6,27 @@ use Rattle.thread_table.proofs.Ties.{placed}
 use Rattle.thread_table.proofs.Moved.{reassigned_tied}
 use Rattle.std.proofs.lemmas.List.{length-set}
 use Rattle.thread_table.proofs.Movers.{told}
+use Rattle.thread_table.proofs.Armed.{still_armed, charged_due}
 use Rattle.thread_table.proofs.table.Table.charge.Goals as goal
 
 pub invariant_of-self : goal.invariant_of-self
-invariant_of-self c =
-    let s = c.self.inside in
-    let f : Thread Cursor → Thread Cursor = after_ticks c.args.k in
-    let known = rw (← c.self.view_is) at c.requires.known in
-    reassigned_tied s.threads s.chain c.reassign.new.chain s.waits c.reassign.new.waits c.args.t f c.charge.new.self known
-    (c.charge.ensures ∙ ap f c.get_mut.ensures.value) (λ th. refl) c.reassign.ensures.chain c.reassign.ensures.waits c.self.invariant
+invariant_of-self c = record {
+  tied = (let s = c.self.inside in
+      let f : Thread Cursor → Thread Cursor = after_ticks c.args.k in
+      let known = rw (← c.self.view_is) at c.requires.known in
+      reassigned_tied s.threads s.chain c.reassign.new.chain s.waits c.reassign.new.waits c.args.t f c.charge.new.self known
+      (c.charge.ensures ∙ ap f c.get_mut.ensures.value) (λ th. refl) c.reassign.ensures.chain c.reassign.ensures.waits c.self.invariant.tied);
+  armed = (let s = c.self.inside in
+      rw (c.charge.ensures, c.get_mut.ensures.value)
+      (still_armed s.threads s.wheel.dues c.args.t (after_ticks c.args.k) (λ th. charged_due c.args.k th.server) (λ th. refl) (λ th. refl) c.self.invariant.armed));
+}
 
 pub reassign-requires-clause-placed : goal.reassign-requires-clause-placed
-reassign-requires-clause-placed c = placed c.self.inside.threads c.self.inside.chain c.self.inside.waits c.self.invariant
+reassign-requires-clause-placed c = placed c.self.inside.threads c.self.inside.chain c.self.inside.waits c.self.invariant.tied
 
 pub returns-clause-moved : goal.returns-clause-moved
 returns-clause-moved c =
     let s = c.self.inside in
     rw (← c.self.view_is, c.thread_of.ensures)
-    (told s.threads (slice_set s.threads c.args.t c.charge.new.self) s.chain c.reassign.new.chain s.waits c.reassign.new.waits c.reassign.result (length-set s.threads c.args.t c.charge.new.self) c.self.invariant
-    (invariant_of-self c) c.reassign.ensures.moved)
+    (told s.threads (slice_set s.threads c.args.t c.charge.new.self) s.chain c.reassign.new.chain s.waits c.reassign.new.waits c.reassign.result (length-set s.threads c.args.t c.charge.new.self) c.self.invariant.tied
+    (invariant_of-self c).tied c.reassign.ensures.moved)

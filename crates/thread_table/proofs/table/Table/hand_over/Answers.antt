@@ -13,6 +13,7 @@ use Rattle.thread_table.specs.Movers.{TellsMoved}
 use Rattle.thread_table.specs.Tied.{IsTied}
 use Rattle.thread_table.proofs.Moved.{moved_tied, mutex_tied, wait_set}
 use Rattle.thread_table.proofs.Movers.{handed_over, table_with, thread_alone, told}
+use Rattle.thread_table.proofs.Armed.{armed_after}
 use Rattle.thread_table.proofs.table.Table.hand_over.Goals.{After-thread_of-2}
 use Rattle.thread_table.proofs.table.Table.hand_over.Goals as goal
 
@@ -21,7 +22,7 @@ freed_tied : (c : After-thread_of-2) → IsTied c.self.inside.threads c.release-
 freed_tied c =
     let s = c.self.inside in
     let free = c.release-released.ensures.changes in
-    mutex_tied s.threads s.chain c.release-released.new.self s.waits c.release-released.new.w (ap (λ (l : Links). l.claims) c.release-released.ensures.chain) (record { same = free.same; stand = free.placed.stand }) c.self.invariant
+    mutex_tied s.threads s.chain c.release-released.new.self s.waits c.release-released.new.w (ap (λ (l : Links). l.claims) c.release-released.ensures.chain) (record { same = free.same; stand = free.placed.stand }) c.self.invariant.tied
 
 -- and once the thread waits no more
 woken_tied : (c : After-thread_of-2) → IsTied (changed_at no_thread c.args.t (woken c.args.res c.args.value) c.self.inside.threads) c.stop_waiting-woken.new.chain c.stop_waiting-woken.new.waits
@@ -41,7 +42,7 @@ taken_tied c =
 told_freed : (c : After-thread_of-2) → TellsMoved (table_with c.self.inside.threads c.self.inside.chain) (table_with c.self.inside.threads c.release-released.new.self) (option_map (λ (m : Moved). m.thread) c.release-released.result)
 told_freed c =
     let s = c.self.inside in
-    told s.threads s.threads s.chain c.release-released.new.self s.waits c.release-released.new.w c.release-released.result refl c.self.invariant (freed_tied c) c.release-released.ensures.changes.moved
+    told s.threads s.threads s.chain c.release-released.new.self s.waits c.release-released.new.w c.release-released.result refl c.self.invariant.tied (freed_tied c) c.release-released.ensures.changes.moved
 
 told_woken : (c : After-thread_of-2) → TellsMoved (table_with c.self.inside.threads c.release-released.new.self)
     (table_with (changed_at no_thread c.args.t (woken c.args.res c.args.value) c.self.inside.threads) c.stop_waiting-woken.new.chain) (option_map (λ (m : Moved). m.thread) c.stop_waiting-woken.result)
@@ -52,7 +53,11 @@ told_woken c =
     (changed-length no_thread c.args.t f s.threads) (freed_tied c) (woken_tied c) c.stop_waiting-woken.ensures.moved
 
 pub invariant_of-self : goal.invariant_of-self
-invariant_of-self c = rw (c.wake.ensures, c.get_mut.ensures.value) (taken_tied c)
+invariant_of-self c = record {
+  tied = (rw (c.wake.ensures, c.get_mut.ensures.value) (taken_tied c));
+  armed = (let s = c.self.inside in
+      armed_after s.threads s.wheel.dues _ c.args.t c.wake.new.self c.self.invariant.tied.few (rw (← c.self.view_is) at c.requires.known) c.retime.ensures c.self.invariant.armed);
+}
 
 pub returns-clause-table : goal.returns-clause-table
 returns-clause-table c =
@@ -89,3 +94,6 @@ returns-clause-others c =
     (told ths ths c.stop_waiting-woken.new.chain c.take.new.self c.stop_waiting-woken.new.waits c.take.new.w c.take.result refl (woken_tied c) (taken_tied c) c.take.ensures.changes.moved)
     (thread_alone c.args.t c.take.result c.take.ensures.alone) refl (changed-length no_thread c.args.t f s.threads)
     (λ u other. sym (get_or-set_other s.threads c.args.t u (f (thread_in s.threads c.args.t)) no_thread other)))
+
+pub retime-requires-clause-numbers : goal.retime-requires-clause-numbers
+retime-requires-clause-numbers c = c.self.invariant.armed.numbers

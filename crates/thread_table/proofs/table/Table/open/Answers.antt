@@ -3,6 +3,7 @@ use Rattle.script_flat.specs.declared.cursor.Cursor.{Cursor}
 use Rattle.machine_rules.specs.Declarations.{threads_of}
 use Rattle.machine_rules.specs.State.{Thread}
 use Rattle.thread_table.specs.Opening.{NoneWaits}
+use Rattle.thread_table.proofs.Armed.{none_armed}
 use Rattle.thread_table.proofs.Opening.{all_tied, none_waits}
 use Rattle.thread_table.proofs.table.Table.open.Goals as goal
 
@@ -11,9 +12,14 @@ assign_all-requires-clause-none c =
     subst (λ (ths : List (Thread Cursor)). NoneWaits ths) (sym c.in_ok-threads.ensures) (none_waits (threads_of c.args.script.now))
 
 pub invariant_of-result : goal.invariant_of-result
-invariant_of-result c =
-    let value = c.count.ensures.value in
-    let most = c.count.ensures.few in
-    let few : length c.in_ok-threads.threads ≤ 64 = omega (arith, value, most) in
-    let none = subst (λ (ths : List (Thread Cursor)). NoneWaits ths) (sym c.in_ok-threads.ensures) (none_waits (threads_of c.args.script.now)) in
-    all_tied c.in_ok-threads.threads _ c.assign_all.new.chain c.assign_all.new.waits few none c.assign_all.ensures
+invariant_of-result c = record {
+  tied = (let value = c.count.ensures.value in
+      let most = c.count.ensures.few in
+      let few : length c.in_ok-threads.threads ≤ 64 = omega (arith, value, most) in
+      let none = subst (λ (ths : List (Thread Cursor)). NoneWaits ths) (sym c.in_ok-threads.ensures) (none_waits (threads_of c.args.script.now)) in
+      all_tied c.in_ok-threads.threads _ c.assign_all.new.chain c.assign_all.new.waits few none c.assign_all.ensures);
+  armed = c.time_all.ensures;
+}
+
+pub time_all-requires-clause-first : goal.time_all-requires-clause-first
+time_all-requires-clause-first c = rw c.in_ok-wheel.ensures none_armed

@@ -4,22 +4,29 @@ use Rattle.thread_table.proofs.Ties.{placed}
 use Rattle.thread_table.proofs.Moved.{reassigned_tied}
 use Rattle.std.proofs.lemmas.List.{length-set}
 use Rattle.thread_table.proofs.Movers.{told}
+use Rattle.thread_table.proofs.Armed.{armed_after}
 use Rattle.thread_table.proofs.table.Table.set_policy.Goals as goal
 
 pub invariant_of-self : goal.invariant_of-self
-invariant_of-self c =
-    let s = c.self.inside in
-    let f = with_policy c.args.new c.args.now in
-    let known = rw (← c.self.view_is) at c.requires.known in
-    reassigned_tied s.threads s.chain c.reassign.new.chain s.waits c.reassign.new.waits c.args.t f c.set_policy.new.self known
-    (c.set_policy.ensures ∙ ap f c.get_mut.ensures.value) (λ th. refl) c.reassign.ensures.chain c.reassign.ensures.waits c.self.invariant
+invariant_of-self c = record {
+  tied = (let s = c.self.inside in
+      let f = with_policy c.args.new c.args.now in
+      let known = rw (← c.self.view_is) at c.requires.known in
+      reassigned_tied s.threads s.chain c.reassign.new.chain s.waits c.reassign.new.waits c.args.t f c.set_policy.new.self known
+      (c.set_policy.ensures ∙ ap f c.get_mut.ensures.value) (λ th. refl) c.reassign.ensures.chain c.reassign.ensures.waits c.self.invariant.tied);
+  armed = (let s = c.self.inside in
+      armed_after s.threads s.wheel.dues _ c.args.t c.set_policy.new.self c.self.invariant.tied.few (rw (← c.self.view_is) at c.requires.known) c.retime.ensures c.self.invariant.armed);
+}
 
 pub reassign-requires-clause-placed : goal.reassign-requires-clause-placed
-reassign-requires-clause-placed c = placed c.self.inside.threads c.self.inside.chain c.self.inside.waits c.self.invariant
+reassign-requires-clause-placed c = placed c.self.inside.threads c.self.inside.chain c.self.inside.waits c.self.invariant.tied
 
 pub returns-clause-moved : goal.returns-clause-moved
 returns-clause-moved c =
     let s = c.self.inside in
     rw (← c.self.view_is, c.thread_of.ensures)
-    (told s.threads (slice_set s.threads c.args.t c.set_policy.new.self) s.chain c.reassign.new.chain s.waits c.reassign.new.waits c.reassign.result (length-set s.threads c.args.t c.set_policy.new.self) c.self.invariant
-    (invariant_of-self c) c.reassign.ensures.moved)
+    (told s.threads (slice_set s.threads c.args.t c.set_policy.new.self) s.chain c.reassign.new.chain s.waits c.reassign.new.waits c.reassign.result (length-set s.threads c.args.t c.set_policy.new.self) c.self.invariant.tied
+    (invariant_of-self c).tied c.reassign.ensures.moved)
+
+pub retime-requires-clause-numbers : goal.retime-requires-clause-numbers
+retime-requires-clause-numbers c = c.self.invariant.armed.numbers

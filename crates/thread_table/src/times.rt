@@ -1,0 +1,69 @@
+// The wheel, and when the items of the threads are due.
+ghost use Rattle.std.specs.Prelude.{◌≡◌, ◌<◌, ◌≤◌, [], length};
+ghost use Rattle.machine_rules.specs.Agenda.{agenda};
+ghost use Rattle.machine_rules.specs.DueItems.{next_item};
+ghost use Rattle.machine_rules.specs.Threads.{thread_in};
+ghost use Rattle.thread_table.specs.Table.{machine_at, machine_with};
+ghost use Rattle.thread_table.specs.Tied.{AreArmed, timed};
+ghost use Rattle.thread_table.specs.Times.{in_time, least_due};
+
+use crate::open::tid_of;
+use crate::table::Table;
+use thread_blocks::Threads;
+use tick_num::{Item, Tick, Tid};
+use timer_wheel::Wheel;
+
+/// The tick, where it is an instant.
+fn in_time(at: Option<u64>) -> Option<Tick>
+    ensures { result ≡ in_time at }
+{
+    match at {
+        None => None,
+        Some(at) => Tick::try_new(at),
+    }
+}
+
+/// The items of the thread are armed as they are due now.
+pub(crate) fn retime(threads: &Threads, wheel: &mut Wheel, t: Tid)
+    requires thread { t < length threads.now }
+    requires numbers { length wheel.old.dues ≡ 1024 }
+    ensures { wheel.new.dues ≡ timed t (thread_in threads.now t) wheel.old.dues }
+{
+    let thread = threads.get(t);
+    wheel.set_due(Item::Refill(t).number(), thread.refill_due());
+    wheel.set_due(Item::Start(t).number(), in_time(thread.start_due()));
+    wheel.set_due(Item::Timeout(t).number(), thread.wait_due());
+}
+
+/// The items of all threads are armed, of which none was.
+pub(crate) fn time_all(threads: &Threads, wheel: &mut Wheel)
+    requires few { length threads.now ≤ 64 }
+    requires first { AreArmed [] wheel.old.dues }
+    ensures { AreArmed threads.now wheel.new.dues }
+{
+    for number in 0..threads.count() {
+        retime(threads, wheel, tid_of(number));
+    }
+}
+
+impl Table {
+    /// The item of least number that is due at or before now; `None` exactly where none is. Where nothing is due before now that is one
+    /// comparison.
+    pub fn first_due(&mut self, now: Tick) -> Option<Item>
+        ensures item { result ≡ next_item (machine_at now self.old) }
+        ensures same { self.new ≡ self.old }
+    {
+        let _ = now.get();
+        let id = self.wheel.first_due(now)?;
+        Item::of(id)
+    }
+
+    /// The least tick at which something falls due; `None` exactly where nothing does, or only after the last instant.
+    pub fn next_due(&self) -> Option<Tick>
+        ensures { result ≡ in_time (least_due (agenda (machine_with self.now.threads self.now.mutexes))) }
+    {
+        let next = self.wheel.next()?;
+        let _ = next.get();
+        Some(next)
+    }
+}
