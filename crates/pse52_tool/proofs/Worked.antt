@@ -8,7 +8,7 @@ use Rattle.script_table.specs.Table.{patterns, declaration_patterns, step_patter
 use Rattle.script_table.specs.Structure.{said_from, phase_one}
 use Rattle.script_table.specs.Read.{read}
 use Rattle.machine_rules.specs.Priorities.{exec_in}
-use Rattle.pse52_tool.specs.declared.status.Status.TheVariants.{Done, Usage, Refused}
+use Rattle.pse52_tool.specs.declared.status.Status.TheVariants.{Done, Usage, Refused, Differs, NoTrace}
 use Rattle.pse52_tool.specs.Answer.{Answer, answer, usage_line}
 
 -- a text from its lines
@@ -68,3 +68,30 @@ no_task_is_refused = refl
 
 bound_above_the_limit : answer (codes "rta" ∷ codes "100000001" ∷ []) [] ≡ record { status = Usage; text = usage_line }
 bound_above_the_limit = refl
+
+-- a thread that runs for three ticks, a divider, and a trace
+abbrev beside : List (List ℕ) → List ℕ
+beside trace = text (codes "thread a fifo 5 at 0" ∷ codes "run 3" ∷ codes "end" ∷ codes "%%" ∷ trace)
+
+trace_is_the_scripts : answer (codes "check" ∷ codes "10" ∷ [])
+    (beside (codes "0 start a" ∷ codes "0 dispatch a 5" ∷ codes "4 exit a" ∷ codes "4 idle" ∷ codes "10 end" ∷ codes "thread a ticks 4" ∷ [])) ≡
+    done (codes "same" ∷ [])
+unfolding read patterns declaration_patterns step_patterns call_patterns said_from phase_one lines_of words_of digits exec_in
+trace_is_the_scripts = refl
+
+fourth_line_differs : answer (codes "check" ∷ codes "10" ∷ [])
+    (beside (codes "0 start a" ∷ codes "0 dispatch a 5" ∷ codes "4 exit a" ∷ codes "4 dispatch a 5" ∷ codes "10 end" ∷ codes "thread a ticks 4" ∷ [])) ≡
+    record { status = Differs; text = text (codes "differs 4" ∷ codes "want 4 idle" ∷ codes "have dispatch" ∷ []) }
+unfolding read patterns declaration_patterns step_patterns call_patterns said_from phase_one lines_of words_of digits exec_in
+fourth_line_differs = refl
+
+last_line_is_missing : answer (codes "check" ∷ codes "10" ∷ [])
+    (beside (codes "0 start a" ∷ codes "0 dispatch a 5" ∷ codes "4 exit a" ∷ codes "4 idle" ∷ codes "10 end" ∷ [])) ≡
+    record { status = Differs; text = text (codes "differs 6" ∷ codes "want thread a ticks 4" ∷ codes "have nothing" ∷ []) }
+unfolding read patterns declaration_patterns step_patterns call_patterns said_from phase_one lines_of words_of digits exec_in
+last_line_is_missing = refl
+
+nothing_is_divided : answer (codes "check" ∷ codes "10" ∷ []) (text (codes "thread a fifo 5 at 0" ∷ codes "run 3" ∷ codes "end" ∷ [])) ≡
+    record { status = NoTrace; text = codes "no trace\n" }
+unfolding lines_of digits
+nothing_is_divided = refl

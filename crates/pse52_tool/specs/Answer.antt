@@ -9,10 +9,12 @@ use Rattle.script_table.specs.Table.{patterns}
 use Rattle.script_table.specs.Read.{read}
 use Rattle.machine_rules.specs.Machine.{trace}
 use Rattle.pse52_tool.specs.declared.status.Status.{Status}
-use Rattle.pse52_tool.specs.declared.status.Status.TheVariants.{Done, Usage, Refused, TooLong, ReadFault, WriteFault, OutOfMemory}
+use Rattle.pse52_tool.specs.declared.status.Status.TheVariants.{Done, Usage, Refused, TooLong, ReadFault, WriteFault, OutOfMemory, Differs, NoTrace}
 use Rattle.pse52_tool.specs.declared.command.Command.{Command}
-use Rattle.pse52_tool.specs.declared.command.Command.TheVariants.{Run, ResponseTimes}
+use Rattle.pse52_tool.specs.declared.command.Command.TheVariants.{Run, Check, ResponseTimes}
 use Rattle.pse52_tool.specs.Command.{command, limit_of}
+use Rattle.trace_check.specs.Divided.{Divided, divided}
+use Rattle.trace_check.specs.Comparison.{comparison}
 use Rattle.rta_core.specs.declared.task.Task.{Task}
 use Rattle.rta_core.specs.Faults as task_faults
 use Rattle.rta_core.specs.Read as task_lines
@@ -29,6 +31,9 @@ usage_line = codes "usage: pse52 COMMAND NUMBERS\n"
 abbrev pub too_long_line : List ℕ
 too_long_line = codes "too long\n"
 
+abbrev pub no_trace_line : List ℕ
+no_trace_line = codes "no trace\n"
+
 -- the line of a fault: where it is, and its number and its name
 abbrev pub refused_line : ℕ → ℕ → List ℕ → List ℕ
 refused_line line number name = codes "refused " ++ decimal line ++ codes " " ++ decimal number ++ codes " " ++ name ++ codes "\n"
@@ -41,6 +46,27 @@ abbrev pub run_answer : ℕ → Result Script Fault → Answer
 run_answer n (Err fault) = record { status = Refused; text = fault_line fault }
 run_answer n (Ok script) = record { status = Done; text = trace script n }
 
+-- the trace is the one that is due, or lines tell what differs
+abbrev pub trace_answer : Option (List ℕ) → Answer
+trace_answer None = record { status = Done; text = codes "same\n" }
+trace_answer (Some told) = record { status = Differs; text = told }
+
+-- a trace is compared with that of a script's run, and a head that is no script is refused
+abbrev pub compared_answer : ℕ → List ℕ → Result Script Fault → Answer
+compared_answer n have (Err fault) = record { status = Refused; text = fault_line fault }
+compared_answer n have (Ok script) = trace_answer (comparison have (trace script n))
+
+-- the head has the limit of a script
+abbrev pub head_answer : ℕ → Divided → Answer
+head_answer n d =
+    if nat_lt 1_048_576 (length d.head) then record { status = TooLong; text = too_long_line }
+    else compared_answer n d.trace (read patterns d.head)
+
+-- an input that is not divided has no trace
+abbrev pub divided_answer : ℕ → Option Divided → Answer
+divided_answer n None = record { status = NoTrace; text = no_trace_line }
+divided_answer n (Some d) = head_answer n d
+
 -- the response times of tasks are told, and a text that declares none is refused
 abbrev pub responses_answer : ℕ → Result (List Task) task_faults.Fault → Answer
 responses_answer bound (Err f) = record { status = Refused; text = refused_line f.line (task_faults.number_of f.kind) (task_faults.name_of f.kind) }
@@ -49,6 +75,7 @@ responses_answer bound (Ok tasks) = record { status = Done; text = response_line
 -- what a command answers to a text that its limit allows
 abbrev pub text_answer : Command → List ℕ → Answer
 text_answer (Run n) bytes = run_answer n (read patterns bytes)
+text_answer (Check n) bytes = divided_answer n (divided bytes)
 text_answer (ResponseTimes n) bytes = responses_answer n (task_lines.read bytes)
 
 abbrev pub command_answer : Option Command → List ℕ → Answer
@@ -70,18 +97,22 @@ Told Done a old new = (a.status ≡ Done) × Appends old new a.text
 Told Usage a old new = (a.status ≡ Usage) × Appends old new a.text
 Told Refused a old new = (a.status ≡ Refused) × Appends old new a.text
 Told TooLong a old new = (a.status ≡ TooLong) × Appends old new a.text
+Told Differs a old new = (a.status ≡ Differs) × Appends old new a.text
+Told NoTrace a old new = (a.status ≡ NoTrace) × Appends old new a.text
 
 -- a fault of writing is told only where the sink's count rose, and nothing else raises it
 pub record SinkFaults (status : Status) (before now : ℕ) : Type 0 where
   pub fault : status ≡ WriteFault → Rose before now
   pub no_fault : (status ≡ WriteFault → ⊥) → now ≡ before
 
--- a status that comes with one line
-abbrev pub IsLine : Status → Type 0
-IsLine Usage = Unit {0}
-IsLine Refused = Unit {0}
-IsLine TooLong = Unit {0}
-IsLine Done = ⊥
-IsLine ReadFault = ⊥
-IsLine WriteFault = ⊥
-IsLine OutOfMemory = ⊥
+-- a status that comes with a text
+abbrev pub HasText : Status → Type 0
+HasText Done = Unit {0}
+HasText Usage = Unit {0}
+HasText Refused = Unit {0}
+HasText TooLong = Unit {0}
+HasText Differs = Unit {0}
+HasText NoTrace = Unit {0}
+HasText ReadFault = ⊥
+HasText WriteFault = ⊥
+HasText OutOfMemory = ⊥

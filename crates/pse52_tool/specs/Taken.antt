@@ -4,6 +4,7 @@ use Rattle.std.specs.Io.KnownBytes.{Consumes, IsAtEnd}
 use Rattle.rt_io.specs.Causes.{GrewBy}
 use Rattle.rt_io.specs.Whole.{TookAtMost}
 use Rattle.pse52_tool.specs.declared.status.Status.{Status}
+use Rattle.pse52_tool.specs.declared.status.Status.TheVariants.{Done, Usage, Refused, TooLong, ReadFault, WriteFault, OutOfMemory, Differs, NoTrace}
 use Rattle.pse52_tool.specs.Command.{words_limit}
 use Rattle.pse52_tool.specs.Answer.{answer, Told}
 
@@ -17,7 +18,23 @@ pub record Answered (words : List (List ℕ)) (status : Status) (rest_before res
   pub count : GrewBy (length bytes) taken_before taken_now
   pub told : Told status (answer words bytes) text_before text_now
 
--- the source was read to its end, which the limit allows, or to one byte more than that limit
+-- the source was read to its end, which the limit allows
+abbrev pub ReadWhole : ℕ → Option (List ℕ) → Option (List ℕ) → ℕ → ℕ → Type 0
+ReadWhole limit rest_before rest_now taken_before taken_now = IsAtEnd rest_now × TookAtMost limit rest_before rest_now taken_before taken_now
+
+-- or to one byte more than that limit
 abbrev pub ReadToItsEnd : ℕ → Option (List ℕ) → Option (List ℕ) → ℕ → ℕ → Type 0
 ReadToItsEnd limit rest_before rest_now taken_before taken_now =
-    (IsAtEnd rest_now × TookAtMost limit rest_before rest_now taken_before taken_now) ⊎ GrewBy (limit + 1) taken_before taken_now
+    ReadWhole limit rest_before rest_now taken_before taken_now ⊎ GrewBy (limit + 1) taken_before taken_now
+
+-- a status that is told of a text that was read whole
+abbrev pub IsOfWhole : Status → Type 0
+IsOfWhole Done = Unit {0}
+IsOfWhole Refused = Unit {0}
+IsOfWhole Differs = Unit {0}
+IsOfWhole NoTrace = Unit {0}
+IsOfWhole Usage = ⊥
+IsOfWhole TooLong = ⊥
+IsOfWhole ReadFault = ⊥
+IsOfWhole WriteFault = ⊥
+IsOfWhole OutOfMemory = ⊥

@@ -14,6 +14,8 @@ const GREATEST_BOUND: u64 = 100_000_000;
 pub enum Command {
     /// `run N`: the trace of a script's run to tick N, at most 10^18.
     Run(Tick),
+    /// `check N`: whether a trace is that of a script's run to tick N, at most 10^18.
+    Check(Tick),
     /// `rta N`: the response times of tasks, up to a bound of N ticks, at most 10^8.
     ResponseTimes(u64),
 }
@@ -26,6 +28,7 @@ impl Command {
     {
         match *self {
             Command::Run(_) => 1_048_576,
+            Command::Check(_) => 67_108_864,
             Command::ResponseTimes(_) => 67_108_864,
         }
     }
@@ -65,6 +68,11 @@ fn command_of(word: &[u8], number: &[u8]) -> Option<Command>
         match tick_of(number) {
             None => None,
             Some(horizon) => Some(Command::Run(horizon)),
+        }
+    } else if word == b"check".as_slice() {
+        match tick_of(number) {
+            None => None,
+            Some(horizon) => Some(Command::Check(horizon)),
         }
     } else if word == b"rta".as_slice() {
         match number_up_to(GREATEST_BOUND, number) {

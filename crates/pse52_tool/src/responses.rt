@@ -6,7 +6,7 @@ ghost use Rattle.pse52_tool.specs.Answer.{Told, SinkFaults, responses_answer};
 
 use crate::Status;
 use crate::message::refused_task_line;
-use crate::tool::put_line;
+use crate::tool::put_text;
 use response_report::put_responses;
 use rt_io::Sink;
 use rta_core::{RtaEnd, Tasks};
@@ -53,7 +53,7 @@ pub(crate) fn tell_responses<K: Sink, L: Ledger>(
         Ok(tasks) => print_responses(&tasks, bound, sink, steps),
         Err(RtaEnd::Fault(line, kind)) => {
             let message = refused_task_line(line, kind);
-            put_line(sink, message.as_slice(), Status::Refused)
+            put_text(sink, message.as_slice(), Status::Refused)
         }
         Err(RtaEnd::OutOfMemory) => Status::OutOfMemory,
     }

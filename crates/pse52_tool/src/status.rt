@@ -11,7 +11,7 @@ pub enum Status {
     Usage,
     /// The script, or the text of tasks, has a fault.
     Refused,
-    /// The source has more bytes than the command allows.
+    /// The source, or the script in front of a trace, has more bytes than the command allows.
     TooLong,
     /// A read failed.
     ReadFault,
@@ -19,13 +19,17 @@ pub enum Status {
     WriteFault,
     /// There was no memory; nothing was written.
     OutOfMemory,
+    /// The trace is not the one that is due.
+    Differs,
+    /// The source has no line `%%`, and so no trace.
+    NoTrace,
 }
 
 impl Status {
-    /// The exit status of the program, 0 to 6.
+    /// The exit status of the program, 0 to 8.
     pub fn number(self) -> u8
         ensures number { result ≡ status_number self }
-        ensures small { result ≤ 6 }
+        ensures small { result ≤ 8 }
     {
         match self {
             Status::Done => 0,
@@ -35,6 +39,8 @@ impl Status {
             Status::ReadFault => 4,
             Status::WriteFault => 5,
             Status::OutOfMemory => 6,
+            Status::Differs => 7,
+            Status::NoTrace => 8,
         }
     }
 }

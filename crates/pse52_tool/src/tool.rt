@@ -1,10 +1,11 @@
 // The top call.
-ghost use Rattle.std.specs.Prelude.{◌≡◌, ◌≤◌, ◌<◌, ◌+◌, ◌^◌, ◌⊎◌, List, ℕ, Option, None, Some, true, false, Ok, length, map, string_bytes, IfSome, IsSome, OnOk, OnErr};
+ghost use Rattle.std.specs.Prelude.{◌≡◌, ◌≤◌, ◌<◌, ◌+◌, ◌^◌, ◌⊎◌, List, ℕ, Option, None, Some, true, false, Ok, length, map, string_bytes, IfSome, IfOk, IsSome, OnOk, OnErr};
 ghost use Rattle.std.specs.Io.KnownBytes.{Appends, IsAtEnd};
 ghost use Rattle.rt_io.specs.Bytes.{AppendsPart};
 ghost use Rattle.rt_io.specs.Causes.{Rose, GrewBy};
 ghost use Rattle.rt_io.specs.Whole.{TookAtMost};
 ghost use Rattle.pse52_trace.specs.Prints.{Prints};
+ghost use Rattle.pse52_trace.specs.Printed.{Printed, outlet};
 ghost use Rattle.script_table.specs.Table.{patterns};
 ghost use Rattle.script_table.specs.Read.{read};
 ghost use Rattle.machine_rules.specs.Machine.{trace};
@@ -12,13 +13,14 @@ ghost use Rattle.machine_rules.specs.WellFormed.{IsWellFormed};
 ghost use Rattle.machine_flat.specs.Runnable.{IsRunnable};
 ghost use Rattle.rt_kernel.specs.Ran.{run_text};
 ghost use Rattle.script_tree.specs.declared.decl.Script.{Script};
-ghost use Rattle.pse52_tool.specs.Command.{command, limit_of, words_limit, IsWithinLimit};
+ghost use Rattle.pse52_tool.specs.Command.{command, limit_of, words_limit, Compares, IsWithinLimit};
 ghost use Rattle.machine_rules.specs.Promises.{RunKeepsBudgets, RunStaysGood};
 ghost use Rattle.thread_laws.specs.HeadRuns.{HeadRuns};
-ghost use Rattle.pse52_tool.specs.Answer.{answer, run_answer, text_answer, usage_line, too_long_line, Told, SinkFaults, IsLine};
-ghost use Rattle.pse52_tool.specs.Taken.{Answered, ReadToItsEnd};
+ghost use Rattle.pse52_tool.specs.Answer.{answer, run_answer, text_answer, usage_line, too_long_line, no_trace_line, Told, SinkFaults, HasText};
+ghost use Rattle.pse52_tool.specs.Taken.{Answered, IsOfWhole, ReadToItsEnd, ReadWhole};
 
 use crate::Status;
+use crate::check::check_text;
 use crate::command::{Command, command_of_words};
 use crate::message::refused_line;
 use crate::responses::tell_responses;
@@ -69,6 +71,26 @@ fn print_trace<K: Sink, L: Ledger>(
     Ok(())
 }
 
+/// Runs a script from its first instant to the horizon, prints its trace, and answers whether a write failed. From the open kernel on, nothing takes
+/// memory.
+pub(crate) fn print_run<K: Sink, L: Ledger>(
+    alloc: Global,
+    script: &Script,
+    horizon: Tick,
+    sink: &mut K,
+    steps: &mut Steps<L>,
+) -> Result<bool, AllocError>
+    requires runnable { IsRunnable script.now }
+    requires limit { horizon ≤ 10 ^ 18 }
+    ensures printed { IfOk result (λ failed. Printed (outlet K.text K.faults false sink.old) (outlet K.text K.faults failed sink.new)
+        (trace script.now horizon)) }
+    ensures unchanged { OnErr result (sink.new ≡ sink.old) }
+{
+    let mut out = Tracer::new(sink);
+    print_trace(alloc, script, horizon, &mut out, steps)?;
+    Ok(out.failed())
+}
+
 // Runs a script and prints its trace.
 fn run_script<K: Sink, L: Ledger>(
     alloc: Global,
@@ -86,20 +108,16 @@ fn run_script<K: Sink, L: Ledger>(
     ensures read { result ≡ Status.ReadFault → ⊥ }
     ensures unchanged { result ≡ Status.OutOfMemory → sink.new ≡ sink.old }
 {
-    let mut out = Tracer::new(sink);
-    if print_trace(alloc, script, horizon, &mut out, steps).is_err() {
-        return Status::OutOfMemory;
-    }
-    if out.failed() {
-        Status::WriteFault
-    } else {
-        Status::Done
+    match print_run(alloc, script, horizon, sink, steps) {
+        Ok(false) => Status::Done,
+        Ok(true) => Status::WriteFault,
+        Err(_) => Status::OutOfMemory,
     }
 }
 
-/// Writes one line, and answers whether it was written.
-pub(crate) fn put_line<K: Sink>(sink: &mut K, text: &[u8], status: Status) -> Status
-    requires { IsLine status }
+/// Writes a text at once, and answers whether it was written.
+pub(crate) fn put_text<K: Sink>(sink: &mut K, text: &[u8], status: Status) -> Status
+    requires { HasText status }
     ensures status { (result ≡ status) ⊎ (result ≡ Status.WriteFault) }
     ensures told { Told result (record { status = status; text = text.now }) (K.text sink.old) (K.text sink.new) }
     ensures faults { SinkFaults result (K.faults sink.old) (K.faults sink.new) }
@@ -131,7 +149,7 @@ fn run_text<K: Sink, L: Ledger>(
         Ok(script) => run_script(alloc, &script, horizon, sink, steps),
         Err(ScriptEnd::Fault(line, kind)) => {
             let message = refused_line(line, kind);
-            put_line(sink, message.as_slice(), Status::Refused)
+            put_text(sink, message.as_slice(), Status::Refused)
         }
         Err(ScriptEnd::OutOfMemory) => Status::OutOfMemory,
     }
@@ -154,6 +172,7 @@ fn answer_text<K: Sink, L: Ledger>(
 {
     match *command {
         Command::Run(horizon) => run_text(alloc, text, horizon, sink, steps),
+        Command::Check(horizon) => check_text(alloc, text, horizon, sink, steps),
         Command::ResponseTimes(bound) => tell_responses(alloc, text, bound, sink, steps),
     }
 }
@@ -161,10 +180,13 @@ fn answer_text<K: Sink, L: Ledger>(
 /// Carries out the command of the words: reads the source, and writes to the sink.
 ///
 /// `run N` reads the source whole, at most 1,048,576 bytes, and runs its script to tick N; the text is the trace of the
-/// list machine. `rta N` reads it whole, at most 67,108,864 bytes, and tells the least response times of its tasks, up to N
-/// ticks. Where the words are no command the answer is `Usage`, or `WriteFault` where its line could not be
-/// written; that takes no memory and no byte. Then come `ReadFault` or `TooLong`, by the bytes read; then `Refused`,
-/// where the script or the text of tasks has a fault; then the answer. `OutOfMemory` may come in place of any of these but `Usage`, before
+/// list machine. `check N` reads it whole, at most 67,108,864 bytes, splits it at its first line `%%` into a script and a
+/// trace, and tells whether the trace is the script's; `Differs` comes with the first line that differs. `rta N` reads it
+/// whole, at most 67,108,864 bytes, and tells the least response times of its tasks, up to N ticks. Where the words are no
+/// command the answer is `Usage`, or `WriteFault` where its line could not be written; that takes no memory and no byte.
+/// Then come `ReadFault` or `TooLong`, by the bytes read; then `NoTrace`, where `check` finds no line `%%`, or `TooLong`,
+/// where the script in front of it has more than 1,048,576 bytes; then `Refused`, where the script or the text of tasks has
+/// a fault; then the answer. `OutOfMemory` may come in place of any of these but `Usage`, before
 /// anything is written. A fault of the source or the sink is answered only where its count of faults rose in this call.
 /// Nothing is written before the source was read to its end, or to one byte more than the limit.
 #[tactic(auto, using(crate::proofs::Promises::head_runs, crate::proofs::Promises::stays_good, crate::proofs::Promises::keeps_budgets))]
@@ -198,15 +220,20 @@ pub fn run_tool<S: Source, K: Sink, L: Ledger>(
     ensures usage_part { command (map string_bytes words.now) ≡ None → result ≡ Status.WriteFault
         → AppendsPart (K.text sink.old) (K.text sink.new) usage_line }
 
-    // Too long means that one byte more than the limit was taken.
+    // Too long means that one byte more than the limit was taken, or that the script in front of a trace is too long.
     ensures too_long { result ≡ Status.TooLong
-        → GrewBy (words_limit (map string_bytes words.now) + 1) (S.taken source.old) (S.taken source.new) }
+        → GrewBy (words_limit (map string_bytes words.now) + 1) (S.taken source.old) (S.taken source.new)
+        ⊎ (Compares (command (map string_bytes words.now)) × ReadWhole (words_limit (map string_bytes words.now))
+        (S.rest source.old) (S.rest source.new) (S.taken source.old) (S.taken source.new)) }
     ensures too_long_text { result ≡ Status.TooLong → Appends (K.text sink.old) (K.text sink.new) too_long_line }
 
-    // Refused or done means that all bytes were taken, which the limit allows.
-    ensures read_whole { (result ≡ Status.Refused) ⊎ (result ≡ Status.Done) → IsAtEnd (S.rest source.new) }
-    ensures whole_bytes { (result ≡ Status.Refused) ⊎ (result ≡ Status.Done)
-        → TookAtMost (words_limit (map string_bytes words.now))
+    // Only a comparison ends in a difference or without a trace.
+    ensures checked { (result ≡ Status.Differs) ⊎ (result ≡ Status.NoTrace) → Compares (command (map string_bytes words.now)) }
+    ensures no_trace_text { result ≡ Status.NoTrace → Appends (K.text sink.old) (K.text sink.new) no_trace_line }
+
+    // What is told of a whole text comes only where all bytes were taken, which the limit allows.
+    ensures read_whole { IsOfWhole result → IsAtEnd (S.rest source.new) }
+    ensures whole_bytes { IsOfWhole result → TookAtMost (words_limit (map string_bytes words.now))
         (S.rest source.old) (S.rest source.new) (S.taken source.old) (S.taken source.new) }
 
     // A fault of reading comes before the byte past the limit, and nothing is read behind that byte.
@@ -238,12 +265,12 @@ pub fn run_tool<S: Source, K: Sink, L: Ledger>(
         ⊎ ((result ≡ Status.OutOfMemory) × IsSome (command (map string_bytes words.now)) × (sink.new ≡ sink.old)) }
 {
     let Some(command) = command_of_words(words) else {
-        return put_line(sink, b"usage: pse52 COMMAND NUMBERS\n", Status::Usage);
+        return put_text(sink, b"usage: pse52 COMMAND NUMBERS\n", Status::Usage);
     };
     match read_whole(alloc, source, command.limit()) {
         Ok(bytes) => answer_text(alloc, &command, bytes.as_slice(), sink, steps),
         Err(ReadEnd::ReadFault) => Status::ReadFault,
-        Err(ReadEnd::TooLong) => put_line(sink, b"too long\n", Status::TooLong),
+        Err(ReadEnd::TooLong) => put_text(sink, b"too long\n", Status::TooLong),
         Err(ReadEnd::OutOfMemory) => Status::OutOfMemory,
     }
 }

@@ -1,4 +1,5 @@
 mod Examples
 pub mod Lines
+pub mod ShortLines
 pub mod Prints
 pub mod Tells

@@ -1,5 +1,5 @@
 -- Several texts, one after another.
-use Rattle.std.proofs.Common.{◌≡◌, ℕ, ◌+◌, List, [], ◌++◌, length, take, refl, sym, ◌∙◌, ap, subst, arith, min, Option, Bool, true, false}
+use Rattle.std.proofs.Common.{◌≡◌, ℕ, ◌≤◌, ◌+◌, List, [], ◌++◌, length, take, refl, sym, ◌∙◌, ap, subst, arith, min, Option, Bool, true, false}
 use Rattle.std.proofs.Math.Seq.{take-append-add, take-length}
 use Rattle.std.proofs.lemmas.List.{take_min, take-append-le}
 use Rattle.std.specs.Io.KnownBytes.{Appends}
@@ -8,6 +8,8 @@ use Rattle.rt_io.specs.Bytes.{AppendsPart}
 use Rattle.rt_io.proofs.Known.{appends_none, appends_more}
 use Rattle.pse52_trace.specs.Printed.{Outlet, Printed}
 use Rattle.pse52_trace.specs.Prints.{Prints}
+use Rattle.pse52_trace.specs.ShortLines.{AreWhole, HasShortLines}
+use Rattle.pse52_trace.proofs.ShortLines.{short_all, short_part}
 use Rattle.pse52_trace.specs.declared.tracer.Tracer.{Tracer}
 
 -- a flag is not both
@@ -23,6 +25,7 @@ printed_nothing a = record {
   no_fault = λ _. refl;
   fault = λ ok failed. absurd (clash a.failed ok failed);
   later = omega arith;
+  short = λ h. h;
 }
 
 -- after a failure nothing is written, whatever is due
@@ -34,6 +37,7 @@ printed_silent a due failed = record {
   no_fault = λ _. refl;
   fault = λ ok _. absurd (clash a.failed ok failed);
   later = omega arith;
+  short = λ h. h;
 }
 
 -- a prefix of the front is a prefix of the whole
@@ -79,17 +83,31 @@ printed_both a b c xs ys first second = record {
   no_fault = λ ok. let b_ok = still_good b.failed b c ys refl second ok in second.no_fault ok ∙ first.no_fault b_ok;
   fault = λ ok failed. both_faults b.failed a b c xs ys refl first second ok failed;
   later = let l = first.later in let m = second.later in omega arith;
+  short = λ h. second.short (first.short h);
 }
 
 -- all of the text was written
-pub printed_all : (a b : Outlet) (due : List ℕ) → a.failed ≡ false → b.failed ≡ false → Appends a.text b.text due → b.faults ≡ a.faults → Printed a b due
-printed_all a b due ok still written same = record {
+pub printed_all : (a b : Outlet) (due : List ℕ) → a.failed ≡ false → b.failed ≡ false → AreWhole due → Appends a.text b.text due → b.faults ≡ a.faults → Printed a b due
+printed_all a b due ok still whole written same = record {
   silent = λ failed. absurd (clash a.failed ok failed);
   whole = λ _. written;
   part = (length due, subst (λ t. Appends a.text b.text t) (sym (take-length due)) written);
   no_fault = λ _. same;
   fault = λ _ failed. absurd (clash b.failed still failed);
   later = omega arith;
+  short = λ h. subst (λ f. HasShortLines f b.text) (sym still) (short_all a.text b.text due whole written (subst (λ f. HasShortLines f a.text) ok h));
+}
+
+-- a part of it was written, and the write failed
+pub printed_part : (a b : Outlet) (due : List ℕ) → a.failed ≡ false → b.failed ≡ true → AreWhole due → AppendsPart a.text b.text due → Rose a.faults b.faults → a.faults ≤ b.faults → Printed a b due
+printed_part a b due ok failed whole written rose later = record {
+  silent = λ no. absurd (clash a.failed ok no);
+  whole = λ no. absurd (clash b.failed no failed);
+  part = written;
+  no_fault = λ no. absurd (clash b.failed no failed);
+  fault = λ _ _. rose;
+  later = later;
+  short = λ h. subst (λ f. HasShortLines f b.text) (sym failed) (short_part a.text b.text due whole written (subst (λ f. HasShortLines f a.text) ok h));
 }
 
 -- what was due under another name
@@ -120,5 +138,6 @@ prints_stopped text faults a b xs ys first failed =
         no_fault = p.no_fault;
         fault = p.fault;
         later = p.later;
+        short = p.short;
       };
     }

@@ -1,5 +1,6 @@
 pub mod Calls
 pub mod Text
+pub mod ShortLines
 pub mod Printed
 pub mod Prints
 pub mod Tells

@@ -2,6 +2,7 @@
 ghost use Rattle.std.specs.Prelude.{◌≡◌, ◌≤◌, ◌<◌, ◌+◌, ◌++◌, ◌∷◌, [], length, decimal, Some};
 ghost use Rattle.std.specs.List.{join_with_byte};
 ghost use Rattle.pse52_trace.specs.Text.{IsNamed, budget_words, line, report_line, signal_name};
+ghost use Rattle.pse52_trace.specs.ShortLines.{AreWhole};
 
 use crate::{BudgetView, Event, Names, Report};
 use arrayvec::ArrayVec;
@@ -46,7 +47,8 @@ impl Line {
     // Becomes the line of an event.
     pub(crate) fn set_event(&mut self, now: Tick, e: &Event, names: &Names)
         requires { IsNamed names.now e.now }
-        ensures { self.new ≡ line names.now now e.now }
+        ensures value { self.new ≡ line names.now now e.now }
+        ensures whole { AreWhole self.new }
     {
         self.begin(Buffer::new().format(now.get()).as_bytes());
         match e {
@@ -97,7 +99,8 @@ impl Line {
     // Becomes the closing line of a thread.
     pub(crate) fn set_report(&mut self, t: Tid, report: &Report, names: &Names)
         requires { t < length names.now }
-        ensures { self.new ≡ report_line names.now t report.now }
+        ensures value { self.new ≡ report_line names.now t report.now }
+        ensures whole { AreWhole self.new }
     {
         self.begin(b"thread");
         self.word(names.get(t));
@@ -132,9 +135,11 @@ impl Line {
     }
 
     // Adds the line end.
+    #[tactic(auto, using(crate::proofs::ShortLines::ended_is_whole))]
     fn end(&mut self)
         requires { length self.old < 256 }
-        ensures { self.new ≡ self.old ++ 10 ∷ [] }
+        ensures value { self.new ≡ self.old ++ 10 ∷ [] }
+        ensures whole { AreWhole self.new }
     {
         self.text.push(b'\n');
     }

@@ -2,6 +2,7 @@
 ghost use Rattle.std.specs.Prelude.{◌≡◌, ◌<◌, ◌∷◌, [], false, length};
 ghost use Rattle.pse52_trace.specs.Text.{IsNamed, line, report_line};
 ghost use Rattle.pse52_trace.specs.Prints.{Prints};
+ghost use Rattle.pse52_trace.specs.ShortLines.{AreWhole};
 ghost use Rattle.pse52_trace.specs.Tells.{Tells};
 
 use crate::line::Line;
@@ -40,6 +41,7 @@ impl<'a, K: Sink> Tracer<'a, K> {
 
     // Writes the line at once, unless a write has failed.
     fn write_line(&mut self)
+        requires { AreWhole self.old.line }
         ensures { Prints K.text K.faults self.old self.new self.old.line }
     {
         if self.failed {

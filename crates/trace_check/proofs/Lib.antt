@@ -4,3 +4,5 @@ pub mod Held
 pub mod Numbers
 pub mod Spelling
 pub mod Printed
+pub mod Short
+pub mod Enough

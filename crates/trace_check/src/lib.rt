@@ -8,14 +8,16 @@
 mod comparison;
 mod difference;
 mod form;
+mod known_room;
 mod limited;
 mod line;
 mod lines;
 mod words;
 
-pub use comparison::compare;
+pub use comparison::{Difference, compare};
 pub use difference::first_difference;
 pub use form::Form;
+pub use known_room::{KnownRoom, Room};
 pub use limited::Limited;
 pub use line::{TraceLine, read_line};
 pub use lines::divide;

@@ -1,5 +1,5 @@
 // A sink that holds what fits.
-ghost use Rattle.std.specs.Prelude.{◌≡◌, ◌≤◌, ◌<◌, ◌^◌, ◌+◌, ◌-◌, ◌++◌, [], length, IfOk, Some, is_ok};
+ghost use Rattle.std.specs.Prelude.{◌≡◌, ◌≤◌, ◌<◌, ◌^◌, ◌+◌, ◌-◌, ◌++◌, ◌⊎◌, [], length, IfOk, Some, is_ok};
 ghost use Rattle.rt_io.specs.Causes.{raised};
 
 use rt_io::{Failed, Sink};
@@ -17,14 +17,15 @@ pub struct Limited {
 }
 
 impl Model for Limited {
-    ghost use Rattle.std.specs.Prelude.{◌≤◌, ◌<◌, ◌^◌, length, vec_capacity};
+    ghost use Rattle.std.specs.Prelude.{◌≡◌, ◌≤◌, ◌⊎◌, length, vec_capacity};
     ghost use Rattle.trace_check.specs.Held.{Held};
 
     ghost Value = { Held };
 
     ghost view = { λ s. record { text = s.text.items; room = s.room; faults = s.faults } };
 
-    ghost invariant = { λ s. (length s.text.items ≤ s.room) × (s.room ≤ vec_capacity s.text) };
+    ghost invariant = { λ s. (length s.text.items ≤ s.room) × (s.room ≤ vec_capacity s.text)
+        × ((s.faults ≡ 0) ⊎ (length s.text.items ≡ s.room)) };
 }
 
 impl Limited {
@@ -40,9 +41,10 @@ impl Limited {
         })
     }
 
-    /// What is held.
+    /// What is held: where a write has failed, as many bytes as there is room for.
     pub fn text(&self) -> &[u8]
-        ensures { result.now ≡ self.now.text }
+        ensures value { result.now ≡ self.now.text }
+        ensures full { (self.now.faults ≡ 0) ⊎ (length result.now ≡ self.now.room) }
     {
         self.text.as_slice()
     }
@@ -69,6 +71,7 @@ impl Limited {
 
     // Counts a write that did not fit.
     fn count_fault(&mut self)
+        requires { length self.old.text ≡ self.old.room }
         ensures state { self.new ≡ record {
           text = self.old.text;
           room = self.old.room;

@@ -51,7 +51,8 @@ fn divider_at(input: &[u8]) -> Option<usize>
 /// Splits an input at the first of its lines that is exactly `%%`: what stands before that line, and what follows its line end. `None`
 /// exactly where no line is `%%`.
 pub fn divide(input: &[u8]) -> Option<(&[u8], &[u8])>
-    ensures { option_map (λ p. let parts : Divided = record { head = p.0.now; trace = p.1.now } in parts) result ≡ divided input.now }
+    ensures parts { option_map (λ p. let parts : Divided = record { head = p.0.now; trace = p.1.now } in parts) result ≡ divided input.now }
+    ensures within { IfSome result (λ p. length p.1.now ≤ length input.now) }
 {
     match divider_at(input) {
         None => None,

@@ -213,10 +213,10 @@ fn what_is_told_of_a_difference(rt: HostRuntime) -> Result<(), Fail> {
             b"differs 1\nwant 0 start a\nhave text\n".as_slice(),
         ),
     ] {
-        let text = compare(rt.alloc(), have, TRACE)?.ok_or("a difference")?;
+        let text = compare(have, TRACE).ok_or("a difference")?;
         assert_eq!(rt; text.as_slice(), told);
     }
-    assert!(rt; compare(rt.alloc(), TRACE, TRACE)?.is_none());
+    assert!(rt; compare(TRACE, TRACE).is_none());
     Ok(())
 }
 

@@ -1,4 +1,4 @@
-use Rattle.std.proofs.Common.{◌≡◌, ◌≤◌, ◌<◌, ◌+◌, ◌-◌, length, drop, length-drop, arith}
+use Rattle.std.proofs.Common.{length-drop, arith}
 use Rattle.script_table.proofs.Parts.{to_end}
 use Rattle.trace_check.proofs.Behind.{line_found, line_passed, line_missing}
 use Rattle.trace_check.proofs.lines.line_behind.Goals as goal

@@ -1,0 +1,5 @@
+use Rattle.script_bounds.proofs.Runnable.{accepted_can_be_run}
+use Rattle.pse52_tool.proofs.check.check_head.Goals as goal
+
+pub check_script-requires-clause-runnable : goal.check_script-requires-clause-runnable
+check_script-requires-clause-runnable g c = accepted_can_be_run c.args.head.now c.in-Ok.script c.in-Ok.ensures.script
