@@ -124,7 +124,8 @@ impl Arrivals {
     }
 
     pub fn is_empty(&self) -> bool
-        ensures { result ≡ (length self.now.order == 0) }
+        ensures value { result ≡ (length self.now.order == 0) }
+        ensures arrivals { AreArrivals self.now }
     {
         self.count == 0
     }
