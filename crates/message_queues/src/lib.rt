@@ -1,0 +1,17 @@
+//! The message queues of a script: what they hold, and the notification that is asked of each.
+//!
+//! Contracts see the queues of the machine, each with its messages in the order of arrival; who waits for a queue is kept elsewhere.
+//! The next message is the oldest of the greatest priority: a word marks the priorities that have messages, and each has a list of its
+//! own, so that no message is searched for. All room is taken by `open`, and no later call takes memory.
+#![tactic(auto)]
+
+mod open;
+mod queue;
+mod queues;
+mod registration;
+
+pub use queues::Queues;
+pub use registration::Registration;
+
+#[cfg(test)]
+mod tests;

@@ -1,0 +1,4 @@
+pub mod Holding
+pub mod Orders
+pub mod Ranks
+pub mod Words

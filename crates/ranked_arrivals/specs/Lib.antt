@@ -1,0 +1,3 @@
+pub mod Arrivals
+pub mod Held
+pub mod Marks

@@ -1,0 +1,3 @@
+pub mod Keeping
+pub mod Selecting
+pub mod Walking

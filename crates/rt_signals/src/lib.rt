@@ -1,0 +1,16 @@
+//! The pending signals: the records that were generated and not taken yet.
+//!
+//! Contracts see the pending records of the machine, in the order in which they became pending. A record that is selected is the one of
+//! the lowest signal, and of that signal the oldest: each signal has a list of its own, so that no record of a higher signal is looked
+//! at. The room for all records that can be pending is taken by `open`, and no later call takes memory.
+#![tactic(auto)]
+
+mod choice;
+mod pending;
+mod record;
+
+pub use pending::Pending;
+pub use record::SignalRecord;
+
+#[cfg(test)]
+mod tests;
