@@ -1,14 +1,13 @@
 // Whether a thread owns a mutex that can raise its priority.
-ghost use Rattle.std.specs.Prelude.{◌≡◌, ◌≤◌, ◌<◌, ℕ, filter, length};
+ghost use Rattle.std.specs.Prelude.{◌≡◌, filter};
 ghost use Rattle.std.specs.List.{list_any};
 ghost use Rattle.machine_rules.specs.Lists.{is};
 ghost use Rattle.machine_rules.specs.Mutexes.{is_boosting};
 ghost use Rattle.machine_rules.specs.State.{Mutex};
-ghost use Rattle.inherit_chain.specs.Chains.{prio_in};
 
 use crate::claims::MutexState;
 use script_tree::Protocol;
-use tick_num::{Prio, Tid};
+use tick_num::Tid;
 
 impl MutexState {
     // Whether it can raise its owner's priority.
@@ -34,10 +33,4 @@ pub(crate) fn owns_boosting(mutexes: &[MutexState], t: Tid) -> bool
         }
     }
     false
-}
-
-pub(crate) fn in_range(exec: &[Prio])
-    ensures { (t : ℕ) → t < length exec.now → 1 ≤ prio_in exec.now t }
-{
-    let _ = exec;
 }

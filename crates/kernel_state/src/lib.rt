@@ -15,5 +15,4 @@ mod settling;
 mod threads;
 mod waking;
 
-pub use due::DueKind;
 pub use parts::Parts;

@@ -15,7 +15,6 @@ ghost use Rattle.std.specs.Prelude.{is_some};
 ghost use Rattle.sporadic_server.specs.Server.{totals};
 ghost use Rattle.machine_rules.specs.Threads.{is_blocked};
 ghost use Rattle.machine_rules.specs.Servers.{has_high};
-ghost use Rattle.machine_rules.specs.DueItems.{refill_due, start_due, timeout_due};
 ghost use Rattle.machine_rules.specs.Ticks.{tick_end};
 ghost use Rattle.thread_blocks.specs.Ends.{end_of};
 
@@ -130,35 +129,6 @@ impl Parts {
         ensures { result ≡ top_left (thread_at self.now.machine t).frames }
     {
         self.table.thread(t).left()
-    }
-
-    /// Whether a thread's round robin interval is used up.
-    pub fn slice_is_used(&self, t: Tid) -> bool
-        requires { t < length self.now.names }
-        ensures { result ≡ slice_is_used (thread_at self.now.machine t).policy (thread_at self.now.machine t).slice self.now.machine.quantum }
-    {
-        self.table.thread(t).slice_is_used(self.quantum)
-    }
-
-    pub fn refill_due(&self, t: Tid) -> Option<Tick>
-        requires { t < length self.now.names }
-        ensures { result ≡ refill_due self.now.machine t }
-    {
-        self.table.thread(t).refill_due()
-    }
-
-    pub fn start_due(&self, t: Tid) -> Option<u64>
-        requires { t < length self.now.names }
-        ensures { result ≡ start_due self.now.machine t }
-    {
-        self.table.thread(t).start_due()
-    }
-
-    pub fn timeout_due(&self, t: Tid) -> Option<Tick>
-        requires { t < length self.now.names }
-        ensures { result ≡ timeout_due self.now.machine t }
-    {
-        self.table.thread(t).wait_due()
     }
 
     pub fn is_blocked(&self, t: Tid) -> bool

@@ -1,26 +1,37 @@
-use Rattle.std.proofs.Common.{sym, ◌∙◌}
+use Rattle.std.proofs.Common.{◌≡◌, length, subst, sym, ◌∙◌}
+use Rattle.pse52_trace.specs.Tells.{Tells}
+use Rattle.machine_rules.specs.DueItems.{item_done}
 use Rattle.machine_rules.proofs.ItemsEnd.{item_falls}
 use Rattle.machine_flat.specs.FlatBodies.{flat_bodies}
-use Rattle.kernel_state.specs.Kernel.{turn}
+use Rattle.kernel_state.specs.Kernel.{Kernel, after, told, turn}
+use Rattle.kernel_events.specs.Handled.{CanHandle}
 use Rattle.rt_kernel.proofs.Halfway.{all_state, all_told, fits_now, one_done}
 use Rattle.rt_kernel.proofs.instant.do_instant.Goals as goal
 
 pub items-smaller : goal.items-smaller
 items-smaller g c =
+    let k = c.items.p in
     let due = sym c.next_item.ensures.value ∙ c.in-Some.is in
-    rw c.do_item.ensures.state (item_falls (flat_bodies c.items.p.code) (turn c.items.p) c.in-Some.i due)
+    let state = subst (λ (x : Kernel). c.do_item.new.p ≡ after (item_done (flat_bodies x.code) c.in-Some.i) x) c.next_item.ensures.same c.do_item.ensures.state in
+    rw state (item_falls (flat_bodies k.code) (turn k) c.in-Some.i due)
 
 pub do_item-requires-clause-fits : goal.do_item-requires-clause-fits
-do_item-requires-clause-fits g c = (fits_now _ _ c.args.p.now c.items.p _ _ c.items.invariant c.requires.fits).items
+do_item-requires-clause-fits g c =
+    subst (λ (x : Kernel). CanHandle x.machine) (sym c.next_item.ensures.same) (fits_now _ _ c.args.p.now c.items.p _ _ c.items.invariant c.requires.fits).items
 
 pub items-preserved : goal.items-preserved
 items-preserved g c =
+    let k = c.items.p in
+    let same = c.next_item.ensures.same in
     let due = sym c.next_item.ensures.value ∙ c.in-Some.is in
-    one_done _ _ c.args.p.now c.items.p c.do_item.new.p c.args.out.now c.items.out c.do_item.new.out c.in-Some.i c.items.invariant due
-    c.do_item.ensures.state c.do_item.ensures.told c.do_item.ensures.stood c.do_item.ensures.quiet c.do_item.ensures.time
+    let state = subst (λ (x : Kernel). c.do_item.new.p ≡ after (item_done (flat_bodies x.code) c.in-Some.i) x) same c.do_item.ensures.state in
+    let tells = subst (λ (x : Kernel). Tells g.K.Sink.text g.K.Sink.faults x.names c.items.out c.do_item.new.out (told (item_done (flat_bodies x.code) c.in-Some.i) x)) same c.do_item.ensures.told in
+    let time = subst (λ (x : Kernel). c.do_item.new.p.machine.now ≡ x.machine.now) same c.do_item.ensures.time in
+    one_done _ _ c.args.p.now k c.do_item.new.p c.args.out.now c.items.out c.do_item.new.out c.in-Some.i c.items.invariant due
+    state tells c.do_item.ensures.stood c.do_item.ensures.quiet time
 
 pub returns-clause-state : goal.returns-clause-state
-returns-clause-state g c = all_state _ _ c.args.p.now c.items.p _ _ c.items.invariant (sym c.in_default.ensures.value)
+returns-clause-state g c = c.next_item.ensures.same ∙ all_state _ _ c.args.p.now c.items.p _ _ c.items.invariant (sym c.in_default.ensures.value)
 
 pub returns-clause-told : goal.returns-clause-told
 returns-clause-told g c = all_told _ _ c.args.p.now c.items.p _ _ c.items.invariant (sym c.in_default.ensures.value)
