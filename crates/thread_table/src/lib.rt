@@ -14,3 +14,6 @@ mod table;
 mod times;
 
 pub use table::Table;
+
+#[cfg(test)]
+mod tests;

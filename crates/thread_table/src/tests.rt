@@ -1,0 +1,49 @@
+// A thread that starts by itself, and ends.
+ghost use Rattle.std.specs.Prelude.{◌≡◌, ◌≤◌, ◌*◌, ◌^◌, IfOk, length};
+ghost use Rattle.machine_rules.specs.Declarations.{threads_of};
+
+use super::*;
+use script_tree::{Body, Decl, Decls, Kind, Name, Policy, Script};
+use std::alloc::Global;
+use std::test::Fail;
+use tick_num::{Item, Prio, Tick, Tid};
+
+fn tick(n: u64) -> Tick
+    requires { n ≤ 2 * 10 ^ 18 }
+    ensures { result ≡ n }
+{
+    Tick::try_new(n).unwrap()
+}
+
+fn one_thread(alloc: Global) -> Result<Script, Fail>
+    ensures { IfOk result (λ s. length (threads_of s) ≤ 64) }
+{
+    let name = Name::try_new(b"a".as_slice()).ok_or("no name")?;
+    let policy = Policy::Fifo(Prio::try_new(7).ok_or("no priority")?);
+    let kind = Kind::Thread {
+        policy,
+        start: Some(5),
+        body: Body::new(Vec::new(alloc)),
+    };
+    let mut decls = Vec::new(alloc);
+    decls.push(Decl::Named(name, kind))?;
+    Ok(Script {
+        quantum: 10,
+        decls: Decls::new(decls),
+    })
+}
+
+#[test]
+fn a_start_is_due_until_the_thread_ends(rt: HostRuntime) -> Result<(), Fail> {
+    let script = one_thread(rt.alloc())?;
+    let mut table = Table::open(rt.alloc(), &script)?;
+    let t = Tid::try_new(0).ok_or("no thread")?;
+    assert_eq!(rt; table.next_due(), Some(tick(5)));
+    assert_eq!(rt; table.first_due(tick(4)), None);
+    assert_eq!(rt; table.first_due(tick(5)), Some(Item::Start(t)));
+    assert!(rt; t.get() < table.count());
+    assert_eq!(rt; table.end(t), None);
+    assert_eq!(rt; table.first_due(tick(5)), None);
+    assert_eq!(rt; table.next_due(), None);
+    Ok(())
+}
