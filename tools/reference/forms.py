@@ -21,11 +21,12 @@ class Stage(IntEnum):
     THREADS = 3
     SERVERS = 4
     MUTEXES = 5
-    WAITING = 6
-    SIGNALS = 7
-    TIMERS = 8
-    QUEUES = 9
-    WHOLE = 10
+    SEMAPHORES = 6
+    WAITING = 7
+    SIGNALS = 8
+    TIMERS = 9
+    QUEUES = 10
+    WHOLE = 11
 
     @staticmethod
     def named(name: str) -> "Stage":
@@ -138,12 +139,14 @@ _TABLE: list[tuple[Stage, Role, list[str]]] = [
         f"mutex <name> {protocol}{last}"
         for protocol in ("none", "inherit", "protect <priority>") for last in ("", " recursive")]),
     (Stage.MUTEXES, Role.STEP, ["lock <mutex>", "trylock <mutex>", "unlock <mutex>"]),
-    (Stage.WAITING, Role.DECLARATION, ["cond <name>", "sem <name> <count>"]),
-    (Stage.WAITING, Role.STEP, [
-        "timedlock <mutex> <operand>", "wait <cond> <mutex>", "timedwait <cond> <mutex> <operand>",
-        "signal <cond>", "broadcast <cond>",
+    (Stage.SEMAPHORES, Role.DECLARATION, ["sem <name> <count>"]),
+    (Stage.SEMAPHORES, Role.STEP, [
+        "timedlock <mutex> <operand>",
         "sem_wait <sem>", "sem_timedwait <sem> <operand>", "sem_trywait <sem>", "sem_getvalue <sem>", "sem_post <sem>",
         "clock_nanosleep <operand>"]),
+    (Stage.WAITING, Role.DECLARATION, ["cond <name>"]),
+    (Stage.WAITING, Role.STEP, [
+        "wait <cond> <mutex>", "timedwait <cond> <mutex> <operand>", "signal <cond>", "broadcast <cond>"]),
     (Stage.SIGNALS, Role.DECLARATION, ["action <sig> ignore", "action <sig> run <handler>"]),
     (Stage.SIGNALS, Role.STEP, [
         "kill <sig>", "tkill <thread> <sig>", "sigqueue <sig> <operand>",

@@ -36,7 +36,7 @@ def pause(writer: "ScriptWriter") -> Part:
 
 def critical_section(writer: "ScriptWriter", mutex: str, inner: Part) -> Part:
     lock = f"lock {mutex}"
-    if writer.stage >= Stage.WAITING and writer.draw.random() < 0.25:
+    if writer.stage >= Stage.SEMAPHORES and writer.draw.random() < 0.25:
         lock = f"timedlock {mutex} {writer.draw.randint(3, 30)}"
     return [lock, *inner, f"unlock {mutex}"]
 
@@ -67,7 +67,7 @@ def ring_of_mutexes(writer: "ScriptWriter") -> list[Part]:
     first, second = writer.draw.sample(writer.mutexes, 2)
     rest = ["nanosleep 2"] if writer.stage >= Stage.SERVERS else ["yield"]
     ask = f"lock {first}"
-    if writer.stage >= Stage.WAITING and writer.draw.random() < 0.4:
+    if writer.stage >= Stage.SEMAPHORES and writer.draw.random() < 0.4:
         ask = f"timedlock {first} {writer.draw.randint(0, 9)}"
     return [["as fifo 4", f"lock {first}", *rest, *critical_section(writer, second, []), f"unlock {first}"],
             ["as fifo 4", f"lock {second}", *rest, ask, f"unlock {first}", f"unlock {second}"],
@@ -76,7 +76,7 @@ def ring_of_mutexes(writer: "ScriptWriter") -> list[Part]:
 
 def lent_priority_waits(writer: "ScriptWriter") -> list[Part]:
     """A waiter with a lent priority stands before one with a higher priority of its own."""
-    if len(writer.mutexes) < 2 or writer.stage < Stage.WAITING:
+    if len(writer.mutexes) < 2 or writer.stage < Stage.SEMAPHORES:
         return chain_of_mutexes(writer)
     first, second = writer.draw.sample(writer.mutexes, 2)
     return [["as fifo 2", *critical_section(writer, first, ["run 8", *busy(writer, 3)])],
@@ -275,7 +275,8 @@ SCENES: dict[Stage, tuple[Scene, ...]] = {
     Stage.THREADS: (priorities_change, slices),
     Stage.SERVERS: (served, new_server),
     Stage.MUTEXES: (one_mutex, chain_of_mutexes, ring_of_mutexes, lent_priority_waits, server_at_a_mutex),
-    Stage.WAITING: (condition, condition, semaphore),
+    Stage.SEMAPHORES: (semaphore,),
+    Stage.WAITING: (condition, condition),
     Stage.SIGNALS: (waiting_for_signals, handled_waits),
     Stage.TIMERS: (periodic, overruns),
     Stage.QUEUES: (queue_of_messages, queue_of_messages),

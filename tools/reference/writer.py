@@ -8,8 +8,8 @@ from scenes import CAST, PEER, SCENES, SELF, Part
 
 _GREATEST = 10**18
 _SHARES: dict[Stage, float] = {
-    Stage.THREADS: 0.5, Stage.SERVERS: 0.4, Stage.MUTEXES: 0.7, Stage.WAITING: 0.7, Stage.SIGNALS: 0.6, Stage.TIMERS: 0.5,
-    Stage.QUEUES: 0.6, Stage.WHOLE: 0.6}
+    Stage.THREADS: 0.5, Stage.SERVERS: 0.4, Stage.MUTEXES: 0.7, Stage.SEMAPHORES: 0.6, Stage.WAITING: 0.6,
+    Stage.SIGNALS: 0.6, Stage.TIMERS: 0.5, Stage.QUEUES: 0.6, Stage.WHOLE: 0.6}
 """How often a topic occurs in the steps of a script."""
 
 
@@ -24,7 +24,7 @@ class ScriptWriter:
         self.threads = [f"t{k}" for k in range(draw.choice((1, 2, 2, 3, 3, 3, 4, 4, 5)))]
         self.mutexes = self.some_names("m", 3, Stage.MUTEXES)
         self.conds = self.some_names("c", 2, Stage.WAITING)
-        self.sems = self.some_names("s", 2, Stage.WAITING)
+        self.sems = self.some_names("s", 2, Stage.SEMAPHORES)
         self.timers = self.some_names("k", 2, Stage.TIMERS)
         self.queues = self.some_names("q", 2, Stage.QUEUES)
         self.handlers = self.some_names("h", 2, Stage.LANGUAGE)
@@ -146,13 +146,13 @@ class ScriptWriter:
         """The makers of steps about one topic; those of a thread's body may block."""
         plain = {
             Stage.THREADS: [self.scheduling, self.scheduling],
-            Stage.MUTEXES: [self.trylock], Stage.WAITING: [self.sem_plain, self.waking],
+            Stage.MUTEXES: [self.trylock], Stage.SEMAPHORES: [self.sem_plain], Stage.WAITING: [self.waking],
             Stage.SIGNALS: [self.sending, self.sending], Stage.TIMERS: [self.timing, self.timing],
             Stage.QUEUES: [self.notifying], Stage.WHOLE: [self.cancelling]}
         blocking = {
             Stage.SERVERS: [self.napping],
             Stage.MUTEXES: [self.locking, self.locking, self.locking],
-            Stage.WAITING: [self.waiting, self.waiting, self.sleeping, self.sem_wait],
+            Stage.SEMAPHORES: [self.sleeping, self.sem_wait], Stage.WAITING: [self.waiting, self.waiting],
             Stage.SIGNALS: [self.accepting], Stage.TIMERS: [self.accepting],
             Stage.QUEUES: [self.messages, self.messages, self.messages], Stage.WHOLE: [self.ending, self.guarded]}
         found = plain.get(topic, [])
@@ -198,7 +198,7 @@ class ScriptWriter:
         """A critical section, at times one in another, or one that is left open."""
         draw, mutex = self.draw, self.mutex()
         lock = f"lock {mutex}"
-        if self.stage >= Stage.WAITING and draw.random() < 0.3:
+        if self.stage >= Stage.SEMAPHORES and draw.random() < 0.3:
             lock = f"timedlock {mutex} {self.operand()}"
         inner = self.block("thread", 9, draw.randint(0, 3))
         return [lock, *inner] + [f"unlock {mutex}"] * (draw.random() < 0.8)

@@ -14,3 +14,5 @@ mod order;
 mod parts;
 #[cfg(test)]
 mod responses;
+#[cfg(test)]
+mod waiters;
