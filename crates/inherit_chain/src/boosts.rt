@@ -35,9 +35,3 @@ pub(crate) fn owns_boosting(mutexes: &[MutexState], t: Tid) -> bool
     }
     false
 }
-
-pub(crate) fn in_range(exec: &[Prio])
-    ensures { (t : ℕ) → t < length exec.now → 1 ≤ prio_in exec.now t }
-{
-    let _ = exec;
-}
