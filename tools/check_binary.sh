@@ -1,6 +1,6 @@
 #!/usr/bin/env bash
 # Tries the built program by hand's measure: the exit status and the first line of standard output for a script, an empty input, a
-# text that is too long, words that are no command, a closed standard output and a full device. Outside the gate, since bin/pse52
+# text that is too long, words that are no command, traces beside a script, a closed standard output and a full device. Outside the gate, since bin/pse52
 # proves and builds the program where it must.
 set -u
 cd "$(dirname "$0")/.." || exit 1
@@ -38,6 +38,24 @@ try 'a sign' 1 "$usage" run +1
 try 'an empty word' 1 "$usage" run ''
 try 'a word that is not UTF-8' 1 "$usage" run "$(printf '\377')"
 try 'leading zeros' 0 '0 end' run 000 <examples/one_thread.task
+
+# A script, the line %%, and what stands behind it.
+beside() {
+    printf 'thread a fifo 5 at 0\nrun 3\nend\n%%%%\n'
+    "$@"
+}
+
+# The right trace, and line ends behind it up to so many bytes of input.
+line_ends() {
+    cat examples/one_thread.trace
+    head -c "$(($1 - 34 - $(wc -c <examples/one_thread.trace)))" /dev/zero | tr '\0' '\n'
+}
+
+try 'the trace of a script' 0 'same' check 10 < <(beside cat examples/one_thread.trace)
+try 'another trace' 7 'differs 1' check 10 < <(beside cat examples/yield.trace)
+try 'no trace' 8 'no trace' check 10 <examples/one_thread.task
+try 'a script and a trace of the greatest length' 7 'differs 7' check 10 < <(beside line_ends 67108864)
+try 'a script and a trace of one byte more' 3 'too long' check 10 < <(beside line_ends 67108865)
 
 bin/pse52 run 10 <examples/one_thread.task >&-
 expect 'a closed standard output' $? 5 '' ''
