@@ -7,6 +7,7 @@ use Rattle.script_tree.specs.declared.decl.Script.{Script}
 use Rattle.script_flat.specs.Flat as flat
 use Rattle.script_flat.specs.declared.cursor.Cursor.{Cursor}
 use Rattle.sporadic_server.specs.Server.{ServerState, is_high}
+use Rattle.machine_rules.specs.Budget.{KeepsBudgets}
 use Rattle.machine_rules.specs.State.{Machine, Status, Thread, blocked, dormant, ended, runnable}
 use Rattle.machine_rules.specs.Declarations.{ThreadDecl, cleanups_of, threads_of}
 use Rattle.machine_rules.specs.Servers.{has_high}
@@ -22,7 +23,9 @@ use Rattle.machine_flat.specs.KnownCalls.{KnowsObjects, Objects, objects_of}
 use Rattle.machine_flat.specs.Runnable.{CallIsRunnable, IsRunnable}
 use Rattle.script_flat.specs.Fetch.{ops_of}
 use Rattle.machine_laws.specs.Rest.{ServersRest}
-use Rattle.machine_laws.proofs.Good.{serials_throughout}
+use Rattle.machine_laws.proofs.Budgets.Kept.{run_budgets}
+use Rattle.machine_laws.proofs.Good.{lists_throughout, serials_throughout, swept_throughout}
+use Rattle.machine_laws.proofs.Items.{mutexes_throughout, servers_throughout, signals_throughout, waits_throughout}
 use Rattle.machine_laws.proofs.Servers.Rest.{rest_throughout}
 use Rattle.thread_laws.specs.Placeable.{IsPlaceable}
 use Rattle.thread_laws.specs.Within.{HighWithin, IsWithin}
@@ -31,7 +34,7 @@ use Rattle.thread_laws.proofs.MadeCalls.{all_made, all_weaker}
 use Rattle.thread_laws.proofs.Within.{threads_are_within}
 use Rattle.thread_blocks.specs.Room.{HasRoom, ServerHasRoom}
 use Rattle.thread_blocks.specs.Unused.{IsUnused}
-use Rattle.kernel_state.specs.Kernel.{opened}
+use Rattle.kernel_state.specs.Kernel.{Kernel, opened}
 use Rattle.kernel_events.specs.Built.{IsBuilt, objects_in}
 use Rattle.rt_kernel.specs.Counts.{counts_in}
 use Rattle.rt_kernel.specs.Fits.{Fits, StaysFit}
@@ -140,6 +143,15 @@ module _ (script : Script) (ok : IsRunnable script) (fits : IsWellFormed script)
         serial = serials_left (counts_in (objects_of script)) (ap length ok.timers) (ap length ok.queues) m (let few = ok.few in let c = held.counted in omega (arith, few, c)) objects.1 ((serials_throughout bodies ranges script fits).each n most);
         threads = held.counted;
         counts = objects.0;
+        good = record {
+          lists = (lists_throughout bodies ranges script fits).each n most;
+          mutexes = (mutexes_throughout bodies ranges script fits).each n most;
+          servers = (servers_throughout bodies ranges script fits).each n most;
+          waits = (waits_throughout bodies ranges script fits).each n most;
+          signals = (signals_throughout bodies ranges script fits).each n most;
+          serials = (serials_throughout bodies ranges script fits).each n most;
+          swept = (swept_throughout bodies ranges script fits).each n most;
+        };
       }
 
   pub script_fits : StaysFit (opened script) (objects_in (opened script))
@@ -147,3 +159,9 @@ module _ (script : Script) (ok : IsRunnable script) (fits : IsWellFormed script)
     each = λ n most.
         subst (λ (o : Objects). Fits o (code_of script) (after_items (flat_bodies (code_of script)) (opening script) n most)) (sym (objects_opened script)) (fits_after n most);
   }
+
+-- and each server keeps its budget, at each instant of a run and between its items
+pub budgets_kept : (script : Script) → IsWellFormed script → (k : Kernel) → k ≡ opened script → (n most : ℕ) → KeepsBudgets (flat_bodies k.code) k.machine n most
+budgets_kept script fits k is n most =
+    subst (λ (x : Kernel). KeepsBudgets (flat_bodies x.code) x.machine n most) (sym is)
+    (run_budgets (flat_bodies (code_of script)) (flat_bodies_fit script fits.priorities) script fits n most)

@@ -19,6 +19,7 @@ use Rattle.kernel_sync.specs.Waits.{OnlyBuiltWaits}
 use Rattle.kernel_events.specs.Handled.{CanHandle}
 use Rattle.rt_kernel.specs.Completes.{CanTick}
 use Rattle.rt_kernel.specs.Counts.{counts_in, counts_of}
+use Rattle.rt_kernel.specs.Good.{IsGood}
 
 -- a thread that may have a tick
 pub record FitsThread (o : Objects) (code : flat.Bodies (List Op)) (now : ℕ) (th : Thread Cursor) : Type 0 where
@@ -37,6 +38,7 @@ pub record Fits (o : Objects) (code : flat.Bodies (List Op)) (m : Machine Cursor
   pub serial : HasSerials m
   pub threads : length m.threads ≡ o.threads
   pub counts : counts_of m ≡ counts_in o
+  pub good : IsGood (flat_bodies code) m
 
 -- a thread of a machine may have a tick
 pub record FitsTick (o : Objects) (code : flat.Bodies (List Op)) (m : Machine Cursor) (t : ℕ) : Type 0 where

@@ -1,3 +1,4 @@
+pub mod Good
 pub mod Counts
 pub mod Completes
 pub mod Fits

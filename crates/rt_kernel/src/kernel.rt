@@ -1,8 +1,10 @@
 // The kernel of a script.
-ghost use Rattle.std.specs.Prelude.{◌≡◌, ◌≤◌, ◌<◌, ◌+◌, ◌-◌, ◌^◌, [], length, false, true, option_map, IfOk};
+ghost use Rattle.std.specs.Prelude.{ℕ, ◌≡◌, ◌≤◌, ◌<◌, ◌+◌, ◌-◌, ◌^◌, [], length, false, true, option_map, IfOk};
 ghost use Rattle.pse52_trace.specs.Prints.{Prints};
 ghost use Rattle.pse52_trace.specs.Tells.{Tells};
 ghost use Rattle.sporadic_server.specs.Server.{totals};
+ghost use Rattle.script_tree.specs.declared.decl.Script as tree;
+ghost use Rattle.machine_rules.specs.Budget.{KeepsBudgets};
 ghost use Rattle.machine_rules.specs.Machine.{closing};
 ghost use Rattle.machine_rules.specs.Runs.{ticks};
 ghost use Rattle.machine_rules.specs.Threads.{thread_at};
@@ -13,6 +15,7 @@ ghost use Rattle.kernel_state.specs.Kernel.{opened, ran};
 ghost use Rattle.kernel_state.specs.Stood.{StoodRight};
 ghost use Rattle.kernel_events.specs.Built.{objects_in};
 ghost use Rattle.rt_kernel.specs.Fits.{StaysFit};
+ghost use Rattle.rt_kernel.specs.Good.{IsGood};
 ghost use Rattle.rt_kernel.specs.Ran.{ticked_by};
 
 use crate::run::{RunEnd, run_ticks};
@@ -112,6 +115,11 @@ impl Kernel {
         ensures later { self.old.machine.now ≤ self.new.machine.now }
         ensures not_beyond { self.new.machine.now ≤ horizon }
         ensures steps { steps.new + self.old.machine.now ≡ steps.old + self.new.machine.now }
+
+        // The state that it leaves is good, and each server keeps its budget in the runs of well formed scripts.
+        ensures good { result ≡ RunEnd.Ended → IsGood (flat_bodies self.new.code) self.new.machine }
+        ensures budgets { (script : tree.Script) → IsWellFormed script → self.old ≡ opened script
+            → (n k : ℕ) → KeepsBudgets (flat_bodies self.old.code) self.old.machine n k }
     {
         run_ticks(&mut self.parts, horizon, out, steps)
     }
