@@ -36,7 +36,7 @@ kept_others records n v (a ∷ order) h =
     let rest : records_of (set records n v) order ≡ records_of records order = kept_others records n v order later in
     ap₂ (λ (r : SignalRecord) (rs : List SignalRecord). r ∷ rs) first rest
 
-records_back : (records : List SignalRecord) (a : Arrival) (order : List Arrival) → records_of records (order ++ a ∷ []) ≡ records_of records order ++ record_of records a ∷ []
+pub records_back : (records : List SignalRecord) (a : Arrival) (order : List Arrival) → records_of records (order ++ a ∷ []) ≡ records_of records order ++ record_of records a ∷ []
 records_back records a [] = refl
 records_back records a (b ∷ order) = ap (λ (rs : List SignalRecord). record_of records b ∷ rs) (records_back records a order)
 
@@ -71,7 +71,7 @@ count_if false r rs = omega arith
 count_first : (r : SignalRecord) (rs : List SignalRecord) → counted_in (r ∷ rs) ≡ weight_of r.code + counted_in rs
 count_first r rs = count_if (is_counted r.code) r (filter (λ (r : SignalRecord). is_counted r.code) rs)
 
-count_with : (xs : List SignalRecord) (v : SignalRecord) → counted_in (xs ++ v ∷ []) ≡ counted_in xs + weight_of v.code
+pub count_with : (xs : List SignalRecord) (v : SignalRecord) → counted_in (xs ++ v ∷ []) ≡ counted_in xs + weight_of v.code
 count_with [] v = count_first v [] ∙ omega arith
 count_with (x ∷ xs) v = omega (arith, count_first x (xs ++ v ∷ []), count_with xs v, count_first x xs)
 

@@ -1,3 +1,4 @@
+pub mod Ages
 pub mod Keeping
 pub mod Selecting
 pub mod Walking

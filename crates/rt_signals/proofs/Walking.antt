@@ -1,10 +1,11 @@
 -- A walk along the nodes of one rank.
 use Rattle.std.specs.Prelude.{slice_index_or}
 use Rattle.std.specs.List.{AllByRecursion}
-use Rattle.std.proofs.Common.{◌≡◌, ◌≢◌, ℕ, zero, suc, ◌+◌, ◌<◌, ◌≤◌, ◌==◌, ◌&&◌, Bool, true, false, Option, Some, None, List, [], ◌∷◌, length, get_or, if◌then◌else◌, refl, sym, ap, subst, ◌∙◌, arith}
+use Rattle.std.proofs.Common.{◌≡◌, ◌≢◌, ℕ, zero, suc, ◌+◌, ◌<◌, ◌≤◌, ◌==◌, ◌&&◌, Bool, true, false, Option, Some, None, List, [], ◌∷◌, ◌++◌, length, get_or, if◌then◌else◌, refl, sym, ap, subst, ◌∙◌, arith}
 use Rattle.std.proofs.lemmas.Bool.Decides.{nat_tests}
 use Rattle.machine_rules.specs.State.{SignalRecord}
-use Rattle.ranked_arrivals.specs.Arrivals.{Arrival, AreDistinct, IsArrival, first_of_rank, has_come, next_of_rank}
+use Rattle.ranked_arrivals.specs.Arrivals.{Arrival, AreDistinct, IsArrival, first_of_rank, has_come, next_in_order, next_of_rank, oldest}
+use Rattle.rt_signals.specs.Ages.{before, before_node}
 use Rattle.rt_signals.specs.Kept.{record_at, record_of}
 use Rattle.rt_signals.specs.Walks.{first_wanted, is_wanted, rank_of, rest_of, since}
 use Rattle.rt_signals.specs.declared.choice.Wanted.{Wanted}
@@ -25,6 +26,8 @@ pub record IsSplit (n : ℕ) (order : List Arrival) (a : Arrival) (tail : List A
   pub node : a.node ≡ n
   pub rank : a.rank ≡ rank_of n order
   pub next : next_of_rank n order ≡ first_of_rank a.rank tail
+  pub after : next_in_order n order ≡ oldest tail
+  pub next_before : before (oldest tail) order ≡ before_node n order ++ a ∷ []
   pub later : (m : ℕ) → has_come m tail ≡ true → (since m order ≡ since m tail) × (has_come m order ≡ true) × (rank_of m order ≡ rank_of m tail)
   pub apart : AreDistinct tail
 
@@ -32,6 +35,23 @@ pub record Split (n : ℕ) (order : List Arrival) : Type 0 where
   pub first : Arrival
   pub tail : List Arrival
   pub is : IsSplit n order first tail
+
+pub oldest_in : (m : ℕ) (order : List Arrival) → oldest order ≡ Some m → has_come m order ≡ true
+oldest_in m [] e = cc
+oldest_in m (a ∷ order) e =
+    let node : a.node ≡ m = cc in let same : (a.node == m) ≡ true = grind (arith, nat_tests, node) in
+    ap (λ b. if b then true else has_come m order) same
+
+before_next : (a : Arrival) (order : List Arrival) → has_come a.node order ≡ false → before (oldest order) (a ∷ order) ≡ a ∷ []
+before_next a [] fresh = refl
+before_next a (b ∷ order) fresh =
+    let same : (b.node == b.node) ≡ true = grind (arith, nat_tests) in
+    ap (λ c. if c then [] else a ∷ before_node b.node (b ∷ order)) (other_node a b.node (b ∷ order) fresh (oldest_in b.node (b ∷ order) refl))
+    ∙ ap (λ c. a ∷ (if c then [] else b ∷ before_node b.node order)) same
+
+before_past : (a : Arrival) (order : List Arrival) (o : Option ℕ) → has_come a.node order ≡ false → ((m : ℕ) → o ≡ Some m → has_come m order ≡ true) → before o (a ∷ order) ≡ a ∷ before o order
+before_past a order None fresh in_it = refl
+before_past a order (Some m) fresh in_it = ap (λ c. if c then [] else a ∷ before_node m order) (other_node a m order fresh (in_it m refl))
 
 here : (n : ℕ) (a : Arrival) (order : List Arrival) → (a.node == n) ≡ true → has_come a.node order ≡ false → AreDistinct order → Split n (a ∷ order)
 here n a order same fresh d = record {
@@ -42,6 +62,8 @@ here n a order same fresh d = record {
     node = grind (arith, nat_tests, same);
     rank = sym (ap (λ b. if b then a.rank else rank_of n order) same);
     next = ap (λ b. if b then first_of_rank a.rank order else next_of_rank n order) same;
+    after = ap (λ b. if b then oldest order else next_in_order n order) same;
+    next_before = before_next a order fresh ∙ sym (ap (λ b. (if b then [] else a ∷ before_node n order) ++ a ∷ []) same);
     later = λ m came. let off = other_node a m order fresh came in (
       ap (λ b. if b then a ∷ order else since m order) off,
       ap (λ b. if b then true else has_come m order) off ∙ came,
@@ -60,6 +82,9 @@ there n a order other fresh s = record {
     node = s.is.node;
     rank = s.is.rank ∙ sym (ap (λ b. if b then a.rank else rank_of n order) other);
     next = ap (λ b. if b then first_of_rank a.rank order else next_of_rank n order) other ∙ s.is.next;
+    after = ap (λ b. if b then oldest order else next_in_order n order) other ∙ s.is.after;
+    next_before = before_past a order (oldest s.tail) fresh (λ m e. (s.is.later m (oldest_in m s.tail e)).1)
+        ∙ ap (λ (xs : List Arrival). a ∷ xs) s.is.next_before ∙ sym (ap (λ b. (if b then [] else a ∷ before_node n order) ++ s.first ∷ []) other);
     later = λ m came. let l = s.is.later m came in let off = other_node a m order fresh l.1 in (
       ap (λ b. if b then a ∷ order else since m order) off ∙ l.0,
       ap (λ b. if b then true else has_come m order) off ∙ l.1,
@@ -192,3 +217,16 @@ pub read_record : (records : List SignalRecord) (n : ℕ) (v : SignalRecord) →
 read_record [] n v e l = absurd (omega (arith, l))
 read_record (x ∷ records) zero v e l = e
 read_record (x ∷ records) (suc n) v e l = read_record records n v e (omega (arith, l))
+
+-- ---- all by age
+
+pub rest_oldest : (order : List Arrival) → rest_of (oldest order) order ≡ order
+rest_oldest [] = refl
+rest_oldest (a ∷ order) = let same : (a.node == a.node) ≡ true = grind (arith, nat_tests) in ap (λ b. if b then a ∷ order else since a.node order) same
+
+pub later_rest : (order : List Arrival) (n : ℕ) (s : Split n order) → rest_of (oldest s.tail) order ≡ s.tail
+later_rest order n s = at (oldest s.tail) (λ m e. oldest_in m s.tail e) ∙ rest_oldest s.tail
+  where
+    at : (o : Option ℕ) → ((m : ℕ) → o ≡ Some m → has_come m s.tail ≡ true) → rest_of o order ≡ rest_of o s.tail
+    at None in_tail = refl
+    at (Some m) in_tail = (s.is.later m (in_tail m refl)).0

@@ -1,3 +1,4 @@
+pub mod Ages
 pub mod Choice
 pub mod Kept
 pub mod Walks

@@ -5,6 +5,7 @@
 //! at. The room for all records that can be pending is taken by `open`, and no later call takes memory.
 #![tactic(auto)]
 
+mod by_age;
 mod choice;
 mod pending;
 mod record;

@@ -1,17 +1,21 @@
 // The pending records.
 ghost use Rattle.std.specs.Prelude.{◌≡◌, ◌≤◌, ◌<◌, ◌&&◌, ◌||◌, not, ℕ, ◌++◌, ◌∷◌, [], All, Contains, nat_le, length, replicate, IfOk, IfSome};
 ghost use Rattle.tick_num.specs.Signals.{has_signal};
+ghost use Rattle.std.specs.List.{list_any};
+ghost use Rattle.machine_rules.specs.Lists.{is};
+ghost use Rattle.machine_rules.specs.Lives.{without_target};
 ghost use Rattle.machine_rules.specs.Signals.{record_limit, without_record};
 ghost use Rattle.machine_rules.specs.State as machine;
 ghost use Rattle.rt_signals.specs.Choice.{is_in_set, may_take, selected_in, without_one};
-ghost use Rattle.rt_signals.specs.Kept.{counted_in, no_record, room, weight_of};
+ghost use Rattle.rt_signals.specs.Kept.{counted_in, no_record, room};
 
+use crate::by_age::{Source, drop_for, is_any_from, weight};
 use crate::choice::{Wanted, first_wanted, lowest};
 use crate::record::SignalRecord;
 use ranked_arrivals::Arrivals;
 use std::alloc::{AllocError, Global};
 use std::marker::Model;
-use tick_num::{SigCode, SigSet, Tid};
+use tick_num::{ObjId, SigSet, Tid};
 
 // The room for records: 64 of kill, tkill and sigqueue, 32 of timers, and 16 of queues.
 const ROOM: u32 = 112;
@@ -49,17 +53,6 @@ fn let_through(mask: SigSet, kills: SigSet, runs_handlers: bool) -> SigSet
         SigSet::new(!mask.bits())
     } else {
         SigSet::new(kills.bits() & !mask.bits())
-    }
-}
-
-// How much a record of this code counts towards the limit.
-fn weight(code: SigCode) -> u32
-    ensures value { result ≡ weight_of code }
-    ensures small { result ≤ 1 }
-{
-    match code {
-        SigCode::User | SigCode::Queue => 1,
-        SigCode::Timer | SigCode::Mesgq => 0,
     }
 }
 
@@ -157,5 +150,26 @@ impl Pending {
         self.arrivals.leave(node);
         let kept = self.records[node as usize];
         self.counted -= weight(kept.code());
+    }
+
+    /// The records that are for the thread are no longer pending.
+    pub fn drop_for(&mut self, t: Tid)
+        ensures { self.new ≡ without_target t self.old }
+    {
+        self.counted = drop_for(&mut self.arrivals, &self.records, t);
+    }
+
+    /// Whether a record of the timer is pending.
+    pub fn is_pending_from_timer(&self, k: ObjId) -> bool
+        ensures { result ≡ list_any (λ (r : machine.SignalRecord). is r.timer k) self.now }
+    {
+        is_any_from(&self.arrivals, &self.records, &Source::Timer(k))
+    }
+
+    /// Whether a record of the queue's notification is pending.
+    pub fn is_pending_from_queue(&self, q: ObjId) -> bool
+        ensures { result ≡ list_any (λ (r : machine.SignalRecord). is r.queue q) self.now }
+    {
+        is_any_from(&self.arrivals, &self.records, &Source::Queue(q))
     }
 }
