@@ -205,7 +205,10 @@ fn a_trace_may_be_longer_than_a_script(rt: HostRuntime) -> Result<(), Fail> {
     let alloc = rt.alloc();
     let found = check(alloc, with_line_ends(alloc, LONG_TRACE)?)?;
     assert_eq!(rt; found.0, Status::Differs);
-    assert_eq!(rt; found.1.text(), b"differs 7\nwant nothing\nhave text\n".as_slice());
+    assert_eq!(rt;
+        found.1.text(),
+        b"differs 7\nwant nothing\nhave text\n".as_slice()
+    );
     Ok(())
 }
 
