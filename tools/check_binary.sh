@@ -52,7 +52,7 @@ line_ends() {
 }
 
 try 'the trace of a script' 0 'same' check 10 < <(beside cat examples/one_thread.trace)
-try 'another trace' 7 'differs 1' check 10 < <(beside cat examples/yield.trace)
+try 'another trace' 7 'differs 2' check 10 < <(beside cat examples/yield.trace)
 try 'no trace' 8 'no trace' check 10 <examples/one_thread.task
 try 'a script and a trace of the greatest length' 7 'differs 7' check 10 < <(beside line_ends 67108864)
 try 'a script and a trace of one byte more' 3 'too long' check 10 < <(beside line_ends 67108865)

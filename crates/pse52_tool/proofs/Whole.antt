@@ -1,6 +1,6 @@
 -- The answer to a text that was read whole.
-use Rattle.std.proofs.Common.{◌≡◌, ◌≤◌, ℕ, List, [], ◌++◌, length, ◌∙◌, refl, sym, ap, subst, rules, append-nil, Bool, true, false, Option, None, Some, IfSome}
-use Rattle.std.specs.Prelude.{nat_lt, if◌then◌else◌}
+use Rattle.std.proofs.Common.{◌≡◌, ◌≤◌, ℕ, List, ◌++◌, length, ◌∙◌, refl, sym, ap, subst, rules, append-nil, false, Option, None, Some, IfSome}
+use Rattle.std.specs.Prelude.{nat_lt}
 use Rattle.std.specs.Io.KnownBytes.{Consumes, IsAtEnd}
 use Rattle.pse52_tool.specs.declared.status.Status.{Status}
 use Rattle.pse52_tool.specs.declared.command.Command.{Command}

@@ -1,13 +1,12 @@
 // Whether a trace is that of a script's run.
-ghost use Rattle.std.specs.Prelude.{◌≡◌, ◌≤◌, ◌<◌, ◌+◌, ◌^◌, Some, length, option_map, IfOk};
-ghost use Rattle.std.specs.Io.KnownBytes.{Appends};
+ghost use Rattle.std.specs.Prelude.{◌≡◌, ◌≤◌, ◌<◌, ◌+◌, ◌^◌, length, option_map, IfOk};
 ghost use Rattle.script_table.specs.Table.{patterns};
 ghost use Rattle.script_table.specs.Read.{read};
 ghost use Rattle.machine_rules.specs.Machine.{trace};
 ghost use Rattle.machine_flat.specs.Runnable.{IsRunnable};
 ghost use Rattle.trace_check.specs.Comparison.{comparison};
 ghost use Rattle.trace_check.specs.Divided.{divided};
-ghost use Rattle.pse52_tool.specs.Answer.{Told, SinkFaults, compared_answer, divided_answer, head_answer, no_trace_line, too_long_line, trace_answer};
+ghost use Rattle.pse52_tool.specs.Answer.{Told, SinkFaults, compared_answer, divided_answer, trace_answer};
 
 use crate::Status;
 use crate::message::refused_line;
