@@ -3,6 +3,7 @@ ghost use Rattle.std.specs.Prelude.{◌≡◌, ◌≤◌, ◌<◌, ◌+◌, ◌^
 ghost use Rattle.script_table.specs.Table.{patterns};
 ghost use Rattle.script_table.specs.Read.{read};
 ghost use Rattle.machine_rules.specs.Machine.{trace};
+ghost use Rattle.machine_rules.specs.WellFormed.{IsWellFormed};
 ghost use Rattle.machine_flat.specs.Runnable.{IsRunnable};
 ghost use Rattle.trace_check.specs.Comparison.{comparison};
 ghost use Rattle.trace_check.specs.Divided.{divided};
@@ -33,6 +34,7 @@ fn compare_in<R: Room, L: Ledger>(
     steps: &mut Steps<L>,
 ) -> Result<Option<Difference>, AllocError>
     requires runnable { IsRunnable script.now }
+    requires well_formed { IsWellFormed script.now }
     requires limit { horizon ≤ 10 ^ 18 }
     requires small { room < 2 ^ 40 }
     requires enough { length have.now + 257 ≤ room }
@@ -53,6 +55,7 @@ fn difference_of<L: Ledger>(
     steps: &mut Steps<L>,
 ) -> Result<Option<Difference>, AllocError>
     requires runnable { IsRunnable script.now }
+    requires well_formed { IsWellFormed script.now }
     requires limit { horizon ≤ 10 ^ 18 }
     requires short { length have.now ≤ 67_108_864 }
     ensures { IfOk result (λ told. option_map (λ text. text.items) told ≡ comparison have.now (trace script.now horizon)) }
@@ -71,6 +74,7 @@ fn check_script<K: Sink, L: Ledger>(
     steps: &mut Steps<L>,
 ) -> Status
     requires runnable { IsRunnable script.now }
+    requires well_formed { IsWellFormed script.now }
     requires limit { horizon ≤ 10 ^ 18 }
     requires short { length have.now ≤ 67_108_864 }
     ensures told { Told result (trace_answer (comparison have.now (trace script.now horizon))) (K.text sink.old) (K.text sink.new) }

@@ -81,6 +81,7 @@ pub(crate) fn print_run<K: Sink, L: Ledger>(
     steps: &mut Steps<L>,
 ) -> Result<bool, AllocError>
     requires runnable { IsRunnable script.now }
+    requires well_formed { IsWellFormed script.now }
     requires limit { horizon ≤ 10 ^ 18 }
     ensures printed { IfOk result (λ failed. Printed (outlet K.text K.faults false sink.old) (outlet K.text K.faults failed sink.new)
         (trace script.now horizon)) }
