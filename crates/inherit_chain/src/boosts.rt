@@ -1,5 +1,5 @@
 // Whether a thread owns a mutex that can raise its priority.
-ghost use Rattle.std.specs.Prelude.{◌≡◌, filter};
+ghost use Rattle.std.specs.Prelude.{◌≡◌, filter, length};
 ghost use Rattle.std.specs.List.{list_any};
 ghost use Rattle.machine_rules.specs.Lists.{is};
 ghost use Rattle.machine_rules.specs.Mutexes.{is_boosting};
@@ -33,4 +33,18 @@ pub(crate) fn owns_boosting(mutexes: &[MutexState], t: Tid) -> bool
         }
     }
     false
+}
+
+/// How many mutexes the thread owns.
+#[tactic(auto, using(crate::proofs::Owned::counted_more))]
+pub(crate) fn owned_count(mutexes: &[MutexState], t: Tid) -> usize
+    ensures { result ≡ length (filter (λ (k : Mutex). is k.owner t) mutexes.now) }
+{
+    let mut count = 0;
+    for k in mutexes {
+        if k.is_owned_by(t) {
+            count += 1;
+        }
+    }
+    count
 }

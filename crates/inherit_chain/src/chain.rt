@@ -10,7 +10,7 @@ ghost use Rattle.inherit_chain.specs.Chains.{Links, OwnersAreThreads, SameExec, 
 ghost use Rattle.inherit_chain.specs.Fresh.{fresh};
 ghost use Rattle.inherit_chain.specs.Moves.{Changes, IsPlaced, entered, left};
 
-use crate::boosts::owns_boosting;
+use crate::boosts::{owned_count, owns_boosting};
 use crate::changes::{begin_wait, change_base, end_wait, recount, release, take};
 use crate::claims::{
     MutexKind, MutexState, ThreadClaim, free_mutexes, fresh_claims, leads_to, lowest,
@@ -99,6 +99,13 @@ impl Chain {
         ensures { result ≡ list_any (λ (k : Mutex). is_boosting k.protocol) (filter (λ (k : Mutex). is k.owner t) self.now.mutexes) }
     {
         owns_boosting(&self.mutexes, t)
+    }
+
+    /// How many mutexes the thread owns.
+    pub fn owned_count(&self, t: Tid) -> usize
+        ensures { result ≡ length (filter (λ (k : Mutex). is k.owner t) self.now.mutexes) }
+    {
+        owned_count(&self.mutexes, t)
     }
 
     /// Costs nothing when it runs: each owner of a mutex is a thread.

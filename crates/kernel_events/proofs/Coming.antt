@@ -1,6 +1,6 @@
 -- A thread that came to run has a direct move.
 use Rattle.std.proofs.Common.{◌≡◌, ℕ, zero, suc, List, [], ◌∷◌, ◌++◌, Bool, true, false, ap, arith, refl, sym, ◌∙◌}
-use Rattle.std.specs.Prelude.{None, Option, Some, ◌==◌, ◌&&◌, nat_lt, not, pred, slice_index_or, if◌then◌else◌}
+use Rattle.std.specs.Prelude.{None, Option, Some, ◌==◌, ◌&&◌, ◌||◌, length, nat_lt, not, option_and_then, pred, slice_index_or, if◌then◌else◌}
 use Rattle.thread_lists.specs.Threads.{stands_in}
 use Rattle.tick_num.specs.declared.item.Item.{Item}
 use Rattle.tick_num.specs.declared.item.Item.TheVariants as item
@@ -23,16 +23,17 @@ use Rattle.machine_rules.specs.Servers.{activates_if, activates_server, amount_o
 use Rattle.machine_rules.specs.Waking.{blocks, call_in, cancelled_value, ending_with, put_to_wait, started, starts, wakes, wakes_cancelled, wakes_telling, woken}
 use Rattle.machine_rules.specs.Lives.{inherited_mask}
 use Rattle.machine_rules.specs.Scheduling.{takes_priority, with_policy, with_priority}
-use Rattle.machine_rules.specs.Mutexes.{LockAnswer, counted_up, counts, hands_over, lock_answer, locks_on, must_wait, owns, owns_boosting, refused, releases, returns_from_wait, taken_by, takes, trylock_answer, unless_late, unlocks, waits_for_mutex, wakes_owner}
+use Rattle.machine_rules.specs.Mutexes.{LockAnswer, counted_up, counts, hands_over, is_free, lock_answer, locks_on, must_wait, owned_by, owns, owns_boosting, refused, releases, returns_from_wait, taken_by, takes, trylock_answer, unless_late, unlocks, waits_for_mutex, wakes_owner}
+use Rattle.machine_rules.specs.Conditions.{contends, contends_for, released_mutex, signals_best, signals_best_of, signals_waiter, waits, waits_on_condition, waits_with_other_mutex}
 use Rattle.machine_rules.specs.Semaphores.{posts_to, semaphore_limit, waits_on_semaphore, waits_semaphore}
-use Rattle.machine_rules.specs.Waiters.{Waiter, best_waiter}
+use Rattle.machine_rules.specs.Waiters.{Waiter, best_waiter, somebody_waits, waiters}
 use Rattle.machine_rules.specs.Calls.{call_effect}
 use Rattle.machine_rules.specs.DueItems.{handles, times_out, times_out_of}
 use Rattle.machine_rules.proofs.Reading.{changed-keeps, thread-other}
 use Rattle.machine_flat.specs.KnownCalls.{Objects}
 use Rattle.kernel_events.specs.Built.{IsBuilt}
 use Rattle.kernel_state.specs.Due.{IsKnown}
-use Rattle.kernel_sync.specs.Waits.{AreBuiltWaits, IsBuiltWait}
+use Rattle.kernel_sync.specs.Waits.{AreBuiltWaits, IsBuiltWait, OnlyBuiltWaits}
 use Rattle.kernel_state.proofs.StoodAgain.{HaveCome}
 
 last_in : (t : ℕ) (us : List ℕ) → stands_in t (us ++ t ∷ []) ≡ true
@@ -108,28 +109,7 @@ refills_fewer t (Some server) s u r =
     let told = tells (event.Refill t (amount_of (oldest_pending server)) (refill server).capacity) (changes t (with_server refill) s) in
     changes_fewer t (with_server refill) s (λ h. h) u (activates_if_fewer (regains_high server && can_run s.machine t) t told u r)
 
--- ---- items
-
-times_out_of_come : {P : Type 0} (x : Wait) (t : ℕ) (s : Turn P) → IsBuiltWait x → HaveCome s.machine (times_out_of x t s).direct (times_out_of x t s).machine
-times_out_of_come (for_mutex k) t s built = wakes_come t res.Timedout 0 s
-times_out_of_come (for_semaphore k) t s built = wakes_come t res.Timedout 0 s
-times_out_of_come for_time t s built = wakes_come t res.Zero 0 s
-times_out_of_come _ t s built = absurd built
-
-times_out_come : {P : Type 0} (w : Option Waiting) (t : ℕ) (s : Turn P) → AreBuiltWaits w → HaveCome s.machine (times_out w t s).direct (times_out w t s).machine
-times_out_come None t s built = fewer_come s.machine s.machine s.direct (λ u r. r)
-times_out_come (Some w) t s built = times_out_of_come w.wait t s built
-
-pub handles_come : {P : Type 0} (bodies : Bodies P) (n : ℕ) (i : Item) (s : Turn P) → IsKnown n i → ((t : ℕ) → AreBuiltWaits (waiting_of s.machine t)) →
-    HaveCome s.machine (handles bodies i s).direct (handles bodies i s).machine
-handles_come bodies n (item.Refill t) s known waits =
-    let o = (thread_at s.machine t).server in
-    fewer_come s.machine (refills_for t o s).machine (refills_for t o s).direct (refills_fewer t o s)
-handles_come bodies n (item.Start t) s known waits = starts_come bodies t 0 s
-handles_come bodies n (item.Timeout t) s known waits = times_out_come (waiting_of s.machine t) t s (waits t)
-handles_come bodies n (item.Timer k) s known waits = absurd known
-
--- ---- calls
+-- ---- one step
 
 returns_fewer : {P : Type 0} (b : By) (r : Res) (value : ℕ) (s : Turn P) → Fewer s.machine (returns b r value s).machine
 returns_fewer b r value s = changes_fewer b.thread (answered r value) s (λ h. h)
@@ -223,6 +203,112 @@ unlocks_come b k s =
     (if_come (nat_lt 1 (mutex_at s.machine k).count) _ _ s (returns_come b res.Zero 0 s)
     (returned_come b res.Zero 0 (releases k) s (hands_over_come (best_waiter (returns b res.Zero 0 s).machine (waits_for_mutex k)) k (returns b res.Zero 0 s))))
 
+-- ---- conditions
+
+contends_for_come : {P : Type 0} (o : Option ℕ) (t : ℕ) (how : CondEnd) (s : Turn P) → Comes s (contends_for o t how s)
+contends_for_come None t how s = fewer_come s.machine s.machine s.direct (λ u r. r)
+contends_for_come (Some k) t how s =
+    if_come (is_free s.machine k) _ _ s (returns_from_wait_come how t (changes_mutex k (taken_by t) s)) (blocks_come (record { thread = t; call = call_in (waiting_of s.machine t) }) (for_mutex_again k how) None s)
+
+contends_come : {P : Type 0} (t : ℕ) (how : CondEnd) (s : Turn P) → Comes s (contends t how s)
+contends_come t how s = contends_for_come (option_and_then (λ (w : Waiting). released_mutex w.wait) (waiting_of s.machine t)) t how s
+
+-- where nobody came before
+fewer_before : {P : Type 0} (s x r : Turn P) → Fewer s.machine x.machine → Comes x r → Comes s r
+fewer_before s x r fewer come u off runs = by_run (can_run x.machine u) refl
+  where
+    by_run : (b : Bool) → can_run x.machine u ≡ b → stands_in u r.direct ≡ true
+    by_run true e = not_both (can_run s.machine u) off (fewer u e)
+    by_run false e = come u e runs
+
+blocks_fewer : {P : Type 0} (b : By) (wait : Wait) (due : Option ℕ) (s : Turn P) → Fewer s.machine (blocks b wait due s).machine
+blocks_fewer b wait due s = changes_fewer b.thread (put_to_wait (record { wait = wait; serial = s.machine.next_serial; due = due; call = b.call })) s (λ h. absurd cc)
+
+waits_come : {P : Type 0} (b : By) (c k : ℕ) (due : Option ℕ) (s : Turn P) → Comes s (waits b c k due s)
+waits_come b c k due s =
+    let x = blocks b (for_condition c k) due s in
+    if_come (not (owns s.machine b.thread k)) _ _ s (returns_come b res.Perm 0 s)
+    (if_come (nat_lt 1 (mutex_at s.machine k).count || somebody_waits s.machine (waits_with_other_mutex c k)) _ _ s (returns_come b res.Inval 0 s)
+    (if_come (nat_lt 1 (length (owned_by s.machine b.thread))) _ _ s (returns_come b res.Deadlk 0 s)
+    (fewer_before s x (releases k x) (blocks_fewer b (for_condition c k) due s) (hands_over_come (best_waiter x.machine (waits_for_mutex k)) k x))))
+
+signals_waiter_come : {P : Type 0} (o : Option Waiter) (s : Turn P) → Comes s (signals_waiter o s)
+signals_waiter_come None s = fewer_come s.machine s.machine s.direct (λ u r. r)
+signals_waiter_come (Some w) s = contends_come w.thread cond_end.Signalled s
+
+signals_best_come : {P : Type 0} (c : ℕ) (s : Turn P) → Comes s (signals_best c s)
+signals_best_come c s = signals_waiter_come (best_waiter s.machine (waits_on_condition c)) s
+
+-- a direct move stays
+still_in : (t u : ℕ) (us : List ℕ) → stands_in t us ≡ true → stands_in t (us ++ u ∷ []) ≡ true
+still_in t u [] h = absurd (grind arith)
+still_in t u (v ∷ us) h = by_eq (v == t) refl (still_in t u us)
+  where
+    by_eq : (b : Bool) → (v == t) ≡ b → (stands_in t us ≡ true → stands_in t (us ++ u ∷ []) ≡ true) → stands_in t (v ∷ us ++ u ∷ []) ≡ true
+    by_eq true e rest = grind arith
+    by_eq false e rest = let among : stands_in t us ≡ true = grind arith in let k = rest among in grind arith
+
+abbrev KeepsMoves : {P : Type 0} → Turn P → Turn P → Type 0
+KeepsMoves s r = (u : ℕ) → stands_in u s.direct ≡ true → stands_in u r.direct ≡ true
+
+woken_keeps : {P : Type 0} (e : Event) (t : ℕ) (r : Res) (value : ℕ) (s : Turn P) → KeepsMoves s (wakes_telling e t r value s)
+woken_keeps e t r value s u h =
+    let up = tells e (moves t (changes t (woken r value) s)) in
+    ap (stands_in u) (activated_direct t (high_server (thread_at up.machine t).server) up) ∙ still_in u t s.direct h
+
+returned_keeps : {P : Type 0} (how : CondEnd) (t : ℕ) (s : Turn P) → KeepsMoves s (returns_from_wait how t s)
+returned_keeps cond_end.Signalled t s u h = woken_keeps (event.Return t (name_of (call_in (waiting_of s.machine t))) res.Zero 0) t res.Zero 0 s u h
+returned_keeps cond_end.Timedout t s u h = woken_keeps (event.Return t (name_of (call_in (waiting_of s.machine t))) res.Timedout 0) t res.Timedout 0 s u h
+returned_keeps cond_end.Cancelled t s u h = woken_keeps (event.Cancel t) t res.Zero 0 s u h
+
+if_keeps : {P : Type 0} (b : Bool) (x y s : Turn P) → KeepsMoves s x → KeepsMoves s y → KeepsMoves s (if b then x else y)
+if_keeps true x y s h k = h
+if_keeps false x y s h k = k
+
+contends_keeps : {P : Type 0} (o : Option ℕ) (t : ℕ) (how : CondEnd) (s : Turn P) → KeepsMoves s (contends_for o t how s)
+contends_keeps None t how s u h = h
+contends_keeps (Some k) t how s = if_keeps (is_free s.machine k) _ _ s (λ u h. returned_keeps how t (changes_mutex k (taken_by t) s) u h) (λ u h. h)
+
+signalled_keeps : {P : Type 0} (o : Option Waiter) (s : Turn P) → KeepsMoves s (signals_waiter o s)
+signalled_keeps None s u h = h
+signalled_keeps (Some w) s u h = contends_keeps (option_and_then (λ (v : Waiting). released_mutex v.wait) (waiting_of s.machine w.thread)) w.thread cond_end.Signalled s u h
+
+both_come : {P : Type 0} (s x r : Turn P) → Comes s x → Comes x r → KeepsMoves x r → Comes s r
+both_come s x r first second keeps u off runs = by_run (can_run x.machine u) refl
+  where
+    by_run : (b : Bool) → can_run x.machine u ≡ b → stands_in u r.direct ≡ true
+    by_run true e = keeps u (first u off e)
+    by_run false e = second u e runs
+
+signals_best_of_come : {P : Type 0} (n c : ℕ) (s : Turn P) → Comes s (signals_best_of n c s)
+signals_best_of_come zero c s = fewer_come s.machine s.machine s.direct (λ u r. r)
+signals_best_of_come (suc n) c s =
+    let x = signals_best_of n c s in
+    both_come s x (signals_best c x) (signals_best_of_come n c s) (signals_best_come c x) (signalled_keeps (best_waiter x.machine (waits_on_condition c)) x)
+
+-- ---- items
+
+times_out_of_come : {P : Type 0} (n : ℕ) (x : Wait) (t : ℕ) (s : Turn P) → IsBuiltWait n x → HaveCome s.machine (times_out_of x t s).direct (times_out_of x t s).machine
+times_out_of_come n (for_mutex k) t s built = wakes_come t res.Timedout 0 s
+times_out_of_come n (for_mutex_again k how) t s built = wakes_come t res.Timedout 0 s
+times_out_of_come n (for_condition c k) t s built = contends_come t cond_end.Timedout s
+times_out_of_come n (for_semaphore k) t s built = wakes_come t res.Timedout 0 s
+times_out_of_come n for_time t s built = wakes_come t res.Zero 0 s
+times_out_of_come n _ t s built = absurd built
+
+times_out_come : {P : Type 0} (n : ℕ) (w : Option Waiting) (t : ℕ) (s : Turn P) → AreBuiltWaits n w → HaveCome s.machine (times_out w t s).direct (times_out w t s).machine
+times_out_come n None t s built = fewer_come s.machine s.machine s.direct (λ u r. r)
+times_out_come n (Some w) t s built = times_out_of_come n w.wait t s built
+
+pub handles_come : {P : Type 0} (bodies : Bodies P) (n : ℕ) (i : Item) (s : Turn P) → IsKnown n i → OnlyBuiltWaits s.machine →
+    HaveCome s.machine (handles bodies i s).direct (handles bodies i s).machine
+handles_come bodies n (item.Refill t) s known waits =
+    let o = (thread_at s.machine t).server in
+    fewer_come s.machine (refills_for t o s).machine (refills_for t o s).direct (refills_fewer t o s)
+handles_come bodies n (item.Start t) s known waits = starts_come bodies t 0 s
+handles_come bodies n (item.Timeout t) s known waits = times_out_come (length s.machine.mutexes) (waiting_of s.machine t) t s (waits t)
+handles_come bodies n (item.Timer k) s known waits = absurd known
+
 -- ---- semaphores
 
 waits_semaphore_come : {P : Type 0} (b : By) (k : ℕ) (due : Option ℕ) (s : Turn P) → Comes s (waits_semaphore b k due s)
@@ -253,6 +339,11 @@ calls_come bodies o b (call.Timedlock k at) s built =
     let due = Some (number_of s.machine b.thread at) in locks_on_come (unless_late due s.machine (lock_answer s.machine b.thread k)) b k due s
 calls_come bodies o b (call.Trylock k) s built = locks_on_come (trylock_answer s.machine b.thread k) b k None s
 calls_come bodies o b (call.Unlock k) s built = unlocks_come b k s
+calls_come bodies o b (call.Wait c k) s built = waits_come b c k None s
+calls_come bodies o b (call.Timedwait c k at) s built = waits_come b c k (Some (number_of s.machine b.thread at)) s
+calls_come bodies o b (call.Signal c) s built = returned_come b res.Zero 0 (signals_best c) s (signals_best_come c (returns b res.Zero 0 s))
+calls_come bodies o b (call.Broadcast c) s built =
+    returned_come b res.Zero 0 (signals_best_of (length (waiters s.machine (waits_on_condition c))) c) s (signals_best_of_come (length (waiters s.machine (waits_on_condition c))) c (returns b res.Zero 0 s))
 calls_come bodies o b (call.SemWait k) s built = waits_semaphore_come b k None s
 calls_come bodies o b (call.SemTimedwait k at) s built = waits_semaphore_come b k (Some (number_of s.machine b.thread at)) s
 calls_come bodies o b (call.SemTrywait k) s built = if_come (semaphore_at s.machine k == 0) _ _ s (returns_come b res.Again 0 s) (returns_come b res.Zero 0 (changes_semaphore k pred s))

@@ -8,12 +8,14 @@ ghost use Rattle.machine_rules.specs.DueItems.{handles, item_done, times_out};
 ghost use Rattle.machine_flat.specs.FlatBodies.{flat_bodies};
 ghost use Rattle.thread_blocks.specs.Unused.{IsUnused};
 ghost use Rattle.kernel_state.specs.Due.{IsKnown};
-ghost use Rattle.kernel_sync.specs.Waits.{AreBuiltWaits};
+ghost use Rattle.kernel_sync.specs.Waits.{WaitsFit};
 ghost use Rattle.kernel_events.specs.Handled.{CanHandle};
 ghost use Rattle.kernel_state.specs.Kernel.{Kernel, after, refilled_telling, told};
 ghost use Rattle.kernel_state.specs.Stood.{StoodRight};
 
 use kernel_state::Parts;
+use kernel_sync::contend;
+use machine_rules::CondEnd;
 use pse52_trace::{Event, Tracer};
 use rt_io::Sink;
 use thread_blocks::{Refilled, Wait};
@@ -52,8 +54,8 @@ fn refill<K: Sink>(p: &mut Parts, t: Tid, out: &mut Tracer<'_, K>)
 // A wait ends at its time: a sleep is over, and what was waited for is given up.
 fn time_out<K: Sink>(p: &mut Parts, t: Tid, out: &mut Tracer<'_, K>)
     requires known { t < length p.old.names }
-    requires waits { AreBuiltWaits (waiting_of p.old.machine t) }
-    requires rests { is_blocked (thread_at p.old.machine t).status ≡ true → IsUnused (thread_at p.old.machine t).server }
+    requires fits { WaitsFit p.old.machine }
+    requires serial { p.old.machine.next_serial < 2 ^ 62 }
     requires quiet { p.old.direct ≡ [] }
     requires early { p.old.machine.now ≤ 10 ^ 18 }
     ensures state { p.new ≡ after (λ s. times_out (waiting_of s.machine t) t s) p.old }
@@ -63,7 +65,9 @@ fn time_out<K: Sink>(p: &mut Parts, t: Tid, out: &mut Tracer<'_, K>)
         None => return,
         Some(Wait::Time) => p.wake(t, Res::Zero, 0, out),
         Some(Wait::Mutex(_)) => p.wake(t, Res::Timedout, 0, out),
+        Some(Wait::MutexAgain(_, _)) => p.wake(t, Res::Timedout, 0, out),
         Some(Wait::Semaphore(_)) => p.wake(t, Res::Timedout, 0, out),
+        Some(Wait::Condition(_, _)) => contend(p, t, CondEnd::Timedout, out),
         Some(_) => unreachable!(),
     }
 }
@@ -73,6 +77,7 @@ fn handle<K: Sink>(p: &mut Parts, i: Item, out: &mut Tracer<'_, K>)
     requires known { IsKnown (length p.old.names) i }
     requires quiet { p.old.direct ≡ [] }
     requires fits { CanHandle p.old.machine }
+    requires serial { p.old.machine.next_serial < 2 ^ 62 }
     requires early { p.old.machine.now ≤ 10 ^ 18 }
     ensures state { p.new ≡ after (handles (flat_bodies p.old.code) i) p.old }
     ensures told { Tells K.text K.faults p.old.names out.old out.new (told (handles (flat_bodies p.old.code) i) p.old) }
@@ -91,6 +96,7 @@ fn settle_item<K: Sink>(p: &mut Parts, i: Item, out: &mut Tracer<'_, K>)
     requires quiet { p.old.direct ≡ [] }
     requires stood { StoodRight p.old.machine }
     requires fits { CanHandle p.old.machine }
+    requires serial { p.old.machine.next_serial < 2 ^ 62 }
     requires early { p.old.machine.now ≤ 10 ^ 18 }
     ensures state { p.new ≡ after (λ s. s ▷ handles (flat_bodies p.old.code) i ▷ settles_since s.machine) p.old }
     ensures told { Tells K.text K.faults p.old.names out.old out.new (told (λ s. s ▷ handles (flat_bodies p.old.code) i ▷ settles_since s.machine) p.old) }
@@ -106,6 +112,7 @@ pub fn do_item<K: Sink>(p: &mut Parts, i: Item, out: &mut Tracer<'_, K>)
     requires quiet { p.old.direct ≡ [] }
     requires stood { StoodRight p.old.machine }
     requires fits { CanHandle p.old.machine }
+    requires serial { p.old.machine.next_serial < 2 ^ 62 }
     requires early { p.old.machine.now ≤ 10 ^ 18 }
     ensures state { p.new ≡ after (item_done (flat_bodies p.old.code) i) p.old }
     ensures told { Tells K.text K.faults p.old.names out.old out.new (told (item_done (flat_bodies p.old.code) i) p.old) }

@@ -6,14 +6,16 @@ ghost use Rattle.machine_rules.specs.Turns.{returns};
 ghost use Rattle.machine_rules.specs.Calls.{call_effect};
 ghost use Rattle.kernel_events.specs.Built.{IsBuilt, objects_in};
 ghost use Rattle.machine_flat.specs.FlatBodies.{flat_bodies};
-ghost use Rattle.kernel_sync.specs.Waits.{BlockedRest, OnlyBuiltWaits};
+ghost use Rattle.kernel_sync.specs.Waits.{WaitsFit};
 ghost use Rattle.kernel_state.specs.Kernel.{after, by, told};
 
 use crate::lives::make_create;
 use crate::scheduling::{make_setprio, make_setsched, make_yield};
 use crate::time::{end_of_sleep, sleep_until};
 use kernel_state::Parts;
-use kernel_sync::{get_value, lock, post, try_lock, try_wait, unlock, wait};
+use kernel_sync::{
+    broadcast, get_value, lock, post, signal, try_lock, try_wait, unlock, wait, wait_on,
+};
 use pse52_trace::Tracer;
 use rt_io::Sink;
 use script_tree::Call;
@@ -25,10 +27,9 @@ pub fn make_call<K: Sink>(p: &mut Parts, t: Tid, call: &Call, out: &mut Tracer<'
     requires built { IsBuilt (objects_in p.old) call.now }
     requires threads { length p.old.machine.threads ≡ length p.old.names }
     requires runs { can_run p.old.machine t ≡ true }
-    requires waits { OnlyBuiltWaits p.old.machine }
-    requires rests { BlockedRest p.old.machine }
-    requires serial { p.old.machine.next_serial < 2 ^ 63 }
-    requires room { length p.old.direct < 256 }
+    requires fits { WaitsFit p.old.machine }
+    requires serial { p.old.machine.next_serial < 2 ^ 62 }
+    requires room { length p.old.direct < 128 }
     requires early { p.old.machine.now ≤ 10 ^ 18 }
     ensures state { p.new ≡ after (call_effect (flat_bodies p.old.code) (by t call.now) call.now) p.old }
     ensures told { Tells K.text K.faults p.old.names out.old out.new (told (call_effect (flat_bodies p.old.code) (by t call.now) call.now) p.old) }
@@ -42,6 +43,12 @@ pub fn make_call<K: Sink>(p: &mut Parts, t: Tid, call: &Call, out: &mut Tracer<'
         Call::Timedlock { mutex, at } => lock(p, t, call, *mutex, Some(p.moment(t, at)), out),
         Call::Trylock(k) => try_lock(p, t, call, *k, out),
         Call::Unlock(k) => unlock(p, t, call, *k, out),
+        Call::Wait(c, k) => wait_on(p, t, call, *c, *k, None, out),
+        Call::Timedwait { cond, mutex, at } => {
+            wait_on(p, t, call, *cond, *mutex, Some(p.moment(t, at)), out)
+        }
+        Call::Signal(c) => signal(p, t, call, *c, out),
+        Call::Broadcast(c) => broadcast(p, t, call, *c, out),
         Call::SemWait(k) => wait(p, t, call, *k, None, out),
         Call::SemTimedwait { sem, at } => wait(p, t, call, *sem, Some(p.moment(t, at)), out),
         Call::SemTrywait(k) => try_wait(p, t, call, *k, out),

@@ -10,3 +10,4 @@ pub mod TickParts
 pub mod Opened
 pub mod Closing
 pub mod Waits
+pub mod InConditions

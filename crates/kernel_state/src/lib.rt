@@ -2,6 +2,7 @@
 #![tactic(auto)]
 
 mod changes;
+mod conditions;
 mod dispatch;
 mod due;
 mod leaps;

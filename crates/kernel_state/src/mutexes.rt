@@ -1,11 +1,11 @@
 // Owners and counts of mutexes, and who waits for them.
 ghost use Rattle.std.specs.Prelude.{◌≡◌, ◌≤◌, ◌<◌, ◌^◌, Bool, IfSome, None, Some, length, option_map, true};
-ghost use Rattle.tick_num.specs.declared.res.Res.TheVariants as res;
 ghost use Rattle.pse52_trace.specs.Tells.{Tells};
 ghost use Rattle.machine_rules.specs.Mutexes.{closes_cycle, freed, is_above_ceiling, taken_by};
+ghost use Rattle.machine_rules.specs.Priorities.{mutex_awaited_by};
 ghost use Rattle.machine_rules.specs.State.{Wait};
 ghost use Rattle.wait_lists.specs.Ties.{is_object, object_of};
-ghost use Rattle.machine_rules.specs.Threads.{can_run, is_blocked, mutex_at, thread_at};
+ghost use Rattle.machine_rules.specs.Threads.{is_blocked, mutex_at, thread_at};
 ghost use Rattle.machine_rules.specs.Turns.{changes, changes_mutex, ◌▷◌};
 ghost use Rattle.machine_rules.specs.Waiters.{Waiter, best_waiter};
 ghost use Rattle.machine_rules.specs.Waking.{wakes, woken};
@@ -61,13 +61,12 @@ impl Parts {
         self.table.set_count(k, n);
     }
 
-    /// The thread owns the mutex, which was free.
-    #[tactic(auto, using(crate::proofs::Waits::awaits_none))]
+    /// The thread, which waits for no mutex, owns the mutex, which was free.
     pub fn take_mutex(&mut self, k: ObjId, t: Tid)
         requires known { t < length self.old.names }
         requires mutex { k < length self.old.machine.mutexes }
         requires free { (mutex_at self.old.machine k).owner ≡ None }
-        requires runs { can_run self.old.machine t ≡ true }
+        requires waits_not { mutex_awaited_by (thread_at self.old.machine t) ≡ None }
         ensures { self.new ≡ after (changes_mutex k (taken_by t)) self.old }
     {
         self.table.take(k, t);
@@ -83,29 +82,36 @@ impl Parts {
     }
 
     // The mutex goes from its owner to a thread that is runnable again.
-    fn hand_over(&mut self, k: ObjId, owner: Tid, t: Tid)
+    fn hand_over(&mut self, k: ObjId, owner: Tid, t: Tid, res: Res)
         requires known { t < length self.old.names }
         requires mutex { k < length self.old.machine.mutexes }
         requires owned { (mutex_at self.old.machine k).owner ≡ Some owner }
-        ensures { self.new ≡ after (λ s. s ▷ changes_mutex k (taken_by t) ▷ changes t (woken res.Zero 0)) self.old }
+        ensures { self.new ≡ after (λ s. s ▷ changes_mutex k (taken_by t) ▷ changes t (woken res 0)) self.old }
     {
-        self.table.hand_over(k, owner, t, Res::Zero, 0);
+        self.table.hand_over(k, owner, t, res, 0);
     }
 
-    /// The mutex goes from its owner to a waiter, which wakes.
-    pub fn wake_owner<K: Sink>(&mut self, k: ObjId, owner: Tid, t: Tid, out: &mut Tracer<'_, K>)
+    /// The mutex goes from its owner to a waiter, which wakes with that answer.
+    pub fn wake_owner<K: Sink>(
+        &mut self,
+        k: ObjId,
+        owner: Tid,
+        t: Tid,
+        res: Res,
+        out: &mut Tracer<'_, K>,
+    )
         requires known { t < length self.old.names }
         requires mutex { k < length self.old.machine.mutexes }
         requires owned { (mutex_at self.old.machine k).owner ≡ Some owner }
         requires room { length self.old.direct < 256 }
         requires unused { IsUnused (thread_at self.old.machine t).server }
         requires early { self.old.machine.now ≤ 10 ^ 18 }
-        ensures state { self.new ≡ after (λ s. s ▷ changes_mutex k (taken_by t) ▷ wakes t res.Zero 0) self.old }
-        ensures told { Tells K.text K.faults self.old.names out.old out.new (told (λ s. s ▷ changes_mutex k (taken_by t) ▷ wakes t res.Zero 0) self.old) }
+        ensures state { self.new ≡ after (λ s. s ▷ changes_mutex k (taken_by t) ▷ wakes t res 0) self.old }
+        ensures told { Tells K.text K.faults self.old.names out.old out.new (told (λ s. s ▷ changes_mutex k (taken_by t) ▷ wakes t res 0) self.old) }
     {
         let call = self.waiting_call(t);
-        self.hand_over(k, owner, t);
-        self.rise(&Event::Return(t, call_name(&call), Res::Zero, 0), t, out);
+        self.hand_over(k, owner, t, res);
+        self.rise(&Event::Return(t, call_name(&call), res, 0), t, out);
     }
 
     /// The thread that is served first of those that wait for the object; `None` exactly where nobody does.

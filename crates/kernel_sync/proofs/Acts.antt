@@ -4,9 +4,12 @@ use Rattle.std.specs.Prelude.{IsSome, is_none, not, if◌then◌else◌, ◌==�
 use Rattle.tick_num.specs.declared.res.Res.{Res}
 use Rattle.tick_num.specs.declared.res.Res.TheVariants as res
 use Rattle.machine_rules.specs.State.{Machine, Mutex}
-use Rattle.machine_rules.specs.Threads.{mutex_at, thread_at}
+use Rattle.machine_rules.specs.Threads.{can_run, mutex_at, thread_at}
 use Rattle.machine_rules.specs.Mutexes.{LockAnswer, closes_cycle, counts, is_above_ceiling, is_free, lock_answer, locked_again, must_wait, owns, recursion_limit, refused, takes, trylock_answer, unless_late}
 use Rattle.machine_rules.specs.Turns.{has_passed}
+use Rattle.script_flat.specs.declared.cursor.Cursor.{Cursor}
+use Rattle.machine_rules.specs.Priorities.{mutex_awaited_by}
+use Rattle.kernel_state.proofs.Waits.{awaits_none as running_awaits}
 use Rattle.kernel_sync.specs.Answers.{CanAct}
 
 module _ {P : Type 0} (m : Machine P) (t k : ℕ) where
@@ -61,3 +64,7 @@ module _ {P : Type 0} (m : Machine P) (t k : ℕ) where
       by_case false true c e = again res.Busy
       by_case false false true e = free_is (mutex_at m k).owner e
       by_case false false false e = tt
+
+-- a caller runs, and so waits for nothing
+pub awaits_none : (m : Machine Cursor) (t : ℕ) → can_run m t ≡ true → mutex_awaited_by (thread_at m t) ≡ None
+awaits_none = running_awaits

@@ -1,6 +1,9 @@
 -- How a lock comes out, and what the machine is then.
 use Rattle.std.specs.Prelude.{◌≡◌, ◌==◌, ℕ, IsSome, None, false}
-use Rattle.machine_rules.specs.State.{Machine}
+use Rattle.tick_num.specs.declared.res.Res.{Res}
+use Rattle.tick_num.specs.declared.res.Res.TheVariants as res
+use Rattle.machine_rules.specs.declared.thread.CondEnd.TheVariants as cond_end
+use Rattle.machine_rules.specs.State.{Machine, Wait, for_mutex_again}
 use Rattle.machine_rules.specs.Threads.{mutex_at}
 use Rattle.machine_rules.specs.Mutexes.{LockAnswer, closes_cycle, counts, must_wait, recursion_limit, refused, takes}
 use Rattle.kernel_sync.specs.declared.answer.LockAnswer as declared
@@ -18,3 +21,8 @@ CanAct m t k (refused result) = Unit {0}
 CanAct m t k counts = ((mutex_at m k).count == recursion_limit) ≡ false
 CanAct m t k takes = (mutex_at m k).owner ≡ None
 CanAct m t k must_wait = IsSome (mutex_at m k).owner × (closes_cycle m k t ≡ false)
+
+-- what a wait answers that ends as its mutex is handed over
+abbrev pub owner_answer : Wait → Res
+owner_answer (for_mutex_again k cond_end.Timedout) = res.Timedout
+owner_answer wait = res.Zero

@@ -1,24 +1,54 @@
 -- What holds of the threads that wait.
-use Rattle.std.specs.Prelude.{◌≡◌, ℕ, None, Option, Some, true}
-use Rattle.machine_rules.specs.State.{Machine, Wait, Waiting, for_mutex, for_semaphore, for_time}
+use Rattle.std.specs.Prelude.{◌≡◌, ◌<◌, ℕ, [], None, Option, Some, length, true}
+use Rattle.machine_rules.specs.declared.thread.CondEnd.{CondEnd}
+use Rattle.machine_rules.specs.declared.thread.CondEnd.TheVariants as cond_end
+use Rattle.machine_rules.specs.GoodState.{is_in_condition_wait}
+use Rattle.machine_rules.specs.Mutexes.{owned_by, waits_for_mutex}
+use Rattle.machine_rules.specs.State.{Machine, Wait, Waiting, for_condition, for_mutex, for_mutex_again, for_semaphore, for_time}
 use Rattle.machine_rules.specs.Threads.{is_blocked, thread_at, waiting_of}
+use Rattle.machine_rules.specs.Waiters.{waits_so}
 use Rattle.thread_blocks.specs.Unused.{IsUnused}
 
--- the waits that are built
-abbrev pub IsBuiltWait : Wait → Type 0
-IsBuiltWait (for_mutex k) = Unit {0}
-IsBuiltWait (for_semaphore k) = Unit {0}
-IsBuiltWait for_time = Unit {0}
-IsBuiltWait other = ⊥
+-- the ends of a condition wait that are built
+abbrev pub IsBuiltEnd : CondEnd → Type 0
+IsBuiltEnd cond_end.Signalled = Unit {0}
+IsBuiltEnd cond_end.Timedout = Unit {0}
+IsBuiltEnd cond_end.Cancelled = ⊥
 
-abbrev pub AreBuiltWaits : Option Waiting → Type 0
-AreBuiltWaits None = Unit {0}
-AreBuiltWaits (Some w) = IsBuiltWait w.wait
+-- the waits that are built, where there are so many mutexes
+abbrev pub IsBuiltWait : ℕ → Wait → Type 0
+IsBuiltWait mutexes (for_mutex k) = Unit {0}
+IsBuiltWait mutexes (for_mutex_again k how) = IsBuiltEnd how
+IsBuiltWait mutexes (for_condition c k) = k < mutexes
+IsBuiltWait mutexes (for_semaphore k) = Unit {0}
+IsBuiltWait mutexes for_time = Unit {0}
+IsBuiltWait mutexes other = ⊥
+
+abbrev pub AreBuiltWaits : ℕ → Option Waiting → Type 0
+AreBuiltWaits mutexes None = Unit {0}
+AreBuiltWaits mutexes (Some w) = IsBuiltWait mutexes w.wait
 
 -- each thread that waits waits for something that is built
 abbrev pub OnlyBuiltWaits : {P : Type 0} → Machine P → Type 0
-OnlyBuiltWaits m = (t : ℕ) → AreBuiltWaits (waiting_of m t)
+OnlyBuiltWaits m = (t : ℕ) → AreBuiltWaits (length m.mutexes) (waiting_of m t)
 
 -- the server of a thread that waits has consumed nothing that is not planned
 abbrev pub BlockedRest : {P : Type 0} → Machine P → Type 0
 BlockedRest m = (u : ℕ) → is_blocked (thread_at m u).status ≡ true → IsUnused (thread_at m u).server
+
+abbrev pub OwnsNone : {P : Type 0} → Machine P → ℕ → Type 0
+OwnsNone m t = owned_by m t ≡ []
+
+-- a thread in a condition wait, or after it without its mutex, owns none
+abbrev pub WaitersOwnNone : {P : Type 0} → Machine P → Type 0
+WaitersOwnNone m = (t : ℕ) → waits_so is_in_condition_wait (thread_at m t) ≡ true → owned_by m t ≡ []
+
+-- nor has that of a thread that waits for a mutex
+abbrev pub MutexWaitersRest : {P : Type 0} → Machine P → ℕ → Type 0
+MutexWaitersRest m k = (u : ℕ) (w : Waiting) → waiting_of m u ≡ Some w → waits_for_mutex k w.wait ≡ true → IsUnused (thread_at m u).server
+
+-- what the calls of conditions may count on
+pub record WaitsFit {P : Type 0} (m : Machine P) : Type 0 where
+  pub built : OnlyBuiltWaits m
+  pub rests : BlockedRest m
+  pub own_none : WaitersOwnNone m

@@ -1,11 +1,16 @@
 // How a lock comes out.
-ghost use Rattle.std.specs.Prelude.{◌≡◌, ◌<◌, length};
+ghost use Rattle.std.specs.Prelude.{◌≡◌, ◌<◌, Some, length};
 ghost use Rattle.machine_rules.specs.Mutexes.{lock_answer, locked_again, trylock_answer, unless_late};
+ghost use Rattle.machine_rules.specs.State.{Waiting};
+ghost use Rattle.machine_rules.specs.Threads.{waiting_of};
 ghost use Rattle.machine_rules.specs.Turns.{is_late};
-ghost use Rattle.kernel_sync.specs.Answers.{answer_of};
+ghost use Rattle.thread_blocks.specs.Plain.{wait_of};
+ghost use Rattle.kernel_sync.specs.Answers.{answer_of, owner_answer};
 
 use inherit_chain::MutexState;
 use kernel_state::Parts;
+use machine_rules::CondEnd;
+use thread_blocks::Wait;
 use tick_num::{ObjId, Res, Tick, Tid};
 
 /// How a lock comes out.
@@ -96,5 +101,27 @@ pub(crate) fn unless_late(p: &Parts, due: &Option<Tick>, answer: LockAnswer) -> 
             }
         }
         _ => answer,
+    }
+}
+
+// The answer of a wait that ends as its mutex is handed over.
+fn owner_answer(wait: &Wait) -> Res
+    ensures { result ≡ owner_answer (wait_of wait.now) }
+{
+    match wait {
+        Wait::MutexAgain(_, CondEnd::Timedout) => Res::Timedout,
+        _ => Res::Zero,
+    }
+}
+
+/// The answer of a waiter that is handed its mutex: a timed condition wait whose time came tells so.
+#[tactic(auto, using(crate::proofs::Released::none_waits, crate::proofs::Released::some_waits))]
+pub(crate) fn answer_as_owner(p: &Parts, w: Tid) -> Res
+    requires { w < length p.now.names }
+    ensures { (v : Waiting) → waiting_of p.now.machine w ≡ Some v → result ≡ owner_answer v.wait }
+{
+    match p.wait(w) {
+        None => Res::Zero,
+        Some(wait) => owner_answer(&wait),
     }
 }

@@ -1,9 +1,11 @@
-//! The calls of mutexes and semaphores: each is a step of a turn of the machine.
+//! The calls of mutexes, conditions and semaphores: each is a step of a turn of the machine.
 #![tactic(auto)]
 
 mod answer;
+mod conditions;
 mod counting;
 mod mutexes;
 
+pub use conditions::{broadcast, contend, signal, wait_on};
 pub use counting::{get_value, post, try_wait, wait};
 pub use mutexes::{lock, try_lock, unlock};

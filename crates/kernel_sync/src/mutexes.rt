@@ -7,9 +7,9 @@ ghost use Rattle.machine_rules.specs.Threads.{can_run, mutex_at};
 ghost use Rattle.machine_rules.specs.Turns.{changes_mutex, returns, ◌▷◌};
 ghost use Rattle.kernel_state.specs.Kernel.{after, by, told};
 ghost use Rattle.kernel_sync.specs.Answers.{CanAct, answer_of};
-ghost use Rattle.kernel_sync.specs.Waits.{BlockedRest, OnlyBuiltWaits};
+ghost use Rattle.kernel_sync.specs.Waits.{BlockedRest, MutexWaitersRest, OnlyBuiltWaits};
 
-use crate::answer::{LockAnswer, lock_answer, trylock_answer, unless_late};
+use crate::answer::{LockAnswer, answer_as_owner, lock_answer, trylock_answer, unless_late};
 use kernel_state::Parts;
 use pse52_trace::Tracer;
 use rt_io::Sink;
@@ -32,6 +32,7 @@ fn count_up<K: Sink>(p: &mut Parts, t: Tid, call: &Call, k: ObjId, out: &mut Tra
 }
 
 // The caller takes the mutex, which was free.
+#[tactic(auto, using(crate::proofs::Acts::awaits_none))]
 fn take<K: Sink>(p: &mut Parts, t: Tid, call: &Call, k: ObjId, out: &mut Tracer<'_, K>)
     requires known { t < length p.old.names }
     requires runs { can_run p.old.machine t ≡ true }
@@ -105,20 +106,24 @@ pub fn try_lock<K: Sink>(p: &mut Parts, t: Tid, call: &Call, k: ObjId, out: &mut
     act(p, t, call, k, None, answer, out);
 }
 
-// The owner's mutex goes to its best waiter, or is free.
-fn release<K: Sink>(p: &mut Parts, t: Tid, k: ObjId, out: &mut Tracer<'_, K>)
+/// The owner's mutex goes to its best waiter, or is free.
+#[tactic(auto, using(crate::proofs::Resting::best_rests))]
+pub(crate) fn release<K: Sink>(p: &mut Parts, t: Tid, k: ObjId, out: &mut Tracer<'_, K>)
     requires mutex { k < length p.old.machine.mutexes }
     requires owned { (mutex_at p.old.machine k).owner ≡ Some t }
     requires room { length p.old.direct < 256 }
     requires waits { OnlyBuiltWaits p.old.machine }
-    requires rests { BlockedRest p.old.machine }
+    requires rests { MutexWaitersRest p.old.machine k }
     requires early { p.old.machine.now ≤ 10 ^ 18 }
     ensures state { p.new ≡ after (releases k) p.old }
     ensures told { Tells K.text K.faults p.old.names out.old out.new (told (releases k) p.old) }
 {
     match p.best_waiter(WaitObj::Mutex(k)) {
         None => p.release_mutex(k, t),
-        Some(w) => p.wake_owner(k, t, w, out),
+        Some(w) => {
+            let answer = answer_as_owner(p, w);
+            p.wake_owner(k, t, w, answer, out);
+        }
     }
 }
 
@@ -136,6 +141,7 @@ fn count_down<K: Sink>(p: &mut Parts, t: Tid, call: &Call, k: ObjId, out: &mut T
 }
 
 // The caller, which has locked the mutex once, gives it up.
+#[tactic(auto, using(crate::proofs::Returned::returned_waiters))]
 fn give_up<K: Sink>(p: &mut Parts, t: Tid, call: &Call, k: ObjId, out: &mut Tracer<'_, K>)
     requires known { t < length p.old.names }
     requires runs { can_run p.old.machine t ≡ true }

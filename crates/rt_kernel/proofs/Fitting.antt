@@ -6,7 +6,7 @@ use Rattle.script_flat.specs.declared.cursor.Cursor.{Cursor}
 use Rattle.script_flat.specs.declared.op.Op.{Op}
 use Rattle.script_flat.specs.Flat as flat
 use Rattle.machine_rules.specs.declared.dispatch.LastDispatch.{LastDispatch}
-use Rattle.machine_rules.specs.State.{Machine, Status, Thread, blocked, dormant, ended, runnable}
+use Rattle.machine_rules.specs.State.{Machine, Status, Thread, Waiting, blocked, dormant, ended, runnable}
 use Rattle.machine_rules.specs.Threads.{can_run, is_blocked, is_runnable, thread_at, waiting_in}
 use Rattle.machine_rules.specs.Turns.{Turn, becomes, changes, with_thread}
 use Rattle.machine_rules.specs.Dispatch.{dispatch_of, dispatches, head}
@@ -21,6 +21,10 @@ use Rattle.machine_moves.proofs.Runs.Listed.{AllRun, head_can_run}
 use Rattle.machine_moves.proofs.Runs.Ticks.{dispatched}
 use Rattle.machine_moves.proofs.Waiters.Best.{Each}
 use Rattle.thread_blocks.specs.Unused.{IsUnused}
+use Rattle.std.specs.Option.{option_map_or}
+use Rattle.machine_rules.specs.GoodState.{is_in_condition_wait}
+use Rattle.machine_rules.specs.Mutexes.{owned_by}
+use Rattle.machine_rules.specs.Waiters.{waits_so}
 use Rattle.kernel_sync.specs.Waits.{AreBuiltWaits}
 use Rattle.kernel_state.specs.Kernel.{Kernel, after, turn}
 use Rattle.kernel_state.specs.Stood.{StoodRight}
@@ -76,7 +80,7 @@ module _ {P : Type 0} (m : Machine P) where
 -- ---- so it may have a tick
 
 head_fits : (o : Objects) (code : flat.Bodies (List Op)) (m : Machine Cursor) (last : LastDispatch) (t : ℕ) → StoodRight m → head m ≡ Some t → Fits o code m → FitsTick o code (record m { last = last }) t
-head_fits o code m last t stood e fit = record { thread = fit.top t e; runs = head_runs m t stood e; waits = fit.items.waits; rests = fit.items.rests; serial = fit.serial; threads = fit.threads }
+head_fits o code m last t stood e fit = record { thread = fit.top t e; runs = head_runs m t stood e; waits = fit.items.waits; serial = fit.serial; threads = fit.threads }
 
 pub dispatched_fits : (p l : Kernel) (to : Option ℕ) → to ≡ head p.machine → l ≡ after (dispatches (head p.machine)) p → StoodRight p.machine → Fits (objects_in p) p.code p.machine →
     IfSome to (λ t. FitsTick (objects_in l) l.code l.machine t)
@@ -98,11 +102,17 @@ blocked_rests runnable e = absurd (cc)
 blocked_rests (blocked w) e = refl
 blocked_rests ended e = refl
 
-running_waits : (s : Status) → is_runnable s ≡ true → AreBuiltWaits (waiting_in s)
-running_waits (dormant at) e = tt
-running_waits runnable e = tt
-running_waits (blocked w) e = absurd (cc)
-running_waits ended e = tt
+running_waits : (n : ℕ) (s : Status) → is_runnable s ≡ true → AreBuiltWaits n (waiting_in s)
+running_waits n (dormant at) e = tt
+running_waits n runnable e = tt
+running_waits n (blocked w) e = absurd (cc)
+running_waits n ended e = tt
+
+running_in_none : (s : Status) → is_runnable s ≡ true → option_map_or (λ (w : Waiting). is_in_condition_wait w.wait) (waiting_in s) false ≡ false
+running_in_none (dormant at) e = refl
+running_in_none runnable e = refl
+running_in_none (blocked w) e = absurd (cc)
+running_in_none ended e = refl
 
 same_number : (t u : ℕ) → (t == u) ≡ true → t ≡ u
 same_number t u e = grind arith
@@ -118,22 +128,33 @@ charged_acts p l t fit early state = subst (λ (k : Kernel). CanAct k t) (sym st
     acts = record {
       threads = changed-length no_thread t f p.machine.threads ∙ fit.threads;
       runs = charge_same (flat_bodies p.code) p.machine t t fit.thread.can.goes_on ∙ fit.runs;
-      waits = waits_at;
-      rests = rests_at;
+      waits = record { built = waits_at; rests = rests_at; own_none = own_at };
       serial = fit.serial (omega (arith, early));
     }
       where
-        waits_at : (u : ℕ) → AreBuiltWaits (waiting_in (thread_at (with_thread t f p.machine) u).status)
+        waits_at : (u : ℕ) → AreBuiltWaits (length p.machine.mutexes) (waiting_in (thread_at (with_thread t f p.machine) u).status)
         waits_at u = by_number (t == u) refl
           where
-            by_number : (b : Bool) → (t == u) ≡ b → AreBuiltWaits (waiting_in (thread_at (with_thread t f p.machine) u).status)
+            by_number : (b : Bool) → (t == u) ≡ b → AreBuiltWaits (length p.machine.mutexes) (waiting_in (thread_at (with_thread t f p.machine) u).status)
             by_number true it =
                 let runs = charge_same (flat_bodies p.code) p.machine t t fit.thread.can.goes_on ∙ fit.runs in
-                subst (λ (k : ℕ). AreBuiltWaits (waiting_in (thread_at (with_thread t f p.machine) k).status)) (same_number t u it)
-                (running_waits (thread_at (with_thread t f p.machine) t).status runs)
+                subst (λ (k : ℕ). AreBuiltWaits (length p.machine.mutexes) (waiting_in (thread_at (with_thread t f p.machine) k).status)) (same_number t u it)
+                (running_waits (length p.machine.mutexes) (thread_at (with_thread t f p.machine) t).status runs)
             by_number false other =
                 let kept = thread-other p.machine t u f other in
-                subst (λ (th : Thread Cursor). AreBuiltWaits (waiting_in th.status)) (sym kept) (fit.waits u)
+                subst (λ (th : Thread Cursor). AreBuiltWaits (length p.machine.mutexes) (waiting_in th.status)) (sym kept) (fit.waits.built u)
+
+        own_at : (u : ℕ) → waits_so is_in_condition_wait (thread_at (with_thread t f p.machine) u) ≡ true → owned_by p.machine u ≡ []
+        own_at u e = by_number (t == u) refl
+          where
+            by_number : (b : Bool) → (t == u) ≡ b → owned_by p.machine u ≡ []
+            by_number true it =
+                let runs = charge_same (flat_bodies p.code) p.machine t t fit.thread.can.goes_on ∙ fit.runs in
+                not_both (waits_so is_in_condition_wait (thread_at (with_thread t f p.machine) t)) (running_in_none (thread_at (with_thread t f p.machine) t).status runs)
+                (subst (λ (k : ℕ). waits_so is_in_condition_wait (thread_at (with_thread t f p.machine) k) ≡ true) (sym (same_number t u it)) e)
+            by_number false other =
+                let kept = thread-other p.machine t u f other in
+                fit.waits.own_none u (sym (ap (λ (th : Thread Cursor). waits_so is_in_condition_wait th) kept) ∙ e)
 
         rests_at : (u : ℕ) → is_blocked (thread_at (with_thread t f p.machine) u).status ≡ true → IsUnused (thread_at (with_thread t f p.machine) u).server
         rests_at u e = by_number (t == u) refl
@@ -145,4 +166,4 @@ charged_acts p l t fit early state = subst (λ (k : Kernel). CanAct k t) (sym st
             by_number true it = not_both (can_run p.machine u) off (subst (λ (k : ℕ). can_run p.machine k ≡ true) (same_number t u it) fit.runs)
             by_number false other =
                 let kept = thread-other p.machine t u f other in
-                subst (λ (th : Thread Cursor). IsUnused th.server) (sym kept) (fit.rests u (sym (ap (λ (th : Thread Cursor). is_blocked th.status) kept) ∙ e))
+                subst (λ (th : Thread Cursor). IsUnused th.server) (sym kept) (fit.waits.rests u (sym (ap (λ (th : Thread Cursor). is_blocked th.status) kept) ∙ e))

@@ -26,12 +26,14 @@ use Rattle.machine_flat.specs.EachCall.{EachMade}
 use Rattle.machine_flat.specs.FlatBodies.{flat_bodies}
 use Rattle.machine_flat.specs.KnownCalls.{Objects}
 use Rattle.machine_flat.specs.Placed.{cursor_of}
-use Rattle.thread_laws.specs.EachThread.{ActionKnown, Closed, Given, Lasts, MakesWait, MayEnd, UnitKnown}
+use Rattle.machine_rules.specs.declared.thread.CondEnd.{CondEnd}
+use Rattle.machine_rules.specs.declared.thread.CondEnd.TheVariants as cond_end
+use Rattle.thread_laws.specs.EachThread.{ActionKnown, Cancels, Closed, Given, Lasts, MakesWait, MayEnd, UnitKnown}
 use Rattle.thread_laws.proofs.Changes.{at_all}
 use Rattle.thread_laws.proofs.MadeCalls.{UnitMakes, fetched_makes}
 use Rattle.thread_laws.proofs.Runs.{holds_throughout}
 use Rattle.kernel_events.specs.Built.{IsBuilt}
-use Rattle.kernel_sync.specs.Waits.{AreBuiltWaits, IsBuiltWait}
+use Rattle.kernel_sync.specs.Waits.{AreBuiltWaits, IsBuiltEnd, IsBuiltWait}
 use Rattle.rt_kernel.specs.Completes.{CanComplete, CanTick}
 use Rattle.rt_kernel.specs.Held.{AreMain, Held, IsHeld, IsHeldBy}
 
@@ -40,24 +42,34 @@ not_both b off on = let a : true ≡ false = sym on ∙ off in absurd cc
 
 -- ---- what built calls wait for
 
-built_wait : (c : Call) (x : Wait) → is_built c ≡ true → MakesWait c x → IsBuiltWait x
-built_wait (call.Lock k) x is e = subst IsBuiltWait (sym e) tt
-built_wait (call.Timedlock k at) x is e = subst IsBuiltWait (sym e) tt
-built_wait (call.Trylock k) x is e = subst IsBuiltWait (sym e) tt
-built_wait (call.SemWait k) x is e = subst IsBuiltWait (sym e) tt
-built_wait (call.SemTimedwait k at) x is e = subst IsBuiltWait (sym e) tt
-built_wait (call.Nanosleep n) x is e = subst IsBuiltWait (sym e) tt
-built_wait (call.ClockNanosleep at) x is e = subst IsBuiltWait (sym e) tt
-built_wait call.Yield x is e = absurd e
-built_wait (call.Create u) x is e = absurd e
-built_wait (call.Setprio u p) x is e = absurd e
-built_wait (call.Setsched u policy) x is e = absurd e
-built_wait call.Gettime x is e = absurd e
-built_wait (call.Unlock k) x is e = absurd e
-built_wait (call.SemTrywait k) x is e = absurd e
-built_wait (call.SemGetvalue k) x is e = absurd e
-built_wait (call.SemPost k) x is e = absurd e
-built_wait _ x is e = absurd (let off : false ≡ true = is in cc)
+built_wait : (o : Objects) (c : Call) (x : Wait) → IsBuilt o c → MakesWait c x → IsBuiltWait o.mutexes x
+built_wait o (call.Lock k) x is e = subst (IsBuiltWait o.mutexes) (sym e) tt
+built_wait o (call.Timedlock k at) x is e = subst (IsBuiltWait o.mutexes) (sym e) tt
+built_wait o (call.Trylock k) x is e = subst (IsBuiltWait o.mutexes) (sym e) tt
+built_wait o (call.Wait c k) x is e = subst (IsBuiltWait o.mutexes) (sym e) is.objects
+built_wait o (call.Timedwait c k at) x is e = subst (IsBuiltWait o.mutexes) (sym e) is.objects.0
+built_wait o (call.SemWait k) x is e = subst (IsBuiltWait o.mutexes) (sym e) tt
+built_wait o (call.SemTimedwait k at) x is e = subst (IsBuiltWait o.mutexes) (sym e) tt
+built_wait o (call.Nanosleep n) x is e = subst (IsBuiltWait o.mutexes) (sym e) tt
+built_wait o (call.ClockNanosleep at) x is e = subst (IsBuiltWait o.mutexes) (sym e) tt
+built_wait o call.Yield x is e = absurd e
+built_wait o (call.Create u) x is e = absurd e
+built_wait o (call.Setprio u p) x is e = absurd e
+built_wait o (call.Setsched u policy) x is e = absurd e
+built_wait o call.Gettime x is e = absurd e
+built_wait o (call.Unlock k) x is e = absurd e
+built_wait o (call.Signal c) x is e = absurd e
+built_wait o (call.Broadcast c) x is e = absurd e
+built_wait o (call.SemTrywait k) x is e = absurd e
+built_wait o (call.SemGetvalue k) x is e = absurd e
+built_wait o (call.SemPost k) x is e = absurd e
+built_wait o _ x is e = absurd (let off : false ≡ true = is.built in cc)
+
+-- a condition wait ends by a signal or at its time
+built_end : (how : CondEnd) → (how ≡ cond_end.Cancelled → ⊥) → IsBuiltEnd how
+built_end cond_end.Signalled never = tt
+built_end cond_end.Timedout never = tt
+built_end cond_end.Cancelled never = absurd (never refl)
 
 -- ---- frames
 
@@ -82,27 +94,27 @@ top_charged_main (f ∷ fs) h = h.0
 module _ (o : Objects) (code : flat.Bodies (List Op)) (calls : (n : ℕ) → EachMade (IsBuilt o) (ops_of code n)) where
   -- no signal has a handler
   abbrev built : Given Cursor
-  built = record { bodies = flat_bodies code; count = o.threads; Handles = λ h. ⊥; Known = λ th c. IsBuilt o c; Waits = IsBuiltWait }
+  built = record { bodies = flat_bodies code; count = o.threads; Handles = λ h. ⊥; Known = λ th c. IsBuilt o c; Waits = IsBuiltWait o.mutexes }
 
   abbrev HeldNow : ℕ → ℕ → Thread Cursor → Type 0
-  HeldNow now u th = IsHeld th
+  HeldNow now u th = IsHeld o.mutexes th
 
-  held_answered : (r : Res) (value : ℕ) (th : Thread Cursor) → IsHeld th → IsHeld (answered r value th)
+  held_answered : (r : Res) (value : ℕ) (th : Thread Cursor) → IsHeld o.mutexes th → IsHeld o.mutexes (answered r value th)
   held_answered r value th h = record { goes_on = h.goes_on; free = h.free; alone = h.alone; waits = h.waits; main = main_answered r value th.frames h.main }
 
-  held_woken : (r : Res) (value : ℕ) (th : Thread Cursor) → IsHeld th → IsHeld (woken r value th)
+  held_woken : (r : Res) (value : ℕ) (th : Thread Cursor) → IsHeld o.mutexes th → IsHeld o.mutexes (woken r value th)
   held_woken r value th h = record { goes_on = h.goes_on; free = h.free; alone = h.alone; waits = tt; main = main_answered r value th.frames h.main }
 
-  held_asleep : (w : Waiting) (th : Thread Cursor) → IsBuiltWait w.wait → IsHeld th → IsHeld (put_to_wait w th)
+  held_asleep : (w : Waiting) (th : Thread Cursor) → IsBuiltWait o.mutexes w.wait → IsHeld o.mutexes th → IsHeld o.mutexes (put_to_wait w th)
   held_asleep w th waits h = record { goes_on = h.goes_on; free = h.free; alone = h.alone; waits = waits; main = h.main }
 
-  held_started : (t mask now : ℕ) (th : Thread Cursor) → IsHeld th → IsHeld (started (flat_bodies code) t mask now th)
+  held_started : (t mask now : ℕ) (th : Thread Cursor) → IsHeld o.mutexes th → IsHeld o.mutexes (started (flat_bodies code) t mask now th)
   held_started t mask now th h = record { goes_on = h.goes_on; free = h.free; alone = h.alone; waits = tt; main = (refl, tt) }
 
-  held_ended : (th : Thread Cursor) → IsHeld th → IsHeld (without_life th)
+  held_ended : (th : Thread Cursor) → IsHeld o.mutexes th → IsHeld o.mutexes (without_life th)
   held_ended th h = record { goes_on = h.goes_on; free = h.free; alone = h.alone; waits = tt; main = tt }
 
-  held_charged : (th : Thread Cursor) → IsHeld th → IsHeld (tick_charged th)
+  held_charged : (th : Thread Cursor) → IsHeld o.mutexes th → IsHeld o.mutexes (tick_charged th)
   held_charged th h = record { goes_on = h.goes_on; free = h.free; alone = h.alone; waits = h.waits; main = main_charged th.frames h.main }
 
   unbuilt : {X : Type 0} (c : Call) → is_built c ≡ false → IsBuilt o c → X
@@ -111,7 +123,11 @@ module _ (o : Objects) (code : flat.Bodies (List Op)) (calls : (n : ℕ) → Eac
   nobody_waits : {X : Type 0} (j : Joiner) (t : ℕ) → j ≡ nobody → j ≡ waits_to_join t → X
   nobody_waits j t none some = let a : nobody ≡ waits_to_join t = sym none ∙ some in absurd cc
 
-  never_ends : {X : Type 0} (th : Thread Cursor) → IsHeld th → MayEnd built th → X
+  never_cancels : (th : Thread Cursor) → IsHeld o.mutexes th → Cancels built th → ⊥
+  never_cancels th h (inl acts) = not_both (request_acts th) (ap (λ (b : Bool). b && th.is_enabled && not th.is_ending) h.free) acts
+  never_cancels th h (inr k) = k.1
+
+  never_ends : {X : Type 0} (th : Thread Cursor) → IsHeld o.mutexes th → MayEnd built th → X
   never_ends th h (inl exit) = unbuilt (call.Exit exit.0) refl exit.1
   never_ends th h (inr (inl acts)) = not_both (request_acts th) (ap (λ (b : Bool). b && th.is_enabled && not th.is_ending) h.free) acts
   never_ends th h (inr (inr over)) = absurd over.1
@@ -120,9 +136,9 @@ module _ (o : Objects) (code : flat.Bodies (List Op)) (calls : (n : ℕ) → Eac
   held_closed = record {
     answers = λ now u th r value q. held_answered r value th q;
     wakes = λ now u th r value q. held_woken r value th q;
-    waits = λ now u th caller w known makes q. held_asleep w th (built_wait w.call w.wait known.built makes) q;
-    again = λ now u th w c k how waits may is q. absurd waits;
-    waiting = λ now u th w q is. subst AreBuiltWaits is q.waits;
+    waits = λ now u th caller w known makes q. held_asleep w th (built_wait o w.call w.wait known makes) q;
+    again = λ now u th w c k how waits may is q. held_asleep w th (subst (IsBuiltWait o.mutexes) (sym is) (built_end how (λ e. never_cancels th q (may e)))) q;
+    waiting = λ now u th w q is. subst (AreBuiltWaits o.mutexes) is q.waits;
     starts = λ now u th mask lt q. held_started u mask now th q;
     activates = λ now u th q. q;
     refills = λ now u th q. q;
@@ -147,7 +163,7 @@ module _ (o : Objects) (code : flat.Bodies (List Op)) (calls : (n : ℕ) → Eac
   -- ---- the unit that a thread is in
 
   pub record Taken (x : InUnit Cursor) : Type 0 where
-    pub held : IsHeld x.thread
+    pub held : IsHeld o.mutexes x.thread
     pub can : CanComplete o (tick_charged x.thread) x.unit
 
   can_of : (th : Thread Cursor) (u : unit_type.Unit) → UnitMakes (IsBuilt o) u → th.is_requested ≡ false → th.joiner ≡ nobody → top_kind th.frames ≡ kind.Main → CanComplete o th u
@@ -156,22 +172,22 @@ module _ (o : Objects) (code : flat.Bodies (List Op)) (calls : (n : ℕ) → Eac
   can_of th unit.Jump makes free alone main = tt
   can_of th unit.Finish makes free alone main = (alone, main)
 
-  taken_top : (left : ℕ) (f : Frame Cursor) (fs : List (Frame Cursor)) (th : Thread Cursor) → IsHeld th → AreMain (f ∷ fs) → Taken (top_in_unit (flat_bodies code) left f fs th)
+  taken_top : (left : ℕ) (f : Frame Cursor) (fs : List (Frame Cursor)) (th : Thread Cursor) → IsHeld o.mutexes th → AreMain (f ∷ fs) → Taken (top_in_unit (flat_bodies code) left f fs th)
   taken_top zero f fs th h main = record {
     held = record { goes_on = h.goes_on; free = h.free; alone = h.alone; waits = h.waits; main = main };
     can = can_of (tick_charged (top_in_unit (flat_bodies code) zero f fs th).thread) (next_of (flat_bodies code) f).unit (fetched_makes (IsBuilt o) code (cursor_of f) (calls f.place.body)) h.free h.alone main.0;
   }
   taken_top (suc left) f fs th h main = record { held = h; can = tt }
 
-  taken_of : (fs : List (Frame Cursor)) (th : Thread Cursor) → IsHeld th → AreMain fs → Taken (in_unit_of (flat_bodies code) fs th)
+  taken_of : (fs : List (Frame Cursor)) (th : Thread Cursor) → IsHeld o.mutexes th → AreMain fs → Taken (in_unit_of (flat_bodies code) fs th)
   taken_of [] th h main = record { held = h; can = (h.alone, top_charged_main th.frames h.main) }
   taken_of (f ∷ fs) th h main = taken_top f.left f fs th h main
 
-  taken : (th : Thread Cursor) → IsHeld th → Taken (in_unit (flat_bodies code) th)
+  taken : (th : Thread Cursor) → IsHeld o.mutexes th → Taken (in_unit (flat_bodies code) th)
   taken th h = subst (λ (b : Bool). Taken (in_unit_if (flat_bodies code) (b && is_main (top_kind th.frames) && top_left th.frames == 0) th)) (sym h.goes_on) (taken_of th.frames th h h.main)
 
   -- so a thread may have a tick
-  pub can_tick : (th : Thread Cursor) → IsHeld th → CanTick o (flat_bodies code) th
+  pub can_tick : (th : Thread Cursor) → IsHeld o.mutexes th → CanTick o (flat_bodies code) th
   can_tick th h = record { goes_on = h.goes_on; completes = (taken th h).can }
 
   unit_known : (th : Thread Cursor) (u : unit_type.Unit) → CanComplete o th u → UnitKnown built th u
@@ -202,6 +218,6 @@ module _ (o : Objects) (code : flat.Bodies (List Op)) (calls : (n : ℕ) → Eac
       let lasts = holds_throughout built HeldNow held_lasts n most m
       (record { each = λ u lt. h.each u; counted = h.counted; handled = λ signal. subst (λ actions. ActionKnown built (slice_index_or actions signal action.Kill)) (sym kills) (kills_known 32 signal) }) in
       record {
-        each = at_all (λ u th. IsHeld th) no_thread (after_items (flat_bodies code) m n most).threads lasts.each (λ u. record { goes_on = refl; free = refl; alone = refl; waits = tt; main = tt });
+        each = at_all (λ u th. IsHeld o.mutexes th) no_thread (after_items (flat_bodies code) m n most).threads lasts.each (λ u. record { goes_on = refl; free = refl; alone = refl; waits = tt; main = tt });
         counted = lasts.counted;
       }

@@ -9,9 +9,9 @@ use Rattle.script_flat.specs.declared.cursor.Cursor.{Cursor}
 use Rattle.sporadic_server.specs.Server.{ServerState, is_high}
 use Rattle.machine_rules.specs.Budget.{KeepsBudgets}
 use Rattle.machine_rules.specs.State.{Machine, Status, Thread, blocked, dormant, ended, runnable}
-use Rattle.machine_rules.specs.Declarations.{ThreadDecl, cleanups_of, threads_of}
+use Rattle.machine_rules.specs.Declarations.{ThreadDecl, cleanups_of, mutexes_of, threads_of}
 use Rattle.machine_rules.specs.Servers.{has_high}
-use Rattle.machine_rules.specs.Threads.{is_blocked, is_runnable, no_thread, thread_at}
+use Rattle.machine_rules.specs.Threads.{is_blocked, is_runnable, no_thread, thread_at, waiting_of}
 use Rattle.machine_rules.specs.Throughout.{after_items}
 use Rattle.machine_rules.specs.Machine.{names_of}
 use Rattle.machine_rules.specs.Runs.{opening, thread_opened}
@@ -36,7 +36,8 @@ use Rattle.thread_blocks.specs.Room.{HasRoom, ServerHasRoom}
 use Rattle.thread_blocks.specs.Unused.{IsUnused}
 use Rattle.kernel_state.specs.Kernel.{Kernel, opened}
 use Rattle.kernel_events.specs.Built.{IsBuilt, objects_in}
-use Rattle.rt_kernel.specs.Counts.{counts_in}
+use Rattle.kernel_sync.specs.Waits.{AreBuiltWaits}
+use Rattle.rt_kernel.specs.Counts.{Counts, counts_in}
 use Rattle.rt_kernel.specs.Fits.{Fits, StaysFit}
 use Rattle.rt_kernel.specs.Held.{Held, IsHeld}
 use Rattle.rt_kernel.proofs.HeldLaw.{can_tick, held_throughout}
@@ -98,14 +99,14 @@ objects_opened script =
 
 -- ---- what is held of each thread is held at the beginning
 
-nothing_yet : (ds : List ThreadDecl) (t : ℕ) → IsHeld (slice_index_or (map (thread_opened {P = Cursor}) ds) t no_thread)
-nothing_yet [] t = record { goes_on = refl; free = refl; alone = refl; waits = tt; main = tt }
-nothing_yet (d ∷ ds) zero = record { goes_on = refl; free = refl; alone = refl; waits = tt; main = tt }
-nothing_yet (d ∷ ds) (suc t) = nothing_yet ds t
+nothing_yet : (n : ℕ) (ds : List ThreadDecl) (t : ℕ) → IsHeld n (slice_index_or (map (thread_opened {P = Cursor}) ds) t no_thread)
+nothing_yet n [] t = record { goes_on = refl; free = refl; alone = refl; waits = tt; main = tt }
+nothing_yet n (d ∷ ds) zero = record { goes_on = refl; free = refl; alone = refl; waits = tt; main = tt }
+nothing_yet n (d ∷ ds) (suc t) = nothing_yet n ds t
 
 held_opening : (script : Script) → Held (objects_of script) (opening script)
 held_opening script = record {
-  each = nothing_yet (threads_of script);
+  each = nothing_yet (length (mutexes_of script)) (threads_of script);
   counted = length-map (threads_of script) (thread_opened {P = Cursor});
 }
 
@@ -134,7 +135,14 @@ module _ (script : Script) (ok : IsRunnable script) (fits : IsWellFormed script)
       let placed = (frames_are_placed script (placeable script ok fits)).each n most in
       let within = (threads_are_within script).over_code.each n most in
       record {
-        items = record { waits = λ t. (held.each t).waits; rests = blocked_unused m rest; rests_low = low_unused m rest };
+        items = record {
+          waits = record {
+            built = λ t. subst (λ (n : ℕ). AreBuiltWaits n (waiting_of m t)) (sym (ap (λ (c : Counts). c.mutexes) objects.0)) (held.each t).waits;
+            rests = blocked_unused m rest;
+            own_none = ((mutexes_throughout bodies ranges script fits).each n most).owns_none;
+          };
+          rests_low = low_unused m rest;
+        };
         top = λ t e. record {
           can = can_tick (objects_of script) (code_of script) calls_built (thread_at m t) (held.each t);
           placed = (placed.each t).placed;

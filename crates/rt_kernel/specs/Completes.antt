@@ -13,7 +13,7 @@ use Rattle.machine_rules.specs.Units.{in_unit}
 use Rattle.machine_flat.specs.KnownCalls.{Objects}
 use Rattle.thread_blocks.specs.Unused.{IsUnused}
 use Rattle.kernel_state.specs.Kernel.{Kernel}
-use Rattle.kernel_sync.specs.Waits.{OnlyBuiltWaits}
+use Rattle.kernel_sync.specs.Waits.{WaitsFit}
 use Rattle.kernel_events.specs.Built.{IsBuilt}
 
 -- A thread can complete a unit: nothing that is not built is asked for.
@@ -33,6 +33,5 @@ pub record CanTick (o : Objects) (bodies : Bodies Cursor) (th : Thread Cursor) :
 pub record CanAct (k : Kernel) (t : ℕ) : Type 0 where
   pub threads : length k.machine.threads ≡ length k.names
   pub runs : can_run k.machine t ≡ true
-  pub waits : OnlyBuiltWaits k.machine
-  pub rests : (u : ℕ) → is_blocked (thread_at k.machine u).status ≡ true → IsUnused (thread_at k.machine u).server
-  pub serial : k.machine.next_serial < 2 ^ 63
+  pub waits : WaitsFit k.machine
+  pub serial : k.machine.next_serial < 2 ^ 62

@@ -15,7 +15,7 @@ use Rattle.machine_flat.specs.Placed.{ArePlaced}
 use Rattle.thread_laws.specs.Within.{IsWithin}
 use Rattle.thread_blocks.specs.Unused.{IsUnused}
 use Rattle.kernel_state.specs.Kernel.{Kernel, turn}
-use Rattle.kernel_sync.specs.Waits.{OnlyBuiltWaits}
+use Rattle.kernel_sync.specs.Waits.{WaitsFit}
 use Rattle.kernel_events.specs.Handled.{CanHandle}
 use Rattle.rt_kernel.specs.Completes.{CanTick}
 use Rattle.rt_kernel.specs.Counts.{counts_in, counts_of}
@@ -29,7 +29,7 @@ pub record FitsThread (o : Objects) (code : flat.Bodies (List Op)) (now : ℕ) (
 
 -- serials are left until 10^18 ticks
 abbrev pub HasSerials : Machine Cursor → Type 0
-HasSerials m = m.now ≤ 10 ^ 18 → m.next_serial < 2 ^ 63
+HasSerials m = m.now ≤ 10 ^ 18 → m.next_serial < 2 ^ 62
 
 -- a machine with so many objects, whose head may have a tick
 pub record Fits (o : Objects) (code : flat.Bodies (List Op)) (m : Machine Cursor) : Type 0 where
@@ -44,8 +44,7 @@ pub record Fits (o : Objects) (code : flat.Bodies (List Op)) (m : Machine Cursor
 pub record FitsTick (o : Objects) (code : flat.Bodies (List Op)) (m : Machine Cursor) (t : ℕ) : Type 0 where
   pub thread : FitsThread o code m.now (thread_at m t)
   pub runs : can_run m t ≡ true
-  pub waits : OnlyBuiltWaits m
-  pub rests : (u : ℕ) → is_blocked (thread_at m u).status ≡ true → IsUnused (thread_at m u).server
+  pub waits : WaitsFit m
   pub serial : HasSerials m
   pub threads : length m.threads ≡ o.threads
 

@@ -66,7 +66,7 @@ fn make<K: Sink>(p: &mut Parts, t: Tid, call: &Call, out: &mut Tracer<'_, K>)
     requires known { t < length p.old.names }
     requires can { CanComplete (objects_in p.old) (thread_at p.old.machine t) (unit.Make call.now) }
     requires acts { CanAct p.old t }
-    requires room { length p.old.direct < 256 }
+    requires room { length p.old.direct < 128 }
     requires early { p.old.machine.now ≤ 10 ^ 18 }
     ensures state { p.new ≡ after (makes_call (flat_bodies p.old.code) (by t call.now)) p.old }
     ensures told { Tells K.text K.faults p.old.names out.old out.new (told (makes_call (flat_bodies p.old.code) (by t call.now)) p.old) }
@@ -79,7 +79,7 @@ fn complete<K: Sink>(p: &mut Parts, t: Tid, unit: &Unit, out: &mut Tracer<'_, K>
     requires known { t < length p.old.names }
     requires can { CanComplete (objects_in p.old) (thread_at p.old.machine t) unit.now }
     requires acts { CanAct p.old t }
-    requires room { length p.old.direct < 256 }
+    requires room { length p.old.direct < 128 }
     requires early { p.old.machine.now ≤ 10 ^ 18 }
     ensures state { p.new ≡ after (unit_effect (flat_bodies p.old.code) t unit.now) p.old }
     ensures told { Tells K.text K.faults p.old.names out.old out.new (told (unit_effect (flat_bodies p.old.code) t unit.now) p.old) }
@@ -97,7 +97,7 @@ fn complete_at_end<K: Sink>(p: &mut Parts, t: Tid, unit: &Unit, out: &mut Tracer
     requires known { t < length p.old.names }
     requires can { CanComplete (objects_in p.old) (thread_at p.old.machine t) unit.now }
     requires acts { CanAct p.old t }
-    requires room { length p.old.direct < 256 }
+    requires room { length p.old.direct < 128 }
     requires early { p.old.machine.now ≤ 10 ^ 18 }
     ensures state { p.new ≡ after (completes (flat_bodies p.old.code) t unit.now) p.old }
     ensures told { Tells K.text K.faults p.old.names out.old out.new (told (completes (flat_bodies p.old.code) t unit.now) p.old) }

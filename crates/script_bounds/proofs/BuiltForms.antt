@@ -32,6 +32,7 @@ abbrev pub is_built_sort : Sort → Bool
 is_built_sort sort.Thread = true
 is_built_sort sort.Handler = true
 is_built_sort sort.Cleanup = true
+is_built_sort sort.Cond = true
 is_built_sort sort.Mutex = true
 is_built_sort sort.Sem = true
 is_built_sort other = false

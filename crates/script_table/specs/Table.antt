@@ -48,7 +48,7 @@ declaration_patterns =
     row (form.Object object.MutexInheritRecursive) Nowhere true (Keyword (codes "mutex") ∷ Declares kind.Mutex ∷ Keyword (codes "inherit") ∷ Keyword (codes "recursive") ∷ []) ∷
     row (form.Object object.MutexProtect) Nowhere true (Keyword (codes "mutex") ∷ Declares kind.Mutex ∷ Keyword (codes "protect") ∷ priority ∷ []) ∷
     row (form.Object object.MutexProtectRecursive) Nowhere true (Keyword (codes "mutex") ∷ Declares kind.Mutex ∷ Keyword (codes "protect") ∷ priority ∷ Keyword (codes "recursive") ∷ []) ∷
-    row (form.Object object.Cond) Nowhere false (Keyword (codes "cond") ∷ Declares kind.Cond ∷ []) ∷
+    row (form.Object object.Cond) Nowhere true (Keyword (codes "cond") ∷ Declares kind.Cond ∷ []) ∷
     row (form.Object object.Sem) Nowhere true (Keyword (codes "sem") ∷ Declares kind.Sem ∷ Number 0 32767 ∷ []) ∷
     row (form.Object object.Queue) Nowhere false (Keyword (codes "queue") ∷ Declares kind.Queue ∷ Number 1 64 ∷ Number 1 65536 ∷ []) ∷
     row (form.Object object.QueueNonblock) Nowhere false (Keyword (codes "queue") ∷ Declares kind.Queue ∷ Number 1 64 ∷ Number 1 65536 ∷ Keyword (codes "nonblock") ∷ []) ∷
@@ -93,10 +93,10 @@ call_patterns =
     row (form.Call (call.Mutex mutex.Timedlock)) HandlersAndCleanups true (Keyword (codes "timedlock") ∷ Uses kind.Mutex ∷ Operand ∷ []) ∷
     row (form.Call (call.Mutex mutex.Trylock)) Nowhere true (Keyword (codes "trylock") ∷ Uses kind.Mutex ∷ []) ∷
     row (form.Call (call.Mutex mutex.Unlock)) Nowhere true (Keyword (codes "unlock") ∷ Uses kind.Mutex ∷ []) ∷
-    row (form.Call (call.Mutex mutex.Wait)) HandlersAndCleanups false (Keyword (codes "wait") ∷ Uses kind.Cond ∷ Uses kind.Mutex ∷ []) ∷
-    row (form.Call (call.Mutex mutex.Timedwait)) HandlersAndCleanups false (Keyword (codes "timedwait") ∷ Uses kind.Cond ∷ Uses kind.Mutex ∷ Operand ∷ []) ∷
-    row (form.Call (call.Mutex mutex.Signal)) Nowhere false (Keyword (codes "signal") ∷ Uses kind.Cond ∷ []) ∷
-    row (form.Call (call.Mutex mutex.Broadcast)) Nowhere false (Keyword (codes "broadcast") ∷ Uses kind.Cond ∷ []) ∷
+    row (form.Call (call.Mutex mutex.Wait)) HandlersAndCleanups true (Keyword (codes "wait") ∷ Uses kind.Cond ∷ Uses kind.Mutex ∷ []) ∷
+    row (form.Call (call.Mutex mutex.Timedwait)) HandlersAndCleanups true (Keyword (codes "timedwait") ∷ Uses kind.Cond ∷ Uses kind.Mutex ∷ Operand ∷ []) ∷
+    row (form.Call (call.Mutex mutex.Signal)) Nowhere true (Keyword (codes "signal") ∷ Uses kind.Cond ∷ []) ∷
+    row (form.Call (call.Mutex mutex.Broadcast)) Nowhere true (Keyword (codes "broadcast") ∷ Uses kind.Cond ∷ []) ∷
     row (form.Call (call.Sem sem.Wait)) HandlersAndCleanups true (Keyword (codes "sem_wait") ∷ Uses kind.Sem ∷ []) ∷
     row (form.Call (call.Sem sem.Timedwait)) HandlersAndCleanups true (Keyword (codes "sem_timedwait") ∷ Uses kind.Sem ∷ Operand ∷ []) ∷
     row (form.Call (call.Sem sem.Trywait)) Nowhere true (Keyword (codes "sem_trywait") ∷ Uses kind.Sem ∷ []) ∷

@@ -52,6 +52,13 @@ impl Table {
         self.chain.owns_boosting(t)
     }
 
+    /// How many mutexes the thread owns.
+    pub fn owned_count(&self, t: Tid) -> usize
+        ensures { result ≡ length (filter (λ (k : Mutex). is k.owner t) self.now.mutexes) }
+    {
+        self.chain.owned_count(t)
+    }
+
     /// Costs nothing when it runs: each owner of a mutex is a thread.
     pub fn owners_are_threads(&self)
         ensures { OwnersAreThreads (claims self.now.threads) self.now.mutexes }

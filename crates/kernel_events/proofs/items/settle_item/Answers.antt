@@ -23,5 +23,5 @@ returns-clause-stood g c =
     let bodies = flat_bodies p.code in
     let s = handles bodies c.args.i (turn p) in
     let fits = subst (λ (k : Kernel). HavePriorities k.machine) c.handle.ensures.state c.settle.ensures.fits in
-    let again = stood_again p.machine s.machine s.direct c.requires.stood (ap (λ (x : Kept). x.lists) (handles_kept bodies c.args.i (turn p))) fits (handles_come bodies _ c.args.i (turn p) c.requires.known c.requires.fits.waits) in
+    let again = stood_again p.machine s.machine s.direct c.requires.stood (ap (λ (x : Kept). x.lists) (handles_kept bodies c.args.i (turn p))) fits (handles_come bodies _ c.args.i (turn p) c.requires.known c.requires.fits.waits.built) in
     subst (λ (k : Kernel). StoodRight k.machine) (sym (returns-clause-state g c)) again

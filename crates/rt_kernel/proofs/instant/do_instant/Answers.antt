@@ -1,4 +1,4 @@
-use Rattle.std.proofs.Common.{◌≡◌, length, subst, sym, ◌∙◌}
+use Rattle.std.proofs.Common.{◌≡◌, ◌<◌, ◌^◌, arith, length, subst, sym, ◌∙◌}
 use Rattle.pse52_trace.specs.Tells.{Tells}
 use Rattle.machine_rules.specs.DueItems.{item_done}
 use Rattle.machine_rules.proofs.ItemsEnd.{item_falls}
@@ -18,6 +18,13 @@ items-smaller g c =
 pub do_item-requires-clause-fits : goal.do_item-requires-clause-fits
 do_item-requires-clause-fits g c =
     subst (λ (x : Kernel). CanHandle x.machine) (sym c.next_item.ensures.same) (fits_now _ _ c.args.p.now c.items.p _ _ c.items.invariant c.requires.fits).items
+
+pub do_item-requires-clause-serial : goal.do_item-requires-clause-serial
+do_item-requires-clause-serial g c =
+    let early = c.requires.early in
+    let time = c.items.invariant.time in
+    subst (λ (x : Kernel). x.machine.next_serial < 2 ^ 62) (sym c.next_item.ensures.same)
+    ((fits_now _ _ c.args.p.now c.items.p _ _ c.items.invariant c.requires.fits).serial (omega (arith, early, time)))
 
 pub items-preserved : goal.items-preserved
 items-preserved g c =

@@ -1,0 +1,106 @@
+-- Who waits for a condition, looked at thread by thread.
+use Rattle.std.proofs.Common.{◌≡◌, ◌<◌, ◌≤◌, ◌+◌, ◌∙◌, ℕ, zero, suc, Bool, true, false, List, [], ◌∷◌, Option, None, Some, ap, arith, drop, get_or, length, refl, subst, sym}
+use Rattle.std.specs.Prelude.{option_and_then, option_map, if◌then◌else◌}
+use Rattle.std.specs.List.{filter_map, list_any}
+use Rattle.std.specs.Option.{option_map_or}
+use Rattle.std.proofs.lemmas.List.{drop_more}
+use Rattle.script_flat.specs.declared.cursor.Cursor.{Cursor}
+use Rattle.machine_rules.specs.Conditions.{released_mutex}
+use Rattle.machine_rules.specs.Lists.{kept_if, numbers_from}
+use Rattle.machine_rules.specs.Priorities.{exec}
+use Rattle.machine_rules.specs.State.{Machine, Thread, Wait, Waiting}
+use Rattle.machine_rules.specs.Threads.{no_thread, thread_at, waiting_in, waiting_of}
+use Rattle.machine_rules.specs.Waiters.{Waiter, waiter_of, waiters, waits_so}
+use Rattle.machine_moves.proofs.Waiters.Best.{Each}
+use Rattle.machine_moves.proofs.Waiters.Best.{all_pass}
+use Rattle.thread_blocks.specs.Plain.{wait_of}
+use Rattle.thread_blocks.specs.declared.status.Wait as plain
+
+-- ---- one thread
+
+none_of : (passes : Wait → Bool) (o : Option Waiting) (x : Option plain.Wait) → x ≡ None → option_map wait_of x ≡ option_map (λ (w : Waiting). w.wait) o → false ≡ option_map_or (λ (w : Waiting). passes w.wait) o false
+none_of passes None x none is = refl
+none_of passes (Some w) x none is = absurd (let e : None ≡ Some w.wait = rw none at is in cc)
+
+some_of : (passes : Wait → Bool) (o : Option Waiting) (v : plain.Wait) → option_map wait_of (Some v) ≡ option_map (λ (w : Waiting). w.wait) o → passes (wait_of v) ≡ option_map_or (λ (w : Waiting). passes w.wait) o false
+some_of passes None v is = absurd cc
+some_of passes (Some w) v is = let e : wait_of v ≡ w.wait = cc in ap passes e
+
+pub none_waits : (passes : Wait → Bool) (m : Machine Cursor) (t : ℕ) (x : Option plain.Wait) → x ≡ None → option_map wait_of x ≡ option_map (λ (w : Waiting). w.wait) (waiting_of m t) →
+    false ≡ waits_so passes (thread_at m t)
+none_waits passes m t x none is = none_of passes (waiting_of m t) x none is
+
+pub some_waits : (passes : Wait → Bool) (m : Machine Cursor) (t : ℕ) (v : plain.Wait) → option_map wait_of (Some v) ≡ option_map (λ (w : Waiting). w.wait) (waiting_of m t) →
+    passes (wait_of v) ≡ waits_so passes (thread_at m t)
+some_waits passes m t v is = some_of passes (waiting_of m t) v is
+
+none_then : (o : Option Waiting) (x : Option plain.Wait) → x ≡ None → option_map wait_of x ≡ option_map (λ (w : Waiting). w.wait) o → None ≡ option_and_then (λ (w : Waiting). released_mutex w.wait) o
+none_then None x none is = refl
+none_then (Some w) x none is = absurd (let e : None ≡ Some w.wait = rw none at is in cc)
+
+some_then : (o : Option Waiting) (v : plain.Wait) → option_map wait_of (Some v) ≡ option_map (λ (w : Waiting). w.wait) o → released_mutex (wait_of v) ≡ option_and_then (λ (w : Waiting). released_mutex w.wait) o
+some_then None v is = absurd cc
+some_then (Some w) v is = let e : wait_of v ≡ w.wait = cc in ap released_mutex e
+
+pub none_released : (m : Machine Cursor) (t : ℕ) (x : Option plain.Wait) → x ≡ None → option_map wait_of x ≡ option_map (λ (w : Waiting). w.wait) (waiting_of m t) →
+    None ≡ option_and_then (λ (w : Waiting). released_mutex w.wait) (waiting_of m t)
+none_released m t x none is = none_then (waiting_of m t) x none is
+
+pub some_released : (m : Machine Cursor) (t : ℕ) (v : plain.Wait) → option_map wait_of (Some v) ≡ option_map (λ (w : Waiting). w.wait) (waiting_of m t) →
+    released_mutex (wait_of v) ≡ option_and_then (λ (w : Waiting). released_mutex w.wait) (waiting_of m t)
+some_released m t v is = some_then (waiting_of m t) v is
+
+-- ---- all of them
+
+any_first : (p : Thread Cursor → Bool) (b : Bool) (x : Thread Cursor) (xs : List (Thread Cursor)) → p x ≡ b → b ≡ false → list_any p xs ≡ list_any p (x ∷ xs)
+any_first p true x xs e h = absurd cc
+any_first p false x xs e h = rw e refl
+
+pub passed_by : (p : Thread Cursor → Bool) (threads : List (Thread Cursor)) (i : ℕ) → i < length threads → p (get_or threads i no_thread) ≡ false → list_any p (drop (i + 1) threads) ≡ list_any p (drop i threads)
+passed_by p threads i lt off =
+    let rest : drop i threads ≡ get_or threads i no_thread ∷ drop (i + 1) threads = drop_more threads i no_thread lt in
+    rw rest (any_first p (p (get_or threads i no_thread)) (get_or threads i no_thread) (drop (i + 1) threads) refl off)
+
+pub found : (p : Thread Cursor → Bool) (threads : List (Thread Cursor)) (i : ℕ) → i < length threads → p (get_or threads i no_thread) ≡ true → list_any p (drop i threads) ≡ true
+found p threads i lt on =
+    let rest : drop i threads ≡ get_or threads i no_thread ∷ drop (i + 1) threads = drop_more threads i no_thread lt in
+    rw (rest, on) refl
+
+-- ---- how many
+
+numbered : (p : Thread Cursor → Bool) (b : Bool) (n : ℕ) (x : Thread Cursor) (xs : List (Thread Cursor)) → p x ≡ b →
+    length (numbers_from n p (x ∷ xs)) ≡ (if b then 1 else 0) + length (numbers_from (n + 1) p xs)
+numbered p true n x xs e = rw e (omega arith)
+numbered p false n x xs e = rw e (omega arith)
+
+pub counted : (p : Thread Cursor → Bool) (threads : List (Thread Cursor)) (i : ℕ) (b : Bool) → i < length threads → p (get_or threads i no_thread) ≡ b →
+    (if b then 1 else 0) + length (numbers_from (i + 1) p (drop (i + 1) threads)) ≡ length (numbers_from i p (drop i threads))
+counted p threads i b lt is =
+    let rest : drop i threads ≡ get_or threads i no_thread ∷ drop (i + 1) threads = drop_more threads i no_thread lt in
+    rw rest (sym (numbered p b i (get_or threads i no_thread) (drop (i + 1) threads) is))
+
+drop_end : (threads : List (Thread Cursor)) (n : ℕ) → length threads ≤ n → drop n threads ≡ []
+drop_end [] zero le = refl
+drop_end [] (suc n) le = refl
+drop_end (x ∷ xs) zero le = absurd (omega arith)
+drop_end (x ∷ xs) (suc n) le = drop_end xs n (omega arith)
+
+-- and at the end all are counted
+pub all_counted : (p : Thread Cursor → Bool) (threads : List (Thread Cursor)) (n count total : ℕ) → length threads ≤ n → count + length (numbers_from n p (drop n threads)) ≡ total → count ≡ total
+all_counted p threads n count total le h = let none = drop_end threads n le in let e : count + 0 ≡ total = rw none at h in omega (arith, e)
+
+module _ (m : Machine Cursor) (passes : Wait → Bool) where
+  abbrev waiter_at : ℕ → Option Waiter
+  waiter_at t = waiter_of t (exec m t) (waiting_of m t)
+
+  each_waits : (ts : List ℕ) → Each (λ (t : ℕ). waits_so passes (thread_at m t) ≡ true) ts → length (filter_map waiter_at ts) ≡ length ts
+  each_waits [] all = refl
+  each_waits (t ∷ ts) all = by_wait (waiting_of m t) refl (each_waits ts all.1)
+    where
+      by_wait : (o : Option Waiting) → waiting_of m t ≡ o → length (filter_map waiter_at ts) ≡ length ts → length (filter_map waiter_at (t ∷ ts)) ≡ suc (length ts)
+      by_wait None e rest = absurd (let h : false ≡ true = rw e at all.0 in cc)
+      by_wait (Some w) e rest = rw e (ap suc rest)
+
+  -- each that waits so is a waiter
+  pub waiters_counted : length (waiters m passes) ≡ length (numbers_from 0 (waits_so passes) m.threads)
+  waiters_counted = each_waits (numbers_from 0 (waits_so passes) m.threads) (all_pass m passes)

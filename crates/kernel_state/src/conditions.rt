@@ -1,0 +1,113 @@
+// Who waits for a condition, and what its end asks for.
+ghost use Rattle.std.specs.Prelude.{◌≡◌, ◌≤◌, ◌<◌, ◌^◌, None, Some, length, option_and_then};
+ghost use Rattle.machine_rules.specs.Conditions.{released_mutex, waits_on_condition, waits_with_other_mutex};
+ghost use Rattle.machine_rules.specs.Mutexes.{owned_by};
+ghost use Rattle.machine_rules.specs.Priorities.{mutex_awaited_by};
+ghost use Rattle.machine_rules.specs.State.{for_mutex_again};
+ghost use Rattle.machine_rules.specs.State as machine;
+ghost use Rattle.machine_rules.specs.Threads.{thread_at, waiting_of as waiting_at};
+ghost use Rattle.machine_rules.specs.Waiters.{somebody_waits, waiters, waits_so};
+ghost use Rattle.machine_rules.specs.Waking.{blocks, call_in};
+ghost use Rattle.kernel_state.specs.Kernel.{after, by};
+ghost use Rattle.kernel_state.specs.Waits.{CanWait};
+
+use crate::parts::Parts;
+use machine_rules::CondEnd;
+use thread_blocks::{Wait, Waiting};
+use tick_num::{ObjId, Tid};
+
+impl Parts {
+    // Whether a thread waits for the condition.
+    #[tactic(auto, using(crate::proofs::InConditions::none_waits, crate::proofs::InConditions::some_waits))]
+    fn waits_on(&self, t: Tid, c: ObjId) -> bool
+        requires { t < length self.now.names }
+        ensures { result ≡ waits_so (waits_on_condition c) (thread_at self.now.machine t) }
+    {
+        match self.wait(t) {
+            None => false,
+            Some(w) => w.is_for_condition(c),
+        }
+    }
+
+    // Whether a thread waits for the condition with another mutex.
+    #[tactic(auto, using(crate::proofs::InConditions::none_waits, crate::proofs::InConditions::some_waits))]
+    fn waits_elsewhere(&self, t: Tid, c: ObjId, k: ObjId) -> bool
+        requires { t < length self.now.names }
+        ensures { result ≡ waits_so (waits_with_other_mutex c k) (thread_at self.now.machine t) }
+    {
+        match self.wait(t) {
+            None => false,
+            Some(w) => w.is_with_other_mutex(c, k),
+        }
+    }
+
+    /// Whether somebody waits for the condition with another mutex.
+    #[tactic(auto, using(crate::proofs::InConditions::passed_by, crate::proofs::InConditions::found))]
+    pub fn is_bound_elsewhere(&self, c: ObjId, k: ObjId) -> bool
+        ensures { result ≡ somebody_waits self.now.machine (waits_with_other_mutex c k) }
+    {
+        for number in 0..self.count() {
+            let t = self.tid(number);
+            if self.waits_elsewhere(t, c, k) {
+                return true;
+            }
+        }
+        false
+    }
+
+    /// How many wait for the condition.
+    #[tactic(auto, using(crate::proofs::InConditions::counted, crate::proofs::InConditions::waiters_counted))]
+    pub fn waiting_count(&self, c: ObjId) -> u16
+        ensures value { result ≡ length (waiters self.now.machine (waits_on_condition c)) }
+        ensures few { result ≤ 64 }
+    {
+        let mut count = 0;
+        for number in 0..self.count() {
+            let t = self.tid(number);
+            if self.waits_on(t, c) {
+                count += 1;
+            }
+        }
+        count
+    }
+
+    /// The mutex that a thread's condition wait released; `None` exactly where it is in none.
+    #[tactic(auto, using(crate::proofs::InConditions::none_released, crate::proofs::InConditions::some_released))]
+    pub fn released_mutex(&self, t: Tid) -> Option<ObjId>
+        requires { t < length self.now.names }
+        ensures { result ≡ option_and_then (λ (w : machine.Waiting). released_mutex w.wait) (waiting_at self.now.machine t) }
+    {
+        match self.wait(t) {
+            None => None,
+            Some(w) => w.released_mutex(),
+        }
+    }
+
+    /// How many mutexes a thread owns.
+    pub fn owned_count(&self, t: Tid) -> usize
+        ensures { result ≡ length (owned_by self.now.machine t) }
+    {
+        self.table.owned_count(t)
+    }
+
+    /// A thread in a condition wait, which has ended, waits for its mutex, in the same call.
+    pub fn block_again(&mut self, t: Tid, k: ObjId, how: CondEnd)
+        requires known { t < length self.old.names }
+        requires waits_not { mutex_awaited_by (thread_at self.old.machine t) ≡ None }
+        requires serial { self.old.machine.next_serial < 2 ^ 63 }
+        requires may { CanWait self.old.machine t (Some k) }
+        ensures { self.new ≡ after (blocks (by t (call_in (waiting_at self.old.machine t))) (for_mutex_again k how) None) self.old }
+    {
+        let call = self.waiting_call(t);
+        let serial = self.take_serial();
+        self.block_thread(
+            t,
+            Waiting {
+                wait: Wait::MutexAgain(k, how),
+                serial,
+                due: None,
+                call,
+            },
+        );
+    }
+}
