@@ -11,3 +11,4 @@ pub mod Opened
 pub mod Closing
 pub mod Waits
 pub mod InConditions
+pub mod Nearest

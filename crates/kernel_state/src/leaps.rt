@@ -2,7 +2,7 @@
 ghost use Rattle.std.specs.Prelude.{◌≡◌, ◌≤◌, ◌<◌, ◌+◌, ◌^◌, length, IfSome};
 ghost use Rattle.machine_rules.specs.Threads.{thread_at};
 ghost use Rattle.machine_rules.specs.Turns.{becomes, changes};
-ghost use Rattle.machine_leaps.specs.Leap.{later_by};
+ghost use Rattle.machine_leaps.specs.Leap.{later_by, thread_lasts};
 ghost use Rattle.machine_leaps.specs.Quiet.{after_ticks};
 ghost use Rattle.thread_blocks.specs.Room.{HasRoom};
 ghost use Rattle.kernel_state.specs.Kernel.{after};
@@ -14,6 +14,14 @@ use step_counter::Steps;
 use tick_num::Tid;
 
 impl Parts {
+    /// How many ticks a thread, which has taken its unit, runs by itself, at most so many.
+    pub fn lasts(&self, t: Tid, most: u64) -> u64
+        requires { t < length self.now.names }
+        ensures { result ≡ thread_lasts most self.now.machine.quantum (thread_at self.now.machine t) }
+    {
+        self.table.thread(t).lasts(most, self.quantum)
+    }
+
     fn charge_thread(&mut self, t: Tid, k: u64)
         requires known { t < length self.old.names }
         requires room { HasRoom k (thread_at self.old.machine t) }

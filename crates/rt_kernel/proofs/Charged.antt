@@ -1,48 +1,43 @@
--- A tick of a unit is its taking and a leap of one tick.
-use Rattle.std.proofs.Common.{◌≡◌, ◌+◌, ℕ, zero, suc, List, [], ◌∷◌, None, Option, Some, ap, refl, sym, slice_set, slice_index_or, ◌∙◌}
+-- So many ticks of a unit are its taking and a leap.
+use Rattle.std.proofs.Common.{◌≡◌, ◌+◌, ◌≤◌, ℕ, zero, suc, List, [], ◌∷◌, None, Option, Some, ap, refl, sym, slice_set, slice_index_or, ◌∙◌}
 use Rattle.std.specs.Prelude.{option_map}
 use Rattle.script_flat.specs.declared.cursor.Cursor.{Cursor}
+use Rattle.script_flat.specs.declared.unit.Unit as unit_type
+use Rattle.script_flat.specs.declared.unit.Unit.TheVariants as unit
 use Rattle.script_tree.specs.declared.policy.Policy.{Policy}
 use Rattle.script_tree.specs.declared.policy.Policy.TheVariants as policy
 use Rattle.sporadic_server.specs.Server.{ServerState}
 use Rattle.machine_rules.specs.State.{Frame, Thread}
-use Rattle.machine_rules.specs.Servers.{charged}
-use Rattle.machine_rules.specs.Threads.{no_thread, thread_at}
-use Rattle.machine_rules.specs.Ticks.{frames_charged, later, slice_charged, tick_charged}
+use Rattle.machine_rules.specs.Threads.{no_thread, thread_at, top_kind}
 use Rattle.machine_rules.specs.Turns.{Turn, becomes, changes, ◌▷◌}
-use Rattle.machine_leaps.specs.Quiet.{after_ticks, frames_after, server_after, slice_after}
+use Rattle.machine_flat.specs.KnownCalls.{Objects}
+use Rattle.machine_leaps.specs.Leap.{later_by}
+use Rattle.machine_leaps.specs.Quiet.{after_ticks, frames_after}
 use Rattle.kernel_state.specs.Kernel.{Kernel, after}
 use Rattle.kernel_state.specs.Leaps.{leaps_by}
-
-slices_same : (p : Policy) (n : ℕ) → slice_after 1 p n ≡ slice_charged p n
-slices_same (policy.Fifo p) n = refl
-slices_same (policy.Rr p) n = refl
-slices_same (policy.Sporadic params) n = refl
-
-servers_same : (o : Option ServerState) → option_map (server_after 1) o ≡ option_map charged o
-servers_same None = refl
-servers_same (Some s) = refl
-
-frames_same : (fs : List (Frame Cursor)) → frames_after 1 fs ≡ frames_charged fs
-frames_same [] = refl
-frames_same (f ∷ fs) = refl
-
-pub one_tick_is : (th : Thread Cursor) → after_ticks 1 th ≡ tick_charged th
-one_tick_is th =
-    ap (λ (n : ℕ). record th { ticks = th.ticks + 1; slice = n; server = option_map (server_after 1) th.server; frames = frames_after 1 th.frames }) (slices_same th.policy th.slice)
-    ∙ ap (λ (o : Option ServerState). record th { ticks = th.ticks + 1; slice = slice_charged th.policy th.slice; server = o; frames = frames_after 1 th.frames }) (servers_same th.server)
-    ∙ ap (λ (fs : List (Frame Cursor)). record th { ticks = th.ticks + 1; slice = slice_charged th.policy th.slice; server = option_map charged th.server; frames = fs }) (frames_same th.frames)
+use Rattle.rt_kernel.specs.Completes.{CanComplete}
 
 set_twice : (xs : List (Thread Cursor)) (n : ℕ) (a b : Thread Cursor) → slice_set (slice_set xs n a) n b ≡ slice_set xs n b
 set_twice [] n a b = refl
 set_twice (x ∷ xs) zero a b = refl
 set_twice (x ∷ xs) (suc n) a b = ap (λ (ys : List (Thread Cursor)). x ∷ ys) (set_twice xs n a b)
 
-pub taken_and_leapt : (t : ℕ) (x : Thread Cursor) (p l m : Kernel) → l ≡ after (changes t (λ th. x)) p → thread_at l.machine t ≡ x → m ≡ after (leaps_by 1 (Some t)) l →
-    m ≡ after (λ (s : Turn Cursor). s ▷ changes t (λ th. tick_charged x) ▷ becomes later) p
-taken_and_leapt t x p l m first at second =
+pub taken_and_leapt : (t k : ℕ) (x : Thread Cursor) (p l m : Kernel) → l ≡ after (changes t (λ th. x)) p → thread_at l.machine t ≡ x → m ≡ after (leaps_by k (Some t)) l →
+    m ≡ after (λ (s : Turn Cursor). s ▷ changes t (λ th. after_ticks k x) ▷ becomes (later_by k)) p
+taken_and_leapt t k x p l m first at second =
     let ts = p.machine.threads in
     let there : slice_index_or (slice_set ts t x) t no_thread ≡ x = sym (ap (λ (k : Kernel). thread_at k.machine t) first) ∙ at in
-    let same : slice_set (slice_set ts t x) t (after_ticks 1 (slice_index_or (slice_set ts t x) t no_thread)) ≡ slice_set ts t (tick_charged x) =
-    ap (λ (y : Thread Cursor). slice_set (slice_set ts t x) t (after_ticks 1 y)) there ∙ ap (slice_set (slice_set ts t x) t) (one_tick_is x) ∙ set_twice ts t x (tick_charged x) in
-    second ∙ ap (after (leaps_by 1 (Some t))) first ∙ ap (λ (xs : List (Thread Cursor)). record p { machine = record p.machine { threads = xs; now = p.machine.now + 1 } }) same
+    let same : slice_set (slice_set ts t x) t (after_ticks k (slice_index_or (slice_set ts t x) t no_thread)) ≡ slice_set ts t (after_ticks k x) =
+    ap (λ (y : Thread Cursor). slice_set (slice_set ts t x) t (after_ticks k y)) there ∙ set_twice ts t x (after_ticks k x) in
+    second ∙ ap (after (leaps_by k (Some t))) first ∙ ap (λ (xs : List (Thread Cursor)). record p { machine = record p.machine { threads = xs; now = p.machine.now + k } }) same
+
+-- a charge leaves what a unit may ask for
+top_after : (k : ℕ) (fs : List (Frame Cursor)) → top_kind (frames_after k fs) ≡ top_kind fs
+top_after k [] = refl
+top_after k (f ∷ fs) = refl
+
+pub can_later : (o : Objects) (k : ℕ) (th : Thread Cursor) (u : unit_type.Unit) → CanComplete o th u → CanComplete o (after_ticks k th) u
+can_later o k th (unit.Run n) can = tt
+can_later o k th (unit.Make c) can = can
+can_later o k th unit.Jump can = tt
+can_later o k th unit.Finish can = (can.0, top_after k th.frames ∙ can.1)

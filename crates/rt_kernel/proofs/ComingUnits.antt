@@ -17,7 +17,8 @@ use Rattle.machine_rules.specs.Lives.{finishes_in, wakes_joiner, without_life, w
 use Rattle.machine_rules.specs.Cancellation.{is_cancellation_point, is_cancelled, request_acts}
 use Rattle.machine_rules.specs.Mutexes.{owns_boosting}
 use Rattle.machine_rules.specs.Calls.{call_effect, unit_effect}
-use Rattle.machine_rules.specs.Ticks.{TickEnd, completes_at, ends_tick, exhausting, nothing, planning, slicing, tick_charged, without_slice}
+use Rattle.machine_rules.specs.Ticks.{TickEnd, completes_at, ends_tick, exhausting, nothing, planning, slicing, without_slice}
+use Rattle.machine_leaps.specs.Quiet.{after_ticks}
 use Rattle.machine_rules.specs.Units.{in_unit, in_unit_if, in_unit_of, top_in_unit}
 use Rattle.machine_flat.specs.KnownCalls.{Objects}
 use Rattle.rt_kernel.specs.Completes.{CanComplete}
@@ -70,9 +71,9 @@ unit_status bodies (f ∷ fs) th = top_status bodies f.left f fs th
 taken_status : {P : Type 0} (bodies : Bodies P) (th : Thread P) → th.is_ending ≡ false → (in_unit bodies th).thread.status ≡ th.status
 taken_status bodies th e = ap (λ (b : Bool). (in_unit_if bodies (b && is_main (top_kind th.frames) && top_left th.frames == 0) th).thread.status) e ∙ unit_status bodies th.frames th
 
-pub charge_same : {P : Type 0} (bodies : Bodies P) (m : Machine P) (t u : ℕ) → (thread_at m t).is_ending ≡ false →
-    can_run (with_thread t (λ th. tick_charged (in_unit bodies (thread_at m t)).thread) m) u ≡ can_run m u
-charge_same bodies m t u e = same_at (λ th. tick_charged (in_unit bodies (thread_at m t)).thread) m.threads t u (ap is_runnable (taken_status bodies (thread_at m t) e))
+pub charge_same : {P : Type 0} (bodies : Bodies P) (k : ℕ) (m : Machine P) (t u : ℕ) → (thread_at m t).is_ending ≡ false →
+    can_run (with_thread t (λ th. after_ticks k (in_unit bodies (thread_at m t)).thread) m) u ≡ can_run m u
+charge_same bodies k m t u e = same_at (λ th. after_ticks k (in_unit bodies (thread_at m t)).thread) m.threads t u (ap is_runnable (taken_status bodies (thread_at m t) e))
 
 -- ---- the rule of the tick's end
 

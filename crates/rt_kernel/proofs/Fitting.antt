@@ -11,7 +11,8 @@ use Rattle.machine_rules.specs.Threads.{can_run, is_blocked, is_runnable, thread
 use Rattle.machine_rules.specs.Turns.{Turn, becomes, changes, with_thread}
 use Rattle.machine_rules.specs.Dispatch.{dispatch_of, dispatches, head}
 use Rattle.machine_rules.specs.DueItems.{instant, item_bound}
-use Rattle.machine_rules.specs.Ticks.{later, tick_charged}
+use Rattle.machine_leaps.specs.Leap.{later_by}
+use Rattle.machine_leaps.specs.Quiet.{after_ticks}
 use Rattle.machine_rules.specs.Units.{in_unit}
 use Rattle.machine_rules.proofs.Reading.{changed-length, thread-other}
 use Rattle.machine_rules.specs.Threads.{no_thread}
@@ -31,7 +32,7 @@ use Rattle.kernel_state.specs.Stood.{StoodRight}
 use Rattle.kernel_events.specs.Built.{objects_in}
 use Rattle.rt_kernel.specs.Completes.{CanAct}
 use Rattle.rt_kernel.specs.Counts.{Counts, counts_in, counts_of}
-use Rattle.rt_kernel.specs.Fits.{Fits, FitsTick, ItemsFit}
+use Rattle.rt_kernel.specs.Fits.{Fits, FitsLeap, ItemsFit}
 use Rattle.rt_kernel.proofs.ComingUnits.{charge_same}
 
 -- ---- the objects stay the same
@@ -79,20 +80,20 @@ module _ {P : Type 0} (m : Machine P) where
 
 -- ---- so it may have a tick
 
-head_fits : (o : Objects) (code : flat.Bodies (List Op)) (m : Machine Cursor) (last : LastDispatch) (t : ℕ) → StoodRight m → head m ≡ Some t → Fits o code m → FitsTick o code (record m { last = last }) t
+head_fits : (o : Objects) (code : flat.Bodies (List Op)) (m : Machine Cursor) (last : LastDispatch) (t : ℕ) → StoodRight m → head m ≡ Some t → Fits o code m → FitsLeap o code (record m { last = last }) t
 head_fits o code m last t stood e fit = record { thread = fit.top t e; runs = head_runs m t stood e; waits = fit.items.waits; serial = fit.serial; threads = fit.threads }
 
 pub dispatched_fits : (p l : Kernel) (to : Option ℕ) → to ≡ head p.machine → l ≡ after (dispatches (head p.machine)) p → StoodRight p.machine → Fits (objects_in p) p.code p.machine →
-    IfSome to (λ t. FitsTick (objects_in l) l.code l.machine t)
-dispatched_fits p l to top state stood fit = subst (λ (o : Option ℕ). IfSome o (λ t. FitsTick (objects_in l) l.code l.machine t)) (sym top) (by_head (head p.machine) refl)
+    IfSome to (λ t. FitsLeap (objects_in l) l.code l.machine t)
+dispatched_fits p l to top state stood fit = subst (λ (o : Option ℕ). IfSome o (λ t. FitsLeap (objects_in l) l.code l.machine t)) (sym top) (by_head (head p.machine) refl)
   where
-    by_head : (o : Option ℕ) → head p.machine ≡ o → IfSome o (λ t. FitsTick (objects_in l) l.code l.machine t)
+    by_head : (o : Option ℕ) → head p.machine ≡ o → IfSome o (λ t. FitsLeap (objects_in l) l.code l.machine t)
     by_head None e = tt
     by_head (Some t) e =
         let last = dispatch_of (head p.machine) in
-        let there : FitsTick (objects_in (record p { machine = (dispatches (head p.machine) (turn p)).machine })) p.code (dispatches (head p.machine) (turn p)).machine t =
-        subst (λ (m : Machine Cursor). FitsTick (objects_in (record p { machine = m })) p.code m t) (sym (dispatched (head p.machine) (turn p))) (head_fits (objects_in p) p.code p.machine last t stood e fit) in
-        subst (λ (x : Kernel). FitsTick (objects_in x) x.code x.machine t) (sym state) there
+        let there : FitsLeap (objects_in (record p { machine = (dispatches (head p.machine) (turn p)).machine })) p.code (dispatches (head p.machine) (turn p)).machine t =
+        subst (λ (m : Machine Cursor). FitsLeap (objects_in (record p { machine = m })) p.code m t) (sym (dispatched (head p.machine) (turn p))) (head_fits (objects_in p) p.code p.machine last t stood e fit) in
+        subst (λ (x : Kernel). FitsLeap (objects_in x) x.code x.machine t) (sym state) there
 
 -- ---- and its effect may count on this
 
@@ -117,19 +118,19 @@ running_in_none ended e = refl
 same_number : (t u : ℕ) → (t == u) ≡ true → t ≡ u
 same_number t u e = grind arith
 
-pub charged_acts : (p l : Kernel) (t : ℕ) → FitsTick (objects_in p) p.code p.machine t → p.machine.now < 10 ^ 18 →
-    l ≡ after (λ (s : Turn Cursor). becomes later (changes t (λ th. tick_charged (in_unit (flat_bodies p.code) (thread_at p.machine t)).thread) s)) p → CanAct l t
-charged_acts p l t fit early state = subst (λ (k : Kernel). CanAct k t) (sym state) acts
+pub charged_acts : (p l : Kernel) (t k : ℕ) → FitsLeap (objects_in p) p.code p.machine t → p.machine.now ≤ 10 ^ 18 →
+    l ≡ after (λ (s : Turn Cursor). becomes (later_by k) (changes t (λ th. after_ticks k (in_unit (flat_bodies p.code) (thread_at p.machine t)).thread) s)) p → CanAct l t
+charged_acts p l t k fit early state = subst (λ (x : Kernel). CanAct x t) (sym state) acts
   where
     f : Thread Cursor → Thread Cursor
-    f th = tick_charged (in_unit (flat_bodies p.code) (thread_at p.machine t)).thread
+    f th = after_ticks k (in_unit (flat_bodies p.code) (thread_at p.machine t)).thread
 
-    acts : CanAct (record p { machine = record p.machine { threads = (with_thread t f p.machine).threads; now = p.machine.now + 1 } }) t
+    acts : CanAct (record p { machine = record p.machine { threads = (with_thread t f p.machine).threads; now = p.machine.now + k } }) t
     acts = record {
       threads = changed-length no_thread t f p.machine.threads ∙ fit.threads;
-      runs = charge_same (flat_bodies p.code) p.machine t t fit.thread.can.goes_on ∙ fit.runs;
+      runs = charge_same (flat_bodies p.code) k p.machine t t fit.thread.can.goes_on ∙ fit.runs;
       waits = record { built = waits_at; rests = rests_at; own_none = own_at };
-      serial = fit.serial (omega (arith, early));
+      serial = fit.serial early;
     }
       where
         waits_at : (u : ℕ) → AreBuiltWaits (length p.machine.mutexes) (waiting_in (thread_at (with_thread t f p.machine) u).status)
@@ -137,7 +138,7 @@ charged_acts p l t fit early state = subst (λ (k : Kernel). CanAct k t) (sym st
           where
             by_number : (b : Bool) → (t == u) ≡ b → AreBuiltWaits (length p.machine.mutexes) (waiting_in (thread_at (with_thread t f p.machine) u).status)
             by_number true it =
-                let runs = charge_same (flat_bodies p.code) p.machine t t fit.thread.can.goes_on ∙ fit.runs in
+                let runs = charge_same (flat_bodies p.code) k p.machine t t fit.thread.can.goes_on ∙ fit.runs in
                 subst (λ (k : ℕ). AreBuiltWaits (length p.machine.mutexes) (waiting_in (thread_at (with_thread t f p.machine) k).status)) (same_number t u it)
                 (running_waits (length p.machine.mutexes) (thread_at (with_thread t f p.machine) t).status runs)
             by_number false other =
@@ -149,7 +150,7 @@ charged_acts p l t fit early state = subst (λ (k : Kernel). CanAct k t) (sym st
           where
             by_number : (b : Bool) → (t == u) ≡ b → owned_by p.machine u ≡ []
             by_number true it =
-                let runs = charge_same (flat_bodies p.code) p.machine t t fit.thread.can.goes_on ∙ fit.runs in
+                let runs = charge_same (flat_bodies p.code) k p.machine t t fit.thread.can.goes_on ∙ fit.runs in
                 not_both (waits_so is_in_condition_wait (thread_at (with_thread t f p.machine) t)) (running_in_none (thread_at (with_thread t f p.machine) t).status runs)
                 (subst (λ (k : ℕ). waits_so is_in_condition_wait (thread_at (with_thread t f p.machine) k) ≡ true) (sym (same_number t u it)) e)
             by_number false other =
@@ -160,7 +161,7 @@ charged_acts p l t fit early state = subst (λ (k : Kernel). CanAct k t) (sym st
         rests_at u e = by_number (t == u) refl
           where
             off : can_run p.machine u ≡ false
-            off = sym (charge_same (flat_bodies p.code) p.machine t u fit.thread.can.goes_on) ∙ blocked_rests (thread_at (with_thread t f p.machine) u).status e
+            off = sym (charge_same (flat_bodies p.code) k p.machine t u fit.thread.can.goes_on) ∙ blocked_rests (thread_at (with_thread t f p.machine) u).status e
 
             by_number : (b : Bool) → (t == u) ≡ b → IsUnused (thread_at (with_thread t f p.machine) u).server
             by_number true it = not_both (can_run p.machine u) off (subst (λ (k : ℕ). can_run p.machine k ≡ true) (same_number t u it) fit.runs)

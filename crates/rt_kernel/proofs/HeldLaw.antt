@@ -85,10 +85,6 @@ top_main : (fs : List (Frame Cursor)) → AreMain fs → top_kind fs ≡ kind.Ma
 top_main [] h = refl
 top_main (f ∷ fs) h = h.0
 
-top_charged_main : (fs : List (Frame Cursor)) → AreMain fs → top_kind (frames_charged fs) ≡ kind.Main
-top_charged_main [] h = refl
-top_charged_main (f ∷ fs) h = h.0
-
 -- ---- changes of a thread
 
 module _ (o : Objects) (code : flat.Bodies (List Op)) (calls : (n : ℕ) → EachMade (IsBuilt o) (ops_of code n)) where
@@ -164,7 +160,7 @@ module _ (o : Objects) (code : flat.Bodies (List Op)) (calls : (n : ℕ) → Eac
 
   pub record Taken (x : InUnit Cursor) : Type 0 where
     pub held : IsHeld o.mutexes x.thread
-    pub can : CanComplete o (tick_charged x.thread) x.unit
+    pub can : CanComplete o x.thread x.unit
 
   can_of : (th : Thread Cursor) (u : unit_type.Unit) → UnitMakes (IsBuilt o) u → th.is_requested ≡ false → th.joiner ≡ nobody → top_kind th.frames ≡ kind.Main → CanComplete o th u
   can_of th (unit.Run k) makes free alone main = tt
@@ -175,12 +171,12 @@ module _ (o : Objects) (code : flat.Bodies (List Op)) (calls : (n : ℕ) → Eac
   taken_top : (left : ℕ) (f : Frame Cursor) (fs : List (Frame Cursor)) (th : Thread Cursor) → IsHeld o.mutexes th → AreMain (f ∷ fs) → Taken (top_in_unit (flat_bodies code) left f fs th)
   taken_top zero f fs th h main = record {
     held = record { goes_on = h.goes_on; free = h.free; alone = h.alone; waits = h.waits; main = main };
-    can = can_of (tick_charged (top_in_unit (flat_bodies code) zero f fs th).thread) (next_of (flat_bodies code) f).unit (fetched_makes (IsBuilt o) code (cursor_of f) (calls f.place.body)) h.free h.alone main.0;
+    can = can_of (top_in_unit (flat_bodies code) zero f fs th).thread (next_of (flat_bodies code) f).unit (fetched_makes (IsBuilt o) code (cursor_of f) (calls f.place.body)) h.free h.alone main.0;
   }
   taken_top (suc left) f fs th h main = record { held = h; can = tt }
 
   taken_of : (fs : List (Frame Cursor)) (th : Thread Cursor) → IsHeld o.mutexes th → AreMain fs → Taken (in_unit_of (flat_bodies code) fs th)
-  taken_of [] th h main = record { held = h; can = (h.alone, top_charged_main th.frames h.main) }
+  taken_of [] th h main = record { held = h; can = (h.alone, top_main th.frames h.main) }
   taken_of (f ∷ fs) th h main = taken_top f.left f fs th h main
 
   taken : (th : Thread Cursor) → IsHeld o.mutexes th → Taken (in_unit (flat_bodies code) th)
@@ -190,11 +186,11 @@ module _ (o : Objects) (code : flat.Bodies (List Op)) (calls : (n : ℕ) → Eac
   pub can_tick : (th : Thread Cursor) → IsHeld o.mutexes th → CanTick o (flat_bodies code) th
   can_tick th h = record { goes_on = h.goes_on; completes = (taken th h).can }
 
-  unit_known : (th : Thread Cursor) (u : unit_type.Unit) → CanComplete o th u → UnitKnown built th u
-  unit_known th (unit.Run k) can = tt
-  unit_known th (unit.Make c) can = can.1
-  unit_known th unit.Jump can = tt
-  unit_known th unit.Finish can = tt
+  unit_known : (before th : Thread Cursor) (u : unit_type.Unit) → CanComplete o before u → UnitKnown built th u
+  unit_known before th (unit.Run k) can = tt
+  unit_known before th (unit.Make c) can = can.1
+  unit_known before th unit.Jump can = tt
+  unit_known before th unit.Finish can = tt
 
   held_lasts : Lasts built HeldNow
   held_lasts = record {
@@ -202,7 +198,7 @@ module _ (o : Objects) (code : flat.Bodies (List Op)) (calls : (n : ℕ) → Eac
     passes = λ to. record {
       rests = λ now u th e q. q;
       runs = λ now t th e q. held_charged (in_unit (flat_bodies code) th).thread (taken th q).held;
-      known = λ now t th e q. unit_known (tick_charged (in_unit (flat_bodies code) th).thread) (in_unit (flat_bodies code) th).unit (taken th q).can;
+      known = λ now t th e q. unit_known (in_unit (flat_bodies code) th).thread (tick_charged (in_unit (flat_bodies code) th).thread) (in_unit (flat_bodies code) th).unit (taken th q).can;
     };
   }
 

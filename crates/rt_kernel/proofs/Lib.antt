@@ -10,3 +10,8 @@ pub mod Ranges
 pub mod Serials
 pub mod Opened
 pub mod Charged
+pub mod Lengths
+pub mod Taken
+pub mod LeapParts
+pub mod LeapCounts
+pub mod TickTimes

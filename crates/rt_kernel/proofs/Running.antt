@@ -1,19 +1,24 @@
--- A run in which some ticks are done.
+-- A run in which some leaps are done.
 use Rattle.std.proofs.Common.{◌≡◌, ◌≤◌, ◌+◌, ℕ, suc, List, [], Option, ap, arith, refl, subst, sym, true, ◌∙◌}
 use Rattle.pse52_trace.specs.declared.tracer.Tracer.{Tracer}
 use Rattle.pse52_trace.specs.Tells.{Tells}
+use Rattle.pse52_trace.specs.Text.{Entry}
 use Rattle.pse52_trace.proofs.Tells.{tells_both, tells_nothing, tells_stopped}
 use Rattle.script_flat.specs.declared.cursor.Cursor.{Cursor}
 use Rattle.machine_rules.specs.State.{Machine}
 use Rattle.machine_rules.specs.Turns.{Turn, turn_of}
-use Rattle.machine_rules.specs.Ticks.{tick}
-use Rattle.machine_rules.specs.DueItems.{items_done}
-use Rattle.machine_rules.specs.Runs.{Ran, tick_of, ticks}
+use Rattle.machine_rules.specs.DueItems.{instant, items_done}
+use Rattle.machine_rules.specs.Eventful.{busy}
+use Rattle.machine_rules.specs.Runs.{Ran, ran, ticks}
 use Rattle.machine_rules.proofs.Joined.{ticks_add}
 use Rattle.machine_flat.specs.FlatBodies.{flat_bodies}
 use Rattle.machine_flat.specs.KnownCalls.{Objects}
 use Rattle.kernel_events.specs.Built.{objects_in}
-use Rattle.rt_kernel.specs.Fits.{Fits, ItemsFit, StaysFit}
+use Rattle.machine_leaps.specs.Leap.{IsLeap, in_leaps, leap, leap_length}
+use Rattle.machine_leaps.proofs.Leaps.Counts.{StaysReady, are_leaps}
+use Rattle.machine_leaps.proofs.Leaps.Lengths.{is_leap}
+use Rattle.machine_leaps.proofs.Quiet.AnyMachine.{handled_of}
+use Rattle.rt_kernel.specs.Fits.{CanLeap, Fits, ItemsFit, StaysFit}
 use Rattle.rt_kernel.proofs.Fitting.{objects_same}
 use Rattle.kernel_state.specs.Kernel.{Kernel, after, told, turn}
 use Rattle.kernel_state.specs.Stood.{StoodRight}
@@ -24,24 +29,37 @@ pub record Running {K : Type 0} (text : K → Option (List ℕ)) (faults : K →
   pub told : Tells text faults start.names a b (ticks (flat_bodies start.code) n start.machine).events
   pub stood : StoodRight k.machine
   pub quiet : k.direct ≡ []
-  pub later : start.machine.now ≤ k.machine.now
-  pub time : k.machine.now ≤ start.machine.now + n
 
 turn_is : (k : Kernel) → k.direct ≡ [] → turn k ≡ turn_of k.machine
 turn_is k quiet = ap (λ (d : List ℕ). record { machine = k.machine; direct = d; events = [] }) quiet
 
--- the kernel after a tick
-ticked : Kernel → Kernel
-ticked k = record k { machine = (tick_of (flat_bodies k.code) k.machine).machine }
+-- the kernel after so many ticks
+ticked : ℕ → Kernel → Kernel
+ticked n k = record k { machine = (ticks (flat_bodies k.code) n k.machine).machine }
 
-ticked_is : (k l : Kernel) → k.direct ≡ [] → l.direct ≡ [] → l ≡ after (tick (flat_bodies k.code)) k → l ≡ ticked k
+-- a leap leaves it where its ticks do
+leapt_is : (j : ℕ) (k l : Kernel) → k.direct ≡ [] → l.direct ≡ [] → ran (leap (flat_bodies k.code) j (turn_of k.machine)) ≡ ticks (flat_bodies k.code) j k.machine →
+    l ≡ after (leap (flat_bodies k.code) j) k → l ≡ ticked j k
 unfolding ticked
-ticked_is k l quiet still state =
-    let s = tick (flat_bodies k.code) (turn k) in
-    let same : s.machine ≡ (tick_of (flat_bodies k.code) k.machine).machine = ap (λ (x : Turn Cursor). (tick (flat_bodies k.code) x).machine) (turn_is k quiet) in
+leapt_is j k l quiet still same state =
+    let s = leap (flat_bodies k.code) j (turn k) in
+    let there : s.machine ≡ (ticks (flat_bodies k.code) j k.machine).machine =
+    ap (λ (x : Turn Cursor). (leap (flat_bodies k.code) j x).machine) (turn_is k quiet) ∙ ap (λ (r : Ran Cursor). r.machine) same in
     let none : s.direct ≡ k.direct = sym (ap (λ (x : Kernel). x.direct) state) ∙ still ∙ sym quiet in
-    state ∙ ap (λ (m : Machine Cursor). record k { machine = m; direct = s.direct }) same
-    ∙ ap (λ (d : List ℕ). record k { machine = (tick_of (flat_bodies k.code) k.machine).machine; direct = d }) none
+    state ∙ ap (λ (m : Machine Cursor). record k { machine = m; direct = s.direct }) there
+    ∙ ap (λ (d : List ℕ). record k { machine = (ticks (flat_bodies k.code) j k.machine).machine; direct = d }) none
+
+-- and it is one to leap from
+leaps_from : (k : Kernel) (o : Objects) → StaysFit k o → StaysReady (flat_bodies k.code) k.machine
+leaps_from k o fit n =
+    let can = fit.leaps n in
+    record { still = can.still; handled = handled_of (flat_bodies k.code) (instant (flat_bodies k.code) (turn_of (ticks (flat_bodies k.code) n k.machine).machine)).machine can.handled; slices = can.slices }
+
+pub is_leap_of : (k : Kernel) (o : Objects) (most : ℕ) → 1 ≤ most → StaysFit k o → IsLeap (flat_bodies k.code) most (leap_length (flat_bodies k.code) most k.machine) k.machine
+is_leap_of k o most some fit = is_leap (flat_bodies k.code) k.machine most some (leaps_from k o fit 0)
+
+pub few_leaps : (k : Kernel) (o : Objects) (most : ℕ) → StaysFit k o → (in_leaps (flat_bodies k.code) most k.machine).count ≤ busy (flat_bodies k.code) k.machine 0 most + 1
+few_leaps k o most fit = (are_leaps (flat_bodies k.code) most most k.machine (omega arith) (leaps_from k o fit)).few
 
 -- what stays so from a kernel on stays so from each later one on
 stays_fit_later : (start k : Kernel) (n : ℕ) (o : Objects) → k ≡ record start { machine = (ticks (flat_bodies start.code) n start.machine).machine } → StaysFit start o → StaysFit k o
@@ -50,6 +68,7 @@ stays_fit_later start k n o state fit =
     let first = (ticks bodies n start.machine).machine in
     let later : StaysFit (record start { machine = first }) o = record {
       each = λ i most. subst (λ (r : Ran Cursor). Fits o start.code (items_done bodies most (turn_of r.machine)).machine) (ticks_add bodies n i start.machine) (fit.each (n + i) most);
+      leaps = λ i. subst (λ (r : Ran Cursor). CanLeap bodies r.machine) (ticks_add bodies n i start.machine) (fit.leaps (n + i));
     } in
     subst (λ (x : Kernel). StaysFit x o) (sym state) later
 
@@ -67,28 +86,25 @@ items_fit k quiet fit = record {
 
 module _ {K : Type 0} (text : K → Option (List ℕ)) (faults : K → ℕ) where
   pub no_ticks : (start : Kernel) (a : Tracer K) → StoodRight start.machine → start.direct ≡ [] → Running text faults start start 0 a a
-  no_ticks start a stood quiet = record { state = refl; told = tells_nothing text faults start.names a; stood = stood; quiet = quiet; later = omega arith; time = omega arith }
+  no_ticks start a stood quiet = record { state = refl; told = tells_nothing text faults start.names a; stood = stood; quiet = quiet }
 
-  -- one more
-  pub one_tick : (start k l : Kernel) (n : ℕ) (a b c : Tracer K) → Running text faults start k n a b → l ≡ after (tick (flat_bodies k.code)) k →
-      Tells text faults k.names b c (told (tick (flat_bodies k.code)) k) → StoodRight l.machine → l.direct ≡ [] → k.machine.now ≤ l.machine.now → l.machine.now ≤ k.machine.now + 1 →
-      Running text faults start l (n + 1) a c
+  -- one leap more
+  pub one_leap : (start k l : Kernel) (n j : ℕ) (a b c : Tracer K) → Running text faults start k n a b → ran (leap (flat_bodies k.code) j (turn_of k.machine)) ≡ ticks (flat_bodies k.code) j k.machine →
+      l ≡ after (leap (flat_bodies k.code) j) k → Tells text faults k.names b c (told (leap (flat_bodies k.code) j) k) → StoodRight l.machine → l.direct ≡ [] → Running text faults start l (n + j) a c
   unfolding ticked
-  one_tick start k l n a b c running state tells stood quiet later time =
-      let m = (ticks (flat_bodies start.code) n start.machine).machine in
-      let more : n + 1 ≡ suc n = omega arith in
-      let first = ticked_is k l running.quiet quiet state ∙ ap ticked running.state in
-      let here = subst (λ (s : Turn Cursor). Tells text faults k.names b c (tick (flat_bodies k.code) s).events) (turn_is k running.quiet) tells in
-      let there = subst (λ (x : Kernel). Tells text faults x.names b c (tick_of (flat_bodies x.code) x.machine).events) running.state here in
-      let all : Running text faults start l (suc n) a c = record {
-        state = first;
-        told = tells_both text faults start.names a b c _ _ _ running.told there refl;
+  one_leap start k l n j a b c running same state tells stood quiet =
+      let bodies = flat_bodies start.code in
+      let first = leapt_is j k l running.quiet quiet same state ∙ ap (ticked j) running.state in
+      let turned = ap (λ (x : Turn Cursor). (leap (flat_bodies k.code) j x).events) (turn_is k running.quiet) ∙ ap (λ (r : Ran Cursor). r.events) same in
+      let here = subst (λ (es : List Entry). Tells text faults k.names b c es) turned tells in
+      let there = subst (λ (x : Kernel). Tells text faults x.names b c (ticks (flat_bodies x.code) j x.machine).events) running.state here in
+      let both = ticks_add bodies n j start.machine in
+      record {
+        state = first ∙ ap (λ (r : Ran Cursor). record start { machine = r.machine }) (sym both);
+        told = tells_both text faults start.names a b c _ _ _ running.told there (sym (ap (λ (r : Ran Cursor). r.events) both));
         stood = stood;
         quiet = quiet;
-        later = omega (arith, running.later);
-        time = omega (arith, running.time);
-      } in
-      subst (λ (j : ℕ). Running text faults start l j a c) (sym more) all
+      }
 
   -- after a failure more ticks may have come
   pub stopped_told : (start k : Kernel) (n d : ℕ) (a b : Tracer K) → Running text faults start k n a b → b.failed ≡ true →

@@ -8,7 +8,6 @@ use Rattle.machine_rules.specs.Bodies.{Bodies}
 use Rattle.machine_rules.specs.Cancellation.{request_acts}
 use Rattle.machine_rules.specs.State.{Thread, nobody}
 use Rattle.machine_rules.specs.Threads.{can_run, is_blocked, thread_at, top_kind}
-use Rattle.machine_rules.specs.Ticks.{tick_charged}
 use Rattle.machine_rules.specs.Units.{in_unit}
 use Rattle.machine_flat.specs.KnownCalls.{Objects}
 use Rattle.thread_blocks.specs.Unused.{IsUnused}
@@ -23,10 +22,10 @@ CanComplete o th (unit.Make c) = (request_acts th ≡ false) × IsBuilt o c
 CanComplete o th unit.Jump = Unit {0}
 CanComplete o th unit.Finish = (th.joiner ≡ nobody) × (top_kind th.frames ≡ frame.Main)
 
--- a thread can have a tick
+-- a thread can have ticks
 pub record CanTick (o : Objects) (bodies : Bodies Cursor) (th : Thread Cursor) : Type 0 where
   pub goes_on : th.is_ending ≡ false
-  pub completes : CanComplete o (tick_charged (in_unit bodies th).thread) (in_unit bodies th).unit
+  pub completes : CanComplete o (in_unit bodies th).thread (in_unit bodies th).unit
 
 -- What an effect of a thread's unit may count on: the thread runs, only what is built is waited for, blocked threads have used nothing,
 -- and a serial is left.

@@ -1,5 +1,5 @@
 -- What the code asks of the states of a run, beside what the parts hold by themselves.
-use Rattle.std.specs.Prelude.{◌≡◌, ◌≤◌, ◌<◌, ◌^◌, ℕ, List, Some, length, true}
+use Rattle.std.specs.Prelude.{◌≡◌, ◌≤◌, ◌<◌, ◌^◌, ℕ, List, [], Some, length, true}
 use Rattle.script_flat.specs.declared.cursor.Cursor.{Cursor}
 use Rattle.script_flat.specs.declared.op.Op.{Op}
 use Rattle.script_flat.specs.Flat as flat
@@ -7,9 +7,11 @@ use Rattle.machine_rules.specs.State.{Machine, Thread}
 use Rattle.machine_rules.specs.Threads.{can_run, is_blocked, thread_at}
 use Rattle.machine_rules.specs.Dispatch.{head}
 use Rattle.machine_rules.specs.Turns.{turn_of}
-use Rattle.machine_rules.specs.DueItems.{items_done}
+use Rattle.machine_rules.specs.DueItems.{instant, items_done}
 use Rattle.machine_rules.specs.Runs.{ticks}
 use Rattle.machine_flat.specs.FlatBodies.{flat_bodies}
+use Rattle.machine_leaps.specs.Quiet.{IsHandled}
+use Rattle.machine_rules.specs.Bodies.{Bodies}
 use Rattle.machine_flat.specs.KnownCalls.{Objects}
 use Rattle.machine_flat.specs.Placed.{ArePlaced}
 use Rattle.thread_laws.specs.Within.{IsWithin}
@@ -21,7 +23,7 @@ use Rattle.rt_kernel.specs.Completes.{CanTick}
 use Rattle.rt_kernel.specs.Counts.{counts_in, counts_of}
 use Rattle.rt_kernel.specs.Good.{IsGood}
 
--- a thread that may have a tick
+-- a thread that may have ticks
 pub record FitsThread (o : Objects) (code : flat.Bodies (List Op)) (now : ℕ) (th : Thread Cursor) : Type 0 where
   pub can : CanTick o (flat_bodies code) th
   pub placed : ArePlaced code th.frames
@@ -31,7 +33,7 @@ pub record FitsThread (o : Objects) (code : flat.Bodies (List Op)) (now : ℕ) (
 abbrev pub HasSerials : Machine Cursor → Type 0
 HasSerials m = m.now ≤ 10 ^ 18 → m.next_serial < 2 ^ 62
 
--- a machine with so many objects, whose head may have a tick
+-- a machine with so many objects, whose head may have ticks
 pub record Fits (o : Objects) (code : flat.Bodies (List Op)) (m : Machine Cursor) : Type 0 where
   pub items : CanHandle m
   pub top : (t : ℕ) → head m ≡ Some t → FitsThread o code m.now (thread_at m t)
@@ -40,8 +42,8 @@ pub record Fits (o : Objects) (code : flat.Bodies (List Op)) (m : Machine Cursor
   pub counts : counts_of m ≡ counts_in o
   pub good : IsGood (flat_bodies code) m
 
--- a thread of a machine may have a tick
-pub record FitsTick (o : Objects) (code : flat.Bodies (List Op)) (m : Machine Cursor) (t : ℕ) : Type 0 where
+-- a thread of a machine may have ticks
+pub record FitsLeap (o : Objects) (code : flat.Bodies (List Op)) (m : Machine Cursor) (t : ℕ) : Type 0 where
   pub thread : FitsThread o code m.now (thread_at m t)
   pub runs : can_run m t ≡ true
   pub waits : WaitsFit m
@@ -52,6 +54,13 @@ pub record FitsTick (o : Objects) (code : flat.Bodies (List Op)) (m : Machine Cu
 pub record ItemsFit (k : Kernel) (o : Objects) : Type 0 where
   pub each : (n : ℕ) → Fits o k.code (items_done (flat_bodies k.code) n (turn k)).machine
 
+-- An instant from which the run may leap: its items are handled, nothing is left to settle, and no interval is used up.
+pub record CanLeap (bodies : Bodies Cursor) (m : Machine Cursor) : Type 0 where
+  pub still : (instant bodies (turn_of m)).direct ≡ []
+  pub handled : IsHandled (instant bodies (turn_of m)).machine
+  pub slices : (t : ℕ) → (thread_at (instant bodies (turn_of m)).machine t).slice < (instant bodies (turn_of m)).machine.quantum
+
 -- after some ticks, and some items of the next
 pub record StaysFit (k : Kernel) (o : Objects) : Type 0 where
   pub each : (n most : ℕ) → Fits o k.code (items_done (flat_bodies k.code) most (turn_of (ticks (flat_bodies k.code) n k.machine).machine)).machine
+  pub leaps : (n : ℕ) → CanLeap (flat_bodies k.code) (ticks (flat_bodies k.code) n k.machine).machine

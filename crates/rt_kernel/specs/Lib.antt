@@ -5,3 +5,4 @@ pub mod Fits
 pub mod Held
 pub mod Ready
 pub mod Ran
+pub mod Reach

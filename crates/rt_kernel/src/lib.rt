@@ -1,11 +1,11 @@
-//! The kernel: it runs the flat code of a script tick by tick, and prints what happens.
+//! The kernel: it runs the flat code of a script in leaps, which come to the same as ticks, and prints what happens.
 #![tactic(auto)]
 
 mod instant;
 mod kernel;
+mod leaps;
 mod run;
 mod tick_ends;
-mod ticks;
 mod units;
 
 pub use kernel::Kernel;

@@ -1,14 +1,16 @@
 // A run.
 ghost use Rattle.std.specs.Prelude.{◌≡◌, ◌≤◌, ◌<◌, ◌+◌, ◌-◌, ◌^◌, [], true, false};
 ghost use Rattle.pse52_trace.specs.Tells.{Tells};
+ghost use Rattle.machine_rules.specs.Eventful.{busy};
 ghost use Rattle.machine_rules.specs.Runs.{ticks};
 ghost use Rattle.machine_flat.specs.FlatBodies.{flat_bodies};
+ghost use Rattle.machine_leaps.specs.Leap.{in_leaps};
 ghost use Rattle.kernel_events.specs.Built.{objects_in};
 ghost use Rattle.rt_kernel.specs.Fits.{StaysFit};
 ghost use Rattle.kernel_state.specs.Kernel.{Kernel};
 ghost use Rattle.kernel_state.specs.Stood.{StoodRight};
 
-use crate::ticks::do_tick;
+use crate::leaps::do_leap;
 use kernel_state::Parts;
 use pse52_trace::Tracer;
 use rt_io::Sink;
@@ -25,9 +27,9 @@ pub enum RunEnd {
     Stopped,
 }
 
-/// Runs tick by tick to the horizon, or until a write fails, in one step a tick.
+/// Runs in leaps to the horizon, or until a write fails, in one step a leap.
 #[tactic(auto, using(crate::proofs::Running::still_fits))]
-pub(crate) fn run_ticks<K: Sink, L: Ledger>(
+pub(crate) fn run_leaps<K: Sink, L: Ledger>(
     p: &mut Parts,
     horizon: Tick,
     out: &mut Tracer<'_, K>,
@@ -49,10 +51,13 @@ pub(crate) fn run_ticks<K: Sink, L: Ledger>(
     ensures fits { StaysFit p.new (objects_in p.new) }
     ensures later { p.old.machine.now ≤ p.new.machine.now }
     ensures not_beyond { p.new.machine.now ≤ horizon }
-    ensures steps { steps.new + p.old.machine.now ≡ steps.old + p.new.machine.now }
+    ensures steps { steps.new ≤ steps.old + (in_leaps (flat_bodies p.old.code) (horizon - p.old.machine.now) p.old.machine).count }
+    ensures busy { steps.new ≤ steps.old + busy (flat_bodies p.old.code) p.old.machine 0 (horizon - p.old.machine.now) + 1 }
 {
-    for k in 0..horizon.get() - p.instant().get() {
-        do_tick(p, out, steps);
+    let total = horizon.get() - p.instant().get();
+    let mut done = 0;
+    'leaps: while done < total {
+        done += do_leap(p, total - done, out, steps);
         if out.failed() {
             return RunEnd::Stopped;
         }

@@ -1,5 +1,5 @@
-// One tick of a thread's unit.
-ghost use Rattle.std.specs.Prelude.{◌≡◌, ◌≤◌, ◌<◌, ◌+◌, ◌^◌, [], length, false, true};
+// So many ticks of a thread's unit.
+ghost use Rattle.std.specs.Prelude.{◌≡◌, ◌≤◌, ◌<◌, ◌+◌, ◌^◌, [], length, false, max, min, true};
 ghost use Rattle.pse52_trace.specs.Tells.{Tells};
 ghost use Rattle.script_flat.specs.declared.unit.Unit.{Unit};
 ghost use Rattle.script_flat.specs.declared.unit.Unit.TheVariants as unit;
@@ -9,15 +9,18 @@ ghost use Rattle.machine_rules.specs.Calls.{makes_call, unit_effect};
 ghost use Rattle.machine_rules.specs.Lives.{ends, finishes};
 ghost use Rattle.machine_rules.specs.State.{nobody};
 ghost use Rattle.machine_rules.specs.Threads.{can_run, thread_at, top_kind};
-ghost use Rattle.machine_rules.specs.Ticks.{completes, later, tick_charged, unit_ticked};
+ghost use Rattle.machine_rules.specs.Ticks.{completes};
 ghost use Rattle.machine_rules.specs.Turns.{becomes, changes, ◌▷◌};
 ghost use Rattle.machine_rules.specs.Units.{in_unit};
 ghost use Rattle.machine_flat.specs.FlatBodies.{flat_bodies};
+ghost use Rattle.machine_leaps.specs.Leap.{later_by, thread_lasts, unit_leapt};
+ghost use Rattle.machine_leaps.specs.Quiet.{after_ticks};
 ghost use Rattle.machine_flat.specs.Placed.{ArePlaced};
-ghost use Rattle.thread_blocks.specs.Room.{HasRoom};
 ghost use Rattle.kernel_events.specs.Built.{objects_in};
 ghost use Rattle.rt_kernel.specs.Completes.{CanAct, CanComplete};
-ghost use Rattle.rt_kernel.specs.Fits.{FitsTick};
+ghost use Rattle.rt_kernel.specs.Fits.{FitsLeap};
+ghost use Rattle.rt_kernel.specs.Reach.{unit_length};
+ghost use Rattle.thread_laws.specs.Within.{IsWithin};
 ghost use Rattle.kernel_state.specs.Kernel.{Kernel, after, by, told};
 ghost use Rattle.kernel_state.specs.Stood.{StoodRight};
 
@@ -31,21 +34,32 @@ use std::sync::ledger::Ledger;
 use step_counter::Steps;
 use tick_num::Tid;
 
-// The unit that a thread is in, with a tick of it charged.
-fn charge_unit<L: Ledger>(p: &mut Parts, t: Tid, steps: &mut Steps<L>) -> Unit
+// How far a leap may go: to the horizon, and to the nearest due tick.
+#[derive(Clone, Copy)]
+pub(crate) struct Reach {
+    pub(crate) most: u64,
+    pub(crate) near: u64,
+}
+
+// The unit that a thread is in, with as many ticks of it charged as it runs by itself; and how many these are.
+fn charge_unit<L: Ledger>(p: &mut Parts, t: Tid, reach: Reach, steps: &mut Steps<L>) -> (Unit, u64)
     requires known { t < length p.old.names }
     requires goes_on { (thread_at p.old.machine t).is_ending ≡ false }
     requires placed { ArePlaced p.old.code (thread_at p.old.machine t).frames }
-    requires room { HasRoom 1 (thread_at p.old.machine t) }
-    requires early { p.old.machine.now < 10 ^ 18 }
-    ensures unit { result ≡ (in_unit (flat_bodies p.old.code) (thread_at p.old.machine t)).unit }
-    ensures state { p.new ≡ after (λ s. s ▷ changes t (λ th. tick_charged (in_unit (flat_bodies p.old.code) (thread_at p.old.machine t)).thread) ▷ becomes later) p.old }
-    ensures thread { thread_at p.new.machine t ≡ tick_charged (in_unit (flat_bodies p.old.code) (thread_at p.old.machine t)).thread }
+    requires within { IsWithin p.old.machine.now (thread_at p.old.machine t) }
+    requires some { 1 ≤ reach.most }
+    requires early { p.old.machine.now + reach.most ≤ 10 ^ 18 }
+    ensures unit { result.0 ≡ (in_unit (flat_bodies p.old.code) (thread_at p.old.machine t)).unit }
+    ensures length { result.1 ≡ unit_length reach p.old.machine.quantum (in_unit (flat_bodies p.old.code) (thread_at p.old.machine t)).thread }
+    ensures state { p.new ≡ after (λ s. s ▷ changes t (λ th. after_ticks result.1 (in_unit (flat_bodies p.old.code) (thread_at p.old.machine t)).thread) ▷ becomes (later_by result.1)) p.old }
+    ensures thread { thread_at p.new.machine t ≡ after_ticks result.1 (in_unit (flat_bodies p.old.code) (thread_at p.old.machine t)).thread }
+    ensures few { result.1 ≤ reach.most }
     ensures step { steps.new ≡ steps.old + 1 }
 {
     let unit = p.take_unit(t);
-    p.leap(&Some(t), 1, steps);
-    unit
+    let k = reach.most.min(reach.near.min(p.lasts(t, reach.most))).max(1);
+    p.leap(&Some(t), k, steps);
+    (unit, k)
 }
 
 // A thread ends that nobody waits for.
@@ -107,25 +121,28 @@ fn complete_at_end<K: Sink>(p: &mut Parts, t: Tid, unit: &Unit, out: &mut Tracer
     }
 }
 
-/// A tick of a thread's unit: the charge, the effect, and the moves of both.
-#[tactic(auto, using(crate::proofs::Opened::room_within))]
-pub(crate) fn tick_unit<K: Sink, L: Ledger>(
+/// So many ticks of a thread's unit: the charge, the effect, and the moves of both. The answer is how many these are.
+pub(crate) fn leap_unit<K: Sink, L: Ledger>(
     p: &mut Parts,
     t: Tid,
+    reach: Reach,
     out: &mut Tracer<'_, K>,
     steps: &mut Steps<L>,
-)
+) -> u64
     requires known { t < length p.old.names }
     requires quiet { p.old.direct ≡ [] }
     requires stood { StoodRight p.old.machine }
-    requires fits { FitsTick (objects_in p.old) p.old.code p.old.machine t }
-    requires early { p.old.machine.now < 10 ^ 18 }
-    ensures state { p.new ≡ after (λ s. s ▷ unit_ticked (flat_bodies p.old.code) s.machine t (in_unit (flat_bodies p.old.code) (thread_at s.machine t))) p.old }
-    ensures told { Tells K.text K.faults p.old.names out.old out.new (told (λ s. s ▷ unit_ticked (flat_bodies p.old.code) s.machine t (in_unit (flat_bodies p.old.code) (thread_at s.machine t))) p.old) }
+    requires fits { FitsLeap (objects_in p.old) p.old.code p.old.machine t }
+    requires some { 1 ≤ reach.most }
+    requires early { p.old.machine.now + reach.most ≤ 10 ^ 18 }
+    ensures length { result ≡ unit_length reach p.old.machine.quantum (in_unit (flat_bodies p.old.code) (thread_at p.old.machine t)).thread }
+    ensures state { p.new ≡ after (λ s. s ▷ unit_leapt (flat_bodies p.old.code) result s.machine t (in_unit (flat_bodies p.old.code) (thread_at s.machine t))) p.old }
+    ensures told { Tells K.text K.faults p.old.names out.old out.new (told (λ s. s ▷ unit_leapt (flat_bodies p.old.code) result s.machine t (in_unit (flat_bodies p.old.code) (thread_at s.machine t))) p.old) }
     ensures stood { StoodRight p.new.machine }
     ensures step { steps.new ≡ steps.old + 1 }
 {
-    let unit = charge_unit(p, t, steps);
+    let (unit, k) = charge_unit(p, t, reach, steps);
     complete_at_end(p, t, &unit, out);
     p.settle();
+    k
 }

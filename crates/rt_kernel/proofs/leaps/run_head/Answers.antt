@@ -1,13 +1,13 @@
 use Rattle.std.proofs.Common.{◌≡◌, ℕ, Option, subst}
 use Rattle.pse52_trace.specs.Tells.{Tells}
 use Rattle.machine_rules.specs.Dispatch.{dispatches, head}
-use Rattle.machine_rules.specs.Ticks.{runs}
-use Rattle.machine_rules.proofs.BehindTicks.{runs_behind}
+use Rattle.machine_leaps.specs.Leap.{leap_runs}
+use Rattle.machine_leaps.proofs.Leaps.Law.{leap_runs_behind}
 use Rattle.machine_flat.specs.FlatBodies.{flat_bodies}
 use Rattle.kernel_state.specs.Kernel.{after, told}
 use Rattle.kernel_state.proofs.Turns.{then_state_in, then_told_in}
 use Rattle.rt_kernel.proofs.Fitting.{dispatched_fits}
-use Rattle.rt_kernel.proofs.ticks.run_head.Goals as goal
+use Rattle.rt_kernel.proofs.leaps.run_head.Goals as goal
 
 pub run-requires-clause-fits : goal.run-requires-clause-fits
 run-requires-clause-fits g c =
@@ -18,13 +18,15 @@ returns-clause-state g c =
     let p = c.args.p.now in
     let l = c.dispatch-to.new.self in
     let h = head p.machine in
-    let second = subst (λ (o : Option ℕ). c.run.new.p ≡ after (runs (flat_bodies l.code) o) l) c.dispatch-to.ensures.top c.run.ensures.state in
-    then_state_in (λ b. dispatches h) (λ b. runs b h) p l c.run.new.p (λ b. runs_behind b h) c.dispatch-to.ensures.state second
+    let k = c.run.result in
+    let second = subst (λ (o : Option ℕ). c.run.new.p ≡ after (leap_runs (flat_bodies l.code) k o) l) c.dispatch-to.ensures.top c.run.ensures.state in
+    then_state_in (λ b. dispatches h) (λ b. leap_runs b k h) p l c.run.new.p (λ b. leap_runs_behind b k h) c.dispatch-to.ensures.state second
 
 pub returns-clause-told : goal.returns-clause-told
 returns-clause-told g c =
     let p = c.args.p.now in
     let l = c.dispatch-to.new.self in
     let h = head p.machine in
-    let second = subst (λ (o : Option ℕ). Tells g.K.Sink.text g.K.Sink.faults l.names c.dispatch-to.new.out c.run.new.out (told (runs (flat_bodies l.code) o) l)) c.dispatch-to.ensures.top c.run.ensures.told in
-    then_told_in g.K.Sink.text g.K.Sink.faults (λ b. dispatches h) (λ b. runs b h) p l _ _ _ (λ b. runs_behind b h) c.dispatch-to.ensures.state c.dispatch-to.ensures.told second
+    let k = c.run.result in
+    let second = subst (λ (o : Option ℕ). Tells g.K.Sink.text g.K.Sink.faults l.names c.dispatch-to.new.out c.run.new.out (told (leap_runs (flat_bodies l.code) k o) l)) c.dispatch-to.ensures.top c.run.ensures.told in
+    then_told_in g.K.Sink.text g.K.Sink.faults (λ b. dispatches h) (λ b. leap_runs b k h) p l _ _ _ (λ b. leap_runs_behind b k h) c.dispatch-to.ensures.state c.dispatch-to.ensures.told second

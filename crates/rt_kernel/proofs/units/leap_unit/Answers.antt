@@ -1,4 +1,4 @@
-use Rattle.std.proofs.Common.{◌≡◌, ℕ, zero, suc, List, ap, refl, subst, sym, ◌∙◌}
+use Rattle.std.proofs.Common.{◌≡◌, ℕ, zero, suc, List, ap, arith, refl, subst, sym, ◌∙◌}
 use Rattle.machine_rules.specs.State.{Thread}
 use Rattle.rt_kernel.specs.Completes.{CanComplete}
 use Rattle.kernel_state.specs.Settled.{HavePriorities}
@@ -13,7 +13,10 @@ use Rattle.script_flat.specs.declared.op.Op.{Op}
 use Rattle.script_flat.specs.Flat as flat
 use Rattle.machine_rules.specs.Bodies.{Bodies}
 use Rattle.machine_rules.specs.Threads.{thread_at, top_left}
-use Rattle.machine_rules.specs.Ticks.{completes, completes_at, later, tick_charged}
+use Rattle.machine_rules.specs.Ticks.{completes, completes_at}
+use Rattle.machine_leaps.specs.Leap.{later_by}
+use Rattle.machine_leaps.specs.Quiet.{after_ticks}
+use Rattle.rt_kernel.proofs.Charged.{can_later}
 use Rattle.machine_rules.specs.Turns.{Turn, becomes, changes, ◌▷◌}
 use Rattle.machine_rules.specs.Units.{in_unit}
 use Rattle.machine_rules.proofs.Kept.{Kept, kept}
@@ -25,7 +28,7 @@ use Rattle.kernel_state.specs.Kernel.{Kernel, after, turn}
 use Rattle.kernel_state.proofs.SettleIs.{settles_after}
 use Rattle.kernel_state.proofs.Turns.{then_state}
 use Rattle.rt_kernel.proofs.Fitting.{charged_acts}
-use Rattle.rt_kernel.proofs.units.tick_unit.Goals as goal
+use Rattle.rt_kernel.proofs.units.leap_unit.Goals as goal
 
 completes_kept : (bodies : Bodies Cursor) (left t : ℕ) (u : unit.Unit) (s : Turn Cursor) → kept (completes_at bodies left t u s) ≡ kept s
 completes_kept bodies zero t u s = unit_effect_kept bodies t u s
@@ -36,7 +39,7 @@ completes_behind bodies zero t u told s = unit_effect_behind bodies t u told s
 completes_behind bodies (suc left) t u told s = refl
 
 pub complete_at_end-requires-clause-acts : goal.complete_at_end-requires-clause-acts
-complete_at_end-requires-clause-acts g c = charged_acts c.args.p.now c.charge_unit-unit.new.p c.args.t c.requires.fits c.requires.early c.charge_unit-unit.ensures.state
+complete_at_end-requires-clause-acts g c = charged_acts c.args.p.now c.charge_unit.new.p c.args.t c.charge_unit.result.1 c.requires.fits (let early = c.requires.early in omega (arith, early)) c.charge_unit.ensures.state
 
 pub returns-clause-state : goal.returns-clause-state
 returns-clause-state g c =
@@ -44,13 +47,14 @@ returns-clause-state g c =
     let t = c.args.t in
     let bodies = flat_bodies p.code in
     let taken = in_unit bodies (thread_at p.machine t) in
-    let charged = λ (s : Turn Cursor). s ▷ changes t (λ th. tick_charged taken.thread) ▷ becomes later in
-    let code = ap (λ (k : Kernel). k.code) c.charge_unit-unit.ensures.state in
-    let l = c.charge_unit-unit.new.p in
+    let k = c.charge_unit.result.1 in
+    let charged = λ (s : Turn Cursor). s ▷ changes t (λ th. after_ticks k taken.thread) ▷ becomes (later_by k) in
+    let code = ap (λ (k : Kernel). k.code) c.charge_unit.ensures.state in
+    let l = c.charge_unit.new.p in
     let m = c.complete_at_end.new.p in
-    let at_unit = subst (λ (u : unit.Unit). m ≡ after (completes (flat_bodies l.code) t u) l) c.charge_unit-unit.ensures.unit c.complete_at_end.ensures.state in
+    let at_unit = subst (λ (u : unit.Unit). m ≡ after (completes (flat_bodies l.code) t u) l) c.charge_unit.ensures.unit c.complete_at_end.ensures.state in
     let second = subst (λ (x : flat.Bodies (List Op)). m ≡ after (completes (flat_bodies x) t taken.unit) l) code at_unit in
-    let both = then_state charged (completes bodies t taken.unit) p _ _ (λ told s. completes_behind bodies (top_left (thread_at s.machine t).frames) t taken.unit told s) c.charge_unit-unit.ensures.state second in
+    let both = then_state charged (completes bodies t taken.unit) p _ _ (λ told s. completes_behind bodies (top_left (thread_at s.machine t).frames) t taken.unit told s) c.charge_unit.ensures.state second in
     settles_after p.machine (λ (s : Turn Cursor). completes bodies t taken.unit (charged s)) p _ _ c.requires.stood
     (ap (λ (x : Kept). x.lists) (completes_kept bodies (top_left (thread_at (charged (turn p)).machine t).frames) t taken.unit (charged (turn p))))
     both c.settle.ensures.state c.settle.ensures.fits
@@ -61,19 +65,20 @@ returns-clause-stood g c =
     let t = c.args.t in
     let bodies = flat_bodies p.code in
     let taken = in_unit bodies (thread_at p.machine t) in
-    let charged = λ (s : Turn Cursor). s ▷ changes t (λ th. tick_charged taken.thread) ▷ becomes later in
-    let code = ap (λ (k : Kernel). k.code) c.charge_unit-unit.ensures.state in
-    let l = c.charge_unit-unit.new.p in
+    let k = c.charge_unit.result.1 in
+    let charged = λ (s : Turn Cursor). s ▷ changes t (λ th. after_ticks k taken.thread) ▷ becomes (later_by k) in
+    let code = ap (λ (k : Kernel). k.code) c.charge_unit.ensures.state in
+    let l = c.charge_unit.new.p in
     let m = c.complete_at_end.new.p in
-    let at_unit = subst (λ (u : unit.Unit). m ≡ after (completes (flat_bodies l.code) t u) l) c.charge_unit-unit.ensures.unit c.complete_at_end.ensures.state in
+    let at_unit = subst (λ (u : unit.Unit). m ≡ after (completes (flat_bodies l.code) t u) l) c.charge_unit.ensures.unit c.complete_at_end.ensures.state in
     let second = subst (λ (x : flat.Bodies (List Op)). m ≡ after (completes (flat_bodies x) t taken.unit) l) code at_unit in
-    let both = then_state charged (completes bodies t taken.unit) p _ _ (λ told s. completes_behind bodies (top_left (thread_at s.machine t).frames) t taken.unit told s) c.charge_unit-unit.ensures.state second in
+    let both = then_state charged (completes bodies t taken.unit) p _ _ (λ told s. completes_behind bodies (top_left (thread_at s.machine t).frames) t taken.unit told s) c.charge_unit.ensures.state second in
     let before = charged (turn p) in
     let left = top_left (thread_at before.machine t).frames in
     let s = completes_at bodies left t taken.unit before in
     let fits = subst (λ (k : Kernel). HavePriorities k.machine) both c.settle.ensures.fits in
-    let at = sym (ap (λ (k : Kernel). thread_at k.machine t) c.charge_unit-unit.ensures.state) ∙ c.charge_unit-unit.ensures.thread in
-    let can = subst (λ (th : Thread Cursor). CanComplete (objects_in p) th taken.unit) (sym at) c.requires.fits.thread.can.completes in
-    let come = come_later p.machine before.machine s.machine s.direct (λ u. charge_same bodies p.machine t u c.requires.fits.thread.can.goes_on) (completes_come bodies (objects_in p) left t taken.unit before can) in
+    let at = sym (ap (λ (k : Kernel). thread_at k.machine t) c.charge_unit.ensures.state) ∙ c.charge_unit.ensures.thread in
+    let can = subst (λ (th : Thread Cursor). CanComplete (objects_in p) th taken.unit) (sym at) (can_later (objects_in p) k taken.thread taken.unit c.requires.fits.thread.can.completes) in
+    let come = come_later p.machine before.machine s.machine s.direct (λ u. charge_same bodies k p.machine t u c.requires.fits.thread.can.goes_on) (completes_come bodies (objects_in p) left t taken.unit before can) in
     let again = stood_again p.machine s.machine s.direct c.requires.stood (ap (λ (x : Kept). x.lists) (completes_kept bodies left t taken.unit before)) fits come in
     subst (λ (k : Kernel). StoodRight k.machine) (sym (returns-clause-state g c)) again

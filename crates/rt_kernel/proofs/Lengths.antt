@@ -1,0 +1,42 @@
+-- How far a leap goes, and the room for it.
+use Rattle.std.proofs.Common.{◌≡◌, ◌≤◌, ◌<◌, ◌+◌, ℕ, List, Bool, true, false, Option, None, Some, ap, arith, refl, subst, sym, ◌∙◌}
+use Rattle.std.specs.Prelude.{◌^◌, max, min, if◌then◌else◌}
+use Rattle.script_flat.specs.declared.cursor.Cursor.{Cursor}
+use Rattle.sporadic_server.specs.Server.{ServerState, is_high}
+use Rattle.machine_rules.specs.Bodies.{Bodies}
+use Rattle.machine_rules.specs.State.{Machine, Thread}
+use Rattle.machine_leaps.specs.Leap.{capacity_left, thread_lasts}
+use Rattle.thread_blocks.specs.Room.{HasRoom, ServerHasRoom}
+use Rattle.thread_laws.specs.Within.{HighWithin, IsWithin}
+use Rattle.rt_kernel.specs.declared.units.Reach.{Reach}
+use Rattle.rt_kernel.specs.Reach.{unit_length}
+
+module _ (now : ℕ) (reach : Reach) (some : 1 ≤ reach.most) (early : now + reach.most ≤ 10 ^ 18) (quantum : ℕ) (th : Thread Cursor) where
+  abbrev length_of : ℕ
+  length_of = unit_length reach quantum th
+
+  pub length_few : length_of ≤ reach.most
+  length_few = grind arith
+
+  not_longer : length_of ≤ max 1 (capacity_left reach.most th.server)
+  not_longer = grind arith
+
+  has_some : (s : ServerState) → is_high s ≡ true → 1 ≤ s.capacity
+  has_some s high = search rules
+
+  of_server : (o : Option ServerState) → length_of ≤ max 1 (capacity_left reach.most o) → HighWithin now o → ServerHasRoom length_of o
+  of_server None le high = tt
+  of_server (Some s) le high = record { high = by_high; total = (let few = length_few in omega (arith, early, high, few)) }
+    where
+      by_high : is_high s ≡ true → length_of ≤ s.capacity
+      by_high e =
+          let one = has_some s e in
+          let le = subst (λ (b : Bool). length_of ≤ max 1 (if b then s.capacity else reach.most)) e le in
+          grind arith
+
+  pub room_for : IsWithin now th → HasRoom length_of th
+  room_for h = record {
+    ticks = (let k = h.ticks in let few = length_few in omega (arith, k, early, few));
+    slice = (let k = h.slice in let few = length_few in omega (arith, k, early, few));
+    server = of_server th.server not_longer h.high;
+  }

@@ -1,0 +1,22 @@
+use Rattle.std.proofs.Common.{◌≡◌, ℕ, subst}
+use Rattle.pse52_trace.specs.Tells.{Tells}
+use Rattle.machine_rules.specs.DueItems.{instant}
+use Rattle.machine_leaps.specs.Leap.{leap_goes_on, length_from}
+use Rattle.kernel_state.specs.Kernel.{Kernel}
+use Rattle.kernel_state.proofs.Turns.{then_state_in, then_told_in}
+use Rattle.rt_kernel.proofs.Fitting.{instant_fits}
+use Rattle.rt_kernel.proofs.LeapParts.{leap_goes_on_behind}
+use Rattle.rt_kernel.proofs.leaps.do_leap.Goals as goal
+
+pub go_on-requires-clause-fits : goal.go_on-requires-clause-fits
+go_on-requires-clause-fits g c = instant_fits c.args.p.now c.do_instant.new.p c.do_instant.ensures.state c.requires.fits
+
+pub returns-clause-state : goal.returns-clause-state
+returns-clause-state g c =
+    let k = c.go_on.result in
+    then_state_in instant (λ b. leap_goes_on b k) c.args.p.now c.do_instant.new.p c.go_on.new.p (λ b. leap_goes_on_behind b k) c.do_instant.ensures.state c.go_on.ensures.state
+
+pub returns-clause-told : goal.returns-clause-told
+returns-clause-told g c =
+    let k = c.go_on.result in
+    then_told_in g.K.Sink.text g.K.Sink.faults instant (λ b. leap_goes_on b k) c.args.p.now c.do_instant.new.p _ _ _ (λ b. leap_goes_on_behind b k) c.do_instant.ensures.state c.do_instant.ensures.told c.go_on.ensures.told

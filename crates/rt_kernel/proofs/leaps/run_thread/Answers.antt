@@ -1,0 +1,26 @@
+use Rattle.script_flat.specs.declared.cursor.Cursor.{Cursor}
+use Rattle.machine_rules.specs.Bodies.{Bodies}
+use Rattle.machine_rules.specs.Delivery.{sweeps}
+use Rattle.machine_rules.specs.Servers.{has_high}
+use Rattle.machine_rules.specs.Threads.{thread_at}
+use Rattle.machine_rules.specs.Ticks.{tick_ends}
+use Rattle.machine_leaps.specs.Leap.{unit_leapt}
+use Rattle.machine_rules.specs.Turns.{Turn, ◌▷◌}
+use Rattle.machine_rules.specs.Units.{in_unit}
+use Rattle.machine_rules.proofs.BehindTicks.{sweeps_behind}
+use Rattle.kernel_state.proofs.Turns.{then_state_in, then_told_in}
+use Rattle.rt_kernel.proofs.leaps.run_thread.Goals as goal
+
+pub returns-clause-state : goal.returns-clause-state
+returns-clause-state g c =
+    let t = c.args.t in
+    let k = c.run_unit-k.result in
+    let unit = λ (b : Bodies Cursor) (s : Turn Cursor). s ▷ unit_leapt b k s.machine t (in_unit b (thread_at s.machine t)) ▷ tick_ends (has_high (thread_at s.machine t).server) t in
+    then_state_in unit sweeps c.args.p.now c.run_unit-k.new.p c.sweep.new.self sweeps_behind c.run_unit-k.ensures.state c.sweep.ensures.state
+
+pub returns-clause-told : goal.returns-clause-told
+returns-clause-told g c =
+    let t = c.args.t in
+    let k = c.run_unit-k.result in
+    let unit = λ (b : Bodies Cursor) (s : Turn Cursor). s ▷ unit_leapt b k s.machine t (in_unit b (thread_at s.machine t)) ▷ tick_ends (has_high (thread_at s.machine t).server) t in
+    then_told_in g.K.Sink.text g.K.Sink.faults unit sweeps c.args.p.now c.run_unit-k.new.p _ _ _ sweeps_behind c.run_unit-k.ensures.state c.run_unit-k.ensures.told c.sweep.ensures.told
