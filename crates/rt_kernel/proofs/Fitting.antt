@@ -1,5 +1,5 @@
 -- What fits goes from the states of a run to the kernel that is in them.
-use Rattle.std.proofs.Common.{◌≡◌, ◌∙◌, ◌<◌, ◌^◌, ◌+◌, ℕ, suc, List, [], ◌∷◌, Bool, true, false, Option, None, Some, ap, arith, length, refl, subst, sym}
+use Rattle.std.proofs.Common.{◌≡◌, ◌∙◌, ◌<◌, ◌≤◌, ◌^◌, ◌+◌, ℕ, suc, List, [], ◌∷◌, Bool, true, false, Option, None, Some, ap, arith, length, refl, subst, sym}
 use Rattle.std.specs.Prelude.{slice_index_or, ◌==◌, IfSome}
 use Rattle.thread_lists.specs.Threads.{times}
 use Rattle.script_flat.specs.declared.cursor.Cursor.{Cursor}
@@ -81,7 +81,7 @@ module _ {P : Type 0} (m : Machine P) where
 -- ---- so it may have a tick
 
 head_fits : (o : Objects) (code : flat.Bodies (List Op)) (m : Machine Cursor) (last : LastDispatch) (t : ℕ) → StoodRight m → head m ≡ Some t → Fits o code m → FitsLeap o code (record m { last = last }) t
-head_fits o code m last t stood e fit = record { thread = fit.top t e; runs = head_runs m t stood e; waits = fit.items.waits; serial = fit.serial; threads = fit.threads }
+head_fits o code m last t stood e fit = record { thread = fit.top t e; runs = head_runs m t stood e; waits = (let w = fit.items.waits in record { built = w.built; rests = w.rests; own_none = w.own_none }); serial = fit.serial; threads = fit.threads }
 
 pub dispatched_fits : (p l : Kernel) (to : Option ℕ) → to ≡ head p.machine → l ≡ after (dispatches (head p.machine)) p → StoodRight p.machine → Fits (objects_in p) p.code p.machine →
     IfSome to (λ t. FitsLeap (objects_in l) l.code l.machine t)

@@ -14,4 +14,5 @@ pub mod Lengths
 pub mod Taken
 pub mod LeapParts
 pub mod LeapCounts
+pub mod Leaping
 pub mod TickTimes

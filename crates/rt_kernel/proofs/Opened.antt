@@ -14,7 +14,8 @@ use Rattle.machine_rules.specs.Servers.{has_high}
 use Rattle.machine_rules.specs.Threads.{is_blocked, is_runnable, no_thread, thread_at, waiting_of}
 use Rattle.machine_rules.specs.Throughout.{after_items}
 use Rattle.machine_rules.specs.Machine.{names_of}
-use Rattle.machine_rules.specs.Runs.{opening, thread_opened}
+use Rattle.machine_rules.specs.DueItems.{item_bound}
+use Rattle.machine_rules.specs.Runs.{opening, thread_opened, ticks}
 use Rattle.machine_rules.specs.WellFormed.{IsWellFormed}
 use Rattle.machine_flat.proofs.Numbered.{Numbered, cleanup_blocks, known}
 use Rattle.machine_flat.specs.EachCall.{EachMade}
@@ -38,22 +39,13 @@ use Rattle.kernel_state.specs.Kernel.{Kernel, opened}
 use Rattle.kernel_events.specs.Built.{IsBuilt, objects_in}
 use Rattle.kernel_sync.specs.Waits.{AreBuiltWaits}
 use Rattle.rt_kernel.specs.Counts.{Counts, counts_in}
-use Rattle.rt_kernel.specs.Fits.{Fits, StaysFit}
+use Rattle.machine_leaps.proofs.Leaps.Scripts.{stays_ready}
+use Rattle.rt_kernel.specs.Fits.{CanLeap, Fits, StaysFit}
 use Rattle.rt_kernel.specs.Held.{Held, IsHeld}
 use Rattle.rt_kernel.proofs.HeldLaw.{can_tick, held_throughout}
 use Rattle.rt_kernel.proofs.ObjectsLaw.{objects_throughout}
 use Rattle.rt_kernel.proofs.Ranges.{flat_bodies_fit}
 use Rattle.rt_kernel.proofs.Serials.{serials_left}
-
-pub room_within : (now : ℕ) (th : Thread Cursor) → now < 10 ^ 18 → IsWithin now th → HasRoom 1 th
-room_within now th early h = record { ticks = (let k = h.ticks in omega (arith, k, early)); slice = (let k = h.slice in omega (arith, k, early)); server = by_server th.server h.high }
-  where
-    has_some : (s : ServerState) → is_high s ≡ true → 1 ≤ s.capacity
-    has_some s high = search rules
-
-    by_server : (o : Option ServerState) → HighWithin now o → ServerHasRoom 1 o
-    by_server None high = tt
-    by_server (Some s) high = record { high = has_some s; total = omega (arith, early, high) }
 
 -- ---- servers rest
 
@@ -162,10 +154,26 @@ module _ (script : Script) (ok : IsRunnable script) (fits : IsWellFormed script)
         };
       }
 
+  leaps_after : (n : ℕ) → CanLeap (flat_bodies (code_of script)) (ticks (flat_bodies (code_of script)) n (opening script)).machine
+  leaps_after n =
+      let bodies = flat_bodies (code_of script) in
+      let ranges = flat_bodies_fit script fits.priorities in
+      let ready = stays_ready bodies ranges script fits n in
+      record {
+        still = ready.still;
+        handled = record {
+          nothing = ready.handled.nothing;
+          lists = (lists_throughout bodies ranges script fits).each n (item_bound (ticks bodies n (opening script)).machine);
+          swept = ready.handled.swept;
+        };
+        slices = ready.slices;
+      }
+
   pub script_fits : StaysFit (opened script) (objects_in (opened script))
   script_fits = record {
     each = λ n most.
         subst (λ (o : Objects). Fits o (code_of script) (after_items (flat_bodies (code_of script)) (opening script) n most)) (sym (objects_opened script)) (fits_after n most);
+    leaps = leaps_after;
   }
 
 -- and each server keeps its budget, at each instant of a run and between its items

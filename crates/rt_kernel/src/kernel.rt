@@ -5,6 +5,8 @@ ghost use Rattle.pse52_trace.specs.Tells.{Tells};
 ghost use Rattle.sporadic_server.specs.Server.{totals};
 ghost use Rattle.script_tree.specs.declared.decl.Script as tree;
 ghost use Rattle.machine_rules.specs.Budget.{KeepsBudgets};
+ghost use Rattle.machine_leaps.specs.Leap.{in_leaps};
+ghost use Rattle.machine_rules.specs.Eventful.{busy};
 ghost use Rattle.machine_rules.specs.Machine.{closing};
 ghost use Rattle.machine_rules.specs.Runs.{ticks};
 ghost use Rattle.machine_rules.specs.Threads.{thread_at};
@@ -18,7 +20,7 @@ ghost use Rattle.rt_kernel.specs.Fits.{StaysFit};
 ghost use Rattle.rt_kernel.specs.Good.{IsGood};
 ghost use Rattle.rt_kernel.specs.Ran.{ticked_by};
 
-use crate::run::{RunEnd, run_ticks};
+use crate::run::{RunEnd, run_leaps};
 use kernel_state::Parts;
 use pse52_trace::Tracer;
 use rt_io::Sink;
@@ -95,7 +97,8 @@ impl Kernel {
         self.parts.totals(t)
     }
 
-    /// Runs to the horizon, at most 10^18, or until a write fails. It takes no memory, and is one step a tick. Where it ended, the state is that of the
+    /// Runs to the horizon, at most 10^18, or until a write fails. It takes no memory, and is one step a leap: from where something falls due, or
+    /// a unit, an interval or a capacity ends, to where that happens next. Where it ended, the state is that of the
     /// machine run tick by tick; what it printed is what happens until then, or a part of it where a write failed. A kernel that
     /// stopped may be asked for `now` alone.
     pub fn run_until<K: Sink, L: Ledger>(
@@ -114,14 +117,15 @@ impl Kernel {
         ensures stopped { result ≡ RunEnd.Stopped → out.new.failed ≡ true }
         ensures later { self.old.machine.now ≤ self.new.machine.now }
         ensures not_beyond { self.new.machine.now ≤ horizon }
-        ensures steps { steps.new + self.old.machine.now ≡ steps.old + self.new.machine.now }
+        ensures steps { steps.new ≤ steps.old + (in_leaps (flat_bodies self.old.code) (horizon - self.old.machine.now) self.old.machine).count }
+        ensures busy { steps.new ≤ steps.old + busy (flat_bodies self.old.code) self.old.machine 0 (horizon - self.old.machine.now) + 1 }
 
         // The state that it leaves is good, and each server keeps its budget in the runs of well formed scripts.
         ensures good { result ≡ RunEnd.Ended → IsGood (flat_bodies self.new.code) self.new.machine }
         ensures budgets { (script : tree.Script) → IsWellFormed script → self.old ≡ opened script
             → (n k : ℕ) → KeepsBudgets (flat_bodies self.old.code) self.old.machine n k }
     {
-        run_ticks(&mut self.parts, horizon, out, steps)
+        run_leaps(&mut self.parts, horizon, out, steps)
     }
 
     /// Prints the closing lines.

@@ -1,13 +1,105 @@
-use Rattle.std.proofs.Common.{◌≡◌, ◌≤◌, ◌<◌, ◌+◌, ℕ, ap, arith, refl, subst, sym, ◌∙◌}
-use Rattle.std.specs.Prelude.{◌-◌, ◌^◌}
+use Rattle.std.proofs.Common.{◌≡◌, ◌≤◌, ◌<◌, ◌+◌, ◌-◌, ℕ, arith, subst, sym, ◌∙◌}
+use Rattle.std.specs.Prelude.{◌^◌}
 use Rattle.pse52_trace.specs.Tells.{Tells}
+use Rattle.machine_rules.specs.Eventful.{busy}
 use Rattle.machine_rules.specs.Runs.{ticks}
 use Rattle.machine_flat.specs.FlatBodies.{flat_bodies}
 use Rattle.machine_leaps.specs.Leap.{in_leaps}
-use Rattle.kernel_state.specs.Kernel.{Kernel}
-use Rattle.kernel_events.specs.Built.{objects_in}
-use Rattle.rt_kernel.proofs.Running.{few_leaps, is_leap_of, items_fit, one_leap, still_fits, stopped_told}
+use Rattle.rt_kernel.proofs.Leaping.{Leaping, few_busy, few_steps, leap_on, not_beyond, not_earlier}
+use Rattle.rt_kernel.proofs.Running.{items_fit, still_fits, stopped_told}
 use Rattle.rt_kernel.proofs.run.run_leaps.Goals as goal
 
-pub do_leap-requires-clause-fits : goal.do_leap-requires-clause-fits
-do_leap-requires-clause-fits g c = items_fit c.leaps.p c.leaps.invariant.running.quiet (still_fits c.args.p.now c.leaps.p c.leaps.done c.leaps.invariant.running.state c.requires.fits)
+pub do_leap-done-requires-clause-fits : goal.do_leap-done-requires-clause-fits
+do_leap-done-requires-clause-fits g c =
+    let running = c.leaps.invariant.leaping.running in
+    items_fit c.leaps.p running.quiet (still_fits c.args.p.now c.leaps.p c.leaps.done running.state c.requires.fits)
+
+pub do_leap-done-requires-clause-early : goal.do_leap-done-requires-clause-early
+do_leap-done-requires-clause-early g c =
+    let far = not_beyond _ _ c.args.p.now c.requires.fits c.leaps.p _ _ _ _ _ _ c.leaps.invariant.leaping in
+    let to : c.get.result ≡ c.args.horizon = c.get.ensures.value in
+    let from : c.get-2.result ≡ c.args.p.now.machine.now = c.get-2.ensures.value ∙ c.instant.ensures in
+    let within = c.leaps.invariant.leaping.within in
+    let ahead = c.requires.ahead in
+    let limit = c.requires.limit in
+    omega (arith, far, to, from, within, ahead, limit)
+
+pub leaps-preserved : goal.leaps-preserved
+leaps-preserved g c =
+    let on = leap_on _ _ c.args.p.now c.requires.fits _ _ _ _ _ _ _ _ _ _ _ c.leaps.invariant.leaping c.leaps-test.true c.do_leap-done.ensures.length c.do_leap-done.ensures.state c.do_leap-done.ensures.told
+    c.do_leap-done.ensures.stood c.do_leap-done.ensures.quiet c.do_leap-done.ensures.step in
+    record { leaping = on; good = sym c.failed.ensures ∙ c.if-failed.false }
+
+pub returns-then-failed-clause-told : goal.returns-then-failed-clause-told
+returns-then-failed-clause-told g c =
+    let p = c.args.p.now in
+    let on = leap_on _ _ c.args.p.now c.requires.fits _ _ _ _ _ _ _ _ _ _ _ c.leaps.invariant.leaping c.leaps-test.true c.do_leap-done.ensures.length c.do_leap-done.ensures.state c.do_leap-done.ensures.told
+    c.do_leap-done.ensures.stood c.do_leap-done.ensures.quiet c.do_leap-done.ensures.step in
+    let all : c.get.result - c.get-2.result ≡ c.args.horizon - c.args.p.now.machine.now = (let to = c.get.ensures.value in let from = c.get-2.ensures.value ∙ c.instant.ensures in omega (arith, to, from)) in
+    let k : ℕ = c.leaps.done + c.do_leap-done.result in
+    let d : ℕ = (c.args.horizon - p.machine.now) - k in
+    let within = on.within in
+    let n : k + d ≡ c.args.horizon - p.machine.now = omega (arith, all, within) in
+    subst (λ (j : ℕ). Tells g.K.Sink.text g.K.Sink.faults p.names c.args.out.now c.do_leap-done.new.out (ticks (flat_bodies p.code) j p.machine).events) n
+    (stopped_told g.K.Sink.text g.K.Sink.faults p c.do_leap-done.new.p k d c.args.out.now c.do_leap-done.new.out on.running (sym c.failed.ensures ∙ c.if-failed.true))
+
+pub returns-then-failed-clause-fits : goal.returns-then-failed-clause-fits
+returns-then-failed-clause-fits g c =
+    let on = leap_on _ _ c.args.p.now c.requires.fits _ _ _ _ _ _ _ _ _ _ _ c.leaps.invariant.leaping c.leaps-test.true c.do_leap-done.ensures.length c.do_leap-done.ensures.state c.do_leap-done.ensures.told
+    c.do_leap-done.ensures.stood c.do_leap-done.ensures.quiet c.do_leap-done.ensures.step in
+    still_fits c.args.p.now c.do_leap-done.new.p (c.leaps.done + c.do_leap-done.result) on.running.state c.requires.fits
+
+pub returns-then-failed-clause-later : goal.returns-then-failed-clause-later
+returns-then-failed-clause-later g c =
+    let on = leap_on _ _ c.args.p.now c.requires.fits _ _ _ _ _ _ _ _ _ _ _ c.leaps.invariant.leaping c.leaps-test.true c.do_leap-done.ensures.length c.do_leap-done.ensures.state c.do_leap-done.ensures.told
+    c.do_leap-done.ensures.stood c.do_leap-done.ensures.quiet c.do_leap-done.ensures.step in
+    not_earlier _ _ c.args.p.now c.requires.fits _ _ _ _ _ _ _ on
+
+pub returns-then-failed-clause-not_beyond : goal.returns-then-failed-clause-not_beyond
+returns-then-failed-clause-not_beyond g c =
+    let on = leap_on _ _ c.args.p.now c.requires.fits _ _ _ _ _ _ _ _ _ _ _ c.leaps.invariant.leaping c.leaps-test.true c.do_leap-done.ensures.length c.do_leap-done.ensures.state c.do_leap-done.ensures.told
+    c.do_leap-done.ensures.stood c.do_leap-done.ensures.quiet c.do_leap-done.ensures.step in
+    let all : c.get.result - c.get-2.result ≡ c.args.horizon - c.args.p.now.machine.now = (let to = c.get.ensures.value in let from = c.get-2.ensures.value ∙ c.instant.ensures in omega (arith, to, from)) in
+    let far = not_beyond _ _ c.args.p.now c.requires.fits _ _ _ _ _ _ _ on in
+    let within = on.within in
+    let ahead = c.requires.ahead in
+    omega (arith, far, all, within, ahead)
+
+pub returns-then-failed-clause-steps : goal.returns-then-failed-clause-steps
+returns-then-failed-clause-steps g c =
+    let on = leap_on _ _ c.args.p.now c.requires.fits _ _ _ _ _ _ _ _ _ _ _ c.leaps.invariant.leaping c.leaps-test.true c.do_leap-done.ensures.length c.do_leap-done.ensures.state c.do_leap-done.ensures.told
+    c.do_leap-done.ensures.stood c.do_leap-done.ensures.quiet c.do_leap-done.ensures.step in
+    let all : c.get.result - c.get-2.result ≡ c.args.horizon - c.args.p.now.machine.now = (let to = c.get.ensures.value in let from = c.get-2.ensures.value ∙ c.instant.ensures in omega (arith, to, from)) in
+    subst (λ (n : ℕ). c.do_leap-done.new.steps ≤ c.args.steps.now + (in_leaps (flat_bodies c.args.p.now.code) n c.args.p.now.machine).count) all
+    (few_steps _ _ c.args.p.now c.requires.fits _ _ _ _ _ _ _ on)
+
+pub returns-then-failed-clause-busy : goal.returns-then-failed-clause-busy
+returns-then-failed-clause-busy g c =
+    let on = leap_on _ _ c.args.p.now c.requires.fits _ _ _ _ _ _ _ _ _ _ _ c.leaps.invariant.leaping c.leaps-test.true c.do_leap-done.ensures.length c.do_leap-done.ensures.state c.do_leap-done.ensures.told
+    c.do_leap-done.ensures.stood c.do_leap-done.ensures.quiet c.do_leap-done.ensures.step in
+    let all : c.get.result - c.get-2.result ≡ c.args.horizon - c.args.p.now.machine.now = (let to = c.get.ensures.value in let from = c.get-2.ensures.value ∙ c.instant.ensures in omega (arith, to, from)) in
+    subst (λ (n : ℕ). c.do_leap-done.new.steps ≤ c.args.steps.now + busy (flat_bodies c.args.p.now.code) c.args.p.now.machine 0 n + 1) all
+    (few_busy _ _ c.args.p.now c.requires.fits _ _ _ _ _ _ _ on)
+
+pub returns-clause-later : goal.returns-clause-later
+returns-clause-later g c = not_earlier _ _ c.args.p.now c.requires.fits _ _ _ _ _ _ _ c.leaps.invariant.leaping
+
+pub returns-clause-not_beyond : goal.returns-clause-not_beyond
+returns-clause-not_beyond g c =
+    let all : c.get.result - c.get-2.result ≡ c.args.horizon - c.args.p.now.machine.now = (let to = c.get.ensures.value in let from = c.get-2.ensures.value ∙ c.instant.ensures in omega (arith, to, from)) in
+    let far = not_beyond _ _ c.args.p.now c.requires.fits _ _ _ _ _ _ _ c.leaps.invariant.leaping in
+    let within = c.leaps.invariant.leaping.within in
+    let ahead = c.requires.ahead in
+    omega (arith, far, all, within, ahead)
+
+pub returns-clause-steps : goal.returns-clause-steps
+returns-clause-steps g c =
+    let all : c.get.result - c.get-2.result ≡ c.args.horizon - c.args.p.now.machine.now = (let to = c.get.ensures.value in let from = c.get-2.ensures.value ∙ c.instant.ensures in omega (arith, to, from)) in
+    subst (λ (n : ℕ). c.leaps.steps ≤ c.args.steps.now + (in_leaps (flat_bodies c.args.p.now.code) n c.args.p.now.machine).count) all
+    (few_steps _ _ c.args.p.now c.requires.fits _ _ _ _ _ _ _ c.leaps.invariant.leaping)
+
+pub returns-clause-busy : goal.returns-clause-busy
+returns-clause-busy g c =
+    let all : c.get.result - c.get-2.result ≡ c.args.horizon - c.args.p.now.machine.now = (let to = c.get.ensures.value in let from = c.get-2.ensures.value ∙ c.instant.ensures in omega (arith, to, from)) in
+    subst (λ (n : ℕ). c.leaps.steps ≤ c.args.steps.now + busy (flat_bodies c.args.p.now.code) c.args.p.now.machine 0 n + 1) all
+    (few_busy _ _ c.args.p.now c.requires.fits _ _ _ _ _ _ _ c.leaps.invariant.leaping)
