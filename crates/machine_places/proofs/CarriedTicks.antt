@@ -175,7 +175,7 @@ module _ {P Q : Type 0} (carry : BodyOf → P → Q) (p : Bodies P) (q : Bodies 
       due_of_carries m item.Timeout (timeout_due (M carry m)) (timeout_due m) (λ n. ap (option_and_then (λ (w : Waiting). w.due)) (waiting_carries carry m n)) ns' (thread_numbers m) ns in
       cc (refills_first, starts_next, timeouts_next)
 
-  next_item_carries : (m : Machine P) → next_item (M carry m) ≡ next_item m
+  pub next_item_carries : (m : Machine P) → next_item (M carry m) ≡ next_item m
   next_item_carries m = ap (first_item m.killed) (due_items_carry m)
 
   item_then_carries : (o : Option Item) (rest' : Turn Q → Turn Q) (rest : Turn P → Turn P) → Carries carry rest' rest → Carries carry (item_then q o rest') (item_then p o rest)
@@ -321,7 +321,7 @@ module _ {P Q : Type 0} (carry : BodyOf → P → Q) (p : Bodies P) (q : Bodies 
   in_unit_if_carries true th = begins_ending_carries th.cleanups th
   in_unit_if_carries false th = in_unit_of_carries th.frames th
 
-  in_unit_carries : (th : Thread P) → in_unit q (C carry th) ≡ in_unit_carried (in_unit p th)
+  pub in_unit_carries : (th : Thread P) → in_unit q (C carry th) ≡ in_unit_carried (in_unit p th)
   in_unit_carries th =
       ap₂ (λ (k : FrameKind) (left : ℕ). in_unit_if q (th.is_ending && is_main k && left == 0) (C carry th)) (kind_carried carry th.frames) (left_carried carry th.frames)
       ∙ in_unit_if_carries (th.is_ending && is_main (top_kind th.frames) && top_left th.frames == 0) th
@@ -332,7 +332,7 @@ module _ {P Q : Type 0} (carry : BodyOf → P → Q) (p : Bodies P) (q : Bodies 
   frames_charged_carry [] = refl
   frames_charged_carry (f ∷ fs) = refl
 
-  charged_carries : (th : Thread P) → tick_charged (C carry th) ≡ C carry (tick_charged th)
+  pub charged_carries : (th : Thread P) → tick_charged (C carry th) ≡ C carry (tick_charged th)
   charged_carries th = ap (λ (fs : List (Frame Q)). record (C carry (tick_charged th)) { frames = fs }) (frames_charged_carry th.frames)
 
   completes_carries : (left t : ℕ) (unit' : Unit) → Carries carry (completes_at q left t unit') (completes_at p left t unit')
