@@ -154,7 +154,7 @@ again_fits by k how s waits none h = record {
 -- ---- a thread contends
 
 -- the call in which it waits
-told_in : (t : ℕ) (r : Res) (s : Turn Cursor) → Event
+abbrev told_in : (t : ℕ) (r : Res) (s : Turn Cursor) → Event
 told_in t r s = event.Return t (name_of (call_in (waiting_of s.machine t))) r 0
 
 returned_fits : (how : CondEnd) (t k : ℕ) (s : Turn Cursor) → is_blocked (thread_at s.machine t).status ≡ true → WaitsFit s.machine →
@@ -182,7 +182,7 @@ contends_fits t how s h = by_wait (waiting_of s.machine t) refl
   where
     by_object : (w : Waiting) (x : Wait) → waiting_of s.machine t ≡ Some w → w.wait ≡ x → WaitsFit (contends_for (released_mutex x) t how s).machine
     by_object w (for_condition c k) e is =
-        contended_fits t k how s end (waits_blocked s.machine t w e) (h.own_none t (in_condition s.machine t w e (ap is_in_condition_wait is))) h
+        contended_fits t k how s (waits_blocked s.machine t w e) (h.own_none t (in_condition s.machine t w e (ap is_in_condition_wait is))) h
     by_object w _ e is = h
 
     by_wait : (o : Option Waiting) → waiting_of s.machine t ≡ o → WaitsFit (contends_for (option_and_then (λ (w : Waiting). released_mutex w.wait) o) t how s).machine

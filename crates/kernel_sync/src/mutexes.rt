@@ -10,7 +10,9 @@ ghost use Rattle.kernel_state.specs.Kernel.{after, by, told};
 ghost use Rattle.kernel_sync.specs.Answers.{CanAct, answer_of};
 ghost use Rattle.kernel_sync.specs.Waits.{BlockedRest, MutexWaitersRest};
 
-use crate::answer::{LockAnswer, answer_as_owner, is_cancelled_waiter, lock_answer, trylock_answer, unless_late};
+use crate::answer::{
+    LockAnswer, answer_as_owner, is_cancelled_waiter, lock_answer, trylock_answer, unless_late,
+};
 use kernel_state::Parts;
 use pse52_trace::Tracer;
 use rt_io::Sink;

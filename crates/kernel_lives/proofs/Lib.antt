@@ -1,0 +1,4 @@
+pub mod Joined
+pub mod Ended
+pub mod Popped
+pub mod Left
