@@ -54,7 +54,7 @@ module _ (m : Machine Cursor) (u : ℕ) (y : plain.Wait) (is : WaitIs (Some y) (
   known_end n (for_signal signals) h = tt
 
   pub end_known : (n : ℕ) → length m.threads ≡ n → JoinsFit m → EndIsKnown n (wait_of y)
-  end_known n many fits = known_end n (wait_of y) (λ t e. (let lt = fits.ends u t its_wait.0 its_wait.1.0 (sym its_wait.1.1 ∙ e) in omega (arith, many, lt)))
+  end_known n many fits = known_end n (wait_of y) (λ t e. (let lt = fits.ends u t its_wait.0 its_wait.1 (sym its_wait.2 ∙ e) in omega (arith, many, lt)))
 
   pub left_unused : BlockedRest m → IsUnused (thread_at m u).server
-  left_unused rests = rests u (waits_blocked m u its_wait.0 its_wait.1.0)
+  left_unused rests = rests u (waits_blocked m u its_wait.0 its_wait.1)

@@ -146,7 +146,18 @@ fn act_if_blocked<K: Sink>(p: &mut Parts, u: Tid, out: &mut Tracer<'_, K>)
     }
 }
 
-// A live thread is asked to end, once the call has returned.
+// A thread is asked to end, once the call has returned.
+fn ask_to_end<K: Sink>(p: &mut Parts, t: Tid, call: &Call, u: Tid, out: &mut Tracer<'_, K>)
+    requires known { t < length p.old.names }
+    requires thread { u < length p.old.names }
+    ensures state { p.new ≡ after (λ s. s ▷ returns (by t call.now) res.Zero 0 ▷ changes u requested) p.old }
+    ensures told { Tells K.text K.faults p.old.names out.old out.new (told (λ s. s ▷ returns (by t call.now) res.Zero 0 ▷ changes u requested) p.old) }
+{
+    p.returns(t, call, Res::Zero, 0, out);
+    p.request_end(u);
+}
+
+// A live thread is asked to end, and the request acts where it waits.
 fn cancel_live<K: Sink>(p: &mut Parts, t: Tid, call: &Call, u: Tid, out: &mut Tracer<'_, K>)
     requires known { t < length p.old.names }
     requires thread { u < length p.old.names }
@@ -159,8 +170,7 @@ fn cancel_live<K: Sink>(p: &mut Parts, t: Tid, call: &Call, u: Tid, out: &mut Tr
     ensures state { p.new ≡ after (λ s. s ▷ returns (by t call.now) res.Zero 0 ▷ changes u requested ▷ acts_if_blocked u) p.old }
     ensures told { Tells K.text K.faults p.old.names out.old out.new (told (λ s. s ▷ returns (by t call.now) res.Zero 0 ▷ changes u requested ▷ acts_if_blocked u) p.old) }
 {
-    p.returns(t, call, Res::Zero, 0, out);
-    p.request_end(u);
+    ask_to_end(p, t, call, u, out);
     act_if_blocked(p, u, out);
 }
 
