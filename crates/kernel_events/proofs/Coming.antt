@@ -266,7 +266,7 @@ if_keeps true x y s h k = h
 if_keeps false x y s h k = k
 
 contends_keeps : {P : Type 0} (o : Option ℕ) (t : ℕ) (how : CondEnd) (s : Turn P) → KeepsMoves s (contends_for o t how s)
-contends_keeps None t how s u h = h
+contends_keeps None t how s = λ u h. h
 contends_keeps (Some k) t how s = if_keeps (is_free s.machine k) _ _ s (λ u h. returned_keeps how t (changes_mutex k (taken_by t) s) u h) (λ u h. h)
 
 signalled_keeps : {P : Type 0} (o : Option Waiter) (s : Turn P) → KeepsMoves s (signals_waiter o s)

@@ -7,6 +7,8 @@ mod checks;
 #[cfg(test)]
 mod commands;
 #[cfg(test)]
+mod conditions;
+#[cfg(test)]
 mod machine;
 #[cfg(test)]
 mod order;

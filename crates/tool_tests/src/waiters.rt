@@ -67,10 +67,10 @@ static RUNS: [(&str, &str, &str); 5] = [
     ),
 ];
 
-#[test]
-fn waiters_run_as_the_rules_say(rt: HostRuntime) -> Result<(), Fail> {
+// Each script is run to its horizon, and prints its trace.
+pub(crate) fn print_as_they_should(rt: HostRuntime, runs: &[(&str, &str, &str)]) -> Result<(), Fail> {
     let alloc = rt.alloc();
-    for &(horizon, script, trace) in &RUNS {
+    for &(horizon, script, trace) in runs {
         let mut source = SureSource::new(Vec::from_slice(alloc, script.as_bytes())?);
         let mut sink = MemSink::open(alloc, 4000, Vec::new(alloc))?;
         let status = run_from(alloc, &["run", horizon], &mut source, &mut sink)?;
@@ -78,4 +78,9 @@ fn waiters_run_as_the_rules_say(rt: HostRuntime) -> Result<(), Fail> {
         assert_eq!(rt; sink.text(), trace.as_bytes());
     }
     Ok(())
+}
+
+#[test]
+fn waiters_run_as_the_rules_say(rt: HostRuntime) -> Result<(), Fail> {
+    print_as_they_should(rt, &RUNS)
 }

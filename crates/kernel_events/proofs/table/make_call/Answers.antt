@@ -1,0 +1,35 @@
+use Rattle.std.proofs.Common.{◌≡◌, ℕ, Some, subst, sym}
+use Rattle.pse52_trace.specs.Tells.{Tells}
+use Rattle.script_tree.specs.declared.call.Call.{Call}
+use Rattle.machine_rules.specs.Calls.{call_effect}
+use Rattle.machine_rules.specs.Conditions.{waits}
+use Rattle.machine_flat.specs.FlatBodies.{flat_bodies}
+use Rattle.kernel_state.specs.Kernel.{after, by, told}
+use Rattle.kernel_events.proofs.table.make_call.Goals as goal
+
+pub returns-in-Wait-clause-state : goal.returns-in-Wait-clause-state
+returns-in-Wait-clause-state g c =
+    let p = c.args.p.now in
+    subst (λ (x : Call). c.wait_on.new.p ≡ after (call_effect (flat_bodies p.code) (by c.args.t c.args.call.now) x) p) (sym c.in-Wait.is) c.wait_on.ensures.state
+
+pub returns-in-Wait-clause-told : goal.returns-in-Wait-clause-told
+returns-in-Wait-clause-told g c =
+    let p = c.args.p.now in
+    subst (λ (x : Call). Tells g.K.Sink.text g.K.Sink.faults p.names c.args.out.now c.wait_on.new.out (told (call_effect (flat_bodies p.code) (by c.args.t c.args.call.now) x) p))
+    (sym c.in-Wait.is) c.wait_on.ensures.told
+
+pub returns-in-Timedwait-clause-state : goal.returns-in-Timedwait-clause-state
+returns-in-Timedwait-clause-state g c =
+    let p = c.args.p.now in
+    let end = c.wait_on-in-Timedwait.new.p in
+    let waits_until = λ (at : ℕ). waits (by c.args.t c.args.call.now) c.in-Timedwait.cond c.in-Timedwait.mutex (Some at) in
+    subst (λ (x : Call). end ≡ after (call_effect (flat_bodies p.code) (by c.args.t c.args.call.now) x) p) (sym c.in-Timedwait.is)
+    (subst (λ (at : ℕ). end ≡ after (waits_until at) p) c.moment-in-Timedwait.ensures c.wait_on-in-Timedwait.ensures.state)
+
+pub returns-in-Timedwait-clause-told : goal.returns-in-Timedwait-clause-told
+returns-in-Timedwait-clause-told g c =
+    let p = c.args.p.now in
+    let end = c.wait_on-in-Timedwait.new.out in
+    let waits_until = λ (at : ℕ). waits (by c.args.t c.args.call.now) c.in-Timedwait.cond c.in-Timedwait.mutex (Some at) in
+    subst (λ (x : Call). Tells g.K.Sink.text g.K.Sink.faults p.names c.args.out.now end (told (call_effect (flat_bodies p.code) (by c.args.t c.args.call.now) x) p)) (sym c.in-Timedwait.is)
+    (subst (λ (at : ℕ). Tells g.K.Sink.text g.K.Sink.faults p.names c.args.out.now end (told (waits_until at) p)) c.moment-in-Timedwait.ensures c.wait_on-in-Timedwait.ensures.told)
