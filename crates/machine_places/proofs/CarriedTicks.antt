@@ -182,7 +182,7 @@ module _ {P Q : Type 0} (carry : BodyOf → P → Q) (p : Bodies P) (q : Bodies 
   item_then_carries None rest' rest h s = refl
   item_then_carries (Some i) rest' rest h s = ap rest' (item_done_carries i s) ∙ h (item_done p i s)
 
-  items_done_carries : (most : ℕ) → Carries carry (items_done q most) (items_done p most)
+  pub items_done_carries : (most : ℕ) → Carries carry (items_done q most) (items_done p most)
   items_done_carries zero s = refl
   items_done_carries (suc most) s =
       ap (λ (o : Option Item). item_then q o (items_done q most) (T carry s)) (next_item_carries s.machine)
@@ -321,7 +321,7 @@ module _ {P Q : Type 0} (carry : BodyOf → P → Q) (p : Bodies P) (q : Bodies 
   in_unit_if_carries true th = begins_ending_carries th.cleanups th
   in_unit_if_carries false th = in_unit_of_carries th.frames th
 
-  in_unit_carries : (th : Thread P) → in_unit q (C carry th) ≡ in_unit_carried (in_unit p th)
+  pub in_unit_carries : (th : Thread P) → in_unit q (C carry th) ≡ in_unit_carried (in_unit p th)
   in_unit_carries th =
       ap₂ (λ (k : FrameKind) (left : ℕ). in_unit_if q (th.is_ending && is_main k && left == 0) (C carry th)) (kind_carried carry th.frames) (left_carried carry th.frames)
       ∙ in_unit_if_carries (th.is_ending && is_main (top_kind th.frames) && top_left th.frames == 0) th

@@ -10,3 +10,6 @@ pub mod Ranges
 pub mod Serials
 pub mod Opened
 pub mod Charged
+pub mod Pushing
+pub mod Ticking
+pub mod JoinsLaw

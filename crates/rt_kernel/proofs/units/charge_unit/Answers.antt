@@ -14,7 +14,7 @@ pub leap-requires-clause-room : goal.leap-requires-clause-room
 leap-requires-clause-room g c =
     let p = c.args.p.now in
     subst (λ (th : Thread Cursor). HasRoom 1 th) (sym c.take_unit-unit.ensures.thread)
-    (room_in_unit 1 (flat_bodies p.code) (thread_at p.machine c.args.t) c.requires.goes_on c.requires.room)
+    (room_in_unit 1 (flat_bodies p.code) (thread_at p.machine c.args.t) c.requires.room)
 
 pub returns-clause-state : goal.returns-clause-state
 returns-clause-state g c =
