@@ -80,7 +80,14 @@ module _ {P : Type 0} (m : Machine P) where
 -- ---- so it may have a tick
 
 head_fits : (o : Objects) (code : flat.Bodies (List Op)) (m : Machine Cursor) (last : LastDispatch) (t : ℕ) → StoodRight m → head m ≡ Some t → Fits o code m → FitsTick o code (record m { last = last }) t
-head_fits o code m last t stood e fit = record { thread = fit.top t e; runs = head_runs m t stood e; waits = fit.items.waits; joins = fit.joins; serial = fit.serial; threads = fit.threads }
+head_fits o code m last t stood e fit = record {
+  thread = fit.top t e;
+  runs = head_runs m t stood e;
+  waits = record { built = fit.items.waits.built; rests = fit.items.waits.rests; own_none = fit.items.waits.own_none };
+  joins = record { joiners = fit.joins.joiners; ends = fit.joins.ends };
+  serial = fit.serial;
+  threads = fit.threads;
+}
 
 pub dispatched_fits : (p l : Kernel) (to : Option ℕ) → to ≡ head p.machine → l ≡ after (dispatches (head p.machine)) p → StoodRight p.machine → Fits (objects_in p) p.code p.machine →
     IfSome to (λ t. FitsTick (objects_in l) l.code l.machine t)

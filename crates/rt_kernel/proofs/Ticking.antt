@@ -55,9 +55,10 @@ module _ (script : Script) (ok : IsPlaceable script) (calls : (n : ℕ) → Each
   room_for x (call.Push u) is h stands few = few u refl
   room_for x (call.Pop runs) is h stands few =
       let made = subst (λ (s : units.Unit). UnitStands (objects_of script) (top_kind x.thread.frames) s) is stands in
-      let main = made.guards refl in
-      (handlers_among (length (cleanups_of script)) x.thread.cleanups h.cleanups,
-      (let one = at_most_one x.thread.frames h.ordered main in let e = charged_length x.thread.frames in omega (arith, one, e)))
+      let main = made.guards refl in (
+        handlers_among (length (cleanups_of script)) x.thread.cleanups h.cleanups,
+        (let one = at_most_one x.thread.frames h.ordered main in let e = charged_length x.thread.frames in omega (arith, one, e)),
+      )
   room_for x _ is h stands few = tt
 
   completes : (x : InUnit Cursor) (s : units.Unit) → x.unit ≡ s → UnitMakes (IsBuilt (objects_of script)) s → StandsSo x.thread → UnitStands (objects_of script) (top_kind x.thread.frames) x.unit →
