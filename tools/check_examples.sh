@@ -17,7 +17,7 @@ if ! command -v rt >/dev/null 2>&1; then
 fi
 
 # The stages of tests/worked/INDEX.txt whose forms the kernel has, and the farthest horizon that a run tick by tick comes to.
-built="first language threads servers mutexes semaphores waiting"
+built="first language threads servers mutexes semaphores waiting lives"
 farthest=1000000
 
 cases=$(mktemp -d) || exit 1

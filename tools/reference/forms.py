@@ -23,10 +23,11 @@ class Stage(IntEnum):
     MUTEXES = 5
     SEMAPHORES = 6
     WAITING = 7
-    SIGNALS = 8
-    TIMERS = 9
-    QUEUES = 10
-    WHOLE = 11
+    LIVES = 8
+    SIGNALS = 9
+    TIMERS = 10
+    QUEUES = 11
+    WHOLE = 12
 
     @staticmethod
     def named(name: str) -> "Stage":
@@ -147,6 +148,10 @@ _TABLE: list[tuple[Stage, Role, list[str]]] = [
     (Stage.WAITING, Role.DECLARATION, ["cond <name>"]),
     (Stage.WAITING, Role.STEP, [
         "wait <cond> <mutex>", "timedwait <cond> <mutex> <operand>", "signal <cond>", "broadcast <cond>"]),
+    (Stage.LIVES, Role.STEP, [
+        "cancel <thread>", "testcancel", "setcancel enable", "setcancel disable", "exit <operand>", "join <thread>"]),
+    (Stage.LIVES, Role.BLOCK, ["push <cleanup>"]),
+    (Stage.LIVES, Role.CLOSE, ["pop 0", "pop 1"]),
     (Stage.SIGNALS, Role.DECLARATION, ["action <sig> ignore", "action <sig> run <handler>"]),
     (Stage.SIGNALS, Role.STEP, [
         "kill <sig>", "tkill <thread> <sig>", "sigqueue <sig> <operand>",
@@ -160,10 +165,6 @@ _TABLE: list[tuple[Stage, Role, list[str]]] = [
     (Stage.QUEUES, Role.STEP, [
         "mq_send <queue> <length> <urgency> <operand>", "mq_timedsend <queue> <length> <urgency> <operand> <operand>",
         "mq_receive <queue>", "mq_timedreceive <queue> <operand>", "mq_notify <queue> <sig> <operand>"]),
-    (Stage.WHOLE, Role.STEP, [
-        "cancel <thread>", "testcancel", "setcancel enable", "setcancel disable", "exit <operand>", "join <thread>"]),
-    (Stage.WHOLE, Role.BLOCK, ["push <cleanup>"]),
-    (Stage.WHOLE, Role.CLOSE, ["pop 0", "pop 1"]),
 ]
 
 FORMS: list[Form] = [

@@ -289,7 +289,7 @@ def limit_passed(draw: Random, stage: Stage) -> Text:
         makers += [too_deep, too_deep, too_many_bodies, two_quantums, too_many_steps]
     if stage >= Stage.WAITING:
         makers += [too_many_objects, too_many_objects]
-    if stage >= Stage.WHOLE:
+    if stage >= Stage.LIVES:
         makers += [too_guarded, too_guarded]
     return draw.choice(makers)(draw, draw.choice((0, 1, 1, 2)))
 

@@ -232,7 +232,8 @@ def new_server(writer: "ScriptWriter") -> list[Part]:
 def cancelled(writer: "ScriptWriter") -> list[Part]:
     """A thread in a cancellation point with cleanups pushed, one that cancels it, and one that joins."""
     draw, victim = writer.draw, draw_peer(writer, 0)
-    points = ["testcancel", f"nanosleep {draw.randint(2, 9)}", "sigwaitinfo none"]
+    points = ["testcancel", f"nanosleep {draw.randint(2, 9)}"]
+    points += ["sigwaitinfo none"] if writer.stage >= Stage.SIGNALS else []
     points += [f"join {draw.choice(writer.threads)}"]
     points += [f"sem_wait {sem}" for sem in writer.sems] + [f"mq_receive {queue}" for queue in writer.queues]
     inner = [draw.choice(points), *busy(writer, 2), draw.choice(points)]
@@ -266,7 +267,7 @@ def cancelled_joiner(writer: "ScriptWriter") -> list[Part]:
 
 def guarded(writer: "ScriptWriter", inner: Part, share: float = 0.3) -> Part:
     """The lines, at times between a push and a pop of a cleanup."""
-    if writer.stage < Stage.WHOLE or writer.draw.random() >= share:
+    if writer.stage < Stage.LIVES or writer.draw.random() >= share:
         return inner
     return [f"push {writer.draw.choice(writer.cleanups)}", *inner, f"pop {writer.draw.randint(0, 1)}"]
 
@@ -280,5 +281,5 @@ SCENES: dict[Stage, tuple[Scene, ...]] = {
     Stage.SIGNALS: (waiting_for_signals, handled_waits),
     Stage.TIMERS: (periodic, overruns),
     Stage.QUEUES: (queue_of_messages, queue_of_messages),
-    Stage.WHOLE: (cancelled, cancelled_at_a_mutex, cancelled_joiner),
+    Stage.LIVES: (cancelled, cancelled_at_a_mutex, cancelled_joiner),
 }

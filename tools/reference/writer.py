@@ -9,7 +9,7 @@ from scenes import CAST, PEER, SCENES, SELF, Part
 _GREATEST = 10**18
 _SHARES: dict[Stage, float] = {
     Stage.THREADS: 0.5, Stage.SERVERS: 0.4, Stage.MUTEXES: 0.7, Stage.SEMAPHORES: 0.6, Stage.WAITING: 0.6,
-    Stage.SIGNALS: 0.6, Stage.TIMERS: 0.5, Stage.QUEUES: 0.6, Stage.WHOLE: 0.6}
+    Stage.SIGNALS: 0.6, Stage.TIMERS: 0.5, Stage.QUEUES: 0.6, Stage.LIVES: 0.6}
 """How often a topic occurs in the steps of a script."""
 
 
@@ -148,13 +148,13 @@ class ScriptWriter:
             Stage.THREADS: [self.scheduling, self.scheduling],
             Stage.MUTEXES: [self.trylock], Stage.SEMAPHORES: [self.sem_plain], Stage.WAITING: [self.waking],
             Stage.SIGNALS: [self.sending, self.sending], Stage.TIMERS: [self.timing, self.timing],
-            Stage.QUEUES: [self.notifying], Stage.WHOLE: [self.cancelling]}
+            Stage.QUEUES: [self.notifying], Stage.LIVES: [self.cancelling]}
         blocking = {
             Stage.SERVERS: [self.napping],
             Stage.MUTEXES: [self.locking, self.locking, self.locking],
             Stage.SEMAPHORES: [self.sleeping, self.sem_wait], Stage.WAITING: [self.waiting, self.waiting],
             Stage.SIGNALS: [self.accepting], Stage.TIMERS: [self.accepting],
-            Stage.QUEUES: [self.messages, self.messages, self.messages], Stage.WHOLE: [self.ending, self.guarded]}
+            Stage.QUEUES: [self.messages, self.messages, self.messages], Stage.LIVES: [self.ending, self.guarded]}
         found = plain.get(topic, [])
         return found + blocking.get(topic, []) if body == "thread" else found
 
@@ -208,7 +208,7 @@ class ScriptWriter:
         wait = draw.choice((f"wait {draw.choice(self.conds)} {mutex}",
                             f"timedwait {draw.choice(self.conds)} {mutex} {self.operand()}"))
         whole = [f"lock {mutex}", wait, f"unlock {mutex}"]
-        if self.cleanups and self.stage >= Stage.WHOLE and draw.random() < 0.3:
+        if self.cleanups and self.stage >= Stage.LIVES and draw.random() < 0.3:
             whole[1:2] = [f"push {draw.choice(self.cleanups)}", wait, f"pop {draw.randint(0, 1)}"]
         return whole if draw.random() < 0.85 else [wait]
 

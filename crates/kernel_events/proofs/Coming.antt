@@ -12,22 +12,25 @@ use Rattle.script_tree.specs.declared.call.Call.TheVariants as call
 use Rattle.pse52_trace.specs.declared.event.Event.{Event}
 use Rattle.pse52_trace.specs.declared.event.Event.TheVariants as event
 use Rattle.machine_rules.specs.Bodies.{Bodies}
-use Rattle.machine_rules.specs.State.{Machine, Thread, Wait, Waiting, for_condition, for_end, for_message, for_mutex, for_mutex_again, for_room, for_semaphore, for_signal, for_time}
+use Rattle.machine_rules.specs.State.{Joiner, Machine, Thread, Wait, Waiting, has_joined, nobody, waits_to_join, for_condition, for_end, for_message, for_mutex, for_mutex_again, for_room, for_semaphore, for_signal, for_time}
 use Rattle.machine_rules.specs.declared.thread.CondEnd.{CondEnd}
 use Rattle.machine_rules.specs.declared.thread.CondEnd.TheVariants as cond_end
 use Rattle.machine_rules.specs.Lists.{changed_at}
 use Rattle.machine_rules.specs.Threads.{can_run, is_dormant, is_runnable, lives, mutex_at, no_thread, number_of, semaphore_at, thread_at, waiting_of}
-use Rattle.machine_rules.specs.Turns.{By, Turn, answered, changes, changes_mutex, changes_semaphore, has_passed, is_late, moves, moves_if, returns, tells, with_thread}
+use Rattle.machine_rules.specs.Turns.{By, Turn, answered, changes, changes_mutex, changes_pending, changes_semaphore, has_passed, is_late, moves, moves_if, returns, tells, with_thread}
 use Rattle.machine_rules.specs.CallNames.{name_of}
 use Rattle.machine_rules.specs.Servers.{activates_if, activates_server, amount_of, high_server, refills_for, regains_high, with_server}
-use Rattle.machine_rules.specs.Waking.{blocks, call_in, cancelled_value, ending_with, put_to_wait, started, starts, wakes, wakes_cancelled, wakes_telling, woken}
-use Rattle.machine_rules.specs.Lives.{inherited_mask}
+use Rattle.machine_rules.specs.Waking.{blocks, blocks_unordered, call_in, cancelled_value, ending_with, put_to_wait, started, starts, wakes, wakes_cancelled, wakes_telling, woken}
+use Rattle.machine_rules.specs.declared.frame.FrameKind.{FrameKind}
+use Rattle.machine_rules.specs.declared.frame.FrameKind.TheVariants as frame
+use Rattle.machine_rules.specs.Cancellation.{acts_if_blocked, cancels, is_cancellation_point, is_cancelled, leaves, leaves_wait, pops_cleanup, request_acts, requested, runs_cleanup_if, without_cleanup}
+use Rattle.machine_rules.specs.Lives.{finishes_in, inherited_mask, is_nobody, joins, wakes_joiner, with_joiner, without_life, without_target, without_top}
 use Rattle.machine_rules.specs.Scheduling.{takes_priority, with_policy, with_priority}
 use Rattle.machine_rules.specs.Mutexes.{LockAnswer, counted_up, counts, hands_over, is_free, lock_answer, locks_on, must_wait, owned_by, owns, owns_boosting, refused, releases, returns_from_wait, taken_by, takes, trylock_answer, unless_late, unlocks, waits_for_mutex, wakes_owner}
 use Rattle.machine_rules.specs.Conditions.{contends, contends_for, released_mutex, signals_best, signals_best_of, signals_waiter, waits, waits_on_condition, waits_with_other_mutex}
 use Rattle.machine_rules.specs.Semaphores.{posts_to, semaphore_limit, waits_on_semaphore, waits_semaphore}
 use Rattle.machine_rules.specs.Waiters.{Waiter, best_waiter, somebody_waits, waiters}
-use Rattle.machine_rules.specs.Calls.{call_effect}
+use Rattle.machine_rules.specs.Calls.{call_effect, makes_call}
 use Rattle.machine_rules.specs.DueItems.{handles, times_out, times_out_of}
 use Rattle.machine_rules.proofs.Reading.{changed-keeps, thread-other}
 use Rattle.machine_flat.specs.KnownCalls.{Objects}
@@ -292,6 +295,7 @@ times_out_of_come : {P : Type 0} (n : ℕ) (x : Wait) (t : ℕ) (s : Turn P) →
 times_out_of_come n (for_mutex k) t s built = wakes_come t res.Timedout 0 s
 times_out_of_come n (for_mutex_again k how) t s built = wakes_come t res.Timedout 0 s
 times_out_of_come n (for_condition c k) t s built = contends_come t cond_end.Timedout s
+times_out_of_come n (for_end u) t s built = wakes_come t res.Timedout 0 s
 times_out_of_come n (for_semaphore k) t s built = wakes_come t res.Timedout 0 s
 times_out_of_come n for_time t s built = wakes_come t res.Zero 0 s
 times_out_of_come n _ t s built = absurd built
@@ -321,12 +325,79 @@ posts_come (Some w) b k s = returned_come b res.Zero 0 (wakes w.thread res.Zero 
 posts_come None b k s =
     if_come (semaphore_at s.machine k == semaphore_limit) _ _ s (returns_come b res.Overflow 0 s) (returns_come b res.Zero 0 (changes_semaphore k suc s))
 
+-- ---- joins, ends and requests
+
+joins_come : {P : Type 0} (b : By) (u : ℕ) (s : Turn P) → Comes s (joins b u s)
+joins_come b u s =
+    if_come (u == b.thread) _ _ s (returns_come b res.Deadlk 0 s)
+    (if_come (is_dormant (thread_at s.machine u).status) _ _ s (returns_come b res.Srch 0 s)
+    (if_come (not (is_nobody (thread_at s.machine u).joiner)) _ _ s (returns_come b res.Inval 0 s)
+    (if_come (lives s.machine u) _ _ s
+    (let x = changes u (with_joiner (waits_to_join b.thread)) s in
+    let y = blocks_unordered b (for_end u) None x in
+    fewer_before s x y (changes_fewer u (with_joiner (waits_to_join b.thread)) s (λ h. h)) (sleeps_come b (record { wait = for_end u; serial = 0; due = None; call = b.call }) x))
+    (let x = changes u (with_joiner has_joined) s in
+    fewer_before s x (returns b res.Zero (thread_at s.machine u).exit_value x) (changes_fewer u (with_joiner has_joined) s (λ h. h)) (returns_come b res.Zero (thread_at s.machine u).exit_value x)))))
+
+leaves_come : {P : Type 0} (x : Wait) (u : ℕ) (s : Turn P) → Comes s (leaves x u s)
+leaves_come (for_mutex k) u s = fewer_come s.machine s.machine s.direct (λ v r. r)
+leaves_come (for_mutex_again k how) u s = fewer_come s.machine s.machine s.direct (λ v r. r)
+leaves_come (for_condition c k) u s = contends_come u cond_end.Cancelled s
+leaves_come (for_end t) u s = let x = changes t (with_joiner nobody) s in fewer_before s x (wakes_cancelled u x) (changes_fewer t (with_joiner nobody) s (λ h. h)) (cancelled_come u x)
+leaves_come (for_semaphore k) u s = cancelled_come u s
+leaves_come for_time u s = cancelled_come u s
+leaves_come (for_room q message) u s = cancelled_come u s
+leaves_come (for_message q) u s = cancelled_come u s
+leaves_come (for_signal signals) u s = cancelled_come u s
+
+leaves_wait_come : {P : Type 0} (o : Option Waiting) (u : ℕ) (s : Turn P) → Comes s (leaves_wait o u s)
+leaves_wait_come None u s = fewer_come s.machine s.machine s.direct (λ v r. r)
+leaves_wait_come (Some w) u s = leaves_come w.wait u s
+
+acts_come : {P : Type 0} (u : ℕ) (s : Turn P) → Comes s (acts_if_blocked u s)
+acts_come u s = if_come (request_acts (thread_at s.machine u)) _ _ s (leaves_wait_come (waiting_of s.machine u) u s) (fewer_come s.machine s.machine s.direct (λ v r. r))
+
+cancels_come : {P : Type 0} (b : By) (u : ℕ) (s : Turn P) → Comes s (cancels b u s)
+cancels_come b u s =
+    let r = returns b res.Zero 0 s in
+    let x = changes u requested r in
+    if_come (lives s.machine u) _ _ s
+    (fewer_before s x (acts_if_blocked u x) (λ v k. returns_fewer b res.Zero 0 s v (changes_fewer u requested r (λ h. h) v k)) (acts_come u x))
+    (returns_come b res.Srch 0 s)
+
+-- a change of the caller that leaves its status, and its return
+changed_come : {P : Type 0} (b : By) (t : ℕ) (f : Thread P → Thread P) (r : Res) (value : ℕ) (s : Turn P) → ((th : Thread P) → (f th).status ≡ th.status) → Comes s (returns b r value (changes t f s))
+changed_come b t f r value s same =
+    let x = changes t f s in
+    fewer_before s x (returns b r value x) (changes_fewer t f s (λ h. sym (ap is_runnable (same (thread_at s.machine t))) ∙ h)) (returns_come b r value x)
+
+run_status : {P : Type 0} (runs : Bool) (bodies : Bodies P) (us : List ℕ) (th : Thread P) → (runs_cleanup_if runs bodies us th).status ≡ th.status
+run_status true bodies [] th = refl
+run_status true bodies (u ∷ us) th = refl
+run_status false bodies us th = refl
+
+pops_come : {P : Type 0} (bodies : Bodies P) (b : By) (runs : Bool) (s : Turn P) → Comes s (pops_cleanup bodies b runs s)
+pops_come bodies b runs s =
+    let us = (thread_at s.machine b.thread).cleanups in
+    let x = returns b res.Zero 0 (changes b.thread without_cleanup s) in
+    λ u off k. changed_come b b.thread without_cleanup res.Zero 0 s (λ th. refl) u off
+    (changes_fewer b.thread (runs_cleanup_if runs bodies us) x (λ h. sym (ap is_runnable (run_status runs bodies us (thread_at x.machine b.thread))) ∙ h) u k)
+
 -- ---- the table of calls
 
 pub calls_come : {P : Type 0} (bodies : Bodies P) (o : Objects) (b : By) (c : Call) (s : Turn P) → IsBuilt o c → Comes s (call_effect bodies b c s)
 calls_come bodies o b call.Yield s built = fewer_come s.machine (returns b res.Zero 0 (moves b.thread s)).machine (moves b.thread s).direct (returns_fewer b res.Zero 0 s)
 calls_come bodies o b (call.Create u) s built =
     if_come (is_dormant (thread_at s.machine u).status) _ _ s (creates_come bodies b u (inherited_mask (thread_at s.machine b.thread)) s) (returns_come b res.Again 0 s)
+calls_come bodies o b (call.Join u) s built = joins_come b u s
+calls_come bodies o b (call.Cancel u) s built = cancels_come b u s
+calls_come bodies o b call.Testcancel s built = returns_come b res.Zero 0 s
+calls_come bodies o b (call.Setcancel on) s built = changed_come b b.thread (λ th. record th { is_enabled = on }) res.Zero 0 s (λ th. refl)
+calls_come bodies o b (call.Push u) s built = changed_come b b.thread (λ th. record th { cleanups = u ∷ th.cleanups }) res.Zero 0 s (λ th. refl)
+calls_come bodies o b (call.Pop runs) s built = pops_come bodies b runs s
+calls_come bodies o b (call.Exit v) s built =
+    let value = number_of s.machine b.thread v in
+    fewer_come s.machine (changes b.thread (ending_with value) s).machine s.direct (changes_fewer b.thread (ending_with value) s (λ h. h))
 calls_come bodies o b (call.Setprio u p) s built =
     if_come (lives s.machine u) _ _ s (if_come (takes_priority (thread_at s.machine u).policy p) _ _ s (setprio_come b u p s) (returns_come b res.Inval 0 s)) (returns_come b res.Srch 0 s)
 calls_come bodies o b (call.Setsched u policy) s built =
@@ -353,3 +424,27 @@ calls_come bodies o b (call.ClockNanosleep at) s built = if_come (has_passed _ s
 calls_come bodies o b (call.Nanosleep k) s built = if_come (has_passed _ s.machine) _ _ s (returns_come b res.Zero 0 s) (sleeps_come b _ s)
 calls_come bodies o b call.Gettime s built = returns_come b res.Zero s.machine.now s
 calls_come bodies o b _ s built = absurd (let e : false ≡ true = built.built in cc)
+
+-- a request in place of a call wakes nobody
+pub made_come : {P : Type 0} (bodies : Bodies P) (o : Objects) (b : By) (s : Turn P) → IsBuilt o b.call → Comes s (makes_call bodies b s)
+made_come bodies o b s built =
+    if_come (is_cancellation_point b.call && request_acts (thread_at s.machine b.thread)) _ _ s
+    (fewer_come s.machine (is_cancelled b.thread s).machine s.direct (changes_fewer b.thread (ending_with cancelled_value) s (λ h. h)))
+    (calls_come bodies o b b.call s built)
+
+-- ---- the end of a body
+
+wakes_joiner_come : {P : Type 0} (j : Joiner) (t : ℕ) (s : Turn P) → Comes s (wakes_joiner j t s)
+wakes_joiner_come nobody t s = fewer_come s.machine s.machine s.direct (λ u r. r)
+wakes_joiner_come has_joined t s = fewer_come s.machine s.machine s.direct (λ u r. r)
+wakes_joiner_come (waits_to_join u) t s =
+    let x = changes t (with_joiner has_joined) s in
+    fewer_before s x (wakes u res.Zero (thread_at s.machine t).exit_value x) (changes_fewer t (with_joiner has_joined) s (λ h. h)) (wakes_come u res.Zero (thread_at s.machine t).exit_value x)
+
+pub finishes_come : {P : Type 0} (kind : FrameKind) (t : ℕ) (s : Turn P) → Comes s (finishes_in kind t s)
+finishes_come frame.Main t s =
+    let x = changes_pending (without_target t) (tells (event.Exit t) (changes t without_life s)) in
+    let j = (thread_at s.machine t).joiner in
+    fewer_before s x (wakes_joiner j t x) (changes_fewer t without_life s (λ h. absurd cc)) (wakes_joiner_come j t x)
+finishes_come frame.Cleanup t s = fewer_come s.machine (changes t without_top s).machine s.direct (changes_fewer t without_top s (λ h. h))
+finishes_come frame.Signal t s = fewer_come s.machine (changes t without_top s).machine s.direct (changes_fewer t without_top s (λ h. h))

@@ -1,8 +1,12 @@
 -- The calls whose effects are built, over the objects of a kernel.
-use Rattle.std.specs.Prelude.{length}
+use Rattle.std.specs.Prelude.{ℕ, ◌≤◌, ◌<◌, length}
+use Rattle.script_flat.specs.declared.cursor.Cursor.{Cursor}
 use Rattle.script_tree.specs.declared.call.Call.{Call}
+use Rattle.script_tree.specs.declared.call.Call.TheVariants as call
+use Rattle.machine_rules.specs.State.{Thread}
 use Rattle.machine_flat.specs.KnownCalls.{Objects}
 use Rattle.machine_flat.specs.Runnable.{CallIsRunnable}
+use Rattle.thread_blocks.specs.Handlers.{AreHandlers}
 use Rattle.kernel_state.specs.Kernel.{Kernel}
 
 -- how many objects of each kind a kernel has
@@ -19,3 +23,9 @@ objects_in k = record {
 -- a call is built, and names what there is
 abbrev pub IsBuilt : Objects → Call → Type 0
 IsBuilt o c = CallIsRunnable o c
+
+-- there is room for one more cleanup handler that is pushed, and for the frame of one that is popped, of so many
+abbrev pub HasRoomFor : ℕ → Thread Cursor → Call → Type 0
+HasRoomFor n th (call.Push u) = length th.cleanups < 8
+HasRoomFor n th (call.Pop runs) = AreHandlers n th.cleanups × (length th.frames ≤ 2)
+HasRoomFor n th other = Unit {0}

@@ -66,6 +66,7 @@ fn time_out<K: Sink>(p: &mut Parts, t: Tid, out: &mut Tracer<'_, K>)
         Some(Wait::Time) => p.wake(t, Res::Zero, 0, out),
         Some(Wait::Mutex(_)) => p.wake(t, Res::Timedout, 0, out),
         Some(Wait::MutexAgain(_, _)) => p.wake(t, Res::Timedout, 0, out),
+        Some(Wait::End(_)) => p.wake(t, Res::Timedout, 0, out),
         Some(Wait::Semaphore(_)) => p.wake(t, Res::Timedout, 0, out),
         Some(Wait::Condition(_, _)) => contend(p, t, CondEnd::Timedout, out),
         Some(_) => unreachable!(),

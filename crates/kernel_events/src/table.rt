@@ -1,17 +1,21 @@
 // The table of calls: the effect of each.
 ghost use Rattle.std.specs.Prelude.{◌≡◌, ◌≤◌, ◌<◌, ◌^◌, length, true};
 ghost use Rattle.pse52_trace.specs.Tells.{Tells};
-ghost use Rattle.machine_rules.specs.Threads.{can_run};
+ghost use Rattle.machine_rules.specs.Threads.{can_run, thread_at};
 ghost use Rattle.machine_rules.specs.Turns.{returns};
-ghost use Rattle.machine_rules.specs.Calls.{call_effect};
-ghost use Rattle.kernel_events.specs.Built.{IsBuilt, objects_in};
+ghost use Rattle.machine_rules.specs.Calls.{call_effect, makes_call};
+ghost use Rattle.kernel_events.specs.Built.{HasRoomFor, IsBuilt, objects_in};
 ghost use Rattle.machine_flat.specs.FlatBodies.{flat_bodies};
+ghost use Rattle.kernel_lives.specs.Joins.{JoinsFit};
 ghost use Rattle.kernel_sync.specs.Waits.{WaitsFit};
 ghost use Rattle.kernel_state.specs.Kernel.{after, by, told};
 
 use crate::lives::make_create;
 use crate::scheduling::{make_setprio, make_setsched, make_yield};
 use crate::time::{end_of_sleep, sleep_until};
+use kernel_lives::{
+    acts_in_place, cancel, exit, join, pop_cleanup, push_cleanup, set_cancelability,
+};
 use kernel_state::Parts;
 use kernel_sync::{
     broadcast, get_value, lock, post, signal, try_lock, try_wait, unlock, wait, wait_on,
@@ -22,12 +26,14 @@ use script_tree::Call;
 use tick_num::{Res, Tid};
 
 /// The effect of a call.
-pub fn make_call<K: Sink>(p: &mut Parts, t: Tid, call: &Call, out: &mut Tracer<'_, K>)
+fn do_call<K: Sink>(p: &mut Parts, t: Tid, call: &Call, out: &mut Tracer<'_, K>)
     requires known { t < length p.old.names }
     requires built { IsBuilt (objects_in p.old) call.now }
+    requires guards { HasRoomFor (length p.old.code.cleanups) (thread_at p.old.machine t) call.now }
     requires threads { length p.old.machine.threads ≡ length p.old.names }
     requires runs { can_run p.old.machine t ≡ true }
     requires fits { WaitsFit p.old.machine }
+    requires joins { JoinsFit p.old.machine }
     requires serial { p.old.machine.next_serial < 2 ^ 62 }
     requires room { length p.old.direct < 128 }
     requires early { p.old.machine.now ≤ 10 ^ 18 }
@@ -37,6 +43,13 @@ pub fn make_call<K: Sink>(p: &mut Parts, t: Tid, call: &Call, out: &mut Tracer<'
     match call {
         Call::Yield => make_yield(p, t, call, out),
         Call::Create(u) => make_create(p, t, call, *u, out),
+        Call::Join(u) => join(p, t, call, *u, out),
+        Call::Cancel(u) => cancel(p, t, call, *u, out),
+        Call::Testcancel => p.returns(t, call, Res::Zero, 0, out),
+        Call::Setcancel(on) => set_cancelability(p, t, call, *on, out),
+        Call::Push(u) => push_cleanup(p, t, call, *u, out),
+        Call::Pop(runs) => pop_cleanup(p, t, call, *runs, out),
+        Call::Exit(v) => exit(p, t, call, p.number(t, v)),
         Call::Setprio(u, prio) => make_setprio(p, t, call, *u, *prio, out),
         Call::Setsched(u, policy) => make_setsched(p, t, call, *u, *policy, out),
         Call::Lock(k) => lock(p, t, call, *k, None, out),
@@ -58,5 +71,27 @@ pub fn make_call<K: Sink>(p: &mut Parts, t: Tid, call: &Call, out: &mut Tracer<'
         Call::ClockNanosleep { at } => sleep_until(p, t, call, p.moment(t, at), out),
         Call::Gettime => p.returns(t, call, Res::Zero, p.instant().get(), out),
         _ => unreachable!(),
+    }
+}
+
+/// A call is made, or a request acts in its place.
+pub fn make_call<K: Sink>(p: &mut Parts, t: Tid, call: &Call, out: &mut Tracer<'_, K>)
+    requires known { t < length p.old.names }
+    requires built { IsBuilt (objects_in p.old) call.now }
+    requires guards { HasRoomFor (length p.old.code.cleanups) (thread_at p.old.machine t) call.now }
+    requires threads { length p.old.machine.threads ≡ length p.old.names }
+    requires runs { can_run p.old.machine t ≡ true }
+    requires fits { WaitsFit p.old.machine }
+    requires joins { JoinsFit p.old.machine }
+    requires serial { p.old.machine.next_serial < 2 ^ 62 }
+    requires room { length p.old.direct < 128 }
+    requires early { p.old.machine.now ≤ 10 ^ 18 }
+    ensures state { p.new ≡ after (makes_call (flat_bodies p.old.code) (by t call.now)) p.old }
+    ensures told { Tells K.text K.faults p.old.names out.old out.new (told (makes_call (flat_bodies p.old.code) (by t call.now)) p.old) }
+{
+    if acts_in_place(p, t, call) {
+        p.cancel_now(t, out);
+    } else {
+        do_call(p, t, call, out);
     }
 }

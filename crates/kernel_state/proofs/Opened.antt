@@ -2,18 +2,21 @@
 use Rattle.std.proofs.Common.{◌≡◌, ◌<◌, ℕ, zero, suc, List, [], ◌∷◌, Bool, true, false, ap, arith, length, refl, sym, replicate, ◌∙◌, Some}
 use Rattle.std.specs.Prelude.{map, slice_get, slice_index, slice_index_or}
 use Rattle.std.proofs.lemmas.List.{length-map}
-use Rattle.script_tree.specs.Block.{Block}
+use Rattle.script_tree.specs.Block.{Block, Nothing}
 use Rattle.script_tree.specs.declared.decl.Script.{Script}
 use Rattle.script_flat.specs.Flat as flat
+use Rattle.script_flat.specs.Next.{body_start}
+use Rattle.script_flat.proofs.Opens.{is_body_of_script}
 use Rattle.thread_lists.specs.Threads.{times}
 use Rattle.script_flat.specs.declared.cursor.Cursor.{Cursor}
 use Rattle.machine_rules.specs.Declarations.{ThreadDecl, threads_of}
 use Rattle.machine_rules.specs.Threads.{is_runnable, no_thread}
 use Rattle.machine_rules.specs.Machine.{names_of}
 use Rattle.machine_rules.specs.Runs.{opening, thread_opened}
-use Rattle.machine_flat.proofs.Numbered.{Numbered, known, thread_blocks}
+use Rattle.machine_flat.proofs.Numbered.{Numbered, cleanup_blocks, known, thread_blocks}
 use Rattle.machine_flat.specs.FlatBodies.{code_of}
 use Rattle.machine_flat.specs.Runnable.{IsRunnable}
+use Rattle.thread_blocks.specs.Handlers.{HandlerBegins, HandlersBegin}
 use Rattle.kernel_state.specs.Settled.{HavePriorities}
 use Rattle.kernel_state.specs.Stood.{StoodRight}
 use Rattle.kernel_state.specs.Tied.{IsTied}
@@ -43,6 +46,35 @@ numbered_there all (n ∷ ns) [] t is lt = absurd is
 numbered_there all (n ∷ ns) (b ∷ bs) zero (one, rest) lt = there all n b one
 numbered_there all (n ∷ ns) (b ∷ bs) (suc t) (one, rest) lt = numbered_there all ns bs t rest (omega arith)
 
+-- ---- each cleanup handler begins at a place of the code
+
+numbered_at : (all : List Block) (ns : List ℕ) (bs : List Block) (t : ℕ) → Numbered all ns bs → t < length ns → slice_get all (slice_index ns t) ≡ Some (slice_index_or bs t Nothing)
+numbered_at all [] bs t is lt = absurd (omega arith)
+numbered_at all (n ∷ ns) [] t is lt = absurd is
+numbered_at all (n ∷ ns) (b ∷ bs) zero (one, rest) lt = one
+numbered_at all (n ∷ ns) (b ∷ bs) (suc t) (one, rest) lt = numbered_at all ns bs t rest (omega arith)
+
+pub handlers_opening : (script : Script) → IsRunnable script → HandlersBegin (code_of script)
+handlers_opening script ok = record { each = begins }
+  where
+    b : flat.Bodies Block
+    b = flat.bodies_of script.decls
+
+    begins : (u : ℕ) → u < length (code_of script).cleanups → HandlerBegins (code_of script) u
+    begins u lt =
+        let here = numbered_at b.all b.cleanups (cleanup_blocks script.decls) u (known script).cleanups lt in
+        let block = slice_index_or (cleanup_blocks script.decls) u Nothing in
+        let below = there b.all (slice_index b.cleanups u) block here in
+        record {
+          there = omega (arith, below, length-map b.all (flat.flat 0));
+          placed = record {
+            body = block;
+            is_body = is_body_of_script b (code_of script) (slice_index b.cleanups u) block refl ok.flattenable here;
+            place = body_start;
+            stands = record { at = refl; passes = refl; register = omega arith };
+          };
+        }
+
 pub code_threads : (script : Script) → length (code_of script).threads ≡ length (threads_of script)
 code_threads script =
     let b = flat.bodies_of script.decls in
@@ -59,6 +91,7 @@ tied_opening script ok =
       named = named ∙ sym opened;
       listed = refl;
       known = λ k d lt. absurd (omega arith);
+      handlers = handlers_opening script ok;
       bodies = record {
         numbered = code_threads script ∙ sym named;
         each = λ t lt. (let h = numbered_there b.all b.threads (thread_blocks script.decls) t (known script).threads (omega (arith, code_threads script, named)) in omega (arith, h, length-map b.all (flat.flat 0)));

@@ -2,6 +2,7 @@
 ghost use Rattle.std.specs.Prelude.{◌≡◌, ◌≤◌, ◌<◌, ◌^◌, length, option_map, true, false};
 ghost use Rattle.sporadic_server.specs.Server.{activate};
 ghost use Rattle.machine_rules.specs.Servers.{with_server};
+ghost use Rattle.thread_blocks.specs.Handlers.{CanEnd};
 ghost use Rattle.thread_blocks.specs.Unused.{IsUnused};
 ghost use Rattle.machine_rules.specs.Threads.{thread_at};
 ghost use Rattle.machine_rules.specs.Lives.{without_life};
@@ -102,11 +103,11 @@ impl Parts {
         self.table.set_policy(t, new, self.instant);
     }
 
-    /// The unit that a thread is in, or takes next. It is not ending.
+    /// The unit that a thread is in, or takes next.
     pub fn take_unit(&mut self, t: Tid) -> Unit
         requires known { t < length self.old.names }
-        requires goes_on { (thread_at self.old.machine t).is_ending ≡ false }
         requires placed { ArePlaced self.old.code (thread_at self.old.machine t).frames }
+        requires ends { (thread_at self.old.machine t).is_ending ≡ true → CanEnd (length self.old.code.cleanups) (thread_at self.old.machine t) }
         ensures unit { result ≡ (in_unit (flat_bodies self.old.code) (thread_at self.old.machine t)).unit }
         ensures state { self.new ≡ after (changes t (λ th. (in_unit (flat_bodies self.old.code) (thread_at self.old.machine t)).thread)) self.old }
         ensures thread { thread_at self.new.machine t ≡ (in_unit (flat_bodies self.old.code) (thread_at self.old.machine t)).thread }

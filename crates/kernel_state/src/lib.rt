@@ -7,6 +7,7 @@ mod dispatch;
 mod due;
 mod leaps;
 mod lists;
+mod lives;
 mod mutexes;
 mod open;
 mod parts;

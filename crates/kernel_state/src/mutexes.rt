@@ -82,7 +82,7 @@ impl Parts {
     }
 
     // The mutex goes from its owner to a thread that is runnable again.
-    fn hand_over(&mut self, k: ObjId, owner: Tid, t: Tid, res: Res)
+    pub(crate) fn hand_over(&mut self, k: ObjId, owner: Tid, t: Tid, res: Res)
         requires known { t < length self.old.names }
         requires mutex { k < length self.old.machine.mutexes }
         requires owned { (mutex_at self.old.machine k).owner ≡ Some owner }

@@ -6,6 +6,7 @@ use Rattle.tick_num.specs.declared.res.Res.TheVariants as res
 use Rattle.std.specs.Option.{option_map_or}
 use Rattle.sporadic_server.specs.Server.{ServerState, activate}
 use Rattle.machine_rules.specs.Servers.{activates_server, high_server, with_server}
+use Rattle.pse52_trace.specs.declared.event.Event.{Event}
 use Rattle.pse52_trace.specs.declared.event.Event.TheVariants as event
 use Rattle.script_flat.specs.declared.cursor.Cursor.{Cursor}
 use Rattle.machine_rules.specs.declared.thread.CondEnd.{CondEnd}
@@ -19,13 +20,14 @@ use Rattle.machine_rules.specs.State.{Machine, Mutex, Status, Thread, Wait, Wait
 use Rattle.machine_rules.specs.Threads.{can_run, is_blocked, is_runnable, mutex_at, no_mutex, no_thread, thread_at, waiting_in, waiting_of}
 use Rattle.machine_rules.specs.Turns.{By, Turn, changes, changes_mutex, moves, tells, ◌▷◌}
 use Rattle.machine_rules.specs.Waiters.{Waiter, best_waiter, waits_so}
-use Rattle.machine_rules.specs.Waking.{blocks, call_in, put_to_wait, wakes, woken}
+use Rattle.machine_rules.specs.Waking.{blocks, call_in, cancelled_value, ending_with, put_to_wait, wakes_telling, woken}
 use Rattle.machine_rules.proofs.Reading.{changed-length, thread-other}
 use Rattle.machine_moves.proofs.Calls.Answers.{waits_blocked}
 use Rattle.machine_moves.proofs.Calls.Commuting.{woken_runs}
 use Rattle.machine_moves.proofs.Waiters.OfThreads.{changed_is}
 use Rattle.thread_blocks.specs.Unused.{IsUnused}
-use Rattle.kernel_sync.specs.Waits.{AreBuiltWaits, IsBuiltEnd, OwnsNone, WaitsFit}
+use Rattle.kernel_sync.specs.Waits.{AreBuiltWaits, OwnsNone, WaitsFit}
+use Rattle.kernel_sync.proofs.Kept.{kept_fits}
 use Rattle.kernel_sync.proofs.Resting.{only_blocked}
 
 not_both : {X : Type 0} (b : Bool) → b ≡ false → b ≡ true → X
@@ -76,58 +78,58 @@ activated_other : (t u : ℕ) (o : Option ServerState) (s : Turn Cursor) → (t 
 activated_other t u None s other = refl
 activated_other t u (Some server) s other = thread-other s.machine t u (with_server (activate s.machine.now)) other
 
-woken_thread : (t u : ℕ) (r : Res) (s : Turn Cursor) → (t == u) ≡ false → thread_at (wakes t r 0 s).machine u ≡ thread_at s.machine u
-woken_thread t u r s other =
-    let up = tells (event.Return t (name_of (call_in (waiting_of s.machine t))) r 0) (moves t (changes t (woken r 0) s)) in
+woken_thread : (e : Event) (t u : ℕ) (r : Res) (s : Turn Cursor) → (t == u) ≡ false → thread_at (wakes_telling e t r 0 s).machine u ≡ thread_at s.machine u
+woken_thread e t u r s other =
+    let up = tells e (moves t (changes t (woken r 0) s)) in
     activated_other t u (high_server (thread_at up.machine t).server) up other ∙ thread-other s.machine t u (woken r 0) other
 
-woken_mutexes : (t : ℕ) (r : Res) (s : Turn Cursor) → (wakes t r 0 s).machine.mutexes ≡ s.machine.mutexes
-woken_mutexes t r s = kept_mutexes (high_server (thread_at (tells (event.Return t (name_of (call_in (waiting_of s.machine t))) r 0) (moves t (changes t (woken r 0) s))).machine t).server)
+woken_mutexes : (e : Event) (t : ℕ) (r : Res) (s : Turn Cursor) → (wakes_telling e t r 0 s).machine.mutexes ≡ s.machine.mutexes
+woken_mutexes e t r s = kept_mutexes (high_server (thread_at (tells e (moves t (changes t (woken r 0) s))).machine t).server)
   where
-    kept_mutexes : (o : Option ServerState) → (activates_server t o (tells (event.Return t (name_of (call_in (waiting_of s.machine t))) r 0) (moves t (changes t (woken r 0) s)))).machine.mutexes ≡ s.machine.mutexes
+    kept_mutexes : (o : Option ServerState) → (activates_server t o (tells e (moves t (changes t (woken r 0) s)))).machine.mutexes ≡ s.machine.mutexes
     kept_mutexes None = refl
     kept_mutexes (Some server) = refl
 
-taken_fits : (t k : ℕ) (r : Res) (s : Turn Cursor) → is_blocked (thread_at s.machine t).status ≡ true → WaitsFit s.machine → WaitsFit (s ▷ changes_mutex k (taken_by t) ▷ wakes t r 0).machine
-taken_fits t k r s waits h = record { built = λ u. built u (t == u) refl; rests = λ u e. rests u (t == u) refl e; own_none = λ u e. own_none u (t == u) refl e }
+taken_fits : (e : Event) (t k : ℕ) (r : Res) (s : Turn Cursor) → is_blocked (thread_at s.machine t).status ≡ true → WaitsFit s.machine → WaitsFit (s ▷ changes_mutex k (taken_by t) ▷ wakes_telling e t r 0).machine
+taken_fits d t k r s waits h = record { built = λ u. built u (t == u) refl; rests = λ u e. rests u (t == u) refl e; own_none = λ u e. own_none u (t == u) refl e }
   where
     mid : Turn Cursor
     mid = changes_mutex k (taken_by t) s
 
     after : Machine Cursor
-    after = (wakes t r 0 mid).machine
+    after = (wakes_telling d t r 0 mid).machine
 
     runs : can_run after t ≡ true
-    runs = woken_runs (event.Return t (name_of (call_in (waiting_of mid.machine t))) r 0) t r 0 mid waits
+    runs = woken_runs d t r 0 mid waits
 
     many : length after.mutexes ≡ length s.machine.mutexes
-    many = ap length (woken_mutexes t r mid) ∙ changed-length no_mutex k (taken_by t) s.machine.mutexes
+    many = ap length (woken_mutexes d t r mid) ∙ changed-length no_mutex k (taken_by t) s.machine.mutexes
 
     built : (u : ℕ) (b : Bool) → (t == u) ≡ b → AreBuiltWaits (length after.mutexes) (waiting_in (thread_at after u).status)
     built u true it = subst (λ (i : ℕ). AreBuiltWaits (length after.mutexes) (waiting_in (thread_at after i).status)) (same_number t u it) (runs_built (length after.mutexes) (thread_at after t).status runs)
     built u false other =
         subst (λ (n : ℕ). AreBuiltWaits n (waiting_in (thread_at after u).status)) (sym many)
-        (subst (λ (th : Thread Cursor). AreBuiltWaits (length s.machine.mutexes) (waiting_in th.status)) (sym (woken_thread t u r mid other)) (h.built u))
+        (subst (λ (th : Thread Cursor). AreBuiltWaits (length s.machine.mutexes) (waiting_in th.status)) (sym (woken_thread d t u r mid other)) (h.built u))
 
     rests : (u : ℕ) (b : Bool) → (t == u) ≡ b → is_blocked (thread_at after u).status ≡ true → IsUnused (thread_at after u).server
     rests u true it e = not_both (is_blocked (thread_at after t).status) (runs_unblocked (thread_at after t).status runs) (subst (λ (i : ℕ). is_blocked (thread_at after i).status ≡ true) (sym (same_number t u it)) e)
     rests u false other e =
-        let same = woken_thread t u r mid other in
+        let same = woken_thread d t u r mid other in
         subst (λ (th : Thread Cursor). IsUnused th.server) (sym same) (h.rests u (sym (ap (λ (th : Thread Cursor). is_blocked th.status) same) ∙ e))
 
     own_none : (u : ℕ) (b : Bool) → (t == u) ≡ b → waits_so is_in_condition_wait (thread_at after u) ≡ true → owned_by after u ≡ []
     own_none u true it e = not_both (waits_so is_in_condition_wait (thread_at after t)) (runs_waits (thread_at after t).status runs) (subst (λ (i : ℕ). waits_so is_in_condition_wait (thread_at after i) ≡ true) (sym (same_number t u it)) e)
     own_none u false other e =
-        let same = woken_thread t u r mid other in
+        let same = woken_thread d t u r mid other in
         let before = h.own_none u (sym (ap (λ (th : Thread Cursor). waits_so is_in_condition_wait th) same) ∙ e) in
-        ap (filter (λ (j : Mutex). is j.owner u)) (woken_mutexes t r mid) ∙ others_own t u k s.machine.mutexes other before
+        ap (filter (λ (j : Mutex). is j.owner u)) (woken_mutexes d t r mid) ∙ others_own t u k s.machine.mutexes other before
 
 -- ---- a thread waits for its mutex again
 
-again_fits : (by : By) (k : ℕ) (how : CondEnd) (s : Turn Cursor) → IsBuiltEnd how → is_blocked (thread_at s.machine by.thread).status ≡ true → OwnsNone s.machine by.thread →
+again_fits : (by : By) (k : ℕ) (how : CondEnd) (s : Turn Cursor) → is_blocked (thread_at s.machine by.thread).status ≡ true → OwnsNone s.machine by.thread →
     WaitsFit s.machine → WaitsFit (blocks by (for_mutex_again k how) None s).machine
-again_fits by k how s end waits none h = record {
-  built = only_blocked by (for_mutex_again k how) None s end h.built;
+again_fits by k how s waits none h = record {
+  built = only_blocked by (for_mutex_again k how) None s tt h.built;
   rests = λ u e. rests u (changed_is no_thread by.thread u (put_to_wait own) s.machine.threads) e;
   own_none = λ u e. own_none u (changed_is no_thread by.thread u (put_to_wait own) s.machine.threads) e;
 }
@@ -151,31 +153,36 @@ again_fits by k how s end waits none h = record {
 
 -- ---- a thread contends
 
-returned_fits : (how : CondEnd) (t k : ℕ) (s : Turn Cursor) → IsBuiltEnd how → is_blocked (thread_at s.machine t).status ≡ true → WaitsFit s.machine →
-    WaitsFit (s ▷ changes_mutex k (taken_by t) ▷ returns_from_wait how t).machine
-returned_fits cond_end.Signalled t k s end waits h = taken_fits t k res.Zero s waits h
-returned_fits cond_end.Timedout t k s end waits h = taken_fits t k res.Timedout s waits h
-returned_fits cond_end.Cancelled t k s end waits h = absurd end
+-- the call in which it waits
+abbrev told_in : (t : ℕ) (r : Res) (s : Turn Cursor) → Event
+told_in t r s = event.Return t (name_of (call_in (waiting_of s.machine t))) r 0
 
-contended_fits : (t k : ℕ) (how : CondEnd) (s : Turn Cursor) → IsBuiltEnd how → is_blocked (thread_at s.machine t).status ≡ true → OwnsNone s.machine t → WaitsFit s.machine →
+returned_fits : (how : CondEnd) (t k : ℕ) (s : Turn Cursor) → is_blocked (thread_at s.machine t).status ≡ true → WaitsFit s.machine →
+    WaitsFit (s ▷ changes_mutex k (taken_by t) ▷ returns_from_wait how t).machine
+returned_fits cond_end.Signalled t k s waits h = taken_fits (told_in t res.Zero s) t k res.Zero s waits h
+returned_fits cond_end.Timedout t k s waits h = taken_fits (told_in t res.Timedout s) t k res.Timedout s waits h
+returned_fits cond_end.Cancelled t k s waits h =
+    kept_fits t (ending_with cancelled_value) (s ▷ changes_mutex k (taken_by t) ▷ wakes_telling (event.Cancel t) t res.Zero 0) (λ th. refl) (λ th. refl) (taken_fits (event.Cancel t) t k res.Zero s waits h)
+
+contended_fits : (t k : ℕ) (how : CondEnd) (s : Turn Cursor) → is_blocked (thread_at s.machine t).status ≡ true → OwnsNone s.machine t → WaitsFit s.machine →
     WaitsFit (contends_for (Some k) t how s).machine
-contended_fits t k how s end waits none h = by_free (is_free s.machine k)
+contended_fits t k how s waits none h = by_free (is_free s.machine k)
   where
     by_free : (b : Bool) → WaitsFit (if b then (s ▷ changes_mutex k (taken_by t) ▷ returns_from_wait how t)
         else blocks (record { thread = t; call = call_in (waiting_of s.machine t) }) (for_mutex_again k how) None s).machine
-    by_free true = returned_fits how t k s end waits h
-    by_free false = again_fits (record { thread = t; call = call_in (waiting_of s.machine t) }) k how s end waits none h
+    by_free true = returned_fits how t k s waits h
+    by_free false = again_fits (record { thread = t; call = call_in (waiting_of s.machine t) }) k how s waits none h
 
 in_condition : (m : Machine Cursor) (t : ℕ) (w : Waiting) → waiting_of m t ≡ Some w → is_in_condition_wait w.wait ≡ true → waits_so is_in_condition_wait (thread_at m t) ≡ true
 in_condition m t w waits is = rw waits is
 
 -- it leaves its condition only from a condition wait
-pub contends_fits : (t : ℕ) (how : CondEnd) (s : Turn Cursor) → IsBuiltEnd how → WaitsFit s.machine → WaitsFit (contends t how s).machine
-contends_fits t how s end h = by_wait (waiting_of s.machine t) refl
+pub contends_fits : (t : ℕ) (how : CondEnd) (s : Turn Cursor) → WaitsFit s.machine → WaitsFit (contends t how s).machine
+contends_fits t how s h = by_wait (waiting_of s.machine t) refl
   where
     by_object : (w : Waiting) (x : Wait) → waiting_of s.machine t ≡ Some w → w.wait ≡ x → WaitsFit (contends_for (released_mutex x) t how s).machine
     by_object w (for_condition c k) e is =
-        contended_fits t k how s end (waits_blocked s.machine t w e) (h.own_none t (in_condition s.machine t w e (ap is_in_condition_wait is))) h
+        contended_fits t k how s (waits_blocked s.machine t w e) (h.own_none t (in_condition s.machine t w e (ap is_in_condition_wait is))) h
     by_object w _ e is = h
 
     by_wait : (o : Option Waiting) → waiting_of s.machine t ≡ o → WaitsFit (contends_for (option_and_then (λ (w : Waiting). released_mutex w.wait) o) t how s).machine
@@ -196,24 +203,24 @@ activated_grows : (t : ℕ) (o : Option ServerState) (s r : Turn Cursor) → Gro
 activated_grows t None s r h = h
 activated_grows t (Some server) s r h = record { moves = h.moves; serial = h.serial; time = h.time }
 
-woken_grows : (t k : ℕ) (r : Res) (s : Turn Cursor) → Grows s (s ▷ changes_mutex k (taken_by t) ▷ wakes t r 0)
-woken_grows t k r s =
+woken_grows : (e : Event) (t k : ℕ) (r : Res) (s : Turn Cursor) → Grows s (s ▷ changes_mutex k (taken_by t) ▷ wakes_telling e t r 0)
+woken_grows e t k r s =
     let mid = changes_mutex k (taken_by t) s in
-    let up = tells (event.Return t (name_of (call_in (waiting_of mid.machine t))) r 0) (moves t (changes t (woken r 0) mid)) in
+    let up = tells e (moves t (changes t (woken r 0) mid)) in
     activated_grows t (high_server (thread_at up.machine t).server) s up
     (record { moves = (let e = length-append s.direct (t ∷ []) in omega (arith, e)); serial = omega arith; time = refl })
 
-returned_grows : (how : CondEnd) (t k : ℕ) (s : Turn Cursor) → IsBuiltEnd how → Grows s (s ▷ changes_mutex k (taken_by t) ▷ returns_from_wait how t)
-returned_grows cond_end.Signalled t k s end = woken_grows t k res.Zero s
-returned_grows cond_end.Timedout t k s end = woken_grows t k res.Timedout s
-returned_grows cond_end.Cancelled t k s end = absurd end
+returned_grows : (how : CondEnd) (t k : ℕ) (s : Turn Cursor) → Grows s (s ▷ changes_mutex k (taken_by t) ▷ returns_from_wait how t)
+returned_grows cond_end.Signalled t k s = woken_grows (told_in t res.Zero s) t k res.Zero s
+returned_grows cond_end.Timedout t k s = woken_grows (told_in t res.Timedout s) t k res.Timedout s
+returned_grows cond_end.Cancelled t k s = let g = woken_grows (event.Cancel t) t k res.Zero s in record { moves = g.moves; serial = g.serial; time = g.time }
 
-pub contends_grows : (t : ℕ) (how : CondEnd) (s : Turn Cursor) → IsBuiltEnd how → Grows s (contends t how s)
-contends_grows t how s end = by_mutex (option_and_then (λ (w : Waiting). released_mutex w.wait) (waiting_of s.machine t))
+pub contends_grows : (t : ℕ) (how : CondEnd) (s : Turn Cursor) → Grows s (contends t how s)
+contends_grows t how s = by_mutex (option_and_then (λ (w : Waiting). released_mutex w.wait) (waiting_of s.machine t))
   where
     by_free : (k : ℕ) (b : Bool) → Grows s (if b then (s ▷ changes_mutex k (taken_by t) ▷ returns_from_wait how t)
         else blocks (record { thread = t; call = call_in (waiting_of s.machine t) }) (for_mutex_again k how) None s)
-    by_free k true = returned_grows how t k s end
+    by_free k true = returned_grows how t k s
     by_free k false = record { moves = omega arith; serial = omega arith; time = refl }
 
     by_mutex : (o : Option ℕ) → Grows s (contends_for o t how s)
@@ -222,11 +229,11 @@ contends_grows t how s end = by_mutex (option_and_then (λ (w : Waiting). releas
 
 signalled_fits : (o : Option Waiter) (s : Turn Cursor) → WaitsFit s.machine → WaitsFit (signals_waiter o s).machine
 signalled_fits None s h = h
-signalled_fits (Some w) s h = contends_fits w.thread cond_end.Signalled s tt h
+signalled_fits (Some w) s h = contends_fits w.thread cond_end.Signalled s h
 
 signalled_grows : (o : Option Waiter) (s : Turn Cursor) → Grows s (signals_waiter o s)
 signalled_grows None s = stays_same s
-signalled_grows (Some w) s = contends_grows w.thread cond_end.Signalled s tt
+signalled_grows (Some w) s = contends_grows w.thread cond_end.Signalled s
 
 pub signals_fit : (c : ℕ) (s : Turn Cursor) → WaitsFit s.machine → WaitsFit (signals_best c s).machine
 signals_fit c s h = signalled_fits (best_waiter s.machine (waits_on_condition c)) s h

@@ -5,3 +5,4 @@ pub mod Resting
 pub mod Contended
 pub mod Signalling
 pub mod Returned
+pub mod Kept

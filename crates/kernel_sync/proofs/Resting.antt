@@ -11,18 +11,15 @@ use Rattle.machine_rules.specs.Waking.{blocks, put_to_wait}
 use Rattle.machine_moves.proofs.Calls.Answers.{waits_blocked}
 use Rattle.machine_moves.proofs.Waiters.Best.{best_waits}
 use Rattle.machine_moves.proofs.Waiters.OfThreads.{changed_is}
-use Rattle.wait_lists.specs.declared.WaitObj.TheVariants.{Mutex}
-use Rattle.kernel_state.proofs.Waits.{IsBest}
 use Rattle.thread_blocks.specs.Unused.{IsUnused}
 use Rattle.kernel_sync.specs.Waits.{AreBuiltWaits, BlockedRest, IsBuiltWait, MutexWaitersRest, OnlyBuiltWaits, WaitsFit}
-use Rattle.kernel_sync.proofs.Released.{passes_for}
 
 pub blocked_waiters : (m : Machine Cursor) (k : ℕ) → BlockedRest m → MutexWaitersRest m k
 blocked_waiters m k rests u w waits passes = rests u (waits_blocked m u w waits)
 
 -- the one that is served first has used nothing
-pub best_rests : (m : Machine Cursor) (k w : ℕ) → IsBest m (Mutex k) (Some w) → MutexWaitersRest m k → IsUnused (thread_at m w).server
-best_rests m k w is rests = by_best (best_waiter m (waits_for_mutex k)) refl (is (waits_for_mutex k) (passes_for k))
+pub best_rests : (m : Machine Cursor) (k w : ℕ) → Some w ≡ option_map (λ (v : Waiter). v.thread) (best_waiter m (waits_for_mutex k)) → MutexWaitersRest m k → IsUnused (thread_at m w).server
+best_rests m k w is rests = by_best (best_waiter m (waits_for_mutex k)) refl is
   where
     by_best : (o : Option Waiter) → best_waiter m (waits_for_mutex k) ≡ o → Some w ≡ option_map (λ (v : Waiter). v.thread) o → IsUnused (thread_at m w).server
     by_best None e same = absurd cc

@@ -1,5 +1,5 @@
 -- How a lock comes out, and what the machine is then.
-use Rattle.std.specs.Prelude.{◌≡◌, ◌==◌, ℕ, IsSome, None, false}
+use Rattle.std.specs.Prelude.{◌≡◌, ◌==◌, ℕ, Bool, IsSome, None, false, true}
 use Rattle.tick_num.specs.declared.res.Res.{Res}
 use Rattle.tick_num.specs.declared.res.Res.TheVariants as res
 use Rattle.machine_rules.specs.declared.thread.CondEnd.TheVariants as cond_end
@@ -26,3 +26,8 @@ CanAct m t k must_wait = IsSome (mutex_at m k).owner × (closes_cycle m k t ≡ 
 abbrev pub owner_answer : Wait → Res
 owner_answer (for_mutex_again k cond_end.Timedout) = res.Timedout
 owner_answer wait = res.Zero
+
+-- whether the request that ended its condition wait acts as its mutex is handed over
+abbrev pub is_cancelled_wait : Wait → Bool
+is_cancelled_wait (for_mutex_again k cond_end.Cancelled) = true
+is_cancelled_wait wait = false

@@ -1,25 +1,18 @@
 -- What holds of the threads that wait.
 use Rattle.std.specs.Prelude.{◌≡◌, ◌<◌, ℕ, [], None, Option, Some, length, true}
-use Rattle.machine_rules.specs.declared.thread.CondEnd.{CondEnd}
-use Rattle.machine_rules.specs.declared.thread.CondEnd.TheVariants as cond_end
 use Rattle.machine_rules.specs.GoodState.{is_in_condition_wait}
 use Rattle.machine_rules.specs.Mutexes.{owned_by, waits_for_mutex}
-use Rattle.machine_rules.specs.State.{Machine, Wait, Waiting, for_condition, for_mutex, for_mutex_again, for_semaphore, for_time}
+use Rattle.machine_rules.specs.State.{Machine, Wait, Waiting, for_condition, for_end, for_mutex, for_mutex_again, for_semaphore, for_time}
 use Rattle.machine_rules.specs.Threads.{is_blocked, thread_at, waiting_of}
 use Rattle.machine_rules.specs.Waiters.{waits_so}
 use Rattle.thread_blocks.specs.Unused.{IsUnused}
 
--- the ends of a condition wait that are built
-abbrev pub IsBuiltEnd : CondEnd → Type 0
-IsBuiltEnd cond_end.Signalled = Unit {0}
-IsBuiltEnd cond_end.Timedout = Unit {0}
-IsBuiltEnd cond_end.Cancelled = ⊥
-
 -- the waits that are built, where there are so many mutexes
 abbrev pub IsBuiltWait : ℕ → Wait → Type 0
 IsBuiltWait mutexes (for_mutex k) = Unit {0}
-IsBuiltWait mutexes (for_mutex_again k how) = IsBuiltEnd how
+IsBuiltWait mutexes (for_mutex_again k how) = Unit {0}
 IsBuiltWait mutexes (for_condition c k) = k < mutexes
+IsBuiltWait mutexes (for_end t) = Unit {0}
 IsBuiltWait mutexes (for_semaphore k) = Unit {0}
 IsBuiltWait mutexes for_time = Unit {0}
 IsBuiltWait mutexes other = ⊥

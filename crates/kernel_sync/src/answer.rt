@@ -5,7 +5,7 @@ ghost use Rattle.machine_rules.specs.State.{Waiting};
 ghost use Rattle.machine_rules.specs.Threads.{waiting_of};
 ghost use Rattle.machine_rules.specs.Turns.{is_late};
 ghost use Rattle.thread_blocks.specs.Plain.{wait_of};
-ghost use Rattle.kernel_sync.specs.Answers.{answer_of, owner_answer};
+ghost use Rattle.kernel_sync.specs.Answers.{answer_of, is_cancelled_wait, owner_answer};
 
 use inherit_chain::MutexState;
 use kernel_state::Parts;
@@ -123,5 +123,27 @@ pub(crate) fn answer_as_owner(p: &Parts, w: Tid) -> Res
     match p.wait(w) {
         None => Res::Zero,
         Some(wait) => owner_answer(&wait),
+    }
+}
+
+// Whether the request that ended its condition wait acts as its mutex is handed over.
+fn is_cancelled_wait(wait: &Wait) -> bool
+    ensures { result ≡ is_cancelled_wait (wait_of wait.now) }
+{
+    match wait {
+        Wait::MutexAgain(_, CondEnd::Cancelled) => true,
+        _ => false,
+    }
+}
+
+/// Whether a waiter's condition wait was cancelled, so that the request acts as it is handed its mutex.
+#[tactic(auto, using(crate::proofs::Released::none_cancelled, crate::proofs::Released::some_cancelled))]
+pub(crate) fn is_cancelled_waiter(p: &Parts, w: Tid) -> bool
+    requires { w < length p.now.names }
+    ensures { (v : Waiting) → waiting_of p.now.machine w ≡ Some v → result ≡ is_cancelled_wait v.wait }
+{
+    match p.wait(w) {
+        None => false,
+        Some(wait) => is_cancelled_wait(&wait),
     }
 }

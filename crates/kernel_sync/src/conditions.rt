@@ -12,7 +12,7 @@ ghost use Rattle.machine_rules.specs.Turns.{changes_mutex, returns, ◌▷◌};
 ghost use Rattle.machine_rules.specs.Waking.{blocks};
 ghost use Rattle.thread_blocks.specs.Unused.{IsUnused};
 ghost use Rattle.kernel_state.specs.Kernel.{after, by, told};
-ghost use Rattle.kernel_sync.specs.Waits.{IsBuiltEnd, OwnsNone, WaitsFit};
+ghost use Rattle.kernel_sync.specs.Waits.{OwnsNone, WaitsFit};
 
 use crate::mutexes::release;
 use kernel_state::Parts;
@@ -27,7 +27,6 @@ use wait_lists::WaitObj;
 // A condition wait is over, with the mutex owned again.
 fn return_from_wait<K: Sink>(p: &mut Parts, t: Tid, how: CondEnd, out: &mut Tracer<'_, K>)
     requires known { t < length p.old.names }
-    requires built { IsBuiltEnd how }
     requires room { length p.old.direct < 256 }
     requires unused { IsUnused (thread_at p.old.machine t).server }
     requires early { p.old.machine.now ≤ 10 ^ 18 }
@@ -37,7 +36,7 @@ fn return_from_wait<K: Sink>(p: &mut Parts, t: Tid, how: CondEnd, out: &mut Trac
     match how {
         CondEnd::Signalled => p.wake(t, Res::Zero, 0, out),
         CondEnd::Timedout => p.wake(t, Res::Timedout, 0, out),
-        CondEnd::Cancelled => unreachable!(),
+        CondEnd::Cancelled => p.wake_cancelled(t, out),
     }
 }
 
@@ -47,7 +46,6 @@ fn take_again<K: Sink>(p: &mut Parts, t: Tid, k: ObjId, how: CondEnd, out: &mut 
     requires mutex { k < length p.old.machine.mutexes }
     requires free { (mutex_at p.old.machine k).owner ≡ None }
     requires waits_not { mutex_awaited_by (thread_at p.old.machine t) ≡ None }
-    requires built { IsBuiltEnd how }
     requires room { length p.old.direct < 256 }
     requires unused { IsUnused (thread_at p.old.machine t).server }
     requires early { p.old.machine.now ≤ 10 ^ 18 }
@@ -65,7 +63,6 @@ fn contend_for<K: Sink>(p: &mut Parts, t: Tid, k: ObjId, how: CondEnd, out: &mut
     requires mutex { k < length p.old.machine.mutexes }
     requires waits_not { mutex_awaited_by (thread_at p.old.machine t) ≡ None }
     requires own_none { OwnsNone p.old.machine t }
-    requires built { IsBuiltEnd how }
     requires room { length p.old.direct < 256 }
     requires serial { p.old.machine.next_serial < 2 ^ 63 }
     requires unused { IsUnused (thread_at p.old.machine t).server }
@@ -84,7 +81,6 @@ fn contend_for<K: Sink>(p: &mut Parts, t: Tid, k: ObjId, how: CondEnd, out: &mut
 pub fn contend<K: Sink>(p: &mut Parts, t: Tid, how: CondEnd, out: &mut Tracer<'_, K>)
     requires known { t < length p.old.names }
     requires fits { WaitsFit p.old.machine }
-    requires built { IsBuiltEnd how }
     requires room { length p.old.direct < 256 }
     requires serial { p.old.machine.next_serial < 2 ^ 63 }
     requires early { p.old.machine.now ≤ 10 ^ 18 }

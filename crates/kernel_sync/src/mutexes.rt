@@ -1,15 +1,18 @@
 // Locking and unlocking.
-ghost use Rattle.std.specs.Prelude.{◌≡◌, ◌≤◌, ◌<◌, ◌==◌, ◌^◌, None, Some, IfSome, false, length, true};
+ghost use Rattle.std.specs.Prelude.{◌≡◌, ◌≤◌, ◌<◌, ◌==◌, ◌^◌, None, Some, IfSome, false, length, option_map, true};
 ghost use Rattle.tick_num.specs.declared.res.Res.TheVariants as res;
 ghost use Rattle.pse52_trace.specs.Tells.{Tells};
-ghost use Rattle.machine_rules.specs.Mutexes.{counted_up, counted_down, locks, locks_on, recursion_limit, releases, taken_by, tries_lock, unlocks};
+ghost use Rattle.machine_rules.specs.Mutexes.{counted_up, counted_down, locks, locks_on, recursion_limit, releases, taken_by, tries_lock, unlocks, waits_for_mutex};
 ghost use Rattle.machine_rules.specs.Threads.{can_run, mutex_at};
 ghost use Rattle.machine_rules.specs.Turns.{changes_mutex, returns, ◌▷◌};
+ghost use Rattle.machine_rules.specs.Waiters.{Waiter, best_waiter};
 ghost use Rattle.kernel_state.specs.Kernel.{after, by, told};
 ghost use Rattle.kernel_sync.specs.Answers.{CanAct, answer_of};
-ghost use Rattle.kernel_sync.specs.Waits.{BlockedRest, MutexWaitersRest, OnlyBuiltWaits};
+ghost use Rattle.kernel_sync.specs.Waits.{BlockedRest, MutexWaitersRest};
 
-use crate::answer::{LockAnswer, answer_as_owner, lock_answer, trylock_answer, unless_late};
+use crate::answer::{
+    LockAnswer, answer_as_owner, is_cancelled_waiter, lock_answer, trylock_answer, unless_late,
+};
 use kernel_state::Parts;
 use pse52_trace::Tracer;
 use rt_io::Sink;
@@ -106,13 +109,32 @@ pub fn try_lock<K: Sink>(p: &mut Parts, t: Tid, call: &Call, k: ObjId, out: &mut
     act(p, t, call, k, None, answer, out);
 }
 
-/// The owner's mutex goes to its best waiter, or is free.
+// The owner's mutex goes to its best waiter.
 #[tactic(auto, using(crate::proofs::Resting::best_rests))]
+fn hand_to<K: Sink>(p: &mut Parts, t: Tid, k: ObjId, w: Tid, out: &mut Tracer<'_, K>)
+    requires known { w < length p.old.names }
+    requires mutex { k < length p.old.machine.mutexes }
+    requires owned { (mutex_at p.old.machine k).owner ≡ Some t }
+    requires best { Some w ≡ option_map (λ (v : Waiter). v.thread) (best_waiter p.old.machine (waits_for_mutex k)) }
+    requires room { length p.old.direct < 256 }
+    requires rests { MutexWaitersRest p.old.machine k }
+    requires early { p.old.machine.now ≤ 10 ^ 18 }
+    ensures state { p.new ≡ after (releases k) p.old }
+    ensures told { Tells K.text K.faults p.old.names out.old out.new (told (releases k) p.old) }
+{
+    if is_cancelled_waiter(p, w) {
+        p.wake_cancelled_owner(k, t, w, out);
+    } else {
+        let answer = answer_as_owner(p, w);
+        p.wake_owner(k, t, w, answer, out);
+    }
+}
+
+/// The owner's mutex goes to its best waiter, or is free.
 pub(crate) fn release<K: Sink>(p: &mut Parts, t: Tid, k: ObjId, out: &mut Tracer<'_, K>)
     requires mutex { k < length p.old.machine.mutexes }
     requires owned { (mutex_at p.old.machine k).owner ≡ Some t }
     requires room { length p.old.direct < 256 }
-    requires waits { OnlyBuiltWaits p.old.machine }
     requires rests { MutexWaitersRest p.old.machine k }
     requires early { p.old.machine.now ≤ 10 ^ 18 }
     ensures state { p.new ≡ after (releases k) p.old }
@@ -120,10 +142,7 @@ pub(crate) fn release<K: Sink>(p: &mut Parts, t: Tid, k: ObjId, out: &mut Tracer
 {
     match p.best_waiter(WaitObj::Mutex(k)) {
         None => p.release_mutex(k, t),
-        Some(w) => {
-            let answer = answer_as_owner(p, w);
-            p.wake_owner(k, t, w, answer, out);
-        }
+        Some(w) => hand_to(p, t, k, w, out),
     }
 }
 
@@ -148,7 +167,6 @@ fn give_up<K: Sink>(p: &mut Parts, t: Tid, call: &Call, k: ObjId, out: &mut Trac
     requires mutex { k < length p.old.machine.mutexes }
     requires owned { (mutex_at p.old.machine k).owner ≡ Some t }
     requires room { length p.old.direct < 256 }
-    requires waits { OnlyBuiltWaits p.old.machine }
     requires rests { BlockedRest p.old.machine }
     requires early { p.old.machine.now ≤ 10 ^ 18 }
     ensures state { p.new ≡ after (λ s. s ▷ returns (by t call.now) res.Zero 0 ▷ releases k) p.old }
@@ -164,7 +182,6 @@ pub fn unlock<K: Sink>(p: &mut Parts, t: Tid, call: &Call, k: ObjId, out: &mut T
     requires runs { can_run p.old.machine t ≡ true }
     requires mutex { k < length p.old.machine.mutexes }
     requires room { length p.old.direct < 256 }
-    requires waits { OnlyBuiltWaits p.old.machine }
     requires rests { BlockedRest p.old.machine }
     requires early { p.old.machine.now ≤ 10 ^ 18 }
     ensures state { p.new ≡ after (unlocks (by t call.now) k) p.old }

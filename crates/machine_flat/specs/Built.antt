@@ -6,6 +6,13 @@ use Rattle.script_tree.specs.declared.call.Call.TheVariants as call
 abbrev pub is_built : Call → Bool
 is_built call.Yield = true
 is_built (call.Create u) = true
+is_built (call.Join u) = true
+is_built (call.Cancel u) = true
+is_built call.Testcancel = true
+is_built (call.Setcancel on) = true
+is_built (call.Push u) = true
+is_built (call.Pop runs) = true
+is_built (call.Exit v) = true
 is_built (call.Setprio u p) = true
 is_built (call.Setsched u policy) = true
 is_built (call.Lock k) = true

@@ -182,7 +182,7 @@ module _ {P Q : Type 0} (carry : BodyOf → P → Q) (p : Bodies P) (q : Bodies 
   item_then_carries None rest' rest h s = refl
   item_then_carries (Some i) rest' rest h s = ap rest' (item_done_carries i s) ∙ h (item_done p i s)
 
-  items_done_carries : (most : ℕ) → Carries carry (items_done q most) (items_done p most)
+  pub items_done_carries : (most : ℕ) → Carries carry (items_done q most) (items_done p most)
   items_done_carries zero s = refl
   items_done_carries (suc most) s =
       ap (λ (o : Option Item). item_then q o (items_done q most) (T carry s)) (next_item_carries s.machine)

@@ -1,20 +1,19 @@
 -- So many ticks of a unit are its taking and a leap.
-use Rattle.std.proofs.Common.{◌≡◌, ◌+◌, ◌≤◌, ℕ, zero, suc, List, [], ◌∷◌, None, Option, Some, ap, refl, sym, slice_set, slice_index_or, ◌∙◌}
-use Rattle.std.specs.Prelude.{option_map}
+use Rattle.std.proofs.Common.{◌≡◌, ◌+◌, ◌≤◌, ℕ, zero, suc, List, [], ◌∷◌, None, Option, Some, ap, arith, length, refl, sym, slice_set, slice_index_or, ◌∙◌}
 use Rattle.script_flat.specs.declared.cursor.Cursor.{Cursor}
 use Rattle.script_flat.specs.declared.unit.Unit as unit_type
 use Rattle.script_flat.specs.declared.unit.Unit.TheVariants as unit
-use Rattle.script_tree.specs.declared.policy.Policy.{Policy}
-use Rattle.script_tree.specs.declared.policy.Policy.TheVariants as policy
-use Rattle.sporadic_server.specs.Server.{ServerState}
+use Rattle.script_tree.specs.declared.call.Call.{Call}
+use Rattle.script_tree.specs.declared.call.Call.TheVariants as call
 use Rattle.machine_rules.specs.State.{Frame, Thread}
-use Rattle.machine_rules.specs.Threads.{no_thread, thread_at, top_kind}
+use Rattle.machine_rules.specs.Threads.{no_thread, thread_at}
 use Rattle.machine_rules.specs.Turns.{Turn, becomes, changes, ◌▷◌}
 use Rattle.machine_flat.specs.KnownCalls.{Objects}
 use Rattle.machine_leaps.specs.Leap.{later_by}
 use Rattle.machine_leaps.specs.Quiet.{after_ticks, frames_after}
 use Rattle.kernel_state.specs.Kernel.{Kernel, after}
 use Rattle.kernel_state.specs.Leaps.{leaps_by}
+use Rattle.kernel_events.specs.Built.{HasRoomFor}
 use Rattle.rt_kernel.specs.Completes.{CanComplete}
 
 set_twice : (xs : List (Thread Cursor)) (n : ℕ) (a b : Thread Cursor) → slice_set (slice_set xs n a) n b ≡ slice_set xs n b
@@ -32,12 +31,17 @@ taken_and_leapt t k x p l m first at second =
     second ∙ ap (after (leaps_by k (Some t))) first ∙ ap (λ (xs : List (Thread Cursor)). record p { machine = record p.machine { threads = xs; now = p.machine.now + k } }) same
 
 -- a charge leaves what a unit may ask for
-top_after : (k : ℕ) (fs : List (Frame Cursor)) → top_kind (frames_after k fs) ≡ top_kind fs
-top_after k [] = refl
-top_after k (f ∷ fs) = refl
+as_many : (k : ℕ) (fs : List (Frame Cursor)) → length (frames_after k fs) ≡ length fs
+as_many k [] = refl
+as_many k (f ∷ fs) = refl
+
+room_later : (n k : ℕ) (th : Thread Cursor) (c : Call) → HasRoomFor n th c → HasRoomFor n (after_ticks k th) c
+room_later n k th (call.Push u) room = room
+room_later n k th (call.Pop runs) room = (room.0, (let few = room.1 in let same = as_many k th.frames in omega (arith, few, same)))
+room_later n k th _ room = tt
 
 pub can_later : (o : Objects) (k : ℕ) (th : Thread Cursor) (u : unit_type.Unit) → CanComplete o th u → CanComplete o (after_ticks k th) u
 can_later o k th (unit.Run n) can = tt
-can_later o k th (unit.Make c) can = can
+can_later o k th (unit.Make c) can = record { built = can.built; room = room_later o.cleanups k th c can.room }
 can_later o k th unit.Jump can = tt
-can_later o k th unit.Finish can = (can.0, top_after k th.frames ∙ can.1)
+can_later o k th unit.Finish can = tt

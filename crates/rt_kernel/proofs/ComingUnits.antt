@@ -1,49 +1,35 @@
 -- A thread that came to run in a tick has a direct move.
-use Rattle.std.proofs.Common.{◌≡◌, ℕ, zero, suc, List, [], ◌∷◌, Bool, true, false, ap, refl, sym, subst, ◌∙◌}
-use Rattle.std.specs.Prelude.{None, Option, Some, ◌==◌, ◌&&◌, not, slice_index_or, if◌then◌else◌}
+use Rattle.std.proofs.Common.{◌≡◌, ℕ, zero, suc, List, [], ◌∷◌, Bool, true, false, ap, refl, sym, ◌∙◌}
+use Rattle.std.specs.Prelude.{None, Option, Some, not, slice_index_or}
 use Rattle.sporadic_server.specs.Server.{ServerState, plan}
 use Rattle.script_flat.specs.declared.cursor.Cursor.{Cursor}
 use Rattle.script_flat.specs.declared.unit.Unit as unit_type
 use Rattle.script_flat.specs.declared.unit.Unit.TheVariants as unit
 use Rattle.pse52_trace.specs.declared.event.Event.TheVariants as event
-use Rattle.machine_rules.specs.declared.frame.FrameKind.{FrameKind}
 use Rattle.machine_rules.specs.Bodies.{Bodies}
-use Rattle.machine_rules.specs.State.{Frame, Joiner, Machine, Thread, nobody}
+use Rattle.machine_rules.specs.State.{Frame, Machine, Thread}
 use Rattle.machine_rules.specs.Lists.{changed_at}
-use Rattle.machine_rules.specs.Threads.{can_run, is_main, is_runnable, no_thread, thread_at, top_kind, top_left}
-use Rattle.machine_rules.specs.Turns.{Turn, changes, changes_pending, tells, with_thread}
+use Rattle.machine_rules.specs.Threads.{can_run, is_runnable, no_thread, thread_at, top_kind}
+use Rattle.machine_rules.specs.Turns.{Turn, changes, tells, with_thread}
 use Rattle.machine_rules.specs.Servers.{plans, plans_for, with_server}
-use Rattle.machine_rules.specs.Lives.{finishes_in, wakes_joiner, without_life, without_target}
-use Rattle.machine_rules.specs.Cancellation.{is_cancellation_point, is_cancelled, request_acts}
 use Rattle.machine_rules.specs.Mutexes.{owns_boosting}
-use Rattle.machine_rules.specs.Calls.{call_effect, unit_effect}
+use Rattle.machine_rules.specs.Calls.{unit_effect}
 use Rattle.machine_rules.specs.Ticks.{TickEnd, completes_at, ends_tick, exhausting, nothing, planning, slicing, without_slice}
+use Rattle.machine_rules.specs.Units.{in_unit}
 use Rattle.machine_leaps.specs.Quiet.{after_ticks}
-use Rattle.machine_rules.specs.Units.{in_unit, in_unit_if, in_unit_of, top_in_unit}
 use Rattle.machine_flat.specs.KnownCalls.{Objects}
+use Rattle.thread_table.proofs.Statuses.{unit_keeps}
 use Rattle.rt_kernel.specs.Completes.{CanComplete}
-use Rattle.kernel_events.proofs.Coming.{Comes, Fewer, calls_come, changes_fewer, fewer_come, moves_if_machine}
+use Rattle.kernel_events.proofs.Coming.{Comes, Fewer, changes_fewer, fewer_come, finishes_come, made_come, moves_if_machine}
 use Rattle.kernel_state.specs.Kernel.{by}
 
 -- ---- units
 
-ends_come : {P : Type 0} (t : ℕ) (j : Joiner) (s : Turn P) → j ≡ nobody → Comes s (wakes_joiner j t (changes_pending (without_target t) (tells (event.Exit t) (changes t without_life s))))
-ends_come t j s e =
-    let x = changes_pending (without_target t) (tells (event.Exit t) (changes t without_life s)) in
-    subst (λ (j : Joiner). Comes s (wakes_joiner j t x)) (sym e) (fewer_come s.machine x.machine s.direct (changes_fewer t without_life s (λ h. absurd cc)))
-
-and_false : (b : Bool) → (b && false) ≡ false
-and_false true = refl
-and_false false = refl
-
 unit_come : (bodies : Bodies Cursor) (o : Objects) (t : ℕ) (u : unit_type.Unit) (s : Turn Cursor) → CanComplete o (thread_at s.machine t) u → Comes s (unit_effect bodies t u s)
 unit_come bodies o t (unit.Run k) s can = fewer_come s.machine s.machine s.direct (λ u r. r)
 unit_come bodies o t unit.Jump s can = fewer_come s.machine s.machine s.direct (λ u r. r)
-unit_come bodies o t unit.Finish s (alone, main) =
-    subst (λ (k : FrameKind). Comes s (finishes_in k t s)) (sym main) (ends_come t (thread_at s.machine t).joiner s alone)
-unit_come bodies o t (unit.Make c) s (free, built) =
-    let no : (is_cancellation_point c && request_acts (thread_at s.machine t)) ≡ false = ap (λ (b : Bool). is_cancellation_point c && b) free ∙ and_false (is_cancellation_point c) in
-    subst (λ (b : Bool). Comes s (if b then is_cancelled t s else call_effect bodies (by t c) c s)) (sym no) (calls_come bodies o (by t c) c s built)
+unit_come bodies o t unit.Finish s can = finishes_come (top_kind (thread_at s.machine t).frames) t s
+unit_come bodies o t (unit.Make c) s can = made_come bodies o (by t c) s can.built
 
 pub completes_come : (bodies : Bodies Cursor) (o : Objects) (left t : ℕ) (u : unit_type.Unit) (s : Turn Cursor) → CanComplete o (thread_at s.machine t) u → Comes s (completes_at bodies left t u s)
 completes_come bodies o zero t u s can = unit_come bodies o t u s can
@@ -51,29 +37,24 @@ completes_come bodies o (suc left) t u s can = fewer_come s.machine s.machine s.
 
 -- ---- the charge
 
-same_at : {P : Type 0} (f : Thread P → Thread P) (xs : List (Thread P)) (n k : ℕ) →
-    is_runnable (f (slice_index_or xs n no_thread)).status ≡ is_runnable (slice_index_or xs n no_thread).status →
-    is_runnable (slice_index_or (changed_at no_thread n f xs) k no_thread).status ≡ is_runnable (slice_index_or xs k no_thread).status
-same_at f [] n k h = refl
-same_at f (x ∷ xs) zero zero h = h
-same_at f (x ∷ xs) zero (suc k) h = refl
-same_at f (x ∷ xs) (suc n) zero h = refl
-same_at f (x ∷ xs) (suc n) (suc k) h = same_at f xs n k h
+kept_at : {P X : Type 0} (view : Thread P → X) (f : Thread P → Thread P) (xs : List (Thread P)) (n k : ℕ) →
+    view (f (slice_index_or xs n no_thread)) ≡ view (slice_index_or xs n no_thread) →
+    view (slice_index_or (changed_at no_thread n f xs) k no_thread) ≡ view (slice_index_or xs k no_thread)
+kept_at view f [] n k h = refl
+kept_at view f (x ∷ xs) zero zero h = h
+kept_at view f (x ∷ xs) zero (suc k) h = refl
+kept_at view f (x ∷ xs) (suc n) zero h = refl
+kept_at view f (x ∷ xs) (suc n) (suc k) h = kept_at view f xs n k h
 
-top_status : {P : Type 0} (bodies : Bodies P) (left : ℕ) (f : Frame P) (fs : List (Frame P)) (th : Thread P) → (top_in_unit bodies left f fs th).thread.status ≡ th.status
-top_status bodies zero f fs th = refl
-top_status bodies (suc left) f fs th = refl
+module _ {P X : Type 0} (bodies : Bodies P) (view : Thread P → X) (same : (th : Thread P) (fs : List (Frame P)) (us : List ℕ) → view (record th { frames = fs; cleanups = us }) ≡ view th)
+    (charged : (k : ℕ) (th : Thread P) → view (after_ticks k th) ≡ view th) where
+  -- what neither a unit nor its ticks change
+  pub charge_keeps : (k : ℕ) (m : Machine P) (t u : ℕ) → view (thread_at (with_thread t (λ th. after_ticks k (in_unit bodies (thread_at m t)).thread) m) u) ≡ view (thread_at m u)
+  charge_keeps k m t u =
+      kept_at view (λ th. after_ticks k (in_unit bodies (thread_at m t)).thread) m.threads t u (charged k (in_unit bodies (thread_at m t)).thread ∙ unit_keeps bodies view same (thread_at m t))
 
-unit_status : {P : Type 0} (bodies : Bodies P) (fs : List (Frame P)) (th : Thread P) → (in_unit_of bodies fs th).thread.status ≡ th.status
-unit_status bodies [] th = refl
-unit_status bodies (f ∷ fs) th = top_status bodies f.left f fs th
-
-taken_status : {P : Type 0} (bodies : Bodies P) (th : Thread P) → th.is_ending ≡ false → (in_unit bodies th).thread.status ≡ th.status
-taken_status bodies th e = ap (λ (b : Bool). (in_unit_if bodies (b && is_main (top_kind th.frames) && top_left th.frames == 0) th).thread.status) e ∙ unit_status bodies th.frames th
-
-pub charge_same : {P : Type 0} (bodies : Bodies P) (k : ℕ) (m : Machine P) (t u : ℕ) → (thread_at m t).is_ending ≡ false →
-    can_run (with_thread t (λ th. after_ticks k (in_unit bodies (thread_at m t)).thread) m) u ≡ can_run m u
-charge_same bodies k m t u e = same_at (λ th. after_ticks k (in_unit bodies (thread_at m t)).thread) m.threads t u (ap is_runnable (taken_status bodies (thread_at m t) e))
+pub charge_same : {P : Type 0} (bodies : Bodies P) (k : ℕ) (m : Machine P) (t u : ℕ) → can_run (with_thread t (λ th. after_ticks k (in_unit bodies (thread_at m t)).thread) m) u ≡ can_run m u
+charge_same bodies k m t u = charge_keeps bodies (λ th. is_runnable th.status) (λ th fs us. refl) (λ k th. refl) k m t u
 
 -- ---- the rule of the tick's end
 

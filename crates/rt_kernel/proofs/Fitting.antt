@@ -33,7 +33,7 @@ use Rattle.kernel_events.specs.Built.{objects_in}
 use Rattle.rt_kernel.specs.Completes.{CanAct}
 use Rattle.rt_kernel.specs.Counts.{Counts, counts_in, counts_of}
 use Rattle.rt_kernel.specs.Fits.{Fits, FitsLeap, ItemsFit}
-use Rattle.rt_kernel.proofs.ComingUnits.{charge_same}
+use Rattle.rt_kernel.proofs.ComingUnits.{charge_keeps, charge_same}
 
 -- ---- the objects stay the same
 
@@ -81,7 +81,14 @@ module _ {P : Type 0} (m : Machine P) where
 -- ---- so it may have a tick
 
 head_fits : (o : Objects) (code : flat.Bodies (List Op)) (m : Machine Cursor) (last : LastDispatch) (t : ℕ) → StoodRight m → head m ≡ Some t → Fits o code m → FitsLeap o code (record m { last = last }) t
-head_fits o code m last t stood e fit = record { thread = fit.top t e; runs = head_runs m t stood e; waits = (let w = fit.items.waits in record { built = w.built; rests = w.rests; own_none = w.own_none }); serial = fit.serial; threads = fit.threads }
+head_fits o code m last t stood e fit = record {
+  thread = fit.top t e;
+  runs = head_runs m t stood e;
+  waits = record { built = fit.items.waits.built; rests = fit.items.waits.rests; own_none = fit.items.waits.own_none };
+  joins = record { joiners = fit.joins.joiners; ends = fit.joins.ends };
+  serial = fit.serial;
+  threads = fit.threads;
+}
 
 pub dispatched_fits : (p l : Kernel) (to : Option ℕ) → to ≡ head p.machine → l ≡ after (dispatches (head p.machine)) p → StoodRight p.machine → Fits (objects_in p) p.code p.machine →
     IfSome to (λ t. FitsLeap (objects_in l) l.code l.machine t)
@@ -128,8 +135,12 @@ charged_acts p l t k fit early state = subst (λ (x : Kernel). CanAct x t) (sym 
     acts : CanAct (record p { machine = record p.machine { threads = (with_thread t f p.machine).threads; now = p.machine.now + k } }) t
     acts = record {
       threads = changed-length no_thread t f p.machine.threads ∙ fit.threads;
-      runs = charge_same (flat_bodies p.code) k p.machine t t fit.thread.can.goes_on ∙ fit.runs;
+      runs = charge_same (flat_bodies p.code) k p.machine t t ∙ fit.runs;
       waits = record { built = waits_at; rests = rests_at; own_none = own_at };
+      joins = record {
+        joiners = λ v u e. ap is_blocked (status_at u) ∙ fit.joins.joiners v u (sym (joiner_at v) ∙ e);
+        ends = λ u v w waits is. (let lt = fit.joins.ends u v w (sym (ap waiting_in (status_at u)) ∙ waits) is in let e = changed-length no_thread t f p.machine.threads in omega (arith, e, lt));
+      };
       serial = fit.serial early;
     }
       where
@@ -138,19 +149,25 @@ charged_acts p l t k fit early state = subst (λ (x : Kernel). CanAct x t) (sym 
           where
             by_number : (b : Bool) → (t == u) ≡ b → AreBuiltWaits (length p.machine.mutexes) (waiting_in (thread_at (with_thread t f p.machine) u).status)
             by_number true it =
-                let runs = charge_same (flat_bodies p.code) k p.machine t t fit.thread.can.goes_on ∙ fit.runs in
+                let runs = charge_same (flat_bodies p.code) k p.machine t t ∙ fit.runs in
                 subst (λ (k : ℕ). AreBuiltWaits (length p.machine.mutexes) (waiting_in (thread_at (with_thread t f p.machine) k).status)) (same_number t u it)
                 (running_waits (length p.machine.mutexes) (thread_at (with_thread t f p.machine) t).status runs)
             by_number false other =
                 let kept = thread-other p.machine t u f other in
                 subst (λ (th : Thread Cursor). AreBuiltWaits (length p.machine.mutexes) (waiting_in th.status)) (sym kept) (fit.waits.built u)
 
+        status_at : (u : ℕ) → (thread_at (with_thread t f p.machine) u).status ≡ (thread_at p.machine u).status
+        status_at u = charge_keeps (flat_bodies p.code) (λ (th : Thread Cursor). th.status) (λ th fs us. refl) (λ n th. refl) k p.machine t u
+
+        joiner_at : (u : ℕ) → (thread_at (with_thread t f p.machine) u).joiner ≡ (thread_at p.machine u).joiner
+        joiner_at u = charge_keeps (flat_bodies p.code) (λ (th : Thread Cursor). th.joiner) (λ th fs us. refl) (λ n th. refl) k p.machine t u
+
         own_at : (u : ℕ) → waits_so is_in_condition_wait (thread_at (with_thread t f p.machine) u) ≡ true → owned_by p.machine u ≡ []
         own_at u e = by_number (t == u) refl
           where
             by_number : (b : Bool) → (t == u) ≡ b → owned_by p.machine u ≡ []
             by_number true it =
-                let runs = charge_same (flat_bodies p.code) k p.machine t t fit.thread.can.goes_on ∙ fit.runs in
+                let runs = charge_same (flat_bodies p.code) k p.machine t t ∙ fit.runs in
                 not_both (waits_so is_in_condition_wait (thread_at (with_thread t f p.machine) t)) (running_in_none (thread_at (with_thread t f p.machine) t).status runs)
                 (subst (λ (k : ℕ). waits_so is_in_condition_wait (thread_at (with_thread t f p.machine) k) ≡ true) (sym (same_number t u it)) e)
             by_number false other =
@@ -161,7 +178,7 @@ charged_acts p l t k fit early state = subst (λ (x : Kernel). CanAct x t) (sym 
         rests_at u e = by_number (t == u) refl
           where
             off : can_run p.machine u ≡ false
-            off = sym (charge_same (flat_bodies p.code) k p.machine t u fit.thread.can.goes_on) ∙ blocked_rests (thread_at (with_thread t f p.machine) u).status e
+            off = sym (charge_same (flat_bodies p.code) k p.machine t u) ∙ blocked_rests (thread_at (with_thread t f p.machine) u).status e
 
             by_number : (b : Bool) → (t == u) ≡ b → IsUnused (thread_at (with_thread t f p.machine) u).server
             by_number true it = not_both (can_run p.machine u) off (subst (λ (k : ℕ). can_run p.machine k ≡ true) (same_number t u it) fit.runs)

@@ -16,3 +16,6 @@ pub mod LeapParts
 pub mod LeapCounts
 pub mod Leaping
 pub mod TickTimes
+pub mod Pushing
+pub mod Ticking
+pub mod JoinsLaw

@@ -30,7 +30,9 @@ use Rattle.machine_laws.proofs.Items.{mutexes_throughout, servers_throughout, si
 use Rattle.machine_laws.proofs.Servers.Rest.{rest_throughout}
 use Rattle.thread_laws.specs.Placeable.{IsPlaceable}
 use Rattle.thread_laws.specs.Within.{HighWithin, IsWithin}
-use Rattle.thread_laws.proofs.FramesTaken.{frames_are_placed}
+use Rattle.thread_laws.proofs.Changes.{at_all}
+use Rattle.thread_laws.proofs.Frames.{Stands, all_placed}
+use Rattle.thread_laws.proofs.FramesTaken.{run_holds}
 use Rattle.thread_laws.proofs.MadeCalls.{all_made, all_weaker}
 use Rattle.thread_laws.proofs.Within.{threads_are_within}
 use Rattle.thread_blocks.specs.Room.{HasRoom, ServerHasRoom}
@@ -42,10 +44,13 @@ use Rattle.rt_kernel.specs.Counts.{Counts, counts_in}
 use Rattle.machine_leaps.proofs.Leaps.Scripts.{stays_ready}
 use Rattle.rt_kernel.specs.Fits.{CanLeap, Fits, StaysFit}
 use Rattle.rt_kernel.specs.Held.{Held, IsHeld}
-use Rattle.rt_kernel.proofs.HeldLaw.{can_tick, held_throughout}
+use Rattle.rt_kernel.proofs.HeldLaw.{held_throughout}
+use Rattle.rt_kernel.proofs.JoinsLaw.{joins_fit}
 use Rattle.rt_kernel.proofs.ObjectsLaw.{objects_throughout}
 use Rattle.rt_kernel.proofs.Ranges.{flat_bodies_fit}
+use Rattle.rt_kernel.proofs.Pushing.{push_room}
 use Rattle.rt_kernel.proofs.Serials.{serials_left}
+use Rattle.rt_kernel.proofs.Ticking.{can_tick}
 
 -- ---- servers rest
 
@@ -91,14 +96,14 @@ objects_opened script =
 
 -- ---- what is held of each thread is held at the beginning
 
-nothing_yet : (n : ℕ) (ds : List ThreadDecl) (t : ℕ) → IsHeld n (slice_index_or (map (thread_opened {P = Cursor}) ds) t no_thread)
-nothing_yet n [] t = record { goes_on = refl; free = refl; alone = refl; waits = tt; main = tt }
-nothing_yet n (d ∷ ds) zero = record { goes_on = refl; free = refl; alone = refl; waits = tt; main = tt }
-nothing_yet n (d ∷ ds) (suc t) = nothing_yet n ds t
+nothing_yet : (o : Objects) (ds : List ThreadDecl) (t : ℕ) → IsHeld o (slice_index_or (map (thread_opened {P = Cursor}) ds) t no_thread)
+nothing_yet o [] t = record { waits = tt; ends = tt }
+nothing_yet o (d ∷ ds) zero = record { waits = tt; ends = tt }
+nothing_yet o (d ∷ ds) (suc t) = nothing_yet o ds t
 
 held_opening : (script : Script) → Held (objects_of script) (opening script)
 held_opening script = record {
-  each = nothing_yet (length (mutexes_of script)) (threads_of script);
+  each = nothing_yet (objects_of script) (threads_of script);
   counted = length-map (threads_of script) (thread_opened {P = Cursor});
 }
 
@@ -124,7 +129,9 @@ module _ (script : Script) (ok : IsRunnable script) (fits : IsWellFormed script)
       let held : Held (objects_of script) m = held_throughout (objects_of script) (code_of script) calls_built n most (opening script) ok.actions (held_opening script) in
       let objects = (objects_throughout bodies ranges script fits).each n most in
       let rest = (rest_throughout bodies ranges script fits).each n most in
-      let placed = (frames_are_placed script (placeable script ok fits)).each n most in
+      let stands = (run_holds script (placeable script ok fits) n most).each in
+      let stand : (t : ℕ) → Stands (code_of script) (length (cleanups_of script)) (thread_at m t) =
+      at_all (λ u th. Stands (code_of script) (length (cleanups_of script)) th) no_thread m.threads stands (λ u. record { all = tt; ordered = tt; cleanups = tt }) in
       let within = (threads_are_within script).over_code.each n most in
       record {
         items = record {
@@ -135,9 +142,10 @@ module _ (script : Script) (ok : IsRunnable script) (fits : IsWellFormed script)
           };
           rests_low = low_unused m rest;
         };
+        joins = joins_fit bodies ranges script fits n most (objects_of script) held;
         top = λ t e. record {
-          can = can_tick (objects_of script) (code_of script) calls_built (thread_at m t) (held.each t);
-          placed = (placed.each t).placed;
+          can = can_tick script (placeable script ok fits) calls_built (thread_at m t) (stand t) (push_room script fits n most t);
+          placed = all_placed (code_of script) (thread_at m t).frames (stand t).all;
           room = within.each t;
         };
         serial = serials_left (counts_in (objects_of script)) (ap length ok.timers) (ap length ok.queues) m (let few = ok.few in let c = held.counted in omega (arith, few, c)) objects.1 ((serials_throughout bodies ranges script fits).each n most);

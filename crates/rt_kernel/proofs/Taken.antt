@@ -1,22 +1,16 @@
 -- A thread that takes a unit has counted what it had.
-use Rattle.std.proofs.Common.{◌≡◌, ℕ, zero, suc, List, [], ◌∷◌, Bool, false, subst, sym}
-use Rattle.std.specs.Prelude.{◌&&◌, ◌==◌}
+use Rattle.std.proofs.Common.{◌≤◌, ℕ, Option, refl, subst, sym}
 use Rattle.script_flat.specs.declared.cursor.Cursor.{Cursor}
+use Rattle.sporadic_server.specs.Server.{ServerState}
 use Rattle.machine_rules.specs.Bodies.{Bodies}
-use Rattle.machine_rules.specs.State.{Frame, Thread}
-use Rattle.machine_rules.specs.Threads.{is_main, top_kind, top_left}
-use Rattle.machine_rules.specs.Units.{in_unit, in_unit_if, in_unit_of, top_in_unit}
-use Rattle.thread_laws.specs.Within.{IsWithin}
+use Rattle.machine_rules.specs.State.{Thread}
+use Rattle.machine_rules.specs.Units.{in_unit}
+use Rattle.thread_laws.specs.Within.{HighWithin, IsWithin}
+use Rattle.thread_table.proofs.Statuses.{unit_keeps}
 
-module _ (bodies : Bodies Cursor) (now : ℕ) where
-  within_top : (left : ℕ) (f : Frame Cursor) (fs : List (Frame Cursor)) (th : Thread Cursor) → IsWithin now th → IsWithin now (top_in_unit bodies left f fs th).thread
-  within_top zero f fs th h = record { ticks = h.ticks; slice = h.slice; high = h.high }
-  within_top (suc left) f fs th h = h
-
-  within_frames : (fs : List (Frame Cursor)) (th : Thread Cursor) → IsWithin now th → IsWithin now (in_unit_of bodies fs th).thread
-  within_frames [] th h = h
-  within_frames (f ∷ fs) th h = within_top f.left f fs th h
-
-  pub within_unit : (th : Thread Cursor) → th.is_ending ≡ false → IsWithin now th → IsWithin now (in_unit bodies th).thread
-  within_unit th goes_on h =
-      subst (λ (b : Bool). IsWithin now (in_unit_if bodies (b && is_main (top_kind th.frames) && top_left th.frames == 0) th).thread) (sym goes_on) (within_frames th.frames th h)
+pub within_unit : (bodies : Bodies Cursor) (now : ℕ) (th : Thread Cursor) → IsWithin now th → IsWithin now (in_unit bodies th).thread
+within_unit bodies now th h = record {
+  ticks = subst (λ (n : ℕ). n ≤ now) (sym (unit_keeps bodies (λ (x : Thread Cursor). x.ticks) (λ x fs us. refl) th)) h.ticks;
+  slice = subst (λ (n : ℕ). n ≤ now) (sym (unit_keeps bodies (λ (x : Thread Cursor). x.slice) (λ x fs us. refl) th)) h.slice;
+  high = subst (HighWithin now) (sym (unit_keeps bodies (λ (x : Thread Cursor). x.server) (λ x fs us. refl) th)) h.high;
+}

@@ -1,36 +1,42 @@
 -- What a thread asks for as it completes a unit.
-use Rattle.std.specs.Prelude.{◌≡◌, ◌<◌, ◌^◌, ℕ, length, false, true}
+use Rattle.std.specs.Prelude.{◌≡◌, ◌<◌, ◌^◌, ℕ, length, true}
+use Rattle.script_tree.specs.declared.call.Call.{Call}
 use Rattle.script_flat.specs.declared.cursor.Cursor.{Cursor}
 use Rattle.script_flat.specs.declared.unit.Unit as unit_type
 use Rattle.script_flat.specs.declared.unit.Unit.TheVariants as unit
-use Rattle.machine_rules.specs.declared.frame.FrameKind.TheVariants as frame
 use Rattle.machine_rules.specs.Bodies.{Bodies}
-use Rattle.machine_rules.specs.Cancellation.{request_acts}
-use Rattle.machine_rules.specs.State.{Thread, nobody}
-use Rattle.machine_rules.specs.Threads.{can_run, is_blocked, thread_at, top_kind}
+use Rattle.machine_rules.specs.State.{Thread}
+use Rattle.machine_rules.specs.Threads.{can_run}
 use Rattle.machine_rules.specs.Units.{in_unit}
 use Rattle.machine_flat.specs.KnownCalls.{Objects}
-use Rattle.thread_blocks.specs.Unused.{IsUnused}
+use Rattle.thread_blocks.specs.Handlers.{CanEnd}
 use Rattle.kernel_state.specs.Kernel.{Kernel}
 use Rattle.kernel_sync.specs.Waits.{WaitsFit}
-use Rattle.kernel_events.specs.Built.{IsBuilt}
+use Rattle.kernel_lives.specs.Joins.{JoinsFit}
+use Rattle.kernel_events.specs.Built.{HasRoomFor, IsBuilt}
+
+-- a call is built, and there is room for what it pushes or pops
+pub record CanMake (o : Objects) (th : Thread Cursor) (c : Call) : Type 0 where
+  pub built : IsBuilt o c
+  pub room : HasRoomFor o.cleanups th c
 
 -- A thread can complete a unit: nothing that is not built is asked for.
 abbrev pub CanComplete : Objects → Thread Cursor → unit_type.Unit → Type 0
 CanComplete o th (unit.Run n) = Unit {0}
-CanComplete o th (unit.Make c) = (request_acts th ≡ false) × IsBuilt o c
+CanComplete o th (unit.Make c) = CanMake o th c
 CanComplete o th unit.Jump = Unit {0}
-CanComplete o th unit.Finish = (th.joiner ≡ nobody) × (top_kind th.frames ≡ frame.Main)
+CanComplete o th unit.Finish = Unit {0}
 
 -- a thread can have ticks
 pub record CanTick (o : Objects) (bodies : Bodies Cursor) (th : Thread Cursor) : Type 0 where
-  pub goes_on : th.is_ending ≡ false
+  pub ends : th.is_ending ≡ true → CanEnd o.cleanups th
   pub completes : CanComplete o (in_unit bodies th).thread (in_unit bodies th).unit
 
 -- What an effect of a thread's unit may count on: the thread runs, only what is built is waited for, blocked threads have used nothing,
--- and a serial is left.
+-- a thread that waits to join another is blocked, and a serial is left.
 pub record CanAct (k : Kernel) (t : ℕ) : Type 0 where
   pub threads : length k.machine.threads ≡ length k.names
   pub runs : can_run k.machine t ≡ true
   pub waits : WaitsFit k.machine
+  pub joins : JoinsFit k.machine
   pub serial : k.machine.next_serial < 2 ^ 62

@@ -18,6 +18,7 @@ use Rattle.thread_laws.specs.Within.{IsWithin}
 use Rattle.thread_blocks.specs.Unused.{IsUnused}
 use Rattle.kernel_state.specs.Kernel.{Kernel, turn}
 use Rattle.kernel_sync.specs.Waits.{WaitsFit}
+use Rattle.kernel_lives.specs.Joins.{JoinsFit}
 use Rattle.kernel_events.specs.Handled.{CanHandle}
 use Rattle.rt_kernel.specs.Completes.{CanTick}
 use Rattle.rt_kernel.specs.Counts.{counts_in, counts_of}
@@ -36,6 +37,7 @@ HasSerials m = m.now ≤ 10 ^ 18 → m.next_serial < 2 ^ 62
 -- a machine with so many objects, whose head may have ticks
 pub record Fits (o : Objects) (code : flat.Bodies (List Op)) (m : Machine Cursor) : Type 0 where
   pub items : CanHandle m
+  pub joins : JoinsFit m
   pub top : (t : ℕ) → head m ≡ Some t → FitsThread o code m.now (thread_at m t)
   pub serial : HasSerials m
   pub threads : length m.threads ≡ o.threads
@@ -47,6 +49,7 @@ pub record FitsLeap (o : Objects) (code : flat.Bodies (List Op)) (m : Machine Cu
   pub thread : FitsThread o code m.now (thread_at m t)
   pub runs : can_run m t ≡ true
   pub waits : WaitsFit m
+  pub joins : JoinsFit m
   pub serial : HasSerials m
   pub threads : length m.threads ≡ o.threads
 

@@ -1,27 +1,24 @@
 -- What holds of each thread, as long as only these calls are built.
-use Rattle.std.specs.Prelude.{◌≡◌, ℕ, Bool, List, Option, [], ◌∷◌, false, length}
+use Rattle.std.specs.Prelude.{◌≡◌, ℕ, None, Option, Some, length}
 use Rattle.script_flat.specs.declared.cursor.Cursor.{Cursor}
-use Rattle.machine_rules.specs.declared.frame.FrameKind.TheVariants as frame
-use Rattle.machine_rules.specs.State.{Frame, Joiner, Machine, Thread, Waiting, nobody}
+use Rattle.machine_rules.specs.State.{Machine, Thread, Waiting}
 use Rattle.machine_rules.specs.Threads.{thread_at, waiting_in}
 use Rattle.machine_flat.specs.KnownCalls.{Objects}
 use Rattle.kernel_sync.specs.Waits.{AreBuiltWaits}
+use Rattle.kernel_lives.specs.Joins.{EndIsKnown}
 
-abbrev pub AreMain : List (Frame Cursor) → Type 0
-AreMain [] = Unit {0}
-AreMain (f ∷ fs) = (f.kind ≡ frame.Main) × AreMain fs
+abbrev pub EndsAreKnown : ℕ → Option Waiting → Type 0
+EndsAreKnown threads None = Unit {0}
+EndsAreKnown threads (Some w) = EndIsKnown threads w.wait
 
--- it goes on, no request is made of it, nobody joins it, its wait is built, and it is in no handler
-pub record IsHeldBy (mutexes : ℕ) (ending requested : Bool) (joiner : Joiner) (wait : Option Waiting) (frames : List (Frame Cursor)) : Type 0 where
-  pub goes_on : ending ≡ false
-  pub free : requested ≡ false
-  pub alone : joiner ≡ nobody
+-- its wait is built, and a thread whose end it waits for is there
+pub record IsHeldBy (threads mutexes : ℕ) (wait : Option Waiting) : Type 0 where
   pub waits : AreBuiltWaits mutexes wait
-  pub main : AreMain frames
+  pub ends : EndsAreKnown threads wait
 
-abbrev pub IsHeld : ℕ → Thread Cursor → Type 0
-IsHeld mutexes th = IsHeldBy mutexes th.is_ending th.is_requested th.joiner (waiting_in th.status) th.frames
+abbrev pub IsHeld : Objects → Thread Cursor → Type 0
+IsHeld o th = IsHeldBy o.threads o.mutexes (waiting_in th.status)
 
 pub record Held (o : Objects) (m : Machine Cursor) : Type 0 where
-  pub each : (t : ℕ) → IsHeld o.mutexes (thread_at m t)
+  pub each : (t : ℕ) → IsHeld o (thread_at m t)
   pub counted : length m.threads ≡ o.threads

@@ -1,14 +1,8 @@
 // So many ticks of a thread's unit.
-ghost use Rattle.std.specs.Prelude.{◌≡◌, ◌≤◌, ◌<◌, ◌+◌, ◌^◌, [], length, false, max, min, true};
+ghost use Rattle.std.specs.Prelude.{◌≡◌, ◌≤◌, ◌<◌, ◌+◌, ◌^◌, [], length, max, min, true};
 ghost use Rattle.pse52_trace.specs.Tells.{Tells};
-ghost use Rattle.script_flat.specs.declared.unit.Unit.{Unit};
-ghost use Rattle.script_flat.specs.declared.unit.Unit.TheVariants as unit;
-ghost use Rattle.machine_rules.specs.declared.frame.FrameKind.TheVariants as frame;
-ghost use Rattle.machine_rules.specs.Cancellation.{request_acts};
-ghost use Rattle.machine_rules.specs.Calls.{makes_call, unit_effect};
-ghost use Rattle.machine_rules.specs.Lives.{ends, finishes};
-ghost use Rattle.machine_rules.specs.State.{nobody};
-ghost use Rattle.machine_rules.specs.Threads.{can_run, thread_at, top_kind};
+ghost use Rattle.machine_rules.specs.Calls.{unit_effect};
+ghost use Rattle.machine_rules.specs.Threads.{thread_at};
 ghost use Rattle.machine_rules.specs.Ticks.{completes};
 ghost use Rattle.machine_rules.specs.Turns.{becomes, changes, ◌▷◌};
 ghost use Rattle.machine_rules.specs.Units.{in_unit};
@@ -16,20 +10,21 @@ ghost use Rattle.machine_flat.specs.FlatBodies.{flat_bodies};
 ghost use Rattle.machine_leaps.specs.Leap.{later_by, thread_lasts, unit_leapt};
 ghost use Rattle.machine_leaps.specs.Quiet.{after_ticks};
 ghost use Rattle.machine_flat.specs.Placed.{ArePlaced};
+ghost use Rattle.thread_blocks.specs.Handlers.{CanEnd};
+ghost use Rattle.thread_laws.specs.Within.{IsWithin};
 ghost use Rattle.kernel_events.specs.Built.{objects_in};
 ghost use Rattle.rt_kernel.specs.Completes.{CanAct, CanComplete};
 ghost use Rattle.rt_kernel.specs.Fits.{FitsLeap};
 ghost use Rattle.rt_kernel.specs.Reach.{unit_length};
-ghost use Rattle.thread_laws.specs.Within.{IsWithin};
-ghost use Rattle.kernel_state.specs.Kernel.{Kernel, after, by, told};
+ghost use Rattle.kernel_state.specs.Kernel.{Kernel, after, told};
 ghost use Rattle.kernel_state.specs.Stood.{StoodRight};
 
 use kernel_events::make_call;
+use kernel_lives::finish;
 use kernel_state::Parts;
-use pse52_trace::{Event, Tracer};
+use pse52_trace::Tracer;
 use rt_io::Sink;
 use script_flat::Unit;
-use script_tree::Call;
 use std::sync::ledger::Ledger;
 use step_counter::Steps;
 use tick_num::Tid;
@@ -44,8 +39,8 @@ pub(crate) struct Reach {
 // The unit that a thread is in, with as many ticks of it charged as it runs by itself; and how many these are.
 fn charge_unit<L: Ledger>(p: &mut Parts, t: Tid, reach: Reach, steps: &mut Steps<L>) -> (Unit, u64)
     requires known { t < length p.old.names }
-    requires goes_on { (thread_at p.old.machine t).is_ending ≡ false }
     requires placed { ArePlaced p.old.code (thread_at p.old.machine t).frames }
+    requires ends { (thread_at p.old.machine t).is_ending ≡ true → CanEnd (length p.old.code.cleanups) (thread_at p.old.machine t) }
     requires within { IsWithin p.old.machine.now (thread_at p.old.machine t) }
     requires some { 1 ≤ reach.most }
     requires early { p.old.machine.now + reach.most ≤ 10 ^ 18 }
@@ -62,32 +57,6 @@ fn charge_unit<L: Ledger>(p: &mut Parts, t: Tid, reach: Reach, steps: &mut Steps
     (unit, k)
 }
 
-// A thread ends that nobody waits for.
-fn end<K: Sink>(p: &mut Parts, t: Tid, out: &mut Tracer<'_, K>)
-    requires known { t < length p.old.names }
-    requires runs { can_run p.old.machine t ≡ true }
-    requires alone { (thread_at p.old.machine t).joiner ≡ nobody }
-    ensures state { p.new ≡ after (ends t) p.old }
-    ensures told { Tells K.text K.faults p.old.names out.old out.new (told (ends t) p.old) }
-{
-    p.end_thread(t);
-    p.tell(&Event::Exit(t), out);
-    p.drop_pending(t);
-}
-
-// A call is made, where no request for cancellation acts in its place.
-fn make<K: Sink>(p: &mut Parts, t: Tid, call: &Call, out: &mut Tracer<'_, K>)
-    requires known { t < length p.old.names }
-    requires can { CanComplete (objects_in p.old) (thread_at p.old.machine t) (unit.Make call.now) }
-    requires acts { CanAct p.old t }
-    requires room { length p.old.direct < 128 }
-    requires early { p.old.machine.now ≤ 10 ^ 18 }
-    ensures state { p.new ≡ after (makes_call (flat_bodies p.old.code) (by t call.now)) p.old }
-    ensures told { Tells K.text K.faults p.old.names out.old out.new (told (makes_call (flat_bodies p.old.code) (by t call.now)) p.old) }
-{
-    make_call(p, t, call, out);
-}
-
 // What a unit does once it is complete.
 fn complete<K: Sink>(p: &mut Parts, t: Tid, unit: &Unit, out: &mut Tracer<'_, K>)
     requires known { t < length p.old.names }
@@ -100,9 +69,9 @@ fn complete<K: Sink>(p: &mut Parts, t: Tid, unit: &Unit, out: &mut Tracer<'_, K>
 {
     match unit {
         Unit::Run(_) => return,
-        Unit::Make(call) => make(p, t, call, out),
+        Unit::Make(call) => make_call(p, t, call, out),
         Unit::Jump => return,
-        Unit::Finish => end(p, t, out),
+        Unit::Finish => finish(p, t, out),
     }
 }
 

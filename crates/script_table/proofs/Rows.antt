@@ -52,7 +52,7 @@ unfolding read patterns declaration_patterns step_patterns call_patterns said_fr
 range = refl
 
 -- a pattern that is not built
-not_built : read patterns (text (codes "thread a fifo 5 at 0" ∷ codes "testcancel" ∷ codes "end" ∷ [])) ≡ Err (fault 1 2 UnknownWord)
+not_built : read patterns (text (codes "thread a fifo 5 at 0" ∷ codes "sigwaitinfo none" ∷ codes "end" ∷ [])) ≡ Err (fault 1 2 UnknownWord)
 unfolding read patterns declaration_patterns step_patterns call_patterns said_from phase_one lines_of words_of
 not_built = refl
 

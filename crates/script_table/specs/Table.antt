@@ -68,10 +68,10 @@ step_patterns =
     row (form.Block block.Unless) Nowhere true (Keyword (codes "unless") ∷ Answer ∷ []) ∷
     row (form.Block block.Loop) Nowhere true (Keyword (codes "loop") ∷ Number 1 greatest ∷ []) ∷
     row (form.Block block.Forever) Nowhere true (Keyword (codes "forever") ∷ []) ∷
-    row (form.Block block.Push) HandlersAndCleanups false (Keyword (codes "push") ∷ Uses kind.Cleanup ∷ []) ∷
+    row (form.Block block.Push) HandlersAndCleanups true (Keyword (codes "push") ∷ Uses kind.Cleanup ∷ []) ∷
     row (form.Close close.End) Nowhere true (Keyword (codes "end") ∷ []) ∷
-    row (form.Close close.Pop) Nowhere false (Keyword (codes "pop") ∷ Keyword (codes "0") ∷ []) ∷
-    row (form.Close close.PopRun) Nowhere false (Keyword (codes "pop") ∷ Keyword (codes "1") ∷ []) ∷
+    row (form.Close close.Pop) Nowhere true (Keyword (codes "pop") ∷ Keyword (codes "0") ∷ []) ∷
+    row (form.Close close.PopRun) Nowhere true (Keyword (codes "pop") ∷ Keyword (codes "1") ∷ []) ∷
     []
 
 -- calls
@@ -79,12 +79,12 @@ unfoldable pub call_patterns : List Row
 call_patterns =
     row (form.Call (call.Thread thread.Yield)) Nowhere true (Keyword (codes "yield") ∷ []) ∷
     row (form.Call (call.Thread thread.Create)) Nowhere true (Keyword (codes "create") ∷ Uses kind.Thread ∷ []) ∷
-    row (form.Call (call.Thread thread.Join)) HandlersAndCleanups false (Keyword (codes "join") ∷ Uses kind.Thread ∷ []) ∷
-    row (form.Call (call.Thread thread.Cancel)) Nowhere false (Keyword (codes "cancel") ∷ Uses kind.Thread ∷ []) ∷
-    row (form.Call (call.Thread thread.Testcancel)) HandlersAndCleanups false (Keyword (codes "testcancel") ∷ []) ∷
-    row (form.Call (call.Thread thread.SetcancelEnable)) Nowhere false (Keyword (codes "setcancel") ∷ Keyword (codes "enable") ∷ []) ∷
-    row (form.Call (call.Thread thread.SetcancelDisable)) Nowhere false (Keyword (codes "setcancel") ∷ Keyword (codes "disable") ∷ []) ∷
-    row (form.Call (call.Thread thread.Exit)) HandlersAndCleanups false (Keyword (codes "exit") ∷ Operand ∷ []) ∷
+    row (form.Call (call.Thread thread.Join)) HandlersAndCleanups true (Keyword (codes "join") ∷ Uses kind.Thread ∷ []) ∷
+    row (form.Call (call.Thread thread.Cancel)) Nowhere true (Keyword (codes "cancel") ∷ Uses kind.Thread ∷ []) ∷
+    row (form.Call (call.Thread thread.Testcancel)) HandlersAndCleanups true (Keyword (codes "testcancel") ∷ []) ∷
+    row (form.Call (call.Thread thread.SetcancelEnable)) Nowhere true (Keyword (codes "setcancel") ∷ Keyword (codes "enable") ∷ []) ∷
+    row (form.Call (call.Thread thread.SetcancelDisable)) Nowhere true (Keyword (codes "setcancel") ∷ Keyword (codes "disable") ∷ []) ∷
+    row (form.Call (call.Thread thread.Exit)) HandlersAndCleanups true (Keyword (codes "exit") ∷ Operand ∷ []) ∷
     row (form.Call (call.Thread thread.Setprio)) Nowhere true (Keyword (codes "setprio") ∷ Uses kind.Thread ∷ priority ∷ []) ∷
     row (form.Call (call.Thread thread.SetschedFifo)) Nowhere true (Keyword (codes "setsched") ∷ Uses kind.Thread ∷ Keyword (codes "fifo") ∷ priority ∷ []) ∷
     row (form.Call (call.Thread thread.SetschedRr)) Nowhere true (Keyword (codes "setsched") ∷ Uses kind.Thread ∷ Keyword (codes "rr") ∷ priority ∷ []) ∷

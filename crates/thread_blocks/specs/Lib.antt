@@ -7,3 +7,4 @@ pub mod Held
 pub mod Ends
 pub mod Opening
 pub mod Operands
+pub mod Handlers

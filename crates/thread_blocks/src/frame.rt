@@ -95,6 +95,12 @@ impl Frame {
         }
     }
 
+    pub fn kind(&self) -> FrameKind
+        ensures { result ≡ self.now.kind }
+    {
+        self.kind
+    }
+
     /// The last call of the body has that answer.
     pub fn answer(&mut self, res: Res, value: u64)
         ensures { self.new ≡ record self.old { result = res; value = value } }
@@ -108,6 +114,13 @@ impl Frame {
         ensures { self.new ≡ record self.old { left = self.old.left - k } }
     {
         self.left = self.left.saturating_sub(k);
+    }
+
+    /// It is at the last tick of its body.
+    pub fn begin_finish(&mut self)
+        ensures { self.new ≡ record self.old { left = 1 } }
+    {
+        self.left = 1;
     }
 
     /// It begins the next unit of its body.

@@ -242,32 +242,6 @@ impl Thread {
         }
     }
 
-    /// The unit that it is in, or takes next. It is not ending.
-    pub fn take(&mut self, code: &Code) -> Unit
-        requires goes_on { self.old.is_ending ≡ false }
-        requires placed { ArePlaced code.now self.old.frames }
-        ensures unit { result ≡ (in_unit (flat_bodies code.now) self.old).unit }
-        ensures thread { self.new ≡ (in_unit (flat_bodies code.now) self.old).thread }
-    {
-        let left = self.left();
-        if left > 0 {
-            return Unit::Run(left);
-        }
-        match self.frames.get_mut(0) {
-            None => Unit::Finish,
-            Some(frame) => frame.begin(code),
-        }
-    }
-
-    /// It ends.
-    pub fn end(&mut self)
-        ensures { self.new ≡ without_life self.old }
-    {
-        self.status = Status::Ended;
-        self.frames.clear();
-        self.server = None;
-    }
-
     /// The ticks left of its unit.
     pub fn left(&self) -> u64
         ensures { result ≡ top_left self.now.frames }

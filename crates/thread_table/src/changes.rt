@@ -12,6 +12,7 @@ ghost use Rattle.machine_rules.specs.Waking.{woken};
 ghost use Rattle.machine_flat.specs.FlatBodies.{flat_bodies};
 ghost use Rattle.machine_flat.specs.Placed.{ArePlaced};
 ghost use Rattle.thread_blocks.specs.Ends.{refilled_of};
+ghost use Rattle.thread_blocks.specs.Handlers.{CanEnd, HandlersBegin};
 ghost use Rattle.thread_blocks.specs.Room.{HasRoom};
 ghost use Rattle.thread_blocks.specs.Unused.{IsUnused};
 ghost use Rattle.thread_table.specs.Table as table;
@@ -148,11 +149,12 @@ impl Table {
         (refilled, thread_of(moved))
     }
 
-    /// The unit that it is in, or takes next. It is not ending. No execution priority changes.
+    /// The unit that it is in, or takes next. No execution priority changes.
     pub fn take_unit(&mut self, t: Tid, code: &Code) -> Unit
         requires known { t < length self.old.threads }
-        requires goes_on { (thread_in self.old.threads t).is_ending ≡ false }
         requires placed { ArePlaced code.now (thread_in self.old.threads t).frames }
+        requires begins { HandlersBegin code.now }
+        requires ends { (thread_in self.old.threads t).is_ending ≡ true → CanEnd (length code.now.cleanups) (thread_in self.old.threads t) }
         ensures unit { result ≡ (in_unit (flat_bodies code.now) (thread_in self.old.threads t)).unit }
         ensures table { self.new ≡ with_thread t (λ th. (in_unit (flat_bodies code.now) th).thread) self.old }
         ensures thread { thread_in self.new.threads t ≡ (in_unit (flat_bodies code.now) (thread_in self.old.threads t)).thread }

@@ -5,6 +5,7 @@
 #![tactic(auto)]
 
 mod changes;
+mod endings;
 mod links;
 mod lives;
 mod mutexes;

@@ -68,7 +68,10 @@ static RUNS: [(&str, &str, &str); 5] = [
 ];
 
 // Each script is run to its horizon, and prints its trace.
-pub(crate) fn print_as_they_should(rt: HostRuntime, runs: &[(&str, &str, &str)]) -> Result<(), Fail> {
+pub(crate) fn print_as_they_should(
+    rt: HostRuntime,
+    runs: &[(&str, &str, &str)],
+) -> Result<(), Fail> {
     let alloc = rt.alloc();
     for &(horizon, script, trace) in runs {
         let mut source = SureSource::new(Vec::from_slice(alloc, script.as_bytes())?);

@@ -1,11 +1,13 @@
-use Rattle.std.proofs.Common.{◌≡◌, ℕ, List, subst}
+use Rattle.std.proofs.Common.{◌≡◌, ℕ, List, subst, sym}
 use Rattle.tick_num.specs.declared.res.Res.TheVariants as res
 use Rattle.pse52_trace.specs.Tells.{Tells}
 use Rattle.machine_rules.specs.Conditions.{signals_best_of}
 use Rattle.machine_rules.specs.Turns.{Turn, returns}
 use Rattle.machine_rules.proofs.BehindCalls.{signals_best_of_behind}
 use Rattle.script_flat.specs.declared.cursor.Cursor.{Cursor}
-use Rattle.kernel_state.specs.Kernel.{after, by, told}
+use Rattle.kernel_state.specs.Kernel.{Kernel, after, by, told, turn}
+use Rattle.kernel_sync.specs.Waits.{WaitsFit}
+use Rattle.kernel_sync.proofs.Returned.{returned_fits}
 use Rattle.kernel_state.proofs.Turns.{then_state, then_told}
 use Rattle.kernel_sync.proofs.conditions.broadcast.Goals as goal
 
@@ -20,3 +22,7 @@ returns-clause-told g c =
     let first = returns (by c.args.t c.args.call.now) res.Zero 0 in
     subst (λ (n : ℕ). Tells g.K.Sink.text g.K.Sink.faults c.args.p.now.names c.args.out.now c.signal_all.new.out (told (λ (s : Turn Cursor). signals_best_of n c.args.c (first s)) c.args.p.now)) c.waiting_count-count.ensures.value
     (then_told _ _ first (signals_best_of c.waiting_count-count.result c.args.c) _ _ _ _ _ (signals_best_of_behind c.waiting_count-count.result c.args.c) c.returns.ensures.state c.returns.ensures.told c.signal_all.ensures.told)
+
+pub signal_all-requires-clause-fits : goal.signal_all-requires-clause-fits
+signal_all-requires-clause-fits g c =
+    subst (λ (k : Kernel). WaitsFit k.machine) (sym c.returns.ensures.state) (returned_fits (by c.args.t c.args.call.now) res.Zero (turn c.args.p.now) c.requires.fits)

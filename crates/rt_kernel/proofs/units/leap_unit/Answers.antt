@@ -79,6 +79,6 @@ returns-clause-stood g c =
     let fits = subst (λ (k : Kernel). HavePriorities k.machine) both c.settle.ensures.fits in
     let at = sym (ap (λ (k : Kernel). thread_at k.machine t) c.charge_unit-unit.ensures.state) ∙ c.charge_unit-unit.ensures.thread in
     let can = subst (λ (th : Thread Cursor). CanComplete (objects_in p) th taken.unit) (sym at) (can_later (objects_in p) k taken.thread taken.unit c.requires.fits.thread.can.completes) in
-    let come = come_later p.machine before.machine s.machine s.direct (λ u. charge_same bodies k p.machine t u c.requires.fits.thread.can.goes_on) (completes_come bodies (objects_in p) left t taken.unit before can) in
+    let come = come_later p.machine before.machine s.machine s.direct (λ u. charge_same bodies k p.machine t u) (completes_come bodies (objects_in p) left t taken.unit before can) in
     let again = stood_again p.machine s.machine s.direct c.requires.stood (ap (λ (x : Kept). x.lists) (completes_kept bodies left t taken.unit before)) fits come in
     subst (λ (k : Kernel). StoodRight k.machine) (sym (returns-clause-state g c)) again

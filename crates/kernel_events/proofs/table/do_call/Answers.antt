@@ -5,7 +5,7 @@ use Rattle.machine_rules.specs.Calls.{call_effect}
 use Rattle.machine_rules.specs.Conditions.{waits}
 use Rattle.machine_flat.specs.FlatBodies.{flat_bodies}
 use Rattle.kernel_state.specs.Kernel.{after, by, told}
-use Rattle.kernel_events.proofs.table.make_call.Goals as goal
+use Rattle.kernel_events.proofs.table.do_call.Goals as goal
 
 pub returns-in-Wait-clause-state : goal.returns-in-Wait-clause-state
 returns-in-Wait-clause-state g c =

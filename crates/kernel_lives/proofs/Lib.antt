@@ -1,0 +1,5 @@
+pub mod Joined
+pub mod Ended
+pub mod Popped
+pub mod Left
+pub mod Asked

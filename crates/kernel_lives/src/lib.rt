@@ -1,0 +1,12 @@
+//! Joining, ending, cancellation and cleanup handlers: each call, and the end of a body, is a step of a turn of the machine.
+#![tactic(auto)]
+
+mod cleanups;
+mod ends;
+mod joins;
+mod requests;
+
+pub use cleanups::{pop_cleanup, push_cleanup};
+pub use ends::{exit, finish};
+pub use joins::join;
+pub use requests::{acts_in_place, cancel, set_cancelability};

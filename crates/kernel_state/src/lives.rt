@@ -1,0 +1,178 @@
+// Joiners, requests and cleanup handlers.
+ghost use Rattle.std.specs.Prelude.{◌≡◌, ◌≤◌, ◌<◌, ◌^◌, ◌∷◌, Some, length, slice_get};
+ghost use Rattle.pse52_trace.specs.Tells.{Tells};
+ghost use Rattle.machine_rules.specs.declared.frame.BodyOf.{BodyOf};
+ghost use Rattle.machine_rules.specs.declared.frame.FrameKind.{FrameKind};
+ghost use Rattle.machine_rules.specs.Cancellation.{is_cancelled, request_acts, requested, without_cleanup};
+ghost use Rattle.machine_rules.specs.Lives.{with_joiner, without_top};
+ghost use Rattle.machine_rules.specs.Mutexes.{taken_by};
+ghost use Rattle.machine_rules.specs.Threads.{mutex_at, thread_at, top_kind};
+ghost use Rattle.machine_rules.specs.Turns.{changes, changes_mutex, ◌▷◌};
+ghost use Rattle.machine_rules.specs.Waking.{ending_with, new_frame, on_top, wakes_cancelled};
+ghost use Rattle.machine_flat.specs.FlatBodies.{flat_bodies};
+ghost use Rattle.thread_blocks.specs.Plain.{joiner_of};
+ghost use Rattle.thread_blocks.specs.Unused.{IsUnused};
+ghost use Rattle.kernel_state.specs.Kernel.{after, told};
+
+use crate::parts::Parts;
+use machine_rules::{BodyOf, FrameKind};
+use pse52_trace::{Event, Tracer};
+use rt_io::Sink;
+use thread_blocks::Joiner;
+use tick_num::{ObjId, Res, Tid};
+
+/// The value of a cancelled thread, as `PTHREAD_CANCELED`.
+const CANCELLED_VALUE: u64 = 3_000_000_000_000_000_000;
+
+impl Parts {
+    /// Who joins a thread.
+    pub fn joiner(&self, t: Tid) -> Joiner
+        requires { t < length self.now.names }
+        ensures { joiner_of result ≡ (thread_at self.now.machine t).joiner }
+    {
+        self.table.thread(t).joiner()
+    }
+
+    /// The value that a thread ends with.
+    pub fn exit_value(&self, t: Tid) -> u64
+        requires { t < length self.now.names }
+        ensures { result ≡ (thread_at self.now.machine t).exit_value }
+    {
+        self.table.thread(t).exit_value()
+    }
+
+    /// Whether a request acts in a thread as soon as it may.
+    pub fn request_acts(&self, t: Tid) -> bool
+        requires { t < length self.now.names }
+        ensures { result ≡ request_acts (thread_at self.now.machine t) }
+    {
+        self.table.thread(t).request_acts()
+    }
+
+    /// What a thread's present body is for.
+    pub fn top_kind(&self, t: Tid) -> FrameKind
+        requires { t < length self.now.names }
+        ensures { result ≡ top_kind (thread_at self.now.machine t).frames }
+    {
+        self.table.thread(t).kind()
+    }
+
+    /// The cleanup handler that a thread pushed last; `None` exactly where there is none.
+    pub fn last_cleanup(&self, t: Tid) -> Option<ObjId>
+        requires { t < length self.now.names }
+        ensures { result ≡ slice_get (thread_at self.now.machine t).cleanups 0 }
+    {
+        self.table.thread(t).last_cleanup()
+    }
+
+    pub fn set_joiner(&mut self, t: Tid, joiner: Joiner)
+        requires { t < length self.old.names }
+        ensures { self.new ≡ after (changes t (with_joiner (joiner_of joiner))) self.old }
+    {
+        self.table.set_joiner(t, joiner);
+    }
+
+    /// A thread is asked to end.
+    pub fn request_end(&mut self, t: Tid)
+        requires { t < length self.old.names }
+        ensures { self.new ≡ after (changes t requested) self.old }
+    {
+        self.table.request(t);
+    }
+
+    /// Whether a request may act in a thread.
+    pub fn set_enabled(&mut self, t: Tid, on: bool)
+        requires { t < length self.old.names }
+        ensures { self.new ≡ after (changes t (λ th. record th { is_enabled = on })) self.old }
+    {
+        self.table.set_enabled(t, on);
+    }
+
+    /// A thread is ending, with that value.
+    pub fn begin_end(&mut self, t: Tid, value: u64)
+        requires { t < length self.old.names }
+        ensures { self.new ≡ after (changes t (ending_with value)) self.old }
+    {
+        self.table.end_with(t, value);
+    }
+
+    /// A handler of a thread returns to what it interrupted.
+    pub fn drop_frame(&mut self, t: Tid)
+        requires { t < length self.old.names }
+        ensures { self.new ≡ after (changes t without_top) self.old }
+    {
+        self.table.drop_frame(t);
+    }
+
+    /// The cleanup handler is the last that the thread pushed.
+    pub fn put_cleanup(&mut self, t: Tid, u: ObjId)
+        requires known { t < length self.old.names }
+        requires room { length (thread_at self.old.machine t).cleanups < 8 }
+        ensures { self.new ≡ after (changes t (λ th. record th { cleanups = u ∷ th.cleanups })) self.old }
+    {
+        self.table.push_cleanup(t, u);
+    }
+
+    /// The cleanup handler that the thread pushed last is gone.
+    pub fn drop_cleanup(&mut self, t: Tid)
+        requires { t < length self.old.names }
+        ensures { self.new ≡ after (changes t without_cleanup) self.old }
+    {
+        self.table.drop_cleanup(t);
+    }
+
+    /// A cleanup handler runs in a frame of its own.
+    pub fn run_cleanup(&mut self, t: Tid, u: ObjId)
+        requires known { t < length self.old.names }
+        requires handler { u < length self.old.code.cleanups }
+        requires room { length (thread_at self.old.machine t).frames ≤ 2 }
+        ensures { self.new ≡ after (changes t (on_top (new_frame (flat_bodies self.old.code) FrameKind.Cleanup (BodyOf.Cleanup u) 0))) self.old }
+    {
+        self.table.run_cleanup(t, &self.code, u);
+    }
+
+    /// A request acts in a thread that waits; it wakes, and its call does not return.
+    pub fn wake_cancelled<K: Sink>(&mut self, t: Tid, out: &mut Tracer<'_, K>)
+        requires known { t < length self.old.names }
+        requires room { length self.old.direct < 256 }
+        requires unused { IsUnused (thread_at self.old.machine t).server }
+        requires early { self.old.machine.now ≤ 10 ^ 18 }
+        ensures state { self.new ≡ after (wakes_cancelled t) self.old }
+        ensures told { Tells K.text K.faults self.old.names out.old out.new (told (wakes_cancelled t) self.old) }
+    {
+        self.wake_telling(&Event::Cancel(t), t, Res::Zero, 0, out);
+        self.begin_end(t, CANCELLED_VALUE);
+    }
+
+    /// The mutex goes from its owner to a waiter whose condition wait was cancelled; the request acts.
+    pub fn wake_cancelled_owner<K: Sink>(
+        &mut self,
+        k: ObjId,
+        owner: Tid,
+        t: Tid,
+        out: &mut Tracer<'_, K>,
+    )
+        requires known { t < length self.old.names }
+        requires mutex { k < length self.old.machine.mutexes }
+        requires owned { (mutex_at self.old.machine k).owner ≡ Some owner }
+        requires room { length self.old.direct < 256 }
+        requires unused { IsUnused (thread_at self.old.machine t).server }
+        requires early { self.old.machine.now ≤ 10 ^ 18 }
+        ensures state { self.new ≡ after (λ s. s ▷ changes_mutex k (taken_by t) ▷ wakes_cancelled t) self.old }
+        ensures told { Tells K.text K.faults self.old.names out.old out.new (told (λ s. s ▷ changes_mutex k (taken_by t) ▷ wakes_cancelled t) self.old) }
+    {
+        self.hand_over(k, owner, t, Res::Zero);
+        self.rise(&Event::Cancel(t), t, out);
+        self.begin_end(t, CANCELLED_VALUE);
+    }
+
+    /// A request acts in place of a call.
+    pub fn cancel_now<K: Sink>(&mut self, t: Tid, out: &mut Tracer<'_, K>)
+        requires { t < length self.old.names }
+        ensures state { self.new ≡ after (is_cancelled t) self.old }
+        ensures told { Tells K.text K.faults self.old.names out.old out.new (told (is_cancelled t) self.old) }
+    {
+        self.tell(&Event::Cancel(t), out);
+        self.begin_end(t, CANCELLED_VALUE);
+    }
+}

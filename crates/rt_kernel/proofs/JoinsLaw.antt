@@ -1,0 +1,33 @@
+-- In each state of a run a thread that waits to join another is blocked.
+use Rattle.std.proofs.Common.{◌≡◌, ◌<◌, ◌∙◌, ℕ, true, Option, Some, arith, length, subst, sym}
+use Rattle.script_tree.specs.declared.decl.Script.{Script}
+use Rattle.script_flat.specs.declared.cursor.Cursor.{Cursor}
+use Rattle.machine_rules.specs.Bodies.{Bodies}
+use Rattle.machine_rules.specs.Runs.{opening}
+use Rattle.machine_rules.specs.State.{Machine, Wait, Waiting, for_end}
+use Rattle.machine_rules.specs.Threads.{waiting_of}
+use Rattle.machine_rules.specs.Throughout.{after_items}
+use Rattle.machine_rules.specs.WellFormed.{IsWellFormed}
+use Rattle.machine_moves.specs.UnitRanges.{BodiesFit}
+use Rattle.machine_moves.proofs.Calls.Answers.{waits_blocked}
+use Rattle.machine_laws.proofs.Items.{throughout}
+use Rattle.machine_laws.proofs.Parts.Kept.{PartsRight, parts_tick}
+use Rattle.machine_laws.proofs.Parts.Opening.{opening_listed, opening_right}
+use Rattle.machine_flat.specs.KnownCalls.{Objects}
+use Rattle.kernel_lives.specs.Joins.{EndIsKnown, JoinsFit}
+use Rattle.rt_kernel.specs.Held.{EndsAreKnown, Held}
+
+module _ (bodies : Bodies Cursor) (ranges : BodiesFit bodies) (script : Script) (fits : IsWellFormed script) where
+  parts_after : (n most : ℕ) → PartsRight (after_items bodies (opening script) n most)
+  parts_after n most =
+      (throughout bodies ranges PartsRight (λ was_high t s. PartsRight s.machine) (λ was_high t s. PartsRight s.machine) (parts_tick bodies) (opening script) (opening_right Cursor script) (opening_listed Cursor script)).each n most
+
+  pub joins_fit : (n most : ℕ) (o : Objects) → Held o (after_items bodies (opening script) n most) → JoinsFit (after_items bodies (opening script) n most)
+  joins_fit n most o held = record {
+    joiners = λ t u e. (let waits = (parts_after n most).joiners t u e in waits_blocked (after_items bodies (opening script) n most) u waits.0 waits.1);
+    ends = λ u t w waits is.
+        let m = after_items bodies (opening script) n most in
+        let known : EndsAreKnown o.threads (Some w) = subst (EndsAreKnown o.threads) waits (held.each u).ends in
+        let lt : t < o.threads = subst (EndIsKnown o.threads) is known in
+        let count = held.counted in omega (arith, lt, count);
+  }

@@ -1,0 +1,180 @@
+-- Where a cleanup handler is pushed there is room for it: a run over flat code is one over trees, and there at most eight are pushed.
+use Rattle.std.proofs.Common.{◌≡◌, ◌∙◌, ◌<◌, ◌≤◌, ℕ, zero, suc, Bool, true, false, List, [], ◌∷◌, ap, arith, length, refl, subst, sym}
+use Rattle.std.specs.Prelude.{drop, ◌&&◌, ◌==◌, if◌then◌else◌}
+use Rattle.script_tree.specs.declared.call.Call.TheVariants as call
+use Rattle.script_tree.specs.declared.decl.Script.{Script}
+use Rattle.script_flat.specs.declared.cursor.Cursor.{Cursor}
+use Rattle.script_flat.specs.declared.unit.Unit.{Unit as Step}
+use Rattle.script_flat.specs.declared.unit.Unit.TheVariants as unit
+use Rattle.script_flat.specs.Next.{Place}
+use Rattle.machine_rules.specs.declared.frame.BodyOf.{BodyOf}
+use Rattle.machine_rules.specs.declared.frame.BodyOf.TheVariants as body_of
+use Rattle.machine_rules.specs.Bodies.{Bodies}
+use Rattle.machine_rules.specs.Cancellation.{runs_cleanup, without_cleanup}
+use Rattle.machine_rules.specs.DueItems.{items_done}
+use Rattle.machine_rules.specs.GoodState.{main_guards}
+use Rattle.machine_rules.specs.Machine.{bodies_of}
+use Rattle.machine_rules.specs.Promises.{guards_in}
+use Rattle.machine_rules.specs.Runs.{Ran, opening, ticks}
+use Rattle.machine_rules.specs.State.{Frame, Thread}
+use Rattle.machine_rules.specs.Threads.{is_dormant, is_main, thread_at, top_kind, top_left}
+use Rattle.machine_rules.specs.Throughout.{after_items}
+use Rattle.machine_rules.specs.Ticks.{frames_charged, tick_charged}
+use Rattle.machine_rules.specs.Turns.{Turn, turn_of}
+use Rattle.machine_rules.specs.Units.{InUnit, begins_ending, begins_finish, in_unit, in_unit_if, in_unit_of, top_in_unit}
+use Rattle.machine_rules.specs.WellFormed.{IsWellFormed}
+use Rattle.machine_moves.proofs.Runs.Units.{bodies_fit}
+use Rattle.machine_laws.specs.GuardedBodies.{BodiesGuarded, most_of}
+use Rattle.machine_laws.proofs.Cleanups.Blocks.{bodies_guarded}
+use Rattle.machine_laws.proofs.Cleanups.Frames.{Clean}
+use Rattle.machine_laws.proofs.Cleanups.Kept.{items_clean, run_all_clean}
+use Rattle.machine_laws.proofs.Cleanups.Units.{BeforeIn, charged_before, guards_too}
+use Rattle.machine_flat.specs.FlatBodies.{code_of, flat_bodies}
+use Rattle.machine_flat.proofs.Agrees.{carry, flat_agrees}
+use Rattle.machine_places.proofs.CarriedReads.{thread_carries}
+use Rattle.machine_places.proofs.CarriedTicks.{in_unit_carries, items_done_carries}
+use Rattle.machine_places.proofs.CarriedTrace.{runs_carry}
+use Rattle.thread_table.proofs.Statuses.{unit_keeps}
+
+not_both : {X : Type 0} (b : Bool) → b ≡ false → b ≡ true → X
+not_both b off on = let a : true ≡ false = sym on ∙ off in absurd cc
+
+all_of : (a b : Bool) (n : ℕ) → a ≡ true → b ≡ true → n ≡ 0 → (a && b && n == 0) ≡ true
+all_of a b n p q r = rw (p, q, r) refl
+
+module _ {P : Type 0} (bodies : Bodies P) where
+  -- ---- an ending thread pushes nothing in its main body
+
+  finish_plain : (fs : List (Frame P)) (th : Thread P) → guards_too (begins_finish fs th).unit ≡ false
+  finish_plain [] th = refl
+  finish_plain (f ∷ fs) th = refl
+
+  ending_plain : (us : List ℕ) (th : Thread P) → is_main (top_kind (begins_ending bodies us th).thread.frames) ≡ true → guards_too (begins_ending bodies us th).unit ≡ false
+  ending_plain [] th main = finish_plain th.frames th
+  ending_plain (u ∷ us) th main = absurd cc
+
+  module _ (th : Thread P) (ending : th.is_ending ≡ true) where
+    goes_on_plain : (th.is_ending && is_main (top_kind th.frames) && top_left th.frames == 0) ≡ false → (fs : List (Frame P)) → th.frames ≡ fs →
+        is_main (top_kind (in_unit_of bodies fs th).thread.frames) ≡ true → guards_too (in_unit_of bodies fs th).unit ≡ false
+    goes_on_plain off [] same main = refl
+    goes_on_plain off (f ∷ fs) same main = by_left f.left refl main
+      where
+        by_left : (n : ℕ) → f.left ≡ n → is_main (top_kind (top_in_unit bodies n f fs th).thread.frames) ≡ true → guards_too (top_in_unit bodies n f fs th).unit ≡ false
+        by_left zero left main =
+            not_both (th.is_ending && is_main (top_kind th.frames) && top_left th.frames == 0) off
+            (all_of th.is_ending (is_main (top_kind th.frames)) (top_left th.frames) ending (ap (λ (gs : List (Frame P)). is_main (top_kind gs)) same ∙ main) (ap top_left same ∙ left))
+        by_left (suc n) left main = refl
+
+    unit_plain : is_main (top_kind (in_unit bodies th).thread.frames) ≡ true → guards_too (in_unit bodies th).unit ≡ false
+    unit_plain = by_choice (th.is_ending && is_main (top_kind th.frames) && top_left th.frames == 0) refl
+      where
+        by_choice : (b : Bool) → (th.is_ending && is_main (top_kind th.frames) && top_left th.frames == 0) ≡ b → is_main (top_kind (in_unit_if bodies b th).thread.frames) ≡ true →
+            guards_too (in_unit_if bodies b th).unit ≡ false
+        by_choice true e main = ending_plain th.cleanups th main
+        by_choice false e main = goes_on_plain e th.frames refl main
+
+  -- ---- what was pushed before the start is nothing
+
+  top_cleanups : (left : ℕ) (f : Frame P) (fs : List (Frame P)) (th : Thread P) → (top_in_unit bodies left f fs th).thread.cleanups ≡ th.cleanups
+  top_cleanups zero f fs th = refl
+  top_cleanups (suc left) f fs th = refl
+
+  of_cleanups : (fs : List (Frame P)) (th : Thread P) → (in_unit_of bodies fs th).thread.cleanups ≡ th.cleanups
+  of_cleanups [] th = refl
+  of_cleanups (f ∷ fs) th = top_cleanups f.left f fs th
+
+  finish_cleanups : (fs : List (Frame P)) (th : Thread P) → (begins_finish fs th).thread.cleanups ≡ th.cleanups
+  finish_cleanups [] th = refl
+  finish_cleanups (f ∷ fs) th = refl
+
+  none_ending : (us : List ℕ) (th : Thread P) → us ≡ [] → th.cleanups ≡ [] → (begins_ending bodies us th).thread.cleanups ≡ []
+  none_ending [] th none e = finish_cleanups th.frames th ∙ e
+  none_ending (u ∷ us) th none e = absurd cc
+
+  none_taken : (th : Thread P) → th.cleanups ≡ [] → (in_unit bodies th).thread.cleanups ≡ []
+  none_taken th e = by_choice (th.is_ending && is_main (top_kind th.frames) && top_left th.frames == 0)
+    where
+      by_choice : (b : Bool) → (in_unit_if bodies b th).thread.cleanups ≡ []
+      by_choice true = none_ending th.cleanups th e e
+      by_choice false = of_cleanups th.frames th ∙ e
+
+  -- ---- so at most eight are pushed
+
+  module _ (guards : BodyOf → P → List ℕ) (guarded : BodiesGuarded bodies guards) where
+    few_in : (body : BodyOf) (n : ℕ) → n ≤ most_of body → n ≤ 8
+    few_in (body_of.Thread t) n h = h
+    few_in (body_of.Cleanup u) n h = omega arith
+    few_in (body_of.Handler k) n h = omega arith
+
+    main_few : (fs : List (Frame P)) → is_main (top_kind fs) ≡ true → length (main_guards guards fs) ≤ 8
+    main_few [] main = omega arith
+    main_few (f ∷ fs) main = rw main (few_in f.body (length (guards f.body f.place)) (guarded.few f.body f.place))
+
+    charged_kind : (fs : List (Frame P)) → top_kind (frames_charged fs) ≡ top_kind fs
+    charged_kind [] = refl
+    charged_kind (f ∷ fs) = refl
+
+    pushed_few : (u : ℕ) (cs gs : List ℕ) → gs ≡ u ∷ cs → length gs ≤ 8 → length cs < 8
+    pushed_few u cs gs is few = let e = ap length is in omega (arith, e, few)
+
+    pub push_few : (th : Thread P) → Clean guards th → (u : ℕ) → (in_unit bodies th).unit ≡ unit.Make (call.Push u) → length (in_unit bodies th).thread.cleanups < 8
+    push_few th clean u is = by_start (is_dormant th.status) refl
+      where
+        x : Thread P
+        x = tick_charged (in_unit bodies th).thread
+
+        guards_on : guards_too (in_unit bodies th).unit ≡ true
+        guards_on = ap guards_too is
+
+        by_start : (b : Bool) → is_dormant th.status ≡ b → length (in_unit bodies th).thread.cleanups < 8
+        by_start true e = let none = ap length (none_taken th (clean.1 e)) in omega (arith, none)
+        by_start false awake = by_ending th.is_ending refl
+          where
+            main : is_main (top_kind (frames_charged (in_unit bodies th).thread.frames)) ≡ true
+            main = by_main (is_main (top_kind (frames_charged (in_unit bodies th).thread.frames))) refl
+              where
+                by_main : (b : Bool) → is_main (top_kind (frames_charged (in_unit bodies th).thread.frames)) ≡ b → is_main (top_kind (frames_charged (in_unit bodies th).thread.frames)) ≡ true
+                by_main true e = e
+                by_main false e = not_both (guards_too (in_unit bodies th).unit) ((charged_before bodies guards guarded th clean awake).aside e) guards_on
+
+            by_ending : (b : Bool) → th.is_ending ≡ b → length (in_unit bodies th).thread.cleanups < 8
+            by_ending true e =
+                not_both (guards_too (in_unit bodies th).unit) (unit_plain th e (sym (ap is_main (charged_kind (in_unit bodies th).thread.frames)) ∙ main)) guards_on
+            by_ending false e =
+                let fs = frames_charged (in_unit bodies th).thread.frames in
+                let cs = (in_unit bodies th).thread.cleanups in
+                let going = unit_keeps bodies (λ (y : Thread P). y.is_ending) (λ y fs us. refl) th ∙ e in
+                let pushed = (charged_before bodies guards guarded th clean awake).pushed going in
+                let here = subst (λ (b : Bool). BeforeIn b (in_unit bodies th).unit cs (main_guards guards fs)) main pushed in
+                let now = subst (λ (s : Step). BeforeIn true s cs (main_guards guards fs)) is here in
+                pushed_few u cs (main_guards guards fs) now (main_few fs main)
+
+-- ---- over flat code
+
+module _ (script : Script) (fits : IsWellFormed script) where
+  abbrev trees : Bodies Place
+  trees = bodies_of script
+
+  abbrev codes : Bodies Cursor
+  codes = flat_bodies (code_of script)
+
+  abbrev tree_after : ℕ → ℕ → Turn Place
+  tree_after n most = items_done trees most (turn_of (ticks trees n (opening script)).machine)
+
+  clean_after : (n most t : ℕ) → Clean (guards_in script) (thread_at (tree_after n most).machine t)
+  clean_after n most t =
+      let ranges = bodies_fit script fits.priorities in
+      let guarded = bodies_guarded script fits.guards in
+      items_clean trees ranges (guards_in script) guarded most (turn_of (ticks trees n (opening script)).machine) (run_all_clean trees ranges (guards_in script) guarded script fits n) t
+
+  pub push_room : (n most t u : ℕ) → (in_unit codes (thread_at (after_items codes (opening script) n most) t)).unit ≡ unit.Make (call.Push u) →
+      length (in_unit codes (thread_at (after_items codes (opening script) n most) t)).thread.cleanups < 8
+  push_room n most t u is =
+      let agrees = flat_agrees script in
+      let start = ticks trees n (opening script) in
+      let th = thread_at (tree_after n most).machine t in
+      let runs = ap (λ (r : Ran Cursor). items_done codes most (turn_of r.machine)) (runs_carry (carry script) trees codes agrees script n) ∙ items_done_carries (carry script) trees codes agrees most (turn_of start.machine) in
+      let same = ap (λ (s : Turn Cursor). thread_at s.machine t) runs ∙ thread_carries (carry script) (tree_after n most).machine t in
+      let taken = ap (in_unit codes) same ∙ in_unit_carries (carry script) trees codes agrees th in
+      subst (λ (y : InUnit Cursor). length y.thread.cleanups < 8) (sym taken)
+      (push_few trees (guards_in script) (bodies_guarded script fits.guards) th (clean_after n most t) u (sym (ap (λ (y : InUnit Cursor). y.unit) taken) ∙ is))

@@ -1,0 +1,25 @@
+use Rattle.std.proofs.Common.{◌≡◌, ◌∙◌, ℕ, zero, suc, refl, subst, sym}
+use Rattle.pse52_trace.specs.Tells.{Tells}
+use Rattle.pse52_trace.proofs.Tells.{tells_nothing}
+use Rattle.script_flat.specs.declared.cursor.Cursor.{Cursor}
+use Rattle.script_flat.specs.declared.unit.Unit as unit
+use Rattle.machine_rules.specs.Bodies.{Bodies}
+use Rattle.machine_rules.specs.Threads.{thread_at, top_left}
+use Rattle.machine_rules.specs.Ticks.{completes_at}
+use Rattle.machine_rules.specs.Turns.{Turn}
+use Rattle.machine_flat.specs.FlatBodies.{flat_bodies}
+use Rattle.kernel_state.specs.Kernel.{turn}
+use Rattle.rt_kernel.proofs.units.complete_at_end.Goals as goal
+
+-- nothing is complete while ticks are left
+later_nothing : (bodies : Bodies Cursor) (n t : ℕ) (u : unit.Unit) (s : Turn Cursor) → (n ≡ 0 → ⊥) → s ≡ completes_at bodies n t u s
+later_nothing bodies zero t u s h = absurd (h refl)
+later_nothing bodies (suc n) t u s h = refl
+
+pub returns-else-left-eq0-clause-told : goal.returns-else-left-eq0-clause-told
+returns-else-left-eq0-clause-told g c =
+    let p = c.args.p.now in
+    let left = top_left (thread_at p.machine c.args.t).frames in
+    let later = λ (e : left ≡ 0). c.if-left-eq0.false (c.left.ensures ∙ e) in
+    subst (λ (s : Turn Cursor). Tells g.K.Sink.text g.K.Sink.faults p.names c.args.out.now c.args.out.now s.events)
+    (later_nothing (flat_bodies p.code) left c.args.t c.args.unit.now (turn p) later) (tells_nothing _ _ _ _)

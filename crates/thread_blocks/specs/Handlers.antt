@@ -1,0 +1,28 @@
+-- Cleanup handlers that the code has, and what an ending thread asks for.
+use Rattle.std.specs.Prelude.{◌≡◌, ◌≤◌, ◌<◌, ◌∷◌, ℕ, List, [], length, slice_index, true}
+use Rattle.script_flat.specs.declared.cursor.Cursor.{Cursor}
+use Rattle.script_flat.specs.declared.op.Op.{Op}
+use Rattle.script_flat.specs.Fetch.{started}
+use Rattle.script_flat.specs.Flat.{Bodies}
+use Rattle.script_flat.specs.Stands.{IsPlaced}
+use Rattle.machine_rules.specs.State.{Thread}
+use Rattle.machine_rules.specs.Threads.{is_main, top_kind}
+
+-- the cleanup handler of that number begins at a place of the code
+pub record HandlerBegins (code : Bodies (List Op)) (u : ℕ) : Type 0 where
+  pub there : slice_index code.cleanups u < length code.all
+  pub placed : IsPlaced code (started (slice_index code.cleanups u) 0)
+
+-- and so does each that the code has
+pub record HandlersBegin (code : Bodies (List Op)) : Type 0 where
+  pub each : (u : ℕ) → u < length code.cleanups → HandlerBegins code u
+
+-- numbers of so many cleanup handlers
+abbrev pub AreHandlers : ℕ → List ℕ → Type 0
+AreHandlers n [] = Unit {0}
+AreHandlers n (u ∷ us) = (u < n) × AreHandlers n us
+
+-- in its main frame there is room for that of a cleanup handler, and its own are among so many
+pub record CanEnd (n : ℕ) (th : Thread Cursor) : Type 0 where
+  pub room : is_main (top_kind th.frames) ≡ true → length th.frames ≤ 2
+  pub handlers : AreHandlers n th.cleanups

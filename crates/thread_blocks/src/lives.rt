@@ -1,0 +1,233 @@
+// Joining, cancellation and the end of a thread.
+ghost use Rattle.std.specs.Prelude.{◌≡◌, ◌≤◌, ◌<◌, ◌==◌, ◌&&◌, ◌∷◌, length, slice_get, true};
+ghost use Rattle.machine_rules.specs.declared.frame.FrameKind.TheVariants as frame_kind;
+ghost use Rattle.machine_rules.specs.declared.frame.BodyOf.TheVariants as body_of;
+ghost use Rattle.machine_rules.specs.Cancellation.{request_acts, requested, without_cleanup};
+ghost use Rattle.machine_rules.specs.Lives.{with_joiner, without_life, without_top};
+ghost use Rattle.machine_rules.specs.Threads.{is_main, top_kind, top_left};
+ghost use Rattle.machine_rules.specs.Units.{begins_ending, begins_finish, in_unit, in_unit_of};
+ghost use Rattle.machine_rules.specs.Waking.{ending_with, new_frame, on_top};
+ghost use Rattle.machine_flat.specs.FlatBodies.{flat_bodies};
+ghost use Rattle.machine_flat.specs.Placed.{ArePlaced};
+ghost use Rattle.thread_blocks.specs.Handlers.{AreHandlers, CanEnd, HandlersBegin};
+ghost use Rattle.thread_blocks.specs.Plain.{joiner_of};
+
+use crate::frame::Frame;
+use crate::status::{Joiner, Status};
+use crate::thread::Thread;
+use machine_rules::{BodyOf, FrameKind};
+use script_flat::{Code, Unit};
+use tick_num::ObjId;
+
+// The frame of a cleanup handler, at its beginning.
+#[tactic(auto, using(crate::proofs::Endings::number_known))]
+fn handler_frame(code: &Code, u: ObjId) -> Frame
+    requires known { u < length code.now.cleanups }
+    requires begins { HandlersBegin code.now }
+    ensures { result ≡ new_frame (flat_bodies code.now) FrameKind.Cleanup (BodyOf.Cleanup u) 0 }
+{
+    Frame::new(
+        FrameKind::Cleanup,
+        BodyOf::Cleanup(u),
+        code.start(code.cleanup_body(u), 0),
+    )
+}
+
+impl Thread {
+    /// It ends.
+    pub fn end(&mut self)
+        ensures { self.new ≡ without_life self.old }
+    {
+        self.status = Status::Ended;
+        self.frames.clear();
+        self.server = None;
+    }
+
+    /// Its present body ends, and the one below goes on.
+    pub fn drop_frame(&mut self)
+        ensures { self.new ≡ without_top self.old }
+    {
+        self.frames.pop_at(0);
+    }
+
+    /// Whether it is ending, and has a request that acts no more.
+    pub fn request_acts(&self) -> bool
+        ensures { result ≡ request_acts self.now }
+    {
+        self.is_requested && self.is_enabled && !self.is_ending
+    }
+
+    /// It is asked to end.
+    pub fn request(&mut self)
+        ensures { self.new ≡ requested self.old }
+    {
+        self.is_requested = true;
+    }
+
+    /// Whether a request may act in it.
+    pub fn set_enabled(&mut self, on: bool)
+        ensures { self.new ≡ record self.old { is_enabled = on } }
+    {
+        self.is_enabled = on;
+    }
+
+    /// It is ending, with that value.
+    pub fn end_with(&mut self, value: u64)
+        ensures { self.new ≡ ending_with value self.old }
+    {
+        self.is_ending = true;
+        self.exit_value = value;
+    }
+
+    /// The value that it ends with.
+    pub fn exit_value(&self) -> u64
+        ensures { result ≡ self.now.exit_value }
+    {
+        self.exit_value
+    }
+
+    /// Who joins it.
+    pub fn joiner(&self) -> Joiner
+        ensures { joiner_of result ≡ self.now.joiner }
+    {
+        self.joiner
+    }
+
+    pub fn set_joiner(&mut self, joiner: Joiner)
+        ensures { self.new ≡ with_joiner (joiner_of joiner) self.old }
+    {
+        self.joiner = joiner;
+    }
+
+    /// What its present body is for; `Main` where it has none.
+    pub fn kind(&self) -> FrameKind
+        ensures { result ≡ top_kind self.now.frames }
+    {
+        match self.frames.first() {
+            None => FrameKind::Main,
+            Some(frame) => frame.kind(),
+        }
+    }
+
+    /// The cleanup handler is the last that was pushed.
+    pub fn push_cleanup(&mut self, u: ObjId)
+        requires { length self.old.cleanups < 8 }
+        ensures { self.new ≡ record self.old { cleanups = u ∷ self.old.cleanups } }
+    {
+        self.cleanups.insert(0, u);
+    }
+
+    /// The cleanup handler that was pushed last; `None` exactly where there is none.
+    pub fn last_cleanup(&self) -> Option<ObjId>
+        ensures { result ≡ slice_get self.now.cleanups 0 }
+    {
+        self.cleanups.first().copied()
+    }
+
+    /// The cleanup handler that was pushed last is gone.
+    pub fn drop_cleanup(&mut self)
+        ensures { self.new ≡ without_cleanup self.old }
+    {
+        self.cleanups.pop_at(0);
+    }
+
+    /// A cleanup handler runs in a frame of its own.
+    pub fn run_cleanup(&mut self, code: &Code, u: ObjId)
+        requires known { u < length code.now.cleanups }
+        requires begins { HandlersBegin code.now }
+        requires room { length self.old.frames ≤ 2 }
+        ensures { self.new ≡ on_top (new_frame (flat_bodies code.now) FrameKind.Cleanup (BodyOf.Cleanup u) 0) self.old }
+    {
+        self.frames.insert(0, handler_frame(code, u));
+    }
+
+    // Whether it is ending and takes no more units of its main body.
+    fn is_at_end(&self) -> bool
+        ensures { result ≡ (self.now.is_ending && is_main (top_kind self.now.frames) && top_left self.now.frames == 0) }
+    {
+        self.is_ending && is_main(self.kind()) && self.left() == 0
+    }
+
+    // The unit of its present body.
+    fn go_on(&mut self, code: &Code) -> Unit
+        requires placed { ArePlaced code.now self.old.frames }
+        ensures unit { result ≡ (in_unit_of (flat_bodies code.now) self.old.frames self.old).unit }
+        ensures thread { self.new ≡ (in_unit_of (flat_bodies code.now) self.old.frames self.old).thread }
+    {
+        let left = self.left();
+        if left > 0 {
+            return Unit::Run(left);
+        }
+        match self.frames.get_mut(0) {
+            None => Unit::Finish,
+            Some(frame) => frame.begin(code),
+        }
+    }
+
+    // With no cleanup handler left it ends its main body.
+    fn begin_finish(&mut self) -> Unit
+        ensures unit { result ≡ (begins_finish self.old.frames self.old).unit }
+        ensures thread { self.new ≡ (begins_finish self.old.frames self.old).thread }
+    {
+        if let Some(frame) = self.frames.get_mut(0) {
+            frame.begin_finish();
+        }
+        Unit::Finish
+    }
+
+    // A cleanup handler begins its first unit in a frame of its own.
+    fn begin_cleanup(&mut self, code: &Code, u: ObjId) -> Unit
+        requires known { u < length code.now.cleanups }
+        requires begins { HandlersBegin code.now }
+        requires room { length self.old.frames ≤ 2 }
+        ensures unit { result ≡ (in_unit_of (flat_bodies code.now) (new_frame (flat_bodies code.now) FrameKind.Cleanup (BodyOf.Cleanup u) 0 ∷ self.old.frames) self.old).unit }
+        ensures thread { self.new ≡ (in_unit_of (flat_bodies code.now) (new_frame (flat_bodies code.now) FrameKind.Cleanup (BodyOf.Cleanup u) 0 ∷ self.old.frames) self.old).thread }
+    {
+        let mut frame = handler_frame(code, u);
+        let unit = frame.begin(code);
+        self.frames.insert(0, frame);
+        unit
+    }
+
+    // It begins its next cleanup handler, or else its finish.
+    #[tactic(auto, using(crate::proofs::Endings::begun_none, crate::proofs::Endings::begun_some, crate::proofs::Endings::first_known))]
+    fn begin_ending(&mut self, code: &Code) -> Unit
+        requires room { length self.old.frames ≤ 2 }
+        requires begins { HandlersBegin code.now }
+        requires handlers { AreHandlers (length code.now.cleanups) self.old.cleanups }
+        ensures unit { result ≡ (begins_ending (flat_bodies code.now) self.old.cleanups self.old).unit }
+        ensures thread { self.new ≡ (begins_ending (flat_bodies code.now) self.old.cleanups self.old).thread }
+    {
+        match self.last_cleanup() {
+            None => self.begin_finish(),
+            Some(u) => {
+                self.drop_cleanup();
+                self.begin_cleanup(code, u)
+            }
+        }
+    }
+
+    /// The unit that it is in, or takes next.
+    pub fn take(&mut self, code: &Code) -> Unit
+        requires placed { ArePlaced code.now self.old.frames }
+        requires begins { HandlersBegin code.now }
+        requires ends { self.old.is_ending ≡ true → CanEnd (length code.now.cleanups) self.old }
+        ensures unit { result ≡ (in_unit (flat_bodies code.now) self.old).unit }
+        ensures thread { self.new ≡ (in_unit (flat_bodies code.now) self.old).thread }
+    {
+        if self.is_at_end() {
+            self.begin_ending(code)
+        } else {
+            self.go_on(code)
+        }
+    }
+}
+
+fn is_main(kind: FrameKind) -> bool
+    ensures { result ≡ is_main kind }
+{
+    match kind {
+        FrameKind::Main => true,
+        _ => false,
+    }
+}
