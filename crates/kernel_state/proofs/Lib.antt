@@ -11,3 +11,7 @@ pub mod Opened
 pub mod Closing
 pub mod Waits
 pub mod InConditions
+pub mod Words
+pub mod OnLists
+pub mod StandOn
+pub mod Carried

@@ -19,7 +19,7 @@ use Rattle.kernel_state.specs.Waits.{CanWait}
 not_off : {X : Type 0} → false ≡ true → X
 not_off h = absurd cc
 
-running_waits : (status : Status) → is_runnable status ≡ true → waiting_in status ≡ None
+pub running_waits : (status : Status) → is_runnable status ≡ true → waiting_in status ≡ None
 running_waits (dormant at) h = not_off h
 running_waits runnable h = refl
 running_waits (blocked w) h = not_off h

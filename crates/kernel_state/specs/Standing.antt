@@ -18,17 +18,23 @@ pub record AreNamed (bits : ℕ) (table : Table) (lists : List (List ℕ)) : Typ
   pub known : (t : ℕ) → has t bits ≡ true → t < length table.threads
   pub others : (t : ℕ) → has t bits ≡ false → StandsRight table lists t
 
+-- those before a thread, from that number on, stand right
+pub record ComesNext (table : Table) (lists : List (List ℕ)) (from t : ℕ) : Type 0 where
+  pub low : from ≤ t
+  pub known : t < length table.threads
+  pub between : (u : ℕ) → from ≤ u → u < t → StandsRight table lists u
+
 -- ---- the same of a machine
 
+abbrev pub table_in : Machine Cursor → Table
+table_in m = record { threads = m.threads; mutexes = m.mutexes }
+
 abbrev pub MachineStands : Machine Cursor → ℕ → Type 0
-MachineStands m t = StandsRight (record { threads = m.threads; mutexes = m.mutexes }) m.lists t
+MachineStands m t = StandsRight (table_in m) m.lists t
 
 -- all from that number on stand right
 abbrev pub StandFrom : Machine Cursor → ℕ → Type 0
 StandFrom m from = (t : ℕ) → from ≤ t → MachineStands m t
 
--- those before a thread, from that number on, stand right
-pub record IsNext (m : Machine Cursor) (from t : ℕ) : Type 0 where
-  pub low : from ≤ t
-  pub known : t < length m.threads
-  pub between : (u : ℕ) → from ≤ u → u < t → MachineStands m u
+abbrev pub IsNext : Machine Cursor → ℕ → ℕ → Type 0
+IsNext m from t = ComesNext (table_in m) m.lists from t

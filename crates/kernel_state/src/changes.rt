@@ -42,7 +42,8 @@ impl Parts {
         requires { t < length self.old.names }
         ensures { self.new ≡ after (changes t (woken res value)) self.old }
     {
-        self.table.wake(t, res, value);
+        let moved = self.table.wake(t, res, value);
+        self.named.take_in(&moved);
     }
 
     #[tactic(auto, using(crate::proofs::Waits::can_await))]
@@ -52,7 +53,9 @@ impl Parts {
         requires may { CanWait self.old.machine t (mutex_waited (wait_of waiting.wait)) }
         ensures { self.new ≡ after (changes t (put_to_wait (waiting_of waiting))) self.old }
     {
-        self.table.block(t, waiting);
+        let moved = self.table.block(t, waiting);
+        self.named.add(t);
+        self.named.take_in(&moved);
     }
 
     pub fn activate_thread(&mut self, t: Tid)
@@ -83,7 +86,9 @@ impl Parts {
         ensures { self.new ≡ after (changes t (started (flat_bodies self.old.code) t mask self.old.machine.now)) self.old }
     {
         let main = self.main_frame(t);
-        self.table.start(t, mask, self.instant, main);
+        let moved = self.table.start(t, mask, self.instant, main);
+        self.named.add(t);
+        self.named.take_in(&moved);
     }
 
     pub fn set_thread_priority(&mut self, t: Tid, p: Prio)
@@ -91,7 +96,8 @@ impl Parts {
         requires takes { takes_priority (thread_at self.old.machine t).policy p ≡ true }
         ensures { self.new ≡ after (changes t (with_priority p)) self.old }
     {
-        self.table.set_priority(t, p);
+        let moved = self.table.set_priority(t, p);
+        self.named.take_in(&moved);
     }
 
     pub fn set_thread_policy(&mut self, t: Tid, new: Policy)
@@ -99,7 +105,8 @@ impl Parts {
         requires early { self.old.machine.now ≤ 10 ^ 18 }
         ensures { self.new ≡ after (changes t (with_policy new self.old.machine.now)) self.old }
     {
-        self.table.set_policy(t, new, self.instant);
+        let moved = self.table.set_policy(t, new, self.instant);
+        self.named.take_in(&moved);
     }
 
     /// The unit that a thread is in, or takes next. It is not ending.
@@ -125,7 +132,9 @@ impl Parts {
         requires { t < length self.old.names }
         ensures { self.new ≡ after (changes t without_life) self.old }
     {
-        self.table.end(t);
+        let moved = self.table.end(t);
+        self.named.add(t);
+        self.named.take_in(&moved);
     }
 
     pub fn plan_thread(&mut self, t: Tid) -> Replenish
@@ -134,7 +143,9 @@ impl Parts {
         ensures value { Some result ≡ option_map replenishment (thread_at self.old.machine t).server }
         ensures state { self.new ≡ after (changes t (with_server plan)) self.old }
     {
-        self.table.plan(t)
+        let (planned, moved) = self.table.plan_telling(t);
+        self.named.take_in(&moved);
+        planned
     }
 
     pub fn refill_thread(&mut self, t: Tid) -> Refilled
@@ -143,6 +154,8 @@ impl Parts {
         ensures value { Some result ≡ option_map refilled_of (thread_at self.old.machine t).server }
         ensures state { self.new ≡ after (changes t (with_server refill)) self.old }
     {
-        self.table.refill(t)
+        let (refilled, moved) = self.table.refill_telling(t);
+        self.named.take_in(&moved);
+        refilled
     }
 }

@@ -8,6 +8,7 @@ mod due;
 mod leaps;
 mod lists;
 mod mutexes;
+mod named;
 mod open;
 mod parts;
 mod report;
