@@ -6,10 +6,10 @@ use Rattle.script_flat.specs.declared.op.Op.{Op}
 use Rattle.script_flat.specs.Flat.{Bodies}
 use Rattle.machine_rules.specs.Lists.{is}
 use Rattle.machine_rules.specs.State.{Mutex, Thread}
-use Rattle.machine_rules.specs.Threads.{is_runnable, no_thread, thread_in}
+use Rattle.machine_rules.specs.Threads.{is_runnable, no_thread}
 use Rattle.machine_rules.proofs.Reading.{changed-length, changed-other}
-use Rattle.thread_table.specs.Movers.{IsFree, KeepsExec, KeepsOthers, TellsMoved, TellsMovedBeside}
-use Rattle.thread_table.specs.Table.{Table, exec, thread_at, with_mutex, with_thread}
+use Rattle.thread_table.specs.Movers.{KeepsExec, KeepsOthers, TellsMoved, TellsMovedBeside}
+use Rattle.thread_table.specs.Table.{Table, thread_at, with_mutex, with_thread}
 use Rattle.thread_table.proofs.Movers.{keeps}
 use Rattle.kernel_state.specs.Members.{TakesIn, Turns, has}
 use Rattle.kernel_state.specs.Standing.{AreNamed}

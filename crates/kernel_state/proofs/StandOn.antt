@@ -1,14 +1,14 @@
 -- The threads that are not named stand right, through every change.
-use Rattle.std.proofs.Common.{◌≡◌, ◌≢◌, ◌<◌, ◌≤◌, ◌⊎◌, inl, inr, ◌-◌, ◌∙◌, ℕ, zero, suc, Bool, true, false, List, [], ◌∷◌, None, Option, Some, ap, arith, length, refl, subst, sym}
+use Rattle.std.proofs.Common.{◌≡◌, ◌≢◌, ◌<◌, ◌≤◌, inl, inr, ◌+◌, ◌-◌, ◌∙◌, ℕ, zero, suc, Bool, true, false, List, [], ◌∷◌, None, Option, Some, ap, arith, length, refl, sym}
 use Rattle.std.specs.Prelude.{IfSome, MatchOption, replicate}
 use Rattle.std.proofs.lemmas.Bool.Decides.{eqb_tells}
 use Rattle.script_flat.specs.declared.cursor.Cursor.{Cursor}
-use Rattle.ready_lists.specs.Lists.{prio_from, prio_of, to_head, to_tail, without}
+use Rattle.ready_lists.specs.Lists.{empty_lists, prio_from, prio_of, to_head, to_tail, without}
 use Rattle.machine_rules.specs.Lists.{changed_at, is}
-use Rattle.machine_rules.specs.State.{Status, Thread, blocked, dormant, ended, runnable}
-use Rattle.machine_rules.specs.Threads.{is_runnable, no_thread, thread_in, waiting_in}
+use Rattle.machine_rules.specs.State.{Thread}
+use Rattle.machine_rules.specs.Threads.{is_runnable, no_thread, thread_in}
 use Rattle.machine_rules.proofs.Standing.{head_length, tail_length, without_length}
-use Rattle.thread_table.specs.Movers.{IsFree, KeepsExec, KeepsOthers, TellsMoved, TellsMovedBeside}
+use Rattle.thread_table.specs.Movers.{IsFree}
 use Rattle.thread_table.specs.Table.{Table, exec, thread_at, with_thread}
 use Rattle.thread_table.proofs.Movers.{runs_free}
 use Rattle.kernel_state.specs.Members.{HasNoneFrom, IsFirstFrom, TakesIn, Turns, has}
@@ -55,9 +55,9 @@ put_right bits after table lists new t are turns long same right = record {
   others = λ u out. elim (eqb_tells u t) [
     | inl it ↦ rw it.1 right
     | inr other ↦ (let was = are.others u (sym (turns.others u other.1) ∙ out) in record {
-        runs = λ p e. was.runs p (sym (same u other.1) ∙ e);
-        there = λ p e. was.there p (sym (same u other.1) ∙ e);
-      })
+      runs = λ p e. was.runs p (sym (same u other.1) ∙ e);
+      there = λ p e. was.there p (sym (same u other.1) ∙ e);
+    })
   ];
 }
 
@@ -145,3 +145,20 @@ pub next_known : (bits from n : ℕ) (table : Table) (lists : List (List ℕ)) (
     MatchOption r (HasNoneFrom from bits) (λ t. IsFirstFrom from bits t) → IfSome r (λ t. t < n)
 next_known bits from n table lists None same are none = tt
 next_known bits from n table lists (Some t) same are first = let lt = are.known t first.itself in omega (arith, same, lt)
+
+-- ---- at the beginning
+
+abbrev none : List ℕ
+none = []
+
+reads_nowhere : (q t n : ℕ) → prio_from q t (replicate n none) ≡ None
+reads_nowhere q t zero = refl
+reads_nowhere q t (suc n) = reads_nowhere (q + 1) t n
+
+-- all lists are empty, and nobody is named
+pub none_named_at_first : (bits : ℕ) (table : Table) → ((t : ℕ) → has t bits ≡ false) → AreNamed bits table empty_lists
+none_named_at_first bits table out = record {
+  every = refl;
+  known = λ t here. not_both (has t bits) here (out t);
+  others = λ t off. nowhere table empty_lists t (reads_nowhere 1 t 255);
+}

@@ -3,7 +3,7 @@ use Rattle.std.proofs.Common.{◌≡◌, ◌≢◌, ◌<◌, ◌≤◌, ◌⊎�
 use Rattle.std.specs.Int.{bit_at, bit_not, trailing_zeros}
 use Rattle.std.proofs.lemmas.Nat.{and_le_l, shr_le, shr-shr}
 use Rattle.std.proofs.lemmas.Nat.Bits.{bit_at-trailing_zeros, bit_at-zero, bit_at_above, bit_at_clear_other}
-use Rattle.kernel_state.specs.Members.{HasNoneFrom, IsFirstFrom, has}
+use Rattle.kernel_state.specs.Members.{IsFirstFrom, has}
 
 pub is_in : (t bits : ℕ) → bit_at bits t ≡ 1 → has t bits ≡ true
 is_in t bits e = rw e refl

@@ -1,4 +1,4 @@
-use Rattle.std.proofs.Common.{◌≡◌, ◌<◌, ◌≤◌, ◌+◌, ◌^◌, ℕ, arith}
+use Rattle.std.proofs.Common.{arith}
 use Rattle.kernel_state.proofs.Words.{above, below, first_is, none_is}
 use Rattle.kernel_state.proofs.named.first_bit.Goals as goal
 

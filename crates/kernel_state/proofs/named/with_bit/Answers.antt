@@ -1,5 +1,4 @@
 use Rattle.std.proofs.Common.{w64}
-use Rattle.std.specs.Int.{bit_at}
 use Rattle.std.proofs.lemmas.Nat.Bits.{bit_at_set_other, bit_at_set_same}
 use Rattle.kernel_state.proofs.Words.{is_in, same}
 use Rattle.kernel_state.proofs.named.with_bit.Goals as goal

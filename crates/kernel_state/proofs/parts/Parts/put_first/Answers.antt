@@ -1,4 +1,4 @@
-use Rattle.std.proofs.Common.{◌≡◌, arith, subst, sym, true, ◌∙◌}
+use Rattle.std.proofs.Common.{◌≡◌, arith, subst, sym, true}
 use Rattle.machine_rules.specs.Threads.{can_run}
 use Rattle.kernel_state.specs.Kernel.{Kernel}
 use Rattle.kernel_state.proofs.StandOn.{put_head}
