@@ -12,7 +12,7 @@ use Rattle.thread_table.specs.Movers.{KeepsExec, KeepsOthers, TellsMoved, TellsM
 use Rattle.thread_table.specs.Table.{Table, thread_at, with_mutex, with_thread}
 use Rattle.thread_table.proofs.Movers.{keeps}
 use Rattle.kernel_state.specs.Members.{TakesIn, Turns, has}
-use Rattle.kernel_state.specs.Standing.{AreNamed}
+use Rattle.kernel_state.specs.Standing.{OthersStand}
 use Rattle.kernel_state.specs.Tied.{IsTied}
 use Rattle.kernel_state.proofs.StandOn.{RunOn, both_out, run_on, stand_on, still_out, taken_known, turned_known}
 
@@ -60,16 +60,16 @@ beside_keeps t old new (Some m) h u free other not_r none = h.others u free othe
 
 -- ---- who is named
 
-module _ (old new : Table) (lists : List (List ℕ)) (before : ℕ) (are : AreNamed before old lists) (long : length new.threads ≡ length old.threads) where
+module _ (old new : Table) (lists : List (List ℕ)) (before : ℕ) (are : OthersStand before old lists) (long : length new.threads ≡ length old.threads) where
   known_before : (t : ℕ) → has t before ≡ true → t < length new.threads
   known_before t here = let lt = are.known t here in omega (arith, lt, long)
 
   -- nobody, where no priority changed
-  pub none_named : RunOn old new → KeepsExec old new → AreNamed before new lists
+  pub none_named : RunOn old new → KeepsExec old new → OthersStand before new lists
   none_named runs same = stand_on old new lists before before known_before (λ t out. out) (λ t out. runs t) (λ t out free. same t (let lt = free.known in omega (arith, lt, long))) are
 
   -- the one that is told
-  pub told_named : (after : ℕ) (r : Option ℕ) → RunOn old new → TakesIn r before after → TellsMoved old new r → AreNamed after new lists
+  pub told_named : (after : ℕ) (r : Option ℕ) → RunOn old new → TakesIn r before after → TellsMoved old new r → OthersStand after new lists
   told_named after r runs takes told =
       stand_on old new lists before after (taken_known r (length new.threads) before after takes (told_there old new r told) known_before)
       (λ t out. (both_out r t before after takes out).0) (λ t out. runs t) (λ t out free. keeps old new r told t free (both_out r t before after takes out).1) are
@@ -77,7 +77,7 @@ module _ (old new : Table) (lists : List (List ℕ)) (before : ℕ) (are : AreNa
   -- a thread, and two that are told beside it
   pub all_named : (mid next after t : ℕ) (a b : Option ℕ) → t < length old.threads → ((u : ℕ) → u ≢ t → thread_at new u ≡ thread_at old u) →
       Turns t true before mid → TakesIn a mid next → TakesIn b next after → IfSome a (λ u. u < length new.threads) → IfSome b (λ u. u < length new.threads) →
-      KeepsOthers t a b old new → AreNamed after new lists
+      KeepsOthers t a b old new → OthersStand after new lists
   all_named mid next after t a b lt others turns first second a_there b_there same =
       stand_on old new lists before after
       (taken_known b (length new.threads) next after second b_there (taken_known a (length new.threads) mid next first a_there (turned_known t (length new.threads) before mid turns (omega (arith, lt, long)) known_before)))
@@ -95,36 +95,36 @@ module _ (old new : Table) (lists : List (List ℕ)) (before : ℕ) (are : AreNa
 
 -- ---- one thread changes
 
-module _ (old new : Table) (lists : List (List ℕ)) (before t : ℕ) (f : Thread Cursor → Thread Cursor) (is_new : new ≡ with_thread t f old) (are : AreNamed before old lists) where
+module _ (old new : Table) (lists : List (List ℕ)) (before t : ℕ) (f : Thread Cursor → Thread Cursor) (is_new : new ≡ with_thread t f old) (are : OthersStand before old lists) where
   others_same : (u : ℕ) → u ≢ t → thread_at new u ≡ thread_at old u
   others_same u other = ap (λ (x : Table). thread_at x u) is_new ∙ changed-other no_thread no_thread t u f old.threads (grind (arith, other))
 
   runs_on : ((th : Thread Cursor) → is_runnable th.status ≡ true → is_runnable (f th).status ≡ true) → RunOn old new
   runs_on goes = subst (RunOn old) (sym is_new) (run_on old t f goes)
 
-  pub none_thread : ((th : Thread Cursor) → is_runnable th.status ≡ true → is_runnable (f th).status ≡ true) → KeepsExec old new → AreNamed before new lists
+  pub none_thread : ((th : Thread Cursor) → is_runnable th.status ≡ true → is_runnable (f th).status ≡ true) → KeepsExec old new → OthersStand before new lists
   none_thread goes same = none_named old new lists before are (as_many old new t f is_new) (runs_on goes) same
 
   pub told_thread : (after : ℕ) (r : Option ℕ) → ((th : Thread Cursor) → is_runnable th.status ≡ true → is_runnable (f th).status ≡ true) → TakesIn r before after →
-      TellsMoved old new r → AreNamed after new lists
+      TellsMoved old new r → OthersStand after new lists
   told_thread after r goes takes told = told_named old new lists before are (as_many old new t f is_new) after r (runs_on goes) takes told
 
   -- it is named itself
   pub self_thread : (mid after : ℕ) (r : Option ℕ) → t < length old.threads → Turns t true before mid → TakesIn r mid after → IfSome r (λ u. u < length new.threads) →
-      KeepsOthers t r None old new → AreNamed after new lists
+      KeepsOthers t r None old new → OthersStand after new lists
   self_thread mid after r lt turns takes there keeps =
       all_named old new lists before are (as_many old new t f is_new) mid after after t r None lt others_same turns takes refl there tt keeps
 
 -- ---- one mutex changes
 
 pub told_mutex : (old new : Table) (lists : List (List ℕ)) (before after k : ℕ) (f : Mutex → Mutex) (r : Option ℕ) → new ≡ with_mutex k f old → TakesIn r before after → TellsMoved old new r →
-    AreNamed before old lists → AreNamed after new lists
+    OthersStand before old lists → OthersStand after new lists
 told_mutex old new lists before after k f r is_new takes told are =
     let threads = ap (λ (x : Table). x.threads) is_new in
     told_named old new lists before are (ap length threads) after r (subst (RunOn old) (sym is_new) (λ t runs. runs)) takes told
 
 pub none_mutex : (old new : Table) (lists : List (List ℕ)) (before k : ℕ) (f : Mutex → Mutex) → new ≡ with_mutex k f old → KeepsExec old new →
-    AreNamed before old lists → AreNamed before new lists
+    OthersStand before old lists → OthersStand before new lists
 none_mutex old new lists before k f is_new same are =
     let threads = ap (λ (x : Table). x.threads) is_new in
     none_named old new lists before are (ap length threads) (subst (RunOn old) (sym is_new) (λ t runs. runs)) same
@@ -135,9 +135,9 @@ module _ (old new : Table) (k t : ℕ) (g : Mutex → Mutex) (f : Thread Cursor 
   pub handed_many : length new.threads ≡ length old.threads
   handed_many = as_many (with_mutex k g old) new t f is_new
 
-  pub handed_named : (lists : List (List ℕ)) (before mid next after : ℕ) (a b : Option ℕ) → AreNamed before old lists → t < length old.threads →
+  pub handed_named : (lists : List (List ℕ)) (before mid next after : ℕ) (a b : Option ℕ) → OthersStand before old lists → t < length old.threads →
       Turns t true before mid → TakesIn a mid next → TakesIn b next after → IfSome a (λ u. u < length new.threads) → IfSome b (λ u. u < length new.threads) →
-      KeepsOthers t a b old new → AreNamed after new lists
+      KeepsOthers t a b old new → OthersStand after new lists
   handed_named lists before mid next after a b are lt turns first second a_there b_there same =
       all_named old new lists before are handed_many mid next after t a b lt
       (λ u other. ap (λ (x : Table). thread_at x u) is_new ∙ changed-other no_thread no_thread t u f old.threads (grind (arith, other))) turns first second a_there b_there same

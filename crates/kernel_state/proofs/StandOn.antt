@@ -12,7 +12,7 @@ use Rattle.thread_table.specs.Movers.{IsFree}
 use Rattle.thread_table.specs.Table.{Table, exec, thread_at, with_thread}
 use Rattle.thread_table.proofs.Movers.{runs_free}
 use Rattle.kernel_state.specs.Members.{HasNoneFrom, IsFirstFrom, TakesIn, Turns, has}
-use Rattle.kernel_state.specs.Standing.{AreNamed, ComesNext, StandsRight}
+use Rattle.kernel_state.specs.Standing.{OthersStand, ComesNext, StandsRight}
 use Rattle.kernel_state.proofs.OnLists.{gone, gone_apart, head_apart, head_there, tail_apart, tail_there}
 use Rattle.kernel_state.proofs.SettleIs.{runs_known}
 use Rattle.kernel_state.proofs.Waits.{running_waits}
@@ -47,8 +47,8 @@ taken_known (Some t) n before after takes lt known u here = turned_known t n bef
 
 -- ---- one thread is put somewhere
 
-pub put_right : (bits after : ℕ) (table : Table) (lists new : List (List ℕ)) (t : ℕ) → AreNamed bits table lists → Turns t false bits after → length new ≡ length lists →
-    ((u : ℕ) → u ≢ t → prio_of u new ≡ prio_of u lists) → StandsRight table new t → AreNamed after table new
+pub put_right : (bits after : ℕ) (table : Table) (lists new : List (List ℕ)) (t : ℕ) → OthersStand bits table lists → Turns t false bits after → length new ≡ length lists →
+    ((u : ℕ) → u ≢ t → prio_of u new ≡ prio_of u lists) → StandsRight table new t → OthersStand after table new
 put_right bits after table lists new t are turns long same right = record {
   every = long ∙ are.every;
   known = λ u here. (let other : u ≢ t = (λ (e : u ≡ t). not_both (has u after) here (rw e turns.itself)) in are.known u (sym (turns.others u other) ∙ here));
@@ -76,24 +76,24 @@ nowhere table lists t at = record {
   there = λ p e. absurd (let h : None ≡ Some p = sym at ∙ e in cc);
 }
 
-module _ (bits after : ℕ) (table : Table) (lists : List (List ℕ)) (t : ℕ) (are : AreNamed bits table lists) (turns : Turns t false bits after) where
-  pub put_tail : (p : ℕ) → p ≡ exec table t → 1 ≤ p → p ≤ 255 → is_runnable (thread_at table t).status ≡ true → AreNamed after table (to_tail t p lists)
+module _ (bits after : ℕ) (table : Table) (lists : List (List ℕ)) (t : ℕ) (are : OthersStand bits table lists) (turns : Turns t false bits after) where
+  pub put_tail : (p : ℕ) → p ≡ exec table t → 1 ≤ p → p ≤ 255 → is_runnable (thread_at table t).status ≡ true → OthersStand after table (to_tail t p lists)
   put_tail p is some small runs =
       let fits : p - 1 < length lists = omega (arith, some, small, are.every) in
       put_right bits after table lists (to_tail t p lists) t are turns (tail_length t p lists) (λ u other. tail_apart t u p lists fits other)
       (home table (to_tail t p lists) t runs (tail_there t p lists some fits ∙ ap (λ (n : ℕ). Some n) is))
 
-  pub put_head : (p : ℕ) → p ≡ exec table t → 1 ≤ p → p ≤ 255 → is_runnable (thread_at table t).status ≡ true → AreNamed after table (to_head t p lists)
+  pub put_head : (p : ℕ) → p ≡ exec table t → 1 ≤ p → p ≤ 255 → is_runnable (thread_at table t).status ≡ true → OthersStand after table (to_head t p lists)
   put_head p is some small runs =
       let fits : p - 1 < length lists = omega (arith, some, small, are.every) in
       put_right bits after table lists (to_head t p lists) t are turns (head_length t p lists) (λ u other. head_apart t u p lists fits other)
       (home table (to_head t p lists) t runs (head_there t p lists some fits ∙ ap (λ (n : ℕ). Some n) is))
 
-  pub taken_off : AreNamed after table (without t lists)
+  pub taken_off : OthersStand after table (without t lists)
   taken_off =
       put_right bits after table lists (without t lists) t are turns (without_length t lists) (λ u other. gone_apart t u lists other) (nowhere table (without t lists) t (gone t lists))
 
-  pub forgotten : StandsRight table lists t → AreNamed after table lists
+  pub forgotten : StandsRight table lists t → OthersStand after table lists
   forgotten right = put_right bits after table lists lists t are turns refl (λ u other. refl) right
 
 -- ---- threads and mutexes change
@@ -103,7 +103,7 @@ pub stand_on : (old new : Table) (lists : List (List ℕ)) (before after : ℕ) 
     ((t : ℕ) → has t after ≡ false → has t before ≡ false) →
     ((t : ℕ) → has t after ≡ false → is_runnable (thread_at old t).status ≡ true → is_runnable (thread_at new t).status ≡ true) →
     ((t : ℕ) → has t after ≡ false → IsFree new t → exec new t ≡ exec old t) →
-    AreNamed before old lists → AreNamed after new lists
+    OthersStand before old lists → OthersStand after new lists
 stand_on old new lists before after known still runs same are = record {
   every = are.every;
   known = known;
@@ -132,7 +132,7 @@ run_on old t f keeps u runs = each old.threads t u runs
 
 -- ---- which of them come next
 
-pub next_is : (bits from : ℕ) (table : Table) (lists : List (List ℕ)) (r : Option ℕ) → AreNamed bits table lists → MatchOption r (HasNoneFrom from bits) (λ t. IsFirstFrom from bits t) →
+pub next_is : (bits from : ℕ) (table : Table) (lists : List (List ℕ)) (r : Option ℕ) → OthersStand bits table lists → MatchOption r (HasNoneFrom from bits) (λ t. IsFirstFrom from bits t) →
     MatchOption r ((t : ℕ) → from ≤ t → StandsRight table lists t) (λ t. ComesNext table lists from t)
 next_is bits from table lists None are none = λ t low. are.others t (none t low)
 next_is bits from table lists (Some t) are first = record {
@@ -141,7 +141,7 @@ next_is bits from table lists (Some t) are first = record {
   between = λ u low small. are.others u (first.between u low small);
 }
 
-pub next_known : (bits from n : ℕ) (table : Table) (lists : List (List ℕ)) (r : Option ℕ) → n ≡ length table.threads → AreNamed bits table lists →
+pub next_known : (bits from n : ℕ) (table : Table) (lists : List (List ℕ)) (r : Option ℕ) → n ≡ length table.threads → OthersStand bits table lists →
     MatchOption r (HasNoneFrom from bits) (λ t. IsFirstFrom from bits t) → IfSome r (λ t. t < n)
 next_known bits from n table lists None same are none = tt
 next_known bits from n table lists (Some t) same are first = let lt = are.known t first.itself in omega (arith, same, lt)
@@ -156,7 +156,7 @@ reads_nowhere q t zero = refl
 reads_nowhere q t (suc n) = reads_nowhere (q + 1) t n
 
 -- all lists are empty, and nobody is named
-pub none_named_at_first : (bits : ℕ) (table : Table) → ((t : ℕ) → has t bits ≡ false) → AreNamed bits table empty_lists
+pub none_named_at_first : (bits : ℕ) (table : Table) → ((t : ℕ) → has t bits ≡ false) → OthersStand bits table empty_lists
 none_named_at_first bits table out = record {
   every = refl;
   known = λ t here. not_both (has t bits) here (out t);

@@ -13,7 +13,7 @@ pub record StandsRight (table : Table) (lists : List (List ℕ)) (t : ℕ) : Typ
   pub there : (p : ℕ) → prio_of t lists ≡ Some p → exec table t ≡ p
 
 -- each thread that is not named stands right
-pub record AreNamed (bits : ℕ) (table : Table) (lists : List (List ℕ)) : Type 0 where
+pub record OthersStand (bits : ℕ) (table : Table) (lists : List (List ℕ)) : Type 0 where
   pub every : length lists ≡ 255
   pub known : (t : ℕ) → has t bits ≡ true → t < length table.threads
   pub others : (t : ℕ) → has t bits ≡ false → StandsRight table lists t

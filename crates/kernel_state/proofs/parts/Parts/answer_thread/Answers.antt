@@ -11,5 +11,5 @@ invariant_of-self c =
     let f : Thread Cursor → Thread Cursor = answered c.args.res c.args.value in
     record {
       tied = tied_again s.names s.code s.ready.threads s.table.threads w.new.self.threads s.direct.items (as_many s.table w.new.self c.args.t f w.ensures.table) c.self.invariant.tied;
-      placed = none_thread s.table w.new.self s.ready.lists s.named.bits c.args.t f w.ensures.table c.self.invariant.placed (λ th h. h) w.ensures.same;
+      stand = none_thread s.table w.new.self s.ready.lists s.named.bits c.args.t f w.ensures.table c.self.invariant.stand (λ th h. h) w.ensures.same;
     }

@@ -10,5 +10,5 @@ invariant_of-self c =
     let right = subst (λ (k : Kernel). MachineStands k.machine c.args.t) (sym c.self.view_is) c.requires.right in
     record {
       tied = c.self.invariant.tied;
-      placed = forgotten s.named.bits c.remove.new.self.bits s.table s.ready.lists c.args.t c.self.invariant.placed c.remove.ensures right;
+      stand = forgotten s.named.bits c.remove.new.self.bits s.table s.ready.lists c.args.t c.self.invariant.stand c.remove.ensures right;
     }

@@ -10,6 +10,6 @@ invariant_of-self c =
     let runs = subst (λ (k : Kernel). can_run k.machine c.args.t ≡ true) (sym c.self.view_is) c.requires.runs in
     record {
       tied = rw c.to_head.ensures c.self.invariant.tied;
-      placed = rw c.to_head.ensures (put_head s.named.bits c.remove.new.self.bits s.table s.ready.lists c.args.t c.self.invariant.placed c.remove.ensures c.exec-p.result c.exec-p.ensures
+      stand = rw c.to_head.ensures (put_head s.named.bits c.remove.new.self.bits s.table s.ready.lists c.args.t c.self.invariant.stand c.remove.ensures c.exec-p.result c.exec-p.ensures
           (omega (arith, c.get.ensures)) (omega (arith, c.get.ensures)) runs);
     }

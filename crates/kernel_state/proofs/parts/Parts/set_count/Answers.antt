@@ -10,5 +10,5 @@ invariant_of-self c =
     let w = c.set_count in
     record {
       tied = tied_again s.names s.code s.ready.threads s.table.threads w.new.self.threads s.direct.items (ap (λ (x : Table). length x.threads) w.ensures.table) c.self.invariant.tied;
-      placed = none_mutex s.table w.new.self s.ready.lists s.named.bits c.args.k (counted c.args.n) w.ensures.table w.ensures.same c.self.invariant.placed;
+      stand = none_mutex s.table w.new.self s.ready.lists s.named.bits c.args.k (counted c.args.n) w.ensures.table w.ensures.same c.self.invariant.stand;
     }

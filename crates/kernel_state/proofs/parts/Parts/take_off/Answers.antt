@@ -6,5 +6,5 @@ invariant_of-self c =
     let s = c.self.inside in
     record {
       tied = rw c.remove.ensures c.self.invariant.tied;
-      placed = rw c.remove.ensures (taken_off s.named.bits c.remove-2.new.self.bits s.table s.ready.lists c.args.t c.self.invariant.placed c.remove-2.ensures);
+      stand = rw c.remove.ensures (taken_off s.named.bits c.remove-2.new.self.bits s.table s.ready.lists c.args.t c.self.invariant.stand c.remove-2.ensures);
     }

@@ -15,5 +15,5 @@ invariant_of-self c =
     let f : Thread Cursor → Thread Cursor = λ th. (in_unit (flat_bodies s.code) th).thread in
     record {
       tied = tied_again s.names s.code s.ready.threads s.table.threads w.new.self.threads s.direct.items (as_many s.table w.new.self c.args.t f w.ensures.table) c.self.invariant.tied;
-      placed = none_thread s.table w.new.self s.ready.lists s.named.bits c.args.t f w.ensures.table c.self.invariant.placed (λ th h. unit_keeps (flat_bodies s.code) (λ (x : Thread Cursor). is_runnable x.status) (λ x fs us. refl) th ∙ h) w.ensures.same;
+      stand = none_thread s.table w.new.self s.ready.lists s.named.bits c.args.t f w.ensures.table c.self.invariant.stand (λ th h. unit_keeps (flat_bodies s.code) (λ (x : Thread Cursor). is_runnable x.status) (λ x fs us. refl) th ∙ h) w.ensures.same;
     }
