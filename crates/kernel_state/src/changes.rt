@@ -143,7 +143,7 @@ impl Parts {
         ensures value { Some result ≡ option_map replenishment (thread_at self.old.machine t).server }
         ensures state { self.new ≡ after (changes t (with_server plan)) self.old }
     {
-        let (planned, moved) = self.table.plan_telling(t);
+        let (planned, moved) = self.table.plan(t);
         self.named.take_in(&moved);
         planned
     }
@@ -154,7 +154,7 @@ impl Parts {
         ensures value { Some result ≡ option_map refilled_of (thread_at self.old.machine t).server }
         ensures state { self.new ≡ after (changes t (with_server refill)) self.old }
     {
-        let (refilled, moved) = self.table.refill_telling(t);
+        let (refilled, moved) = self.table.refill(t);
         self.named.take_in(&moved);
         refilled
     }

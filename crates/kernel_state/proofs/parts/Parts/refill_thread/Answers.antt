@@ -8,7 +8,7 @@ use Rattle.kernel_state.proofs.parts.Parts.refill_thread.Goals as goal
 pub invariant_of-self : goal.invariant_of-self
 invariant_of-self c =
     let s = c.self.inside in
-    let w = c.refill_telling-moved in
+    let w = c.refill-moved in
     let f : Thread Cursor → Thread Cursor = with_server refill in
     record {
       tied = tied_again s.names s.code s.ready.threads s.table.threads w.new.self.threads s.direct.items (as_many s.table w.new.self c.args.t f w.ensures.table) c.self.invariant.tied;
@@ -18,6 +18,6 @@ invariant_of-self c =
 pub take_in-requires : goal.take_in-requires
 take_in-requires c =
     let s = c.self.inside in
-    let w = c.refill_telling-moved in
+    let w = c.refill-moved in
     let f : Thread Cursor → Thread Cursor = with_server refill in
     fit s.table w.new.self w.result.1 (as_many s.table w.new.self c.args.t f w.ensures.table) c.self.invariant.tied.few (told_there s.table w.new.self w.result.1 w.ensures.moved)
