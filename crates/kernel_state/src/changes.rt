@@ -1,4 +1,4 @@
-// The smallest changes of a thread.
+// The smallest changes of a thread. Each names those that may no longer stand where they are to stand.
 ghost use Rattle.std.specs.Prelude.{◌≡◌, ◌≤◌, ◌<◌, ◌^◌, length, option_map, true, false};
 ghost use Rattle.sporadic_server.specs.Server.{activate};
 ghost use Rattle.machine_rules.specs.Servers.{with_server};
