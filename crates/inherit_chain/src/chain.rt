@@ -1,12 +1,12 @@
 // Owners, mutex waits, and the execution priorities that follow from them.
-ghost use Rattle.std.specs.Prelude.{◌≡◌, ◌<◌, ◌≤◌, IfOk, IfSome, IsSome, None, Some, false, is_some, length};
+ghost use Rattle.std.specs.Prelude.{◌≡◌, ◌<◌, ◌≤◌, IfOk, IfSome, IsSome, None, Some, false, is_some, length, ℕ};
 ghost use Rattle.std.specs.Prelude.{filter};
 ghost use Rattle.std.specs.List.{list_any};
 ghost use Rattle.machine_rules.specs.Lists.{is};
 ghost use Rattle.machine_rules.specs.Mutexes.{freed, is_boosting, taken_by};
 ghost use Rattle.machine_rules.specs.State.{Mutex};
 ghost use Rattle.wait_lists.specs.Places.{place_in};
-ghost use Rattle.inherit_chain.specs.Chains.{Links, OwnersAreThreads, SameExec, assigned_at, counted, assigned_to, awaited_in, closes_cycle_in, exec_of, mutex_at, waiting_for, with_claim, with_mutex};
+ghost use Rattle.inherit_chain.specs.Chains.{IsPriority, Links, OwnersAreThreads, SameExec, assigned_at, counted, assigned_to, awaited_in, closes_cycle_in, exec_of, mutex_at, waiting_for, with_claim, with_mutex};
 ghost use Rattle.inherit_chain.specs.Fresh.{fresh};
 ghost use Rattle.inherit_chain.specs.Moves.{Changes, IsPlaced, entered, left};
 
@@ -113,6 +113,13 @@ impl Chain {
         ensures { OwnersAreThreads self.now.claims self.now.mutexes }
     {
         let _ = &self.mutexes;
+    }
+
+    /// Costs nothing when it runs: each execution priority is in its range.
+    pub fn priorities_fit(&self)
+        ensures { (t : ℕ) → t < length self.now.claims → IsPriority (exec_of self.now t) }
+    {
+        let _ = &self.exec;
     }
 
     /// Whether owners and their mutex waits lead from the mutex to the thread.

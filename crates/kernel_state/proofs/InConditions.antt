@@ -1,15 +1,15 @@
 -- Who waits for a condition, looked at thread by thread.
-use Rattle.std.proofs.Common.{◌≡◌, ◌<◌, ◌≤◌, ◌+◌, ◌∙◌, ℕ, zero, suc, Bool, true, false, List, [], ◌∷◌, Option, None, Some, ap, arith, drop, get_or, length, refl, subst, sym}
+use Rattle.std.proofs.Common.{◌≡◌, ◌<◌, ◌≤◌, ◌+◌, ℕ, zero, suc, Bool, true, false, List, [], ◌∷◌, Option, None, Some, ap, arith, drop, get_or, length, refl, sym}
 use Rattle.std.specs.Prelude.{option_and_then, option_map, if◌then◌else◌}
 use Rattle.std.specs.List.{filter_map, list_any}
 use Rattle.std.specs.Option.{option_map_or}
 use Rattle.std.proofs.lemmas.List.{drop_more}
 use Rattle.script_flat.specs.declared.cursor.Cursor.{Cursor}
 use Rattle.machine_rules.specs.Conditions.{released_mutex}
-use Rattle.machine_rules.specs.Lists.{kept_if, numbers_from}
+use Rattle.machine_rules.specs.Lists.{numbers_from}
 use Rattle.machine_rules.specs.Priorities.{exec}
 use Rattle.machine_rules.specs.State.{Machine, Thread, Wait, Waiting}
-use Rattle.machine_rules.specs.Threads.{no_thread, thread_at, waiting_in, waiting_of}
+use Rattle.machine_rules.specs.Threads.{no_thread, thread_at, waiting_of}
 use Rattle.machine_rules.specs.Waiters.{Waiter, waiter_of, waiters, waits_so}
 use Rattle.machine_moves.proofs.Waiters.Best.{Each}
 use Rattle.machine_moves.proofs.Waiters.Best.{all_pass}

@@ -1,14 +1,14 @@
 -- Every execution priority is in its range, where those of the threads are: what no thread has the number of owns nothing.
-use Rattle.std.proofs.Common.{◌≡◌, ◌<◌, ◌≤◌, ◌⊎◌, inl, inr, ℕ, zero, suc, List, [], ◌∷◌, ◌+◌, ap, arith, length, refl, sym, ◌∙◌}
-use Rattle.std.specs.Prelude.{◌&&◌, Bool, Option, Some, None, false, flat_map, map, max, slice_index_or}
+use Rattle.std.proofs.Common.{◌≡◌, ◌<◌, ◌≤◌, ◌⊎◌, inl, inr, ℕ, zero, suc, List, [], ◌∷◌, ◌+◌, ap, arith, length, refl}
+use Rattle.std.specs.Prelude.{◌&&◌, Bool, Option, Some, None, false, map, slice_index_or}
 use Rattle.std.proofs.lemmas.List.{length-map}
 use Rattle.std.proofs.Math.ListN.{get_or-eq_default}
-use Rattle.kernel_state.specs.Settled.{HavePriorities, IsPriority}
+use Rattle.kernel_state.specs.Settled.{HavePriorities}
 use Rattle.machine_rules.specs.Lists.{greatest, is, numbers_from}
-use Rattle.machine_rules.specs.State.{Machine, Mutex, Thread}
+use Rattle.machine_rules.specs.State.{Machine, Mutex}
 use Rattle.machine_rules.specs.Threads.{mutex_in, no_mutex}
-use Rattle.machine_rules.specs.Priorities.{Claim, assigned_in, base_in, ceiling_for, claim_of, claims, exec, exec_in, exec_within, is_inherit, lenders_in, lends_to}
-use Rattle.inherit_chain.specs.Chains.{OwnersAreThreads}
+use Rattle.machine_rules.specs.Priorities.{Claim, base_in, ceiling_for, claim_of, claims, exec, exec_in, exec_within, is_inherit, lenders_in, lends_to}
+use Rattle.inherit_chain.specs.Chains.{IsPriority, OwnersAreThreads}
 
 -- the thread owns none of these
 abbrev OwnsNone : ℕ → List Mutex → Type 0

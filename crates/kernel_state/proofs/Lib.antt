@@ -12,3 +12,7 @@ pub mod Closing
 pub mod Waits
 pub mod InConditions
 pub mod Nearest
+pub mod Words
+pub mod OnLists
+pub mod StandOn
+pub mod Carried

@@ -2,9 +2,9 @@
 use Rattle.std.proofs.Common.{◌≡◌, ◌<◌, ◌∙◌, ℕ, zero, suc, Bool, true, false, List, [], ◌∷◌, Option, None, Some, arith, length, refl}
 use Rattle.std.specs.Prelude.{IfSome, option_map}
 use Rattle.script_flat.specs.declared.cursor.Cursor.{Cursor}
-use Rattle.machine_rules.specs.State.{Machine, Status, Thread, Wait, Waiting, blocked, dormant, ended, for_condition, for_end, for_message, for_mutex, for_mutex_again, for_room, for_semaphore, for_signal, for_time, runnable}
+use Rattle.machine_rules.specs.State.{Machine, Status, Thread, Wait, Waiting, blocked, dormant, ended, runnable}
 use Rattle.machine_rules.specs.Threads.{can_run, is_blocked, is_runnable, thread_at, thread_in, waiting_in, waiting_of}
-use Rattle.machine_rules.specs.Priorities.{claims, mutex_awaited_by, mutex_waited}
+use Rattle.machine_rules.specs.Priorities.{claims, mutex_awaited_by}
 use Rattle.machine_rules.specs.Mutexes.{closes_cycle}
 use Rattle.machine_rules.specs.Waiters.{Waiter, best_waiter}
 use Rattle.machine_moves.proofs.Waiters.Best.{best_waits}
@@ -13,13 +13,12 @@ use Rattle.wait_lists.specs.Ties.{is_object, object_of}
 use Rattle.inherit_chain.specs.Chains.{closes_cycle_in}
 use Rattle.inherit_chain.proofs.Machine.{closes_cycle_is}
 use Rattle.thread_table.specs.Table.{CanAwait}
-use Rattle.thread_table.specs.Table as table
 use Rattle.kernel_state.specs.Waits.{CanWait}
 
 not_off : {X : Type 0} → false ≡ true → X
 not_off h = absurd cc
 
-running_waits : (status : Status) → is_runnable status ≡ true → waiting_in status ≡ None
+pub running_waits : (status : Status) → is_runnable status ≡ true → waiting_in status ≡ None
 running_waits (dormant at) h = not_off h
 running_waits runnable h = refl
 running_waits (blocked w) h = not_off h

@@ -1,4 +1,6 @@
 pub mod Kernel
+pub mod Members
+pub mod Standing
 pub mod Tied
 pub mod View
 pub mod Settled

@@ -1,4 +1,4 @@
-// The smallest changes of a thread.
+// The smallest changes of a thread. Each names those that may no longer stand where they are to stand.
 ghost use Rattle.std.specs.Prelude.{◌≡◌, ◌≤◌, ◌<◌, ◌^◌, length, option_map, true, false};
 ghost use Rattle.sporadic_server.specs.Server.{activate};
 ghost use Rattle.machine_rules.specs.Servers.{with_server};
@@ -43,7 +43,8 @@ impl Parts {
         requires { t < length self.old.names }
         ensures { self.new ≡ after (changes t (woken res value)) self.old }
     {
-        self.table.wake(t, res, value);
+        let moved = self.table.wake(t, res, value);
+        self.named.take_in(&moved);
     }
 
     #[tactic(auto, using(crate::proofs::Waits::can_await))]
@@ -53,7 +54,9 @@ impl Parts {
         requires may { CanWait self.old.machine t (mutex_waited (wait_of waiting.wait)) }
         ensures { self.new ≡ after (changes t (put_to_wait (waiting_of waiting))) self.old }
     {
-        self.table.block(t, waiting);
+        let moved = self.table.block(t, waiting);
+        self.named.add(t);
+        self.named.take_in(&moved);
     }
 
     pub fn activate_thread(&mut self, t: Tid)
@@ -84,7 +87,9 @@ impl Parts {
         ensures { self.new ≡ after (changes t (started (flat_bodies self.old.code) t mask self.old.machine.now)) self.old }
     {
         let main = self.main_frame(t);
-        self.table.start(t, mask, self.instant, main);
+        let moved = self.table.start(t, mask, self.instant, main);
+        self.named.add(t);
+        self.named.take_in(&moved);
     }
 
     pub fn set_thread_priority(&mut self, t: Tid, p: Prio)
@@ -92,7 +97,8 @@ impl Parts {
         requires takes { takes_priority (thread_at self.old.machine t).policy p ≡ true }
         ensures { self.new ≡ after (changes t (with_priority p)) self.old }
     {
-        self.table.set_priority(t, p);
+        let moved = self.table.set_priority(t, p);
+        self.named.take_in(&moved);
     }
 
     pub fn set_thread_policy(&mut self, t: Tid, new: Policy)
@@ -100,7 +106,8 @@ impl Parts {
         requires early { self.old.machine.now ≤ 10 ^ 18 }
         ensures { self.new ≡ after (changes t (with_policy new self.old.machine.now)) self.old }
     {
-        self.table.set_policy(t, new, self.instant);
+        let moved = self.table.set_policy(t, new, self.instant);
+        self.named.take_in(&moved);
     }
 
     /// The unit that a thread is in, or takes next.
@@ -126,7 +133,9 @@ impl Parts {
         requires { t < length self.old.names }
         ensures { self.new ≡ after (changes t without_life) self.old }
     {
-        self.table.end(t);
+        let moved = self.table.end(t);
+        self.named.add(t);
+        self.named.take_in(&moved);
     }
 
     pub fn plan_thread(&mut self, t: Tid) -> Replenish
@@ -135,7 +144,9 @@ impl Parts {
         ensures value { Some result ≡ option_map replenishment (thread_at self.old.machine t).server }
         ensures state { self.new ≡ after (changes t (with_server plan)) self.old }
     {
-        self.table.plan(t)
+        let (planned, moved) = self.table.plan(t);
+        self.named.take_in(&moved);
+        planned
     }
 
     pub fn refill_thread(&mut self, t: Tid) -> Refilled
@@ -144,6 +155,8 @@ impl Parts {
         ensures value { Some result ≡ option_map refilled_of (thread_at self.old.machine t).server }
         ensures state { self.new ≡ after (changes t (with_server refill)) self.old }
     {
-        self.table.refill(t)
+        let (refilled, moved) = self.table.refill(t);
+        self.named.take_in(&moved);
+        refilled
     }
 }

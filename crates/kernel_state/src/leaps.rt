@@ -28,7 +28,8 @@ impl Parts {
         ensures state { self.new ≡ after (changes t (after_ticks k)) self.old }
         ensures thread { thread_at self.new.machine t ≡ after_ticks k (thread_at self.old.machine t) }
     {
-        self.table.charge(t, k);
+        let moved = self.table.charge(t, k);
+        self.named.take_in(&moved);
     }
 
     fn pass(&mut self, k: u64)

@@ -9,6 +9,7 @@ mod leaps;
 mod lists;
 mod lives;
 mod mutexes;
+mod named;
 mod open;
 mod parts;
 mod report;

@@ -1,8 +1,10 @@
 // The ready lists, and the priorities that threads stand at.
-ghost use Rattle.std.specs.Prelude.{◌≡◌, ℕ, ◌<◌, length, IfSome};
+ghost use Rattle.std.specs.Prelude.{◌≡◌, ◌<◌, IfSome, MatchOption, length, true};
 ghost use Rattle.ready_lists.specs.Lists.{AreReadyLists, highest, prio_of, to_head, to_tail, without};
 ghost use Rattle.machine_rules.specs.Priorities.{exec};
-ghost use Rattle.kernel_state.specs.Settled.{HavePriorities, IsPriority, with_lists};
+ghost use Rattle.machine_rules.specs.Threads.{can_run};
+ghost use Rattle.kernel_state.specs.Settled.{with_lists};
+ghost use Rattle.kernel_state.specs.Standing.{IsNext, MachineStands, StandFrom};
 ghost use Rattle.kernel_state.specs.Kernel.{after};
 ghost use Rattle.machine_rules.specs.Mutexes.{moves_unless_boosted};
 
@@ -25,18 +27,28 @@ impl Parts {
         self.ready.prio_of(t)
     }
 
-    pub fn put_last(&mut self, t: Tid, p: Prio)
-        requires { t < length self.old.names }
-        ensures { self.new ≡ with_lists (to_tail t p) self.old }
+    /// It becomes the tail of the list of its execution priority.
+    pub(crate) fn put_last(&mut self, t: Tid)
+        requires known { t < length self.old.names }
+        requires runs { can_run self.old.machine t ≡ true }
+        ensures { self.new ≡ with_lists (to_tail t (exec self.old.machine t)) self.old }
     {
+        let p = self.table.exec(t);
+        let _ = p.get();
         self.ready.to_tail(t, p);
+        self.named.remove(t);
     }
 
-    pub fn put_first(&mut self, t: Tid, p: Prio)
-        requires { t < length self.old.names }
-        ensures { self.new ≡ with_lists (to_head t p) self.old }
+    /// It becomes the head of the list of its execution priority.
+    pub(crate) fn put_first(&mut self, t: Tid)
+        requires known { t < length self.old.names }
+        requires runs { can_run self.old.machine t ≡ true }
+        ensures { self.new ≡ with_lists (to_head t (exec self.old.machine t)) self.old }
     {
+        let p = self.table.exec(t);
+        let _ = p.get();
         self.ready.to_head(t, p);
+        self.named.remove(t);
     }
 
     /// The head of the highest list.
@@ -49,19 +61,29 @@ impl Parts {
         self.ready.highest()
     }
 
-    pub fn take_off(&mut self, t: Tid)
+    pub(crate) fn take_off(&mut self, t: Tid)
+        requires { t < length self.old.names }
         ensures { self.new ≡ with_lists (without t) self.old }
     {
         self.ready.remove(t);
+        self.named.remove(t);
     }
 
-    // Costs nothing when it runs: no priority is out of its range.
-    #[tactic(auto, using(crate::proofs::InRange::all_small))]
-    pub(crate) fn fits(&self)
-        requires { (t : ℕ) → t < length self.now.machine.threads → IsPriority (exec self.now.machine t) }
-        ensures { HavePriorities self.now.machine }
+    /// The first named thread from that number on. Those before it, from that number on, stand right; where there is none, all do.
+    pub(crate) fn next_named(&self, from: u16) -> Option<Tid>
+        ensures next { MatchOption result (StandFrom self.now.machine from) (λ t. IsNext self.now.machine from t) }
+        ensures known { IfSome result (λ t. t < length self.now.names) }
     {
-        self.table.owners_are_threads();
+        self.named.first_from(from)
+    }
+
+    /// A thread that stands right is named no more.
+    pub(crate) fn forget(&mut self, t: Tid)
+        requires known { t < length self.old.names }
+        requires right { MachineStands self.old.machine t }
+        ensures { self.new ≡ self.old }
+    {
+        self.named.remove(t);
     }
 
     /// It becomes the tail of its list at the next settling, unless it owns a mutex that can raise its priority.

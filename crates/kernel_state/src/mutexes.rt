@@ -69,7 +69,8 @@ impl Parts {
         requires waits_not { mutex_awaited_by (thread_at self.old.machine t) ≡ None }
         ensures { self.new ≡ after (changes_mutex k (taken_by t)) self.old }
     {
-        self.table.take(k, t);
+        let moved = self.table.take(k, t);
+        self.named.take_in(&moved);
     }
 
     /// The mutex, which the thread owned, is free.
@@ -78,7 +79,8 @@ impl Parts {
         requires owned { (mutex_at self.old.machine k).owner ≡ Some t }
         ensures { self.new ≡ after (changes_mutex k freed) self.old }
     {
-        self.table.release(k, t);
+        let moved = self.table.release(k, t);
+        self.named.take_in(&moved);
     }
 
     // The mutex goes from its owner to a thread that is runnable again.
@@ -88,7 +90,10 @@ impl Parts {
         requires owned { (mutex_at self.old.machine k).owner ≡ Some owner }
         ensures { self.new ≡ after (λ s. s ▷ changes_mutex k (taken_by t) ▷ changes t (woken res 0)) self.old }
     {
-        self.table.hand_over(k, owner, t, res, 0);
+        let (released, woken) = self.table.hand_over(k, owner, t, res, 0);
+        self.named.add(t);
+        self.named.take_in(&released);
+        self.named.take_in(&woken);
     }
 
     /// The mutex goes from its owner to a waiter, which wakes with that answer.

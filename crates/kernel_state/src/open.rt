@@ -7,6 +7,7 @@ ghost use Rattle.kernel_state.specs.Kernel.{Kernel, opened};
 ghost use Rattle.machine_flat.specs.Runnable.{IsRunnable};
 ghost use Rattle.kernel_state.specs.Settled.{HavePriorities};
 
+use crate::named::Named;
 use crate::parts::Parts;
 use arrayvec::ArrayVec;
 use machine_rules::LastDispatch;
@@ -82,17 +83,16 @@ impl Parts {
             next_serial: 0,
             killed: None,
             direct: ArrayVec::new(),
+            named: Named::none(),
         })
     }
 
-    /// All priorities are in their range.
+    /// Costs nothing when it runs: all priorities are in their range.
+    #[tactic(auto, using(crate::proofs::InRange::all_small))]
     pub fn know_priorities(&self)
         ensures { HavePriorities self.now.machine }
     {
-        for number in 0..self.count() {
-            let p = self.exec(self.tid(number));
-            let _ = p.get();
-        }
-        self.fits();
+        self.table.priorities_fit();
+        self.table.owners_are_threads();
     }
 }

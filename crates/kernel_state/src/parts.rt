@@ -11,6 +11,7 @@ ghost use Rattle.machine_rules.specs.Turns.{becomes, changes_pending, moves, tak
 ghost use Rattle.kernel_state.specs.Kernel.{after, ran, told};
 ghost use Rattle.std.specs.Prelude.{Some, is_some};
 
+use crate::named::Named;
 use arrayvec::ArrayVec;
 use machine_rules::LastDispatch;
 use pse52_trace::{Event, Names, Tracer};
@@ -36,12 +37,11 @@ pub struct Parts {
     pub(crate) next_serial: u64,
     pub(crate) killed: Option<u8>,
     pub(crate) direct: ArrayVec<Tid, 256>,
+    // those that may not stand where they are to stand; the others do
+    pub(crate) named: Named,
 }
 
 impl Model for Parts {
-    ghost use Rattle.ready_lists.specs.Lists.{AreReadyLists, highest, prio_of, to_head, to_tail, without};
-    ghost use Rattle.machine_rules.specs.Priorities.{exec};
-    ghost use Rattle.kernel_state.specs.Settled.{HavePriorities, IsPriority, with_lists};
     ghost use Rattle.kernel_state.specs.Kernel.{Kernel};
 
     ghost Value = { Kernel };

@@ -99,19 +99,10 @@ impl Table {
         thread_of(reassign(&self.threads, &mut self.chain, &mut self.waits, t))
     }
 
-    /// What its server consumed becomes a pending replenishment.
-    pub fn plan(&mut self, t: Tid) -> Replenish
-        requires known { t < length self.old.threads }
-        requires used { 1 ≤ consumed_in (thread_in self.old.threads t).server }
-        ensures value { Some result ≡ option_map replenishment (thread_in self.old.threads t).server }
-        ensures table { self.new ≡ with_thread t (with_server plan) self.old }
-    {
-        self.plan_telling(t).0
-    }
-
-    /// `plan`, and the one thread that stands among no waiters and whose execution priority changed; `None` exactly where there is none.
+    /// What its server consumed becomes a pending replenishment. The second answer is the one thread that stands among no waiters and whose
+    /// execution priority changed; `None` exactly where there is none.
     #[tactic(auto, using(crate::proofs::Ties::placed))]
-    pub fn plan_telling(&mut self, t: Tid) -> (Replenish, Option<Tid>)
+    pub fn plan(&mut self, t: Tid) -> (Replenish, Option<Tid>)
         requires known { t < length self.old.threads }
         requires used { 1 ≤ consumed_in (thread_in self.old.threads t).server }
         ensures value { Some result.0 ≡ option_map replenishment (thread_in self.old.threads t).server }
@@ -124,19 +115,10 @@ impl Table {
         (planned, thread_of(moved))
     }
 
-    /// The oldest pending replenishment of its server is carried out.
-    pub fn refill(&mut self, t: Tid) -> Refilled
-        requires known { t < length self.old.threads }
-        requires server { is_some (thread_in self.old.threads t).server ≡ true }
-        ensures value { Some result ≡ option_map refilled_of (thread_in self.old.threads t).server }
-        ensures table { self.new ≡ with_thread t (with_server refill) self.old }
-    {
-        self.refill_telling(t).0
-    }
-
-    /// `refill`, and the one thread that stands among no waiters and whose execution priority changed; `None` exactly where there is none.
+    /// The oldest pending replenishment of its server is carried out. The second answer is the one thread that stands among no waiters and
+    /// whose execution priority changed; `None` exactly where there is none.
     #[tactic(auto, using(crate::proofs::Ties::placed))]
-    pub fn refill_telling(&mut self, t: Tid) -> (Refilled, Option<Tid>)
+    pub fn refill(&mut self, t: Tid) -> (Refilled, Option<Tid>)
         requires known { t < length self.old.threads }
         requires server { is_some (thread_in self.old.threads t).server ≡ true }
         ensures value { Some result.0 ≡ option_map refilled_of (thread_in self.old.threads t).server }

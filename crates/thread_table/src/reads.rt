@@ -1,11 +1,11 @@
 // What can be asked of the threads and mutexes.
-ghost use Rattle.std.specs.Prelude.{◌≡◌, ◌<◌, ◌≤◌, filter, length};
+ghost use Rattle.std.specs.Prelude.{◌≡◌, ◌<◌, ◌≤◌, filter, length, ℕ};
 ghost use Rattle.std.specs.List.{list_any};
 ghost use Rattle.machine_rules.specs.Lists.{is};
 ghost use Rattle.machine_rules.specs.Mutexes.{is_boosting};
 ghost use Rattle.machine_rules.specs.State.{Mutex};
 ghost use Rattle.machine_rules.specs.Threads.{mutex_in, thread_in};
-ghost use Rattle.inherit_chain.specs.Chains.{OwnersAreThreads, closes_cycle_in};
+ghost use Rattle.inherit_chain.specs.Chains.{IsPriority, OwnersAreThreads, closes_cycle_in};
 ghost use Rattle.machine_rules.specs.Priorities.{claims};
 ghost use Rattle.thread_table.specs.Table.{exec};
 
@@ -64,6 +64,14 @@ impl Table {
         ensures { OwnersAreThreads (claims self.now.threads) self.now.mutexes }
     {
         self.chain.owners_are_threads();
+    }
+
+    /// Costs nothing when it runs: each execution priority is in its range.
+    #[tactic(auto, using(crate::proofs::Ties::exec_kept))]
+    pub fn priorities_fit(&self)
+        ensures { (t : ℕ) → t < length self.now.threads → IsPriority (exec self.now t) }
+    {
+        self.chain.priorities_fit();
     }
 
     /// Whether owners and their mutex waits lead from the mutex to the thread.

@@ -9,7 +9,7 @@ use Rattle.kernel_state.proofs.parts.Parts.best_waiter.Goals as goal
 pub returns-clause-known : goal.returns-clause-known
 returns-clause-known c =
     subst (λ (k : Kernel). IfSome c.best.result (λ t. t < length k.names)) c.self.view_is
-    (best_is_known (machine_of c.self.inside) c.args.object c.best.result c.best.ensures _ c.self.invariant.named)
+    (best_is_known (machine_of c.self.inside) c.args.object c.best.result c.best.ensures _ c.self.invariant.tied.named)
 
 pub returns-clause-blocked : goal.returns-clause-blocked
 returns-clause-blocked c =

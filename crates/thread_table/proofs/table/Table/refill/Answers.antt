@@ -6,7 +6,7 @@ use Rattle.thread_table.proofs.Moved.{reassigned_tied}
 use Rattle.std.proofs.lemmas.List.{length-set}
 use Rattle.thread_table.proofs.Movers.{told}
 use Rattle.thread_table.proofs.Armed.{armed_after}
-use Rattle.thread_table.proofs.table.Table.refill_telling.Goals as goal
+use Rattle.thread_table.proofs.table.Table.refill.Goals as goal
 
 pub invariant_of-self : goal.invariant_of-self
 invariant_of-self c = record {

@@ -1,0 +1,10 @@
+use Rattle.kernel_state.proofs.StandOn.{taken_off}
+use Rattle.kernel_state.proofs.parts.Parts.take_off.Goals as goal
+
+pub invariant_of-self : goal.invariant_of-self
+invariant_of-self c =
+    let s = c.self.inside in
+    record {
+      tied = rw c.remove.ensures c.self.invariant.tied;
+      stand = rw c.remove.ensures (taken_off s.named.bits c.remove-2.new.self.bits s.table s.ready.lists c.args.t c.self.invariant.stand c.remove-2.ensures);
+    }
