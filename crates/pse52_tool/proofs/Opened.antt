@@ -1,11 +1,20 @@
--- The text of a kernel that was just opened.
+-- A kernel that was just opened: the text of its run, and how busy it is.
 use Rattle.std.proofs.Common.{◌≡◌, ℕ, ◌∙◌, ap}
 use Rattle.script_tree.specs.declared.decl.Script.{Script}
 use Rattle.machine_rules.specs.Machine.{trace}
-use Rattle.machine_flat.proofs.Agrees.{flat_traces}
+use Rattle.machine_rules.specs.Eventful.{busy}
+use Rattle.machine_rules.specs.Promises.{busy_between}
+use Rattle.machine_places.proofs.CarriedBusy.{busy_over}
+use Rattle.machine_flat.specs.FlatBodies.{code_of, flat_bodies}
+use Rattle.machine_flat.proofs.Agrees.{carry, flat_agrees, flat_traces}
 use Rattle.kernel_state.specs.Kernel.{Kernel, opened}
 use Rattle.rt_kernel.specs.Ran.{run_text}
 
 -- it is the trace of the machine over the trees of the script
 pub opened_text : (k : Kernel) (script : Script) (n : ℕ) → k ≡ opened script → run_text k n ≡ trace script n
 opened_text k script n is = ap (λ (s : Kernel). run_text s n) is ∙ flat_traces script n
+
+-- it is as busy as that machine
+pub opened_busy : (k : Kernel) (script : Script) (n : ℕ) → k ≡ opened script → busy (flat_bodies k.code) k.machine 0 n ≡ busy_between script 0 n
+opened_busy k script n is =
+    ap (λ (s : Kernel). busy (flat_bodies s.code) s.machine 0 n) is ∙ busy_over (carry script) script (flat_bodies (code_of script)) (flat_agrees script) 0 n

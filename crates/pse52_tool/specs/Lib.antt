@@ -2,3 +2,4 @@ pub mod Statuses
 pub mod Command
 pub mod Answer
 pub mod Taken
+pub mod Few

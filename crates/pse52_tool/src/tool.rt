@@ -8,13 +8,16 @@ ghost use Rattle.pse52_trace.specs.Prints.{Prints};
 ghost use Rattle.pse52_trace.specs.Printed.{Printed, outlet};
 ghost use Rattle.script_table.specs.Table.{patterns};
 ghost use Rattle.script_table.specs.Read.{read};
+ghost use Rattle.machine_flat.specs.FlatBodies.{flat_bodies};
+ghost use Rattle.machine_rules.specs.Eventful.{busy};
 ghost use Rattle.machine_rules.specs.Machine.{trace};
 ghost use Rattle.machine_rules.specs.WellFormed.{IsWellFormed};
 ghost use Rattle.machine_flat.specs.Runnable.{IsRunnable};
 ghost use Rattle.rt_kernel.specs.Ran.{run_text};
 ghost use Rattle.script_tree.specs.declared.decl.Script.{Script};
 ghost use Rattle.pse52_tool.specs.Command.{command, limit_of, words_limit, Compares, IsWithinLimit};
-ghost use Rattle.machine_rules.specs.Promises.{RunKeepsBudgets, RunStaysGood};
+ghost use Rattle.machine_rules.specs.Promises.{RunKeepsBudgets, RunStaysGood, busy_between};
+ghost use Rattle.pse52_tool.specs.Few.{StepsAreFew};
 ghost use Rattle.thread_laws.specs.HeadRuns.{HeadRuns};
 ghost use Rattle.pse52_tool.specs.Answer.{answer, run_answer, text_answer, usage_line, too_long_line, no_trace_line, Told, SinkFaults, HasText};
 ghost use Rattle.pse52_tool.specs.Taken.{Answered, IsOfWhole, ReadToItsEnd, ReadWhole};
@@ -43,7 +46,8 @@ fn run_kernel<K: Sink, L: Ledger>(
     requires fresh { kernel.old.machine.now ≡ 0 }
     requires limit { horizon ≤ 10 ^ 18 }
     requires unfailed { out.old.failed ≡ false }
-    ensures { Prints K.text K.faults out.old out.new (run_text kernel.old horizon) }
+    ensures printed { Prints K.text K.faults out.old out.new (run_text kernel.old horizon) }
+    ensures busy { steps.new ≤ steps.old + busy (flat_bodies kernel.old.code) kernel.old.machine 0 horizon + 1 }
 {
     match kernel.run_until(horizon, out, steps) {
         RunEnd::Ended => kernel.report(out),
@@ -65,6 +69,7 @@ fn print_trace<K: Sink, L: Ledger>(
     requires unfailed { out.old.failed ≡ false }
     ensures printed { OnOk result (Prints K.text K.faults out.old out.new (trace script.now horizon)) }
     ensures unchanged { OnErr result (out.new ≡ out.old) }
+    ensures busy { steps.new ≤ steps.old + busy_between script.now 0 horizon + 1 }
 {
     let mut kernel = Kernel::open(alloc, script)?;
     run_kernel(&mut kernel, horizon, out, steps);
@@ -86,6 +91,7 @@ pub(crate) fn print_run<K: Sink, L: Ledger>(
     ensures printed { IfOk result (λ failed. Printed (outlet K.text K.faults false sink.old) (outlet K.text K.faults failed sink.new)
         (trace script.now horizon)) }
     ensures unchanged { OnErr result (sink.new ≡ sink.old) }
+    ensures busy { steps.new ≤ steps.old + busy_between script.now 0 horizon + 1 }
 {
     let mut out = Tracer::new(sink);
     print_trace(alloc, script, horizon, &mut out, steps)?;
@@ -108,6 +114,7 @@ fn run_script<K: Sink, L: Ledger>(
     ensures faults { SinkFaults result (K.faults sink.old) (K.faults sink.new) }
     ensures read { result ≡ Status.ReadFault → ⊥ }
     ensures unchanged { result ≡ Status.OutOfMemory → sink.new ≡ sink.old }
+    ensures busy { steps.new ≤ steps.old + busy_between script.now 0 horizon + 1 }
 {
     match print_run(alloc, script, horizon, sink, steps) {
         Ok(false) => Status::Done,
@@ -145,6 +152,7 @@ fn run_text<K: Sink, L: Ledger>(
     ensures faults { SinkFaults result (K.faults sink.old) (K.faults sink.new) }
     ensures read { result ≡ Status.ReadFault → ⊥ }
     ensures unchanged { result ≡ Status.OutOfMemory → sink.new ≡ sink.old }
+    ensures busy { StepsAreFew horizon text.now steps.old steps.new }
 {
     match read_script(alloc, text) {
         Ok(script) => run_script(alloc, &script, horizon, sink, steps),
@@ -170,6 +178,7 @@ fn answer_text<K: Sink, L: Ledger>(
     ensures faults { SinkFaults result (K.faults sink.old) (K.faults sink.new) }
     ensures read { result ≡ Status.ReadFault → ⊥ }
     ensures unchanged { result ≡ Status.OutOfMemory → sink.new ≡ sink.old }
+    ensures busy { (n : ℕ) → command.now ≡ Command.Run n → StepsAreFew n text.now steps.old steps.new }
 {
     match *command {
         Command::Run(horizon) => run_text(alloc, text, horizon, sink, steps),
@@ -212,6 +221,10 @@ pub fn run_tool<S: Source, K: Sink, L: Ledger>(
     // Whatever bytes are read as a script: every state of its run is good, and in each the budgets of its servers are kept.
     ensures good { (bytes : List ℕ) (script : Script) → read patterns bytes ≡ Ok script → RunStaysGood script }
     ensures budgets { (bytes : List ℕ) (script : Script) → read patterns bytes ≡ Ok script → RunKeepsBudgets script }
+
+    // A run has at most one step more than there are eventful instants before its horizon.
+    ensures busy { (n : ℕ) (bytes : List ℕ) → command (map string_bytes words.now) ≡ Some (Command.Run n) → S.rest source.old ≡ Some bytes
+        → StepsAreFew n bytes steps.old steps.new }
 
     // The words decide alone whether there is a command.
     ensures usage { result ≡ Status.Usage → command (map string_bytes words.now) ≡ None }

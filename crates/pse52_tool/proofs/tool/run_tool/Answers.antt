@@ -22,3 +22,9 @@ returns-in-Ok-clause-told g c =
     let is : command (map string_bytes c.args.words.now) ≡ Some c.in-Some.command = sym c.command_of_words.ensures.command ∙ c.in-Some.is in
     let small : length c.in-Ok.bytes.items ≤ limit_of c.in-Some.command = rw (sym c.limit.ensures.limit) c.in-Ok.ensures.short in
     told_whole (map string_bytes c.args.words.now) c.in-Some.command _ _ c.in-Ok.bytes.items _ _ _ is small c.in-Ok.ensures.whole c.in-Ok.ensures.end (rw c.as_slice.ensures.value at c.answer_text.ensures.told)
+
+-- of a text that was read whole the steps of its run are those of the call
+pub returns-in-Ok-clause-busy : goal.returns-in-Ok-clause-busy
+returns-in-Ok-clause-busy g c n bytes run rest =
+    let is : command (map string_bytes c.args.words.now) ≡ Some c.in-Some.command = sym c.command_of_words.ensures.command ∙ c.in-Some.is in
+    search rules
