@@ -16,9 +16,8 @@ if ! command -v rt >/dev/null 2>&1; then
     exit 0
 fi
 
-# The stages of tests/worked/INDEX.txt whose forms the kernel has, and the farthest horizon that a run tick by tick comes to.
+# The stages of tests/worked/INDEX.txt whose forms the kernel has.
 built="first language threads servers mutexes semaphores waiting lives"
-farthest=1000000
 
 cases=$(mktemp -d) || exit 1
 out=$(mktemp -d) || exit 1
@@ -58,7 +57,6 @@ while read -r name stage _; do
     worked=tests/worked/$name
     [ -e "$worked.horizon" ] || continue
     horizon=$(cat "$worked.horizon")
-    [ "$horizon" -le "$farthest" ] || continue
     for text in "$worked.trace" "$worked.refused"; do
         [ ! -e "$text" ] || add_case "worked_$name" "$worked.task" "$horizon" "$text"
     done
