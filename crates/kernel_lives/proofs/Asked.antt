@@ -1,10 +1,10 @@
 -- What requests count on stays where a thread is asked to end.
-use Rattle.std.proofs.Common.{◌≡◌, ◌<◌, ◌∙◌, ℕ, true, Some, ap, arith, length, refl, subst, sym}
+use Rattle.std.proofs.Common.{◌≡◌, ◌∙◌, ℕ, ap, arith, refl, sym}
 use Rattle.tick_num.specs.declared.res.Res.TheVariants as res
 use Rattle.script_flat.specs.declared.cursor.Cursor.{Cursor}
 use Rattle.machine_rules.specs.Cancellation.{requested}
-use Rattle.machine_rules.specs.State.{Thread, Waiting, for_end, waits_to_join}
-use Rattle.machine_rules.specs.Threads.{is_blocked, no_thread, thread_at, waiting_in, waiting_of}
+use Rattle.machine_rules.specs.State.{Thread}
+use Rattle.machine_rules.specs.Threads.{is_blocked, no_thread, waiting_in}
 use Rattle.machine_rules.specs.Turns.{By, Turn, answered, changes, returns, ◌▷◌}
 use Rattle.machine_rules.proofs.Reading.{changed-keeps, changed-length}
 use Rattle.kernel_sync.specs.Waits.{WaitsFit}

@@ -1,5 +1,5 @@
 -- A thread that waits, and that a request acts in.
-use Rattle.std.proofs.Common.{◌≡◌, ◌<◌, ◌∙◌, ℕ, true, Option, None, Some, ap, arith, length, refl, subst, sym}
+use Rattle.std.proofs.Common.{◌≡◌, ◌<◌, ◌∙◌, ℕ, Option, None, Some, ap, arith, length, refl, sym}
 use Rattle.std.specs.Prelude.{option_map}
 use Rattle.script_flat.specs.declared.cursor.Cursor.{Cursor}
 use Rattle.machine_rules.specs.Cancellation.{leaves, leaves_wait}
@@ -10,7 +10,6 @@ use Rattle.machine_moves.proofs.Calls.Answers.{waits_blocked}
 use Rattle.thread_blocks.specs.Plain.{wait_of}
 use Rattle.thread_blocks.specs.declared.status.Wait as plain
 use Rattle.thread_blocks.specs.Unused.{IsUnused}
-use Rattle.kernel_state.specs.Kernel.{Kernel, turn}
 use Rattle.kernel_sync.specs.Waits.{BlockedRest}
 use Rattle.kernel_lives.specs.Joins.{EndIsKnown, JoinsFit}
 

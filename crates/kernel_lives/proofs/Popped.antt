@@ -1,5 +1,5 @@
 -- A cleanup handler that is popped.
-use Rattle.std.proofs.Common.{◌≡◌, ◌<◌, ◌≤◌, ◌∙◌, ℕ, zero, suc, true, false, Bool, List, [], ◌∷◌, Option, None, Some, ap, arith, length, refl, subst, sym}
+use Rattle.std.proofs.Common.{◌≡◌, ◌<◌, ◌∙◌, ℕ, zero, suc, true, false, List, [], ◌∷◌, Option, None, Some, ap, length, refl, subst, sym}
 use Rattle.std.specs.Prelude.{IfSome, slice_get}
 use Rattle.tick_num.specs.declared.res.Res.{Res}
 use Rattle.script_flat.specs.declared.cursor.Cursor.{Cursor}

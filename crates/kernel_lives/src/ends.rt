@@ -102,10 +102,9 @@ pub fn finish<K: Sink>(p: &mut Parts, t: Tid, out: &mut Tracer<'_, K>)
 }
 
 /// `pthread_exit`: the thread is ending, and its cleanup handlers come first.
-pub fn exit(p: &mut Parts, t: Tid, call: &Call, value: u64)
+pub fn exit(p: &mut Parts, t: Tid, _call: &Call, value: u64)
     requires { t < length p.old.names }
-    ensures { p.new ≡ after (exits (by t call.now) value) p.old }
+    ensures { p.new ≡ after (exits (by t _call.now) value) p.old }
 {
-    let _ = call;
     p.begin_end(t, value);
 }

@@ -50,7 +50,7 @@ impl Thread {
         self.frames.pop_at(0);
     }
 
-    /// Whether it is ending, and has a request that acts no more.
+    /// Whether a request acts in it as soon as it may.
     pub fn request_acts(&self) -> bool
         ensures { result ≡ request_acts self.now }
     {
