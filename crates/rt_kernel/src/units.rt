@@ -52,7 +52,10 @@ fn charge_unit<L: Ledger>(p: &mut Parts, t: Tid, reach: Reach, steps: &mut Steps
     ensures step { steps.new ≡ steps.old + 1 }
 {
     let unit = p.take_unit(t);
-    let k = reach.most.min(reach.near.min(p.lasts(t, reach.most))).max(1);
+    let k = reach
+        .most
+        .min(reach.near.min(p.lasts(t, reach.most)))
+        .max(1);
     p.leap(&Some(t), k, steps);
     (unit, k)
 }
