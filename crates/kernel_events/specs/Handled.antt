@@ -1,5 +1,5 @@
 -- What a due item asks of the machine.
-use Rattle.std.specs.Prelude.{◌≡◌, ◌<◌, ◌^◌, ℕ, false}
+use Rattle.std.specs.Prelude.{◌≡◌, ℕ, false}
 use Rattle.script_flat.specs.declared.cursor.Cursor.{Cursor}
 use Rattle.machine_rules.specs.State.{Machine}
 use Rattle.machine_rules.specs.Threads.{thread_at}

@@ -1,9 +1,9 @@
 -- What the answers of the rules mean.
-use Rattle.std.proofs.Common.{◌≡◌, ℕ, Bool, true, false, Option, None, Some, arith, refl}
+use Rattle.std.proofs.Common.{◌≡◌, ℕ, Bool, true, false, Option, None, Some, refl}
 use Rattle.std.specs.Prelude.{IsSome, is_none, not, if◌then◌else◌, ◌==◌}
 use Rattle.tick_num.specs.declared.res.Res.{Res}
 use Rattle.tick_num.specs.declared.res.Res.TheVariants as res
-use Rattle.machine_rules.specs.State.{Machine, Mutex}
+use Rattle.machine_rules.specs.State.{Machine}
 use Rattle.machine_rules.specs.Threads.{can_run, mutex_at, thread_at}
 use Rattle.machine_rules.specs.Mutexes.{LockAnswer, closes_cycle, counts, is_above_ceiling, is_free, lock_answer, locked_again, must_wait, owns, recursion_limit, refused, takes, trylock_answer, unless_late}
 use Rattle.machine_rules.specs.Turns.{has_passed}

@@ -17,7 +17,7 @@ use Rattle.machine_rules.specs.GoodState.{is_in_condition_wait}
 use Rattle.machine_rules.specs.Lists.{changed_at, is}
 use Rattle.machine_rules.specs.Mutexes.{is_free, owned_by, returns_from_wait, taken_by}
 use Rattle.machine_rules.specs.State.{Machine, Mutex, Status, Thread, Wait, Waiting, blocked, dormant, ended, for_condition, for_mutex_again, runnable}
-use Rattle.machine_rules.specs.Threads.{can_run, is_blocked, is_runnable, mutex_at, no_mutex, no_thread, thread_at, waiting_in, waiting_of}
+use Rattle.machine_rules.specs.Threads.{can_run, is_blocked, is_runnable, no_mutex, no_thread, thread_at, waiting_in, waiting_of}
 use Rattle.machine_rules.specs.Turns.{By, Turn, changes, changes_mutex, moves, tells, ◌▷◌}
 use Rattle.machine_rules.specs.Waiters.{Waiter, best_waiter, waits_so}
 use Rattle.machine_rules.specs.Waking.{blocks, call_in, cancelled_value, ending_with, put_to_wait, wakes_telling, woken}

@@ -1,12 +1,12 @@
 -- A thread that owns nothing may wait for any mutex.
-use Rattle.std.proofs.Common.{◌≡◌, ◌∙◌, ℕ, zero, suc, Bool, true, false, List, [], ◌∷◌, Option, None, Some, ap, arith, length, refl, subst, sym}
-use Rattle.std.specs.Prelude.{IsSome, filter, option_and_then, slice_index_or, ◌||◌, ◌<◌}
+use Rattle.std.proofs.Common.{◌≡◌, ℕ, zero, suc, Bool, true, false, List, [], ◌∷◌, Option, None, Some, length, refl}
+use Rattle.std.specs.Prelude.{IsSome, filter, option_and_then, slice_index_or, ◌<◌}
 use Rattle.script_flat.specs.declared.cursor.Cursor.{Cursor}
 use Rattle.machine_rules.specs.Lists.{is}
-use Rattle.machine_rules.specs.State.{Machine, Mutex, Thread}
-use Rattle.machine_rules.specs.Threads.{mutex_at, mutex_in, no_mutex, thread_in}
+use Rattle.machine_rules.specs.State.{Machine, Mutex}
+use Rattle.machine_rules.specs.Threads.{mutex_at, no_mutex, thread_in}
 use Rattle.machine_rules.specs.Priorities.{mutex_awaited_by}
-use Rattle.machine_rules.specs.Mutexes.{closes_cycle, is_free, leads_within, owned_by, owner_of_awaited}
+use Rattle.machine_rules.specs.Mutexes.{leads_within, owner_of_awaited}
 use Rattle.kernel_state.specs.Waits.{CanWait}
 use Rattle.kernel_sync.specs.Waits.{OwnsNone}
 

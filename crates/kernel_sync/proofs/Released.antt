@@ -4,12 +4,11 @@ use Rattle.std.specs.Prelude.{option_map}
 use Rattle.tick_num.specs.declared.res.Res.TheVariants as res
 use Rattle.script_flat.specs.declared.cursor.Cursor.{Cursor}
 use Rattle.tick_num.specs.declared.res.Res.{Res}
-use Rattle.machine_rules.specs.declared.thread.CondEnd.{CondEnd}
 use Rattle.machine_rules.specs.declared.thread.CondEnd.TheVariants as cond_end
 use Rattle.machine_rules.specs.State.{Machine, Wait, Waiting, for_condition, for_end, for_message, for_mutex, for_mutex_again, for_room, for_semaphore, for_signal, for_time}
 use Rattle.machine_rules.specs.Threads.{waiting_of}
 use Rattle.machine_rules.specs.Turns.{Turn, changes_mutex, ◌▷◌}
-use Rattle.machine_rules.specs.Mutexes.{hands_over, releases, returns_from_wait, taken_by, waits_for_mutex, wakes_owner}
+use Rattle.machine_rules.specs.Mutexes.{hands_over, releases, taken_by, waits_for_mutex, wakes_owner}
 use Rattle.machine_rules.specs.Waiters.{Waiter, best_waiter}
 use Rattle.machine_rules.specs.Waking.{wakes, wakes_cancelled}
 use Rattle.machine_moves.proofs.Waiters.Best.{best_waits}

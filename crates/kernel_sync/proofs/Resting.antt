@@ -1,18 +1,18 @@
 -- What holds of the threads that wait stays, where one thread changes.
-use Rattle.std.proofs.Common.{◌≡◌, ◌∙◌, ◌⊎◌, inl, inr, ℕ, Bool, true, false, Option, None, Some, ap, arith, length, refl, subst, sym}
-use Rattle.std.specs.Prelude.{IfSome, option_map}
+use Rattle.std.proofs.Common.{◌≡◌, ◌∙◌, ◌⊎◌, inl, inr, ℕ, Bool, true, false, Option, None, Some, ap, length, refl, subst, sym}
+use Rattle.std.specs.Prelude.{option_map}
 use Rattle.script_flat.specs.declared.cursor.Cursor.{Cursor}
 use Rattle.machine_rules.specs.State.{Machine, Thread, Wait, Waiting, for_condition}
-use Rattle.machine_rules.specs.Threads.{is_blocked, no_thread, thread_at, waiting_in, waiting_of}
+use Rattle.machine_rules.specs.Threads.{no_thread, thread_at, waiting_in}
 use Rattle.machine_rules.specs.Mutexes.{waits_for_mutex}
-use Rattle.machine_rules.specs.Turns.{By, Turn, changes, returns}
+use Rattle.machine_rules.specs.Turns.{By, Turn}
 use Rattle.machine_rules.specs.Waiters.{Waiter, best_waiter}
 use Rattle.machine_rules.specs.Waking.{blocks, put_to_wait}
 use Rattle.machine_moves.proofs.Calls.Answers.{waits_blocked}
 use Rattle.machine_moves.proofs.Waiters.Best.{best_waits}
 use Rattle.machine_moves.proofs.Waiters.OfThreads.{changed_is}
 use Rattle.thread_blocks.specs.Unused.{IsUnused}
-use Rattle.kernel_sync.specs.Waits.{AreBuiltWaits, BlockedRest, IsBuiltWait, MutexWaitersRest, OnlyBuiltWaits, WaitsFit}
+use Rattle.kernel_sync.specs.Waits.{AreBuiltWaits, BlockedRest, IsBuiltWait, MutexWaitersRest, OnlyBuiltWaits}
 
 pub blocked_waiters : (m : Machine Cursor) (k : ℕ) → BlockedRest m → MutexWaitersRest m k
 blocked_waiters m k rests u w waits passes = rests u (waits_blocked m u w waits)

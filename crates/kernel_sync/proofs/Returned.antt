@@ -1,11 +1,10 @@
 -- What the calls of conditions count on stays, where a call returns.
-use Rattle.std.proofs.Common.{◌≡◌, ◌∙◌, ◌⊎◌, inl, inr, ℕ, true, false, Option, None, Some, ap, length, subst, sym}
+use Rattle.std.proofs.Common.{◌≡◌, ◌∙◌, ◌⊎◌, inl, inr, ℕ, false, ap, length, subst, sym}
 use Rattle.std.specs.Option.{option_map_or}
 use Rattle.tick_num.specs.declared.res.Res.{Res}
-use Rattle.sporadic_server.specs.Server.{ServerState}
 use Rattle.script_flat.specs.declared.cursor.Cursor.{Cursor}
 use Rattle.machine_rules.specs.GoodState.{is_in_condition_wait}
-use Rattle.machine_rules.specs.State.{Machine, Status, Thread, Waiting}
+use Rattle.machine_rules.specs.State.{Status, Thread, Waiting}
 use Rattle.machine_rules.specs.Threads.{is_blocked, no_thread, thread_at, waiting_in}
 use Rattle.machine_rules.specs.Turns.{By, Turn, answered, returns}
 use Rattle.machine_moves.proofs.Calls.Answers.{waits_blocked}

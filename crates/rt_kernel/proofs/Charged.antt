@@ -1,5 +1,5 @@
 -- So many ticks of a unit are its taking and a leap.
-use Rattle.std.proofs.Common.{◌≡◌, ◌+◌, ◌≤◌, ℕ, zero, suc, List, [], ◌∷◌, None, Option, Some, ap, arith, length, refl, sym, slice_set, slice_index_or, ◌∙◌}
+use Rattle.std.proofs.Common.{◌≡◌, ◌+◌, ℕ, zero, suc, List, [], ◌∷◌, Some, ap, arith, length, refl, sym, slice_set, slice_index_or, ◌∙◌}
 use Rattle.script_flat.specs.declared.cursor.Cursor.{Cursor}
 use Rattle.script_flat.specs.declared.unit.Unit as unit_type
 use Rattle.script_flat.specs.declared.unit.Unit.TheVariants as unit

@@ -1,5 +1,5 @@
 -- A thread that came to run in a tick has a direct move.
-use Rattle.std.proofs.Common.{◌≡◌, ℕ, zero, suc, List, [], ◌∷◌, Bool, true, false, ap, refl, sym, ◌∙◌}
+use Rattle.std.proofs.Common.{◌≡◌, ℕ, zero, suc, List, [], ◌∷◌, ap, refl, sym, ◌∙◌}
 use Rattle.std.specs.Prelude.{None, Option, Some, not, slice_index_or}
 use Rattle.sporadic_server.specs.Server.{ServerState, plan}
 use Rattle.script_flat.specs.declared.cursor.Cursor.{Cursor}

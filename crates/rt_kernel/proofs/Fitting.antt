@@ -1,5 +1,5 @@
 -- What fits goes from the states of a run to the kernel that is in them.
-use Rattle.std.proofs.Common.{◌≡◌, ◌∙◌, ◌<◌, ◌≤◌, ◌^◌, ◌+◌, ℕ, suc, List, [], ◌∷◌, Bool, true, false, Option, None, Some, ap, arith, length, refl, subst, sym}
+use Rattle.std.proofs.Common.{◌≡◌, ◌∙◌, ◌≤◌, ◌^◌, ◌+◌, ℕ, suc, List, [], ◌∷◌, Bool, true, false, Option, None, Some, ap, arith, length, refl, subst, sym}
 use Rattle.std.specs.Prelude.{slice_index_or, ◌==◌, IfSome}
 use Rattle.thread_lists.specs.Threads.{times}
 use Rattle.script_flat.specs.declared.cursor.Cursor.{Cursor}

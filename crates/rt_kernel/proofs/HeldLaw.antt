@@ -1,5 +1,5 @@
 -- What is held of each thread lasts through a run, as long as only these calls are built.
-use Rattle.std.proofs.Common.{◌≡◌, ◌∙◌, ℕ, zero, suc, List, [], ◌∷◌, Bool, true, false, Option, None, Some, refl, subst, sym}
+use Rattle.std.proofs.Common.{◌≡◌, ℕ, zero, suc, List, [], ◌∷◌, Bool, true, false, Some, refl, subst, sym}
 use Rattle.std.specs.Prelude.{replicate, slice_index_or, ◌&&◌, ◌==◌}
 use Rattle.script_tree.specs.declared.call.Call.{Call}
 use Rattle.script_tree.specs.declared.call.Call.TheVariants as call

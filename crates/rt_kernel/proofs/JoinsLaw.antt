@@ -1,11 +1,9 @@
 -- In each state of a run a thread that waits to join another is blocked.
-use Rattle.std.proofs.Common.{◌≡◌, ◌<◌, ◌∙◌, ℕ, true, Option, Some, arith, length, subst, sym}
+use Rattle.std.proofs.Common.{◌<◌, ℕ, Some, arith, subst}
 use Rattle.script_tree.specs.declared.decl.Script.{Script}
 use Rattle.script_flat.specs.declared.cursor.Cursor.{Cursor}
 use Rattle.machine_rules.specs.Bodies.{Bodies}
 use Rattle.machine_rules.specs.Runs.{opening}
-use Rattle.machine_rules.specs.State.{Machine, Wait, Waiting, for_end}
-use Rattle.machine_rules.specs.Threads.{waiting_of}
 use Rattle.machine_rules.specs.Throughout.{after_items}
 use Rattle.machine_rules.specs.WellFormed.{IsWellFormed}
 use Rattle.machine_moves.specs.UnitRanges.{BodiesFit}

@@ -1,9 +1,8 @@
 -- The parts of a leap add their events behind those that were told before.
-use Rattle.std.proofs.Common.{◌≡◌, ℕ, Option, None, Some, ap, refl, ◌∙◌}
+use Rattle.std.proofs.Common.{ℕ, Option, None, Some, ap, refl, ◌∙◌}
 use Rattle.machine_rules.specs.Bodies.{Bodies}
 use Rattle.machine_rules.specs.Dispatch.{dispatches, head}
 use Rattle.machine_rules.specs.Ticks.{unless_killed}
-use Rattle.machine_rules.specs.Turns.{Turn}
 use Rattle.machine_rules.proofs.Behind.{AddsBehind}
 use Rattle.machine_rules.proofs.BehindTicks.{dispatches_behind}
 use Rattle.machine_leaps.specs.Leap.{leap_goes_on, leap_head, leap_runs}

@@ -1,11 +1,10 @@
 -- How far a leap goes, and the room for it.
-use Rattle.std.proofs.Common.{rules, ◌≡◌, ◌≤◌, ◌<◌, ◌+◌, ℕ, List, Bool, true, false, Option, None, Some, ap, arith, refl, subst, sym, ◌∙◌}
-use Rattle.std.specs.Prelude.{◌^◌, max, min, if◌then◌else◌}
+use Rattle.std.proofs.Common.{rules, ◌≡◌, ◌≤◌, ◌+◌, ℕ, Bool, true, Option, None, Some, arith, subst}
+use Rattle.std.specs.Prelude.{◌^◌, max, if◌then◌else◌}
 use Rattle.script_flat.specs.declared.cursor.Cursor.{Cursor}
 use Rattle.sporadic_server.specs.Server.{ServerState, is_high}
-use Rattle.machine_rules.specs.Bodies.{Bodies}
-use Rattle.machine_rules.specs.State.{Machine, Thread}
-use Rattle.machine_leaps.specs.Leap.{capacity_left, thread_lasts}
+use Rattle.machine_rules.specs.State.{Thread}
+use Rattle.machine_leaps.specs.Leap.{capacity_left}
 use Rattle.thread_blocks.specs.Room.{HasRoom, ServerHasRoom}
 use Rattle.thread_laws.specs.Within.{HighWithin, IsWithin}
 use Rattle.rt_kernel.specs.declared.units.Reach.{Reach}

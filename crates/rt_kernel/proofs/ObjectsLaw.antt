@@ -1,6 +1,6 @@
 -- A run has as many objects as its script, and a pending record is of a timer or a queue that there is: every move keeps it.
-use Rattle.std.proofs.Common.{◌≡◌, ◌∙◌, ◌<◌, ◌≤◌, ℕ, zero, suc, List, [], ◌∷◌, Bool, true, false, Option, None, Some, ap, arith, length, refl, subst, sym}
-use Rattle.std.specs.Prelude.{pred, slice_index_or, ◌==◌}
+use Rattle.std.proofs.Common.{◌≡◌, ◌∙◌, ◌<◌, ℕ, zero, suc, List, [], ◌∷◌, Bool, true, false, Option, None, Some, ap, arith, length, refl, subst, sym}
+use Rattle.std.specs.Prelude.{pred, slice_index_or}
 use Rattle.script_tree.specs.declared.decl.Script.{Script}
 use Rattle.pse52_trace.specs.declared.event.Event.TheVariants as event
 use Rattle.sporadic_server.specs.Server.{ServerState}

@@ -1,5 +1,5 @@
 -- What holds of the kernel of a script before the first tick, and from then on.
-use Rattle.std.proofs.Common.{◌≡◌, ◌∙◌, ◌<◌, ◌≤◌, ◌^◌, ℕ, rules, false, true, zero, suc, Option, None, Some, List, [], ◌∷◌, ap, arith, length, refl, sym, subst}
+use Rattle.std.proofs.Common.{◌≡◌, ◌∙◌, ℕ, false, true, zero, suc, Option, None, Some, List, [], ◌∷◌, ap, arith, length, refl, sym, subst}
 use Rattle.std.specs.Prelude.{map, slice_index_or}
 use Rattle.std.proofs.lemmas.List.{length-map}
 use Rattle.script_tree.specs.Block.{Block}
@@ -8,8 +8,8 @@ use Rattle.script_flat.specs.Flat as flat
 use Rattle.script_flat.specs.declared.cursor.Cursor.{Cursor}
 use Rattle.sporadic_server.specs.Server.{ServerState, is_high}
 use Rattle.machine_rules.specs.Budget.{KeepsBudgets}
-use Rattle.machine_rules.specs.State.{Machine, Status, Thread, blocked, dormant, ended, runnable}
-use Rattle.machine_rules.specs.Declarations.{ThreadDecl, cleanups_of, mutexes_of, threads_of}
+use Rattle.machine_rules.specs.State.{Machine, Status, blocked, dormant, ended, runnable}
+use Rattle.machine_rules.specs.Declarations.{ThreadDecl, cleanups_of, threads_of}
 use Rattle.machine_rules.specs.Servers.{has_high}
 use Rattle.machine_rules.specs.Threads.{is_blocked, is_runnable, no_thread, thread_at, waiting_of}
 use Rattle.machine_rules.specs.Throughout.{after_items}
@@ -29,13 +29,11 @@ use Rattle.machine_laws.proofs.Good.{lists_throughout, serials_throughout, swept
 use Rattle.machine_laws.proofs.Items.{mutexes_throughout, servers_throughout, signals_throughout, waits_throughout}
 use Rattle.machine_laws.proofs.Servers.Rest.{rest_throughout}
 use Rattle.thread_laws.specs.Placeable.{IsPlaceable}
-use Rattle.thread_laws.specs.Within.{HighWithin, IsWithin}
 use Rattle.thread_laws.proofs.Changes.{at_all}
 use Rattle.thread_laws.proofs.Frames.{Stands, all_placed}
 use Rattle.thread_laws.proofs.FramesTaken.{run_holds}
 use Rattle.thread_laws.proofs.MadeCalls.{all_made, all_weaker}
 use Rattle.thread_laws.proofs.Within.{threads_are_within}
-use Rattle.thread_blocks.specs.Room.{HasRoom, ServerHasRoom}
 use Rattle.thread_blocks.specs.Unused.{IsUnused}
 use Rattle.kernel_state.specs.Kernel.{Kernel, opened}
 use Rattle.kernel_events.specs.Built.{IsBuilt, objects_in}

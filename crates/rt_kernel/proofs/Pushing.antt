@@ -1,6 +1,6 @@
 -- Where a cleanup handler is pushed there is room for it: a run over flat code is one over trees, and there at most eight are pushed.
 use Rattle.std.proofs.Common.{◌≡◌, ◌∙◌, ◌<◌, ◌≤◌, ℕ, zero, suc, Bool, true, false, List, [], ◌∷◌, ap, arith, length, refl, subst, sym}
-use Rattle.std.specs.Prelude.{drop, ◌&&◌, ◌==◌, if◌then◌else◌}
+use Rattle.std.specs.Prelude.{◌&&◌, ◌==◌}
 use Rattle.script_tree.specs.declared.call.Call.TheVariants as call
 use Rattle.script_tree.specs.declared.decl.Script.{Script}
 use Rattle.script_flat.specs.declared.cursor.Cursor.{Cursor}
@@ -10,7 +10,6 @@ use Rattle.script_flat.specs.Next.{Place}
 use Rattle.machine_rules.specs.declared.frame.BodyOf.{BodyOf}
 use Rattle.machine_rules.specs.declared.frame.BodyOf.TheVariants as body_of
 use Rattle.machine_rules.specs.Bodies.{Bodies}
-use Rattle.machine_rules.specs.Cancellation.{runs_cleanup, without_cleanup}
 use Rattle.machine_rules.specs.DueItems.{items_done}
 use Rattle.machine_rules.specs.GoodState.{main_guards}
 use Rattle.machine_rules.specs.Machine.{bodies_of}

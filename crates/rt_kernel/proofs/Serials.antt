@@ -1,11 +1,11 @@
 -- Serials are left until 10^18 ticks.
-use Rattle.std.proofs.Common.{◌≡◌, ◌∙◌, ◌≤◌, ◌<◌, ◌+◌, ◌^◌, ℕ, List, [], ◌∷◌, Bool, true, false, Option, None, Some, ap, arith, length, refl, sym}
-use Rattle.std.specs.Prelude.{filter, is_some, ◌==◌}
+use Rattle.std.proofs.Common.{◌≡◌, ◌≤◌, ◌<◌, ℕ, List, [], ◌∷◌, Bool, true, false, Option, None, Some, arith, length, refl}
+use Rattle.std.specs.Prelude.{is_some, ◌==◌}
 use Rattle.script_flat.specs.declared.cursor.Cursor.{Cursor}
 use Rattle.machine_rules.specs.Lists.{is}
 use Rattle.machine_rules.specs.State.{Machine, SignalRecord}
 use Rattle.machine_rules.specs.Threads.{catches_signal}
-use Rattle.machine_rules.specs.GoodState.{SerialsAreRight, count_of, from_timers_and_queues}
+use Rattle.machine_rules.specs.GoodState.{SerialsAreRight, count_of}
 use Rattle.machine_moves.proofs.Waiters.Best.{Each}
 use Rattle.rt_kernel.specs.Counts.{Counts}
 use Rattle.rt_kernel.specs.Fits.{HasSerials}

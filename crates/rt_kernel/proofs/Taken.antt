@@ -1,7 +1,6 @@
 -- A thread that takes a unit has counted what it had.
-use Rattle.std.proofs.Common.{◌≤◌, ℕ, Option, refl, subst, sym}
+use Rattle.std.proofs.Common.{◌≤◌, ℕ, refl, subst, sym}
 use Rattle.script_flat.specs.declared.cursor.Cursor.{Cursor}
-use Rattle.sporadic_server.specs.Server.{ServerState}
 use Rattle.machine_rules.specs.Bodies.{Bodies}
 use Rattle.machine_rules.specs.State.{Thread}
 use Rattle.machine_rules.specs.Units.{in_unit}

@@ -1,5 +1,5 @@
 -- A thread whose frames stand may have a tick.
-use Rattle.std.proofs.Common.{◌≡◌, ◌∙◌, ◌<◌, ◌≤◌, ℕ, true, List, [], ◌∷◌, ap, arith, length, refl, subst, sym}
+use Rattle.std.proofs.Common.{◌≡◌, ◌∙◌, ◌<◌, ℕ, true, List, [], ◌∷◌, ap, arith, length, refl, subst}
 use Rattle.script_tree.specs.declared.call.Call.{Call}
 use Rattle.script_tree.specs.declared.call.Call.TheVariants as call
 use Rattle.script_tree.specs.declared.decl.Script.{Script}
@@ -10,13 +10,13 @@ use Rattle.script_flat.specs.Fetch.{ops_of}
 use Rattle.machine_rules.specs.declared.frame.FrameKind.{FrameKind}
 use Rattle.machine_rules.specs.declared.frame.FrameKind.TheVariants as frame
 use Rattle.machine_rules.specs.Declarations.{cleanups_of}
-use Rattle.machine_rules.specs.State.{Frame, Thread}
+use Rattle.machine_rules.specs.State.{Thread}
 use Rattle.machine_rules.specs.Threads.{is_main, top_kind}
 use Rattle.machine_rules.specs.Units.{InUnit, in_unit}
 use Rattle.machine_flat.specs.EachCall.{EachMade}
 use Rattle.machine_flat.specs.FlatBodies.{code_of, flat_bodies}
 use Rattle.machine_flat.specs.KnownCalls.{objects_of}
-use Rattle.thread_laws.specs.Frames.{AreDeclared, TakenStands, UnitStands}
+use Rattle.thread_laws.specs.Frames.{AreDeclared, UnitStands}
 use Rattle.thread_laws.specs.Placeable.{IsPlaceable}
 use Rattle.thread_laws.proofs.Frames.{Stands, at_most_one}
 use Rattle.thread_laws.proofs.FramesTaken.{taken}

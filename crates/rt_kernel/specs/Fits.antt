@@ -4,7 +4,7 @@ use Rattle.script_flat.specs.declared.cursor.Cursor.{Cursor}
 use Rattle.script_flat.specs.declared.op.Op.{Op}
 use Rattle.script_flat.specs.Flat as flat
 use Rattle.machine_rules.specs.State.{Machine, Thread}
-use Rattle.machine_rules.specs.Threads.{can_run, is_blocked, thread_at}
+use Rattle.machine_rules.specs.Threads.{can_run, thread_at}
 use Rattle.machine_rules.specs.Dispatch.{head}
 use Rattle.machine_rules.specs.Turns.{turn_of}
 use Rattle.machine_rules.specs.DueItems.{instant, items_done}
@@ -15,7 +15,6 @@ use Rattle.machine_rules.specs.Bodies.{Bodies}
 use Rattle.machine_flat.specs.KnownCalls.{Objects}
 use Rattle.machine_flat.specs.Placed.{ArePlaced}
 use Rattle.thread_laws.specs.Within.{IsWithin}
-use Rattle.thread_blocks.specs.Unused.{IsUnused}
 use Rattle.kernel_state.specs.Kernel.{Kernel, turn}
 use Rattle.kernel_sync.specs.Waits.{WaitsFit}
 use Rattle.kernel_lives.specs.Joins.{JoinsFit}

@@ -1,5 +1,5 @@
 -- How far a leap of a machine goes.
-use Rattle.std.specs.Prelude.{ℕ, None, Option, Some, max, min}
+use Rattle.std.specs.Prelude.{ℕ, Option, max, min}
 use Rattle.script_flat.specs.declared.cursor.Cursor.{Cursor}
 use Rattle.machine_rules.specs.Bodies.{Bodies}
 use Rattle.machine_rules.specs.State.{Machine, Thread}

@@ -1,4 +1,4 @@
-use Rattle.kernel_sync.proofs.Signalling.{none_yet, one_more}
+use Rattle.kernel_sync.proofs.Signalling.{one_more}
 use Rattle.kernel_sync.proofs.conditions.signal_all.Goals as goal
 
 pub loop-preserved : goal.loop-preserved

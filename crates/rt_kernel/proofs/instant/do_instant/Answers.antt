@@ -1,4 +1,4 @@
-use Rattle.std.proofs.Common.{◌≡◌, ◌<◌, ◌^◌, arith, length, subst, sym, ◌∙◌}
+use Rattle.std.proofs.Common.{◌≡◌, ◌<◌, ◌^◌, arith, subst, sym, ◌∙◌}
 use Rattle.pse52_trace.specs.Tells.{Tells}
 use Rattle.machine_rules.specs.DueItems.{item_done}
 use Rattle.machine_rules.proofs.ItemsEnd.{item_falls}

@@ -1,8 +1,5 @@
-use Rattle.std.proofs.Common.{◌≡◌, ℕ, subst}
-use Rattle.pse52_trace.specs.Tells.{Tells}
 use Rattle.machine_rules.specs.DueItems.{instant}
-use Rattle.machine_leaps.specs.Leap.{leap_goes_on, length_from}
-use Rattle.kernel_state.specs.Kernel.{Kernel}
+use Rattle.machine_leaps.specs.Leap.{leap_goes_on}
 use Rattle.kernel_state.proofs.Turns.{then_state_in, then_told_in}
 use Rattle.rt_kernel.proofs.Fitting.{instant_fits}
 use Rattle.rt_kernel.proofs.LeapParts.{leap_goes_on_behind}

@@ -1,11 +1,10 @@
-use Rattle.std.proofs.Common.{◌≡◌, ◌≤◌, ◌<◌, ◌+◌, ◌-◌, ℕ, arith, subst, sym, ◌∙◌}
-use Rattle.std.specs.Prelude.{◌^◌}
+use Rattle.std.proofs.Common.{◌≡◌, ◌≤◌, ◌+◌, ◌-◌, ℕ, arith, subst, sym, ◌∙◌}
 use Rattle.pse52_trace.specs.Tells.{Tells}
 use Rattle.machine_rules.specs.Eventful.{busy}
 use Rattle.machine_rules.specs.Runs.{ticks}
 use Rattle.machine_flat.specs.FlatBodies.{flat_bodies}
 use Rattle.machine_leaps.specs.Leap.{in_leaps}
-use Rattle.rt_kernel.proofs.Leaping.{Leaping, few_busy, few_steps, leap_on, not_beyond, not_earlier}
+use Rattle.rt_kernel.proofs.Leaping.{few_busy, few_steps, leap_on, not_beyond, not_earlier}
 use Rattle.rt_kernel.proofs.Running.{items_fit, still_fits, stopped_told}
 use Rattle.rt_kernel.proofs.run.run_leaps.Goals as goal
 

@@ -1,4 +1,4 @@
-use Rattle.std.proofs.Common.{◌≡◌, ◌∙◌, ℕ, zero, suc, refl, subst, sym}
+use Rattle.std.proofs.Common.{◌≡◌, ◌∙◌, ℕ, zero, suc, refl, subst}
 use Rattle.pse52_trace.specs.Tells.{Tells}
 use Rattle.pse52_trace.proofs.Tells.{tells_nothing}
 use Rattle.script_flat.specs.declared.cursor.Cursor.{Cursor}
