@@ -1,6 +1,5 @@
-use Rattle.std.proofs.Common.{◌≡◌, ◌≤◌, ◌+◌, ◌-◌, ℕ, refl, arith, subst}
+use Rattle.std.proofs.Common.{◌≡◌, ◌-◌, refl, arith}
 use Rattle.pse52_trace.proofs.Prints.{prints_both, prints_stopped}
-use Rattle.machine_rules.specs.Eventful.{busy}
 use Rattle.machine_rules.specs.Machine.{closing}
 use Rattle.machine_rules.specs.Runs.{ticks}
 use Rattle.machine_flat.specs.FlatBodies.{flat_bodies}
