@@ -59,5 +59,6 @@ static RUNS: [(&str, &str, &str); 4] = [
 
 #[test]
 fn conditions_run_as_the_rules_say(rt: HostRuntime) -> Result<(), Fail> {
-    print_as_they_should(rt, &RUNS)
+    assert!(rt; print_as_they_should(rt.alloc(), &RUNS)?);
+    Ok(())
 }

@@ -1,4 +1,5 @@
-// Worked examples of joins, ends, requests and cleanup handlers, whose traces follow from the rules line by line.
+// Worked examples of joins, ends, requests and cleanup handlers. The traces come from the reference simulator in
+// tools/reference, and follow from the rules line by line.
 use crate::waiters::print_as_they_should;
 use std::test::Fail;
 
@@ -65,5 +66,6 @@ static RUNS: [(&str, &str, &str); 4] = [
 
 #[test]
 fn lives_run_as_the_rules_say(rt: HostRuntime) -> Result<(), Fail> {
-    print_as_they_should(rt, &RUNS)
+    assert!(rt; print_as_they_should(rt.alloc(), &RUNS)?);
+    Ok(())
 }

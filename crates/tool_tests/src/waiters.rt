@@ -2,6 +2,7 @@
 use crate::commands::run_from;
 use pse52_tool::Status;
 use rt_io::{MemSink, SureSource};
+use std::alloc::Global;
 use std::test::Fail;
 
 // A horizon, a script and its trace.
@@ -67,23 +68,24 @@ static RUNS: [(&str, &str, &str); 5] = [
     ),
 ];
 
-// Each script is run to its horizon, and prints its trace.
+// Whether each script, run to its horizon, prints its trace.
 pub(crate) fn print_as_they_should(
-    rt: HostRuntime,
+    alloc: Global,
     runs: &[(&str, &str, &str)],
-) -> Result<(), Fail> {
-    let alloc = rt.alloc();
+) -> Result<bool, Fail> {
     for &(horizon, script, trace) in runs {
         let mut source = SureSource::new(Vec::from_slice(alloc, script.as_bytes())?);
         let mut sink = MemSink::open(alloc, 4000, Vec::new(alloc))?;
         let status = run_from(alloc, &["run", horizon], &mut source, &mut sink)?;
-        assert_eq!(rt; status, Status::Done);
-        assert_eq!(rt; sink.text(), trace.as_bytes());
+        if status != Status::Done || sink.text() != trace.as_bytes() {
+            return Ok(false);
+        }
     }
-    Ok(())
+    Ok(true)
 }
 
 #[test]
 fn waiters_run_as_the_rules_say(rt: HostRuntime) -> Result<(), Fail> {
-    print_as_they_should(rt, &RUNS)
+    assert!(rt; print_as_they_should(rt.alloc(), &RUNS)?);
+    Ok(())
 }
