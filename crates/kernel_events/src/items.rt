@@ -9,10 +9,12 @@ ghost use Rattle.machine_flat.specs.FlatBodies.{flat_bodies};
 ghost use Rattle.thread_blocks.specs.Unused.{IsUnused};
 ghost use Rattle.kernel_state.specs.Due.{IsKnown};
 ghost use Rattle.kernel_sync.specs.Waits.{WaitsFit};
+ghost use Rattle.kernel_signals.specs.Sweeping.{CanSweep};
 ghost use Rattle.kernel_events.specs.Handled.{CanHandle};
 ghost use Rattle.kernel_state.specs.Kernel.{Kernel, after, refilled_telling, told};
 ghost use Rattle.kernel_state.specs.Stood.{StoodRight};
 
+use kernel_signals::sweep;
 use kernel_state::Parts;
 use kernel_sync::contend;
 use machine_rules::CondEnd;
@@ -69,6 +71,7 @@ fn time_out<K: Sink>(p: &mut Parts, t: Tid, out: &mut Tracer<'_, K>)
         Some(Wait::End(_)) => p.wake(t, Res::Timedout, 0, out),
         Some(Wait::Semaphore(_)) => p.wake(t, Res::Timedout, 0, out),
         Some(Wait::Condition(_, _)) => contend(p, t, CondEnd::Timedout, out),
+        Some(Wait::Signal(_)) => p.wake(t, Res::Again, 0, out),
         Some(_) => unreachable!(),
     }
 }
@@ -114,6 +117,7 @@ pub fn do_item<K: Sink>(p: &mut Parts, i: Item, out: &mut Tracer<'_, K>)
     requires stood { StoodRight p.old.machine }
     requires fits { CanHandle p.old.machine }
     requires serial { p.old.machine.next_serial < 2 ^ 62 }
+    requires sweeps { CanSweep (after (λ s. s ▷ handles (flat_bodies p.old.code) i ▷ settles_since s.machine) p.old) }
     requires early { p.old.machine.now ≤ 10 ^ 18 }
     ensures state { p.new ≡ after (item_done (flat_bodies p.old.code) i) p.old }
     ensures told { Tells K.text K.faults p.old.names out.old out.new (told (item_done (flat_bodies p.old.code) i) p.old) }
@@ -122,5 +126,5 @@ pub fn do_item<K: Sink>(p: &mut Parts, i: Item, out: &mut Tracer<'_, K>)
     ensures time { p.new.machine.now ≡ p.old.machine.now }
 {
     settle_item(p, i, out);
-    p.sweep(out);
+    sweep(p, out);
 }

@@ -30,6 +30,7 @@ tied_again names code ready old new direct long tied = record {
   known = tied.known;
   bodies = tied.bodies;
   handlers = tied.handlers;
+  catchers = tied.catchers;
 }
 
 -- ---- those that are told are threads

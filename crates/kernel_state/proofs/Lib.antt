@@ -16,3 +16,4 @@ pub mod Words
 pub mod OnLists
 pub mod StandOn
 pub mod Carried
+pub mod Targets

@@ -13,10 +13,10 @@ use Rattle.machine_rules.specs.Declarations.{ThreadDecl, threads_of}
 use Rattle.machine_rules.specs.Threads.{is_runnable, no_thread}
 use Rattle.machine_rules.specs.Machine.{names_of}
 use Rattle.machine_rules.specs.Runs.{opening, thread_opened}
-use Rattle.machine_flat.proofs.Numbered.{Numbered, cleanup_blocks, known, thread_blocks}
+use Rattle.machine_flat.proofs.Numbered.{Numbered, cleanup_blocks, handler_blocks, known, thread_blocks}
 use Rattle.machine_flat.specs.FlatBodies.{code_of}
 use Rattle.machine_flat.specs.Runnable.{IsRunnable}
-use Rattle.thread_blocks.specs.Handlers.{HandlerBegins, HandlersBegin}
+use Rattle.thread_blocks.specs.Handlers.{CatchersBegin, HandlerBegins, HandlersBegin}
 use Rattle.kernel_state.specs.Settled.{HavePriorities}
 use Rattle.kernel_state.specs.Stood.{StoodRight}
 use Rattle.kernel_state.specs.Tied.{IsTied}
@@ -75,6 +75,12 @@ handlers_opening script ok = record { each = begins }
           };
         }
 
+-- and each handler of a signal has a body
+pub catchers_opening : (script : Script) → CatchersBegin (code_of script)
+catchers_opening script =
+    let b = flat.bodies_of script.decls in
+    record { each = λ h lt. (let below = numbered_there b.all b.handlers (handler_blocks script.decls) h (known script).handlers lt in omega (arith, below, length-map b.all (flat.flat 0))) }
+
 pub code_threads : (script : Script) → length (code_of script).threads ≡ length (threads_of script)
 code_threads script =
     let b = flat.bodies_of script.decls in
@@ -92,6 +98,7 @@ tied_opening script ok =
       listed = refl;
       known = λ k d lt. absurd (omega arith);
       handlers = handlers_opening script ok;
+      catchers = catchers_opening script;
       bodies = record {
         numbered = code_threads script ∙ sym named;
         each = λ t lt. (let h = numbered_there b.all b.threads (thread_blocks script.decls) t (known script).threads (omega (arith, code_threads script, named)) in omega (arith, h, length-map b.all (flat.flat 0)));

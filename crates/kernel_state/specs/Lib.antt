@@ -8,3 +8,4 @@ pub mod Stood
 pub mod Due
 pub mod Leaps
 pub mod Waits
+pub mod Caught

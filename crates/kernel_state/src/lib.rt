@@ -15,6 +15,7 @@ mod parts;
 mod report;
 mod semaphore_values;
 mod settling;
+mod signals;
 mod threads;
 mod waking;
 

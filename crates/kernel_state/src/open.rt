@@ -13,6 +13,7 @@ use arrayvec::ArrayVec;
 use machine_rules::LastDispatch;
 use pse52_trace::Names;
 use ready_lists::Ready;
+use rt_signals::{Actions, Pending};
 use script_flat::Code;
 use script_tree::{Decl, Kind, Script};
 use semaphores::Semaphores;
@@ -71,12 +72,15 @@ impl Parts {
         let code = Code::open(alloc, script)?;
         let ready = Ready::open(alloc, table.count())?;
         let semaphores = Semaphores::open(alloc, script)?;
+        let pending = Pending::open(alloc)?;
         Ok(Parts {
             code,
             names,
             table,
             ready,
             semaphores,
+            pending,
+            actions: Actions::open(script),
             quantum: script.quantum,
             instant: Tick::default(),
             last: LastDispatch::NoTick,

@@ -2,12 +2,8 @@
 ghost use Rattle.std.specs.Prelude.{◌≡◌, ◌≤◌, ◌<◌, ◌^◌, [], length, slice_index, false};
 ghost use Rattle.pse52_trace.specs.Text.{IsNamed};
 ghost use Rattle.pse52_trace.specs.Tells.{Tells};
-ghost use Rattle.machine_rules.specs.Lives.{without_target};
 ghost use Rattle.machine_rules.specs.Dispatch.{dispatch_of, is_same};
-ghost use Rattle.machine_rules.specs.Delivery.{sweeps};
-ghost use Rattle.kernel_state.specs.Stood.{StoodRight};
-ghost use Rattle.machine_flat.specs.FlatBodies.{flat_bodies};
-ghost use Rattle.machine_rules.specs.Turns.{becomes, changes_pending, moves, takes_serial, tells};
+ghost use Rattle.machine_rules.specs.Turns.{becomes, moves, takes_serial, tells};
 ghost use Rattle.kernel_state.specs.Kernel.{after, ran, told};
 ghost use Rattle.std.specs.Prelude.{Some, is_some};
 
@@ -17,6 +13,7 @@ use machine_rules::LastDispatch;
 use pse52_trace::{Event, Names, Tracer};
 use ready_lists::Ready;
 use rt_io::Sink;
+use rt_signals::{Actions, Pending};
 use script_flat::Code;
 use semaphores::Semaphores;
 use std::marker::Model;
@@ -31,6 +28,9 @@ pub struct Parts {
     pub(crate) table: Table,
     pub(crate) ready: Ready,
     pub(crate) semaphores: Semaphores,
+    pub(crate) pending: Pending,
+    // what each signal does
+    pub(crate) actions: Actions,
     pub(crate) quantum: u64,
     pub(crate) instant: Tick,
     pub(crate) last: LastDispatch,
@@ -167,24 +167,5 @@ impl Parts {
         let serial = self.next_serial;
         self.next_serial += 1;
         serial
-    }
-
-    /// The signals directed to a thread are gone. None is ever pending, as none is built.
-    pub fn drop_pending(&mut self, t: Tid)
-        ensures { self.new ≡ after (changes_pending (without_target t)) self.old }
-    {
-        let _ = &self.names;
-    }
-
-    /// The sweep. Nothing is ever pending, as no signal is built.
-    #[tactic(auto, using(crate::proofs::SweepNothing::sweeps_nothing))]
-    pub fn sweep<K: Sink>(&mut self, out: &mut Tracer<'_, K>)
-        requires quiet { self.old.direct ≡ [] }
-        requires stood { StoodRight self.old.machine }
-        ensures state { self.new ≡ after (sweeps (flat_bodies self.old.code)) self.old }
-        ensures told { Tells K.text K.faults self.old.names out.old out.new (told (sweeps (flat_bodies self.old.code)) self.old) }
-        ensures same { self.new ≡ self.old }
-    {
-        let _ = &self.names;
     }
 }

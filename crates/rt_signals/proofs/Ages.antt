@@ -1,7 +1,7 @@
 -- Walks along all records, by age.
 use Rattle.std.specs.Prelude.{filter, not}
 use Rattle.std.specs.List.{AllByRecursion, list_any}
-use Rattle.std.proofs.Common.{◌≡◌, ℕ, suc, ◌+◌, ◌<◌, ◌≤◌, ◌==◌, ◌||◌, Bool, true, false, Option, Some, None, List, [], ◌∷◌, ◌++◌, length, if◌then◌else◌, refl, sym, ap, ap₂, subst, ◌∙◌, arith}
+use Rattle.std.proofs.Common.{◌≡◌, ℕ, suc, ◌+◌, ◌<◌, ◌≤◌, ◌==◌, ◌||◌, Bool, true, false, Some, List, [], ◌∷◌, ◌++◌, length, if◌then◌else◌, refl, sym, ap, ap₂, subst, ◌∙◌, arith}
 use Rattle.std.proofs.lemmas.Bool.Decides.{nat_tests}
 use Rattle.std.proofs.lemmas.List.Elements.{filter-append}
 use Rattle.machine_rules.specs.Lists.{is, is as is_of}
@@ -12,7 +12,7 @@ use Rattle.rt_signals.specs.Ages.{before, before_node, kept_for, stays}
 use Rattle.rt_signals.specs.Kept.{AreKept, AreRanked, AreRising, counted_in, record_at, record_of, records_of, weight_of}
 use Rattle.rt_signals.specs.Walks.{rest_of, since}
 use Rattle.rt_signals.proofs.Keeping.{count_with, few_counted, records_back}
-use Rattle.rt_signals.proofs.Walking.{Split, later_rest, oldest_in, rest_oldest, split_at}
+use Rattle.rt_signals.proofs.Walking.{Split, later_rest, oldest_in, split_at}
 
 module _ (p : SignalRecord → Bool) (records : List SignalRecord) (order : List Arrival) (n : ℕ) (came : has_come n order ≡ true) (d : AreDistinct order) where
   abbrev s : Split n order

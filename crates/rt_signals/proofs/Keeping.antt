@@ -1,14 +1,13 @@
 -- Records that are kept as one becomes pending, and as one is taken.
-use Rattle.std.specs.Prelude.{All, Contains, filter, not, slice_index_or}
+use Rattle.std.specs.Prelude.{All, Contains, filter, not}
 use Rattle.std.specs.List.{AllByRecursion}
-use Rattle.std.proofs.Common.{◌≡◌, ◌≢◌, ℕ, zero, suc, ◌+◌, ◌-◌, ◌<◌, ◌≤◌, ◌==◌, Bool, true, false, Option, Some, None, List, [], ◌∷◌, ◌++◌, length, map, set, get_or, replicate, if◌then◌else◌, refl, sym, ap, ap₂, subst, ◌∙◌, arith}
+use Rattle.std.proofs.Common.{◌≡◌, ◌≢◌, ℕ, zero, suc, ◌+◌, ◌-◌, ◌<◌, ◌≤◌, ◌==◌, Bool, true, false, List, [], ◌∷◌, ◌++◌, length, set, get_or, if◌then◌else◌, refl, sym, ap, ap₂, subst, ◌∙◌, arith}
 use Rattle.std.proofs.lemmas.Bool.Decides.{nat_tests}
 use Rattle.std.proofs.lemmas.List.{get_or-set_same, get_or-set_other, length-set}
-use Rattle.tick_num.specs.declared.sig_code.SigCode.{SigCode}
 use Rattle.machine_rules.specs.State.{SignalRecord}
 use Rattle.machine_rules.specs.Signals.{is_counted, without_record}
-use Rattle.ranked_arrivals.specs.Arrivals.{Arrival, Arrivals, AreDistinct, has_come, without_node}
-use Rattle.rt_signals.specs.Kept.{AreKept, AreRanked, AreRising, counted_in, no_record, record_at, record_of, records_of, room, weight_of}
+use Rattle.ranked_arrivals.specs.Arrivals.{Arrival, Arrivals, has_come, without_node}
+use Rattle.rt_signals.specs.Kept.{AreKept, AreRanked, AreRising, counted_in, no_record, record_at, record_of, records_of, weight_of}
 
 -- ---- of all members of a list
 

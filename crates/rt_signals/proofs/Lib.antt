@@ -2,3 +2,4 @@ pub mod Ages
 pub mod Keeping
 pub mod Selecting
 pub mod Walking
+pub mod Killing

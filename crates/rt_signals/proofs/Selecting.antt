@@ -1,7 +1,7 @@
 -- The record that a search along the signals finds is the one that is selected.
-use Rattle.std.specs.Prelude.{All, IfSome, IsSome, MatchOption, filter, not, nat_lt}
+use Rattle.std.specs.Prelude.{All, IfSome, IsSome, filter, not, nat_lt}
 use Rattle.std.specs.List.{AllByRecursion}
-use Rattle.std.proofs.Common.{◌≡◌, ◌≢◌, ℕ, zero, suc, ◌+◌, ◌-◌, ◌^◌, ◌<◌, ◌≤◌, ◌==◌, ◌&&◌, ◌||◌, Bool, true, false, Option, Some, None, List, [], ◌∷◌, length, get_or, min, bit_and, w32, if◌then◌else◌, refl, sym, ap, subst, ◌∙◌, arith}
+use Rattle.std.proofs.Common.{◌≡◌, ℕ, zero, suc, ◌-◌, ◌^◌, ◌<◌, ◌≤◌, ◌==◌, ◌&&◌, ◌||◌, Bool, true, false, Option, Some, None, List, [], ◌∷◌, length, get_or, min, bit_and, w32, if◌then◌else◌, refl, sym, ap, subst, ◌∙◌, arith}
 use Rattle.std.proofs.lemmas.Bool.Decides.{nat_tests}
 use Rattle.std.specs.Int.{bit_at, bit_not}
 use Rattle.std.proofs.lemmas.Nat.Bits.{bit_at-lt, bit_at_and, bit_at_not}
@@ -9,7 +9,7 @@ use Rattle.tick_num.specs.Signals.{has_signal}
 use Rattle.machine_rules.specs.Lists.{first_by, first_of}
 use Rattle.machine_rules.specs.State.{SignalRecord}
 use Rattle.machine_rules.specs.Signals.{goes_to, is_selected_before}
-use Rattle.ranked_arrivals.specs.Arrivals.{Arrival, IsArrival, has_come}
+use Rattle.ranked_arrivals.specs.Arrivals.{Arrival, IsArrival}
 use Rattle.rt_signals.specs.Choice.{IsLowest, NoneBelow, is_in_set, may_take, selected_in}
 use Rattle.rt_signals.specs.Kept.{AreRanked, AreRising, record_at, record_of, records_of}
 use Rattle.rt_signals.specs.Walks.{first_wanted, is_wanted}

@@ -2,3 +2,4 @@ pub mod Ages
 pub mod Choice
 pub mod Kept
 pub mod Walks
+pub mod Actions

@@ -1,4 +1,4 @@
--- Cleanup handlers that the code has, and what an ending thread asks for.
+-- Handlers that the code has, and what an ending thread asks for.
 use Rattle.std.specs.Prelude.{◌≡◌, ◌≤◌, ◌<◌, ◌∷◌, ℕ, List, [], length, slice_index, true}
 use Rattle.script_flat.specs.declared.cursor.Cursor.{Cursor}
 use Rattle.script_flat.specs.declared.op.Op.{Op}
@@ -16,6 +16,10 @@ pub record HandlerBegins (code : Bodies (List Op)) (u : ℕ) : Type 0 where
 -- and so does each that the code has
 pub record HandlersBegin (code : Bodies (List Op)) : Type 0 where
   pub each : (u : ℕ) → u < length code.cleanups → HandlerBegins code u
+
+-- each handler of a signal has a body of the code
+pub record CatchersBegin (code : Bodies (List Op)) : Type 0 where
+  pub each : (h : ℕ) → h < length code.handlers → slice_index code.handlers h < length code.all
 
 -- numbers of so many cleanup handlers
 abbrev pub AreHandlers : ℕ → List ℕ → Type 0

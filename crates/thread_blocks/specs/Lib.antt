@@ -8,3 +8,4 @@ pub mod Ends
 pub mod Opening
 pub mod Operands
 pub mod Handlers
+pub mod Signals

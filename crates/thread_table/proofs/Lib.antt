@@ -7,3 +7,4 @@ pub mod Opening
 pub mod Movers
 pub mod Armed
 pub mod Coming
+pub mod Accepting

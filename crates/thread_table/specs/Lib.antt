@@ -5,3 +5,4 @@ pub mod Moves
 pub mod Opening
 pub mod Movers
 pub mod Times
+pub mod Acceptors

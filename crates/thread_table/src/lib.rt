@@ -11,6 +11,7 @@ mod lives;
 mod mutexes;
 mod open;
 mod reads;
+mod signals;
 mod table;
 mod times;
 

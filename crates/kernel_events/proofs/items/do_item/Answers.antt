@@ -1,4 +1,4 @@
-use Rattle.std.proofs.Common.{ap, ◌∙◌}
+use Rattle.std.proofs.Common.{◌≤◌, ◌^◌, ap, subst, sym, ◌∙◌}
 use Rattle.machine_rules.specs.Delivery.{sweeps}
 use Rattle.machine_rules.specs.DueItems.{handles}
 use Rattle.machine_rules.specs.Turns.{settles_since, ◌▷◌}
@@ -9,6 +9,7 @@ use Rattle.machine_rules.proofs.Kept.{Kept}
 use Rattle.machine_flat.specs.FlatBodies.{flat_bodies}
 use Rattle.kernel_state.specs.Kernel.{Kernel, turn}
 use Rattle.kernel_state.proofs.Turns.{then_state_in, then_told_in}
+use Rattle.kernel_signals.specs.Sweeping.{CanSweep}
 use Rattle.kernel_events.proofs.items.do_item.Goals as goal
 
 pub returns-clause-state : goal.returns-clause-state
@@ -26,3 +27,12 @@ returns-clause-time g c =
     ap (λ (k : Kernel). k.machine.now) (returns-clause-state g c)
     ∙ sweeps_now bodies (settles_since p.machine (handles bodies c.args.i (turn p)))
     ∙ ap (λ (x : Kept). x.now) (handles_kept bodies c.args.i (turn p))
+
+pub sweep-requires-clause-can : goal.sweep-requires-clause-can
+sweep-requires-clause-can g c = subst (λ (k : Kernel). CanSweep k) (sym c.settle_item.ensures.state) c.requires.sweeps
+
+pub sweep-requires-clause-early : goal.sweep-requires-clause-early
+sweep-requires-clause-early g c =
+    let p = c.args.p.now in
+    let same = ap (λ (k : Kernel). k.machine.now) c.settle_item.ensures.state ∙ ap (λ (x : Kept). x.now) (handles_kept (flat_bodies p.code) c.args.i (turn p)) in
+    subst (λ n. n ≤ 10 ^ 18) (sym same) c.requires.early

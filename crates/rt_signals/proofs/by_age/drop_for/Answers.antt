@@ -1,4 +1,4 @@
-use Rattle.std.proofs.Common.{◌≡◌, ◌<◌, ◌+◌, ◌++◌, List, length, true, sym, ap, ap₂, subst₂, ◌∙◌, arith}
+use Rattle.std.proofs.Common.{◌<◌, ◌+◌, ◌++◌, List, length, true, sym, ap, ap₂, subst₂, ◌∙◌, arith}
 use Rattle.machine_rules.specs.Lists.{is}
 use Rattle.machine_rules.specs.State.{SignalRecord}
 use Rattle.ranked_arrivals.specs.Arrivals.{Arrival, Arrivals, has_come, next_in_order, without_node}

@@ -1,5 +1,5 @@
 use Rattle.std.specs.List.{list_any}
-use Rattle.std.proofs.Common.{◌≡◌, ◌<◌, length, true, sym, ap, subst₂, ◌∙◌, arith}
+use Rattle.std.proofs.Common.{◌<◌, length, sym, ap, subst₂, ◌∙◌, arith}
 use Rattle.rt_signals.specs.Ages.{is_from}
 use Rattle.rt_signals.specs.Kept.{records_of}
 use Rattle.rt_signals.specs.Walks.{rest_of}

@@ -1,5 +1,4 @@
-use Rattle.std.proofs.Common.{◌≡◌, ◌<◌, ℕ, Some, length, true, sym, ap, subst₂, ◌∙◌, arith}
-use Rattle.ranked_arrivals.specs.Arrivals.{has_come}
+use Rattle.std.proofs.Common.{◌<◌, length, sym, ap, subst₂, ◌∙◌, arith}
 use Rattle.rt_signals.specs.Walks.{first_wanted, is_wanted, rest_of}
 use Rattle.rt_signals.proofs.Walking.{come_below, first_in, found, next_in, passed, read_record, shorter, skip}
 use Rattle.rt_signals.proofs.choice.first_wanted.Goals as goal

@@ -1,4 +1,4 @@
-use Rattle.std.proofs.Common.{Bool, ◌≡◌, ◌-◌, ◌<◌, ◌^◌, ◌&&◌, ◌||◌, ℕ, subst, sym, ap, ap₂, ◌∙◌}
+use Rattle.std.proofs.Common.{Bool, ◌-◌, ◌<◌, ◌^◌, ◌&&◌, ◌||◌, subst, sym, ap, ap₂, ◌∙◌}
 use Rattle.std.specs.Prelude.{not, bit_and}
 use Rattle.tick_num.specs.Signals.{has_signal}
 use Rattle.rt_signals.proofs.Selecting.{all_let_through, kills_let_through}

@@ -1,6 +1,5 @@
-use Rattle.std.specs.Prelude.{All}
 use Rattle.std.specs.List.{AllByRecursion}
-use Rattle.std.proofs.Common.{◌≡◌, ◌<◌, ◌+◌, ◌∷◌, ◌++◌, [], ℕ, List, length, set, subst, sym, ap, ◌∙◌, arith}
+use Rattle.std.proofs.Common.{◌<◌, ◌+◌, ◌∷◌, ◌++◌, [], List, length, set, subst, sym, ap, ◌∙◌, arith}
 use Rattle.machine_rules.specs.State.{SignalRecord}
 use Rattle.ranked_arrivals.specs.Arrivals.{Arrivals}
 use Rattle.rt_signals.specs.Kept.{AreKept, records_of, weight_of}

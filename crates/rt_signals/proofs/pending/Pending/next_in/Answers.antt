@@ -1,9 +1,8 @@
-use Rattle.std.specs.Prelude.{Contains, Option}
-use Rattle.std.proofs.Common.{◌≡◌, ◌<◌, ◌-◌, List, Some, None, length, true, subst, sym, ap, ◌∙◌, arith}
+use Rattle.std.specs.Prelude.{Contains}
+use Rattle.std.proofs.Common.{◌<◌, List, Some, length, subst, sym, ap, ◌∙◌, arith}
 use Rattle.machine_rules.specs.State.{SignalRecord}
-use Rattle.ranked_arrivals.specs.Arrivals.{AreArrivals, Arrivals}
-use Rattle.rt_signals.specs.Choice.{IsLowest, NoneBelow, is_in_set, selected_in, without_one}
-use Rattle.rt_signals.specs.Kept.{AreKept, records_of, weight_of}
+use Rattle.rt_signals.specs.Choice.{IsLowest, NoneBelow}
+use Rattle.rt_signals.specs.Kept.{records_of}
 use Rattle.rt_signals.proofs.Keeping.{contains_at, to_all}
 use Rattle.rt_signals.proofs.Selecting.{is_selected, none_selected}
 use Rattle.rt_signals.proofs.Walking.{come_below, read_record}

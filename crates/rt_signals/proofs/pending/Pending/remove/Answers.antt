@@ -1,10 +1,9 @@
-use Rattle.std.specs.Prelude.{Contains, IfSome, IsSome, Option, filter, not}
-use Rattle.std.proofs.Common.{◌≡◌, ◌==◌, ◌<◌, ◌-◌, ℕ, List, Some, length, true, subst, sym, ap, ◌∙◌, arith, eqb-true}
-use Rattle.machine_rules.specs.Signals.{without_record}
+use Rattle.std.specs.Prelude.{Contains, IfSome, IsSome, Option}
+use Rattle.std.proofs.Common.{◌≡◌, ◌<◌, ◌-◌, ℕ, List, length, true, subst, sym, ap, ◌∙◌, arith, eqb-true}
 use Rattle.machine_rules.specs.State.{SignalRecord}
 use Rattle.ranked_arrivals.specs.Arrivals.{Arrivals, has_come}
 use Rattle.rt_signals.specs.Kept.{AreKept, record_at, records_of, weight_of}
-use Rattle.rt_signals.specs.Walks.{first_wanted, is_wanted}
+use Rattle.rt_signals.specs.Walks.{first_wanted}
 use Rattle.rt_signals.specs.declared.choice.Wanted.TheVariants.{WithSerial}
 use Rattle.rt_signals.proofs.Keeping.{contained, count_without, kept_without, records_without, same_serial}
 use Rattle.rt_signals.proofs.Selecting.{has_serial, wanted_is}

@@ -1,8 +1,8 @@
 use Rattle.std.specs.Prelude.{Option}
-use Rattle.std.proofs.Common.{◌≡◌, ◌<◌, ◌-◌, List, Some, None, length, true, subst, sym, ap, ◌∙◌, arith}
+use Rattle.std.proofs.Common.{◌<◌, ◌-◌, List, Some, length, subst, sym, ap, ◌∙◌, arith}
 use Rattle.machine_rules.specs.State.{SignalRecord}
-use Rattle.ranked_arrivals.specs.Arrivals.{AreArrivals, Arrivals}
-use Rattle.rt_signals.specs.Choice.{IsLowest, NoneBelow, is_in_set, selected_in, without_one}
+use Rattle.ranked_arrivals.specs.Arrivals.{Arrivals}
+use Rattle.rt_signals.specs.Choice.{IsLowest, NoneBelow, without_one}
 use Rattle.rt_signals.specs.Kept.{AreKept, records_of, weight_of}
 use Rattle.rt_signals.proofs.Keeping.{count_without, kept_without, records_without}
 use Rattle.rt_signals.proofs.Selecting.{is_selected, none_selected}

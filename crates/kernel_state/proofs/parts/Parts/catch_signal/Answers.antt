@@ -1,0 +1,19 @@
+use Rattle.script_flat.specs.Next.{capped}
+use Rattle.script_flat.specs.declared.cursor.Cursor.{Cursor}
+use Rattle.machine_rules.specs.State.{Thread}
+use Rattle.machine_rules.specs.declared.frame.BodyOf.TheVariants as body_of
+use Rattle.machine_rules.specs.declared.frame.FrameKind.TheVariants as kind
+use Rattle.machine_rules.specs.Waking.{new_frame, on_top}
+use Rattle.machine_flat.specs.FlatBodies.{flat_bodies}
+use Rattle.kernel_state.proofs.Carried.{as_many, none_thread, tied_again}
+use Rattle.kernel_state.proofs.parts.Parts.catch_signal.Goals as goal
+
+pub invariant_of-self : goal.invariant_of-self
+invariant_of-self c =
+    let s = c.self.inside in
+    let w = c.catch_signal in
+    let f : Thread Cursor → Thread Cursor = on_top (new_frame (flat_bodies s.code) kind.Signal (body_of.Handler c.args.h) (capped c.args.value)) in
+    record {
+      tied = tied_again s.names s.code s.ready.threads s.table.threads w.new.self.threads s.direct.items (as_many s.table w.new.self c.args.t f w.ensures.table) c.self.invariant.tied;
+      stand = none_thread s.table w.new.self s.ready.lists s.named.bits c.args.t f w.ensures.table c.self.invariant.stand (λ th h. h) w.ensures.same;
+    }

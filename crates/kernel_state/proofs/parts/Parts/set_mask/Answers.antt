@@ -1,0 +1,14 @@
+use Rattle.script_flat.specs.declared.cursor.Cursor.{Cursor}
+use Rattle.machine_rules.specs.State.{Thread}
+use Rattle.kernel_state.proofs.Carried.{as_many, none_thread, tied_again}
+use Rattle.kernel_state.proofs.parts.Parts.set_mask.Goals as goal
+
+pub invariant_of-self : goal.invariant_of-self
+invariant_of-self c =
+    let s = c.self.inside in
+    let w = c.set_mask in
+    let f : Thread Cursor → Thread Cursor = λ th. record th { mask = c.args.mask } in
+    record {
+      tied = tied_again s.names s.code s.ready.threads s.table.threads w.new.self.threads s.direct.items (as_many s.table w.new.self c.args.t f w.ensures.table) c.self.invariant.tied;
+      stand = none_thread s.table w.new.self s.ready.lists s.named.bits c.args.t f w.ensures.table c.self.invariant.stand (λ th h. h) w.ensures.same;
+    }

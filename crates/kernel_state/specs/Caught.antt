@@ -1,0 +1,24 @@
+-- What signals ask of a kernel.
+use Rattle.std.specs.Prelude.{◌<◌, ℕ, All, length}
+use Rattle.script_flat.specs.declared.cursor.Cursor.{Cursor}
+use Rattle.machine_rules.specs.declared.signal.SigAction.{SigAction}
+use Rattle.machine_rules.specs.declared.signal.SigAction.TheVariants as action
+use Rattle.machine_rules.specs.State.{Machine, SignalRecord}
+use Rattle.machine_rules.specs.Threads.{action_of}
+use Rattle.rt_signals.specs.Kept.{room}
+use Rattle.kernel_state.specs.Kernel.{Kernel}
+
+-- an action names one of so many handlers
+abbrev pub CatchesBy : ℕ → SigAction → Type 0
+CatchesBy handlers action.Kill = Unit {0}
+CatchesBy handlers action.Ignore = Unit {0}
+CatchesBy handlers (action.Handler h) = h < handlers
+
+-- the action of each signal names a handler that there is
+pub record AreCaught (k : Kernel) : Type 0 where
+  pub each : (signal : ℕ) → CatchesBy (length k.code.handlers) (action_of k.machine signal)
+
+-- there is room for one more record, which will be the youngest
+pub record HasRoomToPend (m : Machine Cursor) : Type 0 where
+  pub few : length m.pending < room
+  pub youngest : All (λ (r : SignalRecord). r.serial < m.next_serial) m.pending

@@ -1,0 +1,197 @@
+// Signals: what they do, and the pending ones.
+ghost use Rattle.std.specs.Prelude.{◌≡◌, ◌≤◌, ◌<◌, ◌^◌, ◌↔◌, ◌&&◌, [], Contains, IfSome, IsTrue, None, Some, length, option_map, true, if◌then◌else◌};
+ghost use Rattle.tick_num.specs.Signals.{has_signal};
+ghost use Rattle.pse52_trace.specs.Tells.{Tells};
+ghost use Rattle.script_flat.specs.Next.{capped};
+ghost use Rattle.machine_rules.specs.declared.frame.BodyOf.{BodyOf};
+ghost use Rattle.machine_rules.specs.declared.frame.FrameKind.{FrameKind};
+ghost use Rattle.machine_rules.specs.Delivery.{kills, taken_by_sweep, ticks_left};
+ghost use Rattle.machine_rules.specs.Lives.{without_target};
+ghost use Rattle.machine_rules.specs.Signals.{accepts, acceptor, becomes_pending, goes_to, is_full, selected, tells_overrun, with_signals, without_record, without_signals};
+ghost use Rattle.machine_rules.specs.State as machine;
+ghost use Rattle.machine_rules.specs.Threads.{action_of, is_blocked, thread_at, waiting_of as waiting_at};
+ghost use Rattle.machine_rules.specs.Turns.{changes, changes_pending};
+ghost use Rattle.machine_rules.specs.Waiters.{Waiter, waits_so};
+ghost use Rattle.machine_rules.specs.Waking.{new_frame, on_top};
+ghost use Rattle.machine_flat.specs.FlatBodies.{flat_bodies};
+ghost use Rattle.kernel_state.specs.Caught.{HasRoomToPend};
+ghost use Rattle.kernel_state.specs.Kernel.{after, told};
+
+use crate::parts::Parts;
+use machine_rules::SigAction;
+use pse52_trace::{Event, Tracer};
+use rt_io::Sink;
+use rt_signals::SignalRecord;
+use tick_num::{ObjId, SigSet, Tid};
+
+impl Parts {
+    /// Whether nothing is pending.
+    pub fn none_pending(&self) -> bool
+        ensures { IsTrue result ↔ (self.now.machine.pending ≡ []) }
+    {
+        self.pending.is_empty()
+    }
+
+    /// Whether as many records of kill, tkill and sigqueue are pending as may be.
+    pub fn is_full(&self) -> bool
+        ensures { result ≡ is_full self.now.machine }
+    {
+        self.pending.is_full()
+    }
+
+    /// What a signal, 0 to 31, does.
+    pub fn action(&self, signal: u8) -> SigAction
+        requires { signal < 32 }
+        ensures { result ≡ action_of self.now.machine signal }
+    {
+        self.actions.get(signal)
+    }
+
+    /// The pending record that the sweep takes for a thread; it stays. `None` exactly where there is none.
+    pub fn next_signal(&self, t: Tid) -> Option<SignalRecord>
+        requires { t < length self.now.names }
+        ensures value { result ≡ taken_by_sweep self.now.machine t }
+        ensures pending { IfSome result (λ r. Contains self.now.machine.pending r) }
+        ensures signal { IfSome result (λ r. r.signal < 32) }
+    {
+        let thread = self.table.thread(t);
+        if !thread.may_be_interrupted() {
+            return None;
+        }
+        self.pending.next_for(
+            t,
+            thread.mask(),
+            self.actions.kills(),
+            thread.runs_handlers(),
+        )
+    }
+
+    /// The pending record that a thread takes which asks for one of a set; it stays. `None` exactly where there is none.
+    pub fn next_awaited(&self, t: Tid, set: SigSet) -> Option<SignalRecord>
+        ensures value { result ≡ selected self.now.machine (λ (r : machine.SignalRecord). has_signal set r.signal && goes_to t r.target) }
+        ensures pending { IfSome result (λ r. Contains self.now.machine.pending r) }
+    {
+        self.pending.next_in(t, set)
+    }
+
+    /// The record is no longer pending.
+    pub fn take_record(&mut self, r: &SignalRecord)
+        requires { Contains self.old.machine.pending r.now }
+        ensures { self.new ≡ after (changes_pending (without_record r.now)) self.old }
+    {
+        self.pending.remove(r);
+    }
+
+    /// The signals directed to a thread are gone.
+    pub fn drop_pending(&mut self, t: Tid)
+        ensures { self.new ≡ after (changes_pending (without_target t)) self.old }
+    {
+        self.pending.drop_for(t);
+    }
+
+    /// The record becomes pending.
+    pub fn pend(&mut self, r: SignalRecord)
+        requires signal { r.signal < 32 }
+        requires room { HasRoomToPend self.old.machine }
+        requires serial { self.old.machine.next_serial < 2 ^ 63 }
+        ensures { self.new ≡ after (becomes_pending r) self.old }
+    {
+        let serial = self.take_serial();
+        self.pending.add(r, serial);
+    }
+
+    /// The overrun of the timer that a record is from is told. No timer is built.
+    pub fn tell_overrun(&mut self, timer: &Option<ObjId>)
+        ensures { self.new ≡ after (tells_overrun timer.now) self.old }
+    {
+        let _ = &self.names;
+    }
+
+    /// The process ends by a signal.
+    pub fn kill<K: Sink>(&mut self, signal: u8, out: &mut Tracer<'_, K>)
+        ensures state { self.new ≡ after (kills signal) self.old }
+        ensures told { Tells K.text K.faults self.old.names out.old out.new (told (kills signal) self.old) }
+    {
+        self.tell(&Event::Killed(signal), out);
+        self.killed = Some(signal);
+    }
+
+    /// The mask of a thread with more signals.
+    pub fn mask_with(&self, t: Tid, more: SigSet) -> SigSet
+        requires { t < length self.now.names }
+        ensures { result ≡ with_signals more (thread_at self.now.machine t).mask }
+    {
+        self.table.thread(t).mask_with(more)
+    }
+
+    /// The mask of a thread with fewer signals.
+    pub fn mask_without(&self, t: Tid, fewer: SigSet) -> SigSet
+        requires { t < length self.now.names }
+        ensures { result ≡ without_signals fewer (thread_at self.now.machine t).mask }
+    {
+        self.table.thread(t).mask_without(fewer)
+    }
+
+    /// The signals that a thread blocks.
+    pub fn set_mask(&mut self, t: Tid, mask: SigSet)
+        requires { t < length self.old.names }
+        ensures { self.new ≡ after (changes t (λ th. record th { mask = mask })) self.old }
+    {
+        self.table.set_mask(t, mask);
+    }
+
+    /// What the call of a thread answers where a handler interrupts its wait. `None` exactly where it does not wait.
+    pub fn interrupted(&self, t: Tid) -> Option<u64>
+        requires { t < length self.now.names }
+        ensures { result ≡ option_map (λ (w : machine.Waiting). ticks_left w.call w.due self.now.machine.now) (waiting_at self.now.machine t) }
+    {
+        self.table.thread(t).interrupted(self.instant)
+    }
+
+    /// A handler of a signal runs in a frame of its own.
+    pub fn catch_signal(&mut self, t: Tid, h: ObjId, value: u64)
+        requires known { t < length self.old.names }
+        requires handler { h < length self.old.code.handlers }
+        requires room { length (thread_at self.old.machine t).frames ≤ 2 }
+        ensures { self.new ≡ after (changes t (on_top (new_frame (flat_bodies self.old.code) FrameKind.Signal (BodyOf.Handler h) (capped value)))) self.old }
+    {
+        self.table.catch_signal(t, &self.code, h, value);
+    }
+
+    // Whether a thread waits for a signal.
+    #[tactic(auto, using(crate::proofs::Targets::accepts_so))]
+    fn awaits(&self, t: Tid, signal: u8) -> bool
+        requires known { t < length self.now.names }
+        requires signal { signal < 32 }
+        ensures { (r : machine.SignalRecord) → r.signal ≡ signal → result ≡ waits_so (accepts r) (thread_at self.now.machine t) }
+    {
+        self.table.thread(t).awaited_signals().contains(signal)
+    }
+
+    // The thread, where it waits for a signal.
+    fn if_awaits(&self, t: Tid, signal: u8) -> Option<Tid>
+        requires known { t < length self.now.names }
+        requires signal { signal < 32 }
+        ensures { (r : machine.SignalRecord) → r.signal ≡ signal → result ≡ (if waits_so (accepts r) (thread_at self.now.machine t) then Some t else None) }
+    {
+        if self.awaits(t, signal) {
+            Some(t)
+        } else {
+            None
+        }
+    }
+
+    /// The thread that accepts a record as it is generated; `None` exactly where none does.
+    pub fn acceptor(&self, r: &SignalRecord) -> Option<Tid>
+        requires signal { r.now.signal < 32 }
+        requires target { IfSome r.now.target (λ t. t < length self.now.names) }
+        ensures value { result ≡ option_map (λ (w : Waiter). w.thread) (acceptor self.now.machine r.now) }
+        ensures known { IfSome result (λ t. t < length self.now.names) }
+        ensures blocked { IfSome result (λ t. is_blocked (thread_at self.now.machine t).status ≡ true) }
+    {
+        match r.target() {
+            None => self.table.acceptor(r.signal()),
+            Some(t) => self.if_awaits(t, r.signal()),
+        }
+    }
+}

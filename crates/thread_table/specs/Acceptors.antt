@@ -1,0 +1,22 @@
+-- Who accepts a signal.
+use Rattle.std.specs.Prelude.{◌≡◌, ◌<◌, ℕ, List, Option, length, option_map, slice_index_or}
+use Rattle.script_flat.specs.declared.cursor.Cursor.{Cursor}
+use Rattle.machine_rules.specs.Signals.{acceptor}
+use Rattle.machine_rules.specs.State.{SignalRecord, Thread}
+use Rattle.machine_rules.specs.Threads.{thread_in, waiting_in}
+use Rattle.machine_rules.specs.Waiters.{Waiter}
+use Rattle.thread_blocks.specs.Signals.{signals_awaited}
+use Rattle.thread_table.specs.Table.{Table, machine_with}
+
+-- the signals that a thread waits for
+abbrev pub set_awaited : Thread Cursor → ℕ
+set_awaited th = signals_awaited (waiting_in th.status)
+
+-- there is room for 64 threads, and the sets of the first are theirs
+pub record AreAwaited (threads : List (Thread Cursor)) (n : ℕ) (sets : List ℕ) : Type 0 where
+  pub long : length sets ≡ 64
+  pub each : (t : ℕ) → t < n → slice_index_or sets t 0 ≡ set_awaited (thread_in threads t)
+
+-- the thread that accepts a record as it is generated
+abbrev pub acceptor_in : Table → SignalRecord → Option ℕ
+acceptor_in table r = option_map (λ (w : Waiter). w.thread) (acceptor (machine_with table.threads table.mutexes) r)

@@ -1,0 +1,67 @@
+// Masks, handlers of signals, and who accepts a signal.
+ghost use Rattle.std.specs.Prelude.{◌≡◌, ◌≤◌, ◌<◌, length, None};
+ghost use Rattle.script_flat.specs.Next.{capped};
+ghost use Rattle.script_flat.specs.declared.cursor.Cursor.{Cursor};
+ghost use Rattle.machine_rules.specs.declared.frame.BodyOf.{BodyOf};
+ghost use Rattle.machine_rules.specs.declared.frame.FrameKind.{FrameKind};
+ghost use Rattle.machine_rules.specs.State.{SignalRecord, Thread};
+ghost use Rattle.machine_rules.specs.Threads.{thread_in};
+ghost use Rattle.machine_rules.specs.Waking.{new_frame, on_top};
+ghost use Rattle.machine_flat.specs.FlatBodies.{flat_bodies};
+ghost use Rattle.thread_blocks.specs.Handlers.{CatchersBegin};
+ghost use Rattle.thread_table.specs.Acceptors.{AreAwaited, acceptor_in};
+ghost use Rattle.thread_table.specs.Table as table;
+ghost use Rattle.thread_table.specs.Table.{with_thread};
+ghost use Rattle.thread_table.specs.Movers.{KeepsExec};
+
+use crate::open::tid_of;
+use crate::table::Table;
+use machine_rules::{BodyOf, FrameKind};
+use script_flat::Code;
+use thread_blocks::Threads;
+use tick_num::{ObjId, SigSet, Tid};
+
+// The signals that each thread waits for.
+fn awaited_sets(threads: &Threads) -> [SigSet; 64]
+    ensures { AreAwaited threads.now (length threads.now) result }
+{
+    let mut sets = [SigSet::new(0); 64];
+    for number in 0..threads.count() {
+        sets[number as usize] = threads.get(tid_of(number)).awaited_signals();
+    }
+    sets
+}
+
+impl Table {
+    /// The signals that it blocks. No execution priority changes.
+    pub fn set_mask(&mut self, t: Tid, mask: SigSet)
+        requires { t < length self.old.threads }
+        ensures table { self.new ≡ with_thread t (λ th. record th { mask = mask }) self.old }
+        ensures same { KeepsExec self.old self.new }
+    {
+        self.threads.get_mut(t).set_mask(mask);
+    }
+
+    /// A handler of a signal runs in a frame of its own. No execution priority changes.
+    pub fn catch_signal(&mut self, t: Tid, code: &Code, h: ObjId, value: u64)
+        requires known { t < length self.old.threads }
+        requires handler { h < length code.now.handlers }
+        requires begins { CatchersBegin code.now }
+        requires room { length (thread_in self.old.threads t).frames ≤ 2 }
+        ensures table { self.new ≡ with_thread t (on_top (new_frame (flat_bodies code.now) FrameKind.Signal (BodyOf.Handler h) (capped value))) self.old }
+        ensures same { KeepsExec self.old self.new }
+    {
+        self.threads.get_mut(t).catch_signal(code, h, value);
+    }
+
+    /// The thread that accepts the signal, 0 to 31, for the process as it is generated; `None` exactly where none does.
+    #[tactic(auto, using(crate::proofs::Accepting::sets_many))]
+    pub fn acceptor(&self, signal: u8) -> Option<Tid>
+        requires { signal < 32 }
+        ensures { (r : SignalRecord) → r.signal ≡ signal → r.target ≡ None → result ≡ acceptor_in self.now r }
+    {
+        let sets = awaited_sets(&self.threads);
+        self.waits.serve_by_the_rules();
+        self.waits.best_for_signal(&sets, signal)
+    }
+}
