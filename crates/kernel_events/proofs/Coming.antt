@@ -36,7 +36,7 @@ use Rattle.machine_rules.proofs.Reading.{changed-keeps, thread-other}
 use Rattle.machine_flat.specs.KnownCalls.{Objects}
 use Rattle.kernel_events.specs.Built.{IsBuilt}
 use Rattle.kernel_state.specs.Due.{IsKnown}
-use Rattle.kernel_sync.specs.Waits.{AreBuiltWaits, IsBuiltWait, OnlyBuiltWaits}
+use Rattle.kernel_sync.specs.Waits.{WaitKnowsMutex, KnowsMutex, WaitsKnowMutexes}
 use Rattle.kernel_state.proofs.StoodAgain.{HaveCome}
 
 last_in : (t : ℕ) (us : List ℕ) → stands_in t (us ++ t ∷ []) ≡ true
@@ -291,7 +291,7 @@ signals_best_of_come (suc n) c s =
 
 -- ---- items
 
-times_out_of_come : {P : Type 0} (n : ℕ) (x : Wait) (t : ℕ) (s : Turn P) → IsBuiltWait n x → HaveCome s.machine (times_out_of x t s).direct (times_out_of x t s).machine
+times_out_of_come : {P : Type 0} (n : ℕ) (x : Wait) (t : ℕ) (s : Turn P) → KnowsMutex n x → HaveCome s.machine (times_out_of x t s).direct (times_out_of x t s).machine
 times_out_of_come n (for_mutex k) t s built = wakes_come t res.Timedout 0 s
 times_out_of_come n (for_mutex_again k how) t s built = wakes_come t res.Timedout 0 s
 times_out_of_come n (for_condition c k) t s built = contends_come t cond_end.Timedout s
@@ -300,11 +300,11 @@ times_out_of_come n (for_semaphore k) t s built = wakes_come t res.Timedout 0 s
 times_out_of_come n for_time t s built = wakes_come t res.Zero 0 s
 times_out_of_come n _ t s built = absurd built
 
-times_out_come : {P : Type 0} (n : ℕ) (w : Option Waiting) (t : ℕ) (s : Turn P) → AreBuiltWaits n w → HaveCome s.machine (times_out w t s).direct (times_out w t s).machine
+times_out_come : {P : Type 0} (n : ℕ) (w : Option Waiting) (t : ℕ) (s : Turn P) → WaitKnowsMutex n w → HaveCome s.machine (times_out w t s).direct (times_out w t s).machine
 times_out_come n None t s built = fewer_come s.machine s.machine s.direct (λ u r. r)
 times_out_come n (Some w) t s built = times_out_of_come n w.wait t s built
 
-pub handles_come : {P : Type 0} (bodies : Bodies P) (n : ℕ) (i : Item) (s : Turn P) → IsKnown n i → OnlyBuiltWaits s.machine →
+pub handles_come : {P : Type 0} (bodies : Bodies P) (n : ℕ) (i : Item) (s : Turn P) → IsKnown n i → WaitsKnowMutexes s.machine →
     HaveCome s.machine (handles bodies i s).direct (handles bodies i s).machine
 handles_come bodies n (item.Refill t) s known waits =
     let o = (thread_at s.machine t).server in

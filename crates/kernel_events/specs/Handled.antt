@@ -5,9 +5,12 @@ use Rattle.machine_rules.specs.State.{Machine}
 use Rattle.machine_rules.specs.Threads.{thread_at}
 use Rattle.machine_rules.specs.Servers.{has_high}
 use Rattle.thread_blocks.specs.Unused.{IsUnused}
+use Rattle.kernel_state.specs.Pending.{PendingFits, SignalsFit}
 use Rattle.kernel_sync.specs.Waits.{WaitsFit}
 
--- a timeout ends a wait that is built; what wakes is activated, and so is what a refill gives its high priority back
+-- a timeout ends a wait; what wakes is activated, and so is what a refill gives its high priority back; a timer sends its signal
 pub record CanHandle (m : Machine Cursor) : Type 0 where
   pub waits : WaitsFit m
+  pub pends : PendingFits m
+  pub signals : SignalsFit m
   pub rests_low : (t : ℕ) → has_high (thread_at m t).server ≡ false → IsUnused (thread_at m t).server

@@ -9,3 +9,4 @@ pub mod Due
 pub mod Leaps
 pub mod Waits
 pub mod Caught
+pub mod Pending

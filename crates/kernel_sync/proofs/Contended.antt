@@ -26,7 +26,7 @@ use Rattle.machine_moves.proofs.Calls.Answers.{waits_blocked}
 use Rattle.machine_moves.proofs.Calls.Commuting.{woken_runs}
 use Rattle.machine_moves.proofs.Waiters.OfThreads.{changed_is}
 use Rattle.thread_blocks.specs.Unused.{IsUnused}
-use Rattle.kernel_sync.specs.Waits.{AreBuiltWaits, OwnsNone, WaitsFit}
+use Rattle.kernel_sync.specs.Waits.{WaitKnowsMutex, OwnsNone, WaitsFit}
 use Rattle.kernel_sync.proofs.Kept.{kept_fits}
 use Rattle.kernel_sync.proofs.Resting.{only_blocked}
 
@@ -38,7 +38,7 @@ same_number t u e = grind arith
 
 -- ---- a thread that runs
 
-runs_built : (n : ℕ) (status : Status) → is_runnable status ≡ true → AreBuiltWaits n (waiting_in status)
+runs_built : (n : ℕ) (status : Status) → is_runnable status ≡ true → WaitKnowsMutex n (waiting_in status)
 runs_built n (dormant at) e = tt
 runs_built n runnable e = tt
 runs_built n (blocked w) e = absurd cc
@@ -91,7 +91,7 @@ woken_mutexes e t r s = kept_mutexes (high_server (thread_at (tells e (moves t (
     kept_mutexes (Some server) = refl
 
 taken_fits : (e : Event) (t k : ℕ) (r : Res) (s : Turn Cursor) → is_blocked (thread_at s.machine t).status ≡ true → WaitsFit s.machine → WaitsFit (s ▷ changes_mutex k (taken_by t) ▷ wakes_telling e t r 0).machine
-taken_fits d t k r s waits h = record { built = λ u. built u (t == u) refl; rests = λ u e. rests u (t == u) refl e; own_none = λ u e. own_none u (t == u) refl e }
+taken_fits d t k r s waits h = record { mutexes = λ u. mutexes_at u (t == u) refl; rests = λ u e. rests u (t == u) refl e; own_none = λ u e. own_none u (t == u) refl e }
   where
     mid : Turn Cursor
     mid = changes_mutex k (taken_by t) s
@@ -105,11 +105,11 @@ taken_fits d t k r s waits h = record { built = λ u. built u (t == u) refl; res
     many : length after.mutexes ≡ length s.machine.mutexes
     many = ap length (woken_mutexes d t r mid) ∙ changed-length no_mutex k (taken_by t) s.machine.mutexes
 
-    built : (u : ℕ) (b : Bool) → (t == u) ≡ b → AreBuiltWaits (length after.mutexes) (waiting_in (thread_at after u).status)
-    built u true it = subst (λ (i : ℕ). AreBuiltWaits (length after.mutexes) (waiting_in (thread_at after i).status)) (same_number t u it) (runs_built (length after.mutexes) (thread_at after t).status runs)
-    built u false other =
-        subst (λ (n : ℕ). AreBuiltWaits n (waiting_in (thread_at after u).status)) (sym many)
-        (subst (λ (th : Thread Cursor). AreBuiltWaits (length s.machine.mutexes) (waiting_in th.status)) (sym (woken_thread d t u r mid other)) (h.built u))
+    mutexes_at : (u : ℕ) (b : Bool) → (t == u) ≡ b → WaitKnowsMutex (length after.mutexes) (waiting_in (thread_at after u).status)
+    mutexes_at u true it = subst (λ (i : ℕ). WaitKnowsMutex (length after.mutexes) (waiting_in (thread_at after i).status)) (same_number t u it) (runs_built (length after.mutexes) (thread_at after t).status runs)
+    mutexes_at u false other =
+        subst (λ (n : ℕ). WaitKnowsMutex n (waiting_in (thread_at after u).status)) (sym many)
+        (subst (λ (th : Thread Cursor). WaitKnowsMutex (length s.machine.mutexes) (waiting_in th.status)) (sym (woken_thread d t u r mid other)) (h.mutexes u))
 
     rests : (u : ℕ) (b : Bool) → (t == u) ≡ b → is_blocked (thread_at after u).status ≡ true → IsUnused (thread_at after u).server
     rests u true it e = not_both (is_blocked (thread_at after t).status) (runs_unblocked (thread_at after t).status runs) (subst (λ (i : ℕ). is_blocked (thread_at after i).status ≡ true) (sym (same_number t u it)) e)
@@ -129,7 +129,7 @@ taken_fits d t k r s waits h = record { built = λ u. built u (t == u) refl; res
 again_fits : (by : By) (k : ℕ) (how : CondEnd) (s : Turn Cursor) → is_blocked (thread_at s.machine by.thread).status ≡ true → OwnsNone s.machine by.thread →
     WaitsFit s.machine → WaitsFit (blocks by (for_mutex_again k how) None s).machine
 again_fits by k how s waits none h = record {
-  built = only_blocked by (for_mutex_again k how) None s tt h.built;
+  mutexes = only_blocked by (for_mutex_again k how) None s tt h.mutexes;
   rests = λ u e. rests u (changed_is no_thread by.thread u (put_to_wait own) s.machine.threads) e;
   own_none = λ u e. own_none u (changed_is no_thread by.thread u (put_to_wait own) s.machine.threads) e;
 }

@@ -9,7 +9,7 @@ use Rattle.machine_rules.specs.Threads.{can_run, is_blocked, is_runnable, no_thr
 use Rattle.machine_rules.specs.Turns.{Turn, changes}
 use Rattle.machine_rules.proofs.Reading.{changed-keeps}
 use Rattle.thread_blocks.specs.Unused.{IsUnused}
-use Rattle.kernel_sync.specs.Waits.{AreBuiltWaits, BlockedRest, WaitsFit}
+use Rattle.kernel_sync.specs.Waits.{WaitKnowsMutex, BlockedRest, WaitsFit}
 
 module _ (t : ℕ) (f : Thread Cursor → Thread Cursor) (s : Turn Cursor) (status : (th : Thread Cursor) → (f th).status ≡ th.status) where
   abbrev changed_thread : ℕ → Thread Cursor
@@ -34,7 +34,7 @@ module _ (t : ℕ) (f : Thread Cursor → Thread Cursor) (s : Turn Cursor) (stat
 
     pub kept_fits : WaitsFit s.machine → WaitsFit (changes t f s).machine
     kept_fits h = record {
-      built = λ u. subst (λ (x : Status). AreBuiltWaits (length s.machine.mutexes) (waiting_in x)) (sym (kept_status u)) (h.built u);
+      mutexes = λ u. subst (λ (x : Status). WaitKnowsMutex (length s.machine.mutexes) (waiting_in x)) (sym (kept_status u)) (h.mutexes u);
       rests = kept_rest h.rests;
       own_none = λ u e. h.own_none u (sym (ap (λ (x : Status). option_map_or (λ (w : Waiting). is_in_condition_wait w.wait) (waiting_in x) false) (kept_status u)) ∙ e);
     }

@@ -12,7 +12,7 @@ use Rattle.machine_moves.proofs.Calls.Answers.{waits_blocked}
 use Rattle.machine_moves.proofs.Waiters.Best.{best_waits}
 use Rattle.machine_moves.proofs.Waiters.OfThreads.{changed_is}
 use Rattle.thread_blocks.specs.Unused.{IsUnused}
-use Rattle.kernel_sync.specs.Waits.{AreBuiltWaits, BlockedRest, IsBuiltWait, MutexWaitersRest, OnlyBuiltWaits}
+use Rattle.kernel_sync.specs.Waits.{WaitKnowsMutex, BlockedRest, KnowsMutex, MutexWaitersRest, WaitsKnowMutexes}
 
 pub blocked_waiters : (m : Machine Cursor) (k : ℕ) → BlockedRest m → MutexWaitersRest m k
 blocked_waiters m k rests u w waits passes = rests u (waits_blocked m u w waits)
@@ -45,7 +45,7 @@ blocked_on_condition by c j due k s rests u w waits passes = by_thread (changed_
     by_thread (inl (same, at)) = not_both (waits_for_mutex k w.wait) (let e : own ≡ w = (let f : Some own ≡ Some w = sym (ap (λ (th : Thread Cursor). waiting_in th.status) at) ∙ waits in cc) in ap (λ (v : Waiting). waits_for_mutex k v.wait) (sym e)) passes
     by_thread (inr at) = subst (λ (th : Thread Cursor). IsUnused th.server) (sym at) (rests u (waits_blocked s.machine u w (sym (ap (λ (th : Thread Cursor). waiting_in th.status) at) ∙ waits)))
 
-pub only_blocked : (by : By) (x : Wait) (due : Option ℕ) (s : Turn Cursor) → IsBuiltWait (length s.machine.mutexes) x → OnlyBuiltWaits s.machine → OnlyBuiltWaits (blocks by x due s).machine
+pub only_blocked : (by : By) (x : Wait) (due : Option ℕ) (s : Turn Cursor) → KnowsMutex (length s.machine.mutexes) x → WaitsKnowMutexes s.machine → WaitsKnowMutexes (blocks by x due s).machine
 only_blocked by x due s built only u = by_thread (changed_is no_thread by.thread u (put_to_wait own) s.machine.threads)
   where
     own : Waiting
@@ -55,6 +55,6 @@ only_blocked by x due s built only u = by_thread (changed_is no_thread by.thread
     after = (blocks by x due s).machine
 
     by_thread : ((by.thread ≡ u) × (thread_at after u ≡ put_to_wait own (thread_at s.machine by.thread))) ⊎ (thread_at after u ≡ thread_at s.machine u) →
-        AreBuiltWaits (length s.machine.mutexes) (waiting_in (thread_at after u).status)
-    by_thread (inl (same, at)) = subst (λ (th : Thread Cursor). AreBuiltWaits (length s.machine.mutexes) (waiting_in th.status)) (sym at) built
-    by_thread (inr at) = subst (λ (th : Thread Cursor). AreBuiltWaits (length s.machine.mutexes) (waiting_in th.status)) (sym at) (only u)
+        WaitKnowsMutex (length s.machine.mutexes) (waiting_in (thread_at after u).status)
+    by_thread (inl (same, at)) = subst (λ (th : Thread Cursor). WaitKnowsMutex (length s.machine.mutexes) (waiting_in th.status)) (sym at) built
+    by_thread (inr at) = subst (λ (th : Thread Cursor). WaitKnowsMutex (length s.machine.mutexes) (waiting_in th.status)) (sym at) (only u)

@@ -10,7 +10,7 @@ use Rattle.machine_rules.specs.Turns.{By, Turn, answered, returns}
 use Rattle.machine_moves.proofs.Calls.Answers.{waits_blocked}
 use Rattle.machine_moves.proofs.Waiters.OfThreads.{changed_is}
 use Rattle.thread_blocks.specs.Unused.{IsUnused}
-use Rattle.kernel_sync.specs.Waits.{AreBuiltWaits, BlockedRest, MutexWaitersRest, WaitsFit}
+use Rattle.kernel_sync.specs.Waits.{WaitKnowsMutex, BlockedRest, MutexWaitersRest, WaitsFit}
 
 module _ (by : By) (r : Res) (s : Turn Cursor) where
   abbrev answered_at : ℕ → Thread Cursor
@@ -44,7 +44,7 @@ module _ (by : By) (r : Res) (s : Turn Cursor) where
 
   pub returned_fits : WaitsFit s.machine → WaitsFit (returns by r 0 s).machine
   returned_fits h = record {
-    built = λ u. subst (λ (x : Status). AreBuiltWaits (length s.machine.mutexes) (waiting_in x)) (sym (status_stays u)) (h.built u);
+    mutexes = λ u. subst (λ (x : Status). WaitKnowsMutex (length s.machine.mutexes) (waiting_in x)) (sym (status_stays u)) (h.mutexes u);
     rests = returned_rest h.rests;
     own_none = λ u e. h.own_none u (sym (ap (λ (x : Status). option_map_or (λ (w : Waiting). is_in_condition_wait w.wait) (waiting_in x) false) (status_stays u)) ∙ e);
   }

@@ -2,28 +2,23 @@
 use Rattle.std.specs.Prelude.{◌≡◌, ◌<◌, ℕ, [], None, Option, Some, length, true}
 use Rattle.machine_rules.specs.GoodState.{is_in_condition_wait}
 use Rattle.machine_rules.specs.Mutexes.{owned_by, waits_for_mutex}
-use Rattle.machine_rules.specs.State.{Machine, Wait, Waiting, for_condition, for_end, for_mutex, for_mutex_again, for_semaphore, for_time}
+use Rattle.machine_rules.specs.State.{Machine, Wait, Waiting, for_condition}
 use Rattle.machine_rules.specs.Threads.{is_blocked, thread_at, waiting_of}
 use Rattle.machine_rules.specs.Waiters.{waits_so}
 use Rattle.thread_blocks.specs.Unused.{IsUnused}
 
--- the waits that are built, where there are so many mutexes
-abbrev pub IsBuiltWait : ℕ → Wait → Type 0
-IsBuiltWait mutexes (for_mutex k) = Unit {0}
-IsBuiltWait mutexes (for_mutex_again k how) = Unit {0}
-IsBuiltWait mutexes (for_condition c k) = k < mutexes
-IsBuiltWait mutexes (for_end t) = Unit {0}
-IsBuiltWait mutexes (for_semaphore k) = Unit {0}
-IsBuiltWait mutexes for_time = Unit {0}
-IsBuiltWait mutexes other = ⊥
+-- the mutex of a condition wait is one of so many
+abbrev pub KnowsMutex : ℕ → Wait → Type 0
+KnowsMutex mutexes (for_condition c k) = k < mutexes
+KnowsMutex mutexes other = Unit {0}
 
-abbrev pub AreBuiltWaits : ℕ → Option Waiting → Type 0
-AreBuiltWaits mutexes None = Unit {0}
-AreBuiltWaits mutexes (Some w) = IsBuiltWait mutexes w.wait
+abbrev pub WaitKnowsMutex : ℕ → Option Waiting → Type 0
+WaitKnowsMutex mutexes None = Unit {0}
+WaitKnowsMutex mutexes (Some w) = KnowsMutex mutexes w.wait
 
--- each thread that waits waits for something that is built
-abbrev pub OnlyBuiltWaits : {P : Type 0} → Machine P → Type 0
-OnlyBuiltWaits m = (t : ℕ) → AreBuiltWaits (length m.mutexes) (waiting_of m t)
+-- whatever thread waits
+abbrev pub WaitsKnowMutexes : {P : Type 0} → Machine P → Type 0
+WaitsKnowMutexes m = (t : ℕ) → WaitKnowsMutex (length m.mutexes) (waiting_of m t)
 
 -- the server of a thread that waits has consumed nothing that is not planned
 abbrev pub BlockedRest : {P : Type 0} → Machine P → Type 0
@@ -36,12 +31,12 @@ OwnsNone m t = owned_by m t ≡ []
 abbrev pub WaitersOwnNone : {P : Type 0} → Machine P → Type 0
 WaitersOwnNone m = (t : ℕ) → waits_so is_in_condition_wait (thread_at m t) ≡ true → owned_by m t ≡ []
 
--- nor has that of a thread that waits for a mutex
+-- the server of a thread that waits for this mutex has consumed nothing that is not planned
 abbrev pub MutexWaitersRest : {P : Type 0} → Machine P → ℕ → Type 0
 MutexWaitersRest m k = (u : ℕ) (w : Waiting) → waiting_of m u ≡ Some w → waits_for_mutex k w.wait ≡ true → IsUnused (thread_at m u).server
 
 -- what the calls of conditions may count on
 pub record WaitsFit {P : Type 0} (m : Machine P) : Type 0 where
-  pub built : OnlyBuiltWaits m
+  pub mutexes : WaitsKnowMutexes m
   pub rests : BlockedRest m
   pub own_none : WaitersOwnNone m

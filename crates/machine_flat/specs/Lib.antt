@@ -3,5 +3,4 @@ pub mod Placed
 pub mod Traces
 pub mod EachCall
 pub mod KnownCalls
-pub mod Built
 pub mod Runnable

@@ -1,5 +1,5 @@
 -- What the kernel asks of a script. Whatever the reader accepts has it.
-use Rattle.std.specs.Prelude.{◌≡◌, ◌≤◌, ◌<◌, ℕ, [], All, None, Some, length, replicate, true}
+use Rattle.std.specs.Prelude.{◌≤◌, ◌<◌, ℕ, All, None, Some, length}
 use Rattle.script_tree.specs.declared.call.Call.{Call}
 use Rattle.script_tree.specs.declared.call.Call.TheVariants as call
 use Rattle.script_tree.specs.declared.decl.Decl.{Decl}
@@ -9,12 +9,10 @@ use Rattle.script_tree.specs.declared.decl.Script.{Script}
 use Rattle.script_tree.specs.declared.policy.Policy.{Policy}
 use Rattle.script_tree.specs.declared.policy.Policy.TheVariants as policy
 use Rattle.script_flat.specs.Flat.{IsFlattenable, bodies_of}
-use Rattle.machine_rules.specs.declared.signal.SigAction.TheVariants as action
-use Rattle.machine_rules.specs.Declarations.{ThreadDecl, actions_of, handlers_of, queues_of, threads_of, timers_of}
+use Rattle.machine_rules.specs.Declarations.{ThreadDecl, handlers_of, queues_of, threads_of, timers_of}
 use Rattle.machine_rules.specs.Semaphores.{semaphore_limit}
-use Rattle.machine_flat.specs.Built.{is_built}
 use Rattle.machine_flat.specs.EachCall.{EachCall}
-use Rattle.machine_flat.specs.KnownCalls.{KnowsObjects, Objects, objects_of}
+use Rattle.machine_flat.specs.KnownCalls.{IsSignal, KnowsObjects, Objects, objects_of}
 
 -- a server begins with a budget
 abbrev pub HasBudget : Policy → Type 0
@@ -26,11 +24,10 @@ abbrev pub CallHasBudget : Call → Type 0
 CallHasBudget (call.Setsched u policy) = HasBudget policy
 CallHasBudget other = Unit {0}
 
--- a call names what there is of so many objects, and its effect is built
+-- a call names what there is of so many objects
 pub record CallIsRunnable (o : Objects) (c : Call) : Type 0 where
   pub objects : KnowsObjects o c
   pub budget : CallHasBudget c
-  pub built : is_built c ≡ true
 
 -- the handler of a signal's action is one of so many
 abbrev pub ActionNames : ℕ → Decl → Type 0
@@ -43,7 +40,13 @@ abbrev pub HasValue : Decl → Type 0
 HasValue (decl.Named name (kind.Sem value)) = value ≤ semaphore_limit
 HasValue other = Unit {0}
 
--- at most 64 threads, bodies that are not too long and not nested too deeply, and calls and actions that name what is declared
+-- a timer sends one of the signals
+abbrev pub HasSignal : Decl → Type 0
+HasSignal (decl.Named name (kind.Timer signal value)) = IsSignal signal
+HasSignal other = Unit {0}
+
+-- at most 64 threads, 16 queues and 32 timers, bodies that are not too long and not nested too deeply, and calls and actions that name
+-- what is declared
 pub record IsRunnable (script : Script) : Type 0 where
   pub few : length (threads_of script) ≤ 64
   pub flattenable : IsFlattenable (bodies_of script.decls).all
@@ -51,7 +54,6 @@ pub record IsRunnable (script : Script) : Type 0 where
   pub handlers : All (ActionNames (length (handlers_of script))) script.decls
   pub budgets : All (λ (d : ThreadDecl). HasBudget d.policy) (threads_of script)
   pub values : All HasValue script.decls
-  -- none of these is built yet
-  pub queues : queues_of script ≡ []
-  pub timers : timers_of script ≡ []
-  pub actions : actions_of script ≡ replicate 32 action.Kill
+  pub few_queues : length (queues_of script) ≤ 16
+  pub few_timers : length (timers_of script) ≤ 32
+  pub signals : All HasSignal script.decls

@@ -7,12 +7,14 @@
 
 mod mem_sink;
 mod mem_source;
+mod null_sink;
 mod outside;
 mod std_edge;
 mod whole;
 
 pub use mem_sink::MemSink;
 pub use mem_source::{MemSource, SureSource};
+pub use null_sink::NullSink;
 pub use outside::{Failed, Sink, Source};
 pub use std_edge::{StdSink, StdSource};
 pub use whole::{ReadEnd, read_whole};

@@ -26,7 +26,7 @@ use Rattle.std.specs.Option.{option_map_or}
 use Rattle.machine_rules.specs.GoodState.{is_in_condition_wait}
 use Rattle.machine_rules.specs.Mutexes.{owned_by}
 use Rattle.machine_rules.specs.Waiters.{waits_so}
-use Rattle.kernel_sync.specs.Waits.{AreBuiltWaits}
+use Rattle.kernel_sync.specs.Waits.{WaitKnowsMutex}
 use Rattle.kernel_state.specs.Kernel.{Kernel, after, turn}
 use Rattle.kernel_state.specs.Stood.{StoodRight}
 use Rattle.kernel_events.specs.Built.{objects_in}
@@ -84,7 +84,7 @@ head_fits : (o : Objects) (code : flat.Bodies (List Op)) (m : Machine Cursor) (l
 head_fits o code m last t stood e fit = record {
   thread = fit.top t e;
   runs = head_runs m t stood e;
-  waits = record { built = fit.items.waits.built; rests = fit.items.waits.rests; own_none = fit.items.waits.own_none };
+  waits = record { mutexes = fit.items.waits.mutexes; rests = fit.items.waits.rests; own_none = fit.items.waits.own_none };
   joins = record { joiners = fit.joins.joiners; ends = fit.joins.ends };
   serial = fit.serial;
   threads = fit.threads;
@@ -110,7 +110,7 @@ blocked_rests runnable e = absurd (cc)
 blocked_rests (blocked w) e = refl
 blocked_rests ended e = refl
 
-running_waits : (n : ℕ) (s : Status) → is_runnable s ≡ true → AreBuiltWaits n (waiting_in s)
+running_waits : (n : ℕ) (s : Status) → is_runnable s ≡ true → WaitKnowsMutex n (waiting_in s)
 running_waits n (dormant at) e = tt
 running_waits n runnable e = tt
 running_waits n (blocked w) e = absurd (cc)
@@ -136,7 +136,7 @@ charged_acts p l t k fit early state = subst (λ (x : Kernel). CanAct x t) (sym 
     acts = record {
       threads = changed-length no_thread t f p.machine.threads ∙ fit.threads;
       runs = charge_same (flat_bodies p.code) k p.machine t t ∙ fit.runs;
-      waits = record { built = waits_at; rests = rests_at; own_none = own_at };
+      waits = record { mutexes = waits_at; rests = rests_at; own_none = own_at };
       joins = record {
         joiners = λ v u e. ap is_blocked (status_at u) ∙ fit.joins.joiners v u (sym (joiner_at v) ∙ e);
         ends = λ u v w waits is. (let lt = fit.joins.ends u v w (sym (ap waiting_in (status_at u)) ∙ waits) is in let e = changed-length no_thread t f p.machine.threads in omega (arith, e, lt));
@@ -144,17 +144,17 @@ charged_acts p l t k fit early state = subst (λ (x : Kernel). CanAct x t) (sym 
       serial = fit.serial early;
     }
       where
-        waits_at : (u : ℕ) → AreBuiltWaits (length p.machine.mutexes) (waiting_in (thread_at (with_thread t f p.machine) u).status)
+        waits_at : (u : ℕ) → WaitKnowsMutex (length p.machine.mutexes) (waiting_in (thread_at (with_thread t f p.machine) u).status)
         waits_at u = by_number (t == u) refl
           where
-            by_number : (b : Bool) → (t == u) ≡ b → AreBuiltWaits (length p.machine.mutexes) (waiting_in (thread_at (with_thread t f p.machine) u).status)
+            by_number : (b : Bool) → (t == u) ≡ b → WaitKnowsMutex (length p.machine.mutexes) (waiting_in (thread_at (with_thread t f p.machine) u).status)
             by_number true it =
                 let runs = charge_same (flat_bodies p.code) k p.machine t t ∙ fit.runs in
-                subst (λ (k : ℕ). AreBuiltWaits (length p.machine.mutexes) (waiting_in (thread_at (with_thread t f p.machine) k).status)) (same_number t u it)
+                subst (λ (k : ℕ). WaitKnowsMutex (length p.machine.mutexes) (waiting_in (thread_at (with_thread t f p.machine) k).status)) (same_number t u it)
                 (running_waits (length p.machine.mutexes) (thread_at (with_thread t f p.machine) t).status runs)
             by_number false other =
                 let kept = thread-other p.machine t u f other in
-                subst (λ (th : Thread Cursor). AreBuiltWaits (length p.machine.mutexes) (waiting_in th.status)) (sym kept) (fit.waits.built u)
+                subst (λ (th : Thread Cursor). WaitKnowsMutex (length p.machine.mutexes) (waiting_in th.status)) (sym kept) (fit.waits.mutexes u)
 
         status_at : (u : ℕ) → (thread_at (with_thread t f p.machine) u).status ≡ (thread_at p.machine u).status
         status_at u = charge_keeps (flat_bodies p.code) (λ (th : Thread Cursor). th.status) (λ th fs us. refl) (λ n th. refl) k p.machine t u

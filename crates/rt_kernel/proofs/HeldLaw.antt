@@ -26,14 +26,14 @@ use Rattle.thread_laws.proofs.MadeCalls.{UnitMakes, fetched_makes}
 use Rattle.thread_laws.proofs.Runs.{holds_throughout}
 use Rattle.thread_table.proofs.Statuses.{unit_keeps}
 use Rattle.kernel_events.specs.Built.{IsBuilt}
-use Rattle.kernel_sync.specs.Waits.{IsBuiltWait}
+use Rattle.kernel_sync.specs.Waits.{KnowsMutex}
 use Rattle.kernel_lives.specs.Joins.{EndIsKnown}
 use Rattle.rt_kernel.specs.Held.{Held, IsHeld, IsHeldBy}
 
 -- ---- what built calls wait for
 
 pub record WaitIsHeld (o : Objects) (x : Wait) : Type 0 where
-  pub built : IsBuiltWait o.mutexes x
+  pub built : KnowsMutex o.mutexes x
   pub end : EndIsKnown o.threads x
 
 built_wait : (o : Objects) (c : Call) (x : Wait) → IsBuilt o c → MakesWait c x → WaitIsHeld o x

@@ -37,7 +37,7 @@ use Rattle.thread_laws.proofs.Within.{threads_are_within}
 use Rattle.thread_blocks.specs.Unused.{IsUnused}
 use Rattle.kernel_state.specs.Kernel.{Kernel, opened}
 use Rattle.kernel_events.specs.Built.{IsBuilt, objects_in}
-use Rattle.kernel_sync.specs.Waits.{AreBuiltWaits}
+use Rattle.kernel_sync.specs.Waits.{WaitKnowsMutex}
 use Rattle.rt_kernel.specs.Counts.{Counts, counts_in}
 use Rattle.machine_leaps.proofs.Leaps.Scripts.{stays_ready}
 use Rattle.rt_kernel.specs.Fits.{CanLeap, Fits, StaysFit}
@@ -134,7 +134,7 @@ module _ (script : Script) (ok : IsRunnable script) (fits : IsWellFormed script)
       record {
         items = record {
           waits = record {
-            built = λ t. subst (λ (n : ℕ). AreBuiltWaits n (waiting_of m t)) (sym (ap (λ (c : Counts). c.mutexes) objects.0)) (held.each t).waits;
+            mutexes = λ t. subst (λ (n : ℕ). WaitKnowsMutex n (waiting_of m t)) (sym (ap (λ (c : Counts). c.mutexes) objects.0)) (held.each t).waits;
             rests = blocked_unused m rest;
             own_none = ((mutexes_throughout bodies ranges script fits).each n most).owns_none;
           };

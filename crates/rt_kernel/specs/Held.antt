@@ -4,7 +4,7 @@ use Rattle.script_flat.specs.declared.cursor.Cursor.{Cursor}
 use Rattle.machine_rules.specs.State.{Machine, Thread, Waiting}
 use Rattle.machine_rules.specs.Threads.{thread_at, waiting_in}
 use Rattle.machine_flat.specs.KnownCalls.{Objects}
-use Rattle.kernel_sync.specs.Waits.{AreBuiltWaits}
+use Rattle.kernel_sync.specs.Waits.{WaitKnowsMutex}
 use Rattle.kernel_lives.specs.Joins.{EndIsKnown}
 
 abbrev pub EndsAreKnown : ℕ → Option Waiting → Type 0
@@ -13,7 +13,7 @@ EndsAreKnown threads (Some w) = EndIsKnown threads w.wait
 
 -- its wait is built, and a thread whose end it waits for is there
 pub record IsHeldBy (threads mutexes : ℕ) (wait : Option Waiting) : Type 0 where
-  pub waits : AreBuiltWaits mutexes wait
+  pub waits : WaitKnowsMutex mutexes wait
   pub ends : EndsAreKnown threads wait
 
 abbrev pub IsHeld : Objects → Thread Cursor → Type 0

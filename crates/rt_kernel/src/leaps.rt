@@ -20,6 +20,7 @@ ghost use Rattle.kernel_state.specs.Stood.{StoodRight};
 use crate::instant::do_instant;
 use crate::tick_ends::end_tick;
 use crate::units::{Reach, leap_unit};
+use kernel_signals::sweep;
 use kernel_state::Parts;
 use pse52_trace::Tracer;
 use rt_io::Sink;
@@ -75,7 +76,7 @@ fn run_thread<K: Sink, L: Ledger>(
     ensures step { steps.new ≡ steps.old + 1 }
 {
     let k = run_unit(p, t, reach, out, steps);
-    p.sweep(out);
+    sweep(p, out);
     k
 }
 
