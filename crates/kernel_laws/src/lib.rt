@@ -1,0 +1,2 @@
+//! Laws of the states of a run.
+#![tactic(auto)]
