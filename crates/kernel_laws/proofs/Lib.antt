@@ -6,3 +6,4 @@ pub mod HeldLaw
 pub mod JoinsLaw
 pub mod Pending
 pub mod Sweeping
+pub mod Kept
