@@ -23,7 +23,7 @@ use Rattle.canonical_law.proofs.Apart.{found_passes}
 use Rattle.canonical_law.proofs.LineLaws.{some_found}
 use Rattle.canonical_law.proofs.Places.{nothing_said, said_none, said_some}
 use Rattle.canonical_law.proofs.Shown.{sort_for}
-use Rattle.canonical_law.proofs.Table.{table_now}
+use Rattle.canonical_law.proofs.Table.{the_table}
 use Rattle.script_bounds.proofs.Calls.{example}
 use Rattle.script_bounds.proofs.EachDecl.{EachSaid}
 
@@ -82,13 +82,13 @@ row_is_built words row found =
 
 built_by_row : (row : Option Row) (n : ℕ) (line : List ℕ) (lines : List (List ℕ)) → row_of_line patterns line ≡ row → EachSaid IsBuiltForm (said_from patterns (n + 1) lines)
     → EachSaid IsBuiltForm (said_from patterns n (line ∷ lines))
-built_by_row None n line lines is rest = subst (EachSaid IsBuiltForm) (sym (said_none patterns table_now n line lines is)) rest
+built_by_row None n line lines is rest = subst (EachSaid IsBuiltForm) (sym (said_none patterns the_table n line lines is)) rest
 built_by_row (Some row) n line lines is rest =
-    subst (EachSaid IsBuiltForm) (sym (said_some patterns table_now n line lines row is))
+    subst (EachSaid IsBuiltForm) (sym (said_some patterns the_table n line lines row is))
     (row_is_built (line_words line) row (some_found patterns (line_words line) row is), rest)
 
 lines_are_built : (lines : List (List ℕ)) (n : ℕ) → EachSaid IsBuiltForm (said_from patterns n lines)
-lines_are_built [] n = subst (EachSaid IsBuiltForm) (sym (nothing_said patterns table_now n)) tt
+lines_are_built [] n = subst (EachSaid IsBuiltForm) (sym (nothing_said patterns the_table n)) tt
 lines_are_built (line ∷ lines) n = built_by_row (row_of_line patterns line) n line lines refl (lines_are_built lines (n + 1))
 
 -- each statement of a text has a built form

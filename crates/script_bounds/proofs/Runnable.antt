@@ -28,7 +28,7 @@ use Rattle.machine_flat.specs.KnownCalls.{KnowsObjects, objects_of}
 use Rattle.machine_flat.specs.Runnable.{CallHasBudget, CallIsRunnable, IsRunnable}
 use Rattle.canonical_law.proofs.Accepted.{is_read}
 use Rattle.canonical_law.proofs.Again.{statements}
-use Rattle.canonical_law.proofs.Table.{table_now}
+use Rattle.canonical_law.proofs.Table.{the_table}
 use Rattle.script_bounds.proofs.Bounds.{IsBounded, read_is_bounded}
 use Rattle.script_bounds.proofs.BuiltForms.{is_built_form, IsBuiltForm, all_are_built}
 use Rattle.script_bounds.proofs.Calls.{objects_by, Fits, call_fits}
@@ -96,8 +96,8 @@ accepted_can_be_run text script e =
     let ss : List Said = said patterns text in
     let es : List Entry = (declared ss).names in
     let own : Script = script_of es ss in
-    let means : own ≡ script = (is_read patterns table_now text script e).means in
-    let below : AllBelow (declared_count own.decls) es = all_below es own.decls (statements patterns table_now text script e).known in
+    let means : own ≡ script = (is_read patterns the_table text script e).means in
+    let below : AllBelow (declared_count own.decls) es = all_below es own.decls (statements patterns the_table text script e).known in
     let all : Each (DeclRuns (CallIsRunnable (objects_of own))) own.decls =
     each_decl IsBuiltForm es (EachCall (CallIsRunnable (objects_of own))) (DeclRuns (CallIsRunnable (objects_of own))) (lines_run own es below) ss (all_are_built text) in
     subst IsRunnable means (decls_run own (subst IsBounded (sym means) (read_is_bounded patterns text script e)) all)
