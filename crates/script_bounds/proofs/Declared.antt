@@ -1,8 +1,8 @@
 -- What a line declares can be run, and what follows of all that is declared.
-use Rattle.std.proofs.Common.{ℕ, ◌≤◌, ◌<◌, List, [], ◌∷◌, Option, None, Some, Bool, true, false, sym, subst}
+use Rattle.std.proofs.Common.{ℕ, ◌≤◌, ◌<◌, List, [], ◌∷◌, Option, None, Some, Bool, true, false}
 use Rattle.std.specs.Prelude.{All, filter_map}
 use Rattle.std.specs.Option.{IfSome}
-use Rattle.std.proofs.lemmas.List.Elements.{All-nil, All-cons, All-append}
+use Rattle.std.proofs.lemmas.List.Elements.{All-nil, All-cons}
 use Rattle.script_tree.specs.Block.{Block}
 use Rattle.script_tree.specs.declared.call.Call.{Call}
 use Rattle.script_tree.specs.declared.policy.Policy.{Policy}
@@ -10,7 +10,7 @@ use Rattle.script_tree.specs.declared.decl.Kind.{Kind}
 use Rattle.script_tree.specs.declared.decl.Kind.TheVariants as kinds
 use Rattle.script_tree.specs.declared.decl.Decl.{Decl}
 use Rattle.script_tree.specs.declared.decl.Decl.TheVariants.{Named, Action}
-use Rattle.script_flat.specs.Flat.{Bodies, no_bodies, with_decl, with_decls, bodies_of}
+use Rattle.script_flat.specs.Flat.{bodies_of}
 use Rattle.script_table.specs.declared.form.ObjectForm.{ObjectForm}
 use Rattle.script_table.specs.declared.form.ObjectForm.TheVariants as object
 use Rattle.script_table.specs.declared.form.ActionForm.{ActionForm}
@@ -26,8 +26,8 @@ use Rattle.machine_rules.specs.Semaphores.{semaphore_limit}
 use Rattle.machine_flat.specs.EachCall.{EachCall}
 use Rattle.machine_flat.specs.KnownCalls.{IsSignal}
 use Rattle.machine_flat.specs.Runnable.{ActionNames, HasBudget, HasSignal, HasValue}
-use Rattle.script_bounds.proofs.Decls.{bodies_in, decl_more}
-use Rattle.script_bounds.proofs.EachDecl.{Each}
+use Rattle.script_bounds.proofs.Bodies.{BodyHas, bodies_have}
+use Rattle.script_bounds.proofs.EachDecl.{Each, each_weaker}
 use Rattle.script_bounds.proofs.Operands.{IsFrom, mapped, mapped_two, number_within, signal_within, Any, anything, fifo_within, rr_within, sporadic_within}
 
 -- P holds of each call of a body, a thread's policy has a budget, a semaphore a value, and a timer a signal
@@ -119,20 +119,14 @@ module _ (handlers : ℕ) (P : Call → Type 0) where
   body_runs f words steps inside = named_runs (name_at 1 words) (kind_of_body f words steps) (own_kind_runs f words steps inside)
 
   -- the bodies
-  body_holds : (d : Decl) → Runs d → All (EachCall P) (bodies_in (Some d))
-  body_holds (Named name (kinds.Thread policy start steps)) h = All-cons (EachCall P) steps [] h.1 (All-nil (EachCall P))
-  body_holds (Named name (kinds.Handler steps)) h = All-cons (EachCall P) steps [] h (All-nil (EachCall P))
-  body_holds (Named name (kinds.Cleanup steps)) h = All-cons (EachCall P) steps [] h (All-nil (EachCall P))
-  body_holds other h = All-nil (EachCall P)
-
-  bodies_hold : (decls : List Decl) (b : Bodies Block) → All (EachCall P) b.all → Each Runs decls → All (EachCall P) (with_decls (λ steps. steps) decls b).all
-  bodies_hold [] b h all = h
-  bodies_hold (d ∷ decls) b h all =
-      bodies_hold decls (with_decl (λ steps. steps) d b)
-      (subst (All (EachCall P)) (sym (decl_more d b)) (All-append (EachCall P) b.all (bodies_in (Some d)) h (body_holds d all.0))) all.1
+  body_calls : (d : Decl) → Runs d → BodyHas (EachCall P) d
+  body_calls (Named name (kinds.Thread policy start steps)) h = h.1
+  body_calls (Named name (kinds.Handler steps)) h = h
+  body_calls (Named name (kinds.Cleanup steps)) h = h
+  body_calls other h = tt
 
   pub all_bodies : (decls : List Decl) → Each Runs decls → All (EachCall P) (bodies_of decls).all
-  all_bodies decls all = bodies_hold decls no_bodies (All-nil (EachCall P)) all
+  all_bodies decls all = bodies_have (EachCall P) decls (each_weaker Runs (BodyHas (EachCall P)) body_calls decls all)
 
   -- the policies of the threads
   abbrev pub ThreadHasBudget : ThreadDecl → Type 0

@@ -32,6 +32,10 @@ pub each_more : {A : Type 0} (P : A → Type 0) (xs : List A) (x : A) → Each P
 each_more P [] x all h = (h, tt)
 each_more P (y ∷ xs) x all h = (all.0, each_more P xs x all.1 h)
 
+pub each_weaker : {A : Type 0} (P Q : A → Type 0) → ((x : A) → P x → Q x) → (xs : List A) → Each P xs → Each Q xs
+each_weaker P Q weaker [] all = tt
+each_weaker P Q weaker (x ∷ xs) all = (weaker x all.0, each_weaker P Q weaker xs all.1)
+
 -- a body of one step
 abbrev pub OfStep : (Block → Type 0) → Step → Type 0
 OfStep B s = B (block_of (s ∷ []))
