@@ -7,3 +7,4 @@ pub mod JoinsLaw
 pub mod Pending
 pub mod Sweeping
 pub mod Kept
+pub mod Killed

@@ -5,3 +5,4 @@ pub mod Sent
 pub mod Swept
 pub mod Midway
 pub mod Awaited
+pub mod Generated

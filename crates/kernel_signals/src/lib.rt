@@ -3,11 +3,13 @@
 #![tactic(auto)]
 
 mod catching;
+mod generating;
 mod masks;
 mod sending;
 mod sweeping;
 mod waiting;
 
+pub use generating::generate;
 pub use masks::{block, set, unblock};
 pub use sending::{kill, kill_thread, queue};
 pub use sweeping::sweep;
