@@ -110,6 +110,33 @@ run_status bodies true [] th = refl
 run_status bodies true (u ∷ us) th = refl
 run_status bodies false us th = refl
 
+module _ (o : Objects) (code : flat.Bodies (List Op)) (calls : (n : ℕ) → EachMade (CallIsRunnable o) (ops_of code n)) where
+  -- ---- the unit that a thread is in
+
+  makes_top : (left : ℕ) (f : Frame Cursor) (fs : List (Frame Cursor)) (th : Thread Cursor) → UnitMakes (CallIsRunnable o) (top_in_unit (flat_bodies code) left f fs th).unit
+  makes_top zero f fs th = fetched_makes (CallIsRunnable o) code (cursor_of f) (calls f.place.body)
+  makes_top (suc left) f fs th = tt
+
+  makes_of : (fs : List (Frame Cursor)) (th : Thread Cursor) → UnitMakes (CallIsRunnable o) (in_unit_of (flat_bodies code) fs th).unit
+  makes_of [] th = tt
+  makes_of (f ∷ fs) th = makes_top f.left f fs th
+
+  makes_finish : (fs : List (Frame Cursor)) (th : Thread Cursor) → UnitMakes (CallIsRunnable o) (begins_finish fs th).unit
+  makes_finish [] th = tt
+  makes_finish (f ∷ fs) th = tt
+
+  makes_ending : (us : List ℕ) (th : Thread Cursor) → UnitMakes (CallIsRunnable o) (begins_ending (flat_bodies code) us th).unit
+  makes_ending [] th = makes_finish th.frames th
+  makes_ending (u ∷ us) th = let begun = runs_cleanup (flat_bodies code) (u ∷ us) (without_cleanup th) in makes_of begun.frames begun
+
+  makes_if : (b : Bool) (th : Thread Cursor) → UnitMakes (CallIsRunnable o) (in_unit_if (flat_bodies code) b th).unit
+  makes_if true th = makes_ending th.cleanups th
+  makes_if false th = makes_of th.frames th
+
+  -- it makes only calls that name what there is
+  pub unit_makes : (th : Thread Cursor) → UnitMakes (CallIsRunnable o) (in_unit (flat_bodies code) th).unit
+  unit_makes th = makes_if (th.is_ending && is_main (top_kind th.frames) && top_left th.frames == 0) th
+
 module _ (o : Objects) (handlers : ℕ) (code : flat.Bodies (List Op)) (calls : (n : ℕ) → EachMade (CallIsRunnable o) (ops_of code n)) where
   abbrev pub built : Given Cursor
   built = record {
@@ -161,32 +188,6 @@ module _ (o : Objects) (handlers : ℕ) (code : flat.Bodies (List Op)) (calls : 
     pends = λ r serial from. from;
   }
 
-  -- ---- the unit that a thread is in
-
-  makes_top : (left : ℕ) (f : Frame Cursor) (fs : List (Frame Cursor)) (th : Thread Cursor) → UnitMakes (CallIsRunnable o) (top_in_unit (flat_bodies code) left f fs th).unit
-  makes_top zero f fs th = fetched_makes (CallIsRunnable o) code (cursor_of f) (calls f.place.body)
-  makes_top (suc left) f fs th = tt
-
-  makes_of : (fs : List (Frame Cursor)) (th : Thread Cursor) → UnitMakes (CallIsRunnable o) (in_unit_of (flat_bodies code) fs th).unit
-  makes_of [] th = tt
-  makes_of (f ∷ fs) th = makes_top f.left f fs th
-
-  makes_finish : (fs : List (Frame Cursor)) (th : Thread Cursor) → UnitMakes (CallIsRunnable o) (begins_finish fs th).unit
-  makes_finish [] th = tt
-  makes_finish (f ∷ fs) th = tt
-
-  makes_ending : (us : List ℕ) (th : Thread Cursor) → UnitMakes (CallIsRunnable o) (begins_ending (flat_bodies code) us th).unit
-  makes_ending [] th = makes_finish th.frames th
-  makes_ending (u ∷ us) th = let begun = runs_cleanup (flat_bodies code) (u ∷ us) (without_cleanup th) in makes_of begun.frames begun
-
-  makes_if : (b : Bool) (th : Thread Cursor) → UnitMakes (CallIsRunnable o) (in_unit_if (flat_bodies code) b th).unit
-  makes_if true th = makes_ending th.cleanups th
-  makes_if false th = makes_of th.frames th
-
-  -- it makes only calls that name what there is
-  pub unit_makes : (th : Thread Cursor) → UnitMakes (CallIsRunnable o) (in_unit (flat_bodies code) th).unit
-  unit_makes th = makes_if (th.is_ending && is_main (top_kind th.frames) && top_left th.frames == 0) th
-
   unit_known : (th : Thread Cursor) (u : unit_type.Unit) → UnitMakes (CallIsRunnable o) u → UnitKnown built th u
   unit_known th (unit.Run k) makes = tt
   unit_known th (unit.Make c) makes = makes
@@ -199,7 +200,7 @@ module _ (o : Objects) (handlers : ℕ) (code : flat.Bodies (List Op)) (calls : 
     passes = λ to. record {
       rests = λ now u th e q. q;
       runs = λ now t th e q. held_by th.status _ (kept_in_unit (flat_bodies code) (λ (x : Thread Cursor). x.status) (λ fs x. refl) (λ x. refl) th) q;
-      known = λ now t th e q. unit_known (tick_charged (in_unit (flat_bodies code) th).thread) (in_unit (flat_bodies code) th).unit (unit_makes th);
+      known = λ now t th e q. unit_known (tick_charged (in_unit (flat_bodies code) th).thread) (in_unit (flat_bodies code) th).unit (unit_makes o code calls th);
     };
   }
 
@@ -245,12 +246,12 @@ queues_quiet given [] = tt
 queues_quiet given (decl.Named name (kind.Queue depth longest nonblock) ∷ ds) = (λ r e. absurd cc, queues_quiet given ds)
 queues_quiet given (d ∷ ds) = queues_quiet given ds
 
-module _ (script : Script) (ok : IsRunnable script) (place : IsPlaceable script) where
+module _ (script : Script) (ok : IsRunnable script) where
   pub calls_known : (n : ℕ) → EachMade (CallIsRunnable (objects_of script)) (ops_of (code_of script) n)
   calls_known n = all_made (CallIsRunnable (objects_of script)) (flat.bodies_of script.decls).all n ok.calls
 
-  pub held_after : (n most : ℕ) → Held (objects_of script) (length (handlers_of script)) (after_items (flat_bodies (code_of script)) (opening script) n most)
-  held_after n most =
+  pub held_after : IsPlaceable script → (n most : ℕ) → Held (objects_of script) (length (handlers_of script)) (after_items (flat_bodies (code_of script)) (opening script) n most)
+  held_after place n most =
       let given = built (objects_of script) (length (handlers_of script)) (code_of script) calls_known in
       held_throughout (objects_of script) (length (handlers_of script)) (code_of script) calls_known n most (opening script) (record {
         each = λ u lt. nothing_yet (objects_of script) (threads_of script) u;

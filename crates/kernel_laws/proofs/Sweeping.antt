@@ -1,6 +1,6 @@
 -- What a sweep leaves fit for a sweep was so before it: it takes away nothing from a thread that is in the way of one.
 use Rattle.std.proofs.Common.{◌≡◌, ◌∙◌, ◌≤◌, ◌<◌, ℕ, List, [], ◌∷◌, Bool, true, false, Option, None, Some, ap, arith, inl, inr, length, refl, subst, suc, sym, zero, ◌⊎◌}
-use Rattle.std.specs.Prelude.{option_map, slice_index_or}
+use Rattle.std.specs.Prelude.{not, option_map, slice_index_or, ◌&&◌}
 use Rattle.tick_num.specs.declared.res.Res.{Res}
 use Rattle.tick_num.specs.declared.res.Res.TheVariants as res
 use Rattle.script_flat.specs.declared.cursor.Cursor.{Cursor}
@@ -21,8 +21,8 @@ use Rattle.machine_rules.specs.GoodState.{ServersAreRight}
 use Rattle.machine_rules.specs.Lists.{changed_at}
 use Rattle.machine_rules.specs.Servers.{activates_server, high_server, with_server}
 use Rattle.machine_rules.specs.Signals.{delivers, tells_overrun, without_record}
-use Rattle.machine_rules.specs.State.{Frame, Machine, SignalRecord, Thread, Waiting}
-use Rattle.machine_rules.specs.Threads.{action_of, no_thread, thread_at, thread_in, thread_numbers, waiting_of}
+use Rattle.machine_rules.specs.State.{Frame, Machine, SignalRecord, Status, Thread, Waiting, blocked, dormant, ended, runnable}
+use Rattle.machine_rules.specs.Threads.{action_of, catches_signal, is_blocked, is_live, is_runnable, no_thread, thread_at, thread_in, thread_numbers, waiting_of}
 use Rattle.machine_rules.specs.Turns.{Turn, changes, changes_pending, frames_answered, moves, tells}
 use Rattle.machine_rules.specs.Waking.{call_in, new_frame, on_top, wakes_telling, woken}
 use Rattle.machine_rules.proofs.Reading.{thread-same}
@@ -30,7 +30,10 @@ use Rattle.machine_moves.proofs.Calls.Commuting.{wakes_telling_part}
 use Rattle.machine_moves.proofs.Waiters.OfThreads.{changed_is}
 use Rattle.machine_laws.proofs.Servers.Ticks.{has_server}
 use Rattle.thread_laws.specs.Frames.{AreInOrder}
+use Rattle.thread_laws.proofs.Frames.{at_most_two}
+use Rattle.thread_blocks.specs.Unused.{IsUnused}
 use Rattle.kernel_state.specs.Caught.{CatchesBy}
+use Rattle.kernel_signals.specs.Sweeping.{CanVisit}
 use Rattle.kernel_laws.specs.Visitable.{CanBeSwept, ConsumesHigh, IsVisitable}
 
 -- ---- one thread
@@ -186,3 +189,27 @@ module _ (bodies : Bodies Cursor) where
 -- where the servers are right
 pub consuming_high : (m : Machine Cursor) → ServersAreRight m → (t : ℕ) (s : ServerState) → (thread_at m t).server ≡ Some s → 1 ≤ s.consumed → ConsumesHigh m.now (thread_at m t).status s
 consuming_high m right t s e some = let c = (right.each t s e).consuming some in record { runs = c.runnable; high = c.high; before = c.before }
+
+none_where : (n : ℕ) → (1 ≤ n → ⊥) → n ≡ 0
+none_where zero h = refl
+none_where (suc n) h = absurd (h (omega arith))
+
+not_blocked : {X : Type 0} (s : Status) → is_blocked s ≡ true → is_runnable s ≡ true → X
+not_blocked (dormant at) b r = absurd cc
+not_blocked runnable b r = absurd cc
+not_blocked (blocked w) b r = absurd cc
+not_blocked ended b r = absurd cc
+
+not_signal : (a b : Bool) → (a && not b) ≡ true → b ≡ false
+not_signal a true e = absurd (grind arith)
+not_signal a false e = refl
+
+pub can_visit : (now : ℕ) (th : Thread Cursor) → IsVisitable now th → CanVisit th
+can_visit now th h = record {
+  frames = λ free. at_most_two th.frames h.ordered (not_signal (is_live th.status) (catches_signal th) free);
+  rests = λ waits. by_server th.server refl waits;
+}
+  where
+    by_server : (o : Option ServerState) → th.server ≡ o → is_blocked th.status ≡ true → IsUnused o
+    by_server None e waits = tt
+    by_server (Some s) e waits = none_where s.consumed (λ some. not_blocked th.status waits (h.consuming s e some).runs)
