@@ -8,6 +8,7 @@ mod due;
 mod leaps;
 mod lists;
 mod lives;
+mod messages;
 mod mutexes;
 mod named;
 mod open;
