@@ -1,5 +1,5 @@
 -- A sweep comes to a kernel that it could come to, since what it leaves is so.
-use Rattle.std.proofs.Common.{◌≡◌, ◌∙◌, ◌≤◌, ℕ, List, [], Bool, true, false, Option, None, Some, ap, length, refl, subst, suc, sym}
+use Rattle.std.proofs.Common.{◌≡◌, ◌∙◌, ◌≤◌, ◌+◌, ℕ, List, [], Bool, true, false, Option, None, Some, ap, length, refl, subst, suc, sym}
 use Rattle.std.specs.Prelude.{IfSome, is_some, max, min}
 use Rattle.pse52_trace.specs.declared.tracer.Tracer.{Tracer}
 use Rattle.tick_num.specs.declared.item.Item.{Item}
@@ -12,14 +12,16 @@ use Rattle.machine_rules.specs.DueItems.{handles, instant, item_done, items_done
 use Rattle.machine_rules.specs.Runs.{Ran, ran, ticks}
 use Rattle.machine_rules.specs.Servers.{has_high}
 use Rattle.machine_rules.specs.State.{Machine}
-use Rattle.machine_rules.specs.Threads.{thread_at}
+use Rattle.machine_rules.specs.Threads.{thread_at, top_left}
 use Rattle.machine_rules.specs.Ticks.{tick_ends, unless_killed}
-use Rattle.machine_rules.specs.Turns.{Turn, settles_since, turn_of, ◌▷◌}
+use Rattle.machine_rules.specs.Turns.{Turn, becomes, changes, settles_since, turn_of, ◌▷◌}
 use Rattle.machine_rules.specs.Units.{in_unit}
 use Rattle.machine_rules.proofs.Behind.{AddsBehind}
 use Rattle.machine_rules.proofs.BehindTicks.{item_done_behind, sweeps_behind}
+use Rattle.machine_rules.proofs.Instants.{completes_now, tick_ends_now}
 use Rattle.machine_flat.specs.FlatBodies.{flat_bodies}
-use Rattle.machine_leaps.specs.Leap.{head_lasts, leap, leap_goes_on, leap_head, leap_length, leap_runs, length_from, thread_lasts, ticks_to_next, unit_leapt}
+use Rattle.machine_leaps.specs.Quiet.{after_ticks}
+use Rattle.machine_leaps.specs.Leap.{head_lasts, later_by, leap, leap_goes_on, leap_head, leap_length, leap_runs, length_from, thread_lasts, ticks_to_next, unit_leapt}
 use Rattle.machine_leaps.proofs.Leaps.Law.{leap_runs_behind}
 use Rattle.machine_moves.proofs.Runs.Ticks.{dispatched}
 use Rattle.kernel_state.specs.Kernel.{Kernel, after, turn}
@@ -72,6 +74,18 @@ unit_sweeps p l t k n same state lands =
     let unit = λ (b : Bodies Cursor) (s : Turn Cursor). s ▷ unit_leapt b k s.machine t (in_unit b (thread_at s.machine t)) ▷ tick_ends (has_high (thread_at s.machine t).server) t in
     let here = subst (λ (i : ℕ). IsSweepable (after (leap_runs (flat_bodies p.code) i (Some t)) p)) (sym same) lands in
     can_sweep l (before_sweep unit p l state here)
+
+-- so many ticks later
+pub unit_now : (p l : Kernel) (t k : ℕ) →
+    l ≡ after (λ (s : Turn Cursor). s ▷ unit_leapt (flat_bodies p.code) k s.machine t (in_unit (flat_bodies p.code) (thread_at s.machine t)) ▷ tick_ends (has_high (thread_at s.machine t).server) t) p →
+    l.machine.now ≡ p.machine.now + k
+unit_now p l t k state =
+    let bodies = flat_bodies p.code in
+    let s = turn p in
+    let taken = in_unit bodies (thread_at s.machine t) in
+    let charged = becomes (later_by k) (changes t (λ th. after_ticks k taken.thread) s) in
+    let was_high = has_high (thread_at s.machine t).server in
+    ap (λ (x : Kernel). x.machine.now) state ∙ tick_ends_now was_high t (unit_leapt bodies k s.machine t taken s) ∙ completes_now bodies (top_left (thread_at charged.machine t).frames) t taken.unit charged
 
 -- after the dispatch
 pub head_lands : (p l : Kernel) (reach : Reach) (to : Option ℕ) → to ≡ head p.machine → l ≡ after (dispatches (head p.machine)) p → reach.near ≡ ticks_to_next reach.most p.machine.now (agenda p.machine) →
