@@ -32,7 +32,7 @@ returns-clause-state g c =
     let t = c.args.t in
     let k = c.run_unit-k.result in
     let unit = λ (b : Bodies Cursor) (s : Turn Cursor). s ▷ unit_leapt b k s.machine t (in_unit b (thread_at s.machine t)) ▷ tick_ends (has_high (thread_at s.machine t).server) t in
-    then_state_in unit sweeps c.args.p.now c.run_unit-k.new.p c.sweep.new.self sweeps_behind c.run_unit-k.ensures.state c.sweep.ensures.state
+    then_state_in unit sweeps c.args.p.now c.run_unit-k.new.p c.sweep.new.p sweeps_behind c.run_unit-k.ensures.state c.sweep.ensures.state
 
 pub returns-clause-told : goal.returns-clause-told
 returns-clause-told g c =

@@ -4,6 +4,7 @@ use Rattle.machine_rules.specs.Eventful.{busy}
 use Rattle.machine_rules.specs.Runs.{ticks}
 use Rattle.machine_flat.specs.FlatBodies.{flat_bodies}
 use Rattle.machine_leaps.specs.Leap.{in_leaps}
+use Rattle.rt_kernel.proofs.Ending.{ends_there, told_there, was_ended, was_told}
 use Rattle.rt_kernel.proofs.Landing.{leap_lands}
 use Rattle.rt_kernel.proofs.Leaping.{few_busy, few_steps, leap_on, not_beyond, not_earlier}
 use Rattle.rt_kernel.proofs.Running.{items_fit, still_fits, stopped_told}
@@ -17,7 +18,7 @@ do_leap-done-requires-clause-fits g c =
 pub do_leap-done-requires-clause-lands : goal.do_leap-done-requires-clause-lands
 do_leap-done-requires-clause-lands g c =
     let running = c.leaps.invariant.leaping.running in
-    leap_lands c.leaps.p (c.leaps.total - c.leaps.done) (let left = c.leaps-test.true in omega (arith, left)) running.quiet (still_fits c.args.p.now c.leaps.p c.leaps.done running.state c.requires.fits)
+    leap_lands c.leaps.p ((c.get.result - c.get-2.result) - c.leaps.done) (let left = c.leaps-test.true in omega (arith, left)) running.quiet (still_fits c.args.p.now c.leaps.p c.leaps.done running.state c.requires.fits)
 
 pub do_leap-done-requires-clause-early : goal.do_leap-done-requires-clause-early
 do_leap-done-requires-clause-early g c =
@@ -33,7 +34,7 @@ pub leaps-preserved : goal.leaps-preserved
 leaps-preserved g c =
     let on = leap_on _ _ c.args.p.now c.requires.fits _ _ _ _ _ _ _ _ _ _ _ c.leaps.invariant.leaping c.leaps-test.true c.do_leap-done.ensures.length c.do_leap-done.ensures.state c.do_leap-done.ensures.told
     c.do_leap-done.ensures.stood c.do_leap-done.ensures.quiet c.do_leap-done.ensures.step in
-    record { leaping = on; good = sym c.failed.ensures ∙ c.if-failed.false }
+    record { leaping = on; good = sym c.failed.ensures ∙ c.if-failed.false; alive = sym c.killed-in-leaps.ensures ∙ c.in_default-killed.is }
 
 pub returns-then-failed-clause-told : goal.returns-then-failed-clause-told
 returns-then-failed-clause-told g c =
@@ -108,3 +109,68 @@ returns-clause-busy g c =
     let all : c.get.result - c.get-2.result ≡ c.args.horizon - c.args.p.now.machine.now = (let to = c.get.ensures.value in let from = c.get-2.ensures.value ∙ c.instant.ensures in omega (arith, to, from)) in
     subst (λ (n : ℕ). c.leaps.steps ≤ c.args.steps.now + busy (flat_bodies c.args.p.now.code) c.args.p.now.machine 0 n + 1) all
     (few_busy _ _ c.args.p.now c.requires.fits _ _ _ _ _ _ _ c.leaps.invariant.leaping)
+
+pub returns-in-Some-killed-clause-fits : goal.returns-in-Some-killed-clause-fits
+returns-in-Some-killed-clause-fits g c =
+    let on = leap_on _ _ c.args.p.now c.requires.fits _ _ _ _ _ _ _ _ _ _ _ c.leaps.invariant.leaping c.leaps-test.true c.do_leap-done.ensures.length c.do_leap-done.ensures.state c.do_leap-done.ensures.told
+    c.do_leap-done.ensures.stood c.do_leap-done.ensures.quiet c.do_leap-done.ensures.step in
+    still_fits c.args.p.now c.do_leap-done.new.p (c.leaps.done + c.do_leap-done.result) on.running.state c.requires.fits
+
+pub returns-in-Some-killed-clause-later : goal.returns-in-Some-killed-clause-later
+returns-in-Some-killed-clause-later g c =
+    let on = leap_on _ _ c.args.p.now c.requires.fits _ _ _ _ _ _ _ _ _ _ _ c.leaps.invariant.leaping c.leaps-test.true c.do_leap-done.ensures.length c.do_leap-done.ensures.state c.do_leap-done.ensures.told
+    c.do_leap-done.ensures.stood c.do_leap-done.ensures.quiet c.do_leap-done.ensures.step in
+    not_earlier _ _ c.args.p.now c.requires.fits _ _ _ _ _ _ _ on
+
+pub returns-in-Some-killed-clause-not_beyond : goal.returns-in-Some-killed-clause-not_beyond
+returns-in-Some-killed-clause-not_beyond g c =
+    let on = leap_on _ _ c.args.p.now c.requires.fits _ _ _ _ _ _ _ _ _ _ _ c.leaps.invariant.leaping c.leaps-test.true c.do_leap-done.ensures.length c.do_leap-done.ensures.state c.do_leap-done.ensures.told
+    c.do_leap-done.ensures.stood c.do_leap-done.ensures.quiet c.do_leap-done.ensures.step in
+    let all : c.get.result - c.get-2.result ≡ c.args.horizon - c.args.p.now.machine.now = (let to = c.get.ensures.value in let from = c.get-2.ensures.value ∙ c.instant.ensures in omega (arith, to, from)) in
+    let far = not_beyond _ _ c.args.p.now c.requires.fits _ _ _ _ _ _ _ on in
+    let within = on.within in
+    let ahead = c.requires.ahead in
+    omega (arith, far, all, within, ahead)
+
+pub returns-in-Some-killed-clause-steps : goal.returns-in-Some-killed-clause-steps
+returns-in-Some-killed-clause-steps g c =
+    let on = leap_on _ _ c.args.p.now c.requires.fits _ _ _ _ _ _ _ _ _ _ _ c.leaps.invariant.leaping c.leaps-test.true c.do_leap-done.ensures.length c.do_leap-done.ensures.state c.do_leap-done.ensures.told
+    c.do_leap-done.ensures.stood c.do_leap-done.ensures.quiet c.do_leap-done.ensures.step in
+    let all : c.get.result - c.get-2.result ≡ c.args.horizon - c.args.p.now.machine.now = (let to = c.get.ensures.value in let from = c.get-2.ensures.value ∙ c.instant.ensures in omega (arith, to, from)) in
+    subst (λ (n : ℕ). c.do_leap-done.new.steps ≤ c.args.steps.now + (in_leaps (flat_bodies c.args.p.now.code) n c.args.p.now.machine).count) all
+    (few_steps _ _ c.args.p.now c.requires.fits _ _ _ _ _ _ _ on)
+
+pub returns-in-Some-killed-clause-busy : goal.returns-in-Some-killed-clause-busy
+returns-in-Some-killed-clause-busy g c =
+    let on = leap_on _ _ c.args.p.now c.requires.fits _ _ _ _ _ _ _ _ _ _ _ c.leaps.invariant.leaping c.leaps-test.true c.do_leap-done.ensures.length c.do_leap-done.ensures.state c.do_leap-done.ensures.told
+    c.do_leap-done.ensures.stood c.do_leap-done.ensures.quiet c.do_leap-done.ensures.step in
+    let all : c.get.result - c.get-2.result ≡ c.args.horizon - c.args.p.now.machine.now = (let to = c.get.ensures.value in let from = c.get-2.ensures.value ∙ c.instant.ensures in omega (arith, to, from)) in
+    subst (λ (n : ℕ). c.do_leap-done.new.steps ≤ c.args.steps.now + busy (flat_bodies c.args.p.now.code) c.args.p.now.machine 0 n + 1) all
+    (few_busy _ _ c.args.p.now c.requires.fits _ _ _ _ _ _ _ on)
+
+-- where the process ended in this leap
+pub returns-in-Some-killed-clause-state : goal.returns-in-Some-killed-clause-state
+returns-in-Some-killed-clause-state g c clean =
+    let on = leap_on _ _ c.args.p.now c.requires.fits _ _ _ _ _ _ _ _ _ _ _ c.leaps.invariant.leaping c.leaps-test.true c.do_leap-done.ensures.length c.do_leap-done.ensures.state c.do_leap-done.ensures.told
+    c.do_leap-done.ensures.stood c.do_leap-done.ensures.quiet c.do_leap-done.ensures.step in
+    let all : c.get.result - c.get-2.result ≡ c.args.horizon - c.args.p.now.machine.now = (let to = c.get.ensures.value in let from = c.get-2.ensures.value ∙ c.instant.ensures in omega (arith, to, from)) in
+    let ended = sym c.killed-in-leaps.ensures ∙ c.in-Some-killed.is in
+    subst (λ (n : ℕ). c.do_leap-done.new.p ≡ record c.args.p.now { machine = (ticks (flat_bodies c.args.p.now.code) n c.args.p.now.machine).machine }) all
+    (ends_there _ _ c.args.p.now c.do_leap-done.new.p _ _ c.in-Some-killed.signal _ _ on.running on.within ended)
+
+pub returns-in-Some-killed-clause-told : goal.returns-in-Some-killed-clause-told
+returns-in-Some-killed-clause-told g c =
+    let on = leap_on _ _ c.args.p.now c.requires.fits _ _ _ _ _ _ _ _ _ _ _ c.leaps.invariant.leaping c.leaps-test.true c.do_leap-done.ensures.length c.do_leap-done.ensures.state c.do_leap-done.ensures.told
+    c.do_leap-done.ensures.stood c.do_leap-done.ensures.quiet c.do_leap-done.ensures.step in
+    let all : c.get.result - c.get-2.result ≡ c.args.horizon - c.args.p.now.machine.now = (let to = c.get.ensures.value in let from = c.get-2.ensures.value ∙ c.instant.ensures in omega (arith, to, from)) in
+    let ended = sym c.killed-in-leaps.ensures ∙ c.in-Some-killed.is in
+    subst (λ (n : ℕ). Tells g.K.Sink.text g.K.Sink.faults c.args.p.now.names c.args.out.now c.do_leap-done.new.out (ticks (flat_bodies c.args.p.now.code) n c.args.p.now.machine).events) all
+    (told_there g.K.Sink.text g.K.Sink.faults c.args.p.now c.do_leap-done.new.p _ _ c.in-Some-killed.signal c.args.out.now c.do_leap-done.new.out on.running on.within ended)
+
+-- where it had ended before
+pub returns-in-Some-clause-state : goal.returns-in-Some-clause-state
+returns-in-Some-clause-state g c clean = was_ended c.args.p.now (c.args.horizon - c.args.p.now.machine.now) c.in-Some.signal (sym c.killed.ensures ∙ c.in-Some.is)
+
+pub returns-in-Some-clause-told : goal.returns-in-Some-clause-told
+returns-in-Some-clause-told g c =
+    was_told g.K.Sink.text g.K.Sink.faults c.args.p.now (c.args.horizon - c.args.p.now.machine.now) c.in-Some.signal c.args.out.now (sym c.killed.ensures ∙ c.in-Some.is)
