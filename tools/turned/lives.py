@@ -5,7 +5,8 @@ from .rule import Turned
 
 RULES = [
     Turned("create starts an ended thread again", "thread_calls.py",
-           "    if target.state is not ThreadState.DORMANT:", "    if target.is_live:", "threads_that_do_not_live"),
+           "    if target.state is not ThreadState.DORMANT:", "    if target.is_live:",
+           "ended_thread_is_not_created_again"),
     Turned("a created thread masks nothing", "thread_calls.py",
            "kernel.start(target, mask_of(thread))", "kernel.start(target, 0)", "created_thread_has_its_creators_mask"),
     Turned("a thread that a handler creates has the mask of the thread", "thread_calls.py",
@@ -22,8 +23,10 @@ RULES = [
     Turned("a second joiner takes the place of the first", "thread_calls.py",
            "if target.joiner.joined or target.joiner.waiting is not None:", "if target.joiner.joined:",
            "cancelled_joiner_leaves_nobody"),
-    Turned("a joiner that is cancelled stays the joiner", "thread_calls.py",
-           "            kernel.threads[target.wait.target].joiner.waiting = None\n", "", "cancelled_joiner_leaves_nobody"),
+    Turned("a joiner that is cancelled has joined", "thread_calls.py",
+           "            kernel.threads[target.wait.target].joiner.waiting = None\n",
+           "            joiner = kernel.threads[target.wait.target].joiner\n"
+           "            joiner.waiting, joiner.joined = None, True\n", "cancelled_joiner_leaves_nobody"),
     Turned("a joiner gets 0 for the value", "kernel.py",
            "self.wake(joiner, Res.ZERO, thread.exit_value)", "self.wake(joiner, Res.ZERO, 0)", "join_answers"),
     Turned("a cancelled thread ends with 0", "kernel.py",

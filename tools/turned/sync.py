@@ -56,7 +56,7 @@ RULES = [
            "                self.release(number)\n", "mutex_of_a_thread_that_ended"),
     # Conditions
     Turned("a wait with a mutex locked twice blocks", "sync_calls.py",
-           "if mutex.count > 1 or any(", "if any(", "order_of_the_answers_of_a_wait"),
+           "if mutex.count > 1 or any(", "if any(", "wait_with_a_mutex_locked_twice"),
     Turned("a wait beside a wait with another mutex blocks", "sync_calls.py",
            "if mutex.count > 1 or any(other.wait.mutex != number for other in others):", "if mutex.count > 1:",
            "order_of_the_answers_of_a_wait"),
@@ -71,7 +71,7 @@ RULES = [
            "while (best := kernel.best_waiter(call.operands[0], WaitKind.COND)) is not None:",
            "while (best := next((t for t in kernel.threads if t.waits_in(WaitKind.COND)"
            " and t.wait.target == call.operands[0]), None)) is not None:",
-           "broadcast_by_priority_then_arrival"),
+           "broadcast_by_arrival_not_by_number"),
     Turned("a condition wait that timed out is woken without its mutex", "machine.py",
            "self.contend(thread, CondEnd.TIMEDOUT)", "self.wake(thread, Res.TIMEDOUT)",
            "timed_out_waiter_takes_no_signal"),
