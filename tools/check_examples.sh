@@ -17,7 +17,7 @@ if ! command -v rt >/dev/null 2>&1; then
 fi
 
 # The stages of tests/worked/INDEX.txt whose forms the kernel has.
-built="first language threads servers mutexes semaphores waiting lives"
+built="first language threads servers mutexes semaphores waiting lives signals timers queues"
 
 cases=$(mktemp -d) || exit 1
 out=$(mktemp -d) || exit 1
