@@ -76,6 +76,8 @@ RULES = [
     Turned("setprio begins a new interval", "thread_calls.py",
            "    kernel.set_priority(target, priority)\n",
            "    kernel.set_priority(target, priority)\n    target.slice = 0\n", "setprio_keeps_the_interval"),
+    Turned("setprio leaves a round robin thread as it was", "kernel.py",
+           "                thread.policy = Rr(priority)\n", "                pass\n", "setprio_of_a_round_robin_thread"),
     Turned("setprio finds an ended thread", "thread_calls.py",
            "    target, priority = kernel.threads[call.operands[0]], call.operands[1]\n    if not target.is_live:",
            "    target, priority = kernel.threads[call.operands[0]], call.operands[1]\n"
@@ -85,6 +87,14 @@ RULES = [
     Turned("setsched moves the owner of a mutex with inheritance", "thread_calls.py",
            "if target.is_ready and not kernel.owns_boosting(target):", "if target.is_ready:",
            "owner_is_moved_by_its_priority_alone"),
+    Turned("a thread that setsched lowers goes to the head", "kernel.py",
+           "old != new and number not in direct:", "old != new:", "rescheduled_lower_goes_to_the_tail"),
+    Turned("setsched does not move the owner of a mutex without a protocol", "kernel.py",
+           "mutex.owner == thread.number and mutex.kind.boosting for", "mutex.owner == thread.number for",
+           "owner_of_a_plain_mutex_is_moved"),
+    Turned("setsched moves nobody while somebody owns a mutex with inheritance", "kernel.py",
+           "mutex.owner == thread.number and mutex.kind.boosting for", "mutex.owner is not None and mutex.kind.boosting for",
+           "owner_of_a_plain_mutex_is_moved"),
     # Dispatch and ticks
     Turned("a start by its tick masks all signals", "machine.py",
            "lambda t=thread: self.start(t, 0)", "lambda t=thread: self.start(t, 2**32 - 1)", "signal_interrupts_a_sleep"),

@@ -44,6 +44,8 @@ RULES = [
            "    kernel.returns(thread, call)", "unlock_is_for_the_owner"),
     Turned("one unlock frees a mutex that was locked twice", "sync_calls.py",
            "        mutex.count -= 1\n", "        kernel.release(number)\n", "order_of_the_answers_of_a_wait"),
+    Turned("the second unlock frees a mutex that was locked three times", "sync_calls.py",
+           "        mutex.count -= 1\n", "        mutex.count = 1\n", "recursive_mutex_is_counted"),
     Turned("an unlocked mutex is free for the next that asks", "kernel.py",
            "            self.acquire(best, mutex)\n            self.end_mutex_wait(best)",
            "            mutex.owner, mutex.count = None, 0\n            self.end_mutex_wait(best)",
@@ -63,6 +65,9 @@ RULES = [
     Turned("a wait of the owner of a second mutex blocks", "sync_calls.py",
            "if any(other.owner == thread.number for other in kernel.mutexes if other is not mutex):", "if False:",
            "order_of_the_answers_of_a_wait"),
+    Turned("a wait beside a wait on another condition with another mutex is refused", "sync_calls.py",
+           "if other.waits_in(WaitKind.COND) and other.wait.target == cond]", "if other.waits_in(WaitKind.COND)]",
+           "two_conditions_with_two_mutexes"),
     Turned("a signal wakes every waiter", "sync_calls.py",
            "    if best is not None:\n        kernel.contend(best, CondEnd.SIGNALLED)",
            "    while (best := kernel.best_waiter(call.operands[0], WaitKind.COND)) is not None:\n"
@@ -89,6 +94,14 @@ RULES = [
            "        kernel.returns(thread, call)\n        return kernel.wake(best)",
            "        kernel.returns(thread, call)\n        kernel.sems[number] += 1\n        return kernel.wake(best)",
            "semaphore_wait_interrupted"),
+    Turned("a semaphore wait takes nothing from the value", "sync_calls.py",
+           "        kernel.sems[number] -= 1\n        return kernel.returns(thread, call)\n    if due",
+           "        return kernel.returns(thread, call)\n    if due", "semaphore_is_taken_and_timed"),
+    Turned("a timed semaphore wait ends at once", "sync_calls.py",
+           "    if due is not None and due <= kernel.time:\n        return kernel.returns(thread, call, Res.TIMEDOUT)\n"
+           "    kernel.block(thread, Wait(WaitKind.SEM",
+           "    if due is not None:\n        return kernel.returns(thread, call, Res.TIMEDOUT)\n"
+           "    kernel.block(thread, Wait(WaitKind.SEM", "semaphore_is_taken_and_timed"),
     Turned("sem_trywait at 0 answers EBUSY", "sync_calls.py",
            "    if kernel.sems[number] == 0:\n        return kernel.returns(thread, call, Res.AGAIN)",
            "    if kernel.sems[number] == 0:\n        return kernel.returns(thread, call, Res.BUSY)", "semaphore_edges"),
