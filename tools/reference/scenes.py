@@ -346,8 +346,10 @@ SCENES: dict[Stage, tuple[Scene, ...]] = {
     Stage.MUTEXES: (one_mutex, chain_of_mutexes, ring_of_mutexes, lent_priority_waits, server_at_a_mutex),
     Stage.SEMAPHORES: (semaphore,),
     Stage.WAITING: (condition, condition, owner_of_two_waits),
-    Stage.SIGNALS: (waiting_for_signals, handled_waits, handled_waits, sent_into_a_lock, more_signals_than_may_pend),
+    Stage.SIGNALS: (waiting_for_signals, handled_waits, sent_into_a_lock, more_signals_than_may_pend),
     Stage.TIMERS: (periodic, overruns, armed_and_read),
     Stage.QUEUES: (queue_of_messages, queue_of_messages, notified, senders_in_line),
     Stage.LIVES: (cancelled, cancelled_at_a_mutex, cancelled_joiner),
+    Stage.WHOLE: (handled_waits, handled_waits, handled_waits, sent_into_a_lock, waiting_for_signals, periodic, armed_and_read,
+                  notified, senders_in_line),
 }
