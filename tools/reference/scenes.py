@@ -110,7 +110,7 @@ def condition(writer: "ScriptWriter") -> list[Part]:
     draw, cond, mutex = writer.draw, writer.draw.choice(writer.conds), writer.mutex()
     parts: list[Part] = []
     for _ in range(draw.randint(1, 3)):
-        timed = f"timedwait {cond} {mutex} {draw.randint(0, 20)}"
+        timed = f"timedwait {cond} {mutex} {draw.choice((draw.randint(0, 20), 30, 50))}"
         wait = draw.choice((f"wait {cond} {mutex}", f"wait {cond} {mutex}", timed))
         parts.append([f"lock {mutex}", *guarded(writer, [wait]), *busy(writer, 2), f"unlock {mutex}"])
     wake = draw.choice((f"signal {cond}", f"broadcast {cond}"))
