@@ -43,7 +43,7 @@ module _ (rows : List Row) (table : IsTable rows) where
   pub sound_said : (n : ℕ) (row : Row) (line : List ℕ) → IsSound rows row line → SoundSaid (record { line = n; row = row; words = line_words line })
   sound_said n row line sound =
       let found = some_found rows (line_words line) row sound.pattern in
-      let test : Row → Bool = λ r. r.built && fits r.places (line_words line) in
+      let test : Row → Bool = λ r. fits r.places (line_words line) in
       let has = fitting_has rows table.places (line_words line) row found in
       let bounded : list_all is_bounded row.places ≡ true = found_passes test (λ r. list_all is_bounded r.places) rows row found table.bounded in
       record {

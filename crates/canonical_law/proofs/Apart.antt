@@ -69,7 +69,7 @@ found_passes test p [] row found all = absurd (let f : None ≡ Some row = found
 found_passes test p (r ∷ rows) row found all = found_case (test r) test p r rows row refl found all (found_passes test p rows row)
 
 abbrev is_pattern_of : List (List ℕ) → Row → Bool
-is_pattern_of words row = row.built && fits row.places words
+is_pattern_of words row = fits row.places words
 
 again_case : (b d : Bool) (words others : List (List ℕ)) (r : Row) (rows : List Row) (row : Row)
     → is_pattern_of words r ≡ b → is_pattern_of others r ≡ d
@@ -78,10 +78,8 @@ again_case : (b d : Bool) (words others : List (List ℕ)) (r : Row) (rows : Lis
 again_case true d words others r rows row is other far found fit ih =
     let h : Some r ≡ Some row = subst (λ b. cond b (Some r) (fitting_row rows words) ≡ Some row) is found in
     let same : r ≡ row = cc in
-    let built = (both r.built (fits r.places words) is).0 in
     let fit_r : fits r.places others ≡ true = subst (λ x. fits x.places others ≡ true) (sym same) fit in
-    let yes : is_pattern_of others r ≡ true = rw (built, fit_r) refl in
-    rw yes h
+    rw fit_r h
 again_case false false words others r rows row is other far found fit ih =
     let h = subst (λ b. cond b (Some r) (fitting_row rows words) ≡ Some row) is found in
     rw other (ih (both (list_all (λ x. apart r.places x.places) rows) (all_apart rows) far).1 h)
@@ -89,7 +87,7 @@ again_case false true words others r rows row is other far found fit ih =
     let h = subst (λ b. cond b (Some r) (fitting_row rows words) ≡ Some row) is found in
     let parts = both (list_all (λ x. apart r.places x.places) rows) (all_apart rows) far in
     let apart_yes = found_passes (is_pattern_of words) (λ x. apart r.places x.places) rows row h parts.0 in
-    let apart_no = both_fit r.places row.places others (both r.built (fits r.places others) other).1 fit in
+    let apart_no = both_fit r.places row.places others other fit in
     clash (apart r.places row.places) apart_yes apart_no
 
 -- a line that the pattern of another line fits has that pattern
@@ -105,7 +103,7 @@ fits_case : (b : Bool) (words : List (List ℕ)) (r : Row) (rows : List Row) (ro
 fits_case true words r rows row is found ih =
     let h : Some r ≡ Some row = subst (λ b. cond b (Some r) (fitting_row rows words) ≡ Some row) is found in
     let same : r ≡ row = cc in
-    subst (λ x. fits x.places words ≡ true) same (both r.built (fits r.places words) is).1
+    subst (λ x. fits x.places words ≡ true) same is
 fits_case false words r rows row is found ih = ih (subst (λ b. cond b (Some r) (fitting_row rows words) ≡ Some row) is found)
 
 -- the pattern that is found fits the line

@@ -1,5 +1,5 @@
 -- The places of each form of line, as the table of patterns has them.
-use Rattle.std.specs.Prelude.{ℕ, Bool, true, false, List, [], ◌∷◌, codes, cond, ◌&&◌, find, None, Some}
+use Rattle.std.specs.Prelude.{ℕ, Bool, true, false, List, [], ◌∷◌, codes, cond, find, None, Some}
 use Rattle.script_table.specs.declared.form.Form.{Form}
 use Rattle.script_table.specs.declared.form.Form.TheVariants as form
 use Rattle.script_table.specs.declared.form.ObjectForm.TheVariants as object
@@ -130,4 +130,4 @@ found_has test (r ∷ rows) row found all = found_case (test r) test r rows row 
 
 -- the pattern of a line has the places of its form
 pub fitting_has : (rows : List Row) → AllHave rows → (words : List (List ℕ)) (row : Row) → fitting_row rows words ≡ Some row → row.places ≡ places_of row.form
-fitting_has rows all words row found = found_has (λ r. r.built && fits r.places words) rows row found all
+fitting_has rows all words row found = found_has (λ r. fits r.places words) rows row found all

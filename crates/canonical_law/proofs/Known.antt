@@ -32,7 +32,7 @@ use Rattle.canonical_law.proofs.Shown.{sort_for}
 use Rattle.canonical_law.proofs.Sound.{Sound}
 use Rattle.canonical_law.proofs.Spelled.{AllGive, all_shown}
 use Rattle.canonical_law.proofs.Rebuilt.{SoundSaid, AllSound}
-use Rattle.canonical_law.proofs.Numbers.{names_in, AreNumbered, numbered_more, counts_more, names_more, gives_name, AreFew, number_below, few_more}
+use Rattle.canonical_law.proofs.Numbers.{names_in, AreNumbered, numbered_more, counts_more, names_more, gives_name, AreFew, most_of, most_of-small, number_below, few_more}
 use Rattle.canonical_law.proofs.Stack.{Stack, openings_of, Placed, at_end, after_goes}
 use Rattle.canonical_law.proofs.Printed.{Told, AllTold}
 use Rattle.canonical_law.proofs.Named.{Naming, kind_names, open_names, names_so_far, after_names}
@@ -251,7 +251,7 @@ fits_row s sound = subst (λ places. fits places s.words ≡ true) (sym sound.pl
 -- what is known of the names of all lines, and of what is built of them
 pub record AllKnown (es : List Entry) (ds : List Decl) : Type 0 where
   pub numbered : AreNumbered no_counts es
-  pub few : (kind : NameKind) → count_of (counts_from no_counts es) kind ≤ 64
+  pub few : (kind : NameKind) → count_of (counts_from no_counts es) kind ≤ most_of kind
   pub names : (kind : NameKind) → names_of (sort_for kind) ds ≡ names_in (sort_for kind) es
 
 pub known_names : (es : List Entry) (ss : List Said) (d : Declared) (t : Tally) (b : Built) (n m : ℕ) → Known d.names t.counts n (λ sort. names_so_far sort b)
@@ -263,7 +263,7 @@ known_names es [] d t b n m known sound names limits rises stack placed =
     λ kind. sym (append-nil (names_of (sort_for kind) b.decls)) ∙ (ap (λ bs. names_of (sort_for kind) b.decls ++ open_names (sort_for kind) bs) (sym none) ∙ known.names (sort_for kind)) in
     record {
       numbered = known.numbered;
-      few = λ kind. subst (λ c. count_of c kind ≤ 64) known.counts (known.few kind);
+      few = λ kind. subst (λ c. count_of c kind ≤ most_of kind) known.counts (known.few kind);
       names = all;
     }
 known_names es (s ∷ ss) d t b n m known sound names limits rises stack placed =
@@ -290,7 +290,8 @@ pub give_names : (es : List Entry) (ds : List Decl) → AllKnown es ds → AllGi
 give_names es ds known word e found =
     let below = number_below no_counts es word e known.numbered found in
     let few = known.few e.kind in
-    record { small = omega (arith, below, few); name = gives_name es ds known.numbered known.names word e found }
+    let small = most_of-small e.kind in
+    record { small = omega (arith, below, few, small); name = gives_name es ds known.numbered known.names word e found }
 
 pub nothing_known : Known [] no_counts 0 (λ sort. names_so_far sort nothing_built)
 nothing_known = record { numbered = tt; counts = refl; few = none_few; names = λ sort. refl; before = tt } where

@@ -52,7 +52,7 @@ module _ (rows : List Row) (table : IsTable rows) where
       let words : List (List ℕ) = line_words line in
       let canonical : List (List ℕ) = canonical_words row.places words in
       let found = some_found rows words row h.pattern in
-      let bounded : list_all is_bounded row.places ≡ true = found_passes (λ r. r.built && fits r.places words) (λ r. list_all is_bounded r.places) rows row found table.bounded in
+      let bounded : list_all is_bounded row.places ≡ true = found_passes (λ r. fits r.places words) (λ r. list_all is_bounded r.places) rows row found table.bounded in
       let clean = are_clean_kept row.places words bounded (record { spelled = h.spelled; ranged = h.ranged }) in
       let written : list_all is_word canonical ≡ true = words_kept row.places words bounded (record { spelled = h.spelled; ranged = h.ranged }) (line_words_are_words line h.bytes) in
       let back : line_words (canonical_line row line) ≡ canonical = line_words-joined canonical written in

@@ -122,9 +122,38 @@ pub is_declared : (es : List Entry) (ds : List Decl) → AreNumbered no_counts e
     → (word : List ℕ) (e : Entry) → entry_of es word ≡ Some e → e.number < length (names_of (sort_for e.kind) ds)
 is_declared es ds h names word e found = rw (names e.kind) (slice_get_within (names_in (sort_for e.kind) es) e.number word (at_number es h word e found))
 
--- there are at most 64 of each kind
+-- how many names of a kind there may be
+abbrev pub most_of : NameKind → ℕ
+most_of kind.Queue = 16
+most_of kind.Timer = 32
+most_of other = 64
+
+pub most_of-small : (k : NameKind) → most_of k ≤ 64
+most_of-small kind.Queue = omega arith
+most_of-small kind.Timer = omega arith
+most_of-small other = omega arith
+
+-- there are no more than that
 abbrev pub AreFew : Counts → Type 0
-AreFew c = (kind : NameKind) → count_of c kind ≤ 64
+AreFew c = (kind : NameKind) → count_of c kind ≤ most_of kind
+
+-- as many names as are counted
+length-names_case : (b : Bool) (name : List ℕ) (names : List (List ℕ)) (n m : ℕ) → length names + (if b then n + 1 else n) ≡ m → length (if b then name ∷ names else names) + n ≡ m
+length-names_case true name names n m e = omega (arith, e)
+length-names_case false name names n m e = e
+
+length-names_in : (c : Counts) (es : List Entry) (k : NameKind) → length (names_in (sort_for k) es) + count_of c k ≡ count_of (counts_from c es) k
+length-names_in c [] k = omega arith
+length-names_in c (x ∷ es) k =
+    length-names_case (same_sort (sort_for x.kind) (sort_for k)) x.name (names_in (sort_for k) es) (count_of c k) (count_of (counts_from c (x ∷ es)) k)
+    (subst (λ n. length (names_in (sort_for k) es) + n ≡ count_of (counts_from c (x ∷ es)) k) (counted_one c x.kind k) (length-names_in (counted c x.kind) es k))
+
+-- how many names of a kind are declared
+pub length-names : (es : List Entry) (k : NameKind) → length (names_in (sort_for k) es) ≡ count_of (counts_from no_counts es) k
+length-names es k =
+    let none = no_count k in
+    let all = length-names_in no_counts es k in
+    omega (arith, none, all)
 
 grows : (n : ℕ) (b : Bool) → n ≤ (if b then n + 1 else n)
 grows n true = omega arith
@@ -153,13 +182,13 @@ pub number_below : (c : Counts) (es : List Entry) (word : List ℕ) (e : Entry) 
 number_below c [] word e h found = absurd (let f : None ≡ Some e = found in cc)
 number_below c (x ∷ es) word e h found = below_case (bytes_eq word x.name) c x es word e refl h found (number_below (counted c x.kind) es word e h.1)
 
-few_one : (c : Counts) (a b : NameKind) → AreFew c → is_over (counted c a) a ≡ false → count_of (counted c a) b ≤ 64
+few_one : (c : Counts) (a b : NameKind) → AreFew c → is_over (counted c a) a ≡ false → count_of (counted c a) b ≤ most_of b
 few_one c kind.Thread kind.Thread h e = search rules
 few_one c kind.Mutex kind.Mutex h e = search rules
 few_one c kind.Cond kind.Cond h e = search rules
 few_one c kind.Sem kind.Sem h e = search rules
-few_one c kind.Queue kind.Queue h e = let f : c.queues + 1 ≤ 16 = search rules in omega arith
-few_one c kind.Timer kind.Timer h e = let f : c.timers + 1 ≤ 32 = search rules in omega arith
+few_one c kind.Queue kind.Queue h e = search rules
+few_one c kind.Timer kind.Timer h e = search rules
 few_one c kind.Handler kind.Handler h e = let f : (c.handlers + 1) + c.cleanups ≤ 64 = search rules in omega arith
 few_one c kind.Cleanup kind.Cleanup h e = let f : c.handlers + (c.cleanups + 1) ≤ 64 = search rules in omega arith
 few_one c a b h e = h b

@@ -112,7 +112,7 @@ module _ (rows : List Row) (table : IsTable rows) where
   anew_one n m row line sound =
       let kept = keeps_pattern rows table row line sound in
       let found = some_found rows (line_words line) row sound.pattern in
-      let test : Row → Bool = λ r. r.built && fits r.places (line_words line) in
+      let test : Row → Bool = λ r. fits r.places (line_words line) in
       let bounded : list_all is_bounded row.places ≡ true = found_passes test (λ r. list_all is_bounded r.places) rows row found table.bounded in
       let has : has_parameters row ≡ true = found_passes test has_parameters rows row found table.parameters in
       record {

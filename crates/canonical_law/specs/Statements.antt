@@ -12,7 +12,7 @@ use Rattle.canonical_law.specs.Laws.{AreAnew}
 
 -- the pattern of the quantum's line
 abbrev pub quantum_row : Row
-quantum_row = record { form = form.Quantum; bar = Nowhere; places = Keyword (codes "quantum") ∷ Number 1 greatest ∷ []; built = true }
+quantum_row = record { form = form.Quantum; bar = Nowhere; places = Keyword (codes "quantum") ∷ Number 1 greatest ∷ [] }
 
 -- the statement of a quantum, before all lines
 abbrev pub quantum_said : ℕ → Said

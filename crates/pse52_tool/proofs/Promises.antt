@@ -1,4 +1,4 @@
--- What is promised of the run of each script that is read.
+-- What is promised of the run of each script that is read or generated.
 use Rattle.std.proofs.Common.{◌≡◌, ℕ, List, Ok}
 use Rattle.script_tree.specs.declared.decl.Script.{Script}
 use Rattle.script_table.specs.Table.{patterns}
@@ -7,7 +7,9 @@ use Rattle.machine_rules.specs.Promises.{RunKeepsBudgets, RunStaysGood}
 use Rattle.machine_laws.proofs.Scripts as laws
 use Rattle.thread_laws.specs.HeadRuns.{HeadRuns}
 use Rattle.thread_laws.proofs.HeadRuns as heads
+use Rattle.script_gen.specs.Generated.{script_of}
 use Rattle.well_formed_scripts.proofs.Reading.{accepted_is_well_formed}
+use Rattle.well_formed_scripts.proofs.Generated.{generated_is_well_formed}
 
 pub head_runs : (script : Script) (k : ℕ) → HeadRuns script k
 head_runs = heads.head_runs
@@ -17,3 +19,9 @@ stays_good bytes script e = laws.stays_good script (accepted_is_well_formed byte
 
 pub keeps_budgets : (bytes : List ℕ) (script : Script) → read patterns bytes ≡ Ok script → RunKeepsBudgets script
 keeps_budgets bytes script e = laws.keeps_budgets script (accepted_is_well_formed bytes script e)
+
+pub generated_stays_good : (number : ℕ) → RunStaysGood (script_of number)
+generated_stays_good number = laws.stays_good (script_of number) (generated_is_well_formed number)
+
+pub generated_keeps_budgets : (number : ℕ) → RunKeepsBudgets (script_of number)
+generated_keeps_budgets number = laws.keeps_budgets (script_of number) (generated_is_well_formed number)

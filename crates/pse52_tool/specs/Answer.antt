@@ -1,18 +1,20 @@
 -- What the tool answers to the words of the command line and the bytes of the source.
-use Rattle.std.specs.Prelude.{ℕ, ◌≡◌, nat_lt, if◌then◌else◌, List, ◌++◌, length, codes, decimal, Option, None, Some, Result, Ok, Err}
+use Rattle.std.specs.Prelude.{ℕ, ◌≡◌, ◌&&◌, nat_lt, if◌then◌else◌, List, ◌++◌, length, codes, decimal, Option, None, Some, Result, Ok, Err}
 use Rattle.std.specs.Io.KnownBytes.{Appends, Keeps}
 use Rattle.rt_io.specs.Causes.{Rose}
 use Rattle.rt_io.specs.Bytes.{AppendsPart}
 use Rattle.script_tree.specs.declared.decl.Script.{Script}
+use Rattle.script_text.specs.Canon.{canon}
+use Rattle.script_gen.specs.Generated.{script_of}
 use Rattle.script_table.specs.Faults.{Fault, number_of, name_of}
 use Rattle.script_table.specs.Table.{patterns}
 use Rattle.script_table.specs.Read.{read}
-use Rattle.machine_rules.specs.Machine.{trace}
+use Rattle.machine_rules.specs.Machine.{closing, machine, names_of, trace}
 use Rattle.pse52_tool.specs.declared.status.Status.{Status}
 use Rattle.pse52_tool.specs.declared.status.Status.TheVariants.{Done, Usage, Refused, TooLong, ReadFault, WriteFault, OutOfMemory, Differs, NoTrace}
 use Rattle.pse52_tool.specs.declared.command.Command.{Command}
-use Rattle.pse52_tool.specs.declared.command.Command.TheVariants.{Run, Check, ResponseTimes}
-use Rattle.pse52_tool.specs.Command.{command, limit_of}
+use Rattle.pse52_tool.specs.declared.command.Command.TheVariants.{Run, Check, ResponseTimes, Gen, Soak}
+use Rattle.pse52_tool.specs.Command.{command, limit_of, reads}
 use Rattle.trace_check.specs.Divided.{Divided, divided}
 use Rattle.trace_check.specs.Comparison.{comparison}
 use Rattle.rta_core.specs.declared.task.Task.{Task}
@@ -72,16 +74,29 @@ abbrev pub responses_answer : ℕ → Result (List Task) task_faults.Fault → A
 responses_answer bound (Err f) = record { status = Refused; text = refused_line f.line (task_faults.number_of f.kind) (task_faults.name_of f.kind) }
 responses_answer bound (Ok tasks) = record { status = Done; text = response_lines bound tasks }
 
+-- the canonical text of the script of a number
+abbrev pub generated_answer : ℕ → Answer
+generated_answer seed = record { status = Done; text = canon (script_of seed) }
+
+-- the closing lines of a script's run to a tick
+abbrev pub closing_lines : Script → ℕ → List ℕ
+closing_lines script n = closing (names_of script) (machine script n)
+
+abbrev pub soak_answer : ℕ → ℕ → Answer
+soak_answer seed n = record { status = Done; text = closing_lines (script_of seed) n }
+
 -- what a command answers to a text that its limit allows
 abbrev pub text_answer : Command → List ℕ → Answer
 text_answer (Run n) bytes = run_answer n (read patterns bytes)
 text_answer (Check n) bytes = divided_answer n (divided bytes)
 text_answer (ResponseTimes n) bytes = responses_answer n (task_lines.read bytes)
+text_answer (Gen seed) bytes = generated_answer seed
+text_answer (Soak seed n) bytes = soak_answer seed n
 
 abbrev pub command_answer : Option Command → List ℕ → Answer
 command_answer None bytes = record { status = Usage; text = usage_line }
 command_answer (Some c) bytes =
-    if nat_lt (limit_of c) (length bytes) then record { status = TooLong; text = too_long_line }
+    if reads c && nat_lt (limit_of c) (length bytes) then record { status = TooLong; text = too_long_line }
     else text_answer c bytes
 
 abbrev pub answer : List (List ℕ) → List ℕ → Answer

@@ -1,10 +1,12 @@
--- The commands of the tool: `run N`, `check N` and `rta N`, where N is one or more decimal digits with a value up to a limit of the command's own.
-use Rattle.std.specs.Prelude.{ℕ, ◌^◌, ◌≤◌, ◌&&◌, nat_le, if◌then◌else◌, List, [], ◌∷◌, codes, Option, None, Some}
+-- The commands of the tool: `run N`, `check N`, `rta N`, `gen S` and `soak S N`, where N and S are one or more decimal digits with a value up to a
+-- limit of the command's own.
+use Rattle.std.specs.Prelude.{Bool, IsTrue, true, false, not, ℕ, ◌^◌, ◌≤◌, ◌&&◌, nat_le, if◌then◌else◌, List, [], ◌∷◌, codes, Option, None, Some}
 use Rattle.std.specs.Option.{option_map}
 use Rattle.std.specs.Str.{bytes_eq}
 use Rattle.script_table.specs.Words.{is_number, value_of}
+use Rattle.script_table.specs.Operands.{map_two}
 use Rattle.pse52_tool.specs.declared.command.Command.{Command}
-use Rattle.pse52_tool.specs.declared.command.Command.TheVariants.{Run, Check, ResponseTimes}
+use Rattle.pse52_tool.specs.declared.command.Command.TheVariants.{Run, Check, ResponseTimes, Gen, Soak}
 
 -- the number that a word names, where it is at most so great
 abbrev pub number_up_to : ℕ → List ℕ → Option ℕ
@@ -15,24 +17,44 @@ command_of word number =
     if bytes_eq word (codes "run") then option_map Run (number_up_to (10 ^ 18) number)
     else if bytes_eq word (codes "check") then option_map Check (number_up_to (10 ^ 18) number)
     else if bytes_eq word (codes "rta") then option_map ResponseTimes (number_up_to (10 ^ 8) number)
+    else if bytes_eq word (codes "gen") then option_map Gen (number_up_to (10 ^ 18) number)
+    else None
+
+-- the same of a word and two numbers
+abbrev pub long_command_of : List ℕ → List ℕ → List ℕ → Option Command
+long_command_of word first second =
+    if bytes_eq word (codes "soak") then map_two Soak (number_up_to (10 ^ 18) first) (number_up_to (10 ^ 18) second)
     else None
 
 -- the command of the words, or none where they are no command
 abbrev pub command : List (List ℕ) → Option Command
 command (word ∷ number ∷ []) = command_of word number
+command (word ∷ first ∷ second ∷ []) = long_command_of word first second
 command words = None
 
--- its number is within its limit
+-- its numbers are within its limits
 abbrev pub IsWithinLimit : Command → Type 0
 IsWithinLimit (Run n) = n ≤ 10 ^ 18
 IsWithinLimit (Check n) = n ≤ 10 ^ 18
 IsWithinLimit (ResponseTimes n) = n ≤ 10 ^ 8
+IsWithinLimit (Gen seed) = seed ≤ 10 ^ 18
+IsWithinLimit (Soak seed n) = (seed ≤ 10 ^ 18) × (n ≤ 10 ^ 18)
+
+-- whether it reads the source; what does not is about a script that it generates
+abbrev pub reads : Command → Bool
+reads (Run n) = true
+reads (Check n) = true
+reads (ResponseTimes n) = true
+reads (Gen seed) = false
+reads (Soak seed n) = false
 
 -- how many bytes the source of a command may have
 abbrev pub limit_of : Command → ℕ
 limit_of (Run n) = 1_048_576
 limit_of (Check n) = 67_108_864
 limit_of (ResponseTimes n) = 67_108_864
+limit_of (Gen seed) = 0
+limit_of (Soak seed n) = 0
 
 -- the same of words, of which no byte is read where they are no command
 abbrev pub words_limit_of : Option Command → ℕ
@@ -48,3 +70,15 @@ Compares None = ⊥
 Compares (Some (Run n)) = ⊥
 Compares (Some (Check n)) = Unit {0}
 Compares (Some (ResponseTimes n)) = ⊥
+Compares (Some (Gen seed)) = ⊥
+Compares (Some (Soak seed n)) = ⊥
+
+-- a command that reads the source
+abbrev pub Reads : Option Command → Type 0
+Reads None = ⊥
+Reads (Some c) = IsTrue (reads c)
+
+-- a command that generates a script, and leaves the source as it is
+abbrev pub Generates : Option Command → Type 0
+Generates None = ⊥
+Generates (Some c) = IsTrue (not (reads c))

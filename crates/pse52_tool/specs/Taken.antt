@@ -38,3 +38,15 @@ IsOfWhole TooLong = ⊥
 IsOfWhole ReadFault = ⊥
 IsOfWhole WriteFault = ⊥
 IsOfWhole OutOfMemory = ⊥
+
+-- a status of a command that reads nothing
+abbrev pub IsWithoutSource : Status → Type 0
+IsWithoutSource Done = Unit {0}
+IsWithoutSource WriteFault = Unit {0}
+IsWithoutSource OutOfMemory = Unit {0}
+IsWithoutSource Refused = ⊥
+IsWithoutSource Differs = ⊥
+IsWithoutSource NoTrace = ⊥
+IsWithoutSource Usage = ⊥
+IsWithoutSource TooLong = ⊥
+IsWithoutSource ReadFault = ⊥

@@ -11,7 +11,8 @@ ghost use Rattle.pse52_tool.specs.Answer.{Told, SinkFaults, compared_answer, div
 
 use crate::Status;
 use crate::message::refused_line;
-use crate::tool::{print_run, put_text};
+use crate::runs::print_run;
+use crate::tool::put_text;
 use rt_io::Sink;
 use std::alloc::{AllocError, Global};
 use std::marker::Brand;

@@ -1,6 +1,7 @@
 // The words of the command line.
 ghost use Rattle.std.specs.Prelude.{◌≡◌, ◌≤◌, ◌^◌, Option, map, string_bytes, IfSome};
-ghost use Rattle.pse52_tool.specs.Command.{command, command_of, number_up_to, limit_of, IsWithinLimit};
+ghost use Rattle.script_table.specs.Operands.{map_two};
+ghost use Rattle.pse52_tool.specs.Command.{command, command_of, long_command_of, number_up_to, limit_of, reads, IsWithinLimit};
 
 use script_table::{capped_value, is_number};
 use tick_num::Tick;
@@ -8,6 +9,8 @@ use tick_num::Tick;
 const FARTHEST_TICK: u64 = 1_000_000_000_000_000_000;
 
 const GREATEST_BOUND: u64 = 100_000_000;
+
+const GREATEST_SEED: u64 = 1_000_000_000_000_000_000;
 
 /// A command of the tool.
 #[derive(Clone, Copy)]
@@ -18,10 +21,14 @@ pub enum Command {
     Check(Tick),
     /// `rta N`: the response times of tasks, up to a bound of N ticks, at most 10^8.
     ResponseTimes(u64),
+    /// `gen S`: the canonical text of the generated script of number S, at most 10^18.
+    Gen(u64),
+    /// `soak S N`: the closing lines of that script's run to tick N; both are at most 10^18.
+    Soak(u64, Tick),
 }
 
 impl Command {
-    /// How many bytes its source may have.
+    /// How many bytes of its source it may take.
     pub(crate) fn limit(&self) -> u64
         ensures limit { result ≡ limit_of self.now }
         ensures small { result ≤ 67_108_864 }
@@ -30,6 +37,21 @@ impl Command {
             Command::Run(_) => 1_048_576,
             Command::Check(_) => 67_108_864,
             Command::ResponseTimes(_) => 67_108_864,
+            Command::Gen(_) => 0,
+            Command::Soak(_, _) => 0,
+        }
+    }
+
+    /// Whether it reads its source.
+    pub(crate) fn reads(&self) -> bool
+        ensures { result ≡ reads self.now }
+    {
+        match *self {
+            Command::Run(_) => true,
+            Command::Check(_) => true,
+            Command::ResponseTimes(_) => true,
+            Command::Gen(_) => false,
+            Command::Soak(_, _) => false,
         }
     }
 }
@@ -79,6 +101,35 @@ fn command_of(word: &[u8], number: &[u8]) -> Option<Command>
             None => None,
             Some(bound) => Some(Command::ResponseTimes(bound)),
         }
+    } else if word == b"gen".as_slice() {
+        match number_up_to(GREATEST_SEED, number) {
+            None => None,
+            Some(seed) => Some(Command::Gen(seed)),
+        }
+    } else {
+        None
+    }
+}
+
+fn soak(seed: &[u8], horizon: &[u8]) -> Option<Command>
+    ensures command { result ≡ map_two Command.Soak (number_up_to (10 ^ 18) seed.now) (number_up_to (10 ^ 18) horizon.now) }
+    ensures limit { IfSome result IsWithinLimit }
+{
+    match number_up_to(GREATEST_SEED, seed) {
+        None => None,
+        Some(seed) => match tick_of(horizon) {
+            None => None,
+            Some(horizon) => Some(Command::Soak(seed, horizon)),
+        },
+    }
+}
+
+fn long_command_of(word: &[u8], first: &[u8], second: &[u8]) -> Option<Command>
+    ensures command { result ≡ long_command_of word.now first.now second.now }
+    ensures limit { IfSome result IsWithinLimit }
+{
+    if word == b"soak".as_slice() {
+        soak(first, second)
     } else {
         None
     }
@@ -91,6 +142,9 @@ pub(crate) fn command_of_words(words: &[String]) -> Option<Command>
 {
     match words {
         [word, number] => command_of(word.as_bytes(), number.as_bytes()),
+        [word, first, second] => {
+            long_command_of(word.as_bytes(), first.as_bytes(), second.as_bytes())
+        }
         _ => None,
     }
 }

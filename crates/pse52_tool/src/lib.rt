@@ -3,8 +3,10 @@
 
 mod check;
 mod command;
+mod generated;
 mod message;
 mod responses;
+mod runs;
 mod status;
 mod tool;
 

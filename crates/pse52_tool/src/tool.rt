@@ -4,99 +4,33 @@ ghost use Rattle.std.specs.Io.KnownBytes.{Appends, IsAtEnd};
 ghost use Rattle.rt_io.specs.Bytes.{AppendsPart};
 ghost use Rattle.rt_io.specs.Causes.{Rose, GrewBy};
 ghost use Rattle.rt_io.specs.Whole.{TookAtMost};
-ghost use Rattle.pse52_trace.specs.Prints.{Prints};
-ghost use Rattle.pse52_trace.specs.Printed.{Printed, outlet};
 ghost use Rattle.script_table.specs.Table.{patterns};
 ghost use Rattle.script_table.specs.Read.{read};
-ghost use Rattle.machine_flat.specs.FlatBodies.{flat_bodies};
-ghost use Rattle.machine_rules.specs.Eventful.{busy};
 ghost use Rattle.machine_rules.specs.Machine.{trace};
 ghost use Rattle.machine_rules.specs.WellFormed.{IsWellFormed};
 ghost use Rattle.machine_flat.specs.Runnable.{IsRunnable};
-ghost use Rattle.rt_kernel.specs.Ran.{run_text};
+ghost use Rattle.script_gen.specs.Generated.{script_of};
 ghost use Rattle.script_tree.specs.declared.decl.Script.{Script};
-ghost use Rattle.pse52_tool.specs.Command.{command, limit_of, words_limit, Compares, IsWithinLimit};
+ghost use Rattle.pse52_tool.specs.Command.{command, limit_of, reads, words_limit, Compares, Generates, IsWithinLimit, Reads};
 ghost use Rattle.machine_rules.specs.Promises.{RunKeepsBudgets, RunStaysGood, busy_between};
 ghost use Rattle.pse52_tool.specs.Few.{StepsAreFew};
 ghost use Rattle.thread_laws.specs.HeadRuns.{HeadRuns};
 ghost use Rattle.pse52_tool.specs.Answer.{answer, run_answer, text_answer, usage_line, too_long_line, no_trace_line, Told, SinkFaults, HasText};
-ghost use Rattle.pse52_tool.specs.Taken.{Answered, IsOfWhole, ReadToItsEnd, ReadWhole};
+ghost use Rattle.pse52_tool.specs.Taken.{Answered, IsOfWhole, IsWithoutSource, ReadToItsEnd, ReadWhole};
 
 use crate::Status;
 use crate::check::check_text;
 use crate::command::{Command, command_of_words};
+use crate::generated::{soak, tell_generated};
 use crate::message::refused_line;
 use crate::responses::tell_responses;
-use pse52_trace::Tracer;
+use crate::runs::print_run;
 use rt_io::{ReadEnd, Sink, Source, read_whole};
-use rt_kernel::{Kernel, RunEnd};
-use std::alloc::{AllocError, Global};
+use std::alloc::Global;
 use std::sync::ledger::Ledger;
 use step_counter::Steps;
 use task_script::{Script, ScriptEnd, read_script};
 use tick_num::Tick;
-
-// Runs a kernel from its first instant to the horizon, and prints the trace.
-fn run_kernel<K: Sink, L: Ledger>(
-    kernel: &mut Kernel,
-    horizon: Tick,
-    out: &mut Tracer<'_, K>,
-    steps: &mut Steps<L>,
-)
-    requires fresh { kernel.old.machine.now ≡ 0 }
-    requires limit { horizon ≤ 10 ^ 18 }
-    requires unfailed { out.old.failed ≡ false }
-    ensures printed { Prints K.text K.faults out.old out.new (run_text kernel.old horizon) }
-    ensures busy { steps.new ≤ steps.old + busy (flat_bodies kernel.old.code) kernel.old.machine 0 horizon + 1 }
-{
-    match kernel.run_until(horizon, out, steps) {
-        RunEnd::Ended => kernel.report(out),
-        RunEnd::Stopped => return,
-    }
-}
-
-// Runs a script from its first instant to the horizon, and prints its trace. From the open kernel on, nothing takes memory.
-fn print_trace<K: Sink, L: Ledger>(
-    alloc: Global,
-    script: &Script,
-    horizon: Tick,
-    out: &mut Tracer<'_, K>,
-    steps: &mut Steps<L>,
-) -> Result<(), AllocError>
-    requires runnable { IsRunnable script.now }
-    requires well_formed { IsWellFormed script.now }
-    requires limit { horizon ≤ 10 ^ 18 }
-    requires unfailed { out.old.failed ≡ false }
-    ensures printed { OnOk result (Prints K.text K.faults out.old out.new (trace script.now horizon)) }
-    ensures unchanged { OnErr result (out.new ≡ out.old) }
-    ensures busy { steps.new ≤ steps.old + busy_between script.now 0 horizon + 1 }
-{
-    let mut kernel = Kernel::open(alloc, script)?;
-    run_kernel(&mut kernel, horizon, out, steps);
-    Ok(())
-}
-
-/// Runs a script from its first instant to the horizon, prints its trace, and answers whether a write failed. From the open kernel on, nothing takes
-/// memory.
-pub(crate) fn print_run<K: Sink, L: Ledger>(
-    alloc: Global,
-    script: &Script,
-    horizon: Tick,
-    sink: &mut K,
-    steps: &mut Steps<L>,
-) -> Result<bool, AllocError>
-    requires runnable { IsRunnable script.now }
-    requires well_formed { IsWellFormed script.now }
-    requires limit { horizon ≤ 10 ^ 18 }
-    ensures printed { IfOk result (λ failed. Printed (outlet K.text K.faults false sink.old) (outlet K.text K.faults failed sink.new)
-        (trace script.now horizon)) }
-    ensures unchanged { OnErr result (sink.new ≡ sink.old) }
-    ensures busy { steps.new ≤ steps.old + busy_between script.now 0 horizon + 1 }
-{
-    let mut out = Tracer::new(sink);
-    print_trace(alloc, script, horizon, &mut out, steps)?;
-    Ok(out.failed())
-}
 
 // Runs a script and prints its trace.
 fn run_script<K: Sink, L: Ledger>(
@@ -164,7 +98,7 @@ fn run_text<K: Sink, L: Ledger>(
     }
 }
 
-// Carries out a command on a text that its limit allows.
+// Carries out a command on a text that its limit allows, which is the empty one where it reads nothing.
 fn answer_text<K: Sink, L: Ledger>(
     alloc: Global,
     command: &Command,
@@ -178,12 +112,16 @@ fn answer_text<K: Sink, L: Ledger>(
     ensures faults { SinkFaults result (K.faults sink.old) (K.faults sink.new) }
     ensures read { result ≡ Status.ReadFault → ⊥ }
     ensures unchanged { result ≡ Status.OutOfMemory → sink.new ≡ sink.old }
+    ensures kind { reads command.now ≡ false → IsWithoutSource result }
     ensures busy { (n : ℕ) → command.now ≡ Command.Run n → StepsAreFew n text.now steps.old steps.new }
+    ensures soaks { (seed n : ℕ) → command.now ≡ Command.Soak seed n → steps.new ≤ steps.old + busy_between (script_of seed) 0 n + 1 }
 {
     match *command {
         Command::Run(horizon) => run_text(alloc, text, horizon, sink, steps),
         Command::Check(horizon) => check_text(alloc, text, horizon, sink, steps),
         Command::ResponseTimes(bound) => tell_responses(alloc, text, bound, sink, steps),
+        Command::Gen(seed) => tell_generated(alloc, seed, sink),
+        Command::Soak(seed, horizon) => soak(alloc, seed, horizon, sink, steps),
     }
 }
 
@@ -192,14 +130,16 @@ fn answer_text<K: Sink, L: Ledger>(
 /// `run N` reads the source whole, at most 1,048,576 bytes, and runs its script to tick N; the text is the trace of the
 /// list machine. `check N` reads it whole, at most 67,108,864 bytes, splits it at its first line `%%` into a script and a
 /// trace, and tells whether the trace is the script's; `Differs` comes with the first line that differs. `rta N` reads it
-/// whole, at most 67,108,864 bytes, and tells the least response times of its tasks, up to N ticks. Where the words are no
+/// whole, at most 67,108,864 bytes, and tells the least response times of its tasks, up to N ticks. `gen S` writes the
+/// canonical text of the generated script of number S, and `soak S N` runs that script to tick N and writes the closing
+/// lines of its trace; these two leave the source as it is, and answer `Done`, `WriteFault` or `OutOfMemory`. Where the words are no
 /// command the answer is `Usage`, or `WriteFault` where its line could not be written; that takes no memory and no byte.
 /// Then come `ReadFault` or `TooLong`, by the bytes read; then `NoTrace`, where `check` finds no line `%%`, or `TooLong`,
 /// where the script in front of it has more than 1,048,576 bytes; then `Refused`, where the script or the text of tasks has
 /// a fault; then the answer. `OutOfMemory` may come in place of any of these but `Usage`, before
 /// anything is written. A fault of the source or the sink is answered only where its count of faults rose in this call.
 /// Nothing is written before the source was read to its end, or to one byte more than the limit.
-#[tactic(auto, using(crate::proofs::Promises::head_runs, crate::proofs::Promises::stays_good, crate::proofs::Promises::keeps_budgets))]
+#[tactic(auto, using(crate::proofs::Promises::head_runs, crate::proofs::Promises::stays_good, crate::proofs::Promises::keeps_budgets, crate::proofs::Promises::generated_stays_good, crate::proofs::Promises::generated_keeps_budgets))]
 pub fn run_tool<S: Source, K: Sink, L: Ledger>(
     alloc: Global,
     words: &[String],
@@ -222,9 +162,15 @@ pub fn run_tool<S: Source, K: Sink, L: Ledger>(
     ensures good { (bytes : List ℕ) (script : Script) → read patterns bytes ≡ Ok script → RunStaysGood script }
     ensures budgets { (bytes : List ℕ) (script : Script) → read patterns bytes ≡ Ok script → RunKeepsBudgets script }
 
+    // So it is of the script of each number.
+    ensures generated_good { (seed : ℕ) → RunStaysGood (script_of seed) }
+    ensures generated_budgets { (seed : ℕ) → RunKeepsBudgets (script_of seed) }
+
     // A run has at most one step more than there are eventful instants before its horizon.
     ensures busy { (n : ℕ) (bytes : List ℕ) → command (map string_bytes words.now) ≡ Some (Command.Run n) → S.rest source.old ≡ Some bytes
         → StepsAreFew n bytes steps.old steps.new }
+    ensures soaks { (seed n : ℕ) → command (map string_bytes words.now) ≡ Some (Command.Soak seed n)
+        → steps.new ≤ steps.old + busy_between (script_of seed) 0 n + 1 }
 
     // The words decide alone whether there is a command.
     ensures usage { result ≡ Status.Usage → command (map string_bytes words.now) ≡ None }
@@ -233,6 +179,10 @@ pub fn run_tool<S: Source, K: Sink, L: Ledger>(
         → ((result ≡ Status.Usage) ⊎ (result ≡ Status.WriteFault)) × (source.new ≡ source.old) }
     ensures usage_part { command (map string_bytes words.now) ≡ None → result ≡ Status.WriteFault
         → AppendsPart (K.text sink.old) (K.text sink.new) usage_line }
+
+    // What generates a script leaves the source as it is, and is done, or fails for its own reasons alone.
+    ensures generates { Generates (command (map string_bytes words.now)) → IsWithoutSource result }
+    ensures unread { Generates (command (map string_bytes words.now)) → source.new ≡ source.old }
 
     // Too long means that one byte more than the limit was taken, or that the script in front of a trace is too long.
     ensures too_long { result ≡ Status.TooLong
@@ -245,8 +195,8 @@ pub fn run_tool<S: Source, K: Sink, L: Ledger>(
     ensures checked { (result ≡ Status.Differs) ⊎ (result ≡ Status.NoTrace) → Compares (command (map string_bytes words.now)) }
     ensures no_trace_text { result ≡ Status.NoTrace → Appends (K.text sink.old) (K.text sink.new) no_trace_line }
 
-    // What is told of a whole text comes only where all bytes were taken, which the limit allows.
-    ensures read_whole { IsOfWhole result → IsAtEnd (S.rest source.new) }
+    // What is told of a whole text comes only where all bytes were taken, which the limit allows; what reads nothing takes none.
+    ensures read_whole { IsOfWhole result → Reads (command (map string_bytes words.now)) → IsAtEnd (S.rest source.new) }
     ensures whole_bytes { IsOfWhole result → TookAtMost (words_limit (map string_bytes words.now))
         (S.rest source.old) (S.rest source.new) (S.taken source.old) (S.taken source.new) }
 
@@ -258,8 +208,8 @@ pub fn run_tool<S: Source, K: Sink, L: Ledger>(
         → TookAtMost (words_limit (map string_bytes words.now) + 1)
         (S.rest source.old) (S.rest source.new) (S.taken source.old) (S.taken source.new) }
 
-    // A write failed where the words are no command, or the source was read before, to its end or past the limit.
-    ensures write_fault { result ≡ Status.WriteFault → IsSome (command (map string_bytes words.now))
+    // A write failed where the words are no command that reads, or the source was read before, to its end or past the limit.
+    ensures write_fault { result ≡ Status.WriteFault → Reads (command (map string_bytes words.now))
         → ReadToItsEnd (words_limit (map string_bytes words.now))
         (S.rest source.old) (S.rest source.new) (S.taken source.old) (S.taken source.new) }
 
@@ -281,6 +231,9 @@ pub fn run_tool<S: Source, K: Sink, L: Ledger>(
     let Some(command) = command_of_words(words) else {
         return put_text(sink, b"usage: pse52 COMMAND NUMBERS\n", Status::Usage);
     };
+    if !command.reads() {
+        return answer_text(alloc, &command, b"", sink, steps);
+    }
     match read_whole(alloc, source, command.limit()) {
         Ok(bytes) => answer_text(alloc, &command, bytes.as_slice(), sink, steps),
         Err(ReadEnd::ReadFault) => Status::ReadFault,

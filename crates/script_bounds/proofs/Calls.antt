@@ -1,5 +1,5 @@
--- The call that a line makes, whatever form it has and whatever its words are: it names what is declared, its numbers are in range, a
--- server has a budget, and it is built if its form is.
+-- The call that a line makes, whatever form it has and whatever its words are: it names what is declared, its numbers are in range, and
+-- a server has a budget.
 use Rattle.std.proofs.Common.{ℕ, ◌≡◌, ◌<◌, List, Option, true, refl, arith}
 use Rattle.std.specs.Option.{IfSome, option_map}
 use Rattle.script_tree.specs.declared.call.Call.{Call}
@@ -27,58 +27,9 @@ use Rattle.script_table.specs.declared.pattern.NameKind.TheVariants as kind
 use Rattle.script_table.specs.Names.{Entry}
 use Rattle.script_table.specs.Operands.{map_two, number_in, amount_at, priority_at, operand_at, signal_at, signals_at, named_at, fifo_at, rr_at, sporadic_at}
 use Rattle.script_table.specs.Calls.{thread_call, mutex_call, sem_call, time_call, signal_call, message_call, call_of}
-use Rattle.machine_flat.specs.Built.{is_built}
 use Rattle.machine_flat.specs.KnownCalls.{Objects, KnowsObjects, IsNumber, IsOperand, IsSignal}
 use Rattle.machine_flat.specs.Runnable.{HasBudget, CallHasBudget}
 use Rattle.script_bounds.proofs.Operands.{mapped, mapped_two, mapped_three, mapped_four, mapped_five, Any, anything, IsFrom, number_within, amount_within, operand_within, signal_within, fifo_within, rr_within, sporadic_within, AllBelow, named_within}
-
--- a call of each form
-abbrev pub example : CallForm → Call
-example (call.Thread thread.Yield) = calls.Yield
-example (call.Thread thread.Create) = calls.Create 0
-example (call.Thread thread.Join) = calls.Join 0
-example (call.Thread thread.Cancel) = calls.Cancel 0
-example (call.Thread thread.Testcancel) = calls.Testcancel
-example (call.Thread thread.SetcancelEnable) = calls.Setcancel true
-example (call.Thread thread.SetcancelDisable) = calls.Setcancel true
-example (call.Thread thread.Exit) = calls.Exit Reg
-example (call.Thread thread.Setprio) = calls.Setprio 0 0
-example (call.Thread thread.SetschedFifo) = calls.Setsched 0 (Fifo 0)
-example (call.Thread thread.SetschedRr) = calls.Setsched 0 (Fifo 0)
-example (call.Thread thread.SetschedSporadic) = calls.Setsched 0 (Fifo 0)
-example (call.Mutex mutex.Lock) = calls.Lock 0
-example (call.Mutex mutex.Timedlock) = calls.Timedlock 0 Reg
-example (call.Mutex mutex.Trylock) = calls.Trylock 0
-example (call.Mutex mutex.Unlock) = calls.Unlock 0
-example (call.Mutex mutex.Wait) = calls.Wait 0 0
-example (call.Mutex mutex.Timedwait) = calls.Timedwait 0 0 Reg
-example (call.Mutex mutex.Signal) = calls.Signal 0
-example (call.Mutex mutex.Broadcast) = calls.Broadcast 0
-example (call.Sem sem.Wait) = calls.SemWait 0
-example (call.Sem sem.Timedwait) = calls.SemTimedwait 0 Reg
-example (call.Sem sem.Trywait) = calls.SemTrywait 0
-example (call.Sem sem.Getvalue) = calls.SemGetvalue 0
-example (call.Sem sem.Post) = calls.SemPost 0
-example (call.Time time.Nanosleep) = calls.Nanosleep 0
-example (call.Time time.ClockNanosleep) = calls.ClockNanosleep Reg
-example (call.Time time.Gettime) = calls.Gettime
-example (call.Time time.TimerSettimeRel) = calls.TimerSettimeRel 0 0 0
-example (call.Time time.TimerSettimeAbs) = calls.TimerSettimeAbs 0 Reg 0
-example (call.Time time.TimerGettime) = calls.TimerGettime 0
-example (call.Time time.TimerGetoverrun) = calls.TimerGetoverrun 0
-example (call.Signal signal.Kill) = calls.Kill 0
-example (call.Signal signal.Tkill) = calls.Tkill 0 0
-example (call.Signal signal.Sigqueue) = calls.Sigqueue 0 Reg
-example (call.Signal signal.SigmaskBlock) = calls.SigmaskBlock 0
-example (call.Signal signal.SigmaskUnblock) = calls.SigmaskUnblock 0
-example (call.Signal signal.SigmaskSet) = calls.SigmaskSet 0
-example (call.Signal signal.Sigwaitinfo) = calls.Sigwaitinfo 0
-example (call.Signal signal.Sigtimedwait) = calls.Sigtimedwait 0 0
-example (call.Message message.Send) = calls.MqSend 0 0 0 Reg
-example (call.Message message.Timedsend) = calls.MqTimedsend 0 0 0 Reg Reg
-example (call.Message message.Receive) = calls.MqReceive 0
-example (call.Message message.Timedreceive) = calls.MqTimedreceive 0 Reg
-example (call.Message message.Notify) = calls.MqNotify 0 0 Reg
 
 -- how many there are of each kind that calls name by number
 abbrev pub objects_by : (NameKind → ℕ) → Objects
@@ -91,124 +42,124 @@ objects_by count = record {
   timers = count kind.Timer;
 }
 
--- a call knows what is declared, has a budget where it sets a server, and is built if the form's example is
-abbrev pub Fits : (NameKind → ℕ) → CallForm → Call → Type 0
-Fits count f c = KnowsObjects (objects_by count) c × CallHasBudget c × (is_built c ≡ is_built (example f))
+-- a call knows what is declared, and has a budget where it sets a server
+abbrev pub Fits : (NameKind → ℕ) → Call → Type 0
+Fits count c = KnowsObjects (objects_by count) c × CallHasBudget c
 
 module _ (count : NameKind → ℕ) (es : List Entry) (below : AllBelow count es) (words : List (List ℕ)) where
   abbrev Below : NameKind → ℕ → Type 0
   Below kind n = n < count kind
 
   -- calls of the first word's name, alone and with an operand
-  of_name : (f : CallForm) (kind : NameKind) (make : ℕ → Call) → ((n : ℕ) → n < count kind → Fits count f (make n))
-      → IfSome (option_map make (named_at kind es 1 words)) (Fits count f)
-  of_name f kind make each = mapped (Below kind) (Fits count f) make each (named_at kind es 1 words) (named_within count es below kind 1 words)
+  of_name : (kind : NameKind) (make : ℕ → Call) → ((n : ℕ) → n < count kind → Fits count (make n))
+      → IfSome (option_map make (named_at kind es 1 words)) (Fits count)
+  of_name kind make each = mapped (Below kind) (Fits count) make each (named_at kind es 1 words) (named_within count es below kind 1 words)
 
-  of_name_and_operand : (f : CallForm) (kind : NameKind) (make : ℕ → Operand → Call) → ((n : ℕ) (v : Operand) → n < count kind → IsOperand v → Fits count f (make n v))
-      → IfSome (map_two make (named_at kind es 1 words) (operand_at 2 words)) (Fits count f)
-  of_name_and_operand f kind make each =
-      mapped_two (Below kind) IsOperand (Fits count f) make each (named_at kind es 1 words) (operand_at 2 words) (named_within count es below kind 1 words) (operand_within 2 words)
+  of_name_and_operand : (kind : NameKind) (make : ℕ → Operand → Call) → ((n : ℕ) (v : Operand) → n < count kind → IsOperand v → Fits count (make n v))
+      → IfSome (map_two make (named_at kind es 1 words) (operand_at 2 words)) (Fits count)
+  of_name_and_operand kind make each =
+      mapped_two (Below kind) IsOperand (Fits count) make each (named_at kind es 1 words) (operand_at 2 words) (named_within count es below kind 1 words) (operand_within 2 words)
 
   -- a call that sets a policy
-  of_policy : (f : CallForm) (policy : Option Policy) → IfSome policy HasBudget → is_built (calls.Setsched 0 (Fifo 0)) ≡ is_built (example f)
-      → IfSome (map_two calls.Setsched (named_at kind.Thread es 1 words) policy) (Fits count f)
-  of_policy f policy budget same =
-      mapped_two (Below kind.Thread) HasBudget (Fits count f) calls.Setsched (λ u p h b. (h, b, same)) (named_at kind.Thread es 1 words) policy
+  of_policy : (policy : Option Policy) → IfSome policy HasBudget
+      → IfSome (map_two calls.Setsched (named_at kind.Thread es 1 words) policy) (Fits count)
+  of_policy policy budget =
+      mapped_two (Below kind.Thread) HasBudget (Fits count) calls.Setsched (λ u p h b. (h, b)) (named_at kind.Thread es 1 words) policy
       (named_within count es below kind.Thread 1 words) budget
 
   -- a call with a set of signals
-  of_set : (f : CallForm) (k : ℕ) (make : ℕ → Call) → ((set : ℕ) → Fits count f (make set)) → IfSome (option_map make (signals_at k words)) (Fits count f)
-  of_set f k make each = mapped Any (Fits count f) make (λ set h. each set) (signals_at k words) (anything (signals_at k words))
+  of_set : (k : ℕ) (make : ℕ → Call) → ((set : ℕ) → Fits count (make set)) → IfSome (option_map make (signals_at k words)) (Fits count)
+  of_set k make each = mapped Any (Fits count) make (λ set h. each set) (signals_at k words) (anything (signals_at k words))
 
-  thread_fits : (f : ThreadCall) → IfSome (thread_call es f words) (Fits count (call.Thread f))
-  thread_fits thread.Yield = (tt, tt, refl)
-  thread_fits thread.Create = of_name (call.Thread thread.Create) kind.Thread calls.Create (λ u h. (h, tt, refl))
-  thread_fits thread.Join = of_name (call.Thread thread.Join) kind.Thread calls.Join (λ u h. (h, tt, refl))
-  thread_fits thread.Cancel = of_name (call.Thread thread.Cancel) kind.Thread calls.Cancel (λ u h. (h, tt, refl))
-  thread_fits thread.Testcancel = (tt, tt, refl)
-  thread_fits thread.SetcancelEnable = (tt, tt, refl)
-  thread_fits thread.SetcancelDisable = (tt, tt, refl)
-  thread_fits thread.Exit = mapped IsOperand (Fits count (call.Thread thread.Exit)) calls.Exit (λ v h. (h, tt, refl)) (operand_at 1 words) (operand_within 1 words)
+  thread_fits : (f : ThreadCall) → IfSome (thread_call es f words) (Fits count)
+  thread_fits thread.Yield = (tt, tt)
+  thread_fits thread.Create = of_name kind.Thread calls.Create (λ u h. (h, tt))
+  thread_fits thread.Join = of_name kind.Thread calls.Join (λ u h. (h, tt))
+  thread_fits thread.Cancel = of_name kind.Thread calls.Cancel (λ u h. (h, tt))
+  thread_fits thread.Testcancel = (tt, tt)
+  thread_fits thread.SetcancelEnable = (tt, tt)
+  thread_fits thread.SetcancelDisable = (tt, tt)
+  thread_fits thread.Exit = mapped IsOperand (Fits count) calls.Exit (λ v h. (h, tt)) (operand_at 1 words) (operand_within 1 words)
   thread_fits thread.Setprio =
-      mapped_two (Below kind.Thread) Any (Fits count (call.Thread thread.Setprio)) calls.Setprio (λ u p h k. (h, tt, refl)) (named_at kind.Thread es 1 words) (priority_at 2 words)
+      mapped_two (Below kind.Thread) Any (Fits count) calls.Setprio (λ u p h k. (h, tt)) (named_at kind.Thread es 1 words) (priority_at 2 words)
       (named_within count es below kind.Thread 1 words) (anything (priority_at 2 words))
-  thread_fits thread.SetschedFifo = of_policy (call.Thread thread.SetschedFifo) (fifo_at 3 words) (fifo_within 3 words) refl
-  thread_fits thread.SetschedRr = of_policy (call.Thread thread.SetschedRr) (rr_at 3 words) (rr_within 3 words) refl
-  thread_fits thread.SetschedSporadic = of_policy (call.Thread thread.SetschedSporadic) (sporadic_at words) (sporadic_within words) refl
+  thread_fits thread.SetschedFifo = of_policy (fifo_at 3 words) (fifo_within 3 words)
+  thread_fits thread.SetschedRr = of_policy (rr_at 3 words) (rr_within 3 words)
+  thread_fits thread.SetschedSporadic = of_policy (sporadic_at words) (sporadic_within words)
 
-  mutex_fits : (f : MutexCall) → IfSome (mutex_call es f words) (Fits count (call.Mutex f))
-  mutex_fits mutex.Lock = of_name (call.Mutex mutex.Lock) kind.Mutex calls.Lock (λ k h. (h, tt, refl))
-  mutex_fits mutex.Timedlock = of_name_and_operand (call.Mutex mutex.Timedlock) kind.Mutex calls.Timedlock (λ k at h o. ((h, o), tt, refl))
-  mutex_fits mutex.Trylock = of_name (call.Mutex mutex.Trylock) kind.Mutex calls.Trylock (λ k h. (h, tt, refl))
-  mutex_fits mutex.Unlock = of_name (call.Mutex mutex.Unlock) kind.Mutex calls.Unlock (λ k h. (h, tt, refl))
+  mutex_fits : (f : MutexCall) → IfSome (mutex_call es f words) (Fits count)
+  mutex_fits mutex.Lock = of_name kind.Mutex calls.Lock (λ k h. (h, tt))
+  mutex_fits mutex.Timedlock = of_name_and_operand kind.Mutex calls.Timedlock (λ k at h o. ((h, o), tt))
+  mutex_fits mutex.Trylock = of_name kind.Mutex calls.Trylock (λ k h. (h, tt))
+  mutex_fits mutex.Unlock = of_name kind.Mutex calls.Unlock (λ k h. (h, tt))
   mutex_fits mutex.Wait =
-      mapped_two Any (Below kind.Mutex) (Fits count (call.Mutex mutex.Wait)) calls.Wait (λ c k any h. (h, tt, refl)) (named_at kind.Cond es 1 words) (named_at kind.Mutex es 2 words)
+      mapped_two Any (Below kind.Mutex) (Fits count) calls.Wait (λ c k any h. (h, tt)) (named_at kind.Cond es 1 words) (named_at kind.Mutex es 2 words)
       (anything (named_at kind.Cond es 1 words)) (named_within count es below kind.Mutex 2 words)
   mutex_fits mutex.Timedwait =
-      mapped_three Any (Below kind.Mutex) IsOperand (Fits count (call.Mutex mutex.Timedwait)) calls.Timedwait (λ c k at any h o. ((h, o), tt, refl))
+      mapped_three Any (Below kind.Mutex) IsOperand (Fits count) calls.Timedwait (λ c k at any h o. ((h, o), tt))
       (named_at kind.Cond es 1 words) (named_at kind.Mutex es 2 words) (operand_at 3 words)
       (anything (named_at kind.Cond es 1 words)) (named_within count es below kind.Mutex 2 words) (operand_within 3 words)
-  mutex_fits mutex.Signal = of_name (call.Mutex mutex.Signal) kind.Cond calls.Signal (λ c h. (tt, tt, refl))
-  mutex_fits mutex.Broadcast = of_name (call.Mutex mutex.Broadcast) kind.Cond calls.Broadcast (λ c h. (tt, tt, refl))
+  mutex_fits mutex.Signal = of_name kind.Cond calls.Signal (λ c h. (tt, tt))
+  mutex_fits mutex.Broadcast = of_name kind.Cond calls.Broadcast (λ c h. (tt, tt))
 
-  sem_fits : (f : SemCall) → IfSome (sem_call es f words) (Fits count (call.Sem f))
-  sem_fits sem.Wait = of_name (call.Sem sem.Wait) kind.Sem calls.SemWait (λ k h. (h, tt, refl))
-  sem_fits sem.Timedwait = of_name_and_operand (call.Sem sem.Timedwait) kind.Sem calls.SemTimedwait (λ k at h o. ((h, o), tt, refl))
-  sem_fits sem.Trywait = of_name (call.Sem sem.Trywait) kind.Sem calls.SemTrywait (λ k h. (h, tt, refl))
-  sem_fits sem.Getvalue = of_name (call.Sem sem.Getvalue) kind.Sem calls.SemGetvalue (λ k h. (h, tt, refl))
-  sem_fits sem.Post = of_name (call.Sem sem.Post) kind.Sem calls.SemPost (λ k h. (h, tt, refl))
+  sem_fits : (f : SemCall) → IfSome (sem_call es f words) (Fits count)
+  sem_fits sem.Wait = of_name kind.Sem calls.SemWait (λ k h. (h, tt))
+  sem_fits sem.Timedwait = of_name_and_operand kind.Sem calls.SemTimedwait (λ k at h o. ((h, o), tt))
+  sem_fits sem.Trywait = of_name kind.Sem calls.SemTrywait (λ k h. (h, tt))
+  sem_fits sem.Getvalue = of_name kind.Sem calls.SemGetvalue (λ k h. (h, tt))
+  sem_fits sem.Post = of_name kind.Sem calls.SemPost (λ k h. (h, tt))
 
-  time_fits : (f : TimeCall) → IfSome (time_call es f words) (Fits count (call.Time f))
-  time_fits time.Nanosleep = mapped IsNumber (Fits count (call.Time time.Nanosleep)) calls.Nanosleep (λ n h. (h, tt, refl)) (amount_at 1 words) (amount_within 1 words)
+  time_fits : (f : TimeCall) → IfSome (time_call es f words) (Fits count)
+  time_fits time.Nanosleep = mapped IsNumber (Fits count) calls.Nanosleep (λ n h. (h, tt)) (amount_at 1 words) (amount_within 1 words)
   time_fits time.ClockNanosleep =
-      mapped IsOperand (Fits count (call.Time time.ClockNanosleep)) calls.ClockNanosleep (λ at h. (h, tt, refl)) (operand_at 1 words) (operand_within 1 words)
-  time_fits time.Gettime = (tt, tt, refl)
+      mapped IsOperand (Fits count) calls.ClockNanosleep (λ at h. (h, tt)) (operand_at 1 words) (operand_within 1 words)
+  time_fits time.Gettime = (tt, tt)
   time_fits time.TimerSettimeRel =
-      mapped_three (Below kind.Timer) IsNumber IsNumber (Fits count (call.Time time.TimerSettimeRel)) calls.TimerSettimeRel (λ k n i h a b. ((h, a, b), tt, refl))
+      mapped_three (Below kind.Timer) IsNumber IsNumber (Fits count) calls.TimerSettimeRel (λ k n i h a b. ((h, a, b), tt))
       (named_at kind.Timer es 1 words) (amount_at 3 words) (amount_at 4 words)
       (named_within count es below kind.Timer 1 words) (amount_within 3 words) (amount_within 4 words)
   time_fits time.TimerSettimeAbs =
-      mapped_three (Below kind.Timer) IsOperand IsNumber (Fits count (call.Time time.TimerSettimeAbs)) calls.TimerSettimeAbs (λ k at i h a b. ((h, a, b), tt, refl))
+      mapped_three (Below kind.Timer) IsOperand IsNumber (Fits count) calls.TimerSettimeAbs (λ k at i h a b. ((h, a, b), tt))
       (named_at kind.Timer es 1 words) (operand_at 3 words) (amount_at 4 words)
       (named_within count es below kind.Timer 1 words) (operand_within 3 words) (amount_within 4 words)
-  time_fits time.TimerGettime = of_name (call.Time time.TimerGettime) kind.Timer calls.TimerGettime (λ k h. (h, tt, refl))
-  time_fits time.TimerGetoverrun = of_name (call.Time time.TimerGetoverrun) kind.Timer calls.TimerGetoverrun (λ k h. (h, tt, refl))
+  time_fits time.TimerGettime = of_name kind.Timer calls.TimerGettime (λ k h. (h, tt))
+  time_fits time.TimerGetoverrun = of_name kind.Timer calls.TimerGetoverrun (λ k h. (h, tt))
 
-  signal_fits : (f : SignalCall) → IfSome (signal_call es f words) (Fits count (call.Signal f))
-  signal_fits signal.Kill = mapped IsSignal (Fits count (call.Signal signal.Kill)) calls.Kill (λ k h. (h, tt, refl)) (signal_at 1 words) (signal_within 1 words)
+  signal_fits : (f : SignalCall) → IfSome (signal_call es f words) (Fits count)
+  signal_fits signal.Kill = mapped IsSignal (Fits count) calls.Kill (λ k h. (h, tt)) (signal_at 1 words) (signal_within 1 words)
   signal_fits signal.Tkill =
-      mapped_two (Below kind.Thread) IsSignal (Fits count (call.Signal signal.Tkill)) calls.Tkill (λ u k h s. ((h, s), tt, refl))
+      mapped_two (Below kind.Thread) IsSignal (Fits count) calls.Tkill (λ u k h s. ((h, s), tt))
       (named_at kind.Thread es 1 words) (signal_at 2 words) (named_within count es below kind.Thread 1 words) (signal_within 2 words)
   signal_fits signal.Sigqueue =
-      mapped_two IsSignal IsOperand (Fits count (call.Signal signal.Sigqueue)) calls.Sigqueue (λ k v s o. ((s, o), tt, refl))
+      mapped_two IsSignal IsOperand (Fits count) calls.Sigqueue (λ k v s o. ((s, o), tt))
       (signal_at 1 words) (operand_at 2 words) (signal_within 1 words) (operand_within 2 words)
-  signal_fits signal.SigmaskBlock = of_set (call.Signal signal.SigmaskBlock) 2 calls.SigmaskBlock (λ set. (tt, tt, refl))
-  signal_fits signal.SigmaskUnblock = of_set (call.Signal signal.SigmaskUnblock) 2 calls.SigmaskUnblock (λ set. (tt, tt, refl))
-  signal_fits signal.SigmaskSet = of_set (call.Signal signal.SigmaskSet) 2 calls.SigmaskSet (λ set. (tt, tt, refl))
-  signal_fits signal.Sigwaitinfo = of_set (call.Signal signal.Sigwaitinfo) 1 calls.Sigwaitinfo (λ set. (tt, tt, refl))
+  signal_fits signal.SigmaskBlock = of_set 2 calls.SigmaskBlock (λ set. (tt, tt))
+  signal_fits signal.SigmaskUnblock = of_set 2 calls.SigmaskUnblock (λ set. (tt, tt))
+  signal_fits signal.SigmaskSet = of_set 2 calls.SigmaskSet (λ set. (tt, tt))
+  signal_fits signal.Sigwaitinfo = of_set 1 calls.Sigwaitinfo (λ set. (tt, tt))
   signal_fits signal.Sigtimedwait =
-      mapped_two Any IsNumber (Fits count (call.Signal signal.Sigtimedwait)) calls.Sigtimedwait (λ set n any h. (h, tt, refl))
+      mapped_two Any IsNumber (Fits count) calls.Sigtimedwait (λ set n any h. (h, tt))
       (signals_at 1 words) (amount_at 2 words) (anything (signals_at 1 words)) (amount_within 2 words)
 
-  message_fits : (f : MessageCall) → IfSome (message_call es f words) (Fits count (call.Message f))
+  message_fits : (f : MessageCall) → IfSome (message_call es f words) (Fits count)
   message_fits message.Send =
-      mapped_four (Below kind.Queue) Any (IsFrom 0 31) IsOperand (Fits count (call.Message message.Send)) calls.MqSend
-      (λ q len p v h any r o. ((h, omega (arith, r.1), o), tt, refl))
+      mapped_four (Below kind.Queue) Any (IsFrom 0 31) IsOperand (Fits count) calls.MqSend
+      (λ q len p v h any r o. ((h, omega (arith, r.1), o), tt))
       (named_at kind.Queue es 1 words) (number_in 0 65536 2 words) (number_in 0 31 3 words) (operand_at 4 words)
       (named_within count es below kind.Queue 1 words) (anything (number_in 0 65536 2 words)) (number_within 0 31 3 words) (operand_within 4 words)
   message_fits message.Timedsend =
-      mapped_five (Below kind.Queue) Any (IsFrom 0 31) IsOperand IsOperand (Fits count (call.Message message.Timedsend)) calls.MqTimedsend
-      (λ q len p v at h any r o a. ((h, omega (arith, r.1), o, a), tt, refl))
+      mapped_five (Below kind.Queue) Any (IsFrom 0 31) IsOperand IsOperand (Fits count) calls.MqTimedsend
+      (λ q len p v at h any r o a. ((h, omega (arith, r.1), o, a), tt))
       (named_at kind.Queue es 1 words) (number_in 0 65536 2 words) (number_in 0 31 3 words) (operand_at 4 words) (operand_at 5 words)
       (named_within count es below kind.Queue 1 words) (anything (number_in 0 65536 2 words)) (number_within 0 31 3 words) (operand_within 4 words) (operand_within 5 words)
-  message_fits message.Receive = of_name (call.Message message.Receive) kind.Queue calls.MqReceive (λ q h. (h, tt, refl))
-  message_fits message.Timedreceive = of_name_and_operand (call.Message message.Timedreceive) kind.Queue calls.MqTimedreceive (λ q at h o. ((h, o), tt, refl))
+  message_fits message.Receive = of_name kind.Queue calls.MqReceive (λ q h. (h, tt))
+  message_fits message.Timedreceive = of_name_and_operand kind.Queue calls.MqTimedreceive (λ q at h o. ((h, o), tt))
   message_fits message.Notify =
-      mapped_three (Below kind.Queue) IsSignal IsOperand (Fits count (call.Message message.Notify)) calls.MqNotify (λ q k v h s o. ((h, s, o), tt, refl))
+      mapped_three (Below kind.Queue) IsSignal IsOperand (Fits count) calls.MqNotify (λ q k v h s o. ((h, s, o), tt))
       (named_at kind.Queue es 1 words) (signal_at 2 words) (operand_at 3 words)
       (named_within count es below kind.Queue 1 words) (signal_within 2 words) (operand_within 3 words)
 
-  pub call_fits : (f : CallForm) → IfSome (call_of es f words) (Fits count f)
+  pub call_fits : (f : CallForm) → IfSome (call_of es f words) (Fits count)
   call_fits (call.Thread f) = thread_fits f
   call_fits (call.Mutex f) = mutex_fits f
   call_fits (call.Sem f) = sem_fits f

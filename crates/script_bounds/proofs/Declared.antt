@@ -1,8 +1,8 @@
--- What a line declares can be run, where its form is built, and what follows of all that is declared.
-use Rattle.std.proofs.Common.{ℕ, ◌≡◌, List, [], ◌∷◌, Option, None, Some, Bool, true, false, refl, sym, subst}
-use Rattle.std.specs.Prelude.{◌≤◌, All, filter_map, fold}
+-- What a line declares can be run, and what follows of all that is declared.
+use Rattle.std.proofs.Common.{ℕ, ◌≤◌, ◌<◌, List, [], ◌∷◌, Option, None, Some, Bool, true, false}
+use Rattle.std.specs.Prelude.{All, filter_map}
 use Rattle.std.specs.Option.{IfSome}
-use Rattle.std.proofs.lemmas.List.Elements.{All-nil, All-cons, All-append}
+use Rattle.std.proofs.lemmas.List.Elements.{All-nil, All-cons}
 use Rattle.script_tree.specs.Block.{Block}
 use Rattle.script_tree.specs.declared.call.Call.{Call}
 use Rattle.script_tree.specs.declared.policy.Policy.{Policy}
@@ -10,8 +10,7 @@ use Rattle.script_tree.specs.declared.decl.Kind.{Kind}
 use Rattle.script_tree.specs.declared.decl.Kind.TheVariants as kinds
 use Rattle.script_tree.specs.declared.decl.Decl.{Decl}
 use Rattle.script_tree.specs.declared.decl.Decl.TheVariants.{Named, Action}
-use Rattle.script_flat.specs.Flat.{Bodies, no_bodies, with_decl, with_decls, bodies_of}
-use Rattle.script_table.specs.declared.form.Form.TheVariants as form
+use Rattle.script_flat.specs.Flat.{bodies_of}
 use Rattle.script_table.specs.declared.form.ObjectForm.{ObjectForm}
 use Rattle.script_table.specs.declared.form.ObjectForm.TheVariants as object
 use Rattle.script_table.specs.declared.form.ActionForm.{ActionForm}
@@ -22,33 +21,33 @@ use Rattle.script_table.specs.declared.pattern.NameKind.TheVariants.{Handler}
 use Rattle.script_table.specs.Names.{Entry}
 use Rattle.script_table.specs.Operands.{map_two, number_in, amount_at, priority_at, signal_at, name_at, named_at, fifo_at, rr_at, sporadic_at}
 use Rattle.script_table.specs.Meaning.{protect, queue, kind_of_object, object_decl, ignores, runs, action_decl, thread_at, thread_dormant, kind_of_body, body_decl}
-use Rattle.script_text.specs.declared.names.Sort.TheVariants as sort
-use Rattle.script_text.specs.Names.{sort_of}
-use Rattle.machine_rules.specs.declared.signal.SigAction.{SigAction}
-use Rattle.machine_rules.specs.Declarations.{ThreadDecl, declared_thread, named, queue_kind, timer_kind, with_action}
+use Rattle.machine_rules.specs.Declarations.{ThreadDecl, declared_thread}
 use Rattle.machine_rules.specs.Semaphores.{semaphore_limit}
 use Rattle.machine_flat.specs.EachCall.{EachCall}
-use Rattle.machine_flat.specs.Runnable.{ActionNames, HasBudget, HasValue}
-use Rattle.script_bounds.proofs.BuiltForms.{is_built_sort, builds_actions, is_built_form}
-use Rattle.script_bounds.proofs.Decls.{bodies_in, decl_more}
-use Rattle.script_bounds.proofs.EachDecl.{Each}
-use Rattle.script_bounds.proofs.Operands.{IsFrom, mapped, mapped_two, number_within, Any, anything, fifo_within, rr_within, sporadic_within}
+use Rattle.machine_flat.specs.KnownCalls.{IsSignal}
+use Rattle.machine_flat.specs.Runnable.{ActionNames, HasBudget, HasSignal, HasValue}
+use Rattle.script_bounds.proofs.Bodies.{BodyHas, bodies_have}
+use Rattle.script_bounds.proofs.EachDecl.{Each, each_weaker}
+use Rattle.script_bounds.proofs.Operands.{IsFrom, mapped, mapped_two, number_within, signal_within, Any, anything, fifo_within, rr_within, sporadic_within}
 
--- P holds of each call of a body, a thread's policy has a budget, a semaphore a value, and other things are of a kind that is built
+-- P holds of each call of a body, a thread's policy has a budget, a semaphore a value, and a timer a signal
 abbrev pub KindRuns : (Call → Type 0) → Kind → Type 0
 KindRuns P (kinds.Thread policy start steps) = HasBudget policy × EachCall P steps
 KindRuns P (kinds.Handler steps) = EachCall P steps
 KindRuns P (kinds.Cleanup steps) = EachCall P steps
 KindRuns P (kinds.Sem value) = value ≤ semaphore_limit
-KindRuns P other = is_built_sort (sort_of other) ≡ true
+KindRuns P (kinds.Timer sig value) = IsSignal sig
+KindRuns P other = Unit {0}
 
-abbrev pub DeclRuns : (Call → Type 0) → Decl → Type 0
-DeclRuns P (Named name kind) = KindRuns P kind
-DeclRuns P (Action sig handler) = builds_actions ≡ true
+-- the handler of an action is one of so many
+abbrev pub DeclRuns : ℕ → (Call → Type 0) → Decl → Type 0
+DeclRuns handlers P (Named name kind) = KindRuns P kind
+DeclRuns handlers P (Action sig None) = Unit {0}
+DeclRuns handlers P (Action sig (Some h)) = h < handlers
 
-module _ (P : Call → Type 0) where
+module _ (handlers : ℕ) (P : Call → Type 0) where
   abbrev Runs : Decl → Type 0
-  Runs d = DeclRuns P d
+  Runs d = DeclRuns handlers P d
 
   abbrev KindOf : Kind → Type 0
   KindOf k = KindRuns P k
@@ -57,44 +56,45 @@ module _ (P : Call → Type 0) where
   named_runs : (name : Option (List ℕ)) (k : Option Kind) → IfSome k KindOf → IfSome (map_two Named name k) Runs
   named_runs name k h = mapped_two Any KindOf Runs Named (λ name kind any runs. runs) name k (anything name) h
 
-  protect_runs : (recursive : Bool) (o : Option ℕ) → is_built_sort sort.Mutex ≡ true → IfSome (protect recursive o) KindOf
-  protect_runs recursive None built = tt
-  protect_runs recursive (Some ceiling) built = built
+  protect_runs : (recursive : Bool) (o : Option ℕ) → IfSome (protect recursive o) KindOf
+  protect_runs recursive None = tt
+  protect_runs recursive (Some ceiling) = tt
 
-  queue_runs : (nonblock : Bool) (o p : Option ℕ) → is_built_sort sort.Queue ≡ true → IfSome (queue nonblock o p) KindOf
-  queue_runs nonblock None p built = tt
-  queue_runs nonblock (Some depth) None built = tt
-  queue_runs nonblock (Some depth) (Some longest) built = built
+  queue_runs : (nonblock : Bool) (o p : Option ℕ) → IfSome (queue nonblock o p) KindOf
+  queue_runs nonblock None p = tt
+  queue_runs nonblock (Some depth) None = tt
+  queue_runs nonblock (Some depth) (Some longest) = tt
 
-  kind_runs : (f : ObjectForm) (words : List (List ℕ)) → is_built_form (form.Object f) ≡ true → IfSome (kind_of_object f words) KindOf
-  kind_runs object.MutexNone words built = built
-  kind_runs object.MutexNoneRecursive words built = built
-  kind_runs object.MutexInherit words built = built
-  kind_runs object.MutexInheritRecursive words built = built
-  kind_runs object.MutexProtect words built = protect_runs false (priority_at 3 words) built
-  kind_runs object.MutexProtectRecursive words built = protect_runs true (priority_at 3 words) built
-  kind_runs object.Cond words built = built
-  kind_runs object.Sem words built = mapped (IsFrom 0 32767) KindOf kinds.Sem (λ n from. from.1) (number_in 0 32767 2 words) (number_within 0 32767 2 words)
-  kind_runs object.Queue words built = queue_runs false (number_in 1 64 2 words) (number_in 1 65536 3 words) built
-  kind_runs object.QueueNonblock words built = queue_runs true (number_in 1 64 2 words) (number_in 1 65536 3 words) built
-  kind_runs object.Timer words built =
-      mapped_two Any Any KindOf kinds.Timer (λ sig value any more. built) (signal_at 2 words) (amount_at 3 words) (anything (signal_at 2 words)) (anything (amount_at 3 words))
+  kind_runs : (f : ObjectForm) (words : List (List ℕ)) → IfSome (kind_of_object f words) KindOf
+  kind_runs object.MutexNone words = tt
+  kind_runs object.MutexNoneRecursive words = tt
+  kind_runs object.MutexInherit words = tt
+  kind_runs object.MutexInheritRecursive words = tt
+  kind_runs object.MutexProtect words = protect_runs false (priority_at 3 words)
+  kind_runs object.MutexProtectRecursive words = protect_runs true (priority_at 3 words)
+  kind_runs object.Cond words = tt
+  kind_runs object.Sem words = mapped (IsFrom 0 32767) KindOf kinds.Sem (λ n from. from.1) (number_in 0 32767 2 words) (number_within 0 32767 2 words)
+  kind_runs object.Queue words = queue_runs false (number_in 1 64 2 words) (number_in 1 65536 3 words)
+  kind_runs object.QueueNonblock words = queue_runs true (number_in 1 64 2 words) (number_in 1 65536 3 words)
+  kind_runs object.Timer words =
+      mapped_two IsSignal Any KindOf kinds.Timer (λ sig value small more. small) (signal_at 2 words) (amount_at 3 words) (signal_within 2 words) (anything (amount_at 3 words))
 
-  pub object_runs : (f : ObjectForm) (words : List (List ℕ)) → is_built_form (form.Object f) ≡ true → IfSome (object_decl f words) Runs
-  object_runs f words built = named_runs (name_at 1 words) (kind_of_object f words) (kind_runs f words built)
+  pub object_runs : (f : ObjectForm) (words : List (List ℕ)) → IfSome (object_decl f words) Runs
+  object_runs f words = named_runs (name_at 1 words) (kind_of_object f words) (kind_runs f words)
 
-  ignores_runs : (o : Option ℕ) → builds_actions ≡ true → IfSome (ignores o) Runs
-  ignores_runs None built = tt
-  ignores_runs (Some sig) built = built
+  ignores_runs : (o : Option ℕ) → IfSome (ignores o) Runs
+  ignores_runs None = tt
+  ignores_runs (Some sig) = tt
 
-  handles_runs : (o p : Option ℕ) → builds_actions ≡ true → IfSome (runs o p) Runs
-  handles_runs None p built = tt
-  handles_runs (Some sig) None built = tt
-  handles_runs (Some sig) (Some h) built = built
+  handles_runs : (o p : Option ℕ) → IfSome p (λ h. h < handlers) → IfSome (runs o p) Runs
+  handles_runs None p known = tt
+  handles_runs (Some sig) None known = tt
+  handles_runs (Some sig) (Some h) known = known
 
-  pub action_runs : (es : List Entry) (f : ActionForm) (words : List (List ℕ)) → is_built_form (form.Action f) ≡ true → IfSome (action_decl es f words) Runs
-  action_runs es action.Ignore words built = ignores_runs (signal_at 1 words) built
-  action_runs es action.Run words built = handles_runs (signal_at 1 words) (named_at Handler es 3 words) built
+  -- the name of an action's handler has a number below how many handlers there are
+  pub action_runs : (es : List Entry) (f : ActionForm) (words : List (List ℕ)) → IfSome (named_at Handler es 3 words) (λ h. h < handlers) → IfSome (action_decl es f words) Runs
+  action_runs es action.Ignore words known = ignores_runs (signal_at 1 words)
+  action_runs es action.Run words known = handles_runs (signal_at 1 words) (named_at Handler es 3 words) known
 
   at_runs : (policy : Option Policy) (start : Option ℕ) (steps : Block) → EachCall P steps → IfSome policy HasBudget → IfSome (thread_at policy start steps) KindOf
   at_runs None start steps inside budget = tt
@@ -119,20 +119,14 @@ module _ (P : Call → Type 0) where
   body_runs f words steps inside = named_runs (name_at 1 words) (kind_of_body f words steps) (own_kind_runs f words steps inside)
 
   -- the bodies
-  body_holds : (d : Decl) → Runs d → All (EachCall P) (bodies_in (Some d))
-  body_holds (Named name (kinds.Thread policy start steps)) h = All-cons (EachCall P) steps [] h.1 (All-nil (EachCall P))
-  body_holds (Named name (kinds.Handler steps)) h = All-cons (EachCall P) steps [] h (All-nil (EachCall P))
-  body_holds (Named name (kinds.Cleanup steps)) h = All-cons (EachCall P) steps [] h (All-nil (EachCall P))
-  body_holds other h = All-nil (EachCall P)
-
-  bodies_hold : (decls : List Decl) (b : Bodies Block) → All (EachCall P) b.all → Each Runs decls → All (EachCall P) (with_decls (λ steps. steps) decls b).all
-  bodies_hold [] b h all = h
-  bodies_hold (d ∷ decls) b h all =
-      bodies_hold decls (with_decl (λ steps. steps) d b)
-      (subst (All (EachCall P)) (sym (decl_more d b)) (All-append (EachCall P) b.all (bodies_in (Some d)) h (body_holds d all.0))) all.1
+  body_calls : (d : Decl) → Runs d → BodyHas (EachCall P) d
+  body_calls (Named name (kinds.Thread policy start steps)) h = h.1
+  body_calls (Named name (kinds.Handler steps)) h = h
+  body_calls (Named name (kinds.Cleanup steps)) h = h
+  body_calls other h = tt
 
   pub all_bodies : (decls : List Decl) → Each Runs decls → All (EachCall P) (bodies_of decls).all
-  all_bodies decls all = bodies_hold decls no_bodies (All-nil (EachCall P)) all
+  all_bodies decls all = bodies_have (EachCall P) decls (each_weaker Runs (BodyHas (EachCall P)) body_calls decls all)
 
   -- the policies of the threads
   abbrev pub ThreadHasBudget : ThreadDecl → Type 0
@@ -149,36 +143,18 @@ module _ (P : Call → Type 0) where
   all_budgets [] all = All-nil ThreadHasBudget
   all_budgets (d ∷ decls) all = thread_case d decls all.0 (all_budgets decls all.1)
 
-  -- what is not declared, since it is not built yet
-  none_read : {X : Type 0} (read : Decl → Option X) → ((d : Decl) → Runs d → read d ≡ None) → (decls : List Decl) → Each Runs decls → filter_map read decls ≡ []
-  none_read read none [] all = refl
-  none_read read none (d ∷ decls) all = rw (none d all.0) (none_read read none decls all.1)
-
-  no_queue : (d : Decl) → Runs d → named queue_kind d ≡ None
-  no_queue (Named name (kinds.Queue depth longest nonblock)) h = absurd (let e : false ≡ true = h in cc)
-  no_queue other h = refl
-
-  no_timer : (d : Decl) → Runs d → named timer_kind d ≡ None
-  no_timer (Named name (kinds.Timer sig value)) h = absurd (let e : false ≡ true = h in cc)
-  no_timer other h = refl
-
-  pub no_queues : (decls : List Decl) → Each Runs decls → filter_map (named queue_kind) decls ≡ []
-  no_queues = none_read (named queue_kind) no_queue
-
-  pub no_timers : (decls : List Decl) → Each Runs decls → filter_map (named timer_kind) decls ≡ []
-  no_timers = none_read (named timer_kind) no_timer
-
-  pub no_actions : (decls : List Decl) (actions : List SigAction) → Each Runs decls → fold with_action actions decls ≡ actions
-  no_actions [] actions all = refl
-  no_actions (Named name kind ∷ decls) actions all = no_actions decls actions all.1
-  no_actions (Action sig handler ∷ decls) actions all = absurd (let e : false ≡ true = all.0 in cc)
-
-  pub no_handlers : (handlers : ℕ) (decls : List Decl) → Each Runs decls → All (ActionNames handlers) decls
-  no_handlers handlers [] all = All-nil (ActionNames handlers)
-  no_handlers handlers (Named name kind ∷ decls) all = All-cons (ActionNames handlers) (Named name kind) decls tt (no_handlers handlers decls all.1)
-  no_handlers handlers (Action sig handler ∷ decls) all = absurd (let e : false ≡ true = all.0 in cc)
+  -- the handlers of the actions, the values of the semaphores and the signals of the timers
+  pub all_actions : (decls : List Decl) → Each Runs decls → All (ActionNames handlers) decls
+  all_actions [] all = All-nil (ActionNames handlers)
+  all_actions (Action sig (Some h) ∷ decls) all = All-cons (ActionNames handlers) (Action sig (Some h)) decls all.0 (all_actions decls all.1)
+  all_actions (d ∷ decls) all = All-cons (ActionNames handlers) d decls tt (all_actions decls all.1)
 
   pub all_values : (decls : List Decl) → Each Runs decls → All HasValue decls
   all_values [] all = All-nil HasValue
   all_values (Named name (kinds.Sem value) ∷ decls) all = All-cons HasValue (Named name (kinds.Sem value)) decls all.0 (all_values decls all.1)
   all_values (d ∷ decls) all = All-cons HasValue d decls tt (all_values decls all.1)
+
+  pub all_signals : (decls : List Decl) → Each Runs decls → All HasSignal decls
+  all_signals [] all = All-nil HasSignal
+  all_signals (Named name (kinds.Timer sig value) ∷ decls) all = All-cons HasSignal (Named name (kinds.Timer sig value)) decls all.0 (all_signals decls all.1)
+  all_signals (d ∷ decls) all = All-cons HasSignal d decls tt (all_signals decls all.1)

@@ -1,6 +1,5 @@
 -- What holds of each declaration of a script that statements say. `Says` asks of the lines, form by form, what each adds: to a body,
--- where B is kept by one more step, and to the declarations, each of which has D. T is what is known of each statement, for instance
--- that its form is built (`BuiltForms`), or what canonical_law.proofs.Printed.Told says of its words. Nothing here depends on B, D or T.
+-- where B is kept by one more step, and to the declarations, each of which has D. Nothing here depends on B or D.
 use Rattle.std.proofs.Common.{ℕ, List, [], ◌∷◌, ◌++◌, Option, None, Some, Bool, sym, subst, append-nil}
 use Rattle.std.specs.Prelude.{option_to_list}
 use Rattle.std.specs.Option.{IfSome, option_map}
@@ -33,33 +32,32 @@ pub each_more : {A : Type 0} (P : A → Type 0) (xs : List A) (x : A) → Each P
 each_more P [] x all h = (h, tt)
 each_more P (y ∷ xs) x all h = (all.0, each_more P xs x all.1 h)
 
+pub each_weaker : {A : Type 0} (P Q : A → Type 0) → ((x : A) → P x → Q x) → (xs : List A) → Each P xs → Each Q xs
+each_weaker P Q weaker [] all = tt
+each_weaker P Q weaker (x ∷ xs) all = (weaker x all.0, each_weaker P Q weaker xs all.1)
+
 -- a body of one step
 abbrev pub OfStep : (Block → Type 0) → Step → Type 0
 OfStep B s = B (block_of (s ∷ []))
 
 -- what each line adds
-pub record Says (T : Form → List (List ℕ) → Type 0) (es : List Entry) (B : Block → Type 0) (D : Decl → Type 0) : Type 0 where
+pub record Says (es : List Entry) (B : Block → Type 0) (D : Decl → Type 0) : Type 0 where
   pub none : B Nothing
   pub more : (steps : List Step) (s : Step) → B (block_of steps) → OfStep B s → B (block_of (steps ++ s ∷ []))
-  pub step : (f : StepForm) (words : List (List ℕ)) → T (form.Step f) words → IfSome (plain_step f words) (OfStep B)
-  pub call : (f : CallForm) (words : List (List ℕ)) → T (form.Call f) words → IfSome (call_of es f words) (λ c. OfStep B (Make c))
-  pub block : (f : BlockForm) (words : List (List ℕ)) (run : Bool) (body : Block) → T (form.Block f) words → B body → IfSome (block_step es f words run body) (OfStep B)
-  pub object : (f : ObjectForm) (words : List (List ℕ)) → T (form.Object f) words → IfSome (object_decl f words) D
-  pub action : (f : ActionForm) (words : List (List ℕ)) → T (form.Action f) words → IfSome (action_decl es f words) D
-  pub body : (f : BodyForm) (words : List (List ℕ)) (steps : Block) → T (form.Body f) words → B steps → IfSome (body_decl f words steps) D
-
--- each statement has T
-abbrev pub EachSaid : (Form → List (List ℕ) → Type 0) → List Said → Type 0
-EachSaid T ss = Each (λ (s : Said). T s.row.form s.words) ss
+  pub step : (f : StepForm) (words : List (List ℕ)) → IfSome (plain_step f words) (OfStep B)
+  pub call : (f : CallForm) (words : List (List ℕ)) → IfSome (call_of es f words) (λ c. OfStep B (Make c))
+  pub block : (f : BlockForm) (words : List (List ℕ)) (run : Bool) (body : Block) → B body → IfSome (block_step es f words run body) (OfStep B)
+  pub object : (f : ObjectForm) (words : List (List ℕ)) → IfSome (object_decl f words) D
+  pub action : (f : ActionForm) (words : List (List ℕ)) → IfSome (action_decl es f words) D
+  pub body : (f : BodyForm) (words : List (List ℕ)) (steps : Block) → B steps → IfSome (body_decl f words steps) D
 
 made : (P : Step → Type 0) (o : Option Call) → IfSome o (λ c. P (Make c)) → IfSome (option_map Make o) P
 made P None h = tt
 made P (Some c) h = h
 
-module _ (T : Form → List (List ℕ) → Type 0) (es : List Entry) (B : Block → Type 0) (D : Decl → Type 0) (says : Says T es B D) where
-  record IsOpen (o : Opened) : Type 0 where
-    told : T o.form o.words
-    steps : B (block_of o.steps)
+module _ (es : List Entry) (B : Block → Type 0) (D : Decl → Type 0) (says : Says es B D) where
+  abbrev IsOpen : Opened → Type 0
+  IsOpen o = B (block_of o.steps)
 
   -- of what is built so far
   record Holds (b : Built) : Type 0 where
@@ -69,39 +67,39 @@ module _ (T : Form → List (List ℕ) → Type 0) (es : List Entry) (B : Block 
   put_holds : (s : Option Step) (blocks : List Opened) → IfSome s (OfStep B) → Each IsOpen blocks → Each IsOpen (put_step s blocks)
   put_holds None blocks h all = all
   put_holds (Some s) [] h all = all
-  put_holds (Some s) (o ∷ blocks) h all = (record { told = all.0.told; steps = says.more o.steps s all.0.steps h }, all.1)
+  put_holds (Some s) (o ∷ blocks) h all = (says.more o.steps s all.0 h, all.1)
 
   decl_holds : (d : Option Decl) (ds : List Decl) → IfSome d D → Each D ds → Each D (ds ++ option_to_list d)
   decl_holds None ds h all = subst (Each D) (sym (append-nil ds)) all
   decl_holds (Some d) ds h all = each_more D ds d all h
 
-  close_holds : (b : Built) (run : Bool) (f : Form) (words : List (List ℕ)) (steps : List Step) → T f words → B (block_of steps) → Holds b → Holds (close_one es b run f words steps)
-  close_holds b run (form.Body f) words steps told inside h =
-      record { blocks = h.blocks; decls = decl_holds (body_decl f words (block_of steps)) b.decls (says.body f words (block_of steps) told inside) h.decls }
-  close_holds b run (form.Block f) words steps told inside h =
-      record { blocks = put_holds (block_step es f words run (block_of steps)) b.blocks (says.block f words run (block_of steps) told inside) h.blocks; decls = h.decls }
-  close_holds b run other words steps told inside h = h
+  close_holds : (b : Built) (run : Bool) (f : Form) (words : List (List ℕ)) (steps : List Step) → B (block_of steps) → Holds b → Holds (close_one es b run f words steps)
+  close_holds b run (form.Body f) words steps inside h =
+      record { blocks = h.blocks; decls = decl_holds (body_decl f words (block_of steps)) b.decls (says.body f words (block_of steps) inside) h.decls }
+  close_holds b run (form.Block f) words steps inside h =
+      record { blocks = put_holds (block_step es f words run (block_of steps)) b.blocks (says.block f words run (block_of steps) inside) h.blocks; decls = h.decls }
+  close_holds b run other words steps inside h = h
 
   closed_holds : (b : Built) (run : Bool) (blocks : List Opened) → Each IsOpen blocks → Holds b → Holds (closed es b run blocks)
   closed_holds b run [] all h = h
   closed_holds b run (o ∷ blocks) all h =
-      close_holds (record b { blocks = blocks }) run o.form o.words o.steps all.0.told all.0.steps (record { blocks = all.1; decls = h.decls })
+      close_holds (record b { blocks = blocks }) run o.form o.words o.steps all.0 (record { blocks = all.1; decls = h.decls })
 
-  after_holds : (b : Built) (f : Form) (words : List (List ℕ)) → T f words → Holds b → Holds (after_form es b f words)
-  after_holds b form.Quantum words told h = record { blocks = h.blocks; decls = h.decls }
-  after_holds b (form.Object f) words told h = record { blocks = h.blocks; decls = decl_holds (object_decl f words) b.decls (says.object f words told) h.decls }
-  after_holds b (form.Action f) words told h = record { blocks = h.blocks; decls = decl_holds (action_decl es f words) b.decls (says.action f words told) h.decls }
-  after_holds b (form.Body f) words told h = record { blocks = (record { told = told; steps = says.none }, h.blocks); decls = h.decls }
-  after_holds b (form.Block f) words told h = record { blocks = (record { told = told; steps = says.none }, h.blocks); decls = h.decls }
-  after_holds b (form.Step f) words told h = record { blocks = put_holds (plain_step f words) b.blocks (says.step f words told) h.blocks; decls = h.decls }
-  after_holds b (form.Call f) words told h =
-      record { blocks = put_holds (option_map Make (call_of es f words)) b.blocks (made (OfStep B) (call_of es f words) (says.call f words told)) h.blocks; decls = h.decls }
-  after_holds b (form.Close f) words told h = closed_holds b (runs_cleanup f) b.blocks h.blocks h
+  after_holds : (b : Built) (f : Form) (words : List (List ℕ)) → Holds b → Holds (after_form es b f words)
+  after_holds b form.Quantum words h = record { blocks = h.blocks; decls = h.decls }
+  after_holds b (form.Object f) words h = record { blocks = h.blocks; decls = decl_holds (object_decl f words) b.decls (says.object f words) h.decls }
+  after_holds b (form.Action f) words h = record { blocks = h.blocks; decls = decl_holds (action_decl es f words) b.decls (says.action f words) h.decls }
+  after_holds b (form.Body f) words h = record { blocks = (says.none, h.blocks); decls = h.decls }
+  after_holds b (form.Block f) words h = record { blocks = (says.none, h.blocks); decls = h.decls }
+  after_holds b (form.Step f) words h = record { blocks = put_holds (plain_step f words) b.blocks (says.step f words) h.blocks; decls = h.decls }
+  after_holds b (form.Call f) words h =
+      record { blocks = put_holds (option_map Make (call_of es f words)) b.blocks (made (OfStep B) (call_of es f words) (says.call f words)) h.blocks; decls = h.decls }
+  after_holds b (form.Close f) words h = closed_holds b (runs_cleanup f) b.blocks h.blocks h
 
-  all_hold : (ss : List Said) (b : Built) → EachSaid T ss → Holds b → Holds (built_from es b ss)
-  all_hold [] b told h = h
-  all_hold (s ∷ ss) b told h = all_hold ss (after es b s) told.1 (after_holds b s.row.form s.words told.0 h)
+  all_hold : (ss : List Said) (b : Built) → Holds b → Holds (built_from es b ss)
+  all_hold [] b h = h
+  all_hold (s ∷ ss) b h = all_hold ss (after es b s) (after_holds b s.row.form s.words h)
 
   -- each declaration of the script has D
-  pub each_decl : (ss : List Said) → EachSaid T ss → Each D (script_of es ss).decls
-  each_decl ss told = (all_hold ss nothing_built told (record { blocks = tt; decls = tt })).decls
+  pub each_decl : (ss : List Said) → Each D (script_of es ss).decls
+  each_decl ss = (all_hold ss nothing_built (record { blocks = tt; decls = tt })).decls

@@ -6,7 +6,8 @@ pub mod EachDecl
 pub mod EachBody
 pub mod Operands
 pub mod Calls
-pub mod BuiltForms
+pub mod Bodies
 pub mod Declared
 pub mod Objects
 pub mod Runnable
+pub mod Generated

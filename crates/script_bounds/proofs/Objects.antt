@@ -1,5 +1,5 @@
--- The names of a text that is read have numbers below how many things of their kinds the script declares.
-use Rattle.std.proofs.Common.{ℕ, suc, ◌≡◌, List, [], ◌∷◌, refl, ap, length}
+-- The names of a text that is read have numbers below how many things of their kinds the script declares, and of those there are few.
+use Rattle.std.proofs.Common.{ℕ, suc, ◌≡◌, ◌≤◌, List, [], ◌∷◌, refl, ap, length, arith}
 use Rattle.std.specs.Prelude.{filter_map}
 use Rattle.script_tree.specs.declared.decl.Decl.{Decl}
 use Rattle.script_tree.specs.declared.decl.Decl.TheVariants.{Named, Action}
@@ -9,10 +9,10 @@ use Rattle.script_table.specs.declared.pattern.NameKind.{NameKind}
 use Rattle.script_table.specs.Names.{Entry}
 use Rattle.script_text.specs.declared.names.Sort.TheVariants as sort
 use Rattle.script_text.specs.Names.{names_of}
-use Rattle.machine_rules.specs.Declarations.{declared_thread, named, cleanup_kind, mutex_kind, semaphore_kind, queue_kind, timer_kind}
+use Rattle.machine_rules.specs.Declarations.{declared_thread, named, handler_kind, cleanup_kind, mutex_kind, semaphore_kind, queue_kind, timer_kind}
 use Rattle.machine_flat.specs.KnownCalls.{objects_of}
 use Rattle.canonical_law.proofs.Known.{AllKnown}
-use Rattle.canonical_law.proofs.Numbers.{is_declared}
+use Rattle.canonical_law.proofs.Numbers.{is_declared, length-names, most_of}
 use Rattle.canonical_law.proofs.Shown.{sort_for}
 use Rattle.script_bounds.proofs.Calls.{objects_by}
 use Rattle.script_bounds.proofs.Operands.{AllBelow}
@@ -24,11 +24,24 @@ declared_count decls kind = length (names_of (sort_for kind) decls)
 pub all_below : (es : List Entry) (decls : List Decl) → AllKnown es decls → AllBelow (declared_count decls) es
 all_below es decls known name e found = is_declared es decls known.numbered known.names name e found
 
+-- no more of a kind are declared than there may be
+pub declared_few : (es : List Entry) (decls : List Decl) → AllKnown es decls → (kind : NameKind) → declared_count decls kind ≤ most_of kind
+declared_few es decls known kind =
+    let few = known.few kind in
+    let many = length-names es kind in
+    rw (known.names kind) (omega (arith, few, many))
+
 threads : (decls : List Decl) → length (names_of sort.Thread decls) ≡ length (filter_map declared_thread decls)
 threads [] = refl
 threads (Named name (kinds.Thread policy start steps) ∷ decls) = ap suc (threads decls)
 threads (Named name other ∷ decls) = threads decls
 threads (Action sig handler ∷ decls) = threads decls
+
+pub handlers : (decls : List Decl) → length (names_of sort.Handler decls) ≡ length (filter_map (named handler_kind) decls)
+handlers [] = refl
+handlers (Named name (kinds.Handler steps) ∷ decls) = ap suc (handlers decls)
+handlers (Named name other ∷ decls) = handlers decls
+handlers (Action sig handler ∷ decls) = handlers decls
 
 cleanups : (decls : List Decl) → length (names_of sort.Cleanup decls) ≡ length (filter_map (named cleanup_kind) decls)
 cleanups [] = refl
@@ -48,13 +61,13 @@ semaphores (Named name (kinds.Sem value) ∷ decls) = ap suc (semaphores decls)
 semaphores (Named name other ∷ decls) = semaphores decls
 semaphores (Action sig handler ∷ decls) = semaphores decls
 
-queues : (decls : List Decl) → length (names_of sort.Queue decls) ≡ length (filter_map (named queue_kind) decls)
+pub queues : (decls : List Decl) → length (names_of sort.Queue decls) ≡ length (filter_map (named queue_kind) decls)
 queues [] = refl
 queues (Named name (kinds.Queue depth longest nonblock) ∷ decls) = ap suc (queues decls)
 queues (Named name other ∷ decls) = queues decls
 queues (Action sig handler ∷ decls) = queues decls
 
-timers : (decls : List Decl) → length (names_of sort.Timer decls) ≡ length (filter_map (named timer_kind) decls)
+pub timers : (decls : List Decl) → length (names_of sort.Timer decls) ≡ length (filter_map (named timer_kind) decls)
 timers [] = refl
 timers (Named name (kinds.Timer sig value) ∷ decls) = ap suc (timers decls)
 timers (Named name other ∷ decls) = timers decls

@@ -1,14 +1,21 @@
-//! What the reader's definition accepts, the kernel can run. There is no code here: one law, and its proof.
+//! What the reader's definition accepts, and what is generated, the kernel can run. There is no code here: two laws, and their proofs.
 #![tactic(auto)]
 
 ghost use Rattle.std.specs.Prelude.{ℕ, ◌≡◌, List, Ok};
 ghost use Rattle.machine_flat.specs.Runnable.{IsRunnable};
+ghost use Rattle.script_gen.specs.Generated.{script_of};
 ghost use Rattle.script_table.specs.Read.{read};
 ghost use Rattle.script_table.specs.Table.{patterns};
 ghost use Rattle.script_tree.specs.declared.decl.Script.{Script};
 
-/// Whatever text is read without a fault, its script can be run: it has at most 64 threads, its bodies are not too long and not nested
-/// too deeply, each call names what the script declares, its numbers are in range and its form is built, and each server has a budget.
+/// Whatever text is read without a fault, its script can be run: it has at most 64 threads, 16 queues and 32 timers, its bodies are not
+/// too long and not nested too deeply, each call and each action names what the script declares, the numbers of calls are in range, each
+/// server has a budget, each semaphore's value is one that it may have, and each timer sends one of the 32 signals.
 pub fn accepted_scripts_are_runnable()
     ensures { (text : List ℕ) (script : Script) → read patterns text ≡ Ok script → IsRunnable script }
+{}
+
+/// The script of each number, which `script_gen::make` makes, can be run.
+pub fn generated_scripts_are_runnable()
+    ensures { (number : ℕ) → IsRunnable (script_of number) }
 {}

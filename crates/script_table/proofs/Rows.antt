@@ -1,5 +1,5 @@
--- Worked texts: what is read of them is computed, by the table as it is built and by the whole language.
-use Rattle.std.proofs.Common.{◌≡◌, ℕ, List, [], ◌∷◌, ◌++◌, refl, None, Some, map}
+-- Worked texts: what is read of them is computed.
+use Rattle.std.proofs.Common.{◌≡◌, ℕ, List, [], ◌∷◌, ◌++◌, refl, None, Some}
 use Rattle.std.specs.Prelude.{Ok, Err, codes, true, false}
 use Rattle.script_tree.specs.Block.{Nothing, Running, Making}
 use Rattle.script_tree.specs.declared.call.Call.TheVariants.{Lock, MqSend, SigmaskBlock}
@@ -10,7 +10,6 @@ use Rattle.script_tree.specs.declared.policy.Policy.TheVariants.{Fifo}
 use Rattle.script_tree.specs.declared.policy.Protocol.TheVariants.{Plain, Inherit}
 use Rattle.script_table.specs.declared.fault.FaultKind.TheVariants.{DuplicateName, NumberRange, BadName, UnknownName, UnknownWord, NoThread, Unclosed, WrongKind, ServerRange, StrayClose, NotHere}
 use Rattle.script_table.specs.Faults.{fault}
-use Rattle.script_table.specs.Patterns.{Row}
 use Rattle.script_table.specs.Table.{patterns, declaration_patterns, step_patterns, call_patterns}
 use Rattle.script_table.specs.Structure.{said_from, phase_one}
 use Rattle.script_lex.specs.Lines.{lines_of}
@@ -21,10 +20,6 @@ use Rattle.script_table.specs.Read.{read}
 abbrev text : List (List ℕ) → List ℕ
 text [] = []
 text (l ∷ ls) = l ++ 10 ∷ text ls
-
--- the whole language
-abbrev whole : List Row
-whole = map (λ (row : Row). record row { built = true }) patterns
 
 -- a text without lines
 empty : read patterns (text ([])) ≡ Err (fault 3 1 NoThread)
@@ -51,57 +46,52 @@ range : read patterns (text (codes "thread a fifo 5 at 0" ∷ codes "loop 0" ∷
 unfolding read patterns declaration_patterns step_patterns call_patterns said_from phase_one lines_of words_of
 range = refl
 
--- a pattern that is not built
-not_built : read patterns (text (codes "thread a fifo 5 at 0" ∷ codes "sigwaitinfo none" ∷ codes "end" ∷ [])) ≡ Err (fault 1 2 UnknownWord)
-unfolding read patterns declaration_patterns step_patterns call_patterns said_from phase_one lines_of words_of
-not_built = refl
-
 -- words come before names
-unknown_word : read whole (text (codes "thread a fifo 5 at 0" ∷ codes "lock nope" ∷ codes "end" ∷ codes "thread b fifo 5 at 0" ∷ codes "run 1" ∷ codes "end" ∷ codes "thread c fifo 5 at 0" ∷ codes "run 1" ∷ codes "frob" ∷ codes "end" ∷ [])) ≡ Err (fault 1 9 UnknownWord)
+unknown_word : read patterns (text (codes "thread a fifo 5 at 0" ∷ codes "lock nope" ∷ codes "end" ∷ codes "thread b fifo 5 at 0" ∷ codes "run 1" ∷ codes "end" ∷ codes "thread c fifo 5 at 0" ∷ codes "run 1" ∷ codes "frob" ∷ codes "end" ∷ [])) ≡ Err (fault 1 9 UnknownWord)
 unfolding read patterns declaration_patterns step_patterns call_patterns said_from phase_one lines_of words_of
 unknown_word = refl
 
 -- the same text without the misspelled word
-unknown_name : read whole (text (codes "thread a fifo 5 at 0" ∷ codes "lock nope" ∷ codes "end" ∷ codes "thread b fifo 5 at 0" ∷ codes "run 1" ∷ codes "end" ∷ codes "thread c fifo 5 at 0" ∷ codes "run 1" ∷ codes "end" ∷ [])) ≡ Err (fault 2 2 UnknownName)
+unknown_name : read patterns (text (codes "thread a fifo 5 at 0" ∷ codes "lock nope" ∷ codes "end" ∷ codes "thread b fifo 5 at 0" ∷ codes "run 1" ∷ codes "end" ∷ codes "thread c fifo 5 at 0" ∷ codes "run 1" ∷ codes "end" ∷ [])) ≡ Err (fault 2 2 UnknownName)
 unfolding read patterns declaration_patterns step_patterns call_patterns said_from phase_one lines_of words_of
 unknown_name = refl
 
 -- a cleanup handler is no thread
-wrong_kind : read whole (text (codes "cleanup u" ∷ codes "end" ∷ codes "thread a fifo 5 at 0" ∷ codes "create u" ∷ codes "end" ∷ [])) ≡ Err (fault 2 4 WrongKind)
+wrong_kind : read patterns (text (codes "cleanup u" ∷ codes "end" ∷ codes "thread a fifo 5 at 0" ∷ codes "create u" ∷ codes "end" ∷ [])) ≡ Err (fault 2 4 WrongKind)
 unfolding read patterns declaration_patterns step_patterns call_patterns said_from phase_one lines_of words_of
 wrong_kind = refl
 
 -- low is not below high
-server : read whole (text (codes "thread s sporadic 5 5 10 3 4 at 0" ∷ codes "end" ∷ [])) ≡ Err (fault 3 1 ServerRange)
+server : read patterns (text (codes "thread s sporadic 5 5 10 3 4 at 0" ∷ codes "end" ∷ [])) ≡ Err (fault 3 1 ServerRange)
 unfolding read patterns declaration_patterns step_patterns call_patterns said_from phase_one lines_of words_of
 server = refl
 
 -- a number past its range comes first
-server_number : read whole (text (codes "thread s sporadic 5 5 1000000000000000001 3 4 at 0" ∷ codes "end" ∷ [])) ≡ Err (fault 3 1 NumberRange)
+server_number : read patterns (text (codes "thread s sporadic 5 5 1000000000000000001 3 4 at 0" ∷ codes "end" ∷ [])) ≡ Err (fault 3 1 NumberRange)
 unfolding read patterns declaration_patterns step_patterns call_patterns said_from phase_one lines_of words_of
 server_number = refl
 
 -- a handler may not lock, and a stray pop is no step
-barred : read whole (text (codes "handler h" ∷ codes "pop 0" ∷ codes "end" ∷ codes "thread a fifo 5 at 0" ∷ codes "end" ∷ [])) ≡ Err (fault 1 2 StrayClose)
+barred : read patterns (text (codes "handler h" ∷ codes "pop 0" ∷ codes "end" ∷ codes "thread a fifo 5 at 0" ∷ codes "end" ∷ [])) ≡ Err (fault 1 2 StrayClose)
 unfolding read patterns declaration_patterns step_patterns call_patterns said_from phase_one lines_of words_of
 barred = refl
 
 -- a call that is barred from cleanup handlers
-barred_call : read whole (text (codes "mutex m none" ∷ codes "cleanup u" ∷ codes "lock m" ∷ codes "end" ∷ codes "thread a fifo 5 at 0" ∷ codes "end" ∷ [])) ≡ Err (fault 1 3 NotHere)
+barred_call : read patterns (text (codes "mutex m none" ∷ codes "cleanup u" ∷ codes "lock m" ∷ codes "end" ∷ codes "thread a fifo 5 at 0" ∷ codes "end" ∷ [])) ≡ Err (fault 1 3 NotHere)
 unfolding read patterns declaration_patterns step_patterns call_patterns said_from phase_one lines_of words_of
 barred_call = refl
 
 -- a second action for a signal
-second_action : read whole (text (codes "action rt3 ignore" ∷ codes "action rt4 ignore" ∷ codes "action rt3 ignore" ∷ codes "thread a fifo 5 at 0" ∷ codes "end" ∷ [])) ≡ Err (fault 2 3 DuplicateName)
+second_action : read patterns (text (codes "action rt3 ignore" ∷ codes "action rt4 ignore" ∷ codes "action rt3 ignore" ∷ codes "thread a fifo 5 at 0" ∷ codes "end" ∷ [])) ≡ Err (fault 2 3 DuplicateName)
 unfolding read patterns declaration_patterns step_patterns call_patterns said_from phase_one lines_of words_of
 second_action = refl
 
 -- a signal has one spelling
-signal_name : read whole (text (codes "thread a fifo 5 at 0" ∷ codes "kill rt01" ∷ codes "end" ∷ [])) ≡ Err (fault 1 2 BadName)
+signal_name : read patterns (text (codes "thread a fifo 5 at 0" ∷ codes "kill rt01" ∷ codes "end" ∷ [])) ≡ Err (fault 1 2 BadName)
 unfolding read patterns declaration_patterns step_patterns call_patterns said_from phase_one lines_of words_of
 signal_name = refl
 
 -- names are used before they are declared, and things are numbered by kind
-calls : read whole (text (codes "thread a fifo 5 dormant" ∷ codes "sigmask block rt0,rt2" ∷ codes "lock m" ∷ codes "mq_send q 4 1 reg" ∷ codes "end" ∷ codes "mutex l none" ∷ codes "mutex m inherit recursive" ∷ codes "queue q 4 16" ∷ codes "action rt5 run h" ∷ codes "handler h" ∷ codes "end" ∷ [])) ≡ Ok (record { quantum = 10; decls = Named (codes "a") (Thread (Fifo 5) None (Making (SigmaskBlock 5) (Making (Lock 1) (Making (MqSend 0 4 1 Reg) Nothing)))) ∷ Named (codes "l") (Mutex Plain false) ∷ Named (codes "m") (Mutex Inherit true) ∷ Named (codes "q") (Queue 4 16 false) ∷ Action 5 (Some 0) ∷ Named (codes "h") (Handler Nothing) ∷ [] })
+calls : read patterns (text (codes "thread a fifo 5 dormant" ∷ codes "sigmask block rt0,rt2" ∷ codes "lock m" ∷ codes "mq_send q 4 1 reg" ∷ codes "end" ∷ codes "mutex l none" ∷ codes "mutex m inherit recursive" ∷ codes "queue q 4 16" ∷ codes "action rt5 run h" ∷ codes "handler h" ∷ codes "end" ∷ [])) ≡ Ok (record { quantum = 10; decls = Named (codes "a") (Thread (Fifo 5) None (Making (SigmaskBlock 5) (Making (Lock 1) (Making (MqSend 0 4 1 Reg) Nothing)))) ∷ Named (codes "l") (Mutex Plain false) ∷ Named (codes "m") (Mutex Inherit true) ∷ Named (codes "q") (Queue 4 16 false) ∷ Action 5 (Some 0) ∷ Named (codes "h") (Handler Nothing) ∷ [] })
 unfolding read patterns declaration_patterns step_patterns call_patterns said_from phase_one lines_of words_of
 calls = refl

@@ -27,13 +27,13 @@ fits [] (word ∷ words) = false
 fits (spot ∷ spots) [] = false
 fits (spot ∷ spots) (word ∷ words) = stands spot word && fits spots words
 
--- a built pattern of the table agrees with the line
+-- a pattern of the table agrees with the line
 abbrev pub any_agrees : List Row → List (List ℕ) → Bool
-any_agrees rows words = list_any (λ row. row.built && agrees row.places words) rows
+any_agrees rows words = list_any (λ row. agrees row.places words) rows
 
--- the built pattern of the table that agrees with the line and has its number of words
+-- the pattern of the table that agrees with the line and has its number of words
 abbrev pub fitting_row : List Row → List (List ℕ) → Option Row
-fitting_row rows words = find (λ row. row.built && fits row.places words) rows
+fitting_row rows words = find (λ row. fits row.places words) rows
 
 -- what each place's test says of the word that stands there
 abbrev pub place_faults : (Spot → List ℕ → Option FaultKind) → List Spot → List (List ℕ) → List FaultKind

@@ -24,12 +24,11 @@ pub data Spot : Type 0 where
   Acts : Spot
   Signals : Spot
 
--- a pattern, the bodies that it is barred from, and whether it is built
+-- a pattern, and the bodies that it is barred from
 pub record Row : Type 0 where
   pub form : Form
   pub bar : Bar
   pub places : List Spot
-  pub built : Bool
 
 abbrev pub spot_of : Place → Spot
 spot_of (place.Keyword k) = Keyword k.now
@@ -43,7 +42,7 @@ spot_of place.Acts = Acts
 spot_of place.Signals = Signals
 
 abbrev pub row_of : Pattern → Row
-row_of p = record { form = p.form; bar = p.bar; places = map spot_of p.places.now; built = p.built }
+row_of p = record { form = p.form; bar = p.bar; places = map spot_of p.places.now }
 
 -- the rows of a table, part by part
 abbrev pub rows_of : Table → List Row

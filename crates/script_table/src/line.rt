@@ -61,8 +61,7 @@ fn any_agrees_in(patterns: &[Pattern], words: &Words<'_>) -> bool
 {
     match patterns {
         [] => false,
-        [pattern, rest @ ..] => (pattern.built && agrees(pattern.places, words.again()))
-            || any_agrees_in(rest, words),
+        [pattern, rest @ ..] => agrees(pattern.places, words.again()) || any_agrees_in(rest, words),
     }
 }
 
@@ -76,7 +75,7 @@ fn fitting_in(
 {
     match patterns {
         [] => None,
-        [pattern, rest @ ..] => if pattern.built && fits_first(pattern.places, first, words) {
+        [pattern, rest @ ..] => if fits_first(pattern.places, first, words) {
             Some(pattern)
         } else {
             fitting_in(rest, first, words)
@@ -96,7 +95,7 @@ fn fitting_pattern(table: &Table, first: &[u8], words: &Words<'_>) -> Option<&'s
     fitting_in(table.calls, first, words)
 }
 
-/// Whether a built pattern of the table agrees with a line of these words: each of its keywords stands at its place, or the line is
+/// Whether a pattern of the table agrees with a line of these words: each of its keywords stands at its place, or the line is
 /// too short to have that place.
 pub fn any_agrees(table: &Table, words: &Words<'_>) -> bool
     ensures { result ≡ any_agrees (rows_of table.now) words.now.words }
@@ -105,7 +104,7 @@ pub fn any_agrees(table: &Table, words: &Words<'_>) -> bool
         || (any_agrees_in(table.steps, words) || any_agrees_in(table.calls, words))
 }
 
-/// The built pattern of the table that agrees with a line of these words and has their number; `None` exactly where there is none.
+/// The pattern of the table that agrees with a line of these words and has their number; `None` exactly where there is none.
 pub fn pattern_of(table: &Table, words: &Words<'_>) -> Option<&'static Pattern>
     ensures { option_map (λ p. row_of p.now) result ≡ fitting_some (rows_of table.now) words.now.words }
 {

@@ -69,8 +69,6 @@ pub struct Pattern {
     pub form: Form,
     pub bar: Bar,
     pub places: &'static [Place],
-    /// Whether the machine carries it out. Where it does not, no line has the pattern.
-    pub built: bool,
 }
 
 /// A table of patterns, in three parts.

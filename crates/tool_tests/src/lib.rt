@@ -11,6 +11,8 @@ mod conditions;
 #[cfg(test)]
 mod failures;
 #[cfg(test)]
+mod generated;
+#[cfg(test)]
 mod lives;
 #[cfg(test)]
 mod machine;

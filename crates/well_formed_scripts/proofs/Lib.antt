@@ -5,3 +5,4 @@ mod Steps
 mod Openings
 mod Table
 pub mod Reading
+pub mod Generated

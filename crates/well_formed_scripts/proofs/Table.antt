@@ -40,4 +40,4 @@ found_barred test (r ∷ rows) row found all = found_case (test r) test r rows r
 
 pub fitting_barred : (words : List (List ℕ)) (row : Row) → fitting_some patterns words ≡ Some row → is_barred_so row.form row.bar ≡ true
 fitting_barred [] row found = absurd (let none : None ≡ Some row = found in cc)
-fitting_barred (word ∷ words) row found = found_barred (λ r. r.built && fits r.places (word ∷ words)) patterns row found all_barred
+fitting_barred (word ∷ words) row found = found_barred (λ r. fits r.places (word ∷ words)) patterns row found all_barred

@@ -1,9 +1,10 @@
-//! What the reader's definition accepts is well formed, so that the laws of the machine hold of its run. There is no code here: one law,
-//! and its proof.
+//! What the reader's definition accepts, and what is generated, is well formed, so that the laws of the machine hold of its run. There is
+//! no code here: two laws, and their proofs.
 #![tactic(auto)]
 
 ghost use Rattle.std.specs.Prelude.{ℕ, ◌≡◌, List, Ok};
 ghost use Rattle.machine_rules.specs.WellFormed.{IsWellFormed};
+ghost use Rattle.script_gen.specs.Generated.{script_of};
 ghost use Rattle.script_table.specs.Read.{read};
 ghost use Rattle.script_table.specs.Table.{patterns};
 ghost use Rattle.script_tree.specs.declared.decl.Script.{Script};
@@ -12,4 +13,9 @@ ghost use Rattle.script_tree.specs.declared.decl.Script.{Script};
 /// and it pushes and pops cleanup handlers by guarded blocks alone, in the bodies of threads, at most eight inside one another.
 pub fn accepted_scripts_are_well_formed()
     ensures { (text : List ℕ) (script : Script) → read patterns text ≡ Ok script → IsWellFormed script }
+{}
+
+/// So has the script of each number, which `script_gen::make` makes.
+pub fn generated_scripts_are_well_formed()
+    ensures { (number : ℕ) → IsWellFormed (script_of number) }
 {}

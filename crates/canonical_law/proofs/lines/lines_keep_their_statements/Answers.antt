@@ -1,7 +1,7 @@
 use Rattle.script_table.specs.Table.{patterns}
-use Rattle.canonical_law.proofs.Table.{table_now}
+use Rattle.canonical_law.proofs.Table.{the_table}
 use Rattle.canonical_law.proofs.Text.{statements_kept}
 use Rattle.canonical_law.proofs.lines.lines_keep_their_statements.Goals as goal
 
 pub returns : goal.returns
-returns c = statements_kept patterns table_now
+returns c = statements_kept patterns the_table

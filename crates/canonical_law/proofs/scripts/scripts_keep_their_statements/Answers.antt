@@ -1,8 +1,7 @@
 use Rattle.script_table.specs.Table.{patterns}
-use Rattle.canonical_law.specs.Tables.{with_built}
-use Rattle.canonical_law.proofs.Table.{table_now, table_of}
+use Rattle.canonical_law.proofs.Table.{the_table}
 use Rattle.canonical_law.proofs.Again.{says_again}
 use Rattle.canonical_law.proofs.scripts.scripts_keep_their_statements.Goals as goal
 
 pub returns : goal.returns
-returns c = record { now = says_again patterns table_now; whole = λ built e. says_again (with_built built patterns) (table_of built e) }
+returns c = says_again patterns the_table

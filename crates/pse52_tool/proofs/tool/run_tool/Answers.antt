@@ -1,8 +1,13 @@
-use Rattle.std.proofs.Common.{rules, ◌≡◌, ◌≤◌, [], None, Some, length, map, string_bytes, arith, sym, ◌∙◌}
+use Rattle.std.proofs.Common.{rules, ◌≡◌, ◌≤◌, [], None, Some, length, map, string_bytes, arith, false, subst, sym, ◌∙◌}
 use Rattle.rt_io.proofs.Known.{consumes_none}
-use Rattle.pse52_tool.specs.Command.{command, limit_of}
-use Rattle.pse52_tool.proofs.Whole.{told_whole}
+use Rattle.pse52_tool.specs.declared.command.Command.{Command}
+use Rattle.pse52_tool.specs.Answer.{Told}
+use Rattle.pse52_tool.specs.Command.{command, limit_of, reads}
+use Rattle.pse52_tool.proofs.Whole.{answer_unread, told_whole}
 use Rattle.pse52_tool.proofs.tool.run_tool.Goals as goal
+
+same_command : {a b : Command} → Some a ≡ Some b → a ≡ b
+same_command e = cc
 
 -- where the words are no command nothing was taken, and the answer is the usage line
 pub returns-in_default-clause-answered : goal.returns-in_default-clause-answered
@@ -21,10 +26,29 @@ pub returns-in-Ok-clause-told : goal.returns-in-Ok-clause-told
 returns-in-Ok-clause-told g c =
     let is : command (map string_bytes c.args.words.now) ≡ Some c.in-Some.command = sym c.command_of_words.ensures.command ∙ c.in-Some.is in
     let small : length c.in-Ok.bytes.items ≤ limit_of c.in-Some.command = rw (sym c.limit.ensures.limit) c.in-Ok.ensures.short in
-    told_whole (map string_bytes c.args.words.now) c.in-Some.command _ _ c.in-Ok.bytes.items _ _ _ is small c.in-Ok.ensures.whole c.in-Ok.ensures.end (rw c.as_slice.ensures.value at c.answer_text.ensures.told)
+    told_whole (map string_bytes c.args.words.now) c.in-Some.command _ _ c.in-Ok.bytes.items _ _ _ is small c.in-Ok.ensures.whole c.in-Ok.ensures.end (rw c.as_slice.ensures.value at c.answer_text-in-Ok.ensures.told)
 
 -- of a text that was read whole the steps of its run are those of the call
 pub returns-in-Ok-clause-busy : goal.returns-in-Ok-clause-busy
 returns-in-Ok-clause-busy g c n bytes run rest =
     let is : command (map string_bytes c.args.words.now) ≡ Some c.in-Some.command = sym c.command_of_words.ensures.command ∙ c.in-Some.is in
     search rules
+
+-- what reads nothing took nothing, and its answer is that to any bytes
+pub returns-then-not-reads-clause-answered : goal.returns-then-not-reads-clause-answered
+returns-then-not-reads-clause-answered g c =
+    let is : command (map string_bytes c.args.words.now) ≡ Some c.in-Some.command = sym c.command_of_words.ensures.command ∙ c.in-Some.is in
+    let none : reads c.in-Some.command ≡ false = sym c.reads.ensures ∙ c.if-not-reads.true in
+    record {
+      bytes = [];
+      bound = omega arith;
+      moved = consumes_none _;
+      count = record { at_least = omega arith; at_most = omega arith };
+      told = subst (λ a. Told c.answer_text.result a (g.K.Sink.text c.args.sink.now) (g.K.Sink.text c.answer_text.new.sink))
+          (sym (answer_unread (map string_bytes c.args.words.now) c.in-Some.command [] is none)) c.answer_text.ensures.told;
+    }
+
+pub returns-then-not-reads-clause-soaks : goal.returns-then-not-reads-clause-soaks
+returns-then-not-reads-clause-soaks g c seed n run =
+    let is : command (map string_bytes c.args.words.now) ≡ Some c.in-Some.command = sym c.command_of_words.ensures.command ∙ c.in-Some.is in
+    c.answer_text.ensures.soaks seed n (same_command (sym is ∙ run))

@@ -1,7 +1,7 @@
 use Rattle.std.proofs.Common.{◌≤◌, ◌+◌, ℕ, subst}
 use Rattle.pse52_trace.specs.Prints.{Prints}
 use Rattle.pse52_tool.proofs.Opened.{opened_busy, opened_text}
-use Rattle.pse52_tool.proofs.tool.print_trace.Goals as goal
+use Rattle.pse52_tool.proofs.runs.print_trace.Goals as goal
 
 pub returns : goal.returns
 returns g c = record {

@@ -1,0 +1,94 @@
+// Scripts that are generated.
+ghost use Rattle.std.specs.Prelude.{◌≡◌, ◌≤◌, ◌+◌, ◌^◌};
+ghost use Rattle.script_gen.specs.Generated.{script_of};
+ghost use Rattle.script_text.specs.Canon.{canon};
+ghost use Rattle.machine_flat.specs.Runnable.{IsRunnable};
+ghost use Rattle.machine_rules.specs.Promises.{busy_between};
+ghost use Rattle.machine_rules.specs.WellFormed.{IsWellFormed};
+ghost use Rattle.pse52_tool.specs.Answer.{Told, SinkFaults, closing_lines, generated_answer, soak_answer};
+ghost use Rattle.pse52_tool.specs.Taken.{IsWithoutSource};
+
+use crate::Status;
+use crate::runs::print_soak;
+use rt_io::Sink;
+use script_gen::make;
+use script_text::write_script;
+use script_tree::Script;
+use std::alloc::Global;
+use std::sync::ledger::Ledger;
+use step_counter::Steps;
+use tick_num::Tick;
+
+// Writes the canonical text of a script.
+fn put_script<K: Sink>(script: &Script, sink: &mut K) -> Status
+    ensures told { Told result (record { status = Status.Done; text = canon script.now }) (K.text sink.old) (K.text sink.new) }
+    ensures faults { SinkFaults result (K.faults sink.old) (K.faults sink.new) }
+    ensures kind { IsWithoutSource result }
+    ensures memory { result ≡ Status.OutOfMemory → ⊥ }
+{
+    match write_script(script, sink) {
+        Ok(()) => Status::Done,
+        Err(_) => Status::WriteFault,
+    }
+}
+
+/// Writes the canonical text of the script of a number.
+pub(crate) fn tell_generated<K: Sink>(alloc: Global, seed: u64, sink: &mut K) -> Status
+    requires limit { seed ≤ 10 ^ 18 }
+    ensures told { Told result (generated_answer seed) (K.text sink.old) (K.text sink.new) }
+    ensures faults { SinkFaults result (K.faults sink.old) (K.faults sink.new) }
+    ensures kind { IsWithoutSource result }
+    ensures unchanged { result ≡ Status.OutOfMemory → sink.new ≡ sink.old }
+{
+    match make(alloc, seed) {
+        Ok(script) => put_script(&script, sink),
+        Err(_) => Status::OutOfMemory,
+    }
+}
+
+// Runs a script, and writes its closing lines.
+fn soak_script<K: Sink, L: Ledger>(
+    alloc: Global,
+    script: &Script,
+    horizon: Tick,
+    sink: &mut K,
+    steps: &mut Steps<L>,
+) -> Status
+    requires runnable { IsRunnable script.now }
+    requires well_formed { IsWellFormed script.now }
+    requires limit { horizon ≤ 10 ^ 18 }
+    ensures told { Told result (record { status = Status.Done; text = closing_lines script.now horizon })
+        (K.text sink.old) (K.text sink.new) }
+    ensures faults { SinkFaults result (K.faults sink.old) (K.faults sink.new) }
+    ensures kind { IsWithoutSource result }
+    ensures unchanged { result ≡ Status.OutOfMemory → sink.new ≡ sink.old }
+    ensures busy { steps.new ≤ steps.old + busy_between script.now 0 horizon + 1 }
+{
+    match print_soak(alloc, script, horizon, sink, steps) {
+        Ok(false) => Status::Done,
+        Ok(true) => Status::WriteFault,
+        Err(_) => Status::OutOfMemory,
+    }
+}
+
+/// Runs the script of a number, and writes its closing lines.
+pub(crate) fn soak<K: Sink, L: Ledger>(
+    alloc: Global,
+    seed: u64,
+    horizon: Tick,
+    sink: &mut K,
+    steps: &mut Steps<L>,
+) -> Status
+    requires seed { seed ≤ 10 ^ 18 }
+    requires limit { horizon ≤ 10 ^ 18 }
+    ensures told { Told result (soak_answer seed horizon) (K.text sink.old) (K.text sink.new) }
+    ensures faults { SinkFaults result (K.faults sink.old) (K.faults sink.new) }
+    ensures kind { IsWithoutSource result }
+    ensures unchanged { result ≡ Status.OutOfMemory → sink.new ≡ sink.old }
+    ensures busy { steps.new ≤ steps.old + busy_between (script_of seed) 0 horizon + 1 }
+{
+    match make(alloc, seed) {
+        Ok(script) => soak_script(alloc, &script, horizon, sink, steps),
+        Err(_) => Status::OutOfMemory,
+    }
+}
