@@ -6,3 +6,4 @@ pub mod Swept
 pub mod Midway
 pub mod Awaited
 pub mod Generated
+pub mod Expired

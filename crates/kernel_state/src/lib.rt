@@ -18,6 +18,7 @@ mod semaphore_values;
 mod settling;
 mod signals;
 mod threads;
+mod timers;
 mod waking;
 
 pub use parts::Parts;

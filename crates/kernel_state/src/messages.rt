@@ -4,12 +4,13 @@ ghost use Rattle.std.specs.List.{list_any};
 ghost use Rattle.machine_rules.specs.Lists.{is};
 ghost use Rattle.machine_rules.specs.Queues.{has_room, message_of as message_in_wait, registered, waits_to_receive, waits_to_send, with_message};
 ghost use Rattle.machine_rules.specs.State as machine;
-ghost use Rattle.machine_rules.specs.Threads.{is_blocked, queue_at, thread_at, waiting_of as waiting_at};
+ghost use Rattle.machine_rules.specs.Threads.{is_blocked, queue_at, thread_at};
 ghost use Rattle.machine_rules.specs.Turns.{changes_queue};
 ghost use Rattle.machine_rules.specs.Waiters.{Waiter, best_waiter};
 ghost use Rattle.message_queues.specs.Queues.{next_value, without_next};
 ghost use Rattle.thread_blocks.specs.Plain.{message_of, wait_of};
 ghost use Rattle.kernel_state.specs.Kernel.{after};
+ghost use Rattle.kernel_state.specs.Waits.{waiting_message};
 
 use crate::parts::Parts;
 use message_queues::Registration;
@@ -125,11 +126,11 @@ impl Parts {
         self.best_waiter(WaitObj::Sender(q))
     }
 
-    /// The message of a thread that waits for room.
+    /// The message of a thread that waits for room; of another thread one of priority 0 and value 0.
     #[tactic(auto, using(crate::proofs::InQueues::none_sends, crate::proofs::InQueues::some_sends))]
     pub fn waiting_message(&self, t: Tid) -> Message
         requires { t < length self.now.names }
-        ensures { (w : machine.Waiting) → waiting_at self.now.machine t ≡ Some w → message_of result ≡ message_in_wait w.wait }
+        ensures { message_of result ≡ waiting_message self.now.machine t }
     {
         match self.wait(t) {
             Some(wait) => message_in(&wait),
