@@ -15,6 +15,14 @@ RULES = [
     Turned("a timer's signal is refused where 64 are pending", "signals.py",
            "    if record.code in (SigCode.USER, SigCode.QUEUE) and len(users)", "    if len(users)",
            "timers_and_notifications_need_no_place"),
+    Turned("an ignored signal is refused where 64 are pending", "signals.py",
+           "    if action_of(kernel, record.signal) is Fate.IGNORE:\n        return Outcome.DISCARDED\n",
+           "    if action_of(kernel, record.signal) is Fate.IGNORE and len(kernel.records) < GREATEST_PENDING:\n"
+           "        return Outcome.DISCARDED\n", "signals_that_need_no_place"),
+    Turned("a signal that is waited for is refused where 64 are pending", "signals.py",
+           "    if acceptor(kernel, record) is not None:\n        return Outcome.ACCEPTED\n",
+           "    if acceptor(kernel, record) is not None and len(kernel.records) < GREATEST_PENDING:\n"
+           "        return Outcome.ACCEPTED\n", "signals_that_need_no_place"),
     Turned("each thread has 64 places of its own", "signals.py",
            "users = [pending for pending in kernel.records if pending.code in (SigCode.USER, SigCode.QUEUE)]",
            "users = [pending for pending in kernel.records if pending.code in (SigCode.USER, SigCode.QUEUE)"
