@@ -3,6 +3,8 @@ from __future__ import annotations
 
 from .rule import Turned
 
+WAITS = ("SEM", "SLEEP", "SEND", "RECEIVE", "SIGNAL")
+
 RULES = [
     # Generation
     Turned("65 signals may be pending", "state.py",
@@ -110,6 +112,9 @@ RULES = [
            "    if thread.waits_in(WaitKind.JOIN) and open_records:\n"
            "        kernel.threads[thread.wait.target].joiner.waiting = None\n"
            "    elif thread.waits_in(*_DEFERRING):\n", "handler_waits_for_a_join"),
+    *(Turned(f"a handler does not end a wait of the kind {kind}", "signals.py",
+             "_DEFERRING = (WaitKind.MUTEX, ", f"_DEFERRING = (WaitKind.{kind}, WaitKind.MUTEX, ", "each_wait_is_interrupted")
+      for kind in WAITS),
     Turned("a thread that waits for a mutex takes nothing, not even its end", "signals.py",
            "open_records = [record for record in open_records if action_of(kernel, record.signal) is Fate.KILL]",
            "open_records = []", "kill_ends_a_process_that_waits"),
