@@ -4,7 +4,8 @@
 
 The code's table (crates/script_table/src/table.rt) says which patterns the language has. By it: README.md's table of
 the language, and the patterns of docs/SCRIPT.md, which lists each and no other. The reference says what the examples
-of docs/SCRIPT.md answer. Without --write prints what differs, with exit status 1; with it mends README's table.
+of docs/SCRIPT.md answer. Each function that docs/WALK.md names stands in the file that it names, and docs/WALK.md has
+lines of the trace of its script. Without --write prints what differs, with exit status 1; with it mends README's table.
 """
 from __future__ import annotations
 
@@ -130,6 +131,24 @@ def wrong_runs(name: str, text: str) -> list[str]:
     return [f"{name}: the trace is\n{have}" for _, have, trace in answers if have != trace]
 
 
+def wrong_places(text: str) -> list[str]:
+    """The functions of docs/WALK.md that do not stand in the files beside them, and lines that its trace does not have."""
+    places = re.findall(r"`(\w+/src/\w+\.rt)` `(\w+)`", text)
+    wrong = [f"docs/WALK.md: crates/{file} has no function {name}" for file, name in places if not has_function(file, name)]
+    script = re.search(r"The script is .*?`(tests/worked/\w+)\.task`", text)
+    lines = re.search(r"```\n(.*?)```", text, re.S)
+    if script is None or lines is None or not places:
+        return [*wrong, "docs/WALK.md names no script, no lines of a trace or no function"]
+    if lines[1] not in (TOP / f"{script[1]}.trace").read_text():
+        wrong.append(f"docs/WALK.md: its lines are not in {script[1]}.trace")
+    return wrong
+
+
+def has_function(file: str, name: str) -> bool:
+    path = TOP / "crates" / file
+    return path.exists() and re.search(rf"\bfn {name}\b", path.read_text()) is not None
+
+
 def main() -> int:
     parser = argparse.ArgumentParser(description="Holds the documents to the code's table and to the reference.")
     parser.add_argument("--write", action="store_true")
@@ -144,6 +163,7 @@ def main() -> int:
         wrong += wrong_runs(name, (TOP / name).read_text())
     language = (TOP / "docs/SCRIPT.md").read_text()
     wrong += wrong_patterns(language) + wrong_faults(language)
+    wrong += wrong_places((TOP / "docs/WALK.md").read_text())
     print(*wrong, f"documents: {len(wrong)} differ", sep="\n")
     return 1 if wrong else 0
 
