@@ -14,7 +14,7 @@ ghost use Rattle.kernel_events.specs.Handled.{CanHandle};
 ghost use Rattle.kernel_state.specs.Kernel.{Kernel, after, refilled_telling, told};
 ghost use Rattle.kernel_state.specs.Stood.{StoodRight};
 
-use kernel_signals::sweep;
+use kernel_signals::{expire, sweep};
 use kernel_state::Parts;
 use kernel_sync::contend;
 use machine_rules::CondEnd;
@@ -72,13 +72,14 @@ fn time_out<K: Sink>(p: &mut Parts, t: Tid, out: &mut Tracer<'_, K>)
         Some(Wait::Semaphore(_)) => p.wake(t, Res::Timedout, 0, out),
         Some(Wait::Condition(_, _)) => contend(p, t, CondEnd::Timedout, out),
         Some(Wait::Signal(_)) => p.wake(t, Res::Again, 0, out),
-        Some(_) => unreachable!(),
+        Some(Wait::Room(_, _)) => p.wake(t, Res::Timedout, 0, out),
+        Some(Wait::Message(_)) => p.wake(t, Res::Timedout, 0, out),
     }
 }
 
 // A due item, before its moves.
 fn handle<K: Sink>(p: &mut Parts, i: Item, out: &mut Tracer<'_, K>)
-    requires known { IsKnown (length p.old.names) i }
+    requires known { IsKnown (length p.old.names) (length p.old.machine.timers) i }
     requires quiet { p.old.direct ≡ [] }
     requires fits { CanHandle p.old.machine }
     requires serial { p.old.machine.next_serial < 2 ^ 62 }
@@ -90,13 +91,13 @@ fn handle<K: Sink>(p: &mut Parts, i: Item, out: &mut Tracer<'_, K>)
         Item::Refill(t) => refill(p, t, out),
         Item::Start(t) => p.start(t, SigSet::new(0), out),
         Item::Timeout(t) => time_out(p, t, out),
-        Item::Timer(_) => unreachable!(),
+        Item::Timer(k) => expire(p, k, out),
     }
 }
 
 // A due item, with its moves.
 fn settle_item<K: Sink>(p: &mut Parts, i: Item, out: &mut Tracer<'_, K>)
-    requires known { IsKnown (length p.old.names) i }
+    requires known { IsKnown (length p.old.names) (length p.old.machine.timers) i }
     requires quiet { p.old.direct ≡ [] }
     requires stood { StoodRight p.old.machine }
     requires fits { CanHandle p.old.machine }
@@ -112,7 +113,7 @@ fn settle_item<K: Sink>(p: &mut Parts, i: Item, out: &mut Tracer<'_, K>)
 
 /// A due item, with its moves and the sweep.
 pub fn do_item<K: Sink>(p: &mut Parts, i: Item, out: &mut Tracer<'_, K>)
-    requires known { IsKnown (length p.old.names) i }
+    requires known { IsKnown (length p.old.names) (length p.old.machine.timers) i }
     requires quiet { p.old.direct ≡ [] }
     requires stood { StoodRight p.old.machine }
     requires fits { CanHandle p.old.machine }

@@ -9,12 +9,18 @@ ghost use Rattle.machine_flat.specs.FlatBodies.{flat_bodies};
 ghost use Rattle.kernel_lives.specs.Joins.{JoinsFit};
 ghost use Rattle.kernel_sync.specs.Waits.{WaitsFit};
 ghost use Rattle.kernel_state.specs.Kernel.{after, by, told};
+ghost use Rattle.kernel_state.specs.Pending.{PendingFits, SignalsFit};
 
 use crate::lives::make_create;
 use crate::scheduling::{make_setprio, make_setsched, make_yield};
 use crate::time::{end_of_sleep, sleep_until};
 use kernel_lives::{
     acts_in_place, cancel, exit, join, pop_cleanup, push_cleanup, set_cancelability,
+};
+use kernel_messages::{ask_notification, receive, send};
+use kernel_signals::{
+    block, expiry_after, expiry_at, kill, kill_thread, queue, read_overrun, read_timer,
+    set as set_mask, set_timer, unblock, wait as wait_for_signal,
 };
 use kernel_state::Parts;
 use kernel_sync::{
@@ -34,6 +40,8 @@ fn do_call<K: Sink>(p: &mut Parts, t: Tid, call: &Call, out: &mut Tracer<'_, K>)
     requires runs { can_run p.old.machine t ≡ true }
     requires fits { WaitsFit p.old.machine }
     requires joins { JoinsFit p.old.machine }
+    requires pends { PendingFits p.old.machine }
+    requires signals { SignalsFit p.old.machine }
     requires serial { p.old.machine.next_serial < 2 ^ 62 }
     requires room { length p.old.direct < 128 }
     requires early { p.old.machine.now ≤ 10 ^ 18 }
@@ -70,7 +78,35 @@ fn do_call<K: Sink>(p: &mut Parts, t: Tid, call: &Call, out: &mut Tracer<'_, K>)
         Call::Nanosleep(n) => sleep_until(p, t, call, end_of_sleep(p.instant(), *n), out),
         Call::ClockNanosleep { at } => sleep_until(p, t, call, p.moment(t, at), out),
         Call::Gettime => p.returns(t, call, Res::Zero, p.instant().get(), out),
-        _ => unreachable!(),
+        Call::TimerSettimeRel(k, n, interval) => {
+            set_timer(p, t, call, *k, expiry_after(p.instant(), *n), *interval, out)
+        }
+        Call::TimerSettimeAbs(k, at, interval) => {
+            set_timer(p, t, call, *k, expiry_at(p.moment(t, at)), *interval, out)
+        }
+        Call::TimerGettime(k) => read_timer(p, t, call, *k, out),
+        Call::TimerGetoverrun(k) => read_overrun(p, t, call, *k, out),
+        Call::Kill(signal) => kill(p, t, call, *signal, out),
+        Call::Tkill(u, signal) => kill_thread(p, t, call, *u, *signal, out),
+        Call::Sigqueue(signal, v) => queue(p, t, call, *signal, p.number(t, v), out),
+        Call::SigmaskBlock(set) => block(p, t, call, *set, out),
+        Call::SigmaskUnblock(set) => unblock(p, t, call, *set, out),
+        Call::SigmaskSet(set) => set_mask(p, t, call, *set, out),
+        Call::Sigwaitinfo(set) => wait_for_signal(p, t, call, *set, None, out),
+        Call::Sigtimedwait(set, n) => wait_for_signal(p, t, call, *set, Some(*n), out),
+        Call::MqSend(q, len, priority, v) => {
+            send(p, t, call, *q, *len, *priority, p.number(t, v), None, out)
+        }
+        Call::MqTimedsend {
+            queue,
+            len,
+            prio,
+            value,
+            at,
+        } => send(p, t, call, *queue, *len, *prio, p.number(t, value), Some(p.moment(t, at)), out),
+        Call::MqReceive(q) => receive(p, t, call, *q, None, out),
+        Call::MqTimedreceive { queue, at } => receive(p, t, call, *queue, Some(p.moment(t, at)), out),
+        Call::MqNotify(q, signal, v) => ask_notification(p, t, call, *q, *signal, p.number(t, v), out),
     }
 }
 
@@ -83,6 +119,8 @@ pub fn make_call<K: Sink>(p: &mut Parts, t: Tid, call: &Call, out: &mut Tracer<'
     requires runs { can_run p.old.machine t ≡ true }
     requires fits { WaitsFit p.old.machine }
     requires joins { JoinsFit p.old.machine }
+    requires pends { PendingFits p.old.machine }
+    requires signals { SignalsFit p.old.machine }
     requires serial { p.old.machine.next_serial < 2 ^ 62 }
     requires room { length p.old.direct < 128 }
     requires early { p.old.machine.now ≤ 10 ^ 18 }

@@ -5,3 +5,5 @@ pub mod Sent
 pub mod Swept
 pub mod Midway
 pub mod Awaited
+pub mod Generated
+pub mod Expired

@@ -32,7 +32,7 @@ fn is_ignore(action: &SigAction) -> bool
 }
 
 // Whether the record's signal is ignored.
-fn is_ignored(p: &Parts, r: &SignalRecord) -> bool
+pub(crate) fn is_ignored(p: &Parts, r: &SignalRecord) -> bool
     requires { r.now.signal < 32 }
     ensures { result ≡ is_ignore (action_of p.now.machine r.now.signal) }
 {
@@ -41,7 +41,7 @@ fn is_ignored(p: &Parts, r: &SignalRecord) -> bool
 
 // A thread that waits for the signal accepts it.
 #[tactic(auto, using(crate::proofs::Sent::delivered_unused, crate::proofs::Sent::delivered_room, crate::proofs::Sent::delivered_now))]
-fn accept<K: Sink>(p: &mut Parts, w: Tid, r: &SignalRecord, out: &mut Tracer<'_, K>)
+pub(crate) fn accept<K: Sink>(p: &mut Parts, w: Tid, r: &SignalRecord, out: &mut Tracer<'_, K>)
     requires known { w < length p.old.names }
     requires room { length p.old.direct < 256 }
     requires blocked { is_blocked (thread_at p.old.machine w).status ≡ true }

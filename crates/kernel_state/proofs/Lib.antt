@@ -17,3 +17,4 @@ pub mod OnLists
 pub mod StandOn
 pub mod Carried
 pub mod Targets
+pub mod InQueues

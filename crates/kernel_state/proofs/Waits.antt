@@ -32,7 +32,7 @@ awaits_none m t runs = rw (running_waits (thread_at m t).status runs) refl
 pub cycle_is : (m : Machine Cursor) (t k : ℕ) (r : Bool) → r ≡ closes_cycle_in (claims m.threads) m.mutexes t k → r ≡ closes_cycle m k t
 cycle_is m t k r h = h ∙ closes_cycle_is m t k
 
-pub can_await : (m : Machine Cursor) (t : ℕ) (o : Option ℕ) → CanWait m t o → CanAwait (record { threads = m.threads; mutexes = m.mutexes }) t o
+pub can_await : (m : Machine Cursor) (t : ℕ) (o : Option ℕ) → CanWait m t o → CanAwait (record { threads = m.threads; mutexes = m.mutexes; timers = m.timers }) t o
 can_await m t None can = tt
 can_await m t (Some k) (known, owned, free) = (known, owned, closes_cycle_is m t k ∙ free)
 

@@ -27,7 +27,7 @@ pub record ComesNext (table : Table) (lists : List (List ℕ)) (from t : ℕ) : 
 -- ---- the same of a machine
 
 abbrev pub table_in : Machine Cursor → Table
-table_in m = record { threads = m.threads; mutexes = m.mutexes }
+table_in m = record { threads = m.threads; mutexes = m.mutexes; timers = m.timers }
 
 abbrev pub MachineStands : Machine Cursor → ℕ → Type 0
 MachineStands m t = StandsRight (table_in m) m.lists t

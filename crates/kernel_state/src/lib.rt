@@ -8,6 +8,7 @@ mod due;
 mod leaps;
 mod lists;
 mod lives;
+mod messages;
 mod mutexes;
 mod named;
 mod open;
@@ -17,6 +18,7 @@ mod semaphore_values;
 mod settling;
 mod signals;
 mod threads;
+mod timers;
 mod waking;
 
 pub use parts::Parts;

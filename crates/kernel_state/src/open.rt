@@ -11,6 +11,7 @@ use crate::named::Named;
 use crate::parts::Parts;
 use arrayvec::ArrayVec;
 use machine_rules::LastDispatch;
+use message_queues::Queues;
 use pse52_trace::Names;
 use ready_lists::Ready;
 use rt_signals::{Actions, Pending};
@@ -72,6 +73,7 @@ impl Parts {
         let code = Code::open(alloc, script)?;
         let ready = Ready::open(alloc, table.count())?;
         let semaphores = Semaphores::open(alloc, script)?;
+        let queues = Queues::open(alloc, script)?;
         let pending = Pending::open(alloc)?;
         Ok(Parts {
             code,
@@ -79,6 +81,7 @@ impl Parts {
             table,
             ready,
             semaphores,
+            queues,
             pending,
             actions: Actions::open(script),
             quantum: script.quantum,

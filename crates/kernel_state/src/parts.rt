@@ -10,6 +10,7 @@ ghost use Rattle.std.specs.Prelude.{Some, is_some};
 use crate::named::Named;
 use arrayvec::ArrayVec;
 use machine_rules::LastDispatch;
+use message_queues::Queues;
 use pse52_trace::{Event, Names, Tracer};
 use ready_lists::Ready;
 use rt_io::Sink;
@@ -28,6 +29,7 @@ pub struct Parts {
     pub(crate) table: Table,
     pub(crate) ready: Ready,
     pub(crate) semaphores: Semaphores,
+    pub(crate) queues: Queues,
     pub(crate) pending: Pending,
     // what each signal does
     pub(crate) actions: Actions,

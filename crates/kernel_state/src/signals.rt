@@ -100,11 +100,13 @@ impl Parts {
         self.pending.add(r, serial);
     }
 
-    /// The overrun of the timer that a record is from is told. No timer is built.
+    /// The overrun of the timer that a record is from is told.
     pub fn tell_overrun(&mut self, timer: &Option<ObjId>)
         ensures { self.new ≡ after (tells_overrun timer.now) self.old }
     {
-        let _ = &self.names;
+        if let Some(k) = *timer {
+            self.tell_timer_overrun(k);
+        }
     }
 
     /// The process ends by a signal.

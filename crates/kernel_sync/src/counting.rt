@@ -2,15 +2,14 @@
 ghost use Rattle.std.specs.Prelude.{◌≡◌, ◌≤◌, ◌<◌, ◌^◌, length, pred, suc, true};
 ghost use Rattle.tick_num.specs.declared.res.Res.TheVariants as res;
 ghost use Rattle.pse52_trace.specs.Tells.{Tells};
-ghost use Rattle.machine_rules.specs.Semaphores.{blocks_unless_late, posts, reads_semaphore, semaphore_limit, tries_semaphore, waits_semaphore};
-ghost use Rattle.machine_rules.specs.State.{for_semaphore};
+ghost use Rattle.machine_rules.specs.Semaphores.{posts, reads_semaphore, semaphore_limit, tries_semaphore, waits_semaphore};
 ghost use Rattle.machine_rules.specs.Threads.{can_run, is_blocked, semaphore_at, thread_at};
 ghost use Rattle.machine_rules.specs.Turns.{changes_semaphore, returns, ◌▷◌};
 ghost use Rattle.machine_rules.specs.Waking.{wakes};
 ghost use Rattle.kernel_state.specs.Kernel.{after, by, told};
 ghost use Rattle.kernel_sync.specs.Waits.{BlockedRest};
 
-use crate::answer::is_late;
+use crate::blocking::block_unless_late;
 use kernel_state::Parts;
 use pse52_trace::Tracer;
 use rt_io::Sink;
@@ -34,28 +33,6 @@ fn take<K: Sink>(p: &mut Parts, t: Tid, call: &Call, k: ObjId, out: &mut Tracer<
     p.returns(t, call, Res::Zero, 0, out);
 }
 
-// The caller blocks, unless its time has passed.
-fn block_unless_late<K: Sink>(
-    p: &mut Parts,
-    t: Tid,
-    call: &Call,
-    k: ObjId,
-    due: Option<Tick>,
-    out: &mut Tracer<'_, K>,
-)
-    requires known { t < length p.old.names }
-    requires runs { can_run p.old.machine t ≡ true }
-    requires serial { p.old.machine.next_serial < 2 ^ 63 }
-    ensures state { p.new ≡ after (blocks_unless_late (by t call.now) (for_semaphore k) due) p.old }
-    ensures told { Tells K.text K.faults p.old.names out.old out.new (told (blocks_unless_late (by t call.now) (for_semaphore k) due) p.old) }
-{
-    if is_late(p, &due) {
-        p.returns(t, call, Res::Timedout, 0, out);
-    } else {
-        p.block(t, call, Wait::Semaphore(k), due);
-    }
-}
-
 /// `sem_wait`, and with a time `sem_timedwait`.
 pub fn wait<K: Sink>(
     p: &mut Parts,
@@ -75,7 +52,7 @@ pub fn wait<K: Sink>(
     if p.semaphore(k) > 0 {
         take(p, t, call, k, out);
     } else {
-        block_unless_late(p, t, call, k, due, out);
+        block_unless_late(p, t, call, Wait::Semaphore(k), due, out);
     }
 }
 

@@ -2,10 +2,12 @@
 #![tactic(auto)]
 
 mod answer;
+mod blocking;
 mod conditions;
 mod counting;
 mod mutexes;
 
+pub use blocking::block_unless_late;
 pub use conditions::{broadcast, contend, signal, wait_on};
 pub use counting::{get_value, post, try_wait, wait};
 pub use mutexes::{lock, try_lock, unlock};

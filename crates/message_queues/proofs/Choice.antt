@@ -1,13 +1,13 @@
 -- The next message, and what its node is.
-use Rattle.std.specs.Prelude.{IsSome, option_map, position, unwrap_or}
+use Rattle.std.specs.Prelude.{IsSome, nat_lt, option_map, position, unwrap_or}
 use Rattle.std.specs.List.{AllByRecursion, position_from}
-use Rattle.std.proofs.Common.{◌≡◌, ◌≢◌, ℕ, zero, suc, ◌+◌, ◌<◌, ◌==◌, true, false, Bool, Option, Some, None, List, [], ◌∷◌, ◌++◌, length, max, set, get_or, if◌then◌else◌, refl, sym, ap, subst, ◌∙◌, arith}
+use Rattle.std.proofs.Common.{◌≡◌, ◌≢◌, ℕ, zero, suc, ◌+◌, ◌<◌, ◌≤◌, ◌==◌, true, false, Bool, Option, Some, None, List, [], ◌∷◌, ◌++◌, length, max, set, get_or, if◌then◌else◌, refl, sym, ap, subst, ◌∙◌, arith}
 use Rattle.std.proofs.lemmas.Bool.Decides.{nat_tests}
 use Rattle.std.proofs.lemmas.Iterator.Adapters.{position_from-zero}
 use Rattle.std.proofs.lemmas.List.{get_or-set_same, get_or-set_other}
 use Rattle.machine_rules.specs.State.{Message, Queue, Registration}
 use Rattle.machine_rules.specs.Lists.{without_at}
-use Rattle.machine_rules.specs.Queues.{highest_priority, next_message, value_at}
+use Rattle.machine_rules.specs.Queues.{has_room, highest_priority, next_message, value_at}
 use Rattle.ranked_arrivals.specs.Arrivals.{Arrival, AreDistinct, IsArrival, first_of_rank, has_come, higher, highest_rank, without_node}
 use Rattle.message_queues.specs.Messages.{message_at, messages_of}
 use Rattle.message_queues.specs.Queues.{next_value, without_next, without_one}
@@ -188,3 +188,22 @@ pub no_rest : (values : List ℕ) (order : List Arrival) (depth longest : ℕ) (
 no_rest values order depth longest nonblock registration e =
     sym (ap (λ (o : Option ℕ). without_one o (seen depth longest nonblock (messages_of values order) registration))
     (ap (λ (ms : List Message). next_message ms) (none_next values order e)))
+
+-- ---- and there is room for another
+
+shorter_if : (a : Arrival) (n : ℕ) (order : List Arrival) (b : Bool) → (a.node == n) ≡ b → (has_come n order ≡ true → suc (length (without_node n order)) ≡ length order) →
+    (if b then true else has_come n order) ≡ true → suc (length (if b then order else a ∷ without_node n order)) ≡ suc (length order)
+shorter_if a n order true same rest came = refl
+shorter_if a n order false other rest came = ap suc (rest came)
+
+shorter : (n : ℕ) (order : List Arrival) → has_come n order ≡ true → suc (length (without_node n order)) ≡ length order
+shorter n [] came = cc
+shorter n (a ∷ order) came = shorter_if a n order (a.node == n) refl (shorter n order) came
+
+below : (a b : ℕ) → a < b → nat_lt a b ≡ true
+below a b lt = grind (arith, lt)
+
+pub room_taken : (values : List ℕ) (order : List Arrival) (n nodes depth longest : ℕ) (nonblock : Bool) (registration : Option Registration) → has_come n order ≡ true → length order ≤ nodes →
+    nodes ≡ depth → has_room (seen depth longest nonblock (messages_of values (without_node n order)) registration) ≡ true
+room_taken values order n nodes depth longest nonblock registration came few same =
+    below (length (messages_of values (without_node n order))) depth (omega (arith, length_messages values (without_node n order), shorter n order came, few, same))

@@ -1,5 +1,5 @@
 // One message queue.
-ghost use Rattle.std.specs.Prelude.{◌≡◌, ◌≤◌, ◌<◌, ◌==◌, [], None, true, not, nat_lt, length, replicate, IfOk};
+ghost use Rattle.std.specs.Prelude.{◌≡◌, ◌≤◌, ◌<◌, ◌==◌, [], None, true, not, nat_lt, length, replicate, IfOk, IfSome};
 ghost use Rattle.machine_rules.specs.Queues.{has_room, registered, with_message};
 ghost use Rattle.message_queues.specs.Queues.{next_value, without_next};
 
@@ -79,6 +79,7 @@ impl MessageQueue {
     pub(crate) fn take(&mut self) -> Option<u64>
         ensures value { result ≡ next_value self.old }
         ensures rest { self.new ≡ without_next self.old }
+        ensures room { IfSome result (λ _. has_room self.new ≡ true) }
     {
         let priority = self.arrivals.highest()?;
         let node = self.arrivals.first(priority).unwrap();

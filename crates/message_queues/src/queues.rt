@@ -1,5 +1,5 @@
 // The queues by their numbers.
-ghost use Rattle.std.specs.Prelude.{◌≡◌, ◌<◌, ◌==◌, true, not, nat_lt, length, IfOk};
+ghost use Rattle.std.specs.Prelude.{◌≡◌, ◌<◌, ◌==◌, true, not, nat_lt, length, IfOk, IfSome};
 ghost use Rattle.machine_rules.specs.Declarations.{queues_of};
 ghost use Rattle.machine_rules.specs.Queues.{has_room, registered, with_message};
 ghost use Rattle.message_queues.specs.Queues.{next_value, queue_in, with_queue, without_next};
@@ -53,12 +53,13 @@ impl Queues {
         self.items[q.get() as usize].put(priority, value);
     }
 
-    /// The value of the next message, the oldest of the greatest priority, which leaves the queue. None exactly where the queue is
-    /// empty, and then nothing changes.
+    /// The value of the next message, the oldest of the greatest priority, which leaves the queue: then there is room for another. None
+    /// exactly where the queue is empty, and then nothing changes.
     pub fn take(&mut self, q: ObjId) -> Option<u64>
         requires { q < length self.old }
         ensures value { result ≡ next_value (queue_in self.old q) }
         ensures rest { self.new ≡ with_queue q without_next self.old }
+        ensures room { IfSome result (λ _. has_room (queue_in self.new q) ≡ true) }
     {
         self.items[q.get() as usize].take()
     }

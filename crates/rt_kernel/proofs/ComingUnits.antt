@@ -20,7 +20,9 @@ use Rattle.machine_leaps.specs.Quiet.{after_ticks}
 use Rattle.machine_flat.specs.KnownCalls.{Objects}
 use Rattle.thread_table.proofs.Statuses.{unit_keeps}
 use Rattle.rt_kernel.specs.Completes.{CanComplete}
-use Rattle.kernel_events.proofs.Coming.{Comes, Fewer, changes_fewer, fewer_come, finishes_come, made_come, moves_if_machine}
+use Rattle.kernel_events.proofs.Coming.Steps.{Comes, Fewer, changes_fewer, fewer_come, moves_if_machine}
+use Rattle.kernel_events.proofs.Coming.Lives.{finishes_come}
+use Rattle.kernel_events.proofs.Coming.Calls.{made_come}
 use Rattle.kernel_state.specs.Kernel.{by}
 
 -- ---- units
@@ -29,7 +31,7 @@ unit_come : (bodies : Bodies Cursor) (o : Objects) (t : ℕ) (u : unit_type.Unit
 unit_come bodies o t (unit.Run k) s can = fewer_come s.machine s.machine s.direct (λ u r. r)
 unit_come bodies o t unit.Jump s can = fewer_come s.machine s.machine s.direct (λ u r. r)
 unit_come bodies o t unit.Finish s can = finishes_come (top_kind (thread_at s.machine t).frames) t s
-unit_come bodies o t (unit.Make c) s can = made_come bodies o (by t c) s can.built
+unit_come bodies o t (unit.Make c) s can = made_come bodies (by t c) s
 
 pub completes_come : (bodies : Bodies Cursor) (o : Objects) (left t : ℕ) (u : unit_type.Unit) (s : Turn Cursor) → CanComplete o (thread_at s.machine t) u → Comes s (completes_at bodies left t u s)
 completes_come bodies o zero t u s can = unit_come bodies o t u s can

@@ -4,7 +4,7 @@ use Rattle.std.specs.Prelude.{slice_index_or}
 use Rattle.std.proofs.lemmas.Bool.Decides.{eqb_tells}
 use Rattle.std.proofs.lemmas.List.{get_or-set_same, get_or-set_other, length-set}
 use Rattle.script_flat.specs.declared.cursor.Cursor.{Cursor}
-use Rattle.machine_rules.specs.State.{SignalRecord, Thread, Waiting, for_signal}
+use Rattle.machine_rules.specs.State.{SignalRecord, Thread, Timer, Waiting, for_signal}
 use Rattle.machine_rules.specs.Threads.{thread_in, waiting_in}
 use Rattle.wait_lists.specs.declared.Place.{Place}
 use Rattle.wait_lists.specs.Places.{best_for}
@@ -39,14 +39,14 @@ waits_there (th ∷ threads) (suc t) w is = let rest = waits_there threads t w i
 awaits : (o : Option Waiting) (w : Waiting) (awaited : ℕ) → o ≡ Some w → w.wait ≡ for_signal awaited → signals_awaited o ≡ awaited
 awaits o w awaited is waits = ap signals_awaited is ∙ ap signals_in waits
 
-pub accepted_by : (threads : List (Thread Cursor)) (chain : Links) (places : List (Option Place)) (sets : List ℕ) (signal : ℕ) (o : Option ℕ) → o ≡ best_for signal sets places →
+pub accepted_by : (timers : List Timer) (threads : List (Thread Cursor)) (chain : Links) (places : List (Option Place)) (sets : List ℕ) (signal : ℕ) (o : Option ℕ) → o ≡ best_for signal sets places →
     AreAwaited threads (length threads) sets → BestsAreAcceptors places → IsTied threads chain places → (r : SignalRecord) → r.signal ≡ signal → r.target ≡ None →
-    o ≡ acceptor_in (record { threads = threads; mutexes = chain.mutexes }) r
-accepted_by threads chain places sets signal o is all law tied r same free =
+    o ≡ acceptor_in (record { threads = threads; mutexes = chain.mutexes; timers = timers }) r
+accepted_by timers threads chain places sets signal o is all law tied r same free =
     is ∙ ap (λ (n : ℕ). best_for n sets places) (sym same)
-    ∙ law (machine_with threads chain.mutexes) r sets free (record { lengths = tied.waiting.lengths; each = tied.waiting.each }) are_sets
+    ∙ law (machine_with threads chain.mutexes timers) r sets free (record { lengths = tied.waiting.lengths; each = tied.waiting.each }) are_sets
   where
-    are_sets : AreSets (machine_with threads chain.mutexes) sets
+    are_sets : AreSets (machine_with threads chain.mutexes timers) sets
     are_sets t w awaited found waits = all.each t (waits_there threads t w found) ∙ awaits (waiting_in (thread_in threads t).status) w awaited found waits
 
 -- there is room for each thread

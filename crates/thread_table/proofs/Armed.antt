@@ -8,7 +8,7 @@ use Rattle.sporadic_server.specs.declared.Replenish.{Replenish}
 use Rattle.sporadic_server.specs.Server.{ServerState, activate, charge_ticks, is_high, next_due, set_high}
 use Rattle.machine_leaps.specs.Quiet.{server_after}
 use Rattle.machine_rules.specs.Lists.{changed_at}
-use Rattle.machine_rules.specs.State.{Thread}
+use Rattle.machine_rules.specs.State.{Thread, Timer}
 use Rattle.machine_rules.specs.Threads.{no_thread, thread_in}
 use Rattle.machine_rules.proofs.Reading.{changed-keeps}
 use Rattle.timer_wheel.specs.Dues.{due_of}
@@ -60,9 +60,10 @@ module _ (dues : List (Option ℕ)) (t u : ℕ) (a b c : Option ℕ) (long : len
   third_long = length-set second (512 + t) c ∙ length-set first (256 + t) b ∙ length-set dues t a ∙ long
 
 -- other threads, of which one alone may have changed
-pub armed_anew : (threads new : List (Thread Cursor)) (dues : List (Option ℕ)) (t : ℕ) (th : Thread Cursor) → t < 256 → thread_in new t ≡ th →
-    ((u : ℕ) → u ≢ t → thread_in new u ≡ thread_in threads u) → AreArmed threads dues → AreArmed new (timed t th dues)
-armed_anew threads new dues t th small is others h = record {
+pub armed_anew : (threads new : List (Thread Cursor)) (timers : List Timer) (dues : List (Option ℕ)) (t : ℕ) (th : Thread Cursor) → t < 256 → thread_in new t ≡ th →
+    ((u : ℕ) → u ≢ t → thread_in new u ≡ thread_in threads u) → AreArmed threads timers dues → AreArmed new timers (timed t th dues)
+armed_anew threads new timers dues t th small is others h = record {
+  few_timers = h.few_timers;
   numbers = third_long dues t 0 (refill_of th) (start_of th) (timeout_of th) h.numbers small (omega arith);
   refills = λ u lt. refill_at dues t u (refill_of th) (start_of th) (timeout_of th) h.numbers small lt (refill_of (thread_in new u))
       (λ e. sym (ap (λ (v : ℕ). refill_of (thread_in new v)) e ∙ ap refill_of is)) (λ other. h.refills u lt ∙ ap refill_of (sym (others u other)));
@@ -70,40 +71,42 @@ armed_anew threads new dues t th small is others h = record {
       (λ e. sym (ap (λ (v : ℕ). start_of (thread_in new v)) e ∙ ap start_of is)) (λ other. h.starts u lt ∙ ap start_of (sym (others u other)));
   timeouts = λ u lt. timeout_at dues t u (refill_of th) (start_of th) (timeout_of th) h.numbers small lt (timeout_of (thread_in new u))
       (λ e. sym (ap (λ (v : ℕ). timeout_of (thread_in new v)) e ∙ ap timeout_of is)) (λ other. h.timeouts u lt ∙ ap timeout_of (sym (others u other)));
-  timers = λ k lt. timer_at dues t k (refill_of th) (start_of th) (timeout_of th) h.numbers small lt ∙ h.timers k lt;
+  expiries = λ k lt. timer_at dues t k (refill_of th) (start_of th) (timeout_of th) h.numbers small lt ∙ h.expiries k lt;
 }
 
 -- a thread that changes, and whose items are armed anew
-pub armed_after : (threads : List (Thread Cursor)) (dues new : List (Option ℕ)) (t : ℕ) (th : Thread Cursor) → length threads ≤ 64 → t < length threads →
-    new ≡ timed t (thread_in (slice_set threads t th) t) dues → AreArmed threads dues → AreArmed (slice_set threads t th) new
-armed_after threads dues new t th few known is h =
-    rw is (armed_anew threads (slice_set threads t th) dues t (thread_in (slice_set threads t th) t) (omega (arith, few, known)) refl
+pub armed_after : (threads : List (Thread Cursor)) (timers : List Timer) (dues new : List (Option ℕ)) (t : ℕ) (th : Thread Cursor) → length threads ≤ 64 → t < length threads →
+    new ≡ timed t (thread_in (slice_set threads t th) t) dues → AreArmed threads timers dues → AreArmed (slice_set threads t th) timers new
+armed_after threads timers dues new t th few known is h =
+    rw is (armed_anew threads (slice_set threads t th) timers dues t (thread_in (slice_set threads t th) t) (omega (arith, few, known)) refl
     (λ u other. get_or-set_other threads t u th no_thread other) h)
 
 -- a thread that changes in nothing that falls due
-pub still_armed : (threads : List (Thread Cursor)) (dues : List (Option ℕ)) (t : ℕ) (f : Thread Cursor → Thread Cursor) →
+pub still_armed : (threads : List (Thread Cursor)) (timers : List Timer) (dues : List (Option ℕ)) (t : ℕ) (f : Thread Cursor → Thread Cursor) →
     ((th : Thread Cursor) → refill_of (f th) ≡ refill_of th) → ((th : Thread Cursor) → start_of (f th) ≡ start_of th) → ((th : Thread Cursor) → timeout_of (f th) ≡ timeout_of th) →
-    AreArmed threads dues → AreArmed (changed_at no_thread t f threads) dues
-still_armed threads dues t f refill start timeout h = record {
+    AreArmed threads timers dues → AreArmed (changed_at no_thread t f threads) timers dues
+still_armed threads timers dues t f refill start timeout h = record {
+  few_timers = h.few_timers;
   numbers = h.numbers;
   refills = λ u lt. h.refills u lt ∙ sym (changed-keeps no_thread t u f refill_of refill threads);
   starts = λ u lt. h.starts u lt ∙ sym (changed-keeps no_thread t u f start_of start threads);
   timeouts = λ u lt. h.timeouts u lt ∙ sym (changed-keeps no_thread t u f timeout_of timeout threads);
-  timers = h.timers;
+  expiries = h.expiries;
 }
 
--- ---- before any thread is in the wheel
+-- ---- before anything is in the wheel
 
 none_in : (i n : ℕ) → i < n → due_of i (replicate n None) ≡ None
 none_in i n lt = get_or-replicate n i None None lt
 
-pub none_armed : AreArmed [] (replicate 1024 None)
+pub none_armed : AreArmed [] [] (replicate 1024 None)
 none_armed = record {
+  few_timers = omega arith;
   numbers = length-replicate {A = Option ℕ} 1024 None;
   refills = λ t lt. none_in t 1024 (omega (arith, lt));
   starts = λ t lt. none_in (256 + t) 1024 (omega (arith, lt));
   timeouts = λ t lt. none_in (512 + t) 1024 (omega (arith, lt));
-  timers = λ k lt. none_in (768 + k) 1024 (omega (arith, lt));
+  expiries = λ k lt. none_in (768 + k) 1024 (omega (arith, lt));
 }
 
 -- ---- one thread more
@@ -121,11 +124,11 @@ take_there (th ∷ ths) zero (suc u) other = refl
 take_there (th ∷ ths) (suc n) zero other = let one : suc n + 1 ≡ suc (n + 1) = omega arith in rw one refl
 take_there (th ∷ ths) (suc n) (suc u) other = let one : suc n + 1 ≡ suc (n + 1) = omega arith in rw one (take_there ths n u (λ e. other (ap suc e)))
 
-pub one_armed : (ths : List (Thread Cursor)) (dues new : List (Option ℕ)) (n : ℕ) → length ths ≤ 64 → n < length ths → new ≡ timed n (thread_in ths n) dues → AreArmed (take n ths) dues →
-    AreArmed (take (n + 1) ths) new
-one_armed ths dues new n few lt is h = rw is (armed_anew (take n ths) (take (n + 1) ths) dues n (thread_in ths n) (omega (arith, few, lt)) (take_here ths n lt) (λ u other. take_there ths n u other) h)
+pub one_armed : (ths : List (Thread Cursor)) (dues new : List (Option ℕ)) (n : ℕ) → length ths ≤ 64 → n < length ths → new ≡ timed n (thread_in ths n) dues → AreArmed (take n ths) [] dues →
+    AreArmed (take (n + 1) ths) [] new
+one_armed ths dues new n few lt is h = rw is (armed_anew (take n ths) (take (n + 1) ths) [] dues n (thread_in ths n) (omega (arith, few, lt)) (take_here ths n lt) (λ u other. take_there ths n u other) h)
 
-pub all_armed : (ths : List (Thread Cursor)) (dues : List (Option ℕ)) (n : ℕ) → length ths ≤ n → AreArmed (take n ths) dues → AreArmed ths dues
+pub all_armed : (ths : List (Thread Cursor)) (dues : List (Option ℕ)) (n : ℕ) → length ths ≤ n → AreArmed (take n ths) [] dues → AreArmed ths [] dues
 all_armed ths dues n le h = rw (take_all n ths le) at h
 
 -- ---- what servers keep

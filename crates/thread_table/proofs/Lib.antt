@@ -6,5 +6,7 @@ pub mod Served
 pub mod Opening
 pub mod Movers
 pub mod Armed
+pub mod Expiring
 pub mod Coming
+pub mod Least
 pub mod Accepting

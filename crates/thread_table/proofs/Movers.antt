@@ -5,7 +5,7 @@ use Rattle.std.proofs.lemmas.List.{length-map}
 use Rattle.script_flat.specs.declared.cursor.Cursor.{Cursor}
 use Rattle.machine_rules.specs.Lists.{changed_at, is}
 use Rattle.machine_rules.specs.Priorities.{Claim, claim_of, claims, exec_in}
-use Rattle.machine_rules.specs.State.{Thread, Waiting}
+use Rattle.machine_rules.specs.State.{Thread, Timer, Waiting}
 use Rattle.machine_rules.specs.Threads.{no_thread, thread_in, waiting_in}
 use Rattle.machine_rules.proofs.Reading.{changed-map}
 use Rattle.wait_lists.specs.declared.Place.{Place}
@@ -39,17 +39,17 @@ awaits_no_object : (e : ℕ) (w : Option Waiting) → place_of e w ≡ None → 
 awaits_no_object e None none = refl
 awaits_no_object e (Some w) none = no_object e w.serial (object_of w.wait) none
 
--- the threads and the mutexes of a chain
-abbrev pub table_with : List (Thread Cursor) → Links → Table
-table_with threads chain = record { threads = threads; mutexes = chain.mutexes }
+-- the threads and the mutexes of a chain, and the timers
+abbrev pub table_with : List Timer → List (Thread Cursor) → Links → Table
+table_with timers threads chain = record { threads = threads; mutexes = chain.mutexes; timers = timers }
 
-free_nowhere : (threads : List (Thread Cursor)) (chain : Links) (places : List (Option Place)) (u : ℕ) → IsTied threads chain places → IsFree (table_with threads chain) u → place_in places u ≡ None
-free_nowhere threads chain places u tied free =
+free_nowhere : (timers : List Timer) (threads : List (Thread Cursor)) (chain : Links) (places : List (Option Place)) (u : ℕ) → IsTied threads chain places → IsFree (table_with timers threads chain) u → place_in places u ≡ None
+free_nowhere timers threads chain places u tied free =
     tied.waiting.each u free.known ∙ has_no_place (exec_in (claims threads) chain.mutexes u) (waiting_in (thread_in threads u).status) free.nowhere
 
-nowhere_free : (threads : List (Thread Cursor)) (chain : Links) (places : List (Option Place)) (u : ℕ) → IsTied threads chain places → u < length threads → place_in places u ≡ None →
-    IsFree (table_with threads chain) u
-nowhere_free threads chain places u tied lt none = record {
+nowhere_free : (timers : List Timer) (threads : List (Thread Cursor)) (chain : Links) (places : List (Option Place)) (u : ℕ) → IsTied threads chain places → u < length threads → place_in places u ≡ None →
+    IsFree (table_with timers threads chain) u
+nowhere_free timers threads chain places u tied lt none = record {
   known = lt;
   nowhere = awaits_no_object (exec_in (claims threads) chain.mutexes u) (waiting_in (thread_in threads u).status) (sym (tied.waiting.each u lt) ∙ none);
 }
@@ -59,26 +59,26 @@ claims_long threads chain places tied = ap length tied.claims ∙ length-map thr
 
 -- ---- one walk
 
-pub told : (threads new_threads : List (Thread Cursor)) (chain new : Links) (places after : List (Option Place)) (r : Option Moved) → length new_threads ≡ length threads →
+pub told : (timers : List Timer) (threads new_threads : List (Thread Cursor)) (chain new : Links) (places after : List (Option Place)) (r : Option Moved) → length new_threads ≡ length threads →
     IsTied threads chain places → IsTied new_threads new after → ChainTells (length chain.claims) (exec_of chain) (exec_of new) after r →
-    TellsMoved (table_with threads chain) (table_with new_threads new) (option_map (λ (m : Moved). m.thread) r)
-told threads new_threads chain new places after None long tied new_tied h = λ u free.
+    TellsMoved (table_with timers threads chain) (table_with timers new_threads new) (option_map (λ (m : Moved). m.thread) r)
+told timers threads new_threads chain new places after None long tied new_tied h = λ u free.
     sym (exec_kept new_threads new after u new_tied)
-    ∙ h u (let all = claims_long threads chain places tied in let lt = free.known in omega (arith, all, long, lt)) (free_nowhere new_threads new after u new_tied free)
+    ∙ h u (let all = claims_long threads chain places tied in let lt = free.known in omega (arith, all, long, lt)) (free_nowhere timers new_threads new after u new_tied free)
     ∙ exec_kept threads chain places u tied
-told threads new_threads chain new places after (Some m) long tied new_tied h =
+told timers threads new_threads chain new places after (Some m) long tied new_tied h =
     let all = claims_long threads chain places tied in
     record {
-      free = nowhere_free new_threads new after m.thread new_tied (omega (arith, all, long, h.known)) h.nowhere;
+      free = nowhere_free timers new_threads new after m.thread new_tied (omega (arith, all, long, h.known)) h.nowhere;
       changed = λ e. h.changed (h.before ∙ exec_kept threads chain places m.thread tied ∙ sym e ∙ sym (exec_kept new_threads new after m.thread new_tied) ∙ sym h.after);
       others = λ u free other. sym (exec_kept new_threads new after u new_tied)
-          ∙ h.others u (let lt = free.known in omega (arith, all, long, lt)) (free_nowhere new_threads new after u new_tied free) other
+          ∙ h.others u (let lt = free.known in omega (arith, all, long, lt)) (free_nowhere timers new_threads new after u new_tied free) other
           ∙ exec_kept threads chain places u tied;
     }
 
 -- ---- two walks, of which the second changes one thread alone
 
-module _ (threads new_threads : List (Thread Cursor)) (chain mid new : Links) (places between after : List (Option Place)) (t : ℕ)
+module _ (timers : List Timer) (threads new_threads : List (Thread Cursor)) (chain mid new : Links) (places between after : List (Option Place)) (t : ℕ)
     (long : length new_threads ≡ length threads) (same_long : length mid.claims ≡ length chain.claims)
     (tied : IsTied threads chain places) (new_tied : IsTied new_threads new after) (same : SamePlaces between after) where
   stays : (s : Option Moved) → ChainTells (length mid.claims) (exec_of mid) (exec_of new) after s → IfSome s (λ (m : Moved). m.thread ≡ t) →
@@ -88,11 +88,11 @@ module _ (threads new_threads : List (Thread Cursor)) (chain mid new : Links) (p
 
   pub told_beside : (r s : Option Moved) → ChainTells (length chain.claims) (exec_of chain) (exec_of mid) between r →
       ChainTells (length mid.claims) (exec_of mid) (exec_of new) after s → IfSome s (λ (m : Moved). m.thread ≡ t) →
-      TellsMovedBeside t (table_with threads chain) (table_with new_threads new) (beside t (option_map (λ (m : Moved). m.thread) r))
+      TellsMovedBeside t (table_with timers threads chain) (table_with timers new_threads new) (beside t (option_map (λ (m : Moved). m.thread) r))
   told_beside None s first second alone = λ u free other.
       let all = claims_long threads chain places tied in
       let lt : u < length chain.claims = (let known = free.known in omega (arith, all, long, known)) in
-      let none = free_nowhere new_threads new after u new_tied free in
+      let none = free_nowhere timers new_threads new after u new_tied free in
       sym (exec_kept new_threads new after u new_tied) ∙ stays s second alone u (omega (arith, lt, same_long)) none other
       ∙ first u lt (bare_none (place_in between u) (sym (same.each u) ∙ ap (option_map unpriced) none)) ∙ exec_kept threads chain places u tied
   told_beside (Some m) s first second alone = by_test (m.thread == t) refl
@@ -103,21 +103,21 @@ module _ (threads new_threads : List (Thread Cursor)) (chain mid new : Links) (p
       back : (u : ℕ) → place_in after u ≡ None → place_in between u ≡ None
       back u none = bare_none (place_in between u) (sym (same.each u) ∙ ap (option_map unpriced) none)
 
-      kept : (u : ℕ) → IsFree (table_with new_threads new) u → u ≢ t → u ≢ m.thread → exec (table_with new_threads new) u ≡ exec (table_with threads chain) u
+      kept : (u : ℕ) → IsFree (table_with timers new_threads new) u → u ≢ t → u ≢ m.thread → exec (table_with timers new_threads new) u ≡ exec (table_with timers threads chain) u
       kept u free other apart =
           let lt : u < length chain.claims = (let known = free.known in omega (arith, all, long, known)) in
-          let none = free_nowhere new_threads new after u new_tied free in
+          let none = free_nowhere timers new_threads new after u new_tied free in
           sym (exec_kept new_threads new after u new_tied) ∙ stays s second alone u (omega (arith, lt, same_long)) none other
           ∙ first.others u lt (back u none) apart ∙ exec_kept threads chain places u tied
 
-      by_test : (b : Bool) → (m.thread == t) ≡ b → TellsMovedBeside t (table_with threads chain) (table_with new_threads new) (if b then None else Some m.thread)
+      by_test : (b : Bool) → (m.thread == t) ≡ b → TellsMovedBeside t (table_with timers threads chain) (table_with timers new_threads new) (if b then None else Some m.thread)
       by_test true e = let it : m.thread ≡ t = grind arith in λ u free other. kept u free other (λ h. other (h ∙ it))
       by_test false e =
           let apart : m.thread ≢ t = grind arith in
           let none : place_in after m.thread ≡ None = bare_none (place_in after m.thread) (same.each m.thread ∙ ap (option_map unpriced) first.nowhere) in
           record {
             other = apart;
-            free = nowhere_free new_threads new after m.thread new_tied (let lt = first.known in omega (arith, all, long, lt)) none;
+            free = nowhere_free timers new_threads new after m.thread new_tied (let lt = first.known in omega (arith, all, long, lt)) none;
             changed = λ h. first.changed (first.before ∙ exec_kept threads chain places m.thread tied ∙ sym h ∙ sym (exec_kept new_threads new after m.thread new_tied)
                 ∙ stays s second alone m.thread (let lt = first.known in omega (arith, lt, same_long)) none apart ∙ sym first.after);
             others = λ u free other far. kept u free other far;

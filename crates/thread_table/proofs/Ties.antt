@@ -1,5 +1,5 @@
 -- The ties of a table stay where a thread changes in nothing that they go by.
-use Rattle.std.proofs.Common.{◌≡◌, ◌∙◌, ℕ, List, None, Option, ap, arith, subst, sym}
+use Rattle.std.proofs.Common.{◌≡◌, ◌∙◌, ℕ, List, [], None, Option, ap, arith, subst, sym}
 use Rattle.script_flat.specs.declared.cursor.Cursor.{Cursor}
 use Rattle.machine_rules.specs.Lists.{changed_at}
 use Rattle.machine_rules.specs.Priorities.{Claim, claim_of, claims, exec_in, mutex_awaited_by}
@@ -40,7 +40,7 @@ still_tied threads chain places t f same_claim same_wait tied =
 pub placed : (threads : List (Thread Cursor)) (chain : Links) (places : List (Option Place)) → IsTied threads chain places → IsPlaced chain places
 placed threads chain places tied =
     subst (λ (cs : List Claim). IsPlaced (links_of cs chain.mutexes) places) (sym tied.claims)
-    (waits_placed (machine_with threads chain.mutexes) places (record { lengths = tied.waiting.lengths; each = tied.waiting.each }))
+    (waits_placed (machine_with threads chain.mutexes []) places (record { lengths = tied.waiting.lengths; each = tied.waiting.each }))
 
 awaited_claim : (threads : List (Thread Cursor)) (t : ℕ) → awaited_in (claims threads) t ≡ mutex_awaited_by (thread_in threads t)
 awaited_claim threads t = awaited_is threads t

@@ -19,4 +19,4 @@ pub record AreAwaited (threads : List (Thread Cursor)) (n : ℕ) (sets : List �
 
 -- the thread that accepts a record as it is generated
 abbrev pub acceptor_in : Table → SignalRecord → Option ℕ
-acceptor_in table r = option_map (λ (w : Waiter). w.thread) (acceptor (machine_with table.threads table.mutexes) r)
+acceptor_in table r = option_map (λ (w : Waiter). w.thread) (acceptor (machine_with table.threads table.mutexes table.timers) r)

@@ -1,23 +1,27 @@
--- The threads of a kernel with the mutexes, and what a thread may begin to wait for.
+-- The threads of a kernel with the mutexes and the timers, and what a thread may begin to wait for.
 use Rattle.std.specs.Prelude.{◌≡◌, ◌<◌, ℕ, Bool, IsSome, List, [], None, Option, Some, false, length, option_map}
 use Rattle.script_flat.specs.declared.cursor.Cursor.{Cursor}
 use Rattle.machine_rules.specs.declared.dispatch.LastDispatch.TheVariants as last
 use Rattle.machine_rules.specs.Lists.{changed_at}
 use Rattle.machine_rules.specs.Priorities.{claims, exec_in}
-use Rattle.machine_rules.specs.State.{Machine, Mutex, Thread, Wait}
-use Rattle.machine_rules.specs.Threads.{mutex_in, no_mutex, no_thread, thread_in}
+use Rattle.machine_rules.specs.State.{Machine, Mutex, Thread, Timer, Wait}
+use Rattle.machine_rules.specs.Threads.{mutex_in, no_mutex, no_thread, no_timer, thread_in}
 use Rattle.machine_rules.specs.Waiters.{Waiter, best_waiter}
 use Rattle.inherit_chain.specs.Chains.{closes_cycle_in}
 
 pub record Table : Type 0 where
   pub threads : List (Thread Cursor)
   pub mutexes : List Mutex
+  pub timers : List Timer
 
 abbrev pub with_thread : ℕ → (Thread Cursor → Thread Cursor) → Table → Table
 with_thread t change table = record table { threads = changed_at no_thread t change table.threads }
 
 abbrev pub with_mutex : ℕ → (Mutex → Mutex) → Table → Table
 with_mutex k change table = record table { mutexes = changed_at no_mutex k change table.mutexes }
+
+abbrev pub with_timer : ℕ → (Timer → Timer) → Table → Table
+with_timer k change table = record table { timers = changed_at no_timer k change table.timers }
 
 abbrev pub thread_at : Table → ℕ → Thread Cursor
 thread_at table t = thread_in table.threads t
@@ -36,9 +40,9 @@ CanAwait table t (Some k) = (k < length table.mutexes) × IsSome (mutex_at table
 
 -- ---- the machine of a table
 
--- a machine with these threads and mutexes, and nothing else
-abbrev pub machine_with : List (Thread Cursor) → List Mutex → Machine Cursor
-machine_with threads mutexes = record {
+-- a machine with these threads, mutexes and timers, and nothing else
+abbrev pub machine_with : List (Thread Cursor) → List Mutex → List Timer → Machine Cursor
+machine_with threads mutexes timers = record {
   now = 0;
   last = last.NoTick;
   next_serial = 0;
@@ -49,15 +53,15 @@ machine_with threads mutexes = record {
   mutexes = mutexes;
   semaphores = [];
   queues = [];
-  timers = [];
+  timers = timers;
   actions = [];
   pending = [];
 }
 
 -- the same at an instant
 abbrev pub machine_at : ℕ → Table → Machine Cursor
-machine_at now table = record (machine_with table.threads table.mutexes) { now = now }
+machine_at now table = record (machine_with table.threads table.mutexes table.timers) { now = now }
 
 -- the thread that is served first of those whose waits pass
 abbrev pub best_in : Table → (Wait → Bool) → Option ℕ
-best_in table passes = option_map (λ (w : Waiter). w.thread) (best_waiter (machine_with table.threads table.mutexes) passes)
+best_in table passes = option_map (λ (w : Waiter). w.thread) (best_waiter (machine_with table.threads table.mutexes table.timers) passes)

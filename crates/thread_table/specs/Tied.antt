@@ -1,14 +1,15 @@
 -- What holds of the threads and of what is kept beside them: the chain has their claims, each of them that waits stands among the waiters
--- of its object at its execution priority, and the wheel has what falls due of them.
+-- of its object at its execution priority, and the wheel has what falls due of them and of the timers.
 use Rattle.std.specs.Prelude.{◌≡◌, ◌<◌, ◌≤◌, ◌+◌, ℕ, List, None, Option, length, slice_set}
 use Rattle.script_flat.specs.declared.cursor.Cursor.{Cursor}
 use Rattle.machine_rules.specs.Priorities.{claims, exec_in}
-use Rattle.machine_rules.specs.State.{Mutex, Thread}
+use Rattle.machine_rules.specs.State.{Mutex, Thread, Timer}
 use Rattle.machine_rules.specs.Threads.{thread_in, waiting_in}
 use Rattle.wait_lists.specs.declared.Place.{Place}
 use Rattle.wait_lists.specs.Places.{place_in}
 use Rattle.wait_lists.specs.Ties.{place_of}
 use Rattle.inherit_chain.specs.Chains.{Links}
+use Rattle.interval_timers.specs.Timers.{timer_in}
 use Rattle.timer_wheel.specs.Dues.{due_of}
 use Rattle.thread_table.specs.Times.{refill_of, start_of, timeout_of}
 
@@ -21,14 +22,19 @@ pub record IsTied (threads : List (Thread Cursor)) (chain : Links) (places : Lis
   pub claims : chain.claims ≡ claims threads
   pub waiting : AreWaiting threads chain.mutexes places
 
--- by the numbers of the items: refills, starts and timeouts of the threads, and no expiry of a timer
-pub record AreArmed (threads : List (Thread Cursor)) (dues : List (Option ℕ)) : Type 0 where
+-- by the numbers of the items: refills, starts and timeouts of the threads, and the expiries of the timers, which are at most 32
+pub record AreArmed (threads : List (Thread Cursor)) (timers : List Timer) (dues : List (Option ℕ)) : Type 0 where
+  pub few_timers : length timers ≤ 32
   pub numbers : length dues ≡ 1024
   pub refills : (t : ℕ) → t < 256 → due_of t dues ≡ refill_of (thread_in threads t)
   pub starts : (t : ℕ) → t < 256 → due_of (256 + t) dues ≡ start_of (thread_in threads t)
   pub timeouts : (t : ℕ) → t < 256 → due_of (512 + t) dues ≡ timeout_of (thread_in threads t)
-  pub timers : (k : ℕ) → k < 256 → due_of (768 + k) dues ≡ None
+  pub expiries : (k : ℕ) → k < 256 → due_of (768 + k) dues ≡ (timer_in timers k).due
 
 -- the items of one thread are armed anew
 abbrev pub timed : ℕ → Thread Cursor → List (Option ℕ) → List (Option ℕ)
 timed t th dues = slice_set (slice_set (slice_set dues t (refill_of th)) (256 + t) (start_of th)) (512 + t) (timeout_of th)
+
+-- the expiry of one timer is armed anew
+abbrev pub expiring : ℕ → Timer → List (Option ℕ) → List (Option ℕ)
+expiring k timer dues = slice_set dues (768 + k) timer.due

@@ -1,7 +1,7 @@
-//! The threads of a kernel with what is kept beside them: execution priorities, owners of mutexes, the waiters of each object, and what
-//! falls due of the threads.
+//! The threads of a kernel with what is kept beside them: execution priorities, owners of mutexes, the waiters of each object, and the
+//! interval timers, with what falls due of threads and timers.
 //!
-//! Contracts see the threads and the mutexes of the machine, and nothing of what is kept beside them.
+//! Contracts see the threads, the mutexes and the timers of the machine, and nothing of what is kept beside them.
 #![tactic(auto)]
 
 mod changes;
@@ -13,6 +13,7 @@ mod open;
 mod reads;
 mod signals;
 mod table;
+mod timers;
 mod times;
 
 pub use table::Table;

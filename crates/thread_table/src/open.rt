@@ -1,6 +1,6 @@
-// The threads and mutexes of a script, before anything has happened.
+// The threads, mutexes and timers of a script, before anything has happened.
 ghost use Rattle.std.specs.Prelude.{◌≡◌, ◌≤◌, ◌<◌, ◌+◌, ◌++◌, None, IfOk, length, map, option_to_list, replicate};
-ghost use Rattle.machine_rules.specs.Declarations.{mutex_kind, mutexes_of, named, threads_of};
+ghost use Rattle.machine_rules.specs.Declarations.{mutex_kind, mutexes_of, named, threads_of, timers_of};
 ghost use Rattle.machine_rules.specs.Runs.{thread_opened};
 ghost use Rattle.machine_rules.specs.Threads.{mutex_in};
 ghost use Rattle.inherit_chain.specs.Fresh.{fresh, free_mutex};
@@ -11,6 +11,7 @@ use crate::links::reassign;
 use crate::table::Table;
 use crate::times::time_all;
 use inherit_chain::{Chain, MutexKind};
+use interval_timers::Timers;
 use script_tree::{Decl, Kind, Script};
 use std::alloc::{AllocError, Global};
 use thread_blocks::Threads;
@@ -73,22 +74,25 @@ fn assign_all(threads: &Threads, chain: &mut Chain, waits: &mut Waits)
 }
 
 impl Table {
-    /// The dormant threads and the free mutexes of a script.
+    /// The dormant threads, the free mutexes and the disarmed timers of a script.
     pub fn open(alloc: Global, script: &Script) -> Result<Table, AllocError>
-        requires { length (threads_of script.now) ≤ 64 }
-        ensures { IfOk result (λ t. t ≡ record { threads = map thread_opened (threads_of script.now); mutexes = mutexes_of script.now }) }
+        requires threads { length (threads_of script.now) ≤ 64 }
+        requires timers { length (timers_of script.now) ≤ 32 }
+        ensures { IfOk result (λ t. t ≡ record { threads = map thread_opened (threads_of script.now); mutexes = mutexes_of script.now; timers = timers_of script.now }) }
     {
         let threads = Threads::open(alloc, script)?;
         let kinds = mutex_kinds(alloc, script)?;
         let mut chain = Chain::open(alloc, threads.count(), kinds.as_slice())?;
         let mut waits = Waits::open(alloc, threads.count())?;
         assign_all(&threads, &mut chain, &mut waits);
+        let timers = Timers::open(alloc, script)?;
         let mut wheel = Wheel::open(alloc, 1024)?;
         time_all(&threads, &mut wheel);
         Ok(Table {
             threads,
             chain,
             waits,
+            timers,
             wheel,
         })
     }

@@ -1,18 +1,20 @@
-// The threads, the chain of their claims, their places as waiters, and the wheel of what falls due of them.
+// The threads, the chain of their claims, their places as waiters, the timers, and the wheel of what falls due of threads and timers.
 ghost use Rattle.std.specs.Prelude.{◌≡◌, ◌<◌, ◌≤◌, length};
 
 use inherit_chain::Chain;
+use interval_timers::Timers;
 use std::marker::Model;
 use thread_blocks::Threads;
 use timer_wheel::Wheel;
 use wait_lists::Waits;
 
-/// The threads with their mutexes, priorities and waits.
+/// The threads with their mutexes, priorities and waits, and the interval timers.
 #[derive(Drop)]
 pub struct Table {
     pub(crate) threads: Threads,
     pub(crate) chain: Chain,
     pub(crate) waits: Waits,
+    pub(crate) timers: Timers,
     pub(crate) wheel: Wheel,
 }
 

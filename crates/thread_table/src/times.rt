@@ -35,11 +35,11 @@ pub(crate) fn retime(threads: &Threads, wheel: &mut Wheel, t: Tid)
     wheel.set_due(Item::Timeout(t).number(), thread.wait_due());
 }
 
-/// The items of all threads are armed, of which none was.
+/// The items of all threads are armed, where nothing was.
 pub(crate) fn time_all(threads: &Threads, wheel: &mut Wheel)
     requires few { length threads.now ≤ 64 }
-    requires first { AreArmed [] wheel.old.dues }
-    ensures { AreArmed threads.now wheel.new.dues }
+    requires first { AreArmed [] [] wheel.old.dues }
+    ensures { AreArmed threads.now [] wheel.new.dues }
 {
     for number in 0..threads.count() {
         retime(threads, wheel, tid_of(number));
@@ -60,7 +60,7 @@ impl Table {
 
     /// The least tick at which something falls due; `None` exactly where nothing does, or only after the last instant.
     pub fn next_due(&self) -> Option<Tick>
-        ensures { result ≡ in_time (least_due (agenda (machine_with self.now.threads self.now.mutexes))) }
+        ensures { result ≡ in_time (least_due (agenda (machine_with self.now.threads self.now.mutexes self.now.timers))) }
     {
         let next = self.wheel.next()?;
         let _ = next.get();

@@ -9,6 +9,8 @@ mod commands;
 #[cfg(test)]
 mod conditions;
 #[cfg(test)]
+mod failures;
+#[cfg(test)]
 mod generated;
 #[cfg(test)]
 mod lives;

@@ -6,7 +6,7 @@ use Rattle.machine_flat.specs.FlatBodies.{flat_bodies}
 use Rattle.kernel_state.specs.Kernel.{Kernel, turn}
 use Rattle.kernel_state.specs.Settled.{HavePriorities}
 use Rattle.kernel_state.specs.Stood.{StoodRight}
-use Rattle.kernel_events.proofs.Coming.{handles_come}
+use Rattle.kernel_events.proofs.Coming.Items.{handles_come}
 use Rattle.kernel_state.proofs.SettleIs.{settles_after}
 use Rattle.kernel_state.proofs.StoodAgain.{stood_again}
 use Rattle.kernel_events.proofs.items.settle_item.Goals as goal
@@ -23,5 +23,5 @@ returns-clause-stood g c =
     let bodies = flat_bodies p.code in
     let s = handles bodies c.args.i (turn p) in
     let fits = subst (λ (k : Kernel). HavePriorities k.machine) c.handle.ensures.state c.settle.ensures.fits in
-    let again = stood_again p.machine s.machine s.direct c.requires.stood (ap (λ (x : Kept). x.lists) (handles_kept bodies c.args.i (turn p))) fits (handles_come bodies _ c.args.i (turn p) c.requires.known c.requires.fits.waits.built) in
+    let again = stood_again p.machine s.machine s.direct c.requires.stood (ap (λ (x : Kept). x.lists) (handles_kept bodies c.args.i (turn p))) fits (handles_come bodies c.args.i (turn p)) in
     subst (λ (k : Kernel). StoodRight k.machine) (sym (returns-clause-state g c)) again

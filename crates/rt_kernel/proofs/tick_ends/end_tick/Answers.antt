@@ -6,7 +6,7 @@ use Rattle.machine_rules.proofs.Kept.{Kept}
 use Rattle.kernel_state.specs.Kernel.{Kernel, turn}
 use Rattle.kernel_state.specs.Settled.{HavePriorities}
 use Rattle.kernel_state.specs.Stood.{StoodRight}
-use Rattle.kernel_events.proofs.Coming.{fewer_come}
+use Rattle.kernel_events.proofs.Coming.Steps.{fewer_come}
 use Rattle.rt_kernel.proofs.ComingUnits.{ends_tick_fewer}
 use Rattle.kernel_state.proofs.SettleIs.{settles_after}
 use Rattle.kernel_state.proofs.StoodAgain.{stood_again}

@@ -4,7 +4,7 @@ use Rattle.rt_kernel.specs.Completes.{CanComplete}
 use Rattle.kernel_state.specs.Settled.{HavePriorities}
 use Rattle.kernel_state.specs.Stood.{StoodRight}
 use Rattle.kernel_events.specs.Built.{objects_in}
-use Rattle.kernel_events.proofs.Coming.{come_later}
+use Rattle.kernel_events.proofs.Coming.Steps.{come_later}
 use Rattle.rt_kernel.proofs.ComingUnits.{charge_same, completes_come}
 use Rattle.kernel_state.proofs.StoodAgain.{stood_again}
 use Rattle.script_flat.specs.declared.cursor.Cursor.{Cursor}

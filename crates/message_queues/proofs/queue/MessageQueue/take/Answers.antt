@@ -1,8 +1,9 @@
-use Rattle.std.specs.Prelude.{IsSome, Option}
+use Rattle.std.specs.Prelude.{IsSome, Option, true}
 use Rattle.std.proofs.Common.{◌≡◌, ℕ, Some, None, subst, sym, ap, ◌∙◌, arith}
 use Rattle.ranked_arrivals.specs.Arrivals.{Arrivals, first_of_rank, highest_rank}
+use Rattle.machine_rules.specs.Queues.{has_room}
 use Rattle.message_queues.specs.Messages.{messages_of}
-use Rattle.message_queues.proofs.Choice.{come_below, has_first, next_chosen, no_rest, no_value, read_value, rest_taken, seen, value_taken}
+use Rattle.message_queues.proofs.Choice.{come_below, has_first, next_chosen, no_rest, no_value, read_value, rest_taken, room_taken, seen, value_taken}
 use Rattle.message_queues.proofs.queue.MessageQueue.take.Goals as goal
 
 pub returns-in_err-priority-clause-value : goal.returns-in_err-priority-clause-value
@@ -53,3 +54,12 @@ returns-clause-rest c =
     let next = next_chosen q.values.items q.arrivals.order p n top first c.first.ensures.arrivals.distinct in
     let order = ap (λ (a : Arrivals). seen q.depth q.longest q.is_nonblock (messages_of q.values.items a.order) q.registration) c.leave.ensures in
     rw (← c.self.view_is) (order ∙ rest_taken q.values.items q.arrivals.order n q.depth q.longest q.is_nonblock q.registration next)
+
+pub returns-clause-room : goal.returns-clause-room
+returns-clause-room c =
+    let q = c.self.inside in let p = c.in_ok-priority.priority in let n = c.unwrap-node.result in
+    let top : highest_rank q.arrivals.order ≡ Some p = sym c.highest.ensures.value ∙ c.in_ok-priority.was in
+    let first : first_of_rank p q.arrivals.order ≡ Some n = sym c.first.ensures.value ∙ c.unwrap-node.ensures in
+    let came = (next_chosen q.values.items q.arrivals.order p n top first c.first.ensures.arrivals.distinct).came in
+    let room = room_taken q.values.items q.arrivals.order n q.arrivals.nodes q.depth q.longest q.is_nonblock q.registration came c.first.ensures.arrivals.few c.self.invariant.0 in
+    subst (λ (a : Arrivals). has_room (seen q.depth q.longest q.is_nonblock (messages_of q.values.items a.order) q.registration) ≡ true) (sym c.leave.ensures) room

@@ -18,7 +18,7 @@ invariant_of-self c = record {
       begun_tied s.threads s.chain c.stop_waiting.new.chain c.begin_waiting-moved.new.chain s.waits c.stop_waiting.new.waits c.begin_waiting-moved.new.waits c.args.t w c.block.new.self known
       (c.block.ensures ∙ ap (put_to_wait w) c.get_mut.ensures.value) c.stop_waiting.ensures.chain c.stop_waiting.ensures.waits c.begin_waiting-moved.ensures.chain c.begin_waiting-moved.ensures.waits c.self.invariant.tied);
   armed = (let s = c.self.inside in
-      armed_after s.threads s.wheel.dues _ c.args.t c.block.new.self c.self.invariant.tied.few (rw (← c.self.view_is) at c.requires.known) c.retime.ensures c.self.invariant.armed);
+      armed_after s.threads s.timers s.wheel.dues _ c.args.t c.block.new.self c.self.invariant.tied.few (rw (← c.self.view_is) at c.requires.known) c.retime.ensures c.self.invariant.armed);
 }
 
 pub returns-clause-moved : goal.returns-clause-moved
@@ -29,7 +29,7 @@ returns-clause-moved c =
     let kept = c.stop_waiting.ensures.chain ∙ same_links s.chain c.args.t none in
     let moved = subst (λ (l : Links). TellsMoved (length l.claims) (exec_of l) (exec_of b.new.chain) b.new.waits b.result) kept b.ensures.moved in
     rw (← c.self.view_is, c.thread_of.ensures)
-    (told s.threads (slice_set s.threads c.args.t c.block.new.self) s.chain b.new.chain s.waits b.new.waits b.result (length-set s.threads c.args.t c.block.new.self) c.self.invariant.tied
+    (told s.timers s.threads (slice_set s.threads c.args.t c.block.new.self) s.chain b.new.chain s.waits b.new.waits b.result (length-set s.threads c.args.t c.block.new.self) c.self.invariant.tied
     (invariant_of-self c).tied moved)
 
 pub retime-requires-clause-numbers : goal.retime-requires-clause-numbers

@@ -9,12 +9,12 @@ pub returns-in_err-id-clause-item : goal.returns-in_err-id-clause-item
 returns-in_err-id-clause-item c =
     let s = c.self.inside in
     let small : c.args.now ≤ last_instant = omega (arith, c.get.ensures.value, c.get.ensures.range) in
-    c.from_residual.ensures ∙ none_is s.threads s.chain.mutexes c.args.now s.wheel.dues c.self.invariant.tied.few c.self.invariant.armed small c.in_err-id.ensures.item
+    c.from_residual.ensures ∙ none_is s.threads s.chain.mutexes s.timers c.args.now s.wheel.dues c.self.invariant.tied.few c.self.invariant.armed small c.in_err-id.ensures.item
     ∙ ap (λ (table : Table). next_item (machine_at c.args.now table)) c.self.view_is
 
 pub returns-clause-item : goal.returns-clause-item
 returns-clause-item c =
     let s = c.self.inside in
     let small : c.args.now ≤ last_instant = omega (arith, c.get.ensures.value, c.get.ensures.range) in
-    c.of.ensures.item ∙ first_is s.threads s.chain.mutexes c.args.now s.wheel.dues c.self.invariant.tied.few c.self.invariant.armed small c.in_ok-id.id.number c.in_ok-id.ensures.item
+    c.of.ensures.item ∙ first_is s.threads s.chain.mutexes s.timers c.args.now s.wheel.dues c.self.invariant.tied.few c.self.invariant.armed small c.in_ok-id.id.number c.in_ok-id.ensures.item
     ∙ ap (λ (table : Table). next_item (machine_at c.args.now table)) c.self.view_is

@@ -39,24 +39,24 @@ taken_tied c =
     let owned = c.take.ensures.changes in
     mutex_tied _ c.stop_waiting-woken.new.chain c.take.new.self c.stop_waiting-woken.new.waits c.take.new.w (ap (λ (l : Links). l.claims) c.take.ensures.chain) (record { same = owned.same; stand = owned.placed.stand }) (woken_tied c)
 
-told_freed : (c : After-thread_of-2) → TellsMoved (table_with c.self.inside.threads c.self.inside.chain) (table_with c.self.inside.threads c.release-released.new.self) (option_map (λ (m : Moved). m.thread) c.release-released.result)
+told_freed : (c : After-thread_of-2) → TellsMoved (table_with c.self.inside.timers c.self.inside.threads c.self.inside.chain) (table_with c.self.inside.timers c.self.inside.threads c.release-released.new.self) (option_map (λ (m : Moved). m.thread) c.release-released.result)
 told_freed c =
     let s = c.self.inside in
-    told s.threads s.threads s.chain c.release-released.new.self s.waits c.release-released.new.w c.release-released.result refl c.self.invariant.tied (freed_tied c) c.release-released.ensures.changes.moved
+    told s.timers s.threads s.threads s.chain c.release-released.new.self s.waits c.release-released.new.w c.release-released.result refl c.self.invariant.tied (freed_tied c) c.release-released.ensures.changes.moved
 
-told_woken : (c : After-thread_of-2) → TellsMoved (table_with c.self.inside.threads c.release-released.new.self)
-    (table_with (changed_at no_thread c.args.t (woken c.args.res c.args.value) c.self.inside.threads) c.stop_waiting-woken.new.chain) (option_map (λ (m : Moved). m.thread) c.stop_waiting-woken.result)
+told_woken : (c : After-thread_of-2) → TellsMoved (table_with c.self.inside.timers c.self.inside.threads c.release-released.new.self)
+    (table_with c.self.inside.timers (changed_at no_thread c.args.t (woken c.args.res c.args.value) c.self.inside.threads) c.stop_waiting-woken.new.chain) (option_map (λ (m : Moved). m.thread) c.stop_waiting-woken.result)
 told_woken c =
     let s = c.self.inside in
     let f = woken c.args.res c.args.value in
-    told s.threads (changed_at no_thread c.args.t f s.threads) c.release-released.new.self c.stop_waiting-woken.new.chain c.release-released.new.w c.stop_waiting-woken.new.waits c.stop_waiting-woken.result
+    told s.timers s.threads (changed_at no_thread c.args.t f s.threads) c.release-released.new.self c.stop_waiting-woken.new.chain c.release-released.new.w c.stop_waiting-woken.new.waits c.stop_waiting-woken.result
     (changed-length no_thread c.args.t f s.threads) (freed_tied c) (woken_tied c) c.stop_waiting-woken.ensures.moved
 
 pub invariant_of-self : goal.invariant_of-self
 invariant_of-self c = record {
   tied = (rw (c.wake.ensures, c.get_mut.ensures.value) (taken_tied c));
   armed = (let s = c.self.inside in
-      armed_after s.threads s.wheel.dues _ c.args.t c.wake.new.self c.self.invariant.tied.few (rw (← c.self.view_is) at c.requires.known) c.retime.ensures c.self.invariant.armed);
+      armed_after s.threads s.timers s.wheel.dues _ c.args.t c.wake.new.self c.self.invariant.tied.few (rw (← c.self.view_is) at c.requires.known) c.retime.ensures c.self.invariant.armed);
 }
 
 pub returns-clause-table : goal.returns-clause-table
@@ -69,7 +69,7 @@ pub returns-clause-released : goal.returns-clause-released
 returns-clause-released c =
     let s = c.self.inside in
     rw (← c.self.view_is, c.thread_of.ensures)
-    (subst (λ (ms : List Mutex). TellsMoved (table_with s.threads s.chain) (record { threads = s.threads; mutexes = ms }) (option_map (λ (m : Moved). m.thread) c.release-released.result))
+    (subst (λ (ms : List Mutex). TellsMoved (table_with s.timers s.threads s.chain) (record { threads = s.threads; mutexes = ms; timers = s.timers }) (option_map (λ (m : Moved). m.thread) c.release-released.result))
     (ap (λ (l : Links). l.mutexes) c.release-released.ensures.chain) (told_freed c))
 
 pub returns-clause-woken : goal.returns-clause-woken
@@ -79,8 +79,8 @@ returns-clause-woken c =
     let one = ap (λ (l : Links). l.mutexes) c.release-released.ensures.chain in
     let two = ap (λ (l : Links). l.mutexes) c.stop_waiting-woken.ensures.chain ∙ one in
     rw (← c.self.view_is, c.thread_of-2.ensures)
-    (subst (λ (ms : List Mutex). TellsMoved (record { threads = s.threads; mutexes = ms }) (record { threads = ths; mutexes = changed_at no_mutex c.args.k freed s.chain.mutexes }) (option_map (λ (m : Moved). m.thread) c.stop_waiting-woken.result)) one
-    (subst (λ (ms : List Mutex). TellsMoved (table_with s.threads c.release-released.new.self) (record { threads = ths; mutexes = ms }) (option_map (λ (m : Moved). m.thread) c.stop_waiting-woken.result)) two (told_woken c)))
+    (subst (λ (ms : List Mutex). TellsMoved (record { threads = s.threads; mutexes = ms; timers = s.timers }) (record { threads = ths; mutexes = changed_at no_mutex c.args.k freed s.chain.mutexes; timers = s.timers }) (option_map (λ (m : Moved). m.thread) c.stop_waiting-woken.result)) one
+    (subst (λ (ms : List Mutex). TellsMoved (table_with s.timers s.threads c.release-released.new.self) (record { threads = ths; mutexes = ms; timers = s.timers }) (option_map (λ (m : Moved). m.thread) c.stop_waiting-woken.result)) two (told_woken c)))
 
 pub returns-clause-others : goal.returns-clause-others
 returns-clause-others c =
@@ -88,10 +88,10 @@ returns-clause-others c =
     let f = woken c.args.res c.args.value in
     let ths = changed_at no_thread c.args.t f s.threads in
     rw (← c.self.view_is, c.thread_of.ensures, c.thread_of-2.ensures, c.wake.ensures, c.get_mut.ensures.value)
-    (handed_over (table_with s.threads s.chain) (table_with s.threads c.release-released.new.self) (table_with ths c.stop_waiting-woken.new.chain) (table_with ths c.take.new.self) c.args.t
+    (handed_over (table_with s.timers s.threads s.chain) (table_with s.timers s.threads c.release-released.new.self) (table_with s.timers ths c.stop_waiting-woken.new.chain) (table_with s.timers ths c.take.new.self) c.args.t
     (option_map (λ (m : Moved). m.thread) c.release-released.result) (option_map (λ (m : Moved). m.thread) c.stop_waiting-woken.result) (option_map (λ (m : Moved). m.thread) c.take.result)
     (told_freed c) (told_woken c)
-    (told ths ths c.stop_waiting-woken.new.chain c.take.new.self c.stop_waiting-woken.new.waits c.take.new.w c.take.result refl (woken_tied c) (taken_tied c) c.take.ensures.changes.moved)
+    (told s.timers ths ths c.stop_waiting-woken.new.chain c.take.new.self c.stop_waiting-woken.new.waits c.take.new.w c.take.result refl (woken_tied c) (taken_tied c) c.take.ensures.changes.moved)
     (thread_alone c.args.t c.take.result c.take.ensures.alone) refl (changed-length no_thread c.args.t f s.threads)
     (λ u other. sym (get_or-set_other s.threads c.args.t u (f (thread_in s.threads c.args.t)) no_thread other)))
 

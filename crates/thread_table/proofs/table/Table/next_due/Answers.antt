@@ -2,18 +2,18 @@ use Rattle.std.proofs.Common.{◌≤◌, ◌∙◌, ap, arith}
 use Rattle.machine_rules.specs.Agenda.{agenda}
 use Rattle.thread_table.specs.Table.{Table, machine_with}
 use Rattle.thread_table.specs.Times.{in_time, last_instant, least_due}
-use Rattle.thread_table.proofs.Coming.{least_comes, nothing_comes}
+use Rattle.thread_table.proofs.Least.{least_comes, nothing_comes}
 use Rattle.thread_table.proofs.table.Table.next_due.Goals as goal
 
 pub returns-in_err-next : goal.returns-in_err-next
 returns-in_err-next c =
     let s = c.self.inside in
-    c.from_residual.ensures ∙ nothing_comes s.threads s.chain.mutexes s.wheel.dues c.self.invariant.tied.few c.self.invariant.armed c.in_err-next.ensures
-    ∙ ap (λ (table : Table). in_time (least_due (agenda (machine_with table.threads table.mutexes)))) c.self.view_is
+    c.from_residual.ensures ∙ nothing_comes s.threads s.chain.mutexes s.timers s.wheel.dues c.self.invariant.tied.few c.self.invariant.armed c.in_err-next.ensures
+    ∙ ap (λ (table : Table). in_time (least_due (agenda (machine_with table.threads table.mutexes table.timers)))) c.self.view_is
 
 pub returns : goal.returns
 returns c =
     let s = c.self.inside in
     let small : c.in_ok-next.next ≤ last_instant = omega (arith, c.get.ensures.value, c.get.ensures.range) in
-    least_comes s.threads s.chain.mutexes s.wheel.dues c.self.invariant.tied.few c.self.invariant.armed c.in_ok-next.next small c.in_ok-next.ensures
-    ∙ ap (λ (table : Table). in_time (least_due (agenda (machine_with table.threads table.mutexes)))) c.self.view_is
+    least_comes s.threads s.chain.mutexes s.timers s.wheel.dues c.self.invariant.tied.few c.self.invariant.armed c.in_ok-next.next small c.in_ok-next.ensures
+    ∙ ap (λ (table : Table). in_time (least_due (agenda (machine_with table.threads table.mutexes table.timers)))) c.self.view_is

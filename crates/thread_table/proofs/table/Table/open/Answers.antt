@@ -4,6 +4,7 @@ use Rattle.machine_rules.specs.Declarations.{threads_of}
 use Rattle.machine_rules.specs.State.{Thread}
 use Rattle.thread_table.specs.Opening.{NoneWaits}
 use Rattle.thread_table.proofs.Armed.{none_armed}
+use Rattle.thread_table.proofs.Expiring.{all_disarmed, disarmed}
 use Rattle.thread_table.proofs.Opening.{all_tied, none_waits}
 use Rattle.thread_table.proofs.table.Table.open.Goals as goal
 
@@ -18,7 +19,7 @@ invariant_of-result c = record {
       let few : length c.in_ok-threads.threads ≤ 64 = omega (arith, value, most) in
       let none = subst (λ (ths : List (Thread Cursor)). NoneWaits ths) (sym c.in_ok-threads.ensures) (none_waits (threads_of c.args.script.now)) in
       all_tied c.in_ok-threads.threads _ c.assign_all.new.chain c.assign_all.new.waits few none c.assign_all.ensures);
-  armed = c.time_all.ensures;
+  armed = rw c.in_ok-timers.ensures (disarmed c.in_ok-threads.threads _ c.time_all.new.wheel.dues c.requires.timers (all_disarmed c.args.script.now.decls) c.time_all.ensures);
 }
 
 pub time_all-requires-clause-first : goal.time_all-requires-clause-first

@@ -14,10 +14,10 @@ invariant_of-self c = record {
       (still_tied c.self.inside.threads c.self.inside.chain c.self.inside.waits c.args.t (on_top (new_frame (flat_bodies c.args.code.now) frame.Cleanup (body_of.Cleanup c.args.u) 0)) (λ th. refl) (λ th. refl) c.self.invariant.tied));
   armed = (let s = c.self.inside in
       rw (c.run_cleanup.ensures, c.get_mut.ensures.value)
-      (still_armed s.threads s.wheel.dues c.args.t (on_top (new_frame (flat_bodies c.args.code.now) frame.Cleanup (body_of.Cleanup c.args.u) 0)) (λ th. refl) (λ th. refl) (λ th. refl) c.self.invariant.armed));
+      (still_armed s.threads s.timers s.wheel.dues c.args.t (on_top (new_frame (flat_bodies c.args.code.now) frame.Cleanup (body_of.Cleanup c.args.u) 0)) (λ th. refl) (λ th. refl) (λ th. refl) c.self.invariant.armed));
 }
 
 pub returns-clause-same : goal.returns-clause-same
 returns-clause-same c = λ u _.
     let s = c.self.inside in
-    rw (c.run_cleanup.ensures, c.get_mut.ensures.value, ← c.self.view_is) (claims_kept (table_with s.threads s.chain) c.args.t (on_top (new_frame (flat_bodies c.args.code.now) frame.Cleanup (body_of.Cleanup c.args.u) 0)) (λ th. refl) u)
+    rw (c.run_cleanup.ensures, c.get_mut.ensures.value, ← c.self.view_is) (claims_kept (table_with s.timers s.threads s.chain) c.args.t (on_top (new_frame (flat_bodies c.args.code.now) frame.Cleanup (body_of.Cleanup c.args.u) 0)) (λ th. refl) u)

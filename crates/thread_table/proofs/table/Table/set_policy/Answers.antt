@@ -15,7 +15,7 @@ invariant_of-self c = record {
       reassigned_tied s.threads s.chain c.reassign.new.chain s.waits c.reassign.new.waits c.args.t f c.set_policy.new.self known
       (c.set_policy.ensures ∙ ap f c.get_mut.ensures.value) (λ th. refl) c.reassign.ensures.chain c.reassign.ensures.waits c.self.invariant.tied);
   armed = (let s = c.self.inside in
-      armed_after s.threads s.wheel.dues _ c.args.t c.set_policy.new.self c.self.invariant.tied.few (rw (← c.self.view_is) at c.requires.known) c.retime.ensures c.self.invariant.armed);
+      armed_after s.threads s.timers s.wheel.dues _ c.args.t c.set_policy.new.self c.self.invariant.tied.few (rw (← c.self.view_is) at c.requires.known) c.retime.ensures c.self.invariant.armed);
 }
 
 pub reassign-requires-clause-placed : goal.reassign-requires-clause-placed
@@ -25,7 +25,7 @@ pub returns-clause-moved : goal.returns-clause-moved
 returns-clause-moved c =
     let s = c.self.inside in
     rw (← c.self.view_is, c.thread_of.ensures)
-    (told s.threads (slice_set s.threads c.args.t c.set_policy.new.self) s.chain c.reassign.new.chain s.waits c.reassign.new.waits c.reassign.result (length-set s.threads c.args.t c.set_policy.new.self) c.self.invariant.tied
+    (told s.timers s.threads (slice_set s.threads c.args.t c.set_policy.new.self) s.chain c.reassign.new.chain s.waits c.reassign.new.waits c.reassign.result (length-set s.threads c.args.t c.set_policy.new.self) c.self.invariant.tied
     (invariant_of-self c).tied c.reassign.ensures.moved)
 
 pub retime-requires-clause-numbers : goal.retime-requires-clause-numbers

@@ -16,7 +16,7 @@ invariant_of-self c = record {
       (c.set_priority.ensures ∙ ap f c.get_mut.ensures.value) (λ th. refl) c.reassign.ensures.chain c.reassign.ensures.waits c.self.invariant.tied);
   armed = (let s = c.self.inside in
       rw (c.set_priority.ensures, c.get_mut.ensures.value)
-      (still_armed s.threads s.wheel.dues c.args.t (with_priority c.args.p) (λ th. raised_due c.args.p th.server) (λ th. refl) (λ th. refl) c.self.invariant.armed));
+      (still_armed s.threads s.timers s.wheel.dues c.args.t (with_priority c.args.p) (λ th. raised_due c.args.p th.server) (λ th. refl) (λ th. refl) c.self.invariant.armed));
 }
 
 pub reassign-requires-clause-placed : goal.reassign-requires-clause-placed
@@ -26,5 +26,5 @@ pub returns-clause-moved : goal.returns-clause-moved
 returns-clause-moved c =
     let s = c.self.inside in
     rw (← c.self.view_is, c.thread_of.ensures)
-    (told s.threads (slice_set s.threads c.args.t c.set_priority.new.self) s.chain c.reassign.new.chain s.waits c.reassign.new.waits c.reassign.result (length-set s.threads c.args.t c.set_priority.new.self) c.self.invariant.tied
+    (told s.timers s.threads (slice_set s.threads c.args.t c.set_priority.new.self) s.chain c.reassign.new.chain s.waits c.reassign.new.waits c.reassign.result (length-set s.threads c.args.t c.set_priority.new.self) c.self.invariant.tied
     (invariant_of-self c).tied c.reassign.ensures.moved)

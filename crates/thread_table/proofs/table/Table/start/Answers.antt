@@ -18,7 +18,7 @@ invariant_of-self c = record {
       restated_tied s.threads s.chain c.stop_waiting-moved.new.chain c.reassign.new.chain s.waits c.stop_waiting-moved.new.waits c.reassign.new.waits c.args.t f c.start.new.self known
       (c.start.ensures ∙ ap f c.get_mut.ensures.value) refl c.stop_waiting-moved.ensures.chain c.stop_waiting-moved.ensures.waits c.reassign.ensures.chain c.reassign.ensures.waits c.self.invariant.tied);
   armed = (let s = c.self.inside in
-      armed_after s.threads s.wheel.dues _ c.args.t c.start.new.self c.self.invariant.tied.few (rw (← c.self.view_is) at c.requires.known) c.retime.ensures c.self.invariant.armed);
+      armed_after s.threads s.timers s.wheel.dues _ c.args.t c.start.new.self c.self.invariant.tied.few (rw (← c.self.view_is) at c.requires.known) c.retime.ensures c.self.invariant.armed);
 }
 
 pub returns-clause-moved : goal.returns-clause-moved
@@ -29,7 +29,7 @@ returns-clause-moved c =
     let alone = c.reassign.ensures.alone (rw left (awaits_nothing s.chain.claims c.args.t)) in
     let long : length mid.claims ≡ length s.chain.claims = ap (λ (l : Links). length l.claims) left ∙ changed-length no_claim c.args.t (waiting_for None) s.chain.claims in
     rw (← c.self.view_is, c.beside.ensures, c.thread_of.ensures)
-    (told_beside s.threads (slice_set s.threads c.args.t c.start.new.self) s.chain mid c.reassign.new.chain s.waits c.stop_waiting-moved.new.waits c.reassign.new.waits c.args.t
+    (told_beside s.timers s.threads (slice_set s.threads c.args.t c.start.new.self) s.chain mid c.reassign.new.chain s.waits c.stop_waiting-moved.new.waits c.reassign.new.waits c.args.t
     (length-set s.threads c.args.t c.start.new.self) long c.self.invariant.tied (invariant_of-self c).tied c.reassign.ensures.waits.same c.stop_waiting-moved.result c.reassign.result
     c.stop_waiting-moved.ensures.moved c.reassign.ensures.moved alone)
 

@@ -20,10 +20,10 @@ invariant_of-self c = record {
       (still_tied s.threads s.chain s.waits c.args.t f (λ th. unit_keeps (flat_bodies c.args.code.now) claim_of (λ x fs us. refl) th) (λ th. unit_keeps (flat_bodies c.args.code.now) (λ x. waiting_in x.status) (λ x fs us. refl) th) c.self.invariant.tied));
   armed = (let s = c.self.inside in
       rw (c.take.ensures.thread, c.get_mut.ensures.value)
-      (still_armed s.threads s.wheel.dues c.args.t (λ th. (in_unit (flat_bodies c.args.code.now) th).thread) (λ th. unit_keeps (flat_bodies c.args.code.now) refill_of (λ x fs us. refl) th) (λ th. unit_keeps (flat_bodies c.args.code.now) start_of (λ x fs us. refl) th) (λ th. unit_keeps (flat_bodies c.args.code.now) timeout_of (λ x fs us. refl) th) c.self.invariant.armed));
+      (still_armed s.threads s.timers s.wheel.dues c.args.t (λ th. (in_unit (flat_bodies c.args.code.now) th).thread) (λ th. unit_keeps (flat_bodies c.args.code.now) refill_of (λ x fs us. refl) th) (λ th. unit_keeps (flat_bodies c.args.code.now) start_of (λ x fs us. refl) th) (λ th. unit_keeps (flat_bodies c.args.code.now) timeout_of (λ x fs us. refl) th) c.self.invariant.armed));
 }
 
 pub returns-clause-same : goal.returns-clause-same
 returns-clause-same c = λ u _.
     let s = c.self.inside in
-    rw (c.take.ensures.thread, c.get_mut.ensures.value, ← c.self.view_is) (claims_kept (table_with s.threads s.chain) c.args.t (λ th. (in_unit (flat_bodies c.args.code.now) th).thread) (λ th. unit_keeps (flat_bodies c.args.code.now) claim_of (λ x fs us. refl) th) u)
+    rw (c.take.ensures.thread, c.get_mut.ensures.value, ← c.self.view_is) (claims_kept (table_with s.timers s.threads s.chain) c.args.t (λ th. (in_unit (flat_bodies c.args.code.now) th).thread) (λ th. unit_keeps (flat_bodies c.args.code.now) claim_of (λ x fs us. refl) th) u)

@@ -16,14 +16,14 @@ invariant_of-self c = record {
       (moved_tied s.threads s.chain c.stop_waiting-moved.new.chain s.waits _ c.stop_waiting-moved.new.waits c.args.t f (waiting_for None) c.stop_waiting-moved.ensures.chain refl
       (wait_set s.threads s.chain s.waits c.args.t f None known refl c.self.invariant.tied) c.stop_waiting-moved.ensures.waits c.self.invariant.tied));
   armed = (let s = c.self.inside in
-      armed_after s.threads s.wheel.dues _ c.args.t c.wake.new.self c.self.invariant.tied.few (rw (← c.self.view_is) at c.requires) c.retime.ensures c.self.invariant.armed);
+      armed_after s.threads s.timers s.wheel.dues _ c.args.t c.wake.new.self c.self.invariant.tied.few (rw (← c.self.view_is) at c.requires) c.retime.ensures c.self.invariant.armed);
 }
 
 pub returns-clause-moved : goal.returns-clause-moved
 returns-clause-moved c =
     let s = c.self.inside in
     rw (← c.self.view_is, c.thread_of.ensures)
-    (told s.threads (slice_set s.threads c.args.t c.wake.new.self) s.chain c.stop_waiting-moved.new.chain s.waits c.stop_waiting-moved.new.waits c.stop_waiting-moved.result (length-set s.threads c.args.t c.wake.new.self) c.self.invariant.tied
+    (told s.timers s.threads (slice_set s.threads c.args.t c.wake.new.self) s.chain c.stop_waiting-moved.new.chain s.waits c.stop_waiting-moved.new.waits c.stop_waiting-moved.result (length-set s.threads c.args.t c.wake.new.self) c.self.invariant.tied
     (invariant_of-self c).tied c.stop_waiting-moved.ensures.moved)
 
 pub retime-requires-clause-numbers : goal.retime-requires-clause-numbers

@@ -1,0 +1,158 @@
+-- What a notification counts on stays as a queue changes, a call returns and a thread wakes.
+use Rattle.std.proofs.Common.{◌≡◌, ◌∙◌, ◌<◌, ◌≤◌, ◌^◌, ◌+◌, ◌++◌, ◌∷◌, [], ℕ, Bool, true, false, List, Option, None, Some, ap, arith, length, length-append, refl, subst, sym}
+use Rattle.std.specs.Prelude.{◌==◌}
+use Rattle.tick_num.specs.declared.res.Res.{Res}
+use Rattle.pse52_trace.specs.declared.event.Event.TheVariants as event
+use Rattle.script_flat.specs.declared.cursor.Cursor.{Cursor}
+use Rattle.sporadic_server.specs.Server.{ServerState, activate}
+use Rattle.machine_rules.specs.CallNames.{name_of}
+use Rattle.machine_rules.specs.Queues.{with_message}
+use Rattle.machine_rules.specs.Servers.{activates_server, high_server, with_server}
+use Rattle.machine_rules.specs.State.{Machine, Message, Queue, Registration, SignalRecord, Status, Thread, blocked, dormant, ended, runnable}
+use Rattle.machine_rules.specs.Threads.{can_run, is_blocked, is_runnable, no_queue, queue_at, thread_at, waiting_of}
+use Rattle.machine_rules.specs.Turns.{By, Turn, changes, changes_queue, moves, returns, tells, with_queue}
+use Rattle.machine_rules.specs.Waking.{call_in, wakes, woken}
+use Rattle.machine_rules.proofs.Reading.{changed-keeps, changed-length, thread-other}
+use Rattle.machine_moves.proofs.Calls.Commuting.{wakes_telling_part, woken_runs}
+use Rattle.message_queues.specs.Queues.{without_next, without_one}
+use Rattle.thread_blocks.specs.Unused.{IsUnused}
+use Rattle.kernel_state.specs.Caught.{HasRoomToPend}
+use Rattle.kernel_state.specs.Kernel.{Kernel, after, turn}
+use Rattle.kernel_state.specs.Pending.{PendingFits, SignalsFit}
+use Rattle.kernel_signals.specs.Sweeping.{AllRest}
+use Rattle.kernel_signals.proofs.Sent.{returned_pends, returned_rests}
+use Rattle.kernel_sync.specs.Waits.{WaitsFit}
+use Rattle.kernel_messages.specs.Notifying.{CanNotify}
+
+-- what the calls of queues ask is what a notification counts on
+pub can_notify : (m : Machine Cursor) (q : ℕ) → WaitsFit m → PendingFits m → SignalsFit m → m.next_serial < 2 ^ 62 → m.now ≤ 10 ^ 18 → CanNotify m q
+can_notify m q fits pends signals serial early = record {
+  signal = λ r e. signals.registrations q r e;
+  pends = λ r e. record { few = pends.queues q r e; youngest = pends.youngest };
+  rests = fits.rests;
+  serial = omega (arith, serial);
+  early = early;
+}
+
+-- ---- a queue changes
+
+changed_can : (q : ℕ) (f : Queue → Queue) → ((x : Queue) → (f x).registration ≡ x.registration) → (k l : Kernel) → l ≡ after (changes_queue q f) k → CanNotify k.machine q → CanNotify l.machine q
+changed_can q f kept k l e h = subst (λ (x : Kernel). CanNotify x.machine q) (sym e) after_it
+  where
+    same : (queue_at (with_queue q f k.machine) q).registration ≡ (queue_at k.machine q).registration
+    same = changed-keeps no_queue q q f (λ (x : Queue). x.registration) kept k.machine.queues
+
+    pends : (r : Registration) → (queue_at (with_queue q f k.machine) q).registration ≡ Some r → HasRoomToPend (with_queue q f k.machine)
+    pends r e = let x = h.pends r (sym same ∙ e) in record { few = x.few; youngest = x.youngest }
+
+    after_it : CanNotify (with_queue q f k.machine) q
+    after_it = record { signal = λ r e. h.signal r (sym same ∙ e); pends = pends; rests = h.rests; serial = h.serial; early = h.early }
+
+pub put_can : (q : ℕ) (x : Message) (k l : Kernel) → l ≡ after (changes_queue q (with_message x)) k → CanNotify k.machine q → CanNotify l.machine q
+put_can q x k l e h = changed_can q (with_message x) (λ y. refl) k l e h
+
+without_kept : (o : Option ℕ) (x : Queue) → (without_one o x).registration ≡ x.registration
+without_kept None x = refl
+without_kept (Some n) x = refl
+
+pub taken_can : (q : ℕ) (k l : Kernel) → l ≡ after (changes_queue q without_next) k → CanNotify k.machine q → CanNotify l.machine q
+taken_can q k l e h = changed_can q without_next (λ x. without_kept _ x) k l e h
+
+-- as many queues as before
+pub changed_known : (q p : ℕ) (f : Queue → Queue) (k l : Kernel) → l ≡ after (changes_queue q f) k → p < length k.machine.queues → p < length l.machine.queues
+changed_known q p f k l e lt = let n = ap (λ (x : Kernel). length x.machine.queues) e ∙ changed-length no_queue q f k.machine.queues in omega (arith, n, lt)
+
+-- ---- a call returns
+
+pub returned_can : (by : By) (x : Res) (value q : ℕ) (k l : Kernel) → l ≡ after (returns by x value) k → CanNotify k.machine q → CanNotify l.machine q
+returned_can by x value q k l e h =
+    let queues = ap (λ (y : Kernel). y.machine.queues) e in
+    let same : queue_at l.machine q ≡ queue_at k.machine q = ap (λ (y : Kernel). queue_at y.machine q) e in
+    let asked = ap (λ (y : Queue). y.registration) same in
+    record {
+      signal = λ r f. h.signal r (sym asked ∙ f);
+      pends = λ r f. returned_pends by x value k l e (h.pends r (sym asked ∙ f));
+      rests = returned_rests by x value k l e h.rests;
+      serial = rw e h.serial;
+      early = rw e h.early;
+    }
+
+-- ---- a thread wakes
+
+runs_unblocked : (status : Status) → is_runnable status ≡ true → is_blocked status ≡ false
+runs_unblocked (dormant at) e = refl
+runs_unblocked runnable e = refl
+runs_unblocked (blocked w) e = absurd cc
+runs_unblocked ended e = refl
+
+not_both : {X : Type 0} (b : Bool) → b ≡ false → b ≡ true → X
+not_both b off on = let a : true ≡ false = sym on ∙ off in absurd cc
+
+same_number : (t u : ℕ) → (t == u) ≡ true → t ≡ u
+same_number t u e = grind arith
+
+activated_other : (t u : ℕ) (o : Option ServerState) (s : Turn Cursor) → (t == u) ≡ false → thread_at (activates_server t o s).machine u ≡ thread_at s.machine u
+activated_other t u None s other = refl
+activated_other t u (Some server) s other = thread-other s.machine t u (with_server (activate s.machine.now)) other
+
+activated_direct : (t : ℕ) (o : Option ServerState) (s : Turn Cursor) → (activates_server t o s).direct ≡ s.direct
+activated_direct t None s = refl
+activated_direct t (Some server) s = refl
+
+module _ (t : ℕ) (r : Res) (value : ℕ) (s : Turn Cursor) where
+  abbrev up : Turn Cursor
+  up = tells (event.Return t (name_of (call_in (waiting_of s.machine t))) r value) (moves t (changes t (woken r value) s))
+
+  woken_thread : (u : ℕ) → (t == u) ≡ false → thread_at (wakes t r value s).machine u ≡ thread_at s.machine u
+  woken_thread u other = activated_other t u (high_server (thread_at up.machine t).server) up other ∙ thread-other s.machine t u (woken r value) other
+
+  woken_direct : (wakes t r value s).direct ≡ s.direct ++ t ∷ []
+  woken_direct = activated_direct t (high_server (thread_at up.machine t).server) up
+
+  abbrev after_it : Machine Cursor
+  after_it = (wakes t r value s).machine
+
+  woken_rests : is_blocked (thread_at s.machine t).status ≡ true → AllRest s.machine → AllRest after_it
+  woken_rests waits rests u on = by_thread (t == u) refl
+    where
+      runs : can_run after_it t ≡ true
+      runs = woken_runs (event.Return t (name_of (call_in (waiting_of s.machine t))) r value) t r value s waits
+
+      by_thread : (b : Bool) → (t == u) ≡ b → IsUnused (thread_at after_it u).server
+      by_thread true it = not_both (is_blocked (thread_at after_it t).status) (runs_unblocked (thread_at after_it t).status runs) (subst (λ (i : ℕ). is_blocked (thread_at after_it i).status ≡ true) (sym (same_number t u it)) on)
+      by_thread false other =
+          let same = woken_thread u other in
+          subst (λ (th : Thread Cursor). IsUnused th.server) (sym same) (rests u (sym (ap (λ (th : Thread Cursor). is_blocked th.status) same) ∙ on))
+
+  woken_part : {X : Type 0} (part : Machine Cursor → X) → ((m : Machine Cursor) (threads : List (Thread Cursor)) → part (record m { threads = threads }) ≡ part m) → part after_it ≡ part s.machine
+  woken_part part h = wakes_telling_part part h (event.Return t (name_of (call_in (waiting_of s.machine t))) r value) t r value s
+
+  woken_pends : HasRoomToPend s.machine → HasRoomToPend after_it
+  woken_pends h =
+      let pending : after_it.pending ≡ s.machine.pending = woken_part (λ m. m.pending) (λ m threads. refl) in
+      let serial : after_it.next_serial ≡ s.machine.next_serial = woken_part (λ m. m.next_serial) (λ m threads. refl) in
+      record { few = rw pending h.few; youngest = rw (pending, serial) h.youngest }
+
+  woken_notifies : (q : ℕ) → is_blocked (thread_at s.machine t).status ≡ true → CanNotify s.machine q → CanNotify after_it q
+  woken_notifies q waits h =
+      let asked : (queue_at after_it q).registration ≡ (queue_at s.machine q).registration = woken_part (λ m. (queue_at m q).registration) (λ m threads. refl) in
+      let serial : after_it.next_serial ≡ s.machine.next_serial = woken_part (λ m. m.next_serial) (λ m threads. refl) in
+      let now : after_it.now ≡ s.machine.now = woken_part (λ m. m.now) (λ m threads. refl) in
+      record {
+        signal = λ x e. h.signal x (sym asked ∙ e);
+        pends = λ x e. woken_pends (h.pends x (sym asked ∙ e));
+        rests = woken_rests waits h.rests;
+        serial = rw serial h.serial;
+        early = rw now h.early;
+      }
+
+pub woken_can : (t : ℕ) (r : Res) (value q : ℕ) (k l : Kernel) → l ≡ after (wakes t r value) k → is_blocked (thread_at k.machine t).status ≡ true → CanNotify k.machine q → CanNotify l.machine q
+woken_can t r value q k l e waits h = subst (λ (x : Kernel). CanNotify x.machine q) (sym e) (woken_notifies t r value (turn k) q waits h)
+
+pub woken_room : (t : ℕ) (r : Res) (value : ℕ) (k l : Kernel) → l ≡ after (wakes t r value) k → length k.direct < 255 → length l.direct < 256
+woken_room t r value k l e lt =
+    let n = ap (λ (x : Kernel). length x.direct) e ∙ ap length (woken_direct t r value (turn k)) ∙ length-append k.direct (t ∷ []) in
+    omega (arith, n, lt)
+
+pub woken_queues : (t : ℕ) (r : Res) (value : ℕ) (k l : Kernel) → l ≡ after (wakes t r value) k → l.machine.queues ≡ k.machine.queues
+woken_queues t r value k l e = ap (λ (x : Kernel). x.machine.queues) e ∙ woken_part t r value (turn k) (λ m. m.queues) (λ m threads. refl)

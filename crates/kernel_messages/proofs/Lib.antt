@@ -1,0 +1,5 @@
+pub mod Receivers
+pub mod Kept
+pub mod Entered
+pub mod Sent
+pub mod Received
