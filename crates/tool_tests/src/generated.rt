@@ -34,9 +34,9 @@ static NO_COMMANDS: [&[&str]; 8] = [
 ];
 
 // The status and the text of a command whose source fails at its first read.
-fn unread(alloc: Global, list: &[&str], room: u64) -> Result<(Status, MemSink), AllocError> {
+fn unread(alloc: Global, list: &[&str]) -> Result<(Status, MemSink), AllocError> {
     let mut source = MemSource::new(Vec::new(alloc), vec![in alloc; 1u64; 1]?);
-    let mut sink = MemSink::open(alloc, room, Vec::new(alloc))?;
+    let mut sink = MemSink::open(alloc, 10_000, Vec::new(alloc))?;
     let status = run_from(alloc, list, &mut source, &mut sink)?;
     Ok((status, sink))
 }
@@ -44,7 +44,7 @@ fn unread(alloc: Global, list: &[&str], room: u64) -> Result<(Status, MemSink), 
 #[test]
 fn generated_scripts_are_written_and_run(rt: HostRuntime) -> Result<(), Fail> {
     for &(list, text) in &GENERATED {
-        let (status, sink) = unread(rt.alloc(), list, 1000)?;
+        let (status, sink) = unread(rt.alloc(), list)?;
         assert_eq!(rt; status, Status::Done);
         assert_eq!(rt; sink.text(), text.as_bytes());
     }
@@ -54,7 +54,7 @@ fn generated_scripts_are_written_and_run(rt: HostRuntime) -> Result<(), Fail> {
 #[test]
 fn words_that_generate_nothing(rt: HostRuntime) -> Result<(), Fail> {
     for list in &NO_COMMANDS {
-        let (status, sink) = unread(rt.alloc(), list, 1000)?;
+        let (status, sink) = unread(rt.alloc(), list)?;
         assert_eq!(rt; status, Status::Usage);
         assert_eq!(rt; sink.text(), b"usage: pse52 COMMAND NUMBERS\n".as_slice());
     }
@@ -64,8 +64,8 @@ fn words_that_generate_nothing(rt: HostRuntime) -> Result<(), Fail> {
 // The end, and a line for each of 64 threads; twice the same.
 #[test]
 fn many_threads_are_soaked_for_long(rt: HostRuntime) -> Result<(), Fail> {
-    let (status, sink) = unread(rt.alloc(), &["soak", "63", "1000000"], 10_000)?;
-    let (again, second) = unread(rt.alloc(), &["soak", "63", "1000000"], 10_000)?;
+    let (status, sink) = unread(rt.alloc(), &["soak", "63", "1000000"])?;
+    let (again, second) = unread(rt.alloc(), &["soak", "63", "1000000"])?;
     assert_eq!(rt; status, Status::Done);
     assert_eq!(rt; again, Status::Done);
     assert!(rt; sink.text().starts_with(b"1000000 end\nthread t0 ticks "));
