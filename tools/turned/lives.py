@@ -3,12 +3,24 @@ from __future__ import annotations
 
 from .rule import Turned
 
+POINTS = ("join", "testcancel", "wait", "timedwait", "sem_wait", "sem_timedwait", "clock_nanosleep", "sigtimedwait", "mq_timedsend",
+          "mq_receive", "mq_timedreceive")
+WAITS = ("SEM", "SLEEP", "SEND", "RECEIVE", "SIGNAL")
+
 RULES = [
+    *(Turned(f"{word} is no cancellation point", "machine.py", f'"{word}"', f'"no {word}"', "each_cancellation_point")
+      for word in POINTS),
+    *(Turned(f"a request does not end a wait of the kind {kind}", "thread_calls.py",
+             "case WaitKind.MUTEX | WaitKind.CONTENTION:", f"case WaitKind.MUTEX | WaitKind.CONTENTION | WaitKind.{kind}:",
+             "each_wait_is_cancelled") for kind in WAITS),
     Turned("create starts an ended thread again", "thread_calls.py",
            "    if target.state is not ThreadState.DORMANT:", "    if target.is_live:",
            "ended_thread_is_not_created_again"),
     Turned("a created thread masks nothing", "thread_calls.py",
            "kernel.start(target, mask_of(thread))", "kernel.start(target, 0)", "created_thread_has_its_creators_mask"),
+    Turned("a created thread masks all signals", "thread_calls.py",
+           "kernel.start(target, mask_of(thread))", "kernel.start(target, 2**32 - 1)",
+           "created_thread_takes_what_its_creator_opens"),
     Turned("a thread that a handler creates has the mask of the thread", "thread_calls.py",
            "kernel.start(target, mask_of(thread))", "kernel.start(target, thread.mask)",
            "thread_created_in_a_handler_masks_all"),

@@ -27,6 +27,20 @@ RULES = [
            "    kernel.block(thread, Wait(WaitKind.RECEIVE",
            "    if due is not None and due <= kernel.time:\n        return kernel.returns(thread, call, Res.TIMEDOUT)\n"
            "    kernel.block(thread, Wait(WaitKind.RECEIVE", "queue_that_does_not_block"),
+    Turned("a send asks for its time before it asks whether the queue blocks", "message_calls.py",
+           "    if queue.kind.nonblock:\n        return kernel.returns(thread, call, Res.AGAIN)\n"
+           "    if due is not None and due <= kernel.time:\n        return kernel.returns(thread, call, Res.TIMEDOUT)\n"
+           "    kernel.block(thread, Wait(WaitKind.SEND",
+           "    if due is not None and due <= kernel.time:\n        return kernel.returns(thread, call, Res.TIMEDOUT)\n"
+           "    if queue.kind.nonblock:\n        return kernel.returns(thread, call, Res.AGAIN)\n"
+           "    kernel.block(thread, Wait(WaitKind.SEND", "queue_that_does_not_block_and_time"),
+    Turned("a receive asks for its time before it asks whether the queue blocks", "message_calls.py",
+           "    if queue.kind.nonblock:\n        return kernel.returns(thread, call, Res.AGAIN)\n"
+           "    if due is not None and due <= kernel.time:\n        return kernel.returns(thread, call, Res.TIMEDOUT)\n"
+           "    kernel.block(thread, Wait(WaitKind.RECEIVE",
+           "    if due is not None and due <= kernel.time:\n        return kernel.returns(thread, call, Res.TIMEDOUT)\n"
+           "    if queue.kind.nonblock:\n        return kernel.returns(thread, call, Res.AGAIN)\n"
+           "    kernel.block(thread, Wait(WaitKind.RECEIVE", "queue_that_does_not_block_and_time"),
     Turned("a timed send with a time of now blocks", "message_calls.py",
            "    if due is not None and due <= kernel.time:\n        return kernel.returns(thread, call, Res.TIMEDOUT)\n"
            "    kernel.block(thread, Wait(WaitKind.SEND",
@@ -91,6 +105,9 @@ RULES = [
     Turned("the message of a waiting sender fires nothing", "message_calls.py",
            "        kernel.wake(sender)\n        if was_empty:", "        kernel.wake(sender)\n        if False:",
            "message_of_a_sender_notifies"),
+    Turned("each message of a waiting sender fires the registration", "message_calls.py",
+           "        kernel.wake(sender)\n        if was_empty:", "        kernel.wake(sender)\n        if True:",
+           "message_of_a_sender_into_a_queue_with_messages"),
     Turned("a notification is told before the return of the sender", "message_calls.py",
            "        kernel.wake(sender)\n        if was_empty:\n            fire(kernel, number, queue)",
            "        if was_empty:\n            fire(kernel, number, queue)\n        kernel.wake(sender)",

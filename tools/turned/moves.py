@@ -105,6 +105,8 @@ RULES = [
     Turned("items at the horizon are handled", "machine.py",
            "            self.tick()\n", "            self.tick()\n        self.handle_due_items()\n",
            "refill_between_two_sleeps"),
+    Turned("no line says that the first tick is idle", "machine.py",
+           "now_runs = IDLE if head is None else head", "now_runs = head", "first_tick_is_idle"),
     Turned("timers expire before waits time out", "machine.py",
            "768 + number", "-1", "items_of_one_instant"),
     Turned("starts come before refills", "machine.py",

@@ -51,6 +51,14 @@ RULES = [
     Turned("setprio at the low priority of a server is taken", "thread_calls.py",
            "priority <= target.policy.low", "priority < target.policy.low",
            "priority_of_a_server_stays_above_its_low_one"),
+    Turned("setprio asks for the low priority before it asks whether the server lives", "thread_calls.py",
+           "    if not target.is_live:\n        return kernel.returns(thread, call, Res.SRCH)\n"
+           "    if isinstance(target.policy, Sporadic) and priority <= target.policy.low:\n"
+           "        return kernel.returns(thread, call, Res.INVAL)\n",
+           "    if isinstance(target.policy, Sporadic) and priority <= target.policy.low:\n"
+           "        return kernel.returns(thread, call, Res.INVAL)\n"
+           "    if not target.is_live:\n        return kernel.returns(thread, call, Res.SRCH)\n",
+           "priority_of_a_server_that_does_not_live"),
     Turned("setprio gives a server back what it used", "kernel.py",
            "                thread.server.high = priority",
            "                thread.server.high = priority\n"

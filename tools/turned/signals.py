@@ -3,6 +3,8 @@ from __future__ import annotations
 
 from .rule import Turned
 
+WAITS = ("SEM", "SLEEP", "SEND", "RECEIVE", "SIGNAL")
+
 RULES = [
     # Generation
     Turned("65 signals may be pending", "state.py",
@@ -15,6 +17,14 @@ RULES = [
     Turned("a timer's signal is refused where 64 are pending", "signals.py",
            "    if record.code in (SigCode.USER, SigCode.QUEUE) and len(users)", "    if len(users)",
            "timers_and_notifications_need_no_place"),
+    Turned("an ignored signal is refused where 64 are pending", "signals.py",
+           "    if action_of(kernel, record.signal) is Fate.IGNORE:\n        return Outcome.DISCARDED\n",
+           "    if action_of(kernel, record.signal) is Fate.IGNORE and len(kernel.records) < GREATEST_PENDING:\n"
+           "        return Outcome.DISCARDED\n", "signals_that_need_no_place"),
+    Turned("a signal that is waited for is refused where 64 are pending", "signals.py",
+           "    if acceptor(kernel, record) is not None:\n        return Outcome.ACCEPTED\n",
+           "    if acceptor(kernel, record) is not None and len(kernel.records) < GREATEST_PENDING:\n"
+           "        return Outcome.ACCEPTED\n", "signals_that_need_no_place"),
     Turned("each thread has 64 places of its own", "signals.py",
            "users = [pending for pending in kernel.records if pending.code in (SigCode.USER, SigCode.QUEUE)]",
            "users = [pending for pending in kernel.records if pending.code in (SigCode.USER, SigCode.QUEUE)"
@@ -74,7 +84,8 @@ RULES = [
     Turned("the process ends at the next tick", "signals.py",
            "        kernel.killed = record.signal\n", "        pass\n", "unhandled_signal_ends_the_process"),
     Turned("the sweep goes from the highest number down", "signals.py",
-           "    for thread in kernel.threads:\n        if thread.is_live and", "    for thread in reversed(kernel.threads):\n        if thread.is_live and",
+           "    for thread in kernel.threads:\n        if thread.is_live and",
+           "    for thread in reversed(kernel.threads):\n        if thread.is_live and",
            "process_signal_goes_to_the_first_by_number"),
     Turned("the sweep visits the thread of the highest priority first", "signals.py",
            "    for thread in kernel.threads:\n        if thread.is_live and",
@@ -102,6 +113,9 @@ RULES = [
            "    if thread.waits_in(WaitKind.JOIN) and open_records:\n"
            "        kernel.threads[thread.wait.target].joiner.waiting = None\n"
            "    elif thread.waits_in(*_DEFERRING):\n", "handler_waits_for_a_join"),
+    *(Turned(f"a handler does not end a wait of the kind {kind}", "signals.py",
+             "_DEFERRING = (WaitKind.MUTEX, ", f"_DEFERRING = (WaitKind.{kind}, WaitKind.MUTEX, ", "each_wait_is_interrupted")
+      for kind in WAITS),
     Turned("a thread that waits for a mutex takes nothing, not even its end", "signals.py",
            "open_records = [record for record in open_records if action_of(kernel, record.signal) is Fate.KILL]",
            "open_records = []", "kill_ends_a_process_that_waits"),

@@ -68,6 +68,11 @@ RULES = [
     Turned("a wait beside a wait on another condition with another mutex is refused", "sync_calls.py",
            "if other.waits_in(WaitKind.COND) and other.wait.target == cond]", "if other.waits_in(WaitKind.COND)]",
            "two_conditions_with_two_mutexes"),
+    Turned("a wait asks for a second mutex before it asks for the count", "sync_calls.py",
+           "    if mutex.count > 1 or any(",
+           "    if any(other.owner == thread.number for other in kernel.mutexes if other is not mutex):\n"
+           "        return kernel.returns(thread, call, Res.DEADLK)\n"
+           "    if mutex.count > 1 or any(", "count_before_a_second_mutex"),
     Turned("a signal wakes every waiter", "sync_calls.py",
            "    if best is not None:\n        kernel.contend(best, CondEnd.SIGNALLED)",
            "    while (best := kernel.best_waiter(call.operands[0], WaitKind.COND)) is not None:\n"

@@ -57,8 +57,14 @@ RULES = [
            "timer_set_anew_while_its_signal_is_pending"),
     Turned("each expiry is a signal of its own", "machine.py",
            "if any(record.timer == number for record in self.records):", "if False:", "expiries_count_as_overruns"),
+    Turned("items of the instant are handled after the process has ended", "machine.py",
+           "        while self.killed is None:\n            due", "        while True:\n            due",
+           "timer_ends_the_process_before_the_next_item"),
     Turned("the first expiry is counted", "machine.py",
-           "        timer = self.timers[number]\n        timer.due", "        timer = self.timers[number]\n        timer.extra += not any(r.timer == number for r in self.records)\n        timer.due",
+           "        timer = self.timers[number]\n        timer.due",
+           "        timer = self.timers[number]\n"
+           "        timer.extra += not any(record.timer == number for record in self.records)\n"
+           "        timer.due",
            "expiries_count_as_overruns"),
     Turned("an interval of 0 goes on with 1", "machine.py",
            "self.now + timer.interval if timer.interval > 0 else None", "self.now + max(timer.interval, 1)", "timer_is_read"),

@@ -161,6 +161,13 @@ impl Parts {
         self.killed.is_some()
     }
 
+    /// The signal that ended the process. `None` exactly where none did.
+    pub fn killed(&self) -> Option<u8>
+        ensures { result ≡ self.now.machine.killed }
+    {
+        self.killed
+    }
+
     pub fn take_serial(&mut self) -> u64
         requires { self.old.machine.next_serial < 2 ^ 63 }
         ensures value { result ≡ self.old.machine.next_serial }

@@ -31,9 +31,9 @@ use Rattle.kernel_state.specs.Kernel.{Kernel, after, turn}
 use Rattle.kernel_state.specs.Stood.{StoodRight}
 use Rattle.kernel_events.specs.Built.{objects_in}
 use Rattle.rt_kernel.specs.Completes.{CanAct}
-use Rattle.rt_kernel.specs.Counts.{Counts, counts_in, counts_of}
+use Rattle.kernel_laws.specs.Counts.{Counts, counts_in, counts_of}
 use Rattle.rt_kernel.specs.Fits.{Fits, FitsLeap, ItemsFit}
-use Rattle.rt_kernel.proofs.ComingUnits.{charge_keeps, charge_same}
+use Rattle.rt_kernel.proofs.ChargeKeeps.{charge_keeps, charge_same}
 
 -- ---- the objects stay the same
 
@@ -86,6 +86,8 @@ head_fits o code m last t stood e fit = record {
   runs = head_runs m t stood e;
   waits = record { mutexes = fit.items.waits.mutexes; rests = fit.items.waits.rests; own_none = fit.items.waits.own_none };
   joins = record { joiners = fit.joins.joiners; ends = fit.joins.ends };
+  pends = record { calls = fit.items.pends.calls; timers = fit.items.pends.timers; queues = fit.items.pends.queues; youngest = fit.items.pends.youngest };
+  signals = record { timers = fit.items.signals.timers; registrations = fit.items.signals.registrations; senders = fit.items.signals.senders };
   serial = fit.serial;
   threads = fit.threads;
 }
@@ -140,6 +142,12 @@ charged_acts p l t k fit early state = subst (λ (x : Kernel). CanAct x t) (sym 
       joins = record {
         joiners = λ v u e. ap is_blocked (status_at u) ∙ fit.joins.joiners v u (sym (joiner_at v) ∙ e);
         ends = λ u v w waits is. (let lt = fit.joins.ends u v w (sym (ap waiting_in (status_at u)) ∙ waits) is in let e = changed-length no_thread t f p.machine.threads in omega (arith, e, lt));
+      };
+      pends = record { calls = fit.pends.calls; timers = fit.pends.timers; queues = fit.pends.queues; youngest = fit.pends.youngest };
+      signals = record {
+        timers = fit.signals.timers;
+        registrations = fit.signals.registrations;
+        senders = λ u q x w waits is. fit.signals.senders u q x w (sym (ap waiting_in (status_at u)) ∙ waits) is;
       };
       serial = fit.serial early;
     }

@@ -1,13 +1,10 @@
+pub mod ChargeKeeps
 pub mod ComingUnits
 pub mod Fitting
 pub mod ItemsLaw
 pub mod Halfway
 pub mod Running
 pub mod WholeTrace
-pub mod HeldLaw
-pub mod ObjectsLaw
-pub mod Ranges
-pub mod Serials
 pub mod Opened
 pub mod Charged
 pub mod Lengths
@@ -18,4 +15,5 @@ pub mod Leaping
 pub mod TickTimes
 pub mod Pushing
 pub mod Ticking
-pub mod JoinsLaw
+pub mod Landing
+pub mod Ending

@@ -30,7 +30,7 @@ pub record Running {K : Type 0} (text : K → Option (List ℕ)) (faults : K →
   pub stood : StoodRight k.machine
   pub quiet : k.direct ≡ []
 
-turn_is : (k : Kernel) → k.direct ≡ [] → turn k ≡ turn_of k.machine
+pub turn_is : (k : Kernel) → k.direct ≡ [] → turn k ≡ turn_of k.machine
 turn_is k quiet = ap (λ (d : List ℕ). record { machine = k.machine; direct = d; events = [] }) quiet
 
 -- the kernel after so many ticks

@@ -24,7 +24,7 @@ use Rattle.thread_laws.proofs.MadeCalls.{UnitMakes}
 use Rattle.thread_blocks.specs.Handlers.{AreHandlers, CanEnd}
 use Rattle.kernel_events.specs.Built.{HasRoomFor, IsBuilt}
 use Rattle.rt_kernel.specs.Completes.{CanComplete, CanTick}
-use Rattle.rt_kernel.proofs.HeldLaw.{unit_makes}
+use Rattle.kernel_laws.proofs.HeldLaw.{unit_makes}
 
 handlers_among : (n : ℕ) (us : List ℕ) → AreDeclared n us → AreHandlers n us
 handlers_among n [] h = tt

@@ -11,6 +11,7 @@ use Rattle.machine_rules.specs.Units.{in_unit}
 use Rattle.machine_flat.specs.KnownCalls.{Objects}
 use Rattle.thread_blocks.specs.Handlers.{CanEnd}
 use Rattle.kernel_state.specs.Kernel.{Kernel}
+use Rattle.kernel_state.specs.Pending.{PendingFits, SignalsFit}
 use Rattle.kernel_sync.specs.Waits.{WaitsFit}
 use Rattle.kernel_lives.specs.Joins.{JoinsFit}
 use Rattle.kernel_events.specs.Built.{HasRoomFor, IsBuilt}
@@ -33,10 +34,12 @@ pub record CanTick (o : Objects) (bodies : Bodies Cursor) (th : Thread Cursor) :
   pub completes : CanComplete o (in_unit bodies th).thread (in_unit bodies th).unit
 
 -- What an effect of a thread's unit may count on: the thread runs, only what is built is waited for, blocked threads have used nothing,
--- a thread that waits to join another is blocked, and a serial is left.
+-- a thread that waits to join another is blocked, there is a place for what becomes pending, and a serial is left.
 pub record CanAct (k : Kernel) (t : ℕ) : Type 0 where
   pub threads : length k.machine.threads ≡ length k.names
   pub runs : can_run k.machine t ≡ true
   pub waits : WaitsFit k.machine
   pub joins : JoinsFit k.machine
+  pub pends : PendingFits k.machine
+  pub signals : SignalsFit k.machine
   pub serial : k.machine.next_serial < 2 ^ 62

@@ -16,11 +16,13 @@ use Rattle.machine_flat.specs.KnownCalls.{Objects}
 use Rattle.machine_flat.specs.Placed.{ArePlaced}
 use Rattle.thread_laws.specs.Within.{IsWithin}
 use Rattle.kernel_state.specs.Kernel.{Kernel, turn}
+use Rattle.kernel_state.specs.Pending.{PendingFits, SignalsFit}
 use Rattle.kernel_sync.specs.Waits.{WaitsFit}
 use Rattle.kernel_lives.specs.Joins.{JoinsFit}
 use Rattle.kernel_events.specs.Handled.{CanHandle}
 use Rattle.rt_kernel.specs.Completes.{CanTick}
-use Rattle.rt_kernel.specs.Counts.{counts_in, counts_of}
+use Rattle.kernel_laws.specs.Counts.{HasSerials, counts_in, counts_of}
+use Rattle.kernel_laws.specs.Visitable.{CanBeSwept}
 use Rattle.rt_kernel.specs.Good.{IsGood}
 
 -- a thread that may have ticks
@@ -29,11 +31,7 @@ pub record FitsThread (o : Objects) (code : flat.Bodies (List Op)) (now : ℕ) (
   pub placed : ArePlaced code th.frames
   pub room : IsWithin now th
 
--- serials are left until 10^18 ticks
-abbrev pub HasSerials : Machine Cursor → Type 0
-HasSerials m = m.now ≤ 10 ^ 18 → m.next_serial < 2 ^ 62
-
--- a machine with so many objects, whose head may have ticks
+-- a machine with so many objects, whose head may have ticks; a sweep could come, or came to it
 pub record Fits (o : Objects) (code : flat.Bodies (List Op)) (m : Machine Cursor) : Type 0 where
   pub items : CanHandle m
   pub joins : JoinsFit m
@@ -41,6 +39,7 @@ pub record Fits (o : Objects) (code : flat.Bodies (List Op)) (m : Machine Cursor
   pub serial : HasSerials m
   pub threads : length m.threads ≡ o.threads
   pub counts : counts_of m ≡ counts_in o
+  pub sweeps : CanBeSwept code m
   pub good : IsGood (flat_bodies code) m
 
 -- a thread of a machine may have ticks
@@ -49,6 +48,8 @@ pub record FitsLeap (o : Objects) (code : flat.Bodies (List Op)) (m : Machine Cu
   pub runs : can_run m t ≡ true
   pub waits : WaitsFit m
   pub joins : JoinsFit m
+  pub pends : PendingFits m
+  pub signals : SignalsFit m
   pub serial : HasSerials m
   pub threads : length m.threads ≡ o.threads
 

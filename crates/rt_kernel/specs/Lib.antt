@@ -1,8 +1,7 @@
 pub mod Good
-pub mod Counts
 pub mod Completes
 pub mod Fits
-pub mod Held
+pub mod Landing
 pub mod Ready
 pub mod Ran
 pub mod Reach

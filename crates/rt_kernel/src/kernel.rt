@@ -1,5 +1,5 @@
 // The kernel of a script.
-ghost use Rattle.std.specs.Prelude.{ℕ, ◌≡◌, ◌≤◌, ◌<◌, ◌+◌, ◌-◌, ◌^◌, [], length, false, true, option_map, IfOk};
+ghost use Rattle.std.specs.Prelude.{ℕ, ◌≡◌, ◌≤◌, ◌<◌, ◌+◌, ◌-◌, ◌^◌, [], None, Some, length, false, true, option_map, IfOk};
 ghost use Rattle.pse52_trace.specs.Prints.{Prints};
 ghost use Rattle.pse52_trace.specs.Tells.{Tells};
 ghost use Rattle.sporadic_server.specs.Server.{totals};
@@ -97,10 +97,11 @@ impl Kernel {
         self.parts.totals(t)
     }
 
-    /// Runs to the horizon, at most 10^18, or until a write fails. It takes no memory, and is one step a leap: from where something falls due, or
-    /// a unit, an interval or a capacity ends, to where that happens next. Where it ended, the state is that of the
-    /// machine run tick by tick; what it printed is what happens until then, or a part of it where a write failed. A kernel that
-    /// stopped may be asked for `now` alone.
+    /// Runs to the horizon, at most 10^18, until a signal ends the process, or until a write fails. It takes no memory, and is one step a
+    /// leap: from where something falls due, or a unit, an interval or a capacity ends, to where that happens next. Unless a write failed,
+    /// the state is that of the machine run tick by tick to the horizon, where an ended process stays as it is; what it printed is what
+    /// happens until then, or a part of it where a write failed. The answer is `Killed` also where the process had ended before.
+    /// A kernel that stopped may be asked for `now` alone.
     pub fn run_until<K: Sink, L: Ledger>(
         &mut self,
         horizon: Tick,
@@ -110,10 +111,11 @@ impl Kernel {
         requires ahead { self.old.machine.now ≤ horizon }
         requires limit { horizon ≤ 10 ^ 18 }
         requires unfailed { out.old.failed ≡ false }
-        ensures state { result ≡ RunEnd.Ended → self.new ≡ ticked_by (horizon - self.old.machine.now) self.old }
+        ensures state { out.new.failed ≡ false → self.new ≡ ticked_by (horizon - self.old.machine.now) self.old }
         ensures told { Tells K.text K.faults self.old.names out.old out.new
             (ticks (flat_bodies self.old.code) (horizon - self.old.machine.now) self.old.machine).events }
-        ensures ended { result ≡ RunEnd.Ended → out.new.failed ≡ false }
+        ensures ended { result ≡ RunEnd.Ended → (out.new.failed ≡ false) × (self.new.machine.killed ≡ None) }
+        ensures killed { (signal : ℕ) → result ≡ RunEnd.Killed signal → (out.new.failed ≡ false) × (self.new.machine.killed ≡ Some signal) }
         ensures stopped { result ≡ RunEnd.Stopped → out.new.failed ≡ true }
         ensures later { self.old.machine.now ≤ self.new.machine.now }
         ensures not_beyond { self.new.machine.now ≤ horizon }
@@ -121,7 +123,7 @@ impl Kernel {
         ensures busy { steps.new ≤ steps.old + busy (flat_bodies self.old.code) self.old.machine 0 (horizon - self.old.machine.now) + 1 }
 
         // The state that it leaves is good, and each server keeps its budget in the runs of well formed scripts.
-        ensures good { result ≡ RunEnd.Ended → IsGood (flat_bodies self.new.code) self.new.machine }
+        ensures good { out.new.failed ≡ false → IsGood (flat_bodies self.new.code) self.new.machine }
         ensures budgets { (script : tree.Script) → IsWellFormed script → self.old ≡ opened script
             → (n k : ℕ) → KeepsBudgets (flat_bodies self.old.code) self.old.machine n k }
     {

@@ -13,6 +13,7 @@ ghost use Rattle.machine_flat.specs.FlatBodies.{flat_bodies};
 ghost use Rattle.machine_leaps.specs.Leap.{leap, leap_goes_on, leap_head, leap_length, leap_runs, length_from, ticks_to_next, unit_leapt};
 ghost use Rattle.kernel_events.specs.Built.{objects_in};
 ghost use Rattle.rt_kernel.specs.Fits.{Fits, FitsLeap, ItemsFit};
+ghost use Rattle.rt_kernel.specs.Landing.{IsSweepable};
 ghost use Rattle.rt_kernel.specs.Reach.{run_length, unit_length};
 ghost use Rattle.kernel_state.specs.Kernel.{Kernel, after, told, turn};
 ghost use Rattle.kernel_state.specs.Stood.{StoodRight};
@@ -66,6 +67,7 @@ fn run_thread<K: Sink, L: Ledger>(
     requires quiet { p.old.direct ≡ [] }
     requires stood { StoodRight p.old.machine }
     requires fits { FitsLeap (objects_in p.old) p.old.code p.old.machine t }
+    requires lands { IsSweepable (after (leap_runs (flat_bodies p.old.code) (unit_length reach p.old.machine.quantum (in_unit (flat_bodies p.old.code) (thread_at p.old.machine t)).thread) (Some t)) p.old) }
     requires some { 1 ≤ reach.most }
     requires early { p.old.machine.now + reach.most ≤ 10 ^ 18 }
     ensures length { result ≡ unit_length reach p.old.machine.quantum (in_unit (flat_bodies p.old.code) (thread_at p.old.machine t)).thread }
@@ -109,6 +111,7 @@ fn run<K: Sink, L: Ledger>(
     requires quiet { p.old.direct ≡ [] }
     requires stood { StoodRight p.old.machine }
     requires fits { IfSome to.now (λ t. FitsLeap (objects_in p.old) p.old.code p.old.machine t) }
+    requires lands { IfSome to.now (λ t. IsSweepable (after (leap_runs (flat_bodies p.old.code) (unit_length reach p.old.machine.quantum (in_unit (flat_bodies p.old.code) (thread_at p.old.machine t)).thread) (Some t)) p.old)) }
     requires some { 1 ≤ reach.most }
     requires early { p.old.machine.now + reach.most ≤ 10 ^ 18 }
     ensures length { result ≡ run_length (flat_bodies p.old.code) reach to.now p.old.machine }
@@ -134,6 +137,7 @@ fn run_head<K: Sink, L: Ledger>(
     requires quiet { p.old.direct ≡ [] }
     requires stood { StoodRight p.old.machine }
     requires fits { Fits (objects_in p.old) p.old.code p.old.machine }
+    requires lands { IsSweepable (after (leap_head (flat_bodies p.old.code) (length_from (flat_bodies p.old.code) None most p.old.machine)) p.old) }
     requires some { 1 ≤ most }
     requires early { p.old.machine.now + most ≤ 10 ^ 18 }
     ensures length { result ≡ length_from (flat_bodies p.old.code) None most p.old.machine }
@@ -158,6 +162,7 @@ fn go_on<K: Sink, L: Ledger>(
     requires quiet { p.old.direct ≡ [] }
     requires stood { StoodRight p.old.machine }
     requires fits { Fits (objects_in p.old) p.old.code p.old.machine }
+    requires lands { IsSweepable (after (leap_goes_on (flat_bodies p.old.code) (length_from (flat_bodies p.old.code) p.old.machine.killed most p.old.machine)) p.old) }
     requires some { 1 ≤ most }
     requires early { p.old.machine.now + most ≤ 10 ^ 18 }
     ensures length { result ≡ length_from (flat_bodies p.old.code) p.old.machine.killed most p.old.machine }
@@ -185,6 +190,7 @@ pub(crate) fn do_leap<K: Sink, L: Ledger>(
     requires quiet { p.old.direct ≡ [] }
     requires stood { StoodRight p.old.machine }
     requires fits { ItemsFit p.old (objects_in p.old) }
+    requires lands { IsSweepable (after (leap (flat_bodies p.old.code) (leap_length (flat_bodies p.old.code) most p.old.machine)) p.old) }
     requires some { 1 ≤ most }
     requires early { p.old.machine.now + most ≤ 10 ^ 18 }
     ensures length { result ≡ leap_length (flat_bodies p.old.code) most p.old.machine }

@@ -1,5 +1,5 @@
 // A run.
-ghost use Rattle.std.specs.Prelude.{◌≡◌, ◌≤◌, ◌<◌, ◌+◌, ◌-◌, ◌^◌, [], true, false};
+ghost use Rattle.std.specs.Prelude.{◌≡◌, ◌≤◌, ◌<◌, ◌+◌, ◌-◌, ◌^◌, ℕ, [], None, Some, true, false};
 ghost use Rattle.pse52_trace.specs.Tells.{Tells};
 ghost use Rattle.machine_rules.specs.Eventful.{busy};
 ghost use Rattle.machine_rules.specs.Runs.{ticks};
@@ -23,11 +23,13 @@ use tick_num::Tick;
 pub enum RunEnd {
     /// The horizon was reached.
     Ended,
+    /// This signal ended the process, at the horizon or before it.
+    Killed(u8),
     /// A write failed.
     Stopped,
 }
 
-/// Runs in leaps to the horizon, or until a write fails, in one step a leap.
+/// Runs in leaps to the horizon, until a signal ends the process, or until a write fails, in one step a leap.
 #[tactic(auto, using(crate::proofs::Running::still_fits))]
 pub(crate) fn run_leaps<K: Sink, L: Ledger>(
     p: &mut Parts,
@@ -41,10 +43,11 @@ pub(crate) fn run_leaps<K: Sink, L: Ledger>(
     requires quiet { p.old.direct ≡ [] }
     requires stood { StoodRight p.old.machine }
     requires fits { StaysFit p.old (objects_in p.old) }
-    ensures state { result ≡ RunEnd.Ended
+    ensures state { out.new.failed ≡ false
         → p.new ≡ record p.old { machine = (ticks (flat_bodies p.old.code) (horizon - p.old.machine.now) p.old.machine).machine } }
     ensures told { Tells K.text K.faults p.old.names out.old out.new (ticks (flat_bodies p.old.code) (horizon - p.old.machine.now) p.old.machine).events }
-    ensures ended { result ≡ RunEnd.Ended → out.new.failed ≡ false }
+    ensures ended { result ≡ RunEnd.Ended → (out.new.failed ≡ false) × (p.new.machine.killed ≡ None) }
+    ensures killed { (signal : ℕ) → result ≡ RunEnd.Killed signal → (out.new.failed ≡ false) × (p.new.machine.killed ≡ Some signal) }
     ensures stopped { result ≡ RunEnd.Stopped → out.new.failed ≡ true }
     ensures stood { StoodRight p.new.machine }
     ensures quiet { p.new.direct ≡ [] }
@@ -54,12 +57,18 @@ pub(crate) fn run_leaps<K: Sink, L: Ledger>(
     ensures steps { steps.new ≤ steps.old + (in_leaps (flat_bodies p.old.code) (horizon - p.old.machine.now) p.old.machine).count }
     ensures busy { steps.new ≤ steps.old + busy (flat_bodies p.old.code) p.old.machine 0 (horizon - p.old.machine.now) + 1 }
 {
+    if let Some(signal) = p.killed() {
+        return RunEnd::Killed(signal);
+    }
     let total = horizon.get() - p.instant().get();
     let mut done = 0;
     'leaps: while done < total {
         done += do_leap(p, total - done, out, steps);
         if out.failed() {
             return RunEnd::Stopped;
+        }
+        if let Some(signal) = p.killed() {
+            return RunEnd::Killed(signal);
         }
     }
     RunEnd::Ended

@@ -1,5 +1,5 @@
 -- What threads keep, calls on semaphores, signals, timers, queues and threads keep.
-use Rattle.std.proofs.Common.{Bool, List, None, Option, Some, ap, false, inl, inr, refl, subst, suc, sym, true, zero, ℕ, ◌+◌, ◌∙◌, ◌∷◌, ◌≡◌}
+use Rattle.std.proofs.Common.{Bool, List, None, Option, Some, [], ap, false, inl, inr, refl, subst, suc, sym, true, zero, ℕ, ◌+◌, ◌++◌, ◌∙◌, ◌∷◌, ◌≡◌}
 use Rattle.std.specs.Prelude.{nat_lt, not, pred, ◌==◌, if◌then◌else◌}
 use Rattle.tick_num.specs.declared.res.Res.{Res}
 use Rattle.tick_num.specs.declared.res.Res.TheVariants as res
@@ -15,9 +15,9 @@ use Rattle.machine_rules.specs.Waiters.{Waiter, best_waiter}
 use Rattle.machine_rules.specs.Turns.{By, Turn, answered, changes, changes_pending, changes_queue, changes_semaphore, changes_timer, has_passed, returns, tells}
 use Rattle.machine_rules.specs.Waking.{cancelled_value, wakes}
 use Rattle.machine_rules.specs.Semaphores.{posts_to, semaphore_limit, tries_semaphore, waits_semaphore}
-use Rattle.machine_rules.specs.Signals.{acceptor, delivers, generates, generates_for, has_no_room, is_ignore, sends_signal, sets_mask, tells_overrun, waits_signal_on, waits_ticks, without_record}
+use Rattle.machine_rules.specs.Signals.{acceptor, becomes_pending, delivers, generates, generates_for, has_no_room, is_ignore, sends_signal, sets_mask, tells_overrun, waits_signal_on, waits_ticks, with_overrun_told, without_record}
 use Rattle.machine_rules.specs.Threads.{action_of}
-use Rattle.machine_rules.specs.Timers.{expires, is_pending_from, overrun_once_more, record_of_timer, sleeps_until}
+use Rattle.machine_rules.specs.Timers.{armed_again, expires, is_pending_from, overrun_once_more, record_of_timer, signals_expiry, sleeps_until}
 use Rattle.machine_rules.specs.Queues.{asks_notification, blocks_unless_nonblock, enters, fired_by_message, has_room, is_notifying, message_of, notifies, receives_on, record_of_notification, registered, sends_message, sends_to, takes_over, value_at, waits_to_receive, waits_to_send, with_message, without_message}
 use Rattle.machine_rules.specs.Lives.{creates, finishes_in, inherited_mask, is_nobody, joins, wakes_joiner, with_joiner, without_life, without_target, without_top}
 use Rattle.machine_rules.specs.Cancellation.{acts_if_blocked, cancels, is_cancelled, leaves, leaves_wait, pops_cleanup, pushes_cleanup, request_acts, requested, runs_cleanup_if, sets_cancelability, without_cleanup}
@@ -25,8 +25,10 @@ use Rattle.machine_rules.specs.Scheduling.{sets_policy, sets_priority, takes_pri
 use Rattle.machine_rules.specs.Servers.{activates_if}
 use Rattle.machine_rules.specs.Lists.{changed_at}
 use Rattle.machine_rules.proofs.Reading.{changed-keeps, changed-twice}
-use Rattle.thread_laws.specs.EachThread.{Closed, Given}
-use Rattle.thread_laws.proofs.Changes.{Holds, HoldsIn, changes_hold, if_holds}
+use Rattle.machine_moves.proofs.Runs.Listed.{each_kept}
+use Rattle.thread_laws.specs.EachThread.{Closed, Given, IsSourced}
+use Rattle.thread_laws.proofs.Objects.{each_and_last, none_known, one_known}
+use Rattle.thread_laws.proofs.Changes.{Holds, HoldsIn, changes_hold, if_holds, pending_holds, queue_holds, timer_holds}
 use Rattle.thread_laws.proofs.Waking.{MayBlock, activates_if_hold, blocks_hold, blocks_unless_late_hold, blocks_unordered_hold, contends_hold, ending_hold, moves_unless_boosted_hold, returns_hold, starts_hold, wakes_cancelled_hold, wakes_hold}
 
 module _ {P : Type 0} (given : Given P) (Q : ℕ → ℕ → Thread P → Type 0) (closed : Closed given Q) where
@@ -60,18 +62,27 @@ module _ {P : Type 0} (given : Given P) (Q : ℕ → ℕ → Thread P → Type 0
     where
       told : (k : Option ℕ) → Holding (tells_overrun k (tells (event.Deliver t r.signal r.code r.value) s))
       told None = h
-      told (Some k) = h
+      told (Some k) = timer_holds given Q k with_overrun_told (tells (event.Deliver t r.signal r.code r.value) s) (λ x q. q) h
 
-  pub generates_for_hold : (w : Option Waiter) (r : SignalRecord) (s : Turn P) → Holding s → Holding (generates_for w r s)
-  generates_for_hold (Some w) r s h = wakes_hold given Q closed w.thread res.Zero r.signal (delivers w.thread r s) (delivers_hold w.thread r s h)
-  generates_for_hold None r s h = if_holds given Q (is_ignore (action_of s.machine r.signal)) _ _ h h
+  -- a record goes, or becomes pending
+  pub taken_out_holds : (r : SignalRecord) (s : Turn P) → Holding s → Holding (changes_pending (without_record r) s)
+  taken_out_holds r s h = pending_holds given Q (without_record r) s (each_kept given.Pends _ s.machine.pending) h
 
-  pub generates_hold : (r : SignalRecord) (s : Turn P) → Holding s → Holding (generates r s)
-  generates_hold r s h = generates_for_hold (acceptor s.machine r) r s h
+  pends_holds : (r : SignalRecord) (s : Turn P) → IsSourced r → Holding s → Holding (becomes_pending r s)
+  pends_holds r s from h =
+      let new = record r { serial = s.machine.next_serial } in
+      pending_holds given Q (λ (pending : List SignalRecord). pending ++ new ∷ []) s (λ each. each_and_last given.Pends s.machine.pending new each (closed.pends r s.machine.next_serial from)) h
 
-  pub sends_signal_hold : (by : By) (r : SignalRecord) (s : Turn P) → Holding s → Holding (sends_signal by r s)
-  sends_signal_hold by r s h =
-      if_holds given Q (has_no_room s.machine r) _ _ (back by res.Again 0 s h) (generates_hold r (returns by res.Zero 0 s) (back by res.Zero 0 s h))
+  pub generates_for_hold : (w : Option Waiter) (r : SignalRecord) (s : Turn P) → IsSourced r → Holding s → Holding (generates_for w r s)
+  generates_for_hold (Some w) r s from h = wakes_hold given Q closed w.thread res.Zero r.signal (delivers w.thread r s) (delivers_hold w.thread r s h)
+  generates_for_hold None r s from h = if_holds given Q (is_ignore (action_of s.machine r.signal)) _ _ h (pends_holds r s from h)
+
+  pub generates_hold : (r : SignalRecord) (s : Turn P) → IsSourced r → Holding s → Holding (generates r s)
+  generates_hold r s from h = generates_for_hold (acceptor s.machine r) r s from h
+
+  pub sends_signal_hold : (by : By) (r : SignalRecord) (s : Turn P) → IsSourced r → Holding s → Holding (sends_signal by r s)
+  sends_signal_hold by r s from h =
+      if_holds given Q (has_no_room s.machine r) _ _ (back by res.Again 0 s h) (generates_hold r (returns by res.Zero 0 s) from (back by res.Zero 0 s h))
 
   pub sets_mask_hold : (by : By) (change : ℕ → ℕ) (s : Turn P) → Holding s → Holding (sets_mask by change s)
   sets_mask_hold by change s h =
@@ -86,7 +97,7 @@ module _ {P : Type 0} (given : Given P) (Q : ℕ → ℕ → Thread P → Type 0
 
   pub waits_signal_on_hold : (r : Option SignalRecord) (n : Option ℕ) (by : By) (set : ℕ) (s : Turn P) → MayBlock given Q closed by (for_signal set) → Holding s → Holding (waits_signal_on r n by set s)
   waits_signal_on_hold (Some r) n by set s may h =
-      let out = changes_pending (without_record r) s in back by res.Zero r.signal (delivers by.thread r out) (delivers_hold by.thread r out h)
+      let out = changes_pending (without_record r) s in back by res.Zero r.signal (delivers by.thread r out) (delivers_hold by.thread r out (taken_out_holds r s h))
   waits_signal_on_hold None n by set s may h = waits_ticks_hold n by set s may h
 
   -- ---- sleeps and timers
@@ -95,17 +106,22 @@ module _ {P : Type 0} (given : Given P) (Q : ℕ → ℕ → Thread P → Type 0
   sleeps_until_hold by at s may h = if_holds given Q (has_passed at s.machine) _ _ (back by res.Zero 0 s h) (blocks_unordered_hold given Q closed by for_time (Some at) s may h)
 
   pub expires_hold : (k : ℕ) (s : Turn P) → Holding s → Holding (expires k s)
-  expires_hold k s h = if_holds given Q (is_pending_from k s.machine) (changes_timer k overrun_once_more s) (generates (record_of_timer k (timer_at s.machine k)) s) h (generates_hold (record_of_timer k (timer_at s.machine k)) s h)
+  expires_hold k s h = timer_holds given Q k (armed_again s.machine.now) (signals_expiry k s) (λ x q. q) sent
+    where
+      sent : Holding (signals_expiry k s)
+      sent =
+          if_holds given Q (is_pending_from k s.machine) (changes_timer k overrun_once_more s) (generates (record_of_timer k (timer_at s.machine k)) s)
+          (timer_holds given Q k overrun_once_more s (λ x q. q) h) (generates_hold (record_of_timer k (timer_at s.machine k)) s refl h)
 
   -- ---- message queues
 
   pub notifies_hold : (r : Option Registration) (q : ℕ) (s : Turn P) → Holding s → Holding (notifies r q s)
   notifies_hold None q s h = h
-  notifies_hold (Some r) q s h = generates_hold (record_of_notification q r) (changes_queue q (registered None) s) h
+  notifies_hold (Some r) q s h = generates_hold (record_of_notification q r) (changes_queue q (registered None) s) refl (queue_holds given Q q (registered None) s (λ x known. none_known given x) h)
 
   pub enters_hold : (q : ℕ) (x : Message) (told : Turn P → Turn P) (s : Turn P) → ((s : Turn P) → Holding s → Holding (told s)) → Holding s → Holding (enters q x told s)
   enters_hold q x told s keeps h =
-      let there = changes_queue q (with_message x) s in notifies_hold (fired_by_message s.machine q) q (told there) (keeps there h)
+      let there = changes_queue q (with_message x) s in notifies_hold (fired_by_message s.machine q) q (told there) (keeps there (queue_holds given Q q (with_message x) s (λ y known. known) h))
 
   blocks_unless_nonblock_hold : (by : By) (q : ℕ) (wait : Wait) (due : Option ℕ) (s : Turn P) → May by wait → Holding s → Holding (blocks_unless_nonblock by q wait due s)
   blocks_unless_nonblock_hold by q wait due s may h =
@@ -128,11 +144,13 @@ module _ {P : Type 0} (given : Given P) (Q : ℕ → ℕ → Thread P → Type 0
   receives_on_hold (Some n) by q due s may h =
       let out = changes_queue q (without_message n) s in
       let value = value_at (queue_at s.machine q).messages n in
-      takes_over_hold (best_waiter s.machine (waits_to_send q)) q (returns by res.Zero value out) (back by res.Zero value out h)
+      takes_over_hold (best_waiter s.machine (waits_to_send q)) q (returns by res.Zero value out) (back by res.Zero value out (queue_holds given Q q (without_message n) s (λ y known. known) h))
   receives_on_hold None by q due s may h = blocks_unless_nonblock_hold by q (for_message q) due s may h
 
-  pub asks_notification_hold : (by : By) (q : ℕ) (r : Registration) (s : Turn P) → Holding s → Holding (asks_notification by q r s)
-  asks_notification_hold by q r s h = if_holds given Q (is_notifying s.machine q) _ _ (back by res.Busy 0 s h) (back by res.Zero 0 (changes_queue q (registered (Some r)) s) h)
+  pub asks_notification_hold : (by : By) (q : ℕ) (r : Registration) (s : Turn P) → given.Sends r.signal → Holding s → Holding (asks_notification by q r s)
+  asks_notification_hold by q r s known h =
+      if_holds given Q (is_notifying s.machine q) _ _ (back by res.Busy 0 s h)
+      (back by res.Zero 0 (changes_queue q (registered (Some r)) s) (queue_holds given Q q (registered (Some r)) s (λ x old. one_known given x r known) h))
 
   -- ---- threads
 
@@ -165,7 +183,8 @@ module _ {P : Type 0} (given : Given P) (Q : ℕ → ℕ → Thread P → Type 0
   leaves_frame t frame.Main s e h =
       wakes_joiner_hold (thread_at s.machine t).joiner t (changes_pending (without_target t) (tells (event.Exit t) (changes t without_life s)))
       (changed-keeps no_thread t t without_life (λ th. th.joiner) (λ th. refl) s.machine.threads)
-      (changes_hold given Q t without_life s (λ lt q. closed.ends s.machine.now t (thread_at s.machine t) e q) h)
+      (pending_holds given Q (without_target t) (tells (event.Exit t) (changes t without_life s)) (each_kept given.Pends _ s.machine.pending)
+      (changes_hold given Q t without_life s (λ lt q. closed.ends s.machine.now t (thread_at s.machine t) e q) h))
   leaves_frame t frame.Cleanup s e h = changes_hold given Q t without_top s (λ lt q. closed.leaves s.machine.now t (thread_at s.machine t) (rw e refl) q) h
   leaves_frame t frame.Signal s e h = changes_hold given Q t without_top s (λ lt q. closed.leaves s.machine.now t (thread_at s.machine t) (rw e refl) q) h
 
@@ -225,7 +244,7 @@ module _ {P : Type 0} (given : Given P) (Q : ℕ → ℕ → Thread P → Type 0
       let third : Thread P → Thread P = runs_cleanup_if runs given.bodies (thread_at s.machine t).cleanups in
       let all : Thread P → Thread P = λ th. third (two th) in
       let one = ap (changed_at no_thread t third) (changed-twice no_thread t without_cleanup (answered res.Zero 0) ths) ∙ changed-twice no_thread t two third ths in
-      subst (λ (ths : List (Thread P)). HoldsIn given Q s.machine.now ths s.machine.actions) (sym one)
+      subst (λ (ths : List (Thread P)). HoldsIn given Q s.machine.now ths s.machine.actions s.machine.timers s.machine.queues s.machine.pending) (sym one)
       (changes_hold given Q t all s (λ lt q. closed.pops s.machine.now t (thread_at s.machine t) runs known q) h)
 
   -- ---- scheduling

@@ -4,11 +4,13 @@ use Rattle.std.specs.Prelude.{if◌then◌else◌, slice_index_or, ◌==◌}
 use Rattle.machine_rules.specs.declared.signal.SigAction.{SigAction}
 use Rattle.machine_rules.specs.declared.signal.SigAction.TheVariants as action
 use Rattle.machine_rules.specs.Lists.{changed_at}
-use Rattle.machine_rules.specs.State.{Thread, Waiting}
-use Rattle.machine_rules.specs.Threads.{no_thread, thread_at, waiting_in, waiting_of}
-use Rattle.machine_rules.specs.Turns.{Turn, changes}
+use Rattle.machine_rules.specs.State.{Queue, SignalRecord, Thread, Timer, Waiting}
+use Rattle.machine_rules.specs.Threads.{no_queue, no_thread, no_timer, thread_at, waiting_in, waiting_of}
+use Rattle.machine_rules.specs.Turns.{Turn, changes, changes_pending, changes_queue, changes_timer}
 use Rattle.machine_rules.proofs.Reading.{changed-length}
+use Rattle.machine_moves.proofs.Waiters.Best.{Each}
 use Rattle.thread_laws.specs.EachThread.{ActionKnown, Closed, EachIn, Given}
+use Rattle.thread_laws.proofs.Objects.{NotifiesKnown, ObjectsHold, each_changed}
 
 -- ---- one member of a list
 
@@ -46,13 +48,14 @@ at_all Q none (x ∷ xs) all past (suc k) = at_all (λ j x. Q (suc j) x) none xs
 -- ---- the machine between two effects
 
 module _ {P : Type 0} (given : Given P) (Q : ℕ → ℕ → Thread P → Type 0) where
-  pub record HoldsIn (now : ℕ) (threads : List (Thread P)) (actions : List SigAction) : Type 0 where
+  pub record HoldsIn (now : ℕ) (threads : List (Thread P)) (actions : List SigAction) (timers : List Timer) (queues : List Queue) (pending : List SignalRecord) : Type 0 where
     pub each : EachIn Q now threads
     pub counted : length threads ≡ given.count
     pub handled : (signal : ℕ) → ActionKnown given (slice_index_or actions signal action.Kill)
+    pub objects : ObjectsHold given timers queues pending
 
   abbrev pub Holds : Turn P → Type 0
-  Holds s = HoldsIn s.machine.now s.machine.threads s.machine.actions
+  Holds s = HoldsIn s.machine.now s.machine.threads s.machine.actions s.machine.timers s.machine.queues s.machine.pending
 
   pub if_holds : (b : Bool) (x y : Turn P) → Holds x → Holds y → Holds (if b then x else y)
   if_holds true x y h k = h
@@ -67,7 +70,34 @@ module _ {P : Type 0} (given : Given P) (Q : ℕ → ℕ → Thread P → Type 0
         each = λ u lt. at_each (Q s.machine.now) no_thread f ths t u (λ lt. new (let e = h.counted in omega (arith, e, lt)) (h.each t lt)) h.each (omega (arith, same, lt));
         counted = same ∙ h.counted;
         handled = h.handled;
+        objects = h.objects;
       }
+
+  -- ---- one object changes
+
+  pub timer_holds : (k : ℕ) (f : Timer → Timer) (s : Turn P) → ((x : Timer) → given.Sends x.signal → given.Sends (f x).signal) → Holds s → Holds (changes_timer k f s)
+  timer_holds k f s keeps h = record {
+    each = h.each;
+    counted = h.counted;
+    handled = h.handled;
+    objects = record { of_timers = each_changed (λ (x : Timer). given.Sends x.signal) no_timer f k s.machine.timers keeps h.objects.of_timers; of_queues = h.objects.of_queues; of_records = h.objects.of_records };
+  }
+
+  pub queue_holds : (q : ℕ) (f : Queue → Queue) (s : Turn P) → ((x : Queue) → NotifiesKnown given x → NotifiesKnown given (f x)) → Holds s → Holds (changes_queue q f s)
+  queue_holds q f s keeps h = record {
+    each = h.each;
+    counted = h.counted;
+    handled = h.handled;
+    objects = record { of_timers = h.objects.of_timers; of_queues = each_changed (NotifiesKnown given) no_queue f q s.machine.queues keeps h.objects.of_queues; of_records = h.objects.of_records };
+  }
+
+  pub pending_holds : (f : List SignalRecord → List SignalRecord) (s : Turn P) → (Each given.Pends s.machine.pending → Each given.Pends (f s.machine.pending)) → Holds s → Holds (changes_pending f s)
+  pending_holds f s keeps h = record {
+    each = h.each;
+    counted = h.counted;
+    handled = h.handled;
+    objects = record { of_timers = h.objects.of_timers; of_queues = h.objects.of_queues; of_records = keeps h.objects.of_records };
+  }
 
   -- what a thread waits for, it may wait for
   pub waiting_known : Closed given Q → (t : ℕ) (w : Waiting) (s : Turn P) → waiting_of s.machine t ≡ Some w → Holds s → given.Waits w.wait

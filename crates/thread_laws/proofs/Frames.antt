@@ -114,6 +114,8 @@ module _ (script : Script) (ok : IsPlaceable script) where
     Handles = λ h. h < length (handlers_of script);
     Known = λ th c. CallStands (objects_of script) (top_kind th.frames) c;
     Waits = λ w. Unit {0};
+    Sends = λ signal. Unit {0};
+    Pends = λ r. Unit {0};
   }
 
   abbrev pub StandsIn : ℕ → ℕ → Thread Cursor → Type 0
@@ -215,4 +217,6 @@ module _ (script : Script) (ok : IsPlaceable script) where
     leaves = λ now u th inner q. record { all = all_dropped th.frames q.all; ordered = order_dropped th.frames q.ordered; cleanups = q.cleanups };
     ending = λ now u th value may q. same th _ refl refl q;
     ends = λ now u th main q. record { all = tt; ordered = tt; cleanups = q.cleanups };
+    notifies = λ caller q signal value known. tt;
+    pends = λ r serial from. tt;
   }

@@ -14,7 +14,7 @@ use Rattle.script_flat.specs.Stands.{IsPlaced}
 use Rattle.script_flat.proofs.Agrees.{fetched_agrees, fetched_placed}
 use Rattle.machine_rules.specs.declared.frame.FrameKind.{FrameKind}
 use Rattle.machine_rules.specs.declared.frame.FrameKind.TheVariants as frame
-use Rattle.machine_rules.specs.State.{Frame, Thread}
+use Rattle.machine_rules.specs.State.{Frame, Thread, Timer}
 use Rattle.machine_rules.specs.Threads.{is_main, no_thread, thread_at, top_kind, top_left}
 use Rattle.machine_rules.specs.Declarations.{ThreadDecl, cleanups_of, threads_of}
 use Rattle.machine_rules.specs.Cancellation.{runs_cleanup, without_cleanup}
@@ -31,6 +31,7 @@ use Rattle.machine_flat.specs.Placed.{cursor_of}
 use Rattle.thread_laws.specs.EachThread.{Lasts, UnitKnown}
 use Rattle.thread_laws.specs.Frames.{AreInOrder, EachStands, FramesStand, RunStaysPlaced, TakenStands, UnitStands}
 use Rattle.thread_laws.specs.Placeable.{IsPlaceable}
+use Rattle.thread_laws.proofs.Objects.{NotifiesKnown, each_of_all}
 use Rattle.thread_laws.proofs.Changes.{Holds, at_all}
 use Rattle.thread_laws.proofs.MadeCalls.{UnitMakes, all_made, fetched_makes}
 use Rattle.thread_laws.proofs.Plain.{IsPlain}
@@ -184,6 +185,11 @@ module _ (script : Script) (ok : IsPlaceable script) where
     each = λ u lt. nothing_begun (threads_of script) u;
     counted = length-map (threads_of script) (thread_opened {P = Cursor});
     handled = actions_known (of_script script ok) script ok (λ h lt. lt);
+    objects = record {
+      of_timers = each_of_all (λ (k : Timer). Unit {0}) (opening {P = Cursor} script).timers (λ k. tt);
+      of_queues = each_of_all (NotifiesKnown (of_script script ok)) (opening {P = Cursor} script).queues (λ q r e. tt);
+      of_records = tt;
+    };
   }
 
   pub run_holds : (n most : ℕ) → Holds (of_script script ok) (StandsIn script ok) (items_done (flat_bodies (code_of script)) most (turn_of (ticks (flat_bodies (code_of script)) n (opening script)).machine))

@@ -21,7 +21,7 @@ use Rattle.thread_laws.specs.EachThread.{Closed, Passes}
 use Rattle.thread_laws.specs.HeadRuns.{HeadRuns, head_unless, one_at, share_of, ticks_run}
 use Rattle.thread_laws.specs.Within.{EachWithin, IsWithin}
 use Rattle.thread_laws.proofs.Changes.{Holds}
-use Rattle.thread_laws.proofs.Known.{all_known, any_action, any_unit}
+use Rattle.thread_laws.proofs.Known.{all_known, any_action, any_objects, any_unit}
 use Rattle.thread_laws.proofs.Within.{nothing_run, within_lasts}
 use Rattle.thread_laws.proofs.Items.{instant_hold}
 use Rattle.thread_laws.proofs.Runs.{runs_head_hold, ticks_hold}
@@ -64,6 +64,8 @@ module _ {P : Type 0} (bodies : Bodies P) (count : ℕ) (T : ℕ → ℕ) where
     leaves = λ now u th inner q. q;
     ending = λ now u th value may q. q;
     ends = λ now u th main q. q;
+    notifies = λ caller q signal value known. tt;
+    pends = λ r serial from. tt;
   }
 
 -- ---- nor does the beginning of a unit
@@ -143,13 +145,13 @@ module _ {P : Type 0} (bodies : Bodies P) (count : ℕ) where
       let T : ℕ → ℕ = λ u. ticks_run m u in
       goes_on_counts bodies count T ready.machine.killed ready
       (instant_hold (all_known bodies count) (Before bodies count T) (counts_closed bodies count T) (turn_of m)
-      (record { each = λ u lt. refl; counted = counted; handled = λ signal. any_action bodies count _ })) u lt
+      (record { each = λ u lt. refl; counted = counted; handled = λ signal. any_action bodies count _; objects = any_objects bodies count m.timers m.queues m.pending })) u lt
 
   -- and there are as many threads as before
   pub ticks_length : (n : ℕ) (start : Machine P) → length start.threads ≡ count → EachWithin start → length (ticks bodies n start).machine.threads ≡ count
   ticks_length n start e begun =
       (ticks_hold (all_known bodies count) (λ now u th. IsWithin now th) (within_lasts bodies count) n start
-      (record { each = λ u lt. begun.each u; counted = e; handled = λ signal. any_action bodies count _ })).counted
+      (record { each = λ u lt. begun.each u; counted = e; handled = λ signal. any_action bodies count _; objects = any_objects bodies count start.timers start.queues start.pending })).counted
 
 -- so it is at every tick of a script
 pub head_runs : (script : Script) (k : ℕ) → HeadRuns script k

@@ -26,7 +26,7 @@ use Rattle.machine_rules.proofs.Reading.{changed-keeps}
 use Rattle.thread_laws.specs.EachThread.{ActionKnown, Closed, Given}
 use Rattle.thread_laws.proofs.Changes.{Holds, changes_hold}
 use Rattle.thread_laws.proofs.Waking.{contends_hold, refills_hold, starts_hold, wakes_hold}
-use Rattle.thread_laws.proofs.Calls.{delivers_hold, expires_hold}
+use Rattle.thread_laws.proofs.Calls.{delivers_hold, expires_hold, taken_out_holds}
 
 -- ---- a thread that wakes stays in the frames that it was in
 
@@ -73,7 +73,7 @@ module _ {P : Type 0} (given : Given P) (Q : ℕ → ℕ → Thread P → Type 0
       let x = delivers t r woke in
       changes_hold given Q t (on_top (new_frame given.bodies frame.Signal (body_of.Handler n) (capped r.value))) x
       (λ lt q. closed.catches x.machine.now t (thread_at x.machine t) n r.value known (delivers_catches t t r woke ∙ interrupts_catches (waiting_of s.machine t) t t out ∙ free) q)
-      (delivers_hold given Q closed t r woke (interrupts_hold (waiting_of s.machine t) t out h))
+      (delivers_hold given Q closed t r woke (interrupts_hold (waiting_of s.machine t) t out (taken_out_holds given Q closed r s h)))
 
   pub takes_record_hold : (r : Option SignalRecord) (t : ℕ) (s : Turn P) → catches_signal (thread_at s.machine t) ≡ false → Holding s → Holding (takes_record given.bodies r t s)
   takes_record_hold None t s free h = h

@@ -1,3 +1,4 @@
+pub mod Objects
 pub mod Changes
 pub mod Waking
 pub mod Calls

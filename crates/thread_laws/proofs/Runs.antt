@@ -16,6 +16,7 @@ use Rattle.machine_rules.specs.Runs.{ticks}
 use Rattle.machine_rules.proofs.Reading.{changed-length}
 use Rattle.machine_rules.specs.Throughout.{HoldsThroughout}
 use Rattle.thread_laws.specs.EachThread.{ActionKnown, Closed, EachThread, Given, Lasts, Passes, UnitKnown}
+use Rattle.thread_laws.proofs.Objects.{ObjectsHold}
 use Rattle.thread_laws.proofs.Changes.{Holds, at_self, at_two, changes_hold}
 use Rattle.thread_laws.proofs.Waking.{moves_if_hold, moves_unless_boosted_hold, plans_hold}
 use Rattle.thread_laws.proofs.Table.{unit_effect_hold}
@@ -51,7 +52,7 @@ module _ {P : Type 0} (given : Given P) (Q : ℕ → ℕ → Thread P → Type 0
 
 module _ {P : Type 0} (given : Given P) (Q R : ℕ → ℕ → Thread P → Type 0) (closed : Closed given R) (to : Option ℕ) (passes : Passes given Q R to) where
   pub later_holds : (s : Turn P) → ((u : ℕ) → is to u ≡ false) → Holds given Q s → Holds given R (becomes later s)
-  later_holds s free h = record { each = λ u lt. passes.rests s.machine.now u (thread_at s.machine u) (free u) (h.each u lt); counted = h.counted; handled = h.handled }
+  later_holds s free h = record { each = λ u lt. passes.rests s.machine.now u (thread_at s.machine u) (free u) (h.each u lt); counted = h.counted; handled = h.handled; objects = h.objects }
 
   -- the tick is charged, and the unit has not had its effect
   abbrev pub charged_turn : ℕ → Turn P → Turn P
@@ -75,6 +76,7 @@ module _ {P : Type 0} (given : Given P) (Q R : ℕ → ℕ → Thread P → Type
             (λ j other lt. passes.rests now j (thread_at s.machine j) (rw e other) (h.each j lt)) (omega (arith, same, lt));
         counted = same ∙ h.counted;
         handled = h.handled;
+        objects = h.objects;
       }
 
   pub ticked_holds : (before : Machine P) (t : ℕ) (s : Turn P) → to ≡ Some t → Holds given Q s → Holds given R (unit_ticked given.bodies before t (in_unit given.bodies (thread_at s.machine t)) s)
@@ -118,7 +120,7 @@ module _ {P : Type 0} (given : Given P) (Q : ℕ → ℕ → Thread P → Type 0
 -- What lasts holds of each thread at each instant of a run, and between its items, where it holds of each thread at first and the actions
 -- of the signals are known.
 pub each_throughout : {P : Type 0} (given : Given P) (Q : ℕ → ℕ → Thread P → Type 0) → Lasts given Q → (start : Machine P) → length start.threads ≡ given.count →
-    ((signal : ℕ) → ActionKnown given (action_of start signal)) → EachThread Q start → HoldsThroughout given.bodies start (EachThread Q)
-each_throughout given Q lasts start counted handled each = record {
-  each = λ n most. (holds_throughout given Q lasts n most start (record { each = each; counted = counted; handled = handled })).each;
+    ((signal : ℕ) → ActionKnown given (action_of start signal)) → ObjectsHold given start.timers start.queues start.pending → EachThread Q start → HoldsThroughout given.bodies start (EachThread Q)
+each_throughout given Q lasts start counted handled objects each = record {
+  each = λ n most. (holds_throughout given Q lasts n most start (record { each = each; counted = counted; handled = handled; objects = objects })).each;
 }

@@ -7,7 +7,7 @@ use Rattle.script_tree.specs.declared.call.Call.{Call}
 use Rattle.script_tree.specs.declared.call.Call.TheVariants as call
 use Rattle.script_flat.specs.declared.unit.Unit as units
 use Rattle.script_flat.specs.declared.unit.Unit.TheVariants as unit
-use Rattle.machine_rules.specs.State.{SignalRecord, Thread, Wait, for_condition, for_end, for_message, for_mutex, for_room, for_semaphore, for_signal, for_time}
+use Rattle.machine_rules.specs.State.{SignalRecord, Thread, Timer, Wait, for_condition, for_end, for_message, for_mutex, for_room, for_semaphore, for_signal, for_time}
 use Rattle.machine_rules.specs.Threads.{lives, number_of, queue_at, semaphore_at, thread_at, timer_at}
 use Rattle.machine_rules.specs.Waiters.{best_waiter}
 use Rattle.machine_rules.specs.Turns.{By, Turn, changes_timer, moves}
@@ -19,7 +19,7 @@ use Rattle.machine_rules.specs.Queues.{next_message}
 use Rattle.machine_rules.specs.Cancellation.{is_cancellation_point, is_cancelled, request_acts}
 use Rattle.machine_rules.specs.Calls.{call_effect, makes_call, unit_effect}
 use Rattle.thread_laws.specs.EachThread.{Closed, Given, MakesWait, UnitKnown}
-use Rattle.thread_laws.proofs.Changes.{Holds, if_holds}
+use Rattle.thread_laws.proofs.Changes.{Holds, if_holds, timer_holds}
 use Rattle.thread_laws.proofs.Waking.{MayBlock, broadcasts_hold, ending_hold, locks_hold, locks_on_hold, returns_hold, signals_hold, unlocks_hold, waits_hold}
 use Rattle.thread_laws.proofs.Calls.{asks_notification_hold, cancels_hold, creates_hold, finishes_hold, is_cancelled_hold, joins_hold, pops_hold, posts_to_hold, pushes_hold, receives_on_hold, sends_message_hold, sends_signal_hold, sets_cancelability_hold, sets_mask_hold, sets_policy_hold, sets_priority_hold, sleeps_until_hold, tries_semaphore_hold, waits_semaphore_hold, waits_signal_on_hold}
 
@@ -60,15 +60,16 @@ module _ {P : Type 0} (given : Given P) (Q : ℕ → ℕ → Thread P → Type 0
   call_effect_hold by (call.ClockNanosleep at) s e known h = sleeps_until_hold given Q closed by (number_of s.machine by.thread at) s (may by (call.ClockNanosleep at) (for_time) (thread_at s.machine by.thread) e known refl) h
   call_effect_hold by call.Gettime s e known h = returns_hold given Q closed by res.Zero s.machine.now s h
   call_effect_hold by (call.TimerSettimeRel k n interval) s e known h =
-      returns_hold given Q closed by res.Zero 0 (changes_timer k (armed (first_expiry n (s.machine.now + n)) interval) s) h
+      returns_hold given Q closed by res.Zero 0 (changes_timer k (armed (first_expiry n (s.machine.now + n)) interval) s) (timer_holds given Q k (armed (first_expiry n (s.machine.now + n)) interval) s (λ x q. q) h)
   call_effect_hold by (call.TimerSettimeAbs k at interval) s e known h =
-      returns_hold given Q closed by res.Zero 0 (changes_timer k (armed (first_expiry (number_of s.machine by.thread at) (number_of s.machine by.thread at)) interval) s) h
+      let f : Timer → Timer = armed (first_expiry (number_of s.machine by.thread at) (number_of s.machine by.thread at)) interval in
+      returns_hold given Q closed by res.Zero 0 (changes_timer k f s) (timer_holds given Q k f s (λ x q. q) h)
   call_effect_hold by (call.TimerGettime k) s e known h = returns_hold given Q closed by res.Zero (ticks_to (timer_at s.machine k).due s.machine.now) s h
   call_effect_hold by (call.TimerGetoverrun k) s e known h = returns_hold given Q closed by res.Zero (timer_at s.machine k).overrun s h
-  call_effect_hold by (call.Kill signal) s e known h = sends_signal_hold given Q closed by (record_of_kill signal None) s h
+  call_effect_hold by (call.Kill signal) s e known h = sends_signal_hold given Q closed by (record_of_kill signal None) s refl h
   call_effect_hold by (call.Tkill u signal) s e known h =
-      if_holds given Q (lives s.machine u) _ _ (sends_signal_hold given Q closed by (record_of_kill signal (Some u)) s h) (returns_hold given Q closed by res.Srch 0 s h)
-  call_effect_hold by (call.Sigqueue signal v) s e known h = sends_signal_hold given Q closed by (record_of_sigqueue signal (number_of s.machine by.thread v)) s h
+      if_holds given Q (lives s.machine u) _ _ (sends_signal_hold given Q closed by (record_of_kill signal (Some u)) s refl h) (returns_hold given Q closed by res.Srch 0 s h)
+  call_effect_hold by (call.Sigqueue signal v) s e known h = sends_signal_hold given Q closed by (record_of_sigqueue signal (number_of s.machine by.thread v)) s refl h
   call_effect_hold by (call.SigmaskBlock set) s e known h = sets_mask_hold given Q closed by (with_signals set) s h
   call_effect_hold by (call.SigmaskUnblock set) s e known h = sets_mask_hold given Q closed by (without_signals set) s h
   call_effect_hold by (call.SigmaskSet set) s e known h = sets_mask_hold given Q closed by (λ (mask : ℕ). set) s h
@@ -78,16 +79,16 @@ module _ {P : Type 0} (given : Given P) (Q : ℕ → ℕ → Thread P → Type 0
       waits_signal_on_hold given Q closed (selected s.machine (λ (r : SignalRecord). has_signal set r.signal && goes_to by.thread r.target)) (Some n) by set s (may by (call.Sigtimedwait set n) (for_signal set) (thread_at s.machine by.thread) e known refl) h
   call_effect_hold by (call.MqSend q len p v) s e known h =
       sends_message_hold given Q closed by q len (record { priority = p; value = number_of s.machine by.thread v }) None s
-      (may by (call.MqSend q len p v) (for_room q (record { priority = p; value = number_of s.machine by.thread v })) (thread_at s.machine by.thread) e known (_, refl)) h
+      (may by (call.MqSend q len p v) (for_room q (record { priority = p; value = number_of s.machine by.thread v })) (thread_at s.machine by.thread) e known (_, refl, refl)) h
   call_effect_hold by (call.MqTimedsend q len p v at) s e known h =
       sends_message_hold given Q closed by q len (record { priority = p; value = number_of s.machine by.thread v }) (Some (number_of s.machine by.thread at)) s
-      (may by (call.MqTimedsend q len p v at) (for_room q (record { priority = p; value = number_of s.machine by.thread v })) (thread_at s.machine by.thread) e known (_, refl)) h
+      (may by (call.MqTimedsend q len p v at) (for_room q (record { priority = p; value = number_of s.machine by.thread v })) (thread_at s.machine by.thread) e known (_, refl, refl)) h
   call_effect_hold by (call.MqReceive q) s e known h = receives_on_hold given Q closed (next_message (queue_at s.machine q).messages) by q None s (may by (call.MqReceive q) (for_message q) (thread_at s.machine by.thread) e known refl) h
   call_effect_hold by (call.MqTimedreceive q at) s e known h =
       receives_on_hold given Q closed (next_message (queue_at s.machine q).messages) by q (Some (number_of s.machine by.thread at)) s
       (may by (call.MqTimedreceive q at) (for_message q) (thread_at s.machine by.thread) e known refl) h
   call_effect_hold by (call.MqNotify q signal v) s e known h =
-      asks_notification_hold given Q closed by q (record { signal = signal; value = number_of s.machine by.thread v }) s h
+      asks_notification_hold given Q closed by q (record { signal = signal; value = number_of s.machine by.thread v }) s (closed.notifies (thread_at s.machine by.thread) q signal v known) h
 
   pub makes_call_hold : (by : By) (s : Turn P) → given.Known (thread_at s.machine by.thread) by.call → Holding s → Holding (makes_call given.bodies by s)
   makes_call_hold by s known h =

@@ -21,7 +21,7 @@ use Rattle.machine_flat.specs.FlatBodies.{code_of, flat_bodies}
 use Rattle.thread_laws.specs.EachThread.{Closed, Lasts}
 use Rattle.thread_laws.specs.Within.{EachWithin, HighWithin, IsWithin, RunStaysWithin}
 use Rattle.thread_laws.proofs.Changes.{at_all}
-use Rattle.thread_laws.proofs.Known.{all_known, any_action, any_unit}
+use Rattle.thread_laws.proofs.Known.{all_known, any_action, any_objects, any_unit}
 use Rattle.thread_laws.proofs.Runs.{holds_throughout}
 
 -- ---- what a server counts
@@ -102,6 +102,8 @@ module _ {P : Type 0} (bodies : Bodies P) (count : ℕ) where
     leaves = λ now u th inner q. same now th _ refl refl refl q;
     ending = λ now u th value may q. same now th _ refl refl refl q;
     ends = λ now u th main q. counted_by now th _ refl refl tt q;
+    notifies = λ caller q signal value known. tt;
+    pends = λ r serial from. tt;
   }
 
   -- ---- a tick
@@ -155,7 +157,7 @@ module _ {P : Type 0} (bodies : Bodies P) (start : Machine P) (begun : EachWithi
   within_after : (n most : ℕ) → EachWithin (after_items bodies start n most)
   within_after n most =
       let h = holds_throughout (all_known bodies count) Within (within_lasts bodies count) n most start
-      (record { each = λ u lt. begun.each u; counted = refl; handled = λ signal. any_action bodies count _ }) in
+      (record { each = λ u lt. begun.each u; counted = refl; handled = λ signal. any_action bodies count _; objects = any_objects bodies count start.timers start.queues start.pending }) in
       let m = after_items bodies start n most in
       record { each = λ t. at_all (λ u th. IsWithin m.now th) no_thread m.threads h.each (λ u. record { ticks = omega arith; slice = omega arith; high = tt }) t }
 

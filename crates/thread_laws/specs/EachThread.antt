@@ -1,5 +1,5 @@
 -- What holds of each single thread, and which changes of a thread a machine makes. All of it is this project's own.
-use Rattle.std.specs.Prelude.{Bool, List, Option, Some, false, length, true, ℕ, ◌+◌, ◌<◌, ◌∷◌, ◌≡◌, ◌⊎◌}
+use Rattle.std.specs.Prelude.{Bool, List, Option, Some, false, is_some, length, true, ℕ, ◌+◌, ◌<◌, ◌∷◌, ◌≡◌, ◌⊎◌, ◌||◌}
 use Rattle.tick_num.specs.declared.res.Res.{Res}
 use Rattle.tick_num.specs.declared.res.Res.TheVariants as res
 use Rattle.script_tree.specs.declared.call.Call.{Call}
@@ -18,10 +18,11 @@ use Rattle.machine_rules.specs.declared.thread.CondEnd.{CondEnd}
 use Rattle.machine_rules.specs.declared.thread.CondEnd.TheVariants as cond_end
 use Rattle.machine_rules.specs.Lists.{is}
 use Rattle.machine_rules.specs.Bodies.{Bodies}
-use Rattle.machine_rules.specs.State.{Joiner, Machine, Message, Thread, Wait, Waiting, for_condition, for_end, for_message, for_mutex, for_mutex_again, for_room, for_semaphore, for_signal, for_time, has_joined, nobody, waits_to_join}
+use Rattle.machine_rules.specs.State.{Joiner, Machine, Message, SignalRecord, Thread, Wait, Waiting, for_condition, for_end, for_message, for_mutex, for_mutex_again, for_room, for_semaphore, for_signal, for_time, has_joined, nobody, waits_to_join}
 use Rattle.machine_rules.specs.Threads.{catches_signal, is_main, thread_in, top_kind, waiting_in}
 use Rattle.machine_rules.specs.Turns.{answered}
 use Rattle.machine_rules.specs.Servers.{with_server}
+use Rattle.machine_rules.specs.Signals.{is_counted}
 use Rattle.machine_rules.specs.Waking.{ending_with, new_frame, on_top, put_to_wait, started, woken}
 use Rattle.machine_rules.specs.Lives.{with_joiner, without_life, without_top}
 use Rattle.machine_rules.specs.Cancellation.{request_acts, requested, runs_cleanup_if, without_cleanup}
@@ -39,13 +40,16 @@ EachThread Q m = EachIn Q m.now m.threads
 
 -- ---- what is known of a machine
 
--- its bodies, how many threads it has, which handlers its signals may have, which calls a thread may make, and what it may wait for
+-- its bodies, how many threads it has, which handlers its signals may have, which calls a thread may make, what it may wait for, which
+-- signals timers and queues may send, and which records may be pending
 pub record Given (P : Type 0) : Type 1 where
   pub bodies : Bodies P
   pub count : ℕ
   pub Handles : ℕ → Type 0
   pub Known : Thread P → Call → Type 0
   pub Waits : Wait → Type 0
+  pub Sends : ℕ → Type 0
+  pub Pends : SignalRecord → Type 0
 
 -- what a call may wait for
 abbrev pub MakesWait : Call → Wait → Type 0
@@ -61,11 +65,15 @@ MakesWait (call.Nanosleep n) w = w ≡ for_time
 MakesWait (call.ClockNanosleep at) w = w ≡ for_time
 MakesWait (call.Sigwaitinfo set) w = w ≡ for_signal set
 MakesWait (call.Sigtimedwait set n) w = w ≡ for_signal set
-MakesWait (call.MqSend q len p v) w = (x : Message) × (w ≡ for_room q x)
-MakesWait (call.MqTimedsend q len p v at) w = (x : Message) × (w ≡ for_room q x)
+MakesWait (call.MqSend q len p v) w = (x : Message) × (w ≡ for_room q x) × (x.priority ≡ p)
+MakesWait (call.MqTimedsend q len p v at) w = (x : Message) × (w ≡ for_room q x) × (x.priority ≡ p)
 MakesWait (call.MqReceive q) w = w ≡ for_message q
 MakesWait (call.MqTimedreceive q at) w = w ≡ for_message q
 MakesWait other w = ⊥
+
+-- a record of a call, of a timer or of a queue
+abbrev pub IsSourced : SignalRecord → Type 0
+IsSourced r = (is_counted r.code || is_some r.timer || is_some r.queue) ≡ true
 
 module _ {P : Type 0} (given : Given P) where
   abbrev pub ActionKnown : SigAction → Type 0
@@ -122,6 +130,9 @@ pub record Closed {P : Type 0} (given : Given P) (Q : ℕ → ℕ → Thread P �
   pub leaves : (now u : ℕ) (th : Thread P) → is_main (top_kind th.frames) ≡ false → Q now u th → Q now u (without_top th)
   pub ending : (now u : ℕ) (th : Thread P) (value : ℕ) → MayEnd given th → Q now u th → Q now u (ending_with value th)
   pub ends : (now u : ℕ) (th : Thread P) → top_kind th.frames ≡ frame.Main → Q now u th → Q now u (without_life th)
+  -- a thread may have asked a queue for a signal; and a record becomes pending
+  pub notifies : (caller : Thread P) (q signal : ℕ) (value : Operand) → given.Known caller (call.MqNotify q signal value) → given.Sends signal
+  pub pends : (r : SignalRecord) (serial : ℕ) → IsSourced r → given.Pends (record r { serial = serial })
 
 -- From one law to another, by a tick that is given to that thread or to none: its unit makes only calls that it may make.
 pub record Passes {P : Type 0} (given : Given P) (Q R : ℕ → ℕ → Thread P → Type 0) (to : Option ℕ) : Type 0 where

@@ -5,6 +5,11 @@ use Rattle.machine_rules.proofs.ItemsEnd.{item_falls}
 use Rattle.machine_flat.specs.FlatBodies.{flat_bodies}
 use Rattle.kernel_state.specs.Kernel.{Kernel, after, told, turn}
 use Rattle.kernel_events.specs.Handled.{CanHandle}
+use Rattle.machine_rules.specs.DueItems.{handles}
+use Rattle.machine_rules.specs.Turns.{Turn, settles_since, ◌▷◌}
+use Rattle.script_flat.specs.declared.cursor.Cursor.{Cursor}
+use Rattle.kernel_signals.specs.Sweeping.{CanSweep}
+use Rattle.rt_kernel.proofs.Landing.{item_sweeps}
 use Rattle.rt_kernel.proofs.Halfway.{all_state, all_told, fits_now, one_done}
 use Rattle.rt_kernel.proofs.instant.do_instant.Goals as goal
 
@@ -25,6 +30,12 @@ do_item-requires-clause-serial g c =
     let time = c.items.invariant.time in
     subst (λ (x : Kernel). x.machine.next_serial < 2 ^ 62) (sym c.next_item.ensures.same)
     ((fits_now _ _ c.args.p.now c.items.p _ _ c.items.invariant c.requires.fits).serial (omega (arith, early, time)))
+
+pub do_item-requires-clause-sweeps : goal.do_item-requires-clause-sweeps
+do_item-requires-clause-sweeps g c =
+    let due = sym c.next_item.ensures.value ∙ c.in-Some.is in
+    subst (λ (x : Kernel). CanSweep (after (λ (s : Turn Cursor). s ▷ handles (flat_bodies x.code) c.in-Some.i ▷ settles_since s.machine) x)) (sym c.next_item.ensures.same)
+    (item_sweeps _ _ c.args.p.now c.items.p _ _ c.in-Some.i c.items.invariant c.requires.fits due)
 
 pub items-preserved : goal.items-preserved
 items-preserved g c =

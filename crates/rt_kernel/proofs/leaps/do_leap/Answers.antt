@@ -3,7 +3,11 @@ use Rattle.machine_leaps.specs.Leap.{leap_goes_on}
 use Rattle.kernel_state.proofs.Turns.{then_state_in, then_told_in}
 use Rattle.rt_kernel.proofs.Fitting.{instant_fits}
 use Rattle.rt_kernel.proofs.LeapParts.{leap_goes_on_behind}
+use Rattle.rt_kernel.proofs.Landing.{instant_lands}
 use Rattle.rt_kernel.proofs.leaps.do_leap.Goals as goal
+
+pub go_on-requires-clause-lands : goal.go_on-requires-clause-lands
+go_on-requires-clause-lands g c = instant_lands c.args.p.now c.do_instant.new.p c.args.most c.requires.quiet c.do_instant.ensures.state c.requires.lands
 
 pub go_on-requires-clause-fits : goal.go_on-requires-clause-fits
 go_on-requires-clause-fits g c = instant_fits c.args.p.now c.do_instant.new.p c.do_instant.ensures.state c.requires.fits

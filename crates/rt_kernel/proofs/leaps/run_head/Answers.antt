@@ -7,7 +7,12 @@ use Rattle.machine_flat.specs.FlatBodies.{flat_bodies}
 use Rattle.kernel_state.specs.Kernel.{after, told}
 use Rattle.kernel_state.proofs.Turns.{then_state_in, then_told_in}
 use Rattle.rt_kernel.proofs.Fitting.{dispatched_fits}
+use Rattle.rt_kernel.proofs.Landing.{head_lands}
 use Rattle.rt_kernel.proofs.leaps.run_head.Goals as goal
+
+pub run-requires-clause-lands : goal.run-requires-clause-lands
+run-requires-clause-lands g c =
+    head_lands c.args.p.now c.dispatch-to.new.self (record { most = c.args.most; near = c.ticks_to_next-near.result }) c.dispatch-to.result c.dispatch-to.ensures.top c.dispatch-to.ensures.state c.ticks_to_next-near.ensures c.requires.lands
 
 pub run-requires-clause-fits : goal.run-requires-clause-fits
 run-requires-clause-fits g c =

@@ -1,3 +1,5 @@
+use Rattle.std.proofs.Common.{arith}
+use Rattle.machine_flat.specs.FlatBodies.{flat_bodies}
 use Rattle.script_flat.specs.declared.cursor.Cursor.{Cursor}
 use Rattle.machine_rules.specs.Bodies.{Bodies}
 use Rattle.machine_rules.specs.Delivery.{sweeps}
@@ -9,7 +11,21 @@ use Rattle.machine_rules.specs.Turns.{Turn, ◌▷◌}
 use Rattle.machine_rules.specs.Units.{in_unit}
 use Rattle.machine_rules.proofs.BehindTicks.{sweeps_behind}
 use Rattle.kernel_state.proofs.Turns.{then_state_in, then_told_in}
+use Rattle.rt_kernel.proofs.Landing.{unit_now, unit_sweeps}
+use Rattle.rt_kernel.proofs.Lengths.{length_few}
 use Rattle.rt_kernel.proofs.leaps.run_thread.Goals as goal
+
+pub sweep-requires-clause-can : goal.sweep-requires-clause-can
+sweep-requires-clause-can g c = unit_sweeps c.args.p.now c.run_unit-k.new.p c.args.t c.run_unit-k.result _ c.run_unit-k.ensures.length c.run_unit-k.ensures.state c.requires.lands
+
+pub sweep-requires-clause-early : goal.sweep-requires-clause-early
+sweep-requires-clause-early g c =
+    let p = c.args.p.now in
+    let now = unit_now p c.run_unit-k.new.p c.args.t c.run_unit-k.result c.run_unit-k.ensures.state in
+    let few = length_few p.machine.now c.args.reach c.requires.some c.requires.early p.machine.quantum (in_unit (flat_bodies p.code) (thread_at p.machine c.args.t)).thread in
+    let is = c.run_unit-k.ensures.length in
+    let early = c.requires.early in
+    omega (arith, now, few, is, early)
 
 pub returns-clause-state : goal.returns-clause-state
 returns-clause-state g c =

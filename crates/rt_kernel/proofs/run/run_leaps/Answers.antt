@@ -4,6 +4,7 @@ use Rattle.machine_rules.specs.Eventful.{busy}
 use Rattle.machine_rules.specs.Runs.{ticks}
 use Rattle.machine_flat.specs.FlatBodies.{flat_bodies}
 use Rattle.machine_leaps.specs.Leap.{in_leaps}
+use Rattle.rt_kernel.proofs.Landing.{leap_lands}
 use Rattle.rt_kernel.proofs.Leaping.{few_busy, few_steps, leap_on, not_beyond, not_earlier}
 use Rattle.rt_kernel.proofs.Running.{items_fit, still_fits, stopped_told}
 use Rattle.rt_kernel.proofs.run.run_leaps.Goals as goal
@@ -12,6 +13,11 @@ pub do_leap-done-requires-clause-fits : goal.do_leap-done-requires-clause-fits
 do_leap-done-requires-clause-fits g c =
     let running = c.leaps.invariant.leaping.running in
     items_fit c.leaps.p running.quiet (still_fits c.args.p.now c.leaps.p c.leaps.done running.state c.requires.fits)
+
+pub do_leap-done-requires-clause-lands : goal.do_leap-done-requires-clause-lands
+do_leap-done-requires-clause-lands g c =
+    let running = c.leaps.invariant.leaping.running in
+    leap_lands c.leaps.p (c.leaps.total - c.leaps.done) (let left = c.leaps-test.true in omega (arith, left)) running.quiet (still_fits c.args.p.now c.leaps.p c.leaps.done running.state c.requires.fits)
 
 pub do_leap-done-requires-clause-early : goal.do_leap-done-requires-clause-early
 do_leap-done-requires-clause-early g c =

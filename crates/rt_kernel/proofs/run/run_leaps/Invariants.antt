@@ -1,4 +1,4 @@
-use Rattle.std.proofs.Common.{◌≡◌, false}
+use Rattle.std.proofs.Common.{◌≡◌, None, false}
 use Rattle.std.specs.Prelude.{◌-◌}
 use Rattle.rt_kernel.proofs.Leaping.{Leaping}
 use Rattle.rt_kernel.proofs.run.run_leaps.Given as goal
@@ -7,6 +7,7 @@ abbrev pub invariant-leaps : goal.invariant-leaps
 invariant-leaps g l = record {
   leaping : Leaping g.K.Sink.text g.K.Sink.faults l.initial.p l.p l.total l.done l.initial.steps l.steps l.initial.out l.out;
   good : l.out.failed ≡ false;
+  alive : l.p.machine.killed ≡ None;
 }
 
 abbrev pub decreases-leaps : goal.decreases-leaps

@@ -5,7 +5,8 @@ use Rattle.kernel_state.specs.Settled.{HavePriorities}
 use Rattle.kernel_state.specs.Stood.{StoodRight}
 use Rattle.kernel_events.specs.Built.{objects_in}
 use Rattle.kernel_events.proofs.Coming.Steps.{come_later}
-use Rattle.rt_kernel.proofs.ComingUnits.{charge_same, completes_come}
+use Rattle.rt_kernel.proofs.ChargeKeeps.{charge_same}
+use Rattle.rt_kernel.proofs.ComingUnits.{completes_come}
 use Rattle.kernel_state.proofs.StoodAgain.{stood_again}
 use Rattle.script_flat.specs.declared.cursor.Cursor.{Cursor}
 use Rattle.script_flat.specs.declared.unit.Unit as unit

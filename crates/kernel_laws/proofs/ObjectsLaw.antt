@@ -30,7 +30,7 @@ use Rattle.machine_moves.proofs.Runs.MachineLaws.{MachineLaw, law_beside}
 use Rattle.machine_laws.proofs.Parts.Opening.{opening_listed}
 use Rattle.machine_laws.proofs.Lists.Kept.{Placed, Placing, opening_placed, placed_tick}
 use Rattle.machine_laws.proofs.Signals.Ignored.{each_last}
-use Rattle.rt_kernel.specs.Counts.{Counts, counts_of}
+use Rattle.kernel_laws.specs.Counts.{Counts, counts_of}
 
 -- its timer and its queue, where it has one, are of so many
 pub record IsNamed (c : Counts) (r : SignalRecord) : Type 0 where
@@ -48,7 +48,7 @@ due_within [] k now e = absurd (grind arith)
 due_within (x ∷ ks) zero now e = omega arith
 due_within (x ∷ ks) (suc k) now e = let rest = due_within ks k now e in omega (arith, rest)
 
-registered_within : (qs : List Queue) (q : ℕ) (r : Registration) → (slice_index_or qs q no_queue).registration ≡ Some r → q < length qs
+pub registered_within : (qs : List Queue) (q : ℕ) (r : Registration) → (slice_index_or qs q no_queue).registration ≡ Some r → q < length qs
 registered_within [] q r e = absurd (grind arith)
 registered_within (x ∷ qs) zero r e = omega arith
 registered_within (x ∷ qs) (suc q) r e = let rest = registered_within qs q r e in omega (arith, rest)

@@ -13,15 +13,15 @@ use Rattle.machine_laws.proofs.Parts.Kept.{PartsRight, parts_tick}
 use Rattle.machine_laws.proofs.Parts.Opening.{opening_listed, opening_right}
 use Rattle.machine_flat.specs.KnownCalls.{Objects}
 use Rattle.kernel_lives.specs.Joins.{EndIsKnown, JoinsFit}
-use Rattle.rt_kernel.specs.Held.{EndsAreKnown, Held}
+use Rattle.kernel_laws.proofs.HeldLaw.{EndsAreKnown, Held}
 
 module _ (bodies : Bodies Cursor) (ranges : BodiesFit bodies) (script : Script) (fits : IsWellFormed script) where
-  parts_after : (n most : ℕ) → PartsRight (after_items bodies (opening script) n most)
+  pub parts_after : (n most : ℕ) → PartsRight (after_items bodies (opening script) n most)
   parts_after n most =
       (throughout bodies ranges PartsRight (λ was_high t s. PartsRight s.machine) (λ was_high t s. PartsRight s.machine) (parts_tick bodies) (opening script) (opening_right Cursor script) (opening_listed Cursor script)).each n most
 
-  pub joins_fit : (n most : ℕ) (o : Objects) → Held o (after_items bodies (opening script) n most) → JoinsFit (after_items bodies (opening script) n most)
-  joins_fit n most o held = record {
+  pub joins_fit : (n most : ℕ) (o : Objects) (handlers : ℕ) → Held o handlers (after_items bodies (opening script) n most) → JoinsFit (after_items bodies (opening script) n most)
+  joins_fit n most o handlers held = record {
     joiners = λ t u e. (let waits = (parts_after n most).joiners t u e in waits_blocked (after_items bodies (opening script) n most) u waits.0 waits.1);
     ends = λ u t w waits is.
         let m = after_items bodies (opening script) n most in

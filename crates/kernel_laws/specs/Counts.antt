@@ -1,5 +1,6 @@
 -- How many objects a machine has, beside its threads.
-use Rattle.std.specs.Prelude.{ℕ, length}
+use Rattle.std.specs.Prelude.{ℕ, length, ◌≤◌, ◌<◌, ◌^◌}
+use Rattle.script_flat.specs.declared.cursor.Cursor.{Cursor}
 use Rattle.machine_rules.specs.State.{Machine}
 use Rattle.machine_flat.specs.KnownCalls.{Objects}
 
@@ -14,3 +15,7 @@ counts_of m = record { mutexes = length m.mutexes; semaphores = length m.semapho
 
 abbrev pub counts_in : Objects → Counts
 counts_in o = record { mutexes = o.mutexes; semaphores = o.semaphores; queues = o.queues; timers = o.timers }
+
+-- serials are left until 10^18 ticks
+abbrev pub HasSerials : Machine Cursor → Type 0
+HasSerials m = m.now ≤ 10 ^ 18 → m.next_serial < 2 ^ 62
