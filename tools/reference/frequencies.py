@@ -32,8 +32,11 @@ EXPECTED: dict[str, tuple[str, ...]] = {
     "mq_send": ("EMSGSIZE", "EAGAIN", *SLEEPS), "mq_timedsend": ("EMSGSIZE", "EAGAIN", "ETIMEDOUT", *SLEEPS),
     "mq_receive": ("EAGAIN", *SLEEPS), "mq_timedreceive": ("EAGAIN", "ETIMEDOUT", *SLEEPS), "mq_notify": ("EBUSY",)}
 """The errors that each call can answer; 65,535 locks of one mutex are more than a generated script has."""
-LINES = ("dispatch", "idle", "start", "exit", "cancel", "deliver USER", "deliver QUEUE", "deliver TIMER",
-         "deliver MESGQ", "killed", "activate", "exhaust", "plan", "refill", "end")
+LINES: dict[Stage, tuple[str, ...]] = {
+    Stage.FIRST: ("dispatch", "idle", "start", "exit", "end"), Stage.SERVERS: ("activate", "exhaust", "plan", "refill"),
+    Stage.LIVES: ("cancel",), Stage.SIGNALS: ("deliver USER", "deliver QUEUE", "killed"), Stage.TIMERS: ("deliver TIMER",),
+    Stage.QUEUES: ("deliver MESGQ",)}
+"""The lines that scripts come to from a stage on."""
 WITH_VALUE = frozenset(("timer_gettime", "timer_getoverrun", "nanosleep"))
 """Calls whose answers are told apart by whether their value is 0."""
 
@@ -61,7 +64,8 @@ def expected(stage: Stage) -> list[str]:
     errors = [f"{call} {error}" for call in calls for error in EXPECTED[call]
               if error != "EINTR" or stage >= Stage.SIGNALS]
     values = [f"{call} 0 >0" for call in ("timer_gettime", "timer_getoverrun") if call in calls]
-    return [*(f"{call} 0" for call in calls), *errors, *values]
+    lines = [line for since, some in LINES.items() if since <= stage for line in some]
+    return [*(f"{call} 0" for call in calls), *errors, *values, *lines]
 
 
 def main() -> int:
@@ -83,7 +87,7 @@ def main() -> int:
             found = rows_of_run(answer(*generate.accepted(seed, stage), stage)[1])
         lines += found
         scripts.update(found.keys())
-    wanted = [kind.name for kind in FaultKind] if arguments.refused else [*expected(stage), *LINES]
+    wanted = [kind.name for kind in FaultKind] if arguments.refused else expected(stage)
     seldom = 0
     for row in dict.fromkeys([*wanted, *sorted(lines)]):
         few = row in wanted and scripts[row] < arguments.least

@@ -65,7 +65,7 @@ fn run_into(alloc: Global, failing: u64) -> Result<(Status, MemSink), AllocError
 #[test]
 fn each_line_fails_in_turn(rt: HostRuntime) -> Result<(), Fail> {
     let alloc = rt.alloc();
-    let mut due = Vec::new(alloc);
+    let mut due: Vec<u8> = Vec::new(alloc);
     for k in 0..35usize {
         let (status, sink) = run_into(alloc, k as u64 + 1)?;
         assert_eq!(rt; status, Status::WriteFault);
@@ -83,7 +83,7 @@ const COMMENT: &str = "# a comment line that says nothing of the run....\n";
 
 // The script behind 54 comment lines and a short one: 3,000 bytes.
 fn long_script(alloc: Global) -> Result<Vec<u8>, AllocError> {
-    let mut bytes = Vec::new(alloc);
+    let mut bytes: Vec<u8> = Vec::new(alloc);
     for _ in 0..54usize {
         bytes.extend_from_slice(COMMENT.as_bytes())?;
     }
