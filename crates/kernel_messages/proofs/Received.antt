@@ -10,10 +10,12 @@ use Rattle.script_flat.specs.declared.cursor.Cursor.{Cursor}
 use Rattle.machine_rules.specs.Lists.{changed_at}
 use Rattle.machine_rules.specs.Queues.{blocks_unless_nonblock, enters, message_of, next_message, receives_message, receives_on, takes_over, value_at, waits_to_send, without_message}
 use Rattle.machine_rules.specs.State.{Machine, Message, Queue, Thread, Wait, Waiting, for_condition, for_end, for_message, for_mutex, for_mutex_again, for_room, for_semaphore, for_signal, for_time}
-use Rattle.machine_rules.specs.Threads.{no_queue, no_thread, queue_at, thread_at, waiting_in, waiting_of}
+use Rattle.machine_rules.specs.Threads.{is_blocked, no_queue, no_thread, queue_at, thread_at, waiting_in, waiting_of}
 use Rattle.machine_rules.specs.Turns.{By, Turn, answered, changes_queue, returns, with_queue}
 use Rattle.machine_rules.specs.Waiters.{Waiter, best_waiter}
 use Rattle.machine_rules.specs.Waking.{wakes}
+use Rattle.machine_rules.proofs.Behind.{AddsBehind, wakes_behind}
+use Rattle.machine_rules.proofs.BehindCalls.{enters_behind}
 use Rattle.machine_rules.proofs.Reading.{changed-keeps}
 use Rattle.machine_moves.proofs.Waiters.Best.{best_waits}
 use Rattle.message_queues.specs.Queues.{next_value, without_next, without_one}
@@ -21,6 +23,7 @@ use Rattle.kernel_state.specs.Kernel.{Kernel, after, told, turn}
 use Rattle.kernel_state.specs.Pending.{SignalsFit}
 use Rattle.kernel_state.specs.Waits.{waiting_message}
 use Rattle.kernel_signals.proofs.Same.{same_after, same_told}
+use Rattle.kernel_signals.proofs.Sent.{returned_blocked}
 use Rattle.kernel_messages.specs.Entering.{hands_out, takes_over_from}
 
 -- ---- the message of a sender
@@ -134,3 +137,21 @@ module _ (by : By) (q : ℕ) (due : Option ℕ) (k l : Kernel) (taken : l ≡ af
         Tells text faults k.names a b (told (receives_message by q due) k)
     told_handed text faults a b h =
         same_told text faults (receives_message by q due) (handed value sender) k a b same (subst (λ (x : Kernel). Tells text faults x.names a b (told (hands_out by value sender q) x)) taken h)
+
+-- ---- the sender, once the call has returned
+
+pub sender_stays_blocked : (by : By) (r : Res) (v : ℕ) (k l : Kernel) (o : Option ℕ) → l ≡ after (returns by r v) k → IfSome o (λ t. is_blocked (thread_at k.machine t).status ≡ true) →
+    IfSome o (λ t. is_blocked (thread_at l.machine t).status ≡ true)
+sender_stays_blocked by r v k l None e h = tt
+sender_stays_blocked by r v k l (Some t) e h = returned_blocked by r v t k l e h
+
+pub sender_stays_fit : (by : By) (r : Res) (v : ℕ) (k l : Kernel) (o : Option ℕ) → l ≡ after (returns by r v) k → IfSome o (λ t. (waiting_message k.machine t).priority < 32) →
+    IfSome o (λ t. (waiting_message l.machine t).priority < 32)
+sender_stays_fit by r v k l None e h = tt
+sender_stays_fit by r v k l (Some t) e h =
+    let same : waiting_message l.machine t ≡ waiting_message k.machine t = ap (λ (x : Kernel). waiting_message x.machine t) e ∙ same_message by r v (turn k) t in
+    subst (λ (x : Message). x.priority < 32) (sym same) h
+
+pub takes_over_from_behind : (sender : Option ℕ) (q : ℕ) → AddsBehind {P = Cursor} (takes_over_from sender q)
+takes_over_from_behind None q told s = refl
+takes_over_from_behind (Some w) q told s = enters_behind q (waiting_message s.machine w) (wakes w res.Zero 0) (wakes_behind w res.Zero 0) told s
