@@ -38,6 +38,10 @@ try 'a sign' 1 "$usage" run +1
 try 'an empty word' 1 "$usage" run ''
 try 'a word that is not UTF-8' 1 "$usage" run "$(printf '\377')"
 try 'leading zeros' 0 '0 end' run 000 <examples/one_thread.task
+try 'a script of a number, and standard input as it is' 0 'quantum 3' gen 0 <examples
+try 'the run of the script of a number' 0 '1000000 end' soak 63 1000000 <examples
+try 'a number too many' 1 "$usage" gen 1 2
+try 'a number too few' 1 "$usage" soak 1
 
 # A script, the line %%, and what stands behind it.
 beside() {

@@ -1,7 +1,6 @@
 #!/usr/bin/env bash
-# Runs each example of examples/, and each worked example of tests/worked/ whose forms the kernel has, to its horizon, and compares
-# what is printed with the text beside it. The program is built without a second proof: the gate has proved it before.
-# An example of a stage that is not built yet may be refused for an unknown word; it is skipped then, with a line that says so.
+# Runs each example of examples/, and each worked example of tests/worked/, to its horizon, and compares what is printed with the text
+# beside it. The program is built without a second proof: the gate has proved it before.
 # Before all that, and without a build, each trace and picture of examples/ is compared with what tools/reference makes of its script.
 set -u
 cd "$(dirname "$0")/.." || exit 1
@@ -16,9 +15,6 @@ if ! command -v rt >/dev/null 2>&1; then
     exit 0
 fi
 
-# The stages of tests/worked/INDEX.txt whose forms the kernel has.
-built="first language threads servers mutexes semaphores waiting lives"
-
 cases=$(mktemp -d) || exit 1
 out=$(mktemp -d) || exit 1
 trap 'rm -rf "$cases" "$out"' EXIT
@@ -32,19 +28,14 @@ add_case() {
     count=$((count + 1))
 }
 
-is_built() {
-    case " $built " in *" $1 "*) return 0 ;; esac
-    return 1
-}
-
-# What the first line of an example says: its horizon or its stage.
-head_of() {
-    sed -n '1s/^# horizon \([0-9]*\), stage \([a-z]*\)\. .*/\'"$2"'/p' "$1"
+# The horizon that the first line of an example says.
+horizon_of() {
+    sed -n '1s/^# horizon \([0-9]*\), stage [a-z]*\. .*/\1/p' "$1"
 }
 
 for task in examples/*.task; do
     name=$(basename "$task" .task)
-    horizon=$(head_of "$task" 1)
+    horizon=$(horizon_of "$task")
     if [ -z "$horizon" ] || [ ! -e "examples/$name.trace" ]; then
         echo "example $name: no horizon and stage in its first line, or no trace beside it"
         exit 1
@@ -52,8 +43,7 @@ for task in examples/*.task; do
     add_case "example_$name" "$task" "$horizon"
 done
 
-while read -r name stage _; do
-    is_built "$stage" || continue
+while read -r name _; do
     worked=tests/worked/$name
     [ -e "$worked.horizon" ] || continue
     horizon=$(cat "$worked.horizon")
@@ -74,19 +64,14 @@ fi
 awk -v out="$out" '/^== / { file = out "/" $2 ".text"; printf "" >file; next } file { print >file }' "$out/printed"
 
 failed=0
-skipped=0
 for task in examples/*.task; do
     name=$(basename "$task" .task)
-    stage=$(head_of "$task" 2)
     printed=$out/example_$name.text
     if [ ! -e "$printed" ]; then
         echo "example $name: rt try says nothing of it"
         failed=$((failed + 1))
     elif cmp -s "$printed" "examples/$name.trace"; then
         :
-    elif ! is_built "$stage" && grep -qx 'refused [0-9]* 2 UnknownWord' "$printed" && [ "$(wc -l <"$printed")" -eq 1 ]; then
-        echo "skipped: example $name, of stage $stage, since the program does not know a word of line $(cut -d ' ' -f 2 "$printed") yet"
-        skipped=$((skipped + 1))
     else
         echo "example $name: printed is not examples/$name.trace:"
         diff "examples/$name.trace" "$printed" | head -n 10
@@ -97,4 +82,4 @@ if [ "$failed" -ne 0 ]; then
     echo "examples: $count run, $failed differ"
     exit 1
 fi
-echo "examples: $count run, $skipped skipped, each other prints what stands beside it"
+echo "examples: $count run, each prints what stands beside it"

@@ -2,10 +2,10 @@
 
     python3 tools/documents.py [--write]
 
-The code's table (crates/script_table/src/table.rt) says which patterns are built. By it: README.md's table of
-what runs today, and the stars of docs/SCRIPT.md, docs/TRACE.md and docs/MACHINE.md. The reference says what the
-examples of docs/SCRIPT.md answer. Without --write prints what differs, with exit status 1; with it mends the
-table and the stars.
+The code's table (crates/script_table/src/table.rt) says which patterns the language has. By it: README.md's table of
+the language, and the patterns of docs/SCRIPT.md, which lists each and no other. The reference says what the examples
+of docs/SCRIPT.md answer. Each function that docs/WALK.md names stands in the file that it names, and docs/WALK.md has
+lines of the trace of its script. Without --write prints what differs, with exit status 1; with it mends README's table.
 """
 from __future__ import annotations
 
@@ -14,7 +14,6 @@ import re
 import sys
 from dataclasses import dataclass
 from pathlib import Path
-from typing import Callable
 
 TOP = Path(__file__).resolve().parent.parent
 sys.path.insert(0, str(TOP / "tools" / "reference"))
@@ -35,34 +34,15 @@ SUBJECTS = {
     "calls of signals": r"Call\(CallForm::Signal",
     "calls of message queues": r"Call\(CallForm::Message",
 }
-SENDERS = ("kill", "tkill", "sigqueue", "timer_settime", "mq_notify")
-SERVERS = ("thread sporadic", "setsched sporadic")
-LINES = {  # the lines of a trace that need some pattern: any one of these makes them
-    "cancel": ("cancel",), "deliver": SENDERS, "killed": SENDERS,
-    "activate": SERVERS, "exhaust": SERVERS, "plan": SERVERS, "refill": SERVERS, "high": SERVERS}
-SECTIONS = {  # the sections on the machine that run as soon as all of these do
-    "Dispatch": (),
-    "Sporadic servers": ("thread sporadic",),
-    "Mutexes": ("mutex none", "mutex inherit", "mutex protect", "lock", "timedlock", "trylock", "unlock"),
-    "Conditions": ("cond", "wait", "timedwait", "signal", "broadcast"),
-    "Semaphores": ("sem", "sem_wait", "sem_timedwait", "sem_trywait", "sem_getvalue", "sem_post"),
-    "Signals": ("action", "kill", "tkill", "sigqueue", "sigmask", "sigwaitinfo", "sigtimedwait"),
-    "Delivery": ("action", "kill", "tkill", "sigqueue"),
-    "Queues": ("queue", "mq_send", "mq_timedsend", "mq_receive", "mq_timedreceive", "mq_notify"),
-    "Time": ("timer", "nanosleep", "clock_nanosleep", "gettime", "timer_settime", "timer_gettime", "timer_getoverrun"),
-    "The lives of threads": ("create", "join", "exit"),
-    "Cancellation": ("cancel", "testcancel", "setcancel", "push", "pop"),
-    "Scheduling parameters": ("yield", "setprio", "setsched fifo", "setsched rr", "setsched sporadic")}
+LAST_WORDS = ("recursive", "nonblock")  # told beside a pattern, and not as one of its own
 
 
 @dataclass(frozen=True)
 class Pattern:
-    """A pattern of the code: its form, its words with None for a place, whether it uses a name, and whether it is built."""
+    """A pattern of the code: its form, and its words with None for a place."""
 
     form: str
     words: tuple[str | None, ...]
-    uses_name: bool
-    built: bool
 
     @property
     def label(self) -> str:
@@ -74,9 +54,9 @@ def patterns() -> list[Pattern]:
     """The rows of the code's table."""
     found = []
     text = (TOP / "crates/script_table/src/table.rt").read_text()
-    for form, built, places in re.findall(r"pattern!\(Form::(.*), \w+, (true|false) => (.*)\),", text):
+    for form, places in re.findall(r"pattern!\(Form::(.*), \w+ => (.*)\),", text):
         words = tuple(keyword or None for keyword, _ in re.findall(r'b"(\w+)"|(\([^)]*\)|\w+)', places))
-        found.append(Pattern(form, words, "(of " in places, built == "true"))
+        found.append(Pattern(form, words))
     assert len(found) == 79, f"{len(found)} patterns in the table"
     return found
 
@@ -84,26 +64,18 @@ def patterns() -> list[Pattern]:
 ALL = patterns()
 
 
-def is_built(label: str) -> bool:
-    """Whether each pattern of the label is built."""
-    rows = [pattern.built for pattern in ALL if pattern.label == label]
-    assert rows, f"no pattern has the label {label}"
-    return all(rows)
-
-
 def table() -> str:
-    """What runs today, and what is defined and waits for its kernel."""
-    lines = ["| | runs today | defined, waiting for its kernel |", "|---|---|---|"]
+    """The language, subject by subject."""
+    lines = ["| | |", "|---|---|"]
     for subject, forms in SUBJECTS.items():
         labels = dict.fromkeys(pattern.label for pattern in ALL if re.match(forms, pattern.form))
-        cells = [", ".join(f"`{label}`" for label in labels if is_built(label) is want) for want in (True, False)]
-        lines.append(f"| {subject} | {cells[0]} | {cells[1]} |")
+        lines.append(f"| {subject} | {', '.join(f'`{label}`' for label in labels)} |")
     return "\n".join(lines) + "\n"
 
 
 def with_table(text: str) -> str:
     """README with its table as the code has it."""
-    return re.sub(r"(?<=\n)\| \| runs today \|.*\n(\|.*\n)*", lambda _: table(), text)
+    return re.sub(r"(?<=\n)\| \| \|\n(\|.*\n)*", lambda _: table(), text, count=1)
 
 
 def agrees(words: list[str], pattern: Pattern) -> bool:
@@ -115,101 +87,83 @@ def agrees(words: list[str], pattern: Pattern) -> bool:
         for word, keyword in zip(words, pattern.words))
 
 
-def starred_pattern(match: re.Match[str]) -> str:
-    rows = [pattern.built for pattern in ALL if agrees(match[1].split(), pattern)]
-    return f"`{match[1]}`" + (" *" if rows and all(rows) else "")
-
-
-def with_starred_patterns(text: str) -> str:
-    """docs/SCRIPT.md with a star behind each built pattern of its tables."""
+def listed(text: str) -> list[list[str]]:
+    """The words of each pattern in the tables of docs/SCRIPT.md."""
     start, end = text.index("### Declarations"), text.index("Barred from the bodies")
-    rows = [line.split("|") for line in text[start:end].split("\n")]
-    for cells in rows:
-        if len(cells) > 2:
-            cells[1] = re.sub(r"`([^`]*)`( \*)?", starred_pattern, cells[1])
-    return text[:start] + "\n".join("|".join(cells) for cells in rows) + text[end:]
+    cells = [line.split("|")[1] for line in text[start:end].split("\n") if line.count("|") > 2]
+    return [pattern.split() for cell in cells for pattern in re.findall(r"`([^`]*)`", cell)]
 
 
-def starred_line(match: re.Match[str]) -> str:
-    makers = [labels for word, labels in LINES.items() if re.search(rf"\b{word}\b", match[1])]
-    is_made = all(any(is_built(label) for label in labels) for labels in makers)
-    return match[1] + (" *" if is_made else "")
+def is_listed(pattern: Pattern, documented: list[list[str]]) -> bool:
+    """Whether a document has the pattern, or the one that it is with a last word more."""
+    shorter = Pattern(pattern.form, pattern.words[:-1])
+    return any(agrees(words, pattern) for words in documented) or (
+        pattern.words[-1] in LAST_WORDS and any(agrees(words, shorter) for words in documented))
 
 
-def with_starred_lines(text: str) -> str:
-    """docs/TRACE.md with a star behind each line that can come today."""
-    return re.sub(r"(?m)^(\*\*`[^`]*`\*\*)( \*)?", starred_line, text)
-
-
-def starred_section(match: re.Match[str]) -> str:
-    labels = SECTIONS.get(match[2])
-    return match[1] + (" *" if labels is not None and all(is_built(label) for label in labels) else "")
-
-
-def starred_call(match: re.Match[str]) -> str:
-    rows = [pattern.built for pattern in ALL if pattern.words[0] == match[1]]
-    return f"- `{match[1]}`" + (" *:" if rows and all(rows) else ":")
-
-
-def with_stars_of_the_machine(text: str) -> str:
-    """docs/MACHINE.md with a star behind each heading whose section runs, and each call that does."""
-    text = re.sub(r"(?m)^(## ([^(\n]*) \(.*\))( \*)?$", starred_section, text)
-    return re.sub(r"(?m)^- `(\w+)`( \*)?:", starred_call, text)
-
-
-def stage_of_today() -> Stage:
-    """The last stage that tools/check_examples.sh calls built."""
-    built = re.search(r'^built="(.*)"', (TOP / "tools/check_examples.sh").read_text(), re.M)
-    assert built is not None
-    return Stage.named(built[1].split()[-1])
-
-
-def has_example(number: str) -> bool:
-    """Whether the built patterns give a text that has this fault."""
-    if number == "15":
-        return any(is_built(label) for label in SERVERS)
-    return number not in ("8", "9") or any(pattern.uses_name and pattern.built for pattern in ALL)
+def wrong_patterns(text: str) -> list[str]:
+    """The patterns that docs/SCRIPT.md lists and the code has not, and the other way round."""
+    documented = listed(text)
+    strange = [words for words in documented if not any(agrees(words, pattern) for pattern in ALL)]
+    missing = [pattern for pattern in ALL if not is_listed(pattern, documented)]
+    return [f"docs/SCRIPT.md: the code has no pattern {' '.join(words)}" for words in strange] + [
+        f"docs/SCRIPT.md: a pattern {pattern.label} of the code is not listed" for pattern in missing]
 
 
 def wrong_faults(text: str) -> list[str]:
-    """The rows of docs/SCRIPT.md's table of faults whose texts have another fault today."""
+    """The rows of docs/SCRIPT.md's table of faults whose texts have another fault."""
     wrong = []
     for number, kind, _, texts, _ in re.findall(r"(?m)^\| (\d+) \| (\w+) \| (.*) \| (.*) \| (.*) \|$", text):
-        if texts.startswith("none, until") and not has_example(number):
-            continue
         for example in texts.split("; "):
             lines = re.findall(r"`([^`]*)`", example.split(", where")[0])
             script = "".join(line + "\n" for line in lines).replace("\\r", "\r")
-            have = answer(script.encode(), 1, stage_of_today())[1].decode()
+            have = answer(script.encode(), 1, Stage.WHOLE)[1].decode()
             if have.split()[2:] != [number, kind]:
                 wrong.append(f"docs/SCRIPT.md: {example} is said to be {kind}, and has: {have.strip()}")
     return wrong
 
 
 def wrong_runs(name: str, text: str) -> list[str]:
-    """The scripts of a document, each with its command and its trace behind it, that run otherwise today."""
+    """The scripts of a document, each with its command and its trace behind it, that run otherwise."""
     runs = re.findall(r"```task\n(.*?)```.*?```\n\$ \S+ run (\d+) < \S+\n(.*?)```", text, re.S)
-    answers = [(script, answer(script.encode(), int(horizon), stage_of_today())[1].decode(), trace)
+    answers = [(script, answer(script.encode(), int(horizon), Stage.WHOLE)[1].decode(), trace)
                for script, horizon, trace in runs]
     return [f"{name}: the trace is\n{have}" for _, have, trace in answers if have != trace]
+
+
+def wrong_places(text: str) -> list[str]:
+    """The functions of docs/WALK.md that do not stand in the files beside them, and lines that its trace does not have."""
+    places = re.findall(r"`(\w+/src/\w+\.rt)` `(\w+)`", text)
+    wrong = [f"docs/WALK.md: crates/{file} has no function {name}" for file, name in places if not has_function(file, name)]
+    script = re.search(r"The script is .*?`(tests/worked/\w+)\.task`", text)
+    lines = re.search(r"```\n(.*?)```", text, re.S)
+    if script is None or lines is None or not places:
+        return [*wrong, "docs/WALK.md names no script, no lines of a trace or no function"]
+    if lines[1] not in (TOP / f"{script[1]}.trace").read_text():
+        wrong.append(f"docs/WALK.md: its lines are not in {script[1]}.trace")
+    return wrong
+
+
+def has_function(file: str, name: str) -> bool:
+    path = TOP / "crates" / file
+    return path.exists() and re.search(rf"\bfn {name}\b", path.read_text()) is not None
 
 
 def main() -> int:
     parser = argparse.ArgumentParser(description="Holds the documents to the code's table and to the reference.")
     parser.add_argument("--write", action="store_true")
     writes = parser.parse_args().write
-    mended: dict[str, Callable[[str], str]] = {
-        "README.md": with_table, "docs/SCRIPT.md": with_starred_patterns,
-        "docs/TRACE.md": with_starred_lines, "docs/MACHINE.md": with_stars_of_the_machine}
     wrong = []
-    for name, mend in mended.items():
-        text = (TOP / name).read_text()
-        if writes:
-            (TOP / name).write_text(mend(text))
-        elif mend(text) != text:
-            wrong.append(f"{name} marks other patterns as built than the code: python3 tools/documents.py --write")
-        wrong += wrong_runs(name, text)
-    wrong += wrong_faults((TOP / "docs/SCRIPT.md").read_text())
+    readme = (TOP / "README.md").read_text()
+    if writes:
+        (TOP / "README.md").write_text(with_table(readme))
+    elif with_table(readme) != readme:
+        wrong.append("README.md has another language than the code: python3 tools/documents.py --write")
+    for name in ("README.md", "docs/SCRIPT.md", "docs/TRACE.md", "docs/MACHINE.md"):
+        wrong += wrong_runs(name, (TOP / name).read_text())
+    language = (TOP / "docs/SCRIPT.md").read_text()
+    wrong += wrong_patterns(language) + wrong_faults(language)
+    wrong += wrong_places((TOP / "docs/WALK.md").read_text())
     print(*wrong, f"documents: {len(wrong)} differ", sep="\n")
     return 1 if wrong else 0
 

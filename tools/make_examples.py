@@ -40,9 +40,8 @@ bin/pse52 run 26 < examples/04_inversion.task
 bin/pse52 run 26 < examples/04_inversion.task | bin/pse52-view text
 ```
 
-A script whose forms the program does not run yet is answered with `refused LINE 2 UnknownWord`; `tools/reference` runs each of
-them: `python3 tools/reference/simulate.py run 26 < examples/04_inversion.task`. The stage in the first line of a script names the
-forms that it needs.
+The independent reference runs each of them too: `python3 tools/reference/simulate.py run 26 < examples/04_inversion.task`. The stage in
+the first line of a script names the forms that it needs, from `first` to `queues`.
 
 `examples/sweeps` has a script that is run with many values; docs/SWEEP.md is its page.
 

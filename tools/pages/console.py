@@ -77,7 +77,7 @@ def clone(folder: Path) -> None:
         (folder / "bin" / name).symlink_to(TOP / "bin" / name)
     program = folder / "bin" / "pse52"
     program.write_text(f'''#!/bin/sh
-case $1 in rta) name=response_times ;; *) name=simulate ;; esac
+case $1 in rta) name=response_times ;; gen|soak) name=load ;; *) name=simulate ;; esac
 exec python3 {TOP}/tools/reference/$name.py "$@"
 ''')
     program.chmod(0o755)

@@ -1,11 +1,12 @@
 """Runs a built program and the reference over generated scripts, and compares bytes and exit status.
 
     python3 tools/reference/compare.py PROGRAM [--stage STAGE] [--first N] [--count N]
-                                       [--refused] [--jobs N] [--keep FOLDER]
+                                       [--refused | --load] [--jobs N] [--keep FOLDER]
 
 PROGRAM is a command line that takes `run N` and a script on standard input.
 Prints each difference and a last line 'N compared, M differ'. Exit status 1
-where something differs. With --keep the scripts that differ are kept.
+where something differs. With --keep the scripts that differ are kept. With
+--load the commands `gen S` and `soak S N` are compared instead, for each S.
 """
 from __future__ import annotations
 
@@ -18,6 +19,7 @@ from concurrent.futures import ThreadPoolExecutor
 from dataclasses import dataclass
 
 import generate
+import load
 from forms import Stage
 from simulate import answer
 
@@ -40,15 +42,34 @@ class Task:
     def difference(self, seed: int) -> str | None:
         """One line on how the program differs from the reference, or None."""
         text, horizon = self.script(seed)
-        want_status, want = answer(text, horizon, self.stage)
-        try:
-            words = [*self.program, "run", str(horizon)]
-            done = subprocess.run(words, input=text, capture_output=True, timeout=SECONDS)
-        except subprocess.TimeoutExpired:
-            return f"seed {seed} horizon {horizon}: no answer after {SECONDS} seconds"
-        if (done.returncode, done.stdout) == (want_status, want):
-            return None
-        return f"seed {seed} horizon {horizon} {first_difference(done.returncode, done.stdout, want_status, want)}"
+        found = answer_differs(self.program, ["run", str(horizon)], text, answer(text, horizon, self.stage))
+        return None if found is None else f"seed {seed} horizon {horizon} {found}"
+
+
+@dataclass(frozen=True)
+class Load:
+    """The script of a number, and the closing lines of its run."""
+
+    program: tuple[str, ...]
+
+    def difference(self, seed: int) -> str | None:
+        """One line on how the program differs from the reference, or None."""
+        horizon = 50 + 37 * seed % 500
+        made = answer_differs(self.program, ["gen", str(seed)], b"", (0, load.make(seed).encode()))
+        run = answer_differs(self.program, ["soak", str(seed), str(horizon)], b"", (0, load.soak(seed, horizon).encode()))
+        found = [f"{words} {text}" for words, text in ((f"gen {seed}", made), (f"soak {seed} {horizon}", run)) if text]
+        return "; ".join(found) or None
+
+
+def answer_differs(program: tuple[str, ...], words: list[str], text: bytes, want: tuple[int, bytes]) -> str | None:
+    """How the program answers a command otherwise than it should, or None."""
+    try:
+        done = subprocess.run([*program, *words], input=text, capture_output=True, timeout=SECONDS)
+    except subprocess.TimeoutExpired:
+        return f"no answer after {SECONDS} seconds"
+    if (done.returncode, done.stdout) == want:
+        return None
+    return first_difference(done.returncode, done.stdout, *want)
 
 
 def first_difference(have_status: int, have: bytes, want_status: int, want: bytes) -> str:
@@ -79,10 +100,13 @@ def main() -> int:
     parser.add_argument("--first", type=int, default=0)
     parser.add_argument("--count", type=int, default=500)
     parser.add_argument("--refused", action="store_true")
+    parser.add_argument("--load", action="store_true")
     parser.add_argument("--jobs", type=int, default=1)
     parser.add_argument("--keep")
     arguments = parser.parse_args()
-    task = Task(tuple(shlex.split(arguments.program)), Stage.named(arguments.stage), arguments.refused)
+    program = tuple(shlex.split(arguments.program))
+    script = Task(program, Stage.named(arguments.stage), arguments.refused)
+    task = Load(program) if arguments.load else script
     seeds = range(arguments.first, arguments.first + arguments.count)
     differ = 0
     with ThreadPoolExecutor(arguments.jobs) as pool:
@@ -90,8 +114,8 @@ def main() -> int:
             if found is not None:
                 differ += 1
                 print(found)
-                if arguments.keep:
-                    keep(arguments.keep, task, seed)
+                if arguments.keep and not arguments.load:
+                    keep(arguments.keep, script, seed)
     print(f"{arguments.count} compared, {differ} differ")
     return 1 if differ else 0
 

@@ -14,7 +14,7 @@ GREATEST_NUMBER = 10**18
 
 
 class Stage(IntEnum):
-    """How far the language is built. Each stage holds the forms of those before it."""
+    """How much of the language is known. Each stage holds the forms of those before it."""
 
     FIRST = 1
     LANGUAGE = 2
@@ -179,7 +179,7 @@ BARRED_FROM_HANDLERS = frozenset(("sigmask",))
 
 @lru_cache(maxsize=None)
 def built_forms(stage: Stage) -> dict[str, tuple[Form, ...]]:
-    """The forms that are built at a stage, by their first word."""
+    """The forms that are known at a stage, by their first word."""
     found: dict[str, tuple[Form, ...]] = {}
     for form in FORMS:
         if form.stage <= stage:

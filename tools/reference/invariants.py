@@ -25,7 +25,8 @@ def check_lists(kernel: "Kernel") -> None:
     """A runnable thread stands once, on the list of its execution priority; no other stands on any."""
     exec_priorities = kernel.exec_priorities()
     for thread in kernel.threads:
-        places = [priority for priority, members in kernel.lists.items() for _ in range(members.count(thread.number))]
+        places = [priority for priority, members in kernel.lists.items() if members
+                  for _ in range(members.count(thread.number))]
         wanted = [exec_priorities[thread.number]] if thread.is_ready else []
         assert places == wanted, (kernel.now, thread.name, places)
 

@@ -112,6 +112,8 @@ class Kernel:
     def settle(self, before: Snapshot) -> None:
         """Carries out the moves of what happened since `before`: direct ones, then those whose priority changed."""
         after = self.snapshot()
+        if after == before and not self.direct:
+            return
         for members in self.lists.values():
             members[:] = [number for number in members if after[number][0]]
         direct = [number for number in self.direct if after[number][0]]

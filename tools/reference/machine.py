@@ -73,7 +73,7 @@ class Machine(Kernel):
             number = thread.number
             if thread.server is not None and thread.server.pending:
                 found.append((thread.server.pending[0].due, number, lambda t=thread: self.refill(t)))
-            if thread.state is ThreadState.DORMANT and thread.start is not None:
+            if thread.start is not None:
                 found.append((thread.start, 256 + number, lambda t=thread: self.start(t, 0)))
             if thread.wait is not None and thread.wait.due is not None:
                 found.append((thread.wait.due, 512 + number, lambda t=thread: self.time_out(t)))

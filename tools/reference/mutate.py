@@ -14,6 +14,10 @@ _GREATEST = 10**18
 Text = list[str]
 
 LEAST_SCRIPT: Text = ["thread a fifo 5 at 0", "run 1", "end"]
+OF_EACH_KIND: dict[str, Text] = {
+    "handler": ["handler h", "yield", "end"], "cleanup": ["cleanup u", "yield", "end"], "mutex": ["mutex m inherit"], "cond": ["cond c"],
+    "sem": ["sem s 1"], "queue": ["queue q 2 8"], "timer": ["timer k rt1 7"]}
+NAME_OF_KIND = {"thread": "a"} | {kind: lines[0].split()[1] for kind, lines in OF_EACH_KIND.items()}
 STRANGE_NAMES = ("A", "a-b", "1a", "_a", "a" * 33, "a" * 32, "a.b", "x,y", "a0_", "reg", "rt1", "none", "end", "%")
 STRANGE_NUMBERS = ("-1", "+1", "1x", "0x1", "1.0", "1e3", "reg", "", "00", "007", "0", "1", "255", "256", "257",
                    str(_GREATEST), str(_GREATEST + 1), "0" * 40 + "5", "9" * 60, "18446744073709551616", "rt1")
@@ -33,7 +37,7 @@ def refused(seed: int, stage: Stage = Stage.WHOLE) -> bytes:
     """A text that is no script at the stage."""
     draw = Random(f"refused {seed} {stage.name}")
     while True:
-        makers: list[Callable[[Random, Stage], Text]] = [changed, changed, written, limit_passed, late, late, late]
+        makers: list[Callable[[Random, Stage], Text]] = [changed, changed, written, alone, alone, limit_passed, late, late, late]
         text = ending(draw, draw.choice(makers)(draw, stage))
         if read(text, stage)[1] is not None:
             return text
@@ -248,6 +252,35 @@ def written(draw: Random, stage: Stage) -> Text:
         parts.append(draw.choice((faulty_body, faulty_line, faulty_server, barred_step))(draw, stage))
     draw.shuffle(parts)
     return [line for part in parts for line in part]
+
+
+def alone(draw: Random, stage: Stage) -> Text:
+    """A script with one thing of each kind, and one line of some form, most of whose operands fit."""
+    kinds = [kind for kind in OF_EACH_KIND if kind in built_forms(stage)]
+    form = draw.choice([form for forms in built_forms(stage).values() for form in forms if form.role in (Role.STEP, Role.DECLARATION)])
+    words = [fitting(draw, word) for word in form.words]
+    if draw.random() < 0.15:
+        words.insert(draw.randint(1, len(words)), draw.choice(("0", "a", "reg", "nonblock")))
+    elif draw.random() < 0.15:
+        del words[-1]
+    lines = [line for kind in kinds for line in OF_EACH_KIND[kind]] + LEAST_SCRIPT
+    bodies = [at + 1 for at, line in enumerate(lines) if first_word(line) in ("thread", "handler", "cleanup")]
+    inside = form.role is Role.STEP or draw.random() < 0.2
+    at = draw.choice((*bodies, bodies[-1], bodies[-1])) if inside and draw.random() < 0.95 else 0
+    return lines[:at] + [" ".join(words)] + lines[at:]
+
+
+def fitting(draw: Random, word: str) -> str:
+    """An operand for a place of a form, mostly one that fits; another word stays."""
+    if word in USES:
+        name = NAME_OF_KIND[USES[word].value]
+        return draw.choice((name, name, name, draw.choice(list(NAME_OF_KIND.values())), "nope", draw.choice(STRANGE_NAMES)))
+    if word in RANGES:
+        least, greatest = RANGES[word]
+        return draw.choice((str(least), str(least), str(greatest), str(greatest + 1), draw.choice(STRANGE_NUMBERS)))
+    if word in (SIGNAL, SIGNAL_SET):
+        return draw.choice(("rt1", "rt31", draw.choice(STRANGE_SIGNALS)))
+    return draw.choice(("z", "z", "a", draw.choice(STRANGE_NAMES))) if word == DECLARED else word
 
 
 def faulty_line(draw: Random, stage: Stage) -> Text:

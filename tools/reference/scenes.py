@@ -110,7 +110,7 @@ def condition(writer: "ScriptWriter") -> list[Part]:
     draw, cond, mutex = writer.draw, writer.draw.choice(writer.conds), writer.mutex()
     parts: list[Part] = []
     for _ in range(draw.randint(1, 3)):
-        timed = f"timedwait {cond} {mutex} {draw.randint(0, 20)}"
+        timed = f"timedwait {cond} {mutex} {draw.choice((draw.randint(0, 20), 30, 50))}"
         wait = draw.choice((f"wait {cond} {mutex}", f"wait {cond} {mutex}", timed))
         parts.append([f"lock {mutex}", *guarded(writer, [wait]), *busy(writer, 2), f"unlock {mutex}"])
     wake = draw.choice((f"signal {cond}", f"broadcast {cond}"))
@@ -119,6 +119,17 @@ def condition(writer: "ScriptWriter") -> list[Part]:
     parts.append([f"nanosleep {draw.randint(1, 6)}", f"lock {mutex}", wake, *busy(writer, 2), f"unlock {mutex}"]
                  if draw.random() < 0.5 else rounds)
     return parts
+
+
+def owner_of_two_waits(writer: "ScriptWriter") -> list[Part]:
+    """A thread waits on a condition while it owns another mutex, or owns its mutex twice."""
+    draw, cond = writer.draw, writer.draw.choice(writer.conds)
+    if len(writer.mutexes) < 2:
+        return condition(writer)
+    first, second = draw.sample(writer.mutexes, 2)
+    waits = [draw.choice((f"wait {cond} {first}", f"timedwait {cond} {first} {draw.randint(0, 20)}")) for _ in range(3)]
+    return [["as fifo 2", f"lock {second}", f"lock {first}", waits[0], f"unlock {second}", waits[1], f"unlock {first}"],
+            ["as fifo 1", f"lock {second}", f"timedwait {cond} {second} 9", f"unlock {second}", waits[2]]]
 
 
 def semaphore(writer: "ScriptWriter") -> list[Part]:
@@ -145,15 +156,39 @@ def waiting_for_signals(writer: "ScriptWriter") -> list[Part]:
 def handled_waits(writer: "ScriptWriter") -> list[Part]:
     """Threads in waits that a handled signal ends."""
     draw, signal = writer.draw, f"rt{writer.handled}"
-    waits = [f"nanosleep {draw.randint(3, 12)}", f"clock_nanosleep {draw.randint(5, 30)}"]
-    waits += [word for sem in writer.sems for word in (f"sem_wait {sem}", f"sem_timedwait {sem} 40")]
+    waits = [[f"nanosleep {draw.randint(3, 12)}"], [f"clock_nanosleep {draw.randint(5, 30)}"]]
+    waits += [["sigwaitinfo none"], ["sigtimedwait none 30"]]
+    waits += [[word] for sem in writer.sems for word in (f"sem_wait {sem}", f"sem_timedwait {sem} 40")]
     for queue in writer.queues:
-        waits += [f"mq_receive {queue}", f"mq_timedreceive {queue} 40"]
-        waits += [f"mq_send {queue} 1 1 1", f"mq_timedsend {queue} 1 1 1 40"]
-    waits += ["sigwaitinfo none", "sigtimedwait none 30"]
-    sleepers = [[*busy(writer, 1), *guarded(writer, [draw.choice(waits)]), "take", *busy(writer, 1)] for _ in range(2)]
-    send = draw.choice((f"kill {signal}", f"tkill {writer.threads[0]} {signal}", f"sigqueue {signal} 12"))
-    return [*sleepers, [*pause(writer), *busy(writer, 2), send, *busy(writer, 1), send]]
+        waits += [[f"mq_receive {queue}"], [f"mq_timedreceive {queue} 40"]]
+        waits += [["loop 4", f"mq_{send} {queue} 1 1 1{late}", "end"] for send, late in (("send", ""), ("timedsend", " 40"))]
+    sleepers = [[f"as {draw.choice(('fifo 7', 'rr 6', 'fifo 5', 'sporadic 8 3 20 6 4'))}", *busy(writer, 1),
+                 *guarded(writer, draw.choice(waits)), "take", *busy(writer, 1)] for _ in range(2)]
+    sends = [draw.choice((f"tkill {PEER}{k} {signal}", f"tkill {PEER}{k} {signal}", f"kill {signal}",
+                          f"sigqueue {signal} 12")) for k in range(2)]
+    return [*sleepers, ["as fifo 2", *pause(writer), *busy(writer, 2), sends[0], *busy(writer, 1), sends[1]]]
+
+
+def more_signals_than_may_pend(writer: "ScriptWriter") -> list[Part]:
+    """A thread sends a signal that nobody takes until no more may be pending, and then takes one and sends again."""
+    draw, signal = writer.draw, writer.signal()
+    writer.least_horizon = 80
+    sends = [f"kill {signal}", f"sigqueue {signal} reg", f"tkill {SELF} {signal}"]
+    fill = ["loop 8", *(draw.choice((sends[2], sends[2], *sends)) for _ in range(8)), "end"]
+    take = draw.choice(([f"sigwaitinfo {signal}"], ["sigtimedwait all 0", "take"], []))
+    return [["as fifo 254", "sigmask block all", *fill, *draw.sample(sends, 3), *take, *draw.sample(sends, 3),
+             *draw.choice(([f"sigmask unblock {signal}"], ["run 9"]))],
+            ["sigmask block all", *busy(writer, 9)]]
+
+
+def sent_into_a_lock(writer: "ScriptWriter") -> list[Part]:
+    """A thread that waits for a mutex or for the end of another gets signals: one that is handled, or one that ends all."""
+    draw, mutex = writer.draw, writer.mutex()
+    signal = draw.choice((f"rt{writer.handled}", f"rt{writer.handled}", writer.signal()))
+    wait = draw.choice(([f"lock {mutex}", *busy(writer, 2), f"unlock {mutex}"], [f"join {PEER}1"]))
+    sends = [f"tkill {PEER}0 {signal}", draw.choice((f"tkill {PEER}0 {signal}", f"kill {signal}", "yield"))]
+    return [["as fifo 8", "nanosleep 2", *wait, *busy(writer, 2)],
+            ["as fifo 3", f"lock {mutex}", "run 3", *sends, *busy(writer, 3), f"unlock {mutex}", *busy(writer, 1)]]
 
 
 def periodic(writer: "ScriptWriter") -> list[Part]:
@@ -176,6 +211,18 @@ def overruns(writer: "ScriptWriter") -> list[Part]:
             ["sigmask block all", *busy(writer, 9)]]
 
 
+def armed_and_read(writer: "ScriptWriter") -> list[Part]:
+    """A timer is armed, read, set anew and disarmed; its handled signal comes in between, at times into a sleep."""
+    draw, timer = writer.draw, writer.draw.choice(writer.timers)
+    first = draw.choice((f"rel {draw.randint(2, 9)}", f"abs {draw.randint(0, 20)}", "abs reg"))
+    again = draw.choice((f"rel 0 {draw.randint(0, 3)}", f"rel {draw.randint(1, 4)} {draw.randint(0, 3)}", "abs 1 0"))
+    rest = draw.choice((["nanosleep 9", "take"], ["run 4"], []))
+    return [["set 0", *pause(writer), f"timer_settime {timer} {first} {draw.choice((0, 0, 3, 5))}",
+             f"timer_gettime {timer}", *busy(writer, 2), f"timer_gettime {timer}", *rest,
+             f"timer_getoverrun {timer}", f"timer_settime {timer} {again}", f"timer_gettime {timer}"],
+            [*busy(writer, 4), f"timer_gettime {timer}"]]
+
+
 def queue_of_messages(writer: "ScriptWriter") -> list[Part]:
     """Senders and receivers of one queue, one of them with a notification at times."""
     draw, queue = writer.draw, writer.draw.choice(writer.queues)
@@ -187,6 +234,27 @@ def queue_of_messages(writer: "ScriptWriter") -> list[Part]:
             [*pause(writer), *notify, receives[0], *busy(writer, 2), *guarded(writer, receives[1:2]), receives[2]],
             [*busy(writer, 2), draw.choice((sends[4], receives[0])), *notify],
             ["sigmask block all", *notify, sends[4], *notify, receives[0], *accept, *notify]]
+
+
+def notified(writer: "ScriptWriter") -> list[Part]:
+    """A thread asks for a notification again and again, and another sends into the empty queue."""
+    draw, queue, signal = writer.draw, writer.draw.choice(writer.queues), writer.signal()
+    ask = f"mq_notify {queue} {signal} {writer.operand()}"
+    wait = draw.choice((f"sigwaitinfo {signal}", f"sigtimedwait {signal} 6", f"mq_receive {queue}", "nanosleep 5"))
+    masked = [f"sigmask block {signal}"]
+    return [[*(masked if draw.random() < 0.7 else []), f"loop {draw.randint(2, 3)}", ask, wait,
+             draw.choice((f"mq_receive {queue}", f"mq_timedreceive {queue} 0")), "end", ask],
+            [*masked, *busy(writer, 2), send(writer, queue), *pause(writer), send(writer, queue), ask,
+             *busy(writer, 2), send(writer, queue)]]
+
+
+def senders_in_line(writer: "ScriptWriter") -> list[Part]:
+    """Threads of several priorities wait to send into a full queue, and one takes all their messages."""
+    draw, queue = writer.draw, writer.draw.choice(writer.queues)
+    senders = [[f"as fifo {draw.choice((6, 7, 7, 8))}", f"loop {draw.randint(1, 3)}",
+                f"mq_send {queue} 1 {draw.randint(0, 2)} {10 * k + draw.randint(0, 9)}", "end", *busy(writer, 1)]
+               for k in range(3)]
+    return [*senders, ["as fifo 2", f"loop {draw.randint(3, 9)}", f"mq_receive {queue}", "take", *busy(writer, 1), "end"]]
 
 
 def send(writer: "ScriptWriter", queue: str) -> str:
@@ -277,9 +345,11 @@ SCENES: dict[Stage, tuple[Scene, ...]] = {
     Stage.SERVERS: (served, new_server),
     Stage.MUTEXES: (one_mutex, chain_of_mutexes, ring_of_mutexes, lent_priority_waits, server_at_a_mutex),
     Stage.SEMAPHORES: (semaphore,),
-    Stage.WAITING: (condition, condition),
-    Stage.SIGNALS: (waiting_for_signals, handled_waits),
-    Stage.TIMERS: (periodic, overruns),
-    Stage.QUEUES: (queue_of_messages, queue_of_messages),
+    Stage.WAITING: (condition, condition, owner_of_two_waits),
+    Stage.SIGNALS: (waiting_for_signals, handled_waits, sent_into_a_lock, more_signals_than_may_pend),
+    Stage.TIMERS: (periodic, overruns, armed_and_read),
+    Stage.QUEUES: (queue_of_messages, queue_of_messages, notified, senders_in_line),
     Stage.LIVES: (cancelled, cancelled_at_a_mutex, cancelled_joiner),
+    Stage.WHOLE: (handled_waits, handled_waits, handled_waits, sent_into_a_lock, waiting_for_signals, periodic, armed_and_read,
+                  notified, senders_in_line),
 }

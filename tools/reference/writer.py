@@ -34,6 +34,7 @@ class ScriptWriter:
         self.topics |= {stage} & set(_SHARES)
         self.handled = draw.choice(self.signals)
         self.steps_left = draw.choice((12, 25, 40, 60))
+        self.least_horizon = 0
         self.parts = self.played()
 
     def some_names(self, letter: str, most: int, since: Stage) -> list[str]:
@@ -118,7 +119,7 @@ class ScriptWriter:
     def actions(self) -> list[list[str]]:
         if self.stage < Stage.SIGNALS:
             return []
-        ways = [f"run {name}" for name in self.handlers] * 3 + ["ignore"] + ["kill"] * (self.draw.random() < 0.3)
+        ways = [f"run {name}" for name in self.handlers] * 3 + ["ignore"] + ["kill"] * (self.draw.random() < 0.4)
         found = [(signal, self.draw.choice(ways)) for signal in self.signals if signal != self.handled]
         found.append((self.handled, f"run {self.draw.choice(self.handlers)}"))
         return [[f"action rt{signal} {way}"] for signal, way in found if way != "kill"]
@@ -284,6 +285,6 @@ def named(line: str, players: list[str]) -> str:
 
 
 def accepted(seed: int, stage: Stage = Stage.WHOLE) -> tuple[bytes, int]:
-    """A script of the stage, and a horizon between 10 and 60 ticks."""
+    """A script of the stage, and a horizon between 10 and 60 ticks, or more where a scene asks for it."""
     writer = ScriptWriter(seed, stage)
-    return writer.script().encode(), writer.draw.randint(10, 60)
+    return writer.script().encode(), writer.least_horizon + writer.draw.randint(10, 60)

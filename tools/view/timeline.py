@@ -4,7 +4,8 @@ capacity of its server.
 A trace has no line where a thread blocks. What it tells is this. A `return` or `cancel` of a thread that did not run in
 the tick before ends a wait that began where the thread last ran. A thread that is dispatched without such a line was
 ready since it last ran. Where the processor is idle, no live thread is ready. A `plan` without `exhaust` tells that its
-thread blocks. Where nothing of this tells, the stretch is `OFF`: the thread did not run, and no more is known.
+thread blocks. A `deliver` without a `return` at its instant tells that its thread was ready. Where nothing of this tells,
+the stretch is `OFF`: the thread did not run, and no more is known.
 """
 from __future__ import annotations
 
@@ -177,6 +178,7 @@ class _Track:
         self.priority = 0
         self.high: bool | None = None
         self.blocks = False
+        self.catches = False
         self.capacity: int | None = None
         self.capacity_since = 0
         self.next_refill = 0
@@ -214,7 +216,7 @@ class _Track:
         """A line that ends a wait, where the thread does not run."""
         if self.state is State.OFF:
             self.close(time, State.WAITING, call)
-            self.state, self.blocks = State.READY, False
+            self.state, self.blocks, self.catches = State.READY, False, False
             if self.high is not None:
                 self.high = False
 
@@ -259,7 +261,7 @@ class _Builder:
         if track.state is None:
             track.since = event.time
         track.close(event.time, State.READY)
-        track.state, track.priority, track.blocks = State.RUNNING, event.priority, False
+        track.state, track.priority, track.blocks, track.catches = State.RUNNING, event.priority, False, False
         self.runs = track
 
     def idles(self, event: Idle) -> None:
@@ -291,7 +293,8 @@ class _Builder:
         self.mark(event, MarkKind.CANCEL).wakes(event.time, "cancelled")
 
     def deliver(self, event: Deliver) -> None:
-        self.mark(event, MarkKind.DELIVER, event.signal)
+        track = self.mark(event, MarkKind.DELIVER, event.signal)
+        track.catches = track.state is State.OFF
 
     def is_killed(self, event: Killed) -> None:
         self.killed = event
@@ -334,7 +337,7 @@ class _Builder:
         for track in self.tracks.values():
             if track.state is State.OFF:
                 waits = track.blocks or self.last_idle >= track.since
-                track.close(time, State.WAITING if waits else State.OFF)
+                track.close(time, State.READY if track.catches else State.WAITING if waits else State.OFF)
             elif track.state is State.READY:
                 track.close(time, State.READY)
             track.hold(time)

@@ -1,6 +1,6 @@
 -- A text and its canonical text are read as the same script.
 use Rattle.std.proofs.Common.{◌≡◌, ℕ, ◌+◌, List, [], ◌∷◌, refl, sym, ◌∙◌, subst, Bool, true, false, Option, None, Some}
-use Rattle.std.specs.Prelude.{◌&&◌, if◌then◌else◌, Ok, Err}
+use Rattle.std.specs.Prelude.{if◌then◌else◌, Ok, Err}
 use Rattle.std.specs.List.{list_all}
 use Rattle.script_lex.specs.Lines.{lines_of}
 use Rattle.script_lex.specs.Words.{line_words}

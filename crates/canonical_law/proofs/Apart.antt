@@ -1,6 +1,6 @@
 -- A line's pattern stays the same where another line fits it.
 use Rattle.std.proofs.Common.{◌≡◌, ℕ, List, [], ◌∷◌, refl, sym, ◌∙◌, ap, subst, Bool, true, false, not, None, Some, rules}
-use Rattle.std.specs.Prelude.{◌&&◌, ◌||◌, find, cond}
+use Rattle.std.specs.Prelude.{◌||◌, find, cond}
 use Rattle.std.specs.List.{list_all}
 use Rattle.std.specs.Str.{bytes_eq}
 use Rattle.std.proofs.lemmas.Slice.Eq.{bytes_eq-Decides}

@@ -1,6 +1,6 @@
 -- A sound line keeps its pattern.
 use Rattle.std.proofs.Common.{◌≡◌, ℕ, List, [], ◌∷◌, refl, ◌∙◌, ap, true, false, None, Some}
-use Rattle.std.specs.Prelude.{◌&&◌, map, not}
+use Rattle.std.specs.Prelude.{map, not}
 use Rattle.std.specs.List.{list_all}
 use Rattle.script_lex.specs.Words.{has_bad_byte, line_words}
 use Rattle.script_lex.specs.Joined.{joined_words, is_word}

@@ -1,6 +1,5 @@
 -- Canonical lines have no fault of phase 1 where the lines have none.
 use Rattle.std.proofs.Common.{◌≡◌, ℕ, ◌+◌, List, [], ◌∷◌, ◌++◌, refl, sym, ◌∙◌, ap, subst, Bool, true, false, Option, None, Some}
-use Rattle.std.specs.Prelude.{◌&&◌}
 use Rattle.script_lex.specs.Words.{has_bad_byte, line_words}
 use Rattle.script_table.specs.declared.fault.FaultKind.{FaultKind}
 use Rattle.script_table.specs.declared.fault.FaultKind.TheVariants.{BadByte}

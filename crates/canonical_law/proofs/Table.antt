@@ -1,5 +1,5 @@
 -- What the table of patterns is.
-use Rattle.std.proofs.Common.{◌≡◌, ℕ, List, refl, Bool, true, Some}
+use Rattle.std.proofs.Common.{◌≡◌, ℕ, List, refl, true, Some}
 use Rattle.std.specs.List.{list_all}
 use Rattle.script_table.specs.Patterns.{Row}
 use Rattle.script_table.specs.Table.{patterns, declaration_patterns, step_patterns, call_patterns}

@@ -19,7 +19,7 @@ use kernel_lives::{
 };
 use kernel_messages::{ask_notification, receive, send};
 use kernel_signals::{
-    block, first_expiry_at, first_expiry_in, kill, kill_thread, queue, read_overrun, read_timer,
+    block, expiry_after, expiry_at, kill, kill_thread, queue, read_overrun, read_timer,
     set as set_mask, set_timer, unblock, wait as wait_for_signal,
 };
 use kernel_state::Parts;
@@ -79,10 +79,10 @@ fn do_call<K: Sink>(p: &mut Parts, t: Tid, call: &Call, out: &mut Tracer<'_, K>)
         Call::ClockNanosleep { at } => sleep_until(p, t, call, p.moment(t, at), out),
         Call::Gettime => p.returns(t, call, Res::Zero, p.instant().get(), out),
         Call::TimerSettimeRel(k, n, interval) => {
-            set_timer(p, t, call, *k, first_expiry_in(p.instant(), *n), *interval, out)
+            set_timer(p, t, call, *k, expiry_after(p.instant(), *n), *interval, out)
         }
         Call::TimerSettimeAbs(k, at, interval) => {
-            set_timer(p, t, call, *k, first_expiry_at(p.moment(t, at)), *interval, out)
+            set_timer(p, t, call, *k, expiry_at(p.moment(t, at)), *interval, out)
         }
         Call::TimerGettime(k) => read_timer(p, t, call, *k, out),
         Call::TimerGetoverrun(k) => read_overrun(p, t, call, *k, out),

@@ -1,5 +1,5 @@
 -- A message enters, something happens, and the notification comes last.
-use Rattle.std.proofs.Common.{◌≡◌, ◌∙◌, ℕ, List, Option, ap, subst, sym}
+use Rattle.std.proofs.Common.{◌≡◌, ℕ, List, Option, ap, subst, sym}
 use Rattle.pse52_trace.specs.Tells.{Tells}
 use Rattle.pse52_trace.specs.declared.tracer.Tracer.{Tracer}
 use Rattle.script_flat.specs.declared.cursor.Cursor.{Cursor}

@@ -1,5 +1,5 @@
 -- What a notification counts on stays as a queue changes, a call returns and a thread wakes.
-use Rattle.std.proofs.Common.{◌≡◌, ◌∙◌, ◌<◌, ◌≤◌, ◌^◌, ◌+◌, ◌++◌, ◌∷◌, [], ℕ, Bool, true, false, List, Option, None, Some, ap, arith, length, length-append, refl, subst, sym}
+use Rattle.std.proofs.Common.{◌≡◌, ◌∙◌, ◌++◌, ◌∷◌, [], ℕ, Bool, true, false, List, Option, None, Some, ap, arith, refl, subst, sym}
 use Rattle.std.specs.Prelude.{◌==◌}
 use Rattle.tick_num.specs.declared.res.Res.{Res}
 use Rattle.pse52_trace.specs.declared.event.Event.TheVariants as event
@@ -8,31 +8,17 @@ use Rattle.sporadic_server.specs.Server.{ServerState, activate}
 use Rattle.machine_rules.specs.CallNames.{name_of}
 use Rattle.machine_rules.specs.Queues.{with_message}
 use Rattle.machine_rules.specs.Servers.{activates_server, high_server, with_server}
-use Rattle.machine_rules.specs.State.{Machine, Message, Queue, Registration, SignalRecord, Status, Thread, blocked, dormant, ended, runnable}
+use Rattle.machine_rules.specs.State.{Machine, Message, Queue, Registration, Status, Thread, blocked, dormant, ended, runnable}
 use Rattle.machine_rules.specs.Threads.{can_run, is_blocked, is_runnable, no_queue, queue_at, thread_at, waiting_of}
-use Rattle.machine_rules.specs.Turns.{By, Turn, changes, changes_queue, moves, returns, tells, with_queue}
+use Rattle.machine_rules.specs.Turns.{Turn, changes, changes_queue, moves, tells, with_queue}
 use Rattle.machine_rules.specs.Waking.{call_in, wakes, woken}
-use Rattle.machine_rules.proofs.Reading.{changed-keeps, changed-length, thread-other}
+use Rattle.machine_rules.proofs.Reading.{changed-keeps, thread-other}
 use Rattle.machine_moves.proofs.Calls.Commuting.{wakes_telling_part, woken_runs}
-use Rattle.message_queues.specs.Queues.{without_next, without_one}
 use Rattle.thread_blocks.specs.Unused.{IsUnused}
 use Rattle.kernel_state.specs.Caught.{HasRoomToPend}
 use Rattle.kernel_state.specs.Kernel.{Kernel, after, turn}
-use Rattle.kernel_state.specs.Pending.{PendingFits, SignalsFit}
 use Rattle.kernel_signals.specs.Sweeping.{AllRest}
-use Rattle.kernel_signals.proofs.Sent.{returned_pends, returned_rests}
-use Rattle.kernel_sync.specs.Waits.{WaitsFit}
 use Rattle.kernel_messages.specs.Notifying.{CanNotify}
-
--- what the calls of queues ask is what a notification counts on
-pub can_notify : (m : Machine Cursor) (q : ℕ) → WaitsFit m → PendingFits m → SignalsFit m → m.next_serial < 2 ^ 62 → m.now ≤ 10 ^ 18 → CanNotify m q
-can_notify m q fits pends signals serial early = record {
-  signal = λ r e. signals.registrations q r e;
-  pends = λ r e. record { few = pends.queues q r e; youngest = pends.youngest };
-  rests = fits.rests;
-  serial = omega (arith, serial);
-  early = early;
-}
 
 -- ---- a queue changes
 
@@ -50,32 +36,6 @@ changed_can q f kept k l e h = subst (λ (x : Kernel). CanNotify x.machine q) (s
 
 pub put_can : (q : ℕ) (x : Message) (k l : Kernel) → l ≡ after (changes_queue q (with_message x)) k → CanNotify k.machine q → CanNotify l.machine q
 put_can q x k l e h = changed_can q (with_message x) (λ y. refl) k l e h
-
-without_kept : (o : Option ℕ) (x : Queue) → (without_one o x).registration ≡ x.registration
-without_kept None x = refl
-without_kept (Some n) x = refl
-
-pub taken_can : (q : ℕ) (k l : Kernel) → l ≡ after (changes_queue q without_next) k → CanNotify k.machine q → CanNotify l.machine q
-taken_can q k l e h = changed_can q without_next (λ x. without_kept _ x) k l e h
-
--- as many queues as before
-pub changed_known : (q p : ℕ) (f : Queue → Queue) (k l : Kernel) → l ≡ after (changes_queue q f) k → p < length k.machine.queues → p < length l.machine.queues
-changed_known q p f k l e lt = let n = ap (λ (x : Kernel). length x.machine.queues) e ∙ changed-length no_queue q f k.machine.queues in omega (arith, n, lt)
-
--- ---- a call returns
-
-pub returned_can : (by : By) (x : Res) (value q : ℕ) (k l : Kernel) → l ≡ after (returns by x value) k → CanNotify k.machine q → CanNotify l.machine q
-returned_can by x value q k l e h =
-    let queues = ap (λ (y : Kernel). y.machine.queues) e in
-    let same : queue_at l.machine q ≡ queue_at k.machine q = ap (λ (y : Kernel). queue_at y.machine q) e in
-    let asked = ap (λ (y : Queue). y.registration) same in
-    record {
-      signal = λ r f. h.signal r (sym asked ∙ f);
-      pends = λ r f. returned_pends by x value k l e (h.pends r (sym asked ∙ f));
-      rests = returned_rests by x value k l e h.rests;
-      serial = rw e h.serial;
-      early = rw e h.early;
-    }
 
 -- ---- a thread wakes
 
@@ -148,11 +108,3 @@ module _ (t : ℕ) (r : Res) (value : ℕ) (s : Turn Cursor) where
 
 pub woken_can : (t : ℕ) (r : Res) (value q : ℕ) (k l : Kernel) → l ≡ after (wakes t r value) k → is_blocked (thread_at k.machine t).status ≡ true → CanNotify k.machine q → CanNotify l.machine q
 woken_can t r value q k l e waits h = subst (λ (x : Kernel). CanNotify x.machine q) (sym e) (woken_notifies t r value (turn k) q waits h)
-
-pub woken_room : (t : ℕ) (r : Res) (value : ℕ) (k l : Kernel) → l ≡ after (wakes t r value) k → length k.direct < 255 → length l.direct < 256
-woken_room t r value k l e lt =
-    let n = ap (λ (x : Kernel). length x.direct) e ∙ ap length (woken_direct t r value (turn k)) ∙ length-append k.direct (t ∷ []) in
-    omega (arith, n, lt)
-
-pub woken_queues : (t : ℕ) (r : Res) (value : ℕ) (k l : Kernel) → l ≡ after (wakes t r value) k → l.machine.queues ≡ k.machine.queues
-woken_queues t r value k l e = ap (λ (x : Kernel). x.machine.queues) e ∙ woken_part t r value (turn k) (λ m. m.queues) (λ m threads. refl)

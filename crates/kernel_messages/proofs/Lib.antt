@@ -1,5 +1,4 @@
 pub mod Receivers
 pub mod Kept
 pub mod Entered
-pub mod Sent
 pub mod Received

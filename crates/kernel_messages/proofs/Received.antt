@@ -1,19 +1,20 @@
 -- How a receive comes out.
-use Rattle.std.proofs.Common.{◌≡◌, ◌∙◌, ◌<◌, ℕ, zero, suc, Bool, true, false, List, [], ◌∷◌, None, Option, Some, ap, refl, subst, sym}
-use Rattle.std.specs.Prelude.{IfSome, option_map, slice_index_or, slice_set}
+use Rattle.std.proofs.Common.{◌≡◌, ◌∙◌, ◌<◌, ℕ, true, List, None, Option, Some, ap, refl, subst, sym}
+use Rattle.std.specs.Prelude.{IfSome, option_map, slice_set}
 use Rattle.std.specs.Option.{option_map_or}
 use Rattle.tick_num.specs.declared.res.Res.{Res}
 use Rattle.tick_num.specs.declared.res.Res.TheVariants as res
 use Rattle.pse52_trace.specs.Tells.{Tells}
 use Rattle.pse52_trace.specs.declared.tracer.Tracer.{Tracer}
 use Rattle.script_flat.specs.declared.cursor.Cursor.{Cursor}
-use Rattle.machine_rules.specs.Lists.{changed_at}
-use Rattle.machine_rules.specs.Queues.{blocks_unless_nonblock, enters, message_of, next_message, receives_message, receives_on, takes_over, value_at, waits_to_send, without_message}
+use Rattle.machine_rules.specs.Queues.{enters, message_of, next_message, receives_message, receives_on, takes_over, value_at, waits_to_send, without_message}
 use Rattle.machine_rules.specs.State.{Machine, Message, Queue, Thread, Wait, Waiting, for_condition, for_end, for_message, for_mutex, for_mutex_again, for_room, for_semaphore, for_signal, for_time}
-use Rattle.machine_rules.specs.Threads.{no_queue, no_thread, queue_at, thread_at, waiting_in, waiting_of}
-use Rattle.machine_rules.specs.Turns.{By, Turn, answered, changes_queue, returns, with_queue}
+use Rattle.machine_rules.specs.Threads.{is_blocked, no_thread, queue_at, thread_at, waiting_in, waiting_of}
+use Rattle.machine_rules.specs.Turns.{By, Turn, answered, changes_queue, returns}
 use Rattle.machine_rules.specs.Waiters.{Waiter, best_waiter}
 use Rattle.machine_rules.specs.Waking.{wakes}
+use Rattle.machine_rules.proofs.Behind.{AddsBehind, wakes_behind}
+use Rattle.machine_rules.proofs.BehindCalls.{enters_behind}
 use Rattle.machine_rules.proofs.Reading.{changed-keeps}
 use Rattle.machine_moves.proofs.Waiters.Best.{best_waits}
 use Rattle.message_queues.specs.Queues.{next_value, without_next, without_one}
@@ -21,6 +22,7 @@ use Rattle.kernel_state.specs.Kernel.{Kernel, after, told, turn}
 use Rattle.kernel_state.specs.Pending.{SignalsFit}
 use Rattle.kernel_state.specs.Waits.{waiting_message}
 use Rattle.kernel_signals.proofs.Same.{same_after, same_told}
+use Rattle.kernel_signals.proofs.Sent.{returned_blocked}
 use Rattle.kernel_messages.specs.Entering.{hands_out, takes_over_from}
 
 -- ---- the message of a sender
@@ -58,45 +60,11 @@ module _ (by : By) (r : Res) (v : ℕ) (s : Turn Cursor) where
   pub same_message : (u : ℕ) → waiting_message (returns by r v s).machine u ≡ waiting_message s.machine u
   same_message u = ap (λ (o : Option Waiting). option_map_or (λ (w : Waiting). message_of w.wait) o (message_of for_time)) (same_waits u)
 
--- ---- nothing is taken from an empty queue
-
-unchanged_at : (n : ℕ) (f : Queue → Queue) (xs : List Queue) → f (slice_index_or xs n no_queue) ≡ slice_index_or xs n no_queue → changed_at no_queue n f xs ≡ xs
-unchanged_at n f [] e = refl
-unchanged_at zero f (x ∷ xs) e = ap (λ (y : Queue). y ∷ xs) e
-unchanged_at (suc n) f (x ∷ xs) e = ap (λ (ys : List Queue). x ∷ ys) (unchanged_at n f xs e)
-
-no_next : (x : Queue) (o : Option ℕ) → next_message x.messages ≡ o → None ≡ option_map (value_at x.messages) o → next_message x.messages ≡ None
-no_next x None e none = e
-no_next x (Some n) e none = absurd cc
+-- ---- a message leaves
 
 module _ (by : By) (q : ℕ) (due : Option ℕ) (k l : Kernel) (taken : l ≡ after (changes_queue q without_next) k) where
   abbrev queue : Queue
   queue = queue_at k.machine q
-
-  pub nothing_taken : (o : Option ℕ) → o ≡ next_value queue → o ≡ None → l ≡ k
-  nothing_taken o is none =
-      let empty : next_message queue.messages ≡ None = no_next queue (next_message queue.messages) refl (sym none ∙ is) in
-      let same : without_next queue ≡ queue = ap (λ (n : Option ℕ). without_one n queue) empty in
-      taken ∙ ap (λ (queues : List Queue). record k { machine = record (k.machine) { queues = queues } }) (unchanged_at q without_next k.machine.queues same)
-
-  abbrev waits : Turn Cursor → Turn Cursor
-  waits = blocks_unless_nonblock by q (for_message q) due
-
-  none_is : (o : Option ℕ) → o ≡ next_value queue → o ≡ None → receives_message by q due (turn k) ≡ waits (turn k)
-  none_is o is none = ap (λ (n : Option ℕ). receives_on n by q due (turn k)) (no_next queue (next_message queue.messages) refl (sym none ∙ is))
-
-  pub as_waits : (o : Option ℕ) (n : Kernel) → o ≡ next_value queue → o ≡ None → n ≡ after waits l → n ≡ after (receives_message by q due) k
-  as_waits o n is none e =
-      let there : n ≡ after waits k = subst (λ (x : Kernel). n ≡ after waits x) (nothing_taken o is none) e in
-      same_after (receives_message by q due) waits k n (none_is o is none) there
-
-  pub told_waits : {K : Type 0} (text : K → Option (List ℕ)) (faults : K → ℕ) (a b : Tracer K) (o : Option ℕ) → o ≡ next_value queue → o ≡ None → Tells text faults l.names a b (told waits l) →
-      Tells text faults k.names a b (told (receives_message by q due) k)
-  told_waits text faults a b o is none h =
-      let there : Tells text faults k.names a b (told waits k) = subst (λ (x : Kernel). Tells text faults x.names a b (told waits x)) (nothing_taken o is none) h in
-      same_told text faults (receives_message by q due) waits k a b (none_is o is none) there
-
-  -- ---- a message leaves
 
   abbrev best : Option Waiter
   best = best_waiter k.machine (waits_to_send q)
@@ -134,3 +102,21 @@ module _ (by : By) (q : ℕ) (due : Option ℕ) (k l : Kernel) (taken : l ≡ af
         Tells text faults k.names a b (told (receives_message by q due) k)
     told_handed text faults a b h =
         same_told text faults (receives_message by q due) (handed value sender) k a b same (subst (λ (x : Kernel). Tells text faults x.names a b (told (hands_out by value sender q) x)) taken h)
+
+-- ---- the sender, once the call has returned
+
+pub sender_stays_blocked : (by : By) (r : Res) (v : ℕ) (k l : Kernel) (o : Option ℕ) → l ≡ after (returns by r v) k → IfSome o (λ t. is_blocked (thread_at k.machine t).status ≡ true) →
+    IfSome o (λ t. is_blocked (thread_at l.machine t).status ≡ true)
+sender_stays_blocked by r v k l None e h = tt
+sender_stays_blocked by r v k l (Some t) e h = returned_blocked by r v t k l e h
+
+pub sender_stays_fit : (by : By) (r : Res) (v : ℕ) (k l : Kernel) (o : Option ℕ) → l ≡ after (returns by r v) k → IfSome o (λ t. (waiting_message k.machine t).priority < 32) →
+    IfSome o (λ t. (waiting_message l.machine t).priority < 32)
+sender_stays_fit by r v k l None e h = tt
+sender_stays_fit by r v k l (Some t) e h =
+    let same : waiting_message l.machine t ≡ waiting_message k.machine t = ap (λ (x : Kernel). waiting_message x.machine t) e ∙ same_message by r v (turn k) t in
+    subst (λ (x : Message). x.priority < 32) (sym same) h
+
+pub takes_over_from_behind : (sender : Option ℕ) (q : ℕ) → AddsBehind {P = Cursor} (takes_over_from sender q)
+takes_over_from_behind None q told s = refl
+takes_over_from_behind (Some w) q told s = enters_behind q (waiting_message s.machine w) (wakes w res.Zero 0) (wakes_behind w res.Zero 0) told s

@@ -4,7 +4,7 @@ use Rattle.std.specs.Prelude.{is_some, option_map, slice_index_or, ◌||◌}
 use Rattle.std.specs.List.{list_any}
 use Rattle.std.specs.Option.{option_map_or}
 use Rattle.script_flat.specs.declared.cursor.Cursor.{Cursor}
-use Rattle.machine_rules.specs.State.{Machine, Thread, Wait, Waiting}
+use Rattle.machine_rules.specs.State.{Machine, Wait, Waiting}
 use Rattle.machine_rules.specs.Threads.{no_thread}
 use Rattle.machine_rules.specs.Waiters.{Waiter, best_waiter, somebody_waits, waits_so}
 use Rattle.machine_moves.proofs.Waiters.Best.{best_waits, nobody_waits}

@@ -77,9 +77,12 @@ module _ (k : ℕ) (p l : Kernel) where
   pub as_overrun : (b : Bool) → b ≡ is_pending_from k p.machine → b ≡ true → l ≡ after (changes_timer k overrun_once_more) p → l ≡ after (signals_expiry k) p
   as_overrun b is on e = same_after (signals_expiry k) (changes_timer k overrun_once_more) p l (signals_as k (turn p) true (sym on ∙ is)) e
 
-  pub as_generated : (b : Bool) (r : SignalRecord) → b ≡ is_pending_from k p.machine → b ≡ false → r ≡ record_of_timer k (timer_at p.machine k) → l ≡ after (generates r) p → l ≡ after (signals_expiry k) p
-  as_generated b r is off same e =
-      same_after (signals_expiry k) (generates r) p l (signals_as k (turn p) false (sym off ∙ is) ∙ ap (λ (x : SignalRecord). generates x (turn p)) (sym same)) e
+  pub as_generated : (b : Bool) → b ≡ is_pending_from k p.machine → b ≡ false → l ≡ after (generates (record_of_timer k (timer_at p.machine k))) p → l ≡ after (signals_expiry k) p
+  as_generated b is off e = same_after (signals_expiry k) (generates (record_of_timer k (timer_at p.machine k))) p l (signals_as k (turn p) false (sym off ∙ is)) e
+
+  -- the record is the timer's
+  pub as_record : (r : SignalRecord) → r ≡ record_of_timer k (timer_at p.machine k) → l ≡ after (generates r) p → l ≡ after (generates (record_of_timer k (timer_at p.machine k))) p
+  as_record r is e = e ∙ ap (λ (x : SignalRecord). after (generates x) p) is
 
   pub signalled_now : l ≡ after (signals_expiry k) p → l.machine.now ≡ p.machine.now
   signalled_now e = ap (λ (x : Kernel). x.machine.now) e ∙ ap (λ (x : Kept). x.now) (signals_kept k (turn p))
@@ -98,10 +101,13 @@ module _ {K : Type 0} (text : K → Option (List ℕ)) (faults : K → ℕ) (k :
   told_overrun a b is on =
       same_told text faults (signals_expiry k) (changes_timer k overrun_once_more) p a a (signals_as k (turn p) true (sym on ∙ is)) (nothing_of text faults (λ s. s) p a refl)
 
-  pub told_generated : (a c : Tracer K) (b : Bool) (r : SignalRecord) → b ≡ is_pending_from k p.machine → b ≡ false → r ≡ record_of_timer k (timer_at p.machine k) →
-      Tells text faults p.names a c (told (generates r) p) → Tells text faults p.names a c (told (signals_expiry k) p)
-  told_generated a c b r is off same h =
-      same_told text faults (signals_expiry k) (generates r) p a c (signals_as k (turn p) false (sym off ∙ is) ∙ ap (λ (x : SignalRecord). generates x (turn p)) (sym same)) h
+  pub told_generated : (a c : Tracer K) (b : Bool) → b ≡ is_pending_from k p.machine → b ≡ false →
+      Tells text faults p.names a c (told (generates (record_of_timer k (timer_at p.machine k))) p) → Tells text faults p.names a c (told (signals_expiry k) p)
+  told_generated a c b is off h = same_told text faults (signals_expiry k) (generates (record_of_timer k (timer_at p.machine k))) p a c (signals_as k (turn p) false (sym off ∙ is)) h
+
+  pub told_record : (a c : Tracer K) (r : SignalRecord) → r ≡ record_of_timer k (timer_at p.machine k) → Tells text faults p.names a c (told (generates r) p) →
+      Tells text faults p.names a c (told (generates (record_of_timer k (timer_at p.machine k))) p)
+  told_record a c r is h = subst (λ (x : SignalRecord). Tells text faults p.names a c (told (generates x) p)) is h
 
 -- ---- the record has room, and a signal that is one
 

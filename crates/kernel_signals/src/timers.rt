@@ -1,7 +1,10 @@
 // Interval timers: setting and reading them, and their expiries.
 ghost use Rattle.std.specs.Prelude.{◌≡◌, ◌≤◌, ◌<◌, ◌+◌, ◌^◌, length};
 ghost use Rattle.pse52_trace.specs.Tells.{Tells};
-ghost use Rattle.machine_rules.specs.Timers.{expires, first_expiry, reads_overrun, reads_timer, sets_timer, signals_expiry};
+ghost use Rattle.machine_rules.specs.Signals.{generates};
+ghost use Rattle.machine_rules.specs.Threads.{timer_at};
+ghost use Rattle.machine_rules.specs.Timers.{expires, first_expiry, reads_overrun, reads_timer, record_of_timer, sets_timer, signals_expiry};
+ghost use Rattle.kernel_state.specs.Caught.{HasRoomToPend};
 ghost use Rattle.kernel_state.specs.Kernel.{after, by, told};
 ghost use Rattle.kernel_state.specs.Pending.{PendingFits, SignalsFit};
 ghost use Rattle.kernel_signals.specs.Sweeping.{AllRest};
@@ -72,8 +75,25 @@ pub fn read_overrun<K: Sink>(p: &mut Parts, t: Tid, call: &Call, k: ObjId, out: 
     p.returns(t, call, Res::Zero, overrun as u64, out);
 }
 
+// The signal of an expiry is generated.
+#[tactic(auto, using(crate::proofs::Expired::has_signal))]
+fn generate_expiry<K: Sink>(p: &mut Parts, k: ObjId, out: &mut Tracer<'_, K>)
+    requires timer { k < length p.old.machine.timers }
+    requires room { length p.old.direct < 256 }
+    requires rests { AllRest p.old.machine }
+    requires pends { HasRoomToPend p.old.machine }
+    requires signals { SignalsFit p.old.machine }
+    requires serial { p.old.machine.next_serial < 2 ^ 63 }
+    requires early { p.old.machine.now ≤ 10 ^ 18 }
+    ensures state { p.new ≡ after (generates (record_of_timer k (timer_at p.old.machine k))) p.old }
+    ensures told { Tells K.text K.faults p.old.names out.old out.new (told (generates (record_of_timer k (timer_at p.old.machine k))) p.old) }
+{
+    let r = p.timer_record(k);
+    generate(p, &r, out);
+}
+
 // Where a record of the timer is pending, that is one overrun more; else its signal is generated.
-#[tactic(auto, using(crate::proofs::Expired::as_overrun, crate::proofs::Expired::as_generated, crate::proofs::Expired::told_overrun, crate::proofs::Expired::told_generated, crate::proofs::Expired::has_room, crate::proofs::Expired::has_signal))]
+#[tactic(auto, using(crate::proofs::Expired::as_overrun, crate::proofs::Expired::as_generated, crate::proofs::Expired::told_overrun, crate::proofs::Expired::told_generated, crate::proofs::Expired::has_room))]
 fn signal_expiry<K: Sink>(p: &mut Parts, k: ObjId, out: &mut Tracer<'_, K>)
     requires timer { k < length p.old.machine.timers }
     requires room { length p.old.direct < 256 }
@@ -88,8 +108,7 @@ fn signal_expiry<K: Sink>(p: &mut Parts, k: ObjId, out: &mut Tracer<'_, K>)
     if p.is_timer_pending(k) {
         p.overrun_once_more(k);
     } else {
-        let r = p.timer_record(k);
-        generate(p, &r, out);
+        generate_expiry(p, k, out);
     }
 }
 

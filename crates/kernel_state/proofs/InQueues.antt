@@ -4,7 +4,7 @@ use Rattle.std.specs.Prelude.{option_map}
 use Rattle.std.specs.Option.{option_map_or}
 use Rattle.script_flat.specs.declared.cursor.Cursor.{Cursor}
 use Rattle.machine_rules.specs.Queues.{message_of}
-use Rattle.machine_rules.specs.State.{Machine, Message, Wait, Waiting, for_time}
+use Rattle.machine_rules.specs.State.{Machine, Message, Waiting, for_time}
 use Rattle.machine_rules.specs.Threads.{waiting_of}
 use Rattle.thread_blocks.specs.Plain.{wait_of}
 use Rattle.thread_blocks.specs.declared.status.Wait as plain

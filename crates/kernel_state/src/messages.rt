@@ -1,5 +1,5 @@
 // Message queues: what they hold, who waits for them, and the notification that is asked of each.
-ghost use Rattle.std.specs.Prelude.{◌≡◌, ◌<◌, ◌==◌, IfSome, Some, length, nat_lt, option_map, true};
+ghost use Rattle.std.specs.Prelude.{◌≡◌, ◌<◌, ◌==◌, IfSome, length, nat_lt, option_map, true};
 ghost use Rattle.std.specs.List.{list_any};
 ghost use Rattle.machine_rules.specs.Lists.{is};
 ghost use Rattle.machine_rules.specs.Queues.{has_room, message_of as message_in_wait, registered, waits_to_receive, waits_to_send, with_message};

@@ -1,14 +1,18 @@
--- A kernel that was just opened: the text of its run, and how busy it is.
+-- A kernel that was just opened: the text of its run, its closing lines after some ticks, and how busy it is.
 use Rattle.std.proofs.Common.{◌≡◌, ℕ, ◌∙◌, ap}
 use Rattle.script_tree.specs.declared.decl.Script.{Script}
-use Rattle.machine_rules.specs.Machine.{trace}
+use Rattle.script_flat.specs.declared.cursor.Cursor.{Cursor}
+use Rattle.machine_rules.specs.Machine.{bodies_of, closing, names_of, trace}
+use Rattle.machine_rules.specs.Runs.{Ran, opening, ticks}
 use Rattle.machine_rules.specs.Eventful.{busy}
 use Rattle.machine_rules.specs.Promises.{busy_between}
 use Rattle.machine_places.proofs.CarriedBusy.{busy_over}
+use Rattle.machine_places.proofs.CarriedTrace.{closing_carries, runs_carry}
 use Rattle.machine_flat.specs.FlatBodies.{code_of, flat_bodies}
 use Rattle.machine_flat.proofs.Agrees.{carry, flat_agrees, flat_traces}
 use Rattle.kernel_state.specs.Kernel.{Kernel, opened}
-use Rattle.rt_kernel.specs.Ran.{run_text}
+use Rattle.rt_kernel.specs.Ran.{run_text, ticked_by}
+use Rattle.pse52_tool.specs.Answer.{closing_lines}
 
 -- it is the trace of the machine over the trees of the script
 pub opened_text : (k : Kernel) (script : Script) (n : ℕ) → k ≡ opened script → run_text k n ≡ trace script n
@@ -18,3 +22,10 @@ opened_text k script n is = ap (λ (s : Kernel). run_text s n) is ∙ flat_trace
 pub opened_busy : (k : Kernel) (script : Script) (n : ℕ) → k ≡ opened script → busy (flat_bodies k.code) k.machine 0 n ≡ busy_between script 0 n
 opened_busy k script n is =
     ap (λ (s : Kernel). busy (flat_bodies s.code) s.machine 0 n) is ∙ busy_over (carry script) script (flat_bodies (code_of script)) (flat_agrees script) 0 n
+
+-- after n ticks its closing lines are those of that machine
+pub opened_closing : (k : Kernel) (script : Script) (n : ℕ) → k ≡ opened script → closing (ticked_by n k).names (ticked_by n k).machine ≡ closing_lines script n
+opened_closing k script n is =
+    ap (λ (s : Kernel). closing (ticked_by n s).names (ticked_by n s).machine) is
+    ∙ (ap (λ (r : Ran Cursor). closing (names_of script) r.machine) (runs_carry (carry script) (bodies_of script) (flat_bodies (code_of script)) (flat_agrees script) script n)
+    ∙ closing_carries (carry script) (names_of script) (ticks (bodies_of script) n (opening script)).machine)

@@ -95,3 +95,17 @@ nothing_is_divided : answer (codes "check" ∷ codes "10" ∷ []) (text (codes "
     record { status = NoTrace; text = codes "no trace\n" }
 unfolding lines_of digits
 nothing_is_divided = refl
+
+script_0_is_written : answer (codes "gen" ∷ codes "0" ∷ []) [] ≡
+    done (codes "quantum 3" ∷ codes "mutex m0 inherit" ∷ codes "mutex m1 protect 255" ∷ codes "sem s0 0" ∷ codes "queue q0 8 64 nonblock" ∷
+    codes "thread t0 sporadic 54 1 50 1 10 at 9" ∷ codes "forever" ∷ codes "run 2" ∷ codes "lock m0" ∷ codes "run 5" ∷ codes "unlock m0" ∷
+    codes "nanosleep 451" ∷ codes "end" ∷ codes "end" ∷ [])
+unfolding digits
+script_0_is_written = refl
+
+script_0_is_soaked : answer (codes "soak" ∷ codes "0" ∷ codes "20" ∷ []) [] ≡ done (codes "20 end" ∷ codes "thread t0 ticks 10 high 1 init 1 refilled 0 capacity 0" ∷ [])
+unfolding digits exec_in
+script_0_is_soaked = refl
+
+two_numbers_generate_nothing : answer (codes "gen" ∷ codes "0" ∷ codes "0" ∷ []) [] ≡ record { status = Usage; text = usage_line }
+two_numbers_generate_nothing = refl

@@ -128,7 +128,11 @@ fn long_command_of(word: &[u8], first: &[u8], second: &[u8]) -> Option<Command>
     ensures command { result ≡ long_command_of word.now first.now second.now }
     ensures limit { IfSome result IsWithinLimit }
 {
-    if word == b"soak".as_slice() { soak(first, second) } else { None }
+    if word == b"soak".as_slice() {
+        soak(first, second)
+    } else {
+        None
+    }
 }
 
 /// The command of the words; `None` exactly where they are no command.

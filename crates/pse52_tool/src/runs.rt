@@ -13,14 +13,14 @@ ghost use Rattle.pse52_tool.specs.Answer.{closing_lines};
 
 use pse52_trace::Tracer;
 use rt_io::{NullSink, Sink};
-use rt_kernel::{Kernel, RunEnd};
+use rt_kernel::Kernel;
 use script_tree::Script;
 use std::alloc::{AllocError, Global};
 use std::sync::ledger::Ledger;
 use step_counter::Steps;
 use tick_num::Tick;
 
-// Runs a kernel from its first instant to the horizon, and prints the trace.
+// Runs a kernel from its first instant to the horizon, and prints the trace. A process that a signal ended has come to an ordinary end.
 fn run_kernel<K: Sink, L: Ledger>(
     kernel: &mut Kernel,
     horizon: Tick,
@@ -33,10 +33,11 @@ fn run_kernel<K: Sink, L: Ledger>(
     ensures printed { Prints K.text K.faults out.old out.new (run_text kernel.old horizon) }
     ensures busy { steps.new ≤ steps.old + busy (flat_bodies kernel.old.code) kernel.old.machine 0 horizon + 1 }
 {
-    match kernel.run_until(horizon, out, steps) {
-        RunEnd::Ended => kernel.report(out),
-        RunEnd::Stopped => return,
+    let _ = kernel.run_until(horizon, out, steps);
+    if out.failed() {
+        return;
     }
+    kernel.report(out)
 }
 
 // Runs a script from its first instant to the horizon, and prints its trace. From the open kernel on, nothing takes memory.
@@ -91,10 +92,7 @@ fn soak_kernel<L: Ledger>(kernel: &mut Kernel, horizon: Tick, steps: &mut Steps<
 {
     let mut nothing = NullSink::new();
     let mut out = Tracer::new(&mut nothing);
-    match kernel.run_until(horizon, &mut out, steps) {
-        RunEnd::Ended => {}
-        RunEnd::Stopped => unreachable!(),
-    }
+    let _ = kernel.run_until(horizon, &mut out, steps);
 }
 
 // Runs a script from its first instant to the horizon, and prints its closing lines. From the open kernel on, nothing takes memory.

@@ -1,11 +1,11 @@
 -- What holds of each body that a script declares.
-use Rattle.std.proofs.Common.{ℕ, ◌+◌, ◌≤◌, ◌≡◌, ◌∙◌, List, [], ◌∷◌, ◌++◌, length, Some, ap, sym, subst, arith, length-append}
+use Rattle.std.proofs.Common.{◌+◌, ◌≤◌, ◌≡◌, ◌∙◌, List, [], ◌∷◌, length, Some, ap, sym, subst, arith, length-append}
 use Rattle.std.specs.Prelude.{All}
 use Rattle.std.proofs.lemmas.List.Elements.{All-nil, All-cons, All-append}
 use Rattle.script_tree.specs.Block.{Block}
 use Rattle.script_tree.specs.declared.decl.Kind.TheVariants as kinds
 use Rattle.script_tree.specs.declared.decl.Decl.{Decl}
-use Rattle.script_tree.specs.declared.decl.Decl.TheVariants.{Named, Action}
+use Rattle.script_tree.specs.declared.decl.Decl.TheVariants.{Named}
 use Rattle.script_flat.specs.Flat.{Bodies, no_bodies, bodies_of, with_decl, with_decls}
 use Rattle.script_bounds.proofs.Decls.{bodies_in, decl_more}
 use Rattle.script_bounds.proofs.EachDecl.{Each}

@@ -1,13 +1,11 @@
 -- The call that a line makes, whatever form it has and whatever its words are: it names what is declared, its numbers are in range, and
 -- a server has a budget.
-use Rattle.std.proofs.Common.{ℕ, ◌≡◌, ◌<◌, List, Option, true, refl, arith}
+use Rattle.std.proofs.Common.{ℕ, ◌<◌, List, Option, arith}
 use Rattle.std.specs.Option.{IfSome, option_map}
 use Rattle.script_tree.specs.declared.call.Call.{Call}
 use Rattle.script_tree.specs.declared.call.Call.TheVariants as calls
 use Rattle.script_tree.specs.declared.call.Operand.{Operand}
-use Rattle.script_tree.specs.declared.call.Operand.TheVariants.{Reg}
 use Rattle.script_tree.specs.declared.policy.Policy.{Policy}
-use Rattle.script_tree.specs.declared.policy.Policy.TheVariants.{Fifo}
 use Rattle.script_table.specs.declared.form.CallForm.{CallForm}
 use Rattle.script_table.specs.declared.form.CallForm.TheVariants as call
 use Rattle.script_table.specs.declared.form.ThreadCall.{ThreadCall}

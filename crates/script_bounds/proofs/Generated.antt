@@ -1,8 +1,8 @@
 -- Whatever is generated, the kernel can run.
-use Rattle.std.proofs.Common.{ℕ, zero, suc, ◌≡◌, ◌≤◌, ◌<◌, ◌+◌, ◌%◌, ◌^◌, ◌∙◌, List, [], ◌∷◌, Option, None, Some, Bool, true, false, length, refl, sym, ap, subst, arith}
-use Rattle.std.specs.Prelude.{All, filter_map, if◌then◌else◌, ◌==◌, nat_lt}
+use Rattle.std.proofs.Common.{ℕ, zero, suc, ◌≡◌, ◌≤◌, ◌<◌, ◌+◌, ◌%◌, [], Bool, true, false, length, refl, sym, ap, subst, arith}
+use Rattle.std.specs.Prelude.{filter_map, if◌then◌else◌, ◌==◌}
 use Rattle.std.proofs.Math.Nat.{mod-lt}
-use Rattle.script_tree.specs.Block.{Block, Making, Nothing, Running}
+use Rattle.script_tree.specs.Block.{Block, Making, Nothing}
 use Rattle.script_tree.specs.Tree.{step_count}
 use Rattle.script_tree.specs.declared.call.Call.{Call}
 use Rattle.script_tree.specs.declared.call.Call.TheVariants as call

@@ -111,3 +111,13 @@ fn names_have_at_most_32_bytes(rt: HostRuntime) {
     let more = b"thread a23456789012345678901234567890123 fifo 5 at 0\nend\n".as_slice();
     assert_eq!(rt; fault_of(rt.alloc(), more), Some((1, FaultKind::BadName)));
 }
+
+#[test]
+fn signals_timers_and_queues_are_read(rt: HostRuntime) {
+    let text =
+        b"action rt5 run h\naction rt6 ignore\nhandler h\nend\ntimer k rt5 7\nqueue q 4 16 nonblock\n\
+        thread a fifo 5 at 0\nsigmask block rt1,rt2\ntimer_settime k rel 5 5\nsigqueue rt1 9\nsigwaitinfo rt1\n\
+        mq_notify q rt2 3\nmq_send q 8 1 reg\nmq_timedreceive q 40\nkill rt31\nend\n"
+            .as_slice();
+    assert!(rt; is_script(rt.alloc(), text));
+}

@@ -9,6 +9,10 @@ mod commands;
 #[cfg(test)]
 mod conditions;
 #[cfg(test)]
+mod failures;
+#[cfg(test)]
+mod generated;
+#[cfg(test)]
 mod lives;
 #[cfg(test)]
 mod machine;

@@ -32,6 +32,7 @@ class Pages(unittest.TestCase):
             commands = re.findall(r"^\.Dl (bin/.*?)(?: && gtkwave .*)?$", page.read_text(), re.M)
             self.assertTrue(commands or "sweep" in page.name, page.name)
             for command in commands:
+                command = command.replace(" 1000000", " 1000")  # the reference takes an hour for a million ticks
                 with tempfile.TemporaryDirectory() as folder:
                     clone(Path(folder))
                     ended = subprocess.run(["bash", "-o", "pipefail", "-c", command], cwd=folder, capture_output=True, check=False)

@@ -9,10 +9,12 @@ import xml.etree.ElementTree as ElementTree
 from decimal import Decimal
 from pathlib import Path
 
+from view.main import command_of, drawer
+
 from .readers import needs, page_in_a_browser, run, through_fst
 from .worked import (
     CONTROLLER, CONTROLLER_CAPACITY, CONTROLLER_RUNS, CONTROLLER_WAITS, SLEEPS, SLEEPS_RUNS, TWO_BUDGETS,
-    TWO_BUDGETS_CAPACITY, TWO_BUDGETS_RUNS, all_worked, joined, text_of, view)
+    TWO_BUDGETS_CAPACITY, TWO_BUDGETS_RUNS, all_worked, joined, text_of, timeline, view)
 
 SVG = "{http://www.w3.org/2000/svg}"
 
@@ -36,14 +38,14 @@ marks: > start, x exit, ^ activate, ! exhaust, p plan, + refill
 
 
 def shown(name: str, form: str, *words: str) -> str:
-    ended = view([form, *words], text_of(name))
-    assert ended.returncode == 0, ended.stderr
-    return ended.stdout.decode()
+    """What the command writes of a worked trace, without a process for each of them."""
+    form, width = command_of([form, *words])
+    return drawer(form)(timeline(name), width)
 
 
 class Text(unittest.TestCase):
     def test_a_picture_drawn_by_hand(self) -> None:
-        self.assertEqual(shown(TWO_BUDGETS, "text"), TWO_BUDGETS_TEXT)
+        self.assertEqual(view(["text"], text_of(TWO_BUDGETS)).stdout.decode(), TWO_BUDGETS_TEXT)
 
     def test_who_ran_at_which_tick(self) -> None:
         rows = {line[:5].strip(): line[5:] for line in shown(CONTROLLER, "text").splitlines() if line[:1].isalpha()}

@@ -76,6 +76,16 @@ class Timelines(unittest.TestCase):
         self.assertEqual([(s.start, s.end, s.state) for s in seen.threads[0].spans],
                          [(0, 1, State.RUNNING), (1, 9, State.WAITING)])
 
+    def test_a_handler_that_waits_for_the_processor_is_ready(self) -> None:
+        seen = timeline_of_text("0 start a\n0 dispatch a 5\n2 start b\n2 dispatch b 6\n3 return b tkill 0 0\n"
+                                "3 deliver a rt1 USER 0\n5 end\nthread a ticks 2\nthread b ticks 3\n")
+        self.assertEqual([(s.start, s.end, s.state) for s in seen.threads[0].spans],
+                         [(0, 2, State.RUNNING), (2, 5, State.READY)])
+        seen = timeline_of_text("0 start a\n0 dispatch a 5\n1 idle\n3 deliver a rt1 TIMER 0\n3 return a sigwaitinfo 0 1\n"
+                                "3 dispatch a 5\n4 killed rt2\n4 end\nthread a ticks 2\n")
+        self.assertEqual([(s.start, s.end, s.state, s.call) for s in seen.threads[0].spans],
+                         [(0, 1, State.RUNNING, ""), (1, 3, State.WAITING, "sigwaitinfo"), (3, 4, State.RUNNING, "")])
+
     def test_a_wake_without_activate_is_at_low_priority(self) -> None:
         seen = timeline_of_text(
             "0 start s\n0 activate s 3\n0 dispatch s 8\n2 plan s 2 9\n2 idle\n4 return s nanosleep 0 0\n4 dispatch s 2\n"

@@ -50,7 +50,7 @@ generates_for_keeps : {P : Type 0} (o : Option Waiter) (r : SignalRecord) (s : T
 generates_for_keeps (Some w) r s u h =
     let x = delivers w.thread r s in
     woken_keeps (event.Return w.thread (name_of (call_in (waiting_of x.machine w.thread))) res.Zero r.signal) w.thread res.Zero r.signal x u (delivers_keeps w.thread r s u h)
-generates_for_keeps None r s = if_keeps (is_ignore (action_of s.machine r.signal)) _ _ s (λ u h. h) (λ u h. h)
+generates_for_keeps None r s u h = if_keeps (is_ignore (action_of s.machine r.signal)) _ _ s (λ v k. k) (λ v k. k) u h
 
 pub generates_keeps : {P : Type 0} (r : SignalRecord) (s : Turn P) → KeepsMoves s (generates r s)
 generates_keeps r s = generates_for_keeps (acceptor s.machine r) r s

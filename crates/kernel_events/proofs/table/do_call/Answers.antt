@@ -33,3 +33,14 @@ returns-in-Timedwait-clause-told g c =
     let waits_until = λ (at : ℕ). waits (by c.args.t c.args.call.now) c.in-Timedwait.cond c.in-Timedwait.mutex (Some at) in
     subst (λ (x : Call). Tells g.K.Sink.text g.K.Sink.faults p.names c.args.out.now end (told (call_effect (flat_bodies p.code) (by c.args.t c.args.call.now) x) p)) (sym c.in-Timedwait.is)
     (subst (λ (at : ℕ). Tells g.K.Sink.text g.K.Sink.faults p.names c.args.out.now end (told (waits_until at) p)) c.moment-in-Timedwait.ensures c.wait_on-in-Timedwait.ensures.told)
+
+pub returns-in-Tkill-clause-state : goal.returns-in-Tkill-clause-state
+returns-in-Tkill-clause-state g c =
+    let p = c.args.p.now in
+    subst (λ (x : Call). c.kill_thread.new.p ≡ after (call_effect (flat_bodies p.code) (by c.args.t c.args.call.now) x) p) (sym c.in-Tkill.is) c.kill_thread.ensures.state
+
+pub returns-in-Tkill-clause-told : goal.returns-in-Tkill-clause-told
+returns-in-Tkill-clause-told g c =
+    let p = c.args.p.now in
+    subst (λ (x : Call). Tells g.K.Sink.text g.K.Sink.faults p.names c.args.out.now c.kill_thread.new.out (told (call_effect (flat_bodies p.code) (by c.args.t c.args.call.now) x) p))
+    (sym c.in-Tkill.is) c.kill_thread.ensures.told

@@ -1,0 +1,12 @@
+use Rattle.tick_num.specs.declared.res.Res.TheVariants as res
+use Rattle.machine_rules.specs.Turns.{returns}
+use Rattle.machine_rules.specs.Waking.{wakes}
+use Rattle.machine_rules.proofs.Behind.{wakes_behind}
+use Rattle.kernel_state.specs.Kernel.{by}
+use Rattle.kernel_state.proofs.Turns.{then_told}
+use Rattle.kernel_messages.proofs.sending.send_to.Goals as goal
+
+pub returns-clause-told : goal.returns-clause-told
+returns-clause-told g c =
+    then_told g.K.Sink.text g.K.Sink.faults (returns (by c.args.t c.args.call.now) res.Zero 0) (wakes c.args.receiver res.Zero c.args.value) c.args.p.now c.returns.new.self c.args.out.now c.returns.new.out c.wake.new.out
+    (wakes_behind c.args.receiver res.Zero c.args.value) c.returns.ensures.state c.returns.ensures.told c.wake.ensures.told
