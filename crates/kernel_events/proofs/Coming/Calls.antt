@@ -1,5 +1,5 @@
 -- A thread that a call brought to run has a direct move.
-use Rattle.std.proofs.Common.{◌≡◌, [], ◌∷◌, ◌++◌, true, false, refl, ◌∙◌}
+use Rattle.std.proofs.Common.{◌≡◌, ℕ, [], ◌∷◌, ◌++◌, true, false, refl, ◌∙◌}
 use Rattle.std.specs.Prelude.{None, Some, ◌+◌, ◌==◌, ◌&&◌, ◌||◌, length, not, pred, if◌then◌else◌}
 use Rattle.tick_num.specs.declared.res.Res.TheVariants as res
 use Rattle.script_tree.specs.declared.call.Call.{Call}
