@@ -1,2 +1,2 @@
-pub mod Built
+pub mod Calls
 pub mod Handled

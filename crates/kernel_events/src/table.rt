@@ -4,8 +4,9 @@ ghost use Rattle.pse52_trace.specs.Tells.{Tells};
 ghost use Rattle.machine_rules.specs.Threads.{can_run, thread_at};
 ghost use Rattle.machine_rules.specs.Turns.{returns};
 ghost use Rattle.machine_rules.specs.Calls.{call_effect, makes_call};
-ghost use Rattle.kernel_events.specs.Built.{HasRoomFor, IsBuilt, objects_in};
+ghost use Rattle.kernel_events.specs.Calls.{HasRoomFor, objects_in};
 ghost use Rattle.machine_flat.specs.FlatBodies.{flat_bodies};
+ghost use Rattle.machine_flat.specs.Runnable.{CallIsRunnable};
 ghost use Rattle.kernel_lives.specs.Joins.{JoinsFit};
 ghost use Rattle.kernel_sync.specs.Waits.{WaitsFit};
 ghost use Rattle.kernel_state.specs.Kernel.{after, by, told};
@@ -34,7 +35,7 @@ use tick_num::{Res, Tid};
 /// The effect of a call.
 fn do_call<K: Sink>(p: &mut Parts, t: Tid, call: &Call, out: &mut Tracer<'_, K>)
     requires known { t < length p.old.names }
-    requires built { IsBuilt (objects_in p.old) call.now }
+    requires runnable { CallIsRunnable (objects_in p.old) call.now }
     requires guards { HasRoomFor (length p.old.code.cleanups) (thread_at p.old.machine t) call.now }
     requires threads { length p.old.machine.threads ≡ length p.old.names }
     requires runs { can_run p.old.machine t ≡ true }
@@ -79,7 +80,15 @@ fn do_call<K: Sink>(p: &mut Parts, t: Tid, call: &Call, out: &mut Tracer<'_, K>)
         Call::ClockNanosleep { at } => sleep_until(p, t, call, p.moment(t, at), out),
         Call::Gettime => p.returns(t, call, Res::Zero, p.instant().get(), out),
         Call::TimerSettimeRel(k, n, interval) => {
-            set_timer(p, t, call, *k, expiry_after(p.instant(), *n), *interval, out)
+            set_timer(
+                p,
+                t,
+                call,
+                *k,
+                expiry_after(p.instant(), *n),
+                *interval,
+                out,
+            )
         }
         Call::TimerSettimeAbs(k, at, interval) => {
             set_timer(p, t, call, *k, expiry_at(p.moment(t, at)), *interval, out)
@@ -103,17 +112,42 @@ fn do_call<K: Sink>(p: &mut Parts, t: Tid, call: &Call, out: &mut Tracer<'_, K>)
             prio,
             value,
             at,
-        } => send(p, t, call, *queue, *len, *prio, p.number(t, value), Some(p.moment(t, at)), out),
+        } => send(
+            p,
+            t,
+            call,
+            *queue,
+            *len,
+            *prio,
+            p.number(t, value),
+            Some(p.moment(t, at)),
+            out,
+        ),
         Call::MqReceive(q) => receive(p, t, call, *q, None, out),
-        Call::MqTimedreceive { queue, at } => receive(p, t, call, *queue, Some(p.moment(t, at)), out),
-        Call::MqNotify(q, signal, v) => ask_notification(p, t, call, *q, *signal, p.number(t, v), out),
+        Call::MqTimedreceive { queue, at } => receive(
+            p,
+            t,
+            call,
+            *queue,
+            Some(p.moment(t, at)),
+            out,
+        ),
+        Call::MqNotify(q, signal, v) => ask_notification(
+            p,
+            t,
+            call,
+            *q,
+            *signal,
+            p.number(t, v),
+            out,
+        ),
     }
 }
 
 /// A call is made, or a request acts in its place.
 pub fn make_call<K: Sink>(p: &mut Parts, t: Tid, call: &Call, out: &mut Tracer<'_, K>)
     requires known { t < length p.old.names }
-    requires built { IsBuilt (objects_in p.old) call.now }
+    requires runnable { CallIsRunnable (objects_in p.old) call.now }
     requires guards { HasRoomFor (length p.old.code.cleanups) (thread_at p.old.machine t) call.now }
     requires threads { length p.old.machine.threads ≡ length p.old.names }
     requires runs { can_run p.old.machine t ≡ true }

@@ -80,27 +80,27 @@ pub record Held (o : Objects) (handlers : ℕ) (m : Machine Cursor) : Type 0 whe
 -- ---- what calls wait for
 
 record WaitIsHeld (o : Objects) (x : Wait) : Type 0 where
-  pub built : KnowsMutex o.mutexes x
+  pub mutex : KnowsMutex o.mutexes x
   pub end : EndIsKnown o.threads x
   pub room : RoomIsKnown o.queues x
 
 call_wait : (o : Objects) (c : Call) (x : Wait) → CallIsRunnable o c → MakesWait c x → WaitIsHeld o x
-call_wait o (call.Join u) x is e = subst (WaitIsHeld o) (sym e) (record { built = tt; end = is.objects; room = tt })
-call_wait o (call.Lock k) x is e = subst (WaitIsHeld o) (sym e) (record { built = tt; end = tt; room = tt })
-call_wait o (call.Timedlock k at) x is e = subst (WaitIsHeld o) (sym e) (record { built = tt; end = tt; room = tt })
-call_wait o (call.Trylock k) x is e = subst (WaitIsHeld o) (sym e) (record { built = tt; end = tt; room = tt })
-call_wait o (call.Wait c k) x is e = subst (WaitIsHeld o) (sym e) (record { built = is.objects; end = tt; room = tt })
-call_wait o (call.Timedwait c k at) x is e = subst (WaitIsHeld o) (sym e) (record { built = is.objects.0; end = tt; room = tt })
-call_wait o (call.SemWait k) x is e = subst (WaitIsHeld o) (sym e) (record { built = tt; end = tt; room = tt })
-call_wait o (call.SemTimedwait k at) x is e = subst (WaitIsHeld o) (sym e) (record { built = tt; end = tt; room = tt })
-call_wait o (call.Nanosleep n) x is e = subst (WaitIsHeld o) (sym e) (record { built = tt; end = tt; room = tt })
-call_wait o (call.ClockNanosleep at) x is e = subst (WaitIsHeld o) (sym e) (record { built = tt; end = tt; room = tt })
-call_wait o (call.Sigwaitinfo set) x is e = subst (WaitIsHeld o) (sym e) (record { built = tt; end = tt; room = tt })
-call_wait o (call.Sigtimedwait set n) x is e = subst (WaitIsHeld o) (sym e) (record { built = tt; end = tt; room = tt })
-call_wait o (call.MqSend q len p v) x is e = subst (WaitIsHeld o) (sym e.1) (record { built = tt; end = tt; room = (is.objects.0, subst (λ (n : ℕ). n < 32) (sym e.2) is.objects.1) })
-call_wait o (call.MqTimedsend q len p v at) x is e = subst (WaitIsHeld o) (sym e.1) (record { built = tt; end = tt; room = (is.objects.0, subst (λ (n : ℕ). n < 32) (sym e.2) is.objects.1) })
-call_wait o (call.MqReceive q) x is e = subst (WaitIsHeld o) (sym e) (record { built = tt; end = tt; room = tt })
-call_wait o (call.MqTimedreceive q at) x is e = subst (WaitIsHeld o) (sym e) (record { built = tt; end = tt; room = tt })
+call_wait o (call.Join u) x is e = subst (WaitIsHeld o) (sym e) (record { mutex = tt; end = is.objects; room = tt })
+call_wait o (call.Lock k) x is e = subst (WaitIsHeld o) (sym e) (record { mutex = tt; end = tt; room = tt })
+call_wait o (call.Timedlock k at) x is e = subst (WaitIsHeld o) (sym e) (record { mutex = tt; end = tt; room = tt })
+call_wait o (call.Trylock k) x is e = subst (WaitIsHeld o) (sym e) (record { mutex = tt; end = tt; room = tt })
+call_wait o (call.Wait c k) x is e = subst (WaitIsHeld o) (sym e) (record { mutex = is.objects; end = tt; room = tt })
+call_wait o (call.Timedwait c k at) x is e = subst (WaitIsHeld o) (sym e) (record { mutex = is.objects.0; end = tt; room = tt })
+call_wait o (call.SemWait k) x is e = subst (WaitIsHeld o) (sym e) (record { mutex = tt; end = tt; room = tt })
+call_wait o (call.SemTimedwait k at) x is e = subst (WaitIsHeld o) (sym e) (record { mutex = tt; end = tt; room = tt })
+call_wait o (call.Nanosleep n) x is e = subst (WaitIsHeld o) (sym e) (record { mutex = tt; end = tt; room = tt })
+call_wait o (call.ClockNanosleep at) x is e = subst (WaitIsHeld o) (sym e) (record { mutex = tt; end = tt; room = tt })
+call_wait o (call.Sigwaitinfo set) x is e = subst (WaitIsHeld o) (sym e) (record { mutex = tt; end = tt; room = tt })
+call_wait o (call.Sigtimedwait set n) x is e = subst (WaitIsHeld o) (sym e) (record { mutex = tt; end = tt; room = tt })
+call_wait o (call.MqSend q len p v) x is e = subst (WaitIsHeld o) (sym e.1) (record { mutex = tt; end = tt; room = (is.objects.0, subst (λ (n : ℕ). n < 32) (sym e.2) is.objects.1) })
+call_wait o (call.MqTimedsend q len p v at) x is e = subst (WaitIsHeld o) (sym e.1) (record { mutex = tt; end = tt; room = (is.objects.0, subst (λ (n : ℕ). n < 32) (sym e.2) is.objects.1) })
+call_wait o (call.MqReceive q) x is e = subst (WaitIsHeld o) (sym e) (record { mutex = tt; end = tt; room = tt })
+call_wait o (call.MqTimedreceive q at) x is e = subst (WaitIsHeld o) (sym e) (record { mutex = tt; end = tt; room = tt })
 call_wait o _ x is e = absurd e
 
 -- ---- changes of a thread
@@ -138,8 +138,8 @@ module _ (o : Objects) (code : flat.Bodies (List Op)) (calls : (n : ℕ) → Eac
   unit_makes th = makes_if (th.is_ending && is_main (top_kind th.frames) && top_left th.frames == 0) th
 
 module _ (o : Objects) (handlers : ℕ) (code : flat.Bodies (List Op)) (calls : (n : ℕ) → EachMade (CallIsRunnable o) (ops_of code n)) where
-  abbrev pub built : Given Cursor
-  built = record {
+  abbrev pub of_calls : Given Cursor
+  of_calls = record {
     bodies = flat_bodies code;
     count = o.threads;
     Handles = λ h. h < handlers;
@@ -156,14 +156,14 @@ module _ (o : Objects) (handlers : ℕ) (code : flat.Bodies (List Op)) (calls : 
   held_by s r e q = subst (λ (x : Status). IsHeldBy o (waiting_in x)) (sym e) q
 
   asleep : (w : Waiting) → WaitIsHeld o w.wait → IsHeldBy o (Some w)
-  asleep w h = record { waits = h.built; ends = h.end; rooms = h.room }
+  asleep w h = record { waits = h.mutex; ends = h.end; rooms = h.room }
 
-  held_closed : Closed built HeldNow
+  held_closed : Closed of_calls HeldNow
   held_closed = record {
     answers = λ now u th r value q. q;
     wakes = λ now u th r value q. record { waits = tt; ends = tt; rooms = tt };
     waits = λ now u th caller w known makes q. asleep w (call_wait o w.call w.wait known makes);
-    again = λ now u th w c k how waits may is q. asleep w (subst (WaitIsHeld o) (sym is) (record { built = tt; end = tt; room = tt }));
+    again = λ now u th w c k how waits may is q. asleep w (subst (WaitIsHeld o) (sym is) (record { mutex = tt; end = tt; room = tt }));
     waiting = λ now u th w q is. tt;
     starts = λ now u th mask lt q. record { waits = tt; ends = tt; rooms = tt };
     activates = λ now u th q. q;
@@ -188,13 +188,13 @@ module _ (o : Objects) (handlers : ℕ) (code : flat.Bodies (List Op)) (calls : 
     pends = λ r serial from. from;
   }
 
-  unit_known : (th : Thread Cursor) (u : unit_type.Unit) → UnitMakes (CallIsRunnable o) u → UnitKnown built th u
+  unit_known : (th : Thread Cursor) (u : unit_type.Unit) → UnitMakes (CallIsRunnable o) u → UnitKnown of_calls th u
   unit_known th (unit.Run k) makes = tt
   unit_known th (unit.Make c) makes = makes
   unit_known th unit.Jump makes = tt
   unit_known th unit.Finish makes = tt
 
-  held_lasts : Lasts built HeldNow
+  held_lasts : Lasts of_calls HeldNow
   held_lasts = record {
     closed = held_closed;
     passes = λ to. record {
@@ -206,18 +206,18 @@ module _ (o : Objects) (handlers : ℕ) (code : flat.Bodies (List Op)) (calls : 
 
   -- ---- runs
 
-  caught_by : (a : SigAction) → ActionKnown built a → CatchesBy handlers a
+  caught_by : (a : SigAction) → ActionKnown of_calls a → CatchesBy handlers a
   caught_by action.Kill known = tt
   caught_by action.Ignore known = tt
   caught_by (action.Handler h) known = known
 
-  registered_so : (q : Queue) → NotifiesKnown built q → (r : Registration) → q.registration ≡ Some r → r.signal < 32
+  registered_so : (q : Queue) → NotifiesKnown of_calls q → (r : Registration) → q.registration ≡ Some r → r.signal < 32
   registered_so q known r e = known r e
 
-  pub held_throughout : (n most : ℕ) (m : Machine Cursor) → Holds built HeldNow (turn_of m) → Held o handlers (after_items (flat_bodies code) m n most)
+  pub held_throughout : (n most : ℕ) (m : Machine Cursor) → Holds of_calls HeldNow (turn_of m) → Held o handlers (after_items (flat_bodies code) m n most)
   held_throughout n most start h =
       let m = after_items (flat_bodies code) start n most in
-      let lasts = holds_throughout built HeldNow held_lasts n most start h in
+      let lasts = holds_throughout of_calls HeldNow held_lasts n most start h in
       record {
         each = at_all (λ u th. IsHeld o th) no_thread m.threads lasts.each (λ u. record { waits = tt; ends = tt; rooms = tt });
         counted = lasts.counted;
@@ -252,7 +252,7 @@ module _ (script : Script) (ok : IsRunnable script) where
 
   pub held_after : IsPlaceable script → (n most : ℕ) → Held (objects_of script) (length (handlers_of script)) (after_items (flat_bodies (code_of script)) (opening script) n most)
   held_after place n most =
-      let given = built (objects_of script) (length (handlers_of script)) (code_of script) calls_known in
+      let given = of_calls (objects_of script) (length (handlers_of script)) (code_of script) calls_known in
       held_throughout (objects_of script) (length (handlers_of script)) (code_of script) calls_known n most (opening script) (record {
         each = λ u lt. nothing_yet (objects_of script) (threads_of script) u;
         counted = length-map (threads_of script) (thread_opened {P = Cursor});

@@ -13,7 +13,7 @@ use Rattle.machine_leaps.specs.Leap.{later_by}
 use Rattle.machine_leaps.specs.Quiet.{after_ticks, frames_after}
 use Rattle.kernel_state.specs.Kernel.{Kernel, after}
 use Rattle.kernel_state.specs.Leaps.{leaps_by}
-use Rattle.kernel_events.specs.Built.{HasRoomFor}
+use Rattle.kernel_events.specs.Calls.{HasRoomFor}
 use Rattle.rt_kernel.specs.Completes.{CanComplete}
 
 set_twice : (xs : List (Thread Cursor)) (n : ℕ) (a b : Thread Cursor) → slice_set (slice_set xs n a) n b ≡ slice_set xs n b
@@ -42,6 +42,6 @@ room_later n k th _ room = tt
 
 pub can_later : (o : Objects) (k : ℕ) (th : Thread Cursor) (u : unit_type.Unit) → CanComplete o th u → CanComplete o (after_ticks k th) u
 can_later o k th (unit.Run n) can = tt
-can_later o k th (unit.Make c) can = record { built = can.built; room = room_later o.cleanups k th c can.room }
+can_later o k th (unit.Make c) can = record { runnable = can.runnable; room = room_later o.cleanups k th c can.room }
 can_later o k th unit.Jump can = tt
 can_later o k th unit.Finish can = tt

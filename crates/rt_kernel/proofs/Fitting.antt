@@ -29,7 +29,7 @@ use Rattle.machine_rules.specs.Waiters.{waits_so}
 use Rattle.kernel_sync.specs.Waits.{WaitKnowsMutex}
 use Rattle.kernel_state.specs.Kernel.{Kernel, after, turn}
 use Rattle.kernel_state.specs.Stood.{StoodRight}
-use Rattle.kernel_events.specs.Built.{objects_in}
+use Rattle.kernel_events.specs.Calls.{objects_in}
 use Rattle.rt_kernel.specs.Completes.{CanAct}
 use Rattle.kernel_laws.specs.Counts.{Counts, counts_in, counts_of}
 use Rattle.rt_kernel.specs.Fits.{Fits, FitsLeap, ItemsFit}

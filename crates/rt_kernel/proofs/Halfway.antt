@@ -10,7 +10,7 @@ use Rattle.machine_rules.specs.DueItems.{instant, item_done, items_done, next_it
 use Rattle.machine_rules.proofs.BehindTicks.{item_done_behind}
 use Rattle.machine_flat.specs.FlatBodies.{flat_bodies}
 use Rattle.machine_flat.specs.KnownCalls.{Objects}
-use Rattle.kernel_events.specs.Built.{objects_in}
+use Rattle.kernel_events.specs.Calls.{objects_in}
 use Rattle.rt_kernel.specs.Fits.{Fits, ItemsFit}
 use Rattle.rt_kernel.proofs.Fitting.{objects_same}
 use Rattle.kernel_state.specs.Kernel.{Kernel, after, told, turn}

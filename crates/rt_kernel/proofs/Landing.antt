@@ -27,7 +27,7 @@ use Rattle.machine_moves.proofs.Runs.Ticks.{dispatched}
 use Rattle.kernel_state.specs.Kernel.{Kernel, after, turn}
 use Rattle.kernel_state.proofs.Turns.{then_state_in}
 use Rattle.kernel_signals.specs.Sweeping.{CanSweep}
-use Rattle.kernel_events.specs.Built.{objects_in}
+use Rattle.kernel_events.specs.Calls.{objects_in}
 use Rattle.kernel_laws.specs.Visitable.{CanBeSwept}
 use Rattle.kernel_laws.proofs.Sweeping.{can_visit, swept_back}
 use Rattle.rt_kernel.specs.Fits.{Fits, ItemsFit, StaysFit}

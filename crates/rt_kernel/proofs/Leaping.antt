@@ -12,7 +12,7 @@ use Rattle.machine_rules.proofs.Joined.{ticks_add}
 use Rattle.machine_leaps.specs.Leap.{IsLeap, in_leaps, leap, leap_length}
 use Rattle.kernel_state.specs.Kernel.{Kernel, after, told}
 use Rattle.kernel_state.specs.Stood.{StoodRight}
-use Rattle.kernel_events.specs.Built.{objects_in}
+use Rattle.kernel_events.specs.Calls.{objects_in}
 use Rattle.rt_kernel.specs.Fits.{StaysFit}
 use Rattle.rt_kernel.proofs.LeapCounts.{one_less}
 use Rattle.rt_kernel.proofs.Running.{Running, few_leaps, is_leap_of, one_leap, still_fits}

@@ -22,7 +22,7 @@ use Rattle.machine_leaps.proofs.Leaps.Scripts.{stays_ready}
 use Rattle.thread_laws.proofs.Frames.{all_placed}
 use Rattle.thread_laws.proofs.Within.{threads_are_within}
 use Rattle.kernel_state.specs.Kernel.{Kernel, opened}
-use Rattle.kernel_events.specs.Built.{objects_in}
+use Rattle.kernel_events.specs.Calls.{objects_in}
 use Rattle.kernel_laws.proofs.HeldLaw.{calls_known}
 use Rattle.kernel_laws.proofs.Kept.{as_many, placeable, stand_after, states_fit}
 use Rattle.kernel_laws.proofs.Ranges.{flat_bodies_fit}

@@ -22,7 +22,8 @@ use Rattle.thread_laws.proofs.Frames.{Stands, at_most_one}
 use Rattle.thread_laws.proofs.FramesTaken.{taken}
 use Rattle.thread_laws.proofs.MadeCalls.{UnitMakes}
 use Rattle.thread_blocks.specs.Handlers.{AreHandlers, CanEnd}
-use Rattle.kernel_events.specs.Built.{HasRoomFor, IsBuilt}
+use Rattle.machine_flat.specs.Runnable.{CallIsRunnable}
+use Rattle.kernel_events.specs.Calls.{HasRoomFor}
 use Rattle.rt_kernel.specs.Completes.{CanComplete, CanTick}
 use Rattle.kernel_laws.proofs.HeldLaw.{unit_makes}
 
@@ -35,7 +36,7 @@ main_is frame.Main e = refl
 main_is frame.Cleanup e = absurd cc
 main_is frame.Signal e = absurd cc
 
-module _ (script : Script) (ok : IsPlaceable script) (calls : (n : ℕ) → EachMade (IsBuilt (objects_of script)) (ops_of (code_of script) n)) where
+module _ (script : Script) (ok : IsPlaceable script) (calls : (n : ℕ) → EachMade (CallIsRunnable (objects_of script)) (ops_of (code_of script) n)) where
   abbrev StandsSo : Thread Cursor → Type 0
   StandsSo th = Stands (code_of script) (length (cleanups_of script)) th
 
@@ -56,10 +57,10 @@ module _ (script : Script) (ok : IsPlaceable script) (calls : (n : ℕ) → Each
       )
   room_for x _ is h stands few = tt
 
-  completes : (x : InUnit Cursor) (s : units.Unit) → x.unit ≡ s → UnitMakes (IsBuilt (objects_of script)) s → StandsSo x.thread → UnitStands (objects_of script) (top_kind x.thread.frames) x.unit →
+  completes : (x : InUnit Cursor) (s : units.Unit) → x.unit ≡ s → UnitMakes (CallIsRunnable (objects_of script)) s → StandsSo x.thread → UnitStands (objects_of script) (top_kind x.thread.frames) x.unit →
       ((u : ℕ) → x.unit ≡ unit.Make (call.Push u) → length x.thread.cleanups < 8) → CanComplete (objects_of script) x.thread s
   completes x (unit.Run n) is makes h stands few = tt
-  completes x (unit.Make c) is makes h stands few = record { built = makes; room = room_for x c is h stands (λ u e. few u (is ∙ ap unit.Make e)) }
+  completes x (unit.Make c) is makes h stands few = record { runnable = makes; room = room_for x c is h stands (λ u e. few u (is ∙ ap unit.Make e)) }
   completes x unit.Jump is makes h stands few = tt
   completes x unit.Finish is makes h stands few = tt
 

@@ -14,14 +14,15 @@ use Rattle.kernel_state.specs.Kernel.{Kernel}
 use Rattle.kernel_state.specs.Pending.{PendingFits, SignalsFit}
 use Rattle.kernel_sync.specs.Waits.{WaitsFit}
 use Rattle.kernel_lives.specs.Joins.{JoinsFit}
-use Rattle.kernel_events.specs.Built.{HasRoomFor, IsBuilt}
+use Rattle.machine_flat.specs.Runnable.{CallIsRunnable}
+use Rattle.kernel_events.specs.Calls.{HasRoomFor}
 
--- a call is built, and there is room for what it pushes or pops
+-- a call names what there is, and there is room for what it pushes or pops
 pub record CanMake (o : Objects) (th : Thread Cursor) (c : Call) : Type 0 where
-  pub built : IsBuilt o c
+  pub runnable : CallIsRunnable o c
   pub room : HasRoomFor o.cleanups th c
 
--- A thread can complete a unit: nothing that is not built is asked for.
+-- A thread can complete a unit.
 abbrev pub CanComplete : Objects → Thread Cursor → unit_type.Unit → Type 0
 CanComplete o th (unit.Run n) = Unit {0}
 CanComplete o th (unit.Make c) = CanMake o th c
@@ -33,7 +34,7 @@ pub record CanTick (o : Objects) (bodies : Bodies Cursor) (th : Thread Cursor) :
   pub ends : th.is_ending ≡ true → CanEnd o.cleanups th
   pub completes : CanComplete o (in_unit bodies th).thread (in_unit bodies th).unit
 
--- What an effect of a thread's unit may count on: the thread runs, only what is built is waited for, blocked threads have used nothing,
+-- What an effect of a thread's unit may count on: the thread runs, blocked threads have used nothing,
 -- a thread that waits to join another is blocked, there is a place for what becomes pending, and a serial is left.
 pub record CanAct (k : Kernel) (t : ℕ) : Type 0 where
   pub threads : length k.machine.threads ≡ length k.names

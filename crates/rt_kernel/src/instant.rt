@@ -3,7 +3,7 @@ ghost use Rattle.std.specs.Prelude.{◌≡◌, ◌≤◌, ◌^◌, []};
 ghost use Rattle.pse52_trace.specs.Tells.{Tells};
 ghost use Rattle.machine_rules.specs.DueItems.{instant};
 ghost use Rattle.machine_flat.specs.FlatBodies.{flat_bodies};
-ghost use Rattle.kernel_events.specs.Built.{objects_in};
+ghost use Rattle.kernel_events.specs.Calls.{objects_in};
 ghost use Rattle.rt_kernel.specs.Fits.{ItemsFit};
 ghost use Rattle.kernel_state.specs.Kernel.{Kernel, after, told};
 ghost use Rattle.kernel_state.specs.Stood.{StoodRight};

@@ -15,7 +15,7 @@ ghost use Rattle.machine_rules.specs.WellFormed.{IsWellFormed};
 ghost use Rattle.machine_flat.specs.Runnable.{IsRunnable};
 ghost use Rattle.kernel_state.specs.Kernel.{opened, ran};
 ghost use Rattle.kernel_state.specs.Stood.{StoodRight};
-ghost use Rattle.kernel_events.specs.Built.{objects_in};
+ghost use Rattle.kernel_events.specs.Calls.{objects_in};
 ghost use Rattle.rt_kernel.specs.Fits.{StaysFit};
 ghost use Rattle.rt_kernel.specs.Good.{IsGood};
 ghost use Rattle.rt_kernel.specs.Ran.{ticked_by};

@@ -11,7 +11,7 @@ ghost use Rattle.machine_rules.specs.Turns.{Turn, ◌▷◌};
 ghost use Rattle.machine_rules.specs.Units.{in_unit};
 ghost use Rattle.machine_flat.specs.FlatBodies.{flat_bodies};
 ghost use Rattle.machine_leaps.specs.Leap.{leap, leap_goes_on, leap_head, leap_length, leap_runs, length_from, ticks_to_next, unit_leapt};
-ghost use Rattle.kernel_events.specs.Built.{objects_in};
+ghost use Rattle.kernel_events.specs.Calls.{objects_in};
 ghost use Rattle.rt_kernel.specs.Fits.{Fits, FitsLeap, ItemsFit};
 ghost use Rattle.rt_kernel.specs.Landing.{IsSweepable};
 ghost use Rattle.rt_kernel.specs.Reach.{run_length, unit_length};

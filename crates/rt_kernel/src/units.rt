@@ -12,7 +12,7 @@ ghost use Rattle.machine_leaps.specs.Quiet.{after_ticks};
 ghost use Rattle.machine_flat.specs.Placed.{ArePlaced};
 ghost use Rattle.thread_blocks.specs.Handlers.{CanEnd};
 ghost use Rattle.thread_laws.specs.Within.{IsWithin};
-ghost use Rattle.kernel_events.specs.Built.{objects_in};
+ghost use Rattle.kernel_events.specs.Calls.{objects_in};
 ghost use Rattle.rt_kernel.specs.Completes.{CanAct, CanComplete};
 ghost use Rattle.rt_kernel.specs.Fits.{FitsLeap};
 ghost use Rattle.rt_kernel.specs.Reach.{unit_length};

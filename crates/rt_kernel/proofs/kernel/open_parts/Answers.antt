@@ -3,7 +3,7 @@ use Rattle.kernel_state.specs.Kernel.{Kernel}
 use Rattle.kernel_state.specs.Settled.{HavePriorities}
 use Rattle.kernel_state.specs.Stood.{StoodRight}
 use Rattle.kernel_state.proofs.Opened.{stood_opening}
-use Rattle.kernel_events.specs.Built.{objects_in}
+use Rattle.kernel_events.specs.Calls.{objects_in}
 use Rattle.rt_kernel.specs.Fits.{StaysFit}
 use Rattle.rt_kernel.proofs.Opened.{script_fits}
 use Rattle.rt_kernel.proofs.kernel.open_parts.Goals as goal

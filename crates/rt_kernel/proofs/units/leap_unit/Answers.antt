@@ -3,7 +3,7 @@ use Rattle.machine_rules.specs.State.{Thread}
 use Rattle.rt_kernel.specs.Completes.{CanComplete}
 use Rattle.kernel_state.specs.Settled.{HavePriorities}
 use Rattle.kernel_state.specs.Stood.{StoodRight}
-use Rattle.kernel_events.specs.Built.{objects_in}
+use Rattle.kernel_events.specs.Calls.{objects_in}
 use Rattle.kernel_events.proofs.Coming.Steps.{come_later}
 use Rattle.rt_kernel.proofs.ChargeKeeps.{charge_same}
 use Rattle.rt_kernel.proofs.ComingUnits.{completes_come}

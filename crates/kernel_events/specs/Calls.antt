@@ -1,11 +1,10 @@
--- The calls whose effects are built, over the objects of a kernel.
+-- What a call asks of a kernel.
 use Rattle.std.specs.Prelude.{ℕ, ◌≤◌, ◌<◌, length}
 use Rattle.script_flat.specs.declared.cursor.Cursor.{Cursor}
 use Rattle.script_tree.specs.declared.call.Call.{Call}
 use Rattle.script_tree.specs.declared.call.Call.TheVariants as call
 use Rattle.machine_rules.specs.State.{Thread}
 use Rattle.machine_flat.specs.KnownCalls.{Objects}
-use Rattle.machine_flat.specs.Runnable.{CallIsRunnable}
 use Rattle.thread_blocks.specs.Handlers.{AreHandlers}
 use Rattle.kernel_state.specs.Kernel.{Kernel}
 
@@ -19,10 +18,6 @@ objects_in k = record {
   queues = length k.machine.queues;
   timers = length k.machine.timers;
 }
-
--- a call is built, and names what there is
-abbrev pub IsBuilt : Objects → Call → Type 0
-IsBuilt o c = CallIsRunnable o c
 
 -- there is room for one more cleanup handler that is pushed, and for the frame of one that is popped, of so many
 abbrev pub HasRoomFor : ℕ → Thread Cursor → Call → Type 0
