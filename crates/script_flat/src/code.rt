@@ -158,40 +158,39 @@ impl Code {
         self.bodies[body as usize].as_slice()
     }
 
-    /// The next unit of the body that the cursor stands in, and the cursor after it: the operations that take no time are carried
-    /// out on the way. At a body's end the unit is always `Finish`. No memory is taken. The cursor is one that `start` or `fetch`
-    /// gave; its result and its value may have been replaced.
-    pub fn fetch(&self, at: &Cursor) -> (Cursor, Unit)
-        requires { IsPlaced self.now at.now }
-        ensures fetched { result ≡ fetched self.now at.now }
+    /// The next unit of the body that the cursor stands in, and the cursor moves behind it: the operations that take no time are
+    /// carried out on the way. At a body's end the unit is always `Finish`. No memory is taken. The cursor is one that `start` gave,
+    /// and that only `fetch` moved; its result and its value may have been replaced.
+    pub fn fetch(&self, at: &mut Cursor) -> Unit
+        requires { IsPlaced self.now at.old }
+        ensures fetched { fetched self.now at.old ≡ (at.new, result) }
 
         // It is the next unit of the tree, whichever tree the flat form is of.
-        ensures next { (tree : Block) → (place : Place) → IsBody self.now at.now.body tree → Stands tree place at.now
-            → Fetches tree place at.now result.0 result.1 }
+        ensures next { (tree : Block) → (place : Place) → IsBody self.now at.old.body tree → Stands tree place at.old
+            → Fetches tree place at.old at.new result }
 
-        ensures placed { IsPlaced self.now result.0 }
-        ensures few { length result.0.counts.items ≤ 15 }
+        ensures placed { IsPlaced self.now at.new }
+        ensures few { length at.new.counts.items ≤ 15 }
     {
         search(self.ops(at.body), at)
     }
 }
 
-// The first unit of the operations ahead of a cursor, and the cursor after it.
-fn search(ops: &[Op], at: &Cursor) -> (Cursor, Unit)
-    requires ready { IsReady (drop at.now.pc ops.now) at.now }
-    requires within { at.now.pc ≤ length ops.now }
+// The first unit of the operations ahead of a cursor, which moves behind it.
+fn search(ops: &[Op], at: &mut Cursor) -> Unit
+    requires ready { IsReady (drop at.old.pc ops.now) at.old }
+    requires within { at.old.pc ≤ length ops.now }
     requires short { length ops.now < 2 ^ 32 }
-    ensures { found_in (drop at.now.pc ops.now) 0 at.now ≡ result }
+    ensures { found_in (drop at.old.pc ops.now) 0 at.old ≡ (at.new, result) }
 {
-    let mut next = at.duplicate();
-    while let Some(op) = ops.get(next.pc as usize) {
-        next.pc += 1;
-        match next.carry_out(op) {
-            Effect::Gives(unit) => return (next, unit),
-            Effect::Skips(skip) => next.pc += skip,
+    while let Some(op) = ops.get(at.pc as usize) {
+        at.pc += 1;
+        match at.carry_out(op) {
+            Effect::Gives(unit) => return unit,
+            Effect::Skips(skip) => at.pc += skip,
         }
     }
-    (next, Unit::Finish)
+    Unit::Finish
 }
 
 impl Cursor {

@@ -1,6 +1,4 @@
 // Places in the flat code.
-ghost use Rattle.std.specs.Prelude.{◌≡◌};
-
 use arrayvec::ArrayVec;
 use tick_num::Res;
 
@@ -19,22 +17,4 @@ pub struct Cursor {
     pub value: u64,
     /// The passes left of each counted loop round the place, the innermost last, the current pass included.
     pub counts: ArrayVec<u64, 16>,
-}
-
-impl Cursor {
-    /// The same place. No memory is taken.
-    pub fn duplicate(&self) -> Cursor
-        ensures { result ≡ self.now }
-    {
-        let mut counts = ArrayVec::new();
-        let _ = counts.try_extend_from_slice(self.counts.as_slice());
-        Cursor {
-            body: self.body,
-            pc: self.pc,
-            register: self.register,
-            result: self.result,
-            value: self.value,
-            counts,
-        }
-    }
 }

@@ -19,16 +19,16 @@ search-requires-clause-short c =
 
 pub returns-clause-next : goal.returns-clause-next
 returns-clause-next c =
-    fetches c.args.self.now c.args.at.now c.search.result.0 c.search.result.1
+    fetches c.args.self.now c.args.at.now c.search.new.at c.search.result
     (ap (λ ops. found_in (drop c.args.at.now.pc ops) 0 c.args.at.now) (sym c.ops.ensures) ∙ c.search.ensures)
 
 pub returns-clause-placed : goal.returns-clause-placed
 returns-clause-placed c =
-    stays_placed c.args.self.now c.args.at.now c.search.result.0 c.search.result.1
+    stays_placed c.args.self.now c.args.at.now c.search.new.at c.search.result
     (ap (λ ops. found_in (drop c.args.at.now.pc ops) 0 c.args.at.now) (sym c.ops.ensures) ∙ c.search.ensures) c.requires
 
 pub returns-clause-few : goal.returns-clause-few
 returns-clause-few c =
-    let placed = stays_placed c.args.self.now c.args.at.now c.search.result.0 c.search.result.1
+    let placed = stays_placed c.args.self.now c.args.at.now c.search.new.at c.search.result
     (ap (λ ops. found_in (drop c.args.at.now.pc ops) 0 c.args.at.now) (sym c.ops.ensures) ∙ c.search.ensures) c.requires in
-    (placed_ready c.args.self.now c.search.result.0 placed).few
+    (placed_ready c.args.self.now c.search.new.at placed).few
