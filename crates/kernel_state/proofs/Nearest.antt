@@ -2,7 +2,7 @@
 use Rattle.std.proofs.Common.{◌≡◌, ◌≤◌, ◌<◌, ◌+◌, ℕ, List, [], ◌∷◌, Bool, true, false, Option, None, Some, ap, arith, refl, sym, ◌∙◌}
 use Rattle.std.specs.Prelude.{◌-◌, ◌*◌, ◌^◌, min, nat_le, if◌then◌else◌}
 use Rattle.machine_rules.specs.Agenda.{Coming}
-use Rattle.machine_leaps.specs.Leap.{ticks_to_next}
+use Rattle.leap_rules.specs.Leap.{ticks_to_next}
 use Rattle.timer_wheel.specs.Dues.{earlier}
 use Rattle.thread_table.specs.Times.{in_time, last_instant, least_due}
 

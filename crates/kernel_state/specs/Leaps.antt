@@ -2,8 +2,8 @@
 use Rattle.std.specs.Prelude.{ℕ, None, Option, Some}
 use Rattle.script_flat.specs.declared.cursor.Cursor.{Cursor}
 use Rattle.machine_rules.specs.Turns.{Turn, becomes, changes, ◌▷◌}
-use Rattle.machine_leaps.specs.Leap.{later_by}
-use Rattle.machine_leaps.specs.Quiet.{after_ticks}
+use Rattle.leap_rules.specs.Leap.{later_by}
+use Rattle.leap_rules.specs.Quiet.{after_ticks}
 
 -- k ticks of a thread that has taken its unit, or k idle ticks
 abbrev pub leaps_by : ℕ → Option ℕ → Turn Cursor → Turn Cursor

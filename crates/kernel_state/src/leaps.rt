@@ -2,8 +2,8 @@
 ghost use Rattle.std.specs.Prelude.{◌≡◌, ◌≤◌, ◌<◌, ◌+◌, ◌^◌, length, IfSome};
 ghost use Rattle.machine_rules.specs.Threads.{thread_at};
 ghost use Rattle.machine_rules.specs.Turns.{becomes, changes};
-ghost use Rattle.machine_leaps.specs.Leap.{later_by, thread_lasts};
-ghost use Rattle.machine_leaps.specs.Quiet.{after_ticks};
+ghost use Rattle.leap_rules.specs.Leap.{later_by, thread_lasts};
+ghost use Rattle.leap_rules.specs.Quiet.{after_ticks};
 ghost use Rattle.thread_blocks.specs.Room.{HasRoom};
 ghost use Rattle.kernel_state.specs.Kernel.{after};
 ghost use Rattle.kernel_state.specs.Leaps.{leaps_by};

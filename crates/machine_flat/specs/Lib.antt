@@ -1,6 +1,5 @@
 pub mod FlatBodies
 pub mod Placed
-pub mod Traces
 pub mod EachCall
 pub mod KnownCalls
 pub mod Runnable

@@ -9,7 +9,7 @@ use Rattle.script_tree.specs.declared.decl.Script.{Script}
 use Rattle.machine_rules.specs.Priorities.{exec_in}
 use Rattle.machine_rules.specs.Runs.{opening}
 use Rattle.machine_rules.specs.Machine.{bodies_of}
-use Rattle.machine_leaps.specs.Leap.{in_leaps}
+use Rattle.leap_rules.specs.Leap.{in_leaps}
 
 -- Two threads sleep, and a third runs beside them: six instants are eventful.
 abbrev two_sleepers_and_a_runner : Script

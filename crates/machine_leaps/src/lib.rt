@@ -11,8 +11,8 @@ ghost use Rattle.machine_rules.specs.State.{Machine};
 ghost use Rattle.machine_rules.specs.Machine.{bodies_of, events, machine};
 ghost use Rattle.machine_rules.specs.Promises.{busy_between};
 ghost use Rattle.machine_rules.specs.WellFormed.{IsWellFormed};
-ghost use Rattle.machine_leaps.specs.Leap.{AreLeaps, IsLeap, in_leaps, leap_length};
-ghost use Rattle.machine_leaps.specs.Quiet.{AreCharges, IsHandled, IsQuiet, IsQuietBetween, at_once, handled_at, one_charge, told_from};
+ghost use Rattle.leap_rules.specs.Leap.{AreLeaps, IsLeap, in_leaps, leap_length};
+ghost use Rattle.leap_rules.specs.Quiet.{AreCharges, IsHandled, IsQuiet, IsQuietBetween, at_once, handled_at, one_charge, told_from};
 
 /// Quiet ticks. Of any machine whose items are handled: where none of the next instants is eventful, so many ticks are what the head
 /// runs, charged at once, and they tell of the dispatch alone where that is a change; with the first part of one more tick the charge

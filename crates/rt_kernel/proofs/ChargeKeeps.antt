@@ -7,7 +7,7 @@ use Rattle.machine_rules.specs.Lists.{changed_at}
 use Rattle.machine_rules.specs.Threads.{can_run, is_runnable, no_thread, thread_at}
 use Rattle.machine_rules.specs.Turns.{with_thread}
 use Rattle.machine_rules.specs.Units.{in_unit}
-use Rattle.machine_leaps.specs.Quiet.{after_ticks}
+use Rattle.leap_rules.specs.Quiet.{after_ticks}
 use Rattle.thread_table.proofs.Statuses.{unit_keeps}
 
 kept_at : {P X : Type 0} (view : Thread P → X) (f : Thread P → Thread P) (xs : List (Thread P)) (n k : ℕ) →

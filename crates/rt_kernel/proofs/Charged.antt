@@ -9,8 +9,8 @@ use Rattle.machine_rules.specs.State.{Frame, Thread}
 use Rattle.machine_rules.specs.Threads.{no_thread, thread_at}
 use Rattle.machine_rules.specs.Turns.{Turn, becomes, changes, ◌▷◌}
 use Rattle.machine_flat.specs.KnownCalls.{Objects}
-use Rattle.machine_leaps.specs.Leap.{later_by}
-use Rattle.machine_leaps.specs.Quiet.{after_ticks, frames_after}
+use Rattle.leap_rules.specs.Leap.{later_by}
+use Rattle.leap_rules.specs.Quiet.{after_ticks, frames_after}
 use Rattle.kernel_state.specs.Kernel.{Kernel, after}
 use Rattle.kernel_state.specs.Leaps.{leaps_by}
 use Rattle.kernel_events.specs.Calls.{HasRoomFor}

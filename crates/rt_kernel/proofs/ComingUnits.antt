@@ -16,7 +16,7 @@ use Rattle.machine_rules.specs.Mutexes.{owns_boosting}
 use Rattle.machine_rules.specs.Calls.{unit_effect}
 use Rattle.machine_rules.specs.Ticks.{TickEnd, completes_at, ends_tick, exhausting, nothing, planning, slicing, without_slice}
 use Rattle.machine_rules.specs.Units.{in_unit}
-use Rattle.machine_leaps.specs.Quiet.{after_ticks}
+use Rattle.leap_rules.specs.Quiet.{after_ticks}
 use Rattle.machine_flat.specs.KnownCalls.{Objects}
 use Rattle.thread_table.proofs.Statuses.{unit_keeps}
 use Rattle.rt_kernel.specs.Completes.{CanComplete}

@@ -11,8 +11,8 @@ use Rattle.machine_rules.specs.Threads.{can_run, is_blocked, is_runnable, thread
 use Rattle.machine_rules.specs.Turns.{Turn, becomes, changes, with_thread}
 use Rattle.machine_rules.specs.Dispatch.{dispatch_of, dispatches, head}
 use Rattle.machine_rules.specs.DueItems.{instant, item_bound}
-use Rattle.machine_leaps.specs.Leap.{later_by}
-use Rattle.machine_leaps.specs.Quiet.{after_ticks}
+use Rattle.leap_rules.specs.Leap.{later_by}
+use Rattle.leap_rules.specs.Quiet.{after_ticks}
 use Rattle.machine_rules.specs.Units.{in_unit}
 use Rattle.machine_rules.proofs.Reading.{changed-length, thread-other}
 use Rattle.machine_rules.specs.Threads.{no_thread}

@@ -20,8 +20,8 @@ use Rattle.machine_rules.proofs.Behind.{AddsBehind}
 use Rattle.machine_rules.proofs.BehindTicks.{item_done_behind, sweeps_behind}
 use Rattle.machine_rules.proofs.Instants.{completes_now, tick_ends_now}
 use Rattle.machine_flat.specs.FlatBodies.{flat_bodies}
-use Rattle.machine_leaps.specs.Quiet.{after_ticks}
-use Rattle.machine_leaps.specs.Leap.{head_lasts, later_by, leap, leap_goes_on, leap_head, leap_length, leap_runs, length_from, thread_lasts, ticks_to_next, unit_leapt}
+use Rattle.leap_rules.specs.Quiet.{after_ticks}
+use Rattle.leap_rules.specs.Leap.{head_lasts, later_by, leap, leap_goes_on, leap_head, leap_length, leap_runs, length_from, thread_lasts, ticks_to_next, unit_leapt}
 use Rattle.machine_leaps.proofs.Leaps.Law.{leap_runs_behind}
 use Rattle.machine_moves.proofs.Runs.Ticks.{dispatched}
 use Rattle.kernel_state.specs.Kernel.{Kernel, after, turn}

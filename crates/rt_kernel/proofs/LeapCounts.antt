@@ -6,7 +6,7 @@ use Rattle.machine_rules.specs.DueItems.{instant}
 use Rattle.machine_rules.specs.Runs.{Ran, ran, ticks}
 use Rattle.machine_rules.specs.State.{Machine}
 use Rattle.machine_rules.specs.Turns.{turn_of}
-use Rattle.machine_leaps.specs.Leap.{Leapt, in_leaps, leap, leap_length, leaps, length_from, one_before}
+use Rattle.leap_rules.specs.Leap.{Leapt, in_leaps, leap, leap_length, leaps, length_from, one_before}
 
 module _ {P : Type 0} (bodies : Bodies P) where
   some_length : (most : ℕ) (m : Machine P) → 1 ≤ most → 1 ≤ leap_length bodies most m

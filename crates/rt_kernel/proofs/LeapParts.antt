@@ -5,7 +5,7 @@ use Rattle.machine_rules.specs.Dispatch.{dispatches, head}
 use Rattle.machine_rules.specs.Ticks.{unless_killed}
 use Rattle.machine_rules.proofs.Behind.{AddsBehind}
 use Rattle.machine_rules.proofs.BehindTicks.{dispatches_behind}
-use Rattle.machine_leaps.specs.Leap.{leap_goes_on, leap_head, leap_runs}
+use Rattle.leap_rules.specs.Leap.{leap_goes_on, leap_head, leap_runs}
 use Rattle.machine_leaps.proofs.Leaps.Law.{leap_runs_behind}
 
 module _ {P : Type 0} (bodies : Bodies P) (k : ℕ) where

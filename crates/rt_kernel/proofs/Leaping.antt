@@ -9,7 +9,7 @@ use Rattle.machine_rules.specs.Runs.{Ran, ticks}
 use Rattle.machine_rules.specs.State.{Machine}
 use Rattle.machine_flat.specs.FlatBodies.{flat_bodies}
 use Rattle.machine_rules.proofs.Joined.{ticks_add}
-use Rattle.machine_leaps.specs.Leap.{IsLeap, in_leaps, leap, leap_length}
+use Rattle.leap_rules.specs.Leap.{IsLeap, in_leaps, leap, leap_length}
 use Rattle.kernel_state.specs.Kernel.{Kernel, after, told}
 use Rattle.kernel_state.specs.Stood.{StoodRight}
 use Rattle.kernel_events.specs.Calls.{objects_in}

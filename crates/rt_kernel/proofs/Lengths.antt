@@ -4,7 +4,7 @@ use Rattle.std.specs.Prelude.{◌^◌, max, if◌then◌else◌}
 use Rattle.script_flat.specs.declared.cursor.Cursor.{Cursor}
 use Rattle.sporadic_server.specs.Server.{ServerState, is_high}
 use Rattle.machine_rules.specs.State.{Thread}
-use Rattle.machine_leaps.specs.Leap.{capacity_left}
+use Rattle.leap_rules.specs.Leap.{capacity_left}
 use Rattle.thread_blocks.specs.Room.{HasRoom, ServerHasRoom}
 use Rattle.thread_laws.specs.Within.{HighWithin, IsWithin}
 use Rattle.rt_kernel.specs.declared.units.Reach.{Reach}

@@ -14,7 +14,7 @@ use Rattle.machine_rules.proofs.Joined.{ticks_add}
 use Rattle.machine_flat.specs.FlatBodies.{flat_bodies}
 use Rattle.machine_flat.specs.KnownCalls.{Objects}
 use Rattle.kernel_events.specs.Calls.{objects_in}
-use Rattle.machine_leaps.specs.Leap.{IsLeap, in_leaps, leap, leap_length}
+use Rattle.leap_rules.specs.Leap.{IsLeap, in_leaps, leap, leap_length}
 use Rattle.machine_leaps.proofs.Leaps.Counts.{StaysReady, are_leaps}
 use Rattle.machine_leaps.proofs.Leaps.Lengths.{is_leap}
 use Rattle.machine_leaps.proofs.Quiet.AnyMachine.{handled_of}

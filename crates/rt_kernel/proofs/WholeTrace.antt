@@ -8,7 +8,7 @@ use Rattle.pse52_trace.proofs.Prints.{prints_both, prints_stopped}
 use Rattle.script_tree.specs.declared.decl.Script.{Script}
 use Rattle.machine_rules.specs.Machine.{closing, names_of, trace}
 use Rattle.machine_rules.specs.Runs.{opening, ticks}
-use Rattle.machine_flat.proofs.Agrees.{flat_traces}
+use Rattle.flat_traces.proofs.Agrees.{flat_traces}
 use Rattle.machine_flat.specs.FlatBodies.{code_of, flat_bodies}
 use Rattle.kernel_state.specs.Kernel.{Kernel, opened}
 

@@ -10,7 +10,7 @@ use Rattle.machine_rules.specs.Turns.{turn_of}
 use Rattle.machine_rules.specs.DueItems.{instant, items_done}
 use Rattle.machine_rules.specs.Runs.{ticks}
 use Rattle.machine_flat.specs.FlatBodies.{flat_bodies}
-use Rattle.machine_leaps.specs.Quiet.{IsHandled}
+use Rattle.leap_rules.specs.Quiet.{IsHandled}
 use Rattle.machine_rules.specs.Bodies.{Bodies}
 use Rattle.machine_flat.specs.KnownCalls.{Objects}
 use Rattle.machine_flat.specs.Placed.{ArePlaced}

@@ -3,7 +3,7 @@ use Rattle.std.specs.Prelude.{ℕ, Option, max, min}
 use Rattle.script_flat.specs.declared.cursor.Cursor.{Cursor}
 use Rattle.machine_rules.specs.Bodies.{Bodies}
 use Rattle.machine_rules.specs.State.{Machine, Thread}
-use Rattle.machine_leaps.specs.Leap.{head_lasts, thread_lasts}
+use Rattle.leap_rules.specs.Leap.{head_lasts, thread_lasts}
 use Rattle.rt_kernel.specs.declared.units.Reach.{Reach}
 
 -- a thread that has taken its unit

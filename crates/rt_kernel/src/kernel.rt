@@ -5,7 +5,7 @@ ghost use Rattle.pse52_trace.specs.Tells.{Tells};
 ghost use Rattle.sporadic_server.specs.Server.{totals};
 ghost use Rattle.script_tree.specs.declared.decl.Script as tree;
 ghost use Rattle.machine_rules.specs.Budget.{KeepsBudgets};
-ghost use Rattle.machine_leaps.specs.Leap.{in_leaps};
+ghost use Rattle.leap_rules.specs.Leap.{in_leaps};
 ghost use Rattle.machine_rules.specs.Eventful.{busy};
 ghost use Rattle.machine_rules.specs.Machine.{closing};
 ghost use Rattle.machine_rules.specs.Runs.{ticks};

@@ -10,7 +10,7 @@ ghost use Rattle.machine_rules.specs.Ticks.{tick_ends};
 ghost use Rattle.machine_rules.specs.Turns.{Turn, ◌▷◌};
 ghost use Rattle.machine_rules.specs.Units.{in_unit};
 ghost use Rattle.machine_flat.specs.FlatBodies.{flat_bodies};
-ghost use Rattle.machine_leaps.specs.Leap.{leap, leap_goes_on, leap_head, leap_length, leap_runs, length_from, ticks_to_next, unit_leapt};
+ghost use Rattle.leap_rules.specs.Leap.{leap, leap_goes_on, leap_head, leap_length, leap_runs, length_from, ticks_to_next, unit_leapt};
 ghost use Rattle.kernel_events.specs.Calls.{objects_in};
 ghost use Rattle.rt_kernel.specs.Fits.{Fits, FitsLeap, ItemsFit};
 ghost use Rattle.rt_kernel.specs.Landing.{IsSweepable};

@@ -4,7 +4,7 @@ ghost use Rattle.pse52_trace.specs.Tells.{Tells};
 ghost use Rattle.machine_rules.specs.Eventful.{busy};
 ghost use Rattle.machine_rules.specs.Runs.{ticks};
 ghost use Rattle.machine_flat.specs.FlatBodies.{flat_bodies};
-ghost use Rattle.machine_leaps.specs.Leap.{in_leaps};
+ghost use Rattle.leap_rules.specs.Leap.{in_leaps};
 ghost use Rattle.kernel_events.specs.Calls.{objects_in};
 ghost use Rattle.rt_kernel.specs.Fits.{StaysFit};
 ghost use Rattle.kernel_state.specs.Kernel.{Kernel};

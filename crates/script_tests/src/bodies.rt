@@ -69,9 +69,8 @@ fn units(
     let mut cursor = from;
     let mut units = Vec::new(alloc);
     for _ in 0..count {
-        let (next, unit) = code.fetch(&cursor);
+        let unit = code.fetch(&mut cursor);
         units.push(said(&unit))?;
-        cursor = next;
         cursor.result = answer;
         cursor.value = value;
     }

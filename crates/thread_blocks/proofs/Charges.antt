@@ -6,7 +6,7 @@ use Rattle.script_tree.specs.declared.policy.Policy.TheVariants as policy
 use Rattle.sporadic_server.specs.Server.{ServerState, charge_ticks, is_high}
 use Rattle.sporadic_server.proofs.Laws.{charge_ticks_is}
 use Rattle.machine_rules.specs.GoodState.{HasParameters}
-use Rattle.machine_leaps.specs.Quiet.{server_after}
+use Rattle.leap_rules.specs.Quiet.{server_after}
 use Rattle.thread_blocks.specs.Held.{IsHeld}
 
 room_of_high : (s : ServerState) → is_high s ≡ true → length s.pending < s.params.max

@@ -129,9 +129,8 @@ impl Frame {
         ensures unit { result ≡ (next_of (flat_bodies code.now) self.old).unit }
         ensures moved { self.new ≡ frame_begins (next_of (flat_bodies code.now) self.old) self.old }
     {
-        let (at, unit) = code.fetch(&self.at);
+        let unit = code.fetch(&mut self.at);
         self.left = ticks_of(&unit);
-        self.at = at;
         unit
     }
 }

@@ -1,6 +1,6 @@
 // How long a thread runs by itself.
 ghost use Rattle.std.specs.Prelude.{◌≡◌};
-ghost use Rattle.machine_leaps.specs.Leap.{capacity_left, slice_left, thread_lasts};
+ghost use Rattle.leap_rules.specs.Leap.{capacity_left, slice_left, thread_lasts};
 
 use crate::thread::Thread;
 use script_tree::Policy;

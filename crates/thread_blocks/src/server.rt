@@ -2,7 +2,7 @@
 ghost use Rattle.std.specs.Prelude.{◌≡◌, ◌≤◌, ◌<◌, ◌^◌, None, option_map, option_and_then, true, false, is_some, Some};
 ghost use Rattle.sporadic_server.specs.Server.{ServerState, activate, next_due, plan, refill, replenishment, totals};
 ghost use Rattle.machine_rules.specs.Servers.{has_high, high_server, server_of, with_server};
-ghost use Rattle.machine_leaps.specs.Quiet.{server_after};
+ghost use Rattle.leap_rules.specs.Quiet.{server_after};
 ghost use Rattle.thread_blocks.specs.Room.{ServerHasRoom};
 ghost use Rattle.thread_blocks.specs.Unused.{IsUnused};
 ghost use Rattle.machine_rules.specs.Machine.{budget_of};

@@ -6,7 +6,7 @@ use Rattle.std.proofs.lemmas.List.{get_or-replicate, get_or-set_other, get_or-se
 use Rattle.script_flat.specs.declared.cursor.Cursor.{Cursor}
 use Rattle.sporadic_server.specs.declared.Replenish.{Replenish}
 use Rattle.sporadic_server.specs.Server.{ServerState, activate, charge_ticks, is_high, next_due, set_high}
-use Rattle.machine_leaps.specs.Quiet.{server_after}
+use Rattle.leap_rules.specs.Quiet.{server_after}
 use Rattle.machine_rules.specs.Lists.{changed_at}
 use Rattle.machine_rules.specs.State.{Thread, Timer}
 use Rattle.machine_rules.specs.Threads.{no_thread, thread_in}

@@ -5,7 +5,7 @@ ghost use Rattle.machine_rules.specs.Scheduling.{takes_priority, with_policy, wi
 ghost use Rattle.machine_rules.specs.Servers.{with_server};
 ghost use Rattle.machine_rules.specs.Threads.{thread_in};
 ghost use Rattle.machine_rules.specs.Ticks.{consumed_in, without_slice};
-ghost use Rattle.machine_leaps.specs.Quiet.{after_ticks};
+ghost use Rattle.leap_rules.specs.Quiet.{after_ticks};
 ghost use Rattle.machine_rules.specs.Turns.{answered};
 ghost use Rattle.machine_rules.specs.Units.{in_unit};
 ghost use Rattle.machine_rules.specs.Waking.{woken};

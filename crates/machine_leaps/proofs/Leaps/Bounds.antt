@@ -19,8 +19,8 @@ use Rattle.machine_rules.specs.DueItems.{due_of, first_item, has_come, next_item
 use Rattle.machine_rules.specs.Ticks.{capacity_in, slice_is_used}
 use Rattle.machine_rules.specs.Eventful.{has_item, head_matters, tick_matters, unless_ended}
 use Rattle.machine_rules.proofs.Reading.{changed-length, thread-same}
-use Rattle.machine_leaps.specs.Quiet.{after_ticks, frames_after, head_after, server_after, slice_after}
-use Rattle.machine_leaps.specs.Leap.{later_by}
+use Rattle.leap_rules.specs.Quiet.{after_ticks, frames_after, head_after, server_after, slice_after}
+use Rattle.leap_rules.specs.Leap.{later_by}
 use Rattle.machine_moves.proofs.Waiters.OfThreads.{changed_is}
 use Rattle.machine_moves.proofs.Runs.Ticks.{in_unit_status}
 use Rattle.machine_laws.proofs.Lists.Kept.{Plans, in_unit_plans}

@@ -21,9 +21,9 @@ use Rattle.machine_moves.proofs.Runs.Listed.{AllRun}
 use Rattle.machine_laws.proofs.Lists.Places.{Stand}
 use Rattle.machine_laws.proofs.Sweeps.Visits.{Quiet}
 use Rattle.machine_leaps.proofs.Quiet.Ticks.{idle_items}
-use Rattle.machine_leaps.specs.Quiet.{after_quiet}
+use Rattle.leap_rules.specs.Quiet.{after_quiet}
 use Rattle.machine_leaps.proofs.Quiet.Charges.{QuietTick, charged_can_run, charged_exec, charged_quiet, goes_on_quiet}
-use Rattle.machine_leaps.specs.Quiet.{charged_head, charged_unless, one_charge, told_from}
+use Rattle.leap_rules.specs.Quiet.{charged_head, charged_unless, one_charge, told_from}
 use Rattle.machine_leaps.proofs.Quiet.Runs.{charges}
 use Rattle.machine_leaps.proofs.Quiet.Events.{nothing_more, silent}
 

@@ -8,7 +8,7 @@ use Rattle.machine_rules.specs.State.{Machine}
 use Rattle.machine_rules.specs.Runs.{Ran, ticks}
 use Rattle.machine_rules.specs.Eventful.{busy, has_item, is_eventful, next_tick_matters}
 use Rattle.machine_rules.proofs.Joined.{ticks_add}
-use Rattle.machine_leaps.specs.Leap.{AreLeaps, IsLeap, Leapt, leap_length, leaps, one_before}
+use Rattle.leap_rules.specs.Leap.{AreLeaps, IsLeap, Leapt, leap_length, leaps, one_before}
 use Rattle.machine_leaps.proofs.Leaps.Lengths.{IsReady, is_leap}
 
 -- ---- how many eventful instants

@@ -7,7 +7,7 @@ use Rattle.machine_rules.specs.Turns.{turn_of}
 use Rattle.machine_rules.specs.DueItems.{instant, next_item}
 use Rattle.machine_rules.specs.Runs.{ran, ticks}
 use Rattle.machine_rules.specs.Eventful.{unless_ended}
-use Rattle.machine_leaps.specs.Quiet.{charged_unless, one_charge, told_from}
+use Rattle.leap_rules.specs.Quiet.{charged_unless, one_charge, told_from}
 use Rattle.machine_leaps.proofs.Quiet.Runs.{charges}
 use Rattle.machine_leaps.proofs.Leaps.Calm.{Calm, Handled, calm_ticks}
 

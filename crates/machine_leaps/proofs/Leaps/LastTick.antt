@@ -24,14 +24,14 @@ use Rattle.machine_rules.specs.Ticks.{completes, completes_at, frames_charged, r
 use Rattle.machine_rules.specs.Runs.{ran, tick_of}
 use Rattle.machine_rules.specs.Eventful.{head_matters, unless_ended}
 use Rattle.machine_rules.proofs.Reading.{thread-same}
-use Rattle.machine_leaps.specs.Quiet.{after_ticks, head_after, server_after}
-use Rattle.machine_leaps.specs.Leap.{leap_runs, unit_leapt}
+use Rattle.leap_rules.specs.Quiet.{after_ticks, head_after, server_after}
+use Rattle.leap_rules.specs.Leap.{leap_runs, unit_leapt}
 use Rattle.machine_laws.proofs.Lists.Kept.{Plans, in_unit_plans}
 use Rattle.machine_moves.proofs.Runs.Ticks.{charged_turn}
 use Rattle.machine_leaps.proofs.Quiet.Ticks.{left_over}
-use Rattle.machine_leaps.specs.Quiet.{after_quiet}
+use Rattle.leap_rules.specs.Quiet.{after_quiet}
 use Rattle.machine_leaps.proofs.Quiet.Charges.{charged_can_run, charged_exec}
-use Rattle.machine_leaps.specs.Quiet.{one_charge}
+use Rattle.leap_rules.specs.Quiet.{one_charge}
 use Rattle.machine_laws.proofs.Signals.Takers.{charge_of}
 use Rattle.machine_leaps.proofs.Quiet.Runs.{charges}
 use Rattle.machine_leaps.proofs.Quiet.Once.{Begins, StaysHigh, begins_on, charges_once, matters_of, one_is, stays_high}

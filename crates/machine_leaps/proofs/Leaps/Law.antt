@@ -18,13 +18,13 @@ use Rattle.machine_rules.specs.Ticks.{completes, later, runs, runs_head, tick_en
 use Rattle.machine_rules.specs.Runs.{Ran, ran, tick_of, ticks}
 use Rattle.machine_rules.proofs.Behind.{AddsBehind, behind}
 use Rattle.machine_rules.proofs.BehindTicks.{completes_behind, sweeps_behind, tick_ends_behind}
-use Rattle.machine_leaps.specs.Quiet.{after_ticks}
-use Rattle.machine_leaps.specs.Leap.{later_by, leap, leap_goes_on, leap_head, leap_runs, unit_leapt}
+use Rattle.leap_rules.specs.Quiet.{after_ticks}
+use Rattle.leap_rules.specs.Leap.{later_by, leap, leap_goes_on, leap_head, leap_runs, unit_leapt}
 use Rattle.machine_moves.proofs.Waiters.Best.{running_within}
 use Rattle.machine_moves.proofs.Runs.Listed.{head_can_run}
 use Rattle.machine_moves.proofs.Runs.Ticks.{dispatched}
 use Rattle.machine_moves.proofs.Runs.Since.{dispatched_direct}
-use Rattle.machine_leaps.specs.Quiet.{told_from}
+use Rattle.leap_rules.specs.Quiet.{told_from}
 use Rattle.machine_leaps.proofs.Quiet.Runs.{charges}
 use Rattle.machine_leaps.proofs.Quiet.Once.{StaysHigh, charged_is, idle_once}
 use Rattle.machine_leaps.proofs.Quiet.Events.{nothing_more}

@@ -21,8 +21,8 @@ use Rattle.machine_moves.proofs.Waiters.Best.{running_within}
 use Rattle.machine_moves.proofs.Runs.Listed.{head_can_run}
 use Rattle.machine_laws.proofs.Agenda.{due_are_of_agenda}
 use Rattle.machine_laws.proofs.Lists.Kept.{Plans, in_unit_plans}
-use Rattle.machine_leaps.specs.Quiet.{after_ticks, frames_after, server_after, slice_after}
-use Rattle.machine_leaps.specs.Leap.{IsLeap, capacity_left, head_lasts, later_by, leap_head, leap_length, length_from, slice_left, thread_lasts, ticks_to_next}
+use Rattle.leap_rules.specs.Quiet.{after_ticks, frames_after, server_after, slice_after}
+use Rattle.leap_rules.specs.Leap.{IsLeap, capacity_left, head_lasts, later_by, leap_head, leap_length, length_from, slice_left, thread_lasts, ticks_to_next}
 use Rattle.machine_leaps.proofs.Quiet.Once.{Begins, unit_of}
 use Rattle.machine_leaps.proofs.Leaps.Calm.{Calm, EndsAt, Handled, calm_ticks, ends_eventful, matters_after}
 use Rattle.machine_leaps.proofs.Leaps.Bounds.{CapacityLasts, Lasts, NothingDue, SliceLasts, charged_capacity, idle_calm, idle_ends, lasts_calm, no_calm, stops_ends}

@@ -8,7 +8,7 @@ use Rattle.machine_rules.specs.Machine.{bodies_of, machine}
 use Rattle.machine_rules.specs.Promises.{busy_between}
 use Rattle.machine_rules.specs.WellFormed.{IsWellFormed}
 use Rattle.machine_rules.proofs.ItemsEnd.{instant_ends}
-use Rattle.machine_leaps.specs.Leap.{AreLeaps, IsLeap, in_leaps, leap_length}
+use Rattle.leap_rules.specs.Leap.{AreLeaps, IsLeap, in_leaps, leap_length}
 use Rattle.machine_leaps.proofs.Quiet.Runs.{handled_stands, handled_swept}
 use Rattle.machine_rules.specs.Bodies.{Bodies}
 use Rattle.machine_moves.specs.UnitRanges.{BodiesFit}

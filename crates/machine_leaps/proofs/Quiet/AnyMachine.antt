@@ -18,7 +18,7 @@ use Rattle.machine_rules.proofs.Standing.{one_if, stands}
 use Rattle.machine_moves.proofs.Waiters.Best.{Each, running_within}
 use Rattle.machine_moves.proofs.Runs.Listed.{head_can_run}
 use Rattle.machine_laws.proofs.Lists.Places.{Stand}
-use Rattle.machine_leaps.specs.Quiet.{AreCharges, IsHandled, IsQuiet, at_once, one_charge, ticks_of_head, ticks_unless, told_from}
+use Rattle.leap_rules.specs.Quiet.{AreCharges, IsHandled, IsQuiet, at_once, one_charge, ticks_of_head, ticks_unless, told_from}
 use Rattle.machine_leaps.proofs.Quiet.Ticks.{idle_items}
 use Rattle.machine_leaps.proofs.Quiet.Runs.{charges, first_of, nothing_due, second_of}
 use Rattle.machine_leaps.proofs.Quiet.Once.{charges_once, idle_once}

@@ -30,7 +30,7 @@ use Rattle.machine_laws.proofs.Lists.Kept.{Plans, in_unit_plans}
 use Rattle.machine_laws.proofs.Signals.Ignored.{sent}
 use Rattle.machine_laws.proofs.Sweeps.Visits.{Quiet, sweeps_nothing}
 use Rattle.machine_leaps.proofs.Quiet.Ticks.{left_over, quiet_end}
-use Rattle.machine_leaps.specs.Quiet.{charged_head, charged_unless, one_charge, told_from}
+use Rattle.leap_rules.specs.Quiet.{charged_head, charged_unless, one_charge, told_from}
 use Rattle.machine_laws.proofs.Signals.Takers.{Taker, charge_of, charged_taker, taken_by, taker_of}
 
 module _ {P : Type 0} (bodies : Bodies P) where

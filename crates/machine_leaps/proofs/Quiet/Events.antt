@@ -12,8 +12,8 @@ use Rattle.machine_rules.specs.Runs.{opening}
 use Rattle.machine_rules.specs.Machine.{bodies_of, events, machine}
 use Rattle.machine_rules.specs.Eventful.{has_item, is_eventful, next_tick_matters}
 use Rattle.machine_rules.specs.WellFormed.{IsWellFormed}
-use Rattle.machine_leaps.specs.Quiet.{IsQuietBetween, told_from}
-use Rattle.machine_leaps.specs.Quiet.{charged_head, charged_unless, one_charge, told_from}
+use Rattle.leap_rules.specs.Quiet.{IsQuietBetween, told_from}
+use Rattle.leap_rules.specs.Quiet.{charged_head, charged_unless, one_charge, told_from}
 use Rattle.machine_leaps.proofs.Quiet.Runs.{first_of, handled, handled_nothing, later_by, later_is, tick_charges, tick_quiet}
 
 pub nothing_more : {X : Type 0} (xs : List X) → xs ++ [] ≡ xs

@@ -12,7 +12,7 @@ use Rattle.machine_rules.specs.Eventful.{has_item, is_eventful, next_tick_matter
 use Rattle.machine_rules.specs.WellFormed.{IsWellFormed}
 use Rattle.machine_leaps.proofs.Quiet.Runs.{charges, handled_swept, first_of, handled, handled_nothing, handled_stands, last_charge, quiet_ticks, second_of}
 use Rattle.machine_moves.proofs.Runs.Units.{bodies_fit}
-use Rattle.machine_leaps.specs.Quiet.{IsQuietBetween, at_once, one_charge}
+use Rattle.leap_rules.specs.Quiet.{IsQuietBetween, at_once, one_charge}
 use Rattle.machine_leaps.proofs.Quiet.AnyMachine.{charged_at_once}
 use Rattle.machine_leaps.proofs.Leaps.Calm.{Handled}
 use Rattle.machine_rules.proofs.ItemsEnd.{instant_ends}

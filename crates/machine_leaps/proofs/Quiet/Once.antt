@@ -17,11 +17,11 @@ use Rattle.machine_rules.specs.Units.{in_unit, in_unit_if, in_unit_of, top_in_un
 use Rattle.machine_rules.specs.Ticks.{capacity_in, frames_charged, slice_charged, slice_is_used, tick_charged}
 use Rattle.machine_rules.specs.Eventful.{head_matters, tick_matters, unless_ended}
 use Rattle.machine_rules.proofs.Reading.{changed-length, changed-twice, thread-same}
-use Rattle.machine_leaps.specs.Quiet.{after_ticks, frames_after, head_after, server_after, slice_after}
+use Rattle.leap_rules.specs.Quiet.{after_ticks, frames_after, head_after, server_after, slice_after}
 use Rattle.machine_laws.proofs.Lists.Kept.{Plans, in_unit_plans}
 use Rattle.machine_leaps.proofs.Quiet.Ticks.{left_over}
-use Rattle.machine_leaps.specs.Quiet.{after_quiet}
-use Rattle.machine_leaps.specs.Quiet.{charged_head, charged_unless, one_charge}
+use Rattle.leap_rules.specs.Quiet.{after_quiet}
+use Rattle.leap_rules.specs.Quiet.{charged_head, charged_unless, one_charge}
 use Rattle.machine_laws.proofs.Signals.Takers.{charge_of}
 use Rattle.machine_leaps.proofs.Quiet.Runs.{charges}
 

@@ -20,7 +20,7 @@ use Rattle.machine_moves.proofs.Runs.Since.{Rests, instant_keep, run_since}
 use Rattle.machine_laws.proofs.Sweeps.Kept.{EndHeard, InHeard, LawHeard, RestHeard, Swept, brings, instant_after, opening_rest, run_quiet, tick_heard}
 use Rattle.machine_leaps.proofs.Quiet.Ticks.{idle_items}
 use Rattle.machine_leaps.proofs.Quiet.Charges.{QuietTick, goes_on_quiet}
-use Rattle.machine_leaps.specs.Quiet.{one_charge}
+use Rattle.leap_rules.specs.Quiet.{one_charge}
 
 -- so many charges of the head, one after another
 abbrev pub charges : {P : Type 0} → Bodies P → ℕ → Machine P → Machine P

@@ -1,5 +1,5 @@
 use Rattle.machine_rules.specs.DueItems.{instant}
-use Rattle.machine_leaps.specs.Leap.{leap_goes_on}
+use Rattle.leap_rules.specs.Leap.{leap_goes_on}
 use Rattle.kernel_state.proofs.Turns.{then_state_in, then_told_in}
 use Rattle.rt_kernel.proofs.Fitting.{instant_fits}
 use Rattle.rt_kernel.proofs.LeapParts.{leap_goes_on_behind}

@@ -1,7 +1,7 @@
 use Rattle.std.proofs.Common.{◌≡◌, ℕ, Option, subst}
 use Rattle.pse52_trace.specs.Tells.{Tells}
 use Rattle.machine_rules.specs.Dispatch.{dispatches, head}
-use Rattle.machine_leaps.specs.Leap.{leap_runs}
+use Rattle.leap_rules.specs.Leap.{leap_runs}
 use Rattle.machine_leaps.proofs.Leaps.Law.{leap_runs_behind}
 use Rattle.machine_flat.specs.FlatBodies.{flat_bodies}
 use Rattle.kernel_state.specs.Kernel.{after, told}

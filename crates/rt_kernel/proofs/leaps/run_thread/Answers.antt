@@ -6,7 +6,7 @@ use Rattle.machine_rules.specs.Delivery.{sweeps}
 use Rattle.machine_rules.specs.Servers.{has_high}
 use Rattle.machine_rules.specs.Threads.{thread_at}
 use Rattle.machine_rules.specs.Ticks.{tick_ends}
-use Rattle.machine_leaps.specs.Leap.{unit_leapt}
+use Rattle.leap_rules.specs.Leap.{unit_leapt}
 use Rattle.machine_rules.specs.Turns.{Turn, ◌▷◌}
 use Rattle.machine_rules.specs.Units.{in_unit}
 use Rattle.machine_rules.proofs.BehindTicks.{sweeps_behind}

@@ -3,7 +3,7 @@ use Rattle.pse52_trace.specs.Tells.{Tells}
 use Rattle.machine_rules.specs.Eventful.{busy}
 use Rattle.machine_rules.specs.Runs.{ticks}
 use Rattle.machine_flat.specs.FlatBodies.{flat_bodies}
-use Rattle.machine_leaps.specs.Leap.{in_leaps}
+use Rattle.leap_rules.specs.Leap.{in_leaps}
 use Rattle.rt_kernel.proofs.Ending.{ends_there, told_there, was_ended, was_told}
 use Rattle.rt_kernel.proofs.Landing.{leap_lands}
 use Rattle.rt_kernel.proofs.Leaping.{few_busy, few_steps, leap_on, not_beyond, not_earlier}

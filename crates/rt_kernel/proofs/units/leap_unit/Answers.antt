@@ -15,8 +15,8 @@ use Rattle.script_flat.specs.Flat as flat
 use Rattle.machine_rules.specs.Bodies.{Bodies}
 use Rattle.machine_rules.specs.Threads.{thread_at, top_left}
 use Rattle.machine_rules.specs.Ticks.{completes, completes_at}
-use Rattle.machine_leaps.specs.Leap.{later_by}
-use Rattle.machine_leaps.specs.Quiet.{after_ticks}
+use Rattle.leap_rules.specs.Leap.{later_by}
+use Rattle.leap_rules.specs.Quiet.{after_ticks}
 use Rattle.rt_kernel.proofs.Charged.{can_later}
 use Rattle.machine_rules.specs.Turns.{Turn, becomes, changes, ◌▷◌}
 use Rattle.machine_rules.specs.Units.{in_unit}

@@ -1,6 +1,6 @@
 use Rattle.script_flat.specs.declared.cursor.Cursor.{Cursor}
 use Rattle.machine_rules.specs.State.{Thread}
-use Rattle.machine_leaps.specs.Quiet.{after_ticks}
+use Rattle.leap_rules.specs.Quiet.{after_ticks}
 use Rattle.kernel_state.proofs.Carried.{as_many, fit, tied_again, told_there, told_thread}
 use Rattle.kernel_state.proofs.parts.Parts.charge_thread.Goals as goal
 

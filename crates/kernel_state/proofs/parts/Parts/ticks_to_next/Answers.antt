@@ -1,7 +1,7 @@
 use Rattle.std.proofs.Common.{rules, ◌≡◌, ◌≤◌, ◌+◌, ◌-◌, ◌^◌, ℕ, None, Some, ap, subst, sym, ◌∙◌}
 use Rattle.std.specs.Prelude.{min}
 use Rattle.machine_rules.specs.Agenda.{agenda}
-use Rattle.machine_leaps.specs.Leap.{ticks_to_next}
+use Rattle.leap_rules.specs.Leap.{ticks_to_next}
 use Rattle.kernel_state.specs.Kernel.{Kernel}
 use Rattle.kernel_state.specs.View.{machine_of}
 use Rattle.kernel_state.proofs.Nearest.{near, nearest}

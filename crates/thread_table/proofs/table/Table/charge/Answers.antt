@@ -1,7 +1,7 @@
 use Rattle.std.proofs.Common.{ap, refl, slice_set, ◌∙◌}
 use Rattle.script_flat.specs.declared.cursor.Cursor.{Cursor}
 use Rattle.machine_rules.specs.State.{Thread}
-use Rattle.machine_leaps.specs.Quiet.{after_ticks}
+use Rattle.leap_rules.specs.Quiet.{after_ticks}
 use Rattle.thread_table.proofs.Ties.{placed}
 use Rattle.thread_table.proofs.Moved.{reassigned_tied}
 use Rattle.std.proofs.lemmas.List.{length-set}

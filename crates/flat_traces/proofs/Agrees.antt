@@ -18,7 +18,7 @@ use Rattle.machine_rules.specs.Bodies.{NextUnit, Seen}
 use Rattle.machine_rules.specs.Machine.{block_of, bodies_of, next_in}
 use Rattle.machine_places.specs.Carried.{Agree}
 use Rattle.machine_places.proofs.CarriedTrace.{trace_over}
-use Rattle.machine_flat.specs.Traces.{FlatTraces}
+use Rattle.flat_traces.specs.Traces.{FlatTraces}
 use Rattle.machine_flat.proofs.Numbered.{body_ops}
 use Rattle.machine_flat.specs.FlatBodies.{code_of, cursor_at, flat_bodies, next_unit, number_of}
 

@@ -16,7 +16,7 @@ use Rattle.machine_rules.specs.Units.{InUnit, in_unit}
 use Rattle.machine_rules.specs.Ticks.{completes, tick_ends, unless_killed}
 use Rattle.machine_rules.specs.Eventful.{busy, is_eventful}
 use Rattle.machine_rules.specs.Runs.{Ran, ran, ticks}
-use Rattle.machine_leaps.specs.Quiet.{after_ticks}
+use Rattle.leap_rules.specs.Quiet.{after_ticks}
 
 abbrev pub later_by : {P : Type 0} → ℕ → Machine P → Machine P
 later_by k m = record m { now = m.now + k }
