@@ -184,6 +184,9 @@ impl Wheel {
     pub fn next(&self) -> Option<Tick>
         ensures { MatchOption result (NoneIsArmed self.now.dues) (λ tick. IsLeastDue self.now.dues tick) }
     {
+        if self.least <= self.early {
+            return Tick::try_new(self.least);
+        }
         match self.slots.first_passed() {
             Some(_) => least_of(self.slots.dues()),
             None => Tick::try_new(self.least),
