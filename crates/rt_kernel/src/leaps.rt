@@ -30,7 +30,7 @@ use step_counter::Steps;
 use tick_num::Tid;
 
 // So many ticks of a thread's unit and the rule of the tick's end, each with its moves.
-fn run_unit<K: Sink, L: Ledger>(
+fn leap_to_end<K: Sink, L: Ledger>(
     p: &mut Parts,
     t: Tid,
     reach: Reach,
@@ -56,7 +56,7 @@ fn run_unit<K: Sink, L: Ledger>(
 }
 
 // So many ticks of a thread.
-fn run_thread<K: Sink, L: Ledger>(
+fn leap_thread<K: Sink, L: Ledger>(
     p: &mut Parts,
     t: Tid,
     reach: Reach,
@@ -77,13 +77,13 @@ fn run_thread<K: Sink, L: Ledger>(
     ensures quiet { p.new.direct ≡ [] }
     ensures step { steps.new ≡ steps.old + 1 }
 {
-    let k = run_unit(p, t, reach, out, steps);
+    let k = leap_to_end(p, t, reach, out, steps);
     sweep(p, out);
     k
 }
 
 // So many idle ticks.
-fn run_idle<L: Ledger>(p: &mut Parts, reach: Reach, steps: &mut Steps<L>) -> u64
+fn leap_idle<L: Ledger>(p: &mut Parts, reach: Reach, steps: &mut Steps<L>) -> u64
     requires quiet { p.old.direct ≡ [] }
     requires stood { StoodRight p.old.machine }
     requires some { 1 ≤ reach.most }
@@ -100,7 +100,7 @@ fn run_idle<L: Ledger>(p: &mut Parts, reach: Reach, steps: &mut Steps<L>) -> u64
 }
 
 // So many ticks of a thread, or idle ones.
-fn run<K: Sink, L: Ledger>(
+fn leap_runs<K: Sink, L: Ledger>(
     p: &mut Parts,
     to: &Option<Tid>,
     reach: Reach,
@@ -122,13 +122,13 @@ fn run<K: Sink, L: Ledger>(
     ensures step { steps.new ≡ steps.old + 1 }
 {
     match to {
-        None => run_idle(p, reach, steps),
-        Some(t) => run_thread(p, *t, reach, out, steps),
+        None => leap_idle(p, reach, steps),
+        Some(t) => leap_thread(p, *t, reach, out, steps),
     }
 }
 
 // The dispatch, and so many ticks of the head.
-fn run_head<K: Sink, L: Ledger>(
+fn leap_head<K: Sink, L: Ledger>(
     p: &mut Parts,
     most: u64,
     out: &mut Tracer<'_, K>,
@@ -149,11 +149,11 @@ fn run_head<K: Sink, L: Ledger>(
 {
     let near = p.ticks_to_next(most);
     let to = p.dispatch(out);
-    run(p, &to, Reach { most, near }, out, steps)
+    leap_runs(p, &to, Reach { most, near }, out, steps)
 }
 
 // The rest of a leap, which goes as far as it may where the process has ended.
-fn go_on<K: Sink, L: Ledger>(
+fn leap_goes_on<K: Sink, L: Ledger>(
     p: &mut Parts,
     most: u64,
     out: &mut Tracer<'_, K>,
@@ -176,12 +176,12 @@ fn go_on<K: Sink, L: Ledger>(
     if p.is_killed() {
         return most;
     }
-    run_head(p, most, out, steps)
+    leap_head(p, most, out, steps)
 }
 
 /// One leap, of at most so many ticks: to where something falls due, or a unit, an interval or a capacity ends. The answer is how many
 /// ticks it was.
-pub(crate) fn do_leap<K: Sink, L: Ledger>(
+pub(crate) fn leap<K: Sink, L: Ledger>(
     p: &mut Parts,
     most: u64,
     out: &mut Tracer<'_, K>,
@@ -202,5 +202,5 @@ pub(crate) fn do_leap<K: Sink, L: Ledger>(
     ensures step { steps.new ≤ steps.old + 1 }
 {
     do_instant(p, out);
-    go_on(p, most, out, steps)
+    leap_goes_on(p, most, out, steps)
 }

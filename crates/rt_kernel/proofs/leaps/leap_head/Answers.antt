@@ -8,14 +8,14 @@ use Rattle.kernel_state.specs.Kernel.{after, told}
 use Rattle.kernel_state.proofs.Turns.{then_state_in, then_told_in}
 use Rattle.rt_kernel.proofs.Fitting.{dispatched_fits}
 use Rattle.rt_kernel.proofs.Landing.{head_lands}
-use Rattle.rt_kernel.proofs.leaps.run_head.Goals as goal
+use Rattle.rt_kernel.proofs.leaps.leap_head.Goals as goal
 
-pub run-requires-clause-lands : goal.run-requires-clause-lands
-run-requires-clause-lands g c =
+pub leap_runs-requires-clause-lands : goal.leap_runs-requires-clause-lands
+leap_runs-requires-clause-lands g c =
     head_lands c.args.p.now c.dispatch-to.new.self (record { most = c.args.most; near = c.ticks_to_next-near.result }) c.dispatch-to.result c.dispatch-to.ensures.top c.dispatch-to.ensures.state c.ticks_to_next-near.ensures c.requires.lands
 
-pub run-requires-clause-fits : goal.run-requires-clause-fits
-run-requires-clause-fits g c =
+pub leap_runs-requires-clause-fits : goal.leap_runs-requires-clause-fits
+leap_runs-requires-clause-fits g c =
     dispatched_fits c.args.p.now c.dispatch-to.new.self c.dispatch-to.result c.dispatch-to.ensures.top c.dispatch-to.ensures.state c.requires.stood c.requires.fits
 
 pub returns-clause-state : goal.returns-clause-state
@@ -23,15 +23,15 @@ returns-clause-state g c =
     let p = c.args.p.now in
     let l = c.dispatch-to.new.self in
     let h = head p.machine in
-    let k = c.run.result in
-    let second = subst (λ (o : Option ℕ). c.run.new.p ≡ after (leap_runs (flat_bodies l.code) k o) l) c.dispatch-to.ensures.top c.run.ensures.state in
-    then_state_in (λ b. dispatches h) (λ b. leap_runs b k h) p l c.run.new.p (λ b. leap_runs_behind b k h) c.dispatch-to.ensures.state second
+    let k = c.leap_runs.result in
+    let second = subst (λ (o : Option ℕ). c.leap_runs.new.p ≡ after (leap_runs (flat_bodies l.code) k o) l) c.dispatch-to.ensures.top c.leap_runs.ensures.state in
+    then_state_in (λ b. dispatches h) (λ b. leap_runs b k h) p l c.leap_runs.new.p (λ b. leap_runs_behind b k h) c.dispatch-to.ensures.state second
 
 pub returns-clause-told : goal.returns-clause-told
 returns-clause-told g c =
     let p = c.args.p.now in
     let l = c.dispatch-to.new.self in
     let h = head p.machine in
-    let k = c.run.result in
-    let second = subst (λ (o : Option ℕ). Tells g.K.Sink.text g.K.Sink.faults l.names c.dispatch-to.new.out c.run.new.out (told (leap_runs (flat_bodies l.code) k o) l)) c.dispatch-to.ensures.top c.run.ensures.told in
+    let k = c.leap_runs.result in
+    let second = subst (λ (o : Option ℕ). Tells g.K.Sink.text g.K.Sink.faults l.names c.dispatch-to.new.out c.leap_runs.new.out (told (leap_runs (flat_bodies l.code) k o) l)) c.dispatch-to.ensures.top c.leap_runs.ensures.told in
     then_told_in g.K.Sink.text g.K.Sink.faults (λ b. dispatches h) (λ b. leap_runs b k h) p l _ _ _ (λ b. leap_runs_behind b k h) c.dispatch-to.ensures.state c.dispatch-to.ensures.told second

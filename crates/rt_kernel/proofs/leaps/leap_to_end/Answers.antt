@@ -11,7 +11,7 @@ use Rattle.machine_rules.proofs.BehindTicks.{tick_ends_behind}
 use Rattle.machine_flat.specs.FlatBodies.{flat_bodies}
 use Rattle.kernel_state.specs.Kernel.{after, told}
 use Rattle.kernel_state.proofs.Turns.{then_state_in, then_told_in}
-use Rattle.rt_kernel.proofs.leaps.run_unit.Goals as goal
+use Rattle.rt_kernel.proofs.leaps.leap_to_end.Goals as goal
 
 pub returns-clause-state : goal.returns-clause-state
 returns-clause-state g c =
