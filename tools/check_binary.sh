@@ -43,6 +43,16 @@ try 'the run of the script of a number' 0 '1000000 end' soak 63 1000000 <example
 try 'a number too many' 1 "$usage" gen 1 2
 try 'a number too few' 1 "$usage" soak 1
 
+# A body of so many units.
+units() {
+    echo 'thread a fifo 5 at 0'
+    yes yield | head -n "$1"
+    echo end
+}
+
+try 'a body of the greatest length' 0 '0 start a' run 1 < <(units 65536)
+try 'a body of one unit more' 2 'refused 65538 13 TooMany' run 1 < <(units 65537)
+
 # A script, the line %%, and what stands behind it.
 beside() {
     printf 'thread a fifo 5 at 0\nrun 3\nend\n%%%%\n'
