@@ -145,11 +145,11 @@ class Sweeps(Folder):
 
     def test_a_changed_sweep_does_not_go_on(self) -> None:
         rows = self.folder / "rows"
-        with Kept(rows, "one") as kept:
+        with Kept(rows, "one", lambda row: row != ["6"]) as kept:
             kept.add('[0, ["1"]]')
-        with Kept(rows, "one") as kept:
+        with Kept(rows, "one", lambda row: row != ["6"]) as kept:
             self.assertEqual(kept.rows, {0: ["1"]})
-        with Kept(rows, "another") as kept:
+        with Kept(rows, "another", lambda row: True) as kept:
             self.assertEqual(kept.rows, {})
 
     def test_words_and_files_that_are_wrong(self) -> None:
