@@ -116,8 +116,7 @@ def carry_out(sweep: Sweep, said: argparse.Namespace) -> Path:
     path.write_text(table(sweep.columns, kept.rows))
     again = sum(not sweep.lasts(row) for row in kept.rows.values())
     if again:
-        print(f"pse52-sweep: {again} of the runs did not come to their own end, as their rows say; the same words do them again",
-              file=sys.stderr)
+        print(f"pse52-sweep: runs that something ended from outside, as their rows say: {again}; the same words do them again", file=sys.stderr)
     return path
 
 

@@ -34,6 +34,13 @@ class Streams:
         self._files = [TemporaryFile(buffering=0) for _ in range(3)]
         self._actions = [(os.POSIX_SPAWN_DUP2, file.fileno(), number) for number, file in enumerate(self._files)]
 
+    def __enter__(self) -> Streams:
+        return self
+
+    def __exit__(self, *_: object) -> None:
+        for file in self._files:
+            file.close()
+
     def run(self, words: list[str], script: bytes) -> tuple[int, bytes, bytes]:
         """The exit status of a program, less than 0 where a signal killed it, what it wrote, and what it wrote as errors."""
         for file in self._files:
@@ -87,11 +94,11 @@ def main(words: list[str]) -> int:
     at = words.index("--")
     sweep, program, files = read_sweep(Path(words[0])), words[1:at], words[at + 1:]
     text = Path(files[0]).read_text() if files else sys.stdin.read()
-    streams = Streams()
-    for number in map(int, text.split()):
-        # One write a line, so that lines of jobs that share an output never mix.
-        sys.stdout.write(json.dumps([number, row_of(sweep, sweep.run(number), program, streams)]) + "\n")
-        sys.stdout.flush()
+    with Streams() as streams:
+        for number in map(int, text.split()):
+            # One write a line, so that lines of jobs that share an output never mix.
+            sys.stdout.write(json.dumps([number, row_of(sweep, sweep.run(number), program, streams)]) + "\n")
+            sys.stdout.flush()
     return 0
 
 
