@@ -8,7 +8,8 @@ import signal
 import subprocess
 import sys
 import tempfile
-from collections.abc import Iterator
+from collections.abc import Iterable, Iterator
+from dataclasses import dataclass
 from pathlib import Path
 
 WORKER = Path(__file__).with_name("worker.py")
@@ -17,6 +18,28 @@ MOST_A_JOB = 1000
 
 class NoEngine(Exception):
     """Neither GNU parallel nor xargs is here, or what is asked for needs the one that is missing."""
+
+
+@dataclass(frozen=True)
+class Work:
+    """What an engine is to do: these runs of a sweep by this program, so many at once on each machine."""
+
+    toml: Path
+    program: list[str]
+    numbers: list[int]
+    jobs: int
+    sshlogin: str | None = None
+
+    @property
+    def runs_a_job(self) -> int:
+        """So many runs that the start of a job does not count, and so few that all jobs have work up to the end."""
+        machines = self.sshlogin.count(",") + 1 if self.sshlogin else 1
+        return max(1, min(MOST_A_JOB, len(self.numbers) // (self.jobs * machines * 3)))
+
+    @property
+    def command(self) -> list[str]:
+        """The words that start a job. Another machine has a Python of its own, so it is asked for by its plain name."""
+        return ["python3" if self.sshlogin else sys.executable, str(WORKER), str(self.toml), *self.program, "--"]
 
 
 def gnu_parallel() -> str | None:
@@ -28,49 +51,40 @@ def gnu_parallel() -> str | None:
     return path if said.startswith("GNU parallel") else None
 
 
-def runs_a_job(count: int, jobs: int) -> int:
-    """So many runs that the start of a job does not count, and so few that all jobs have work up to the end."""
-    return max(1, min(MOST_A_JOB, count // (jobs * 3)))
-
-
-def command(toml: Path, program: list[str]) -> list[str]:
-    return [sys.executable, str(WORKER), str(toml), *program, "--"]
-
-
-def results(toml: Path, program: list[str], numbers: list[int], jobs: int, sshlogin: str | None,
-            engine: str | None = None) -> Iterator[str]:
-    """The lines of JSON of these runs, in the order in which they end."""
-    size = runs_a_job(len(numbers), jobs)
+def results(work: Work, engine: str | None = None) -> Iterator[str]:
+    """The lines of JSON of the runs, in the order in which they end."""
+    parallel = gnu_parallel() if engine != "xargs" else None
+    if parallel is None and (engine == "parallel" or work.sshlogin):
+        raise NoEngine("GNU parallel, which is asked for, is not here; --sshlogin needs it too")
+    if parallel is None and shutil.which("xargs") is None:
+        raise NoEngine("neither GNU parallel nor xargs is here")
     with tempfile.TemporaryDirectory(prefix="pse52-sweep-") as folder:
-        if engine != "xargs" and (parallel := gnu_parallel()) is not None:
-            words = [parallel, "--pipe", "-N", str(size), "--line-buffer", "--jobs", str(jobs), "--will-cite"]
-            if sshlogin:
-                words += ["--sshlogin", sshlogin]
-            process = _start([*words, shlex.join(command(toml, program))], Path(folder) / "numbers", numbers)
-        else:
-            if sshlogin:
-                raise NoEngine("--sshlogin needs GNU parallel, which is not here")
-            if shutil.which("xargs") is None:
-                raise NoEngine("neither GNU parallel nor xargs is here")
-            files = _files(Path(folder), numbers, size)
-            process = _start(["xargs", "-P", str(jobs), "-n", "1", *command(toml, program)], Path(folder) / "files", files)
-        with process:
+        with _by_parallel(work, parallel, Path(folder)) if parallel else _by_xargs(work, Path(folder)) as process:
             yield from _lines(process)
 
 
-def _files(folder: Path, numbers: list[int], size: int) -> list[str]:
-    """A file for each job, with the numbers of its runs."""
-    names = []
-    for at in range(0, len(numbers), size):
-        file = folder / f"job{at}"
-        file.write_text("".join(f"{number}\n" for number in numbers[at:at + size]))
-        names.append(str(file))
-    return names
+def _by_parallel(work: Work, parallel: str, folder: Path) -> subprocess.Popen[str]:
+    """The engine gives each job the numbers of its runs."""
+    words = [parallel, "--pipe", "-N", str(work.runs_a_job), "--line-buffer", "--jobs", str(work.jobs), "--will-cite"]
+    if work.sshlogin:
+        words += ["--sshlogin", work.sshlogin]
+    return _start([*words, shlex.join(work.command)], _written(folder / "numbers", work.numbers))
 
 
-def _start(words: list[str], file: Path, lines: list[int] | list[str]) -> subprocess.Popen[str]:
-    """Starts the engine in a group of its own, so that an interrupt ends it with its jobs."""
+def _by_xargs(work: Work, folder: Path) -> subprocess.Popen[str]:
+    """The engine gives each job the name of a file with the numbers of its runs."""
+    size = work.runs_a_job
+    files = [_written(folder / f"job{at}", work.numbers[at:at + size]) for at in range(0, len(work.numbers), size)]
+    return _start(["xargs", "-P", str(work.jobs), "-n", "1", *work.command], _written(folder / "files", files))
+
+
+def _written(file: Path, lines: Iterable[object]) -> Path:
     file.write_text("".join(f"{line}\n" for line in lines))
+    return file
+
+
+def _start(words: list[str], file: Path) -> subprocess.Popen[str]:
+    """Starts the engine in a group of its own, so that an interrupt ends it with its jobs."""
     with file.open() as source:
         return subprocess.Popen(words, stdin=source, stdout=subprocess.PIPE, text=True, start_new_session=True)
 

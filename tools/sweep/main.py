@@ -5,13 +5,14 @@ import argparse
 import os
 import shlex
 import shutil
+import signal
 import subprocess
 import sys
 import time
 from enum import IntEnum
 from pathlib import Path
 
-from .engine import NoEngine, results
+from .engine import NoEngine, Work, results
 from .plan import Sweep, WrongSweep, read_sweep
 from .plot import NoPlot, draw
 from .table import Kept, read_table, table
@@ -102,17 +103,20 @@ def carry_out(sweep: Sweep, said: argparse.Namespace) -> Path:
     kept_file = sweep.file(".rows")
     if said.anew:
         kept_file.unlink(missing_ok=True)
-    with Kept(kept_file, sweep.identity(program)) as kept:
+    with Kept(kept_file, sweep.identity(program), sweep.lasts) as kept:
         left = [run.number for run in sweep.runs() if run.number not in kept.rows]
         progress = Progress(len(kept.rows), sweep.count)
         if left:
-            for line in results(said.sweep.resolve(), program, left, said.jobs, said.sshlogin, said.engine):
+            for line in results(Work(said.sweep.resolve(), program, left, said.jobs, said.sshlogin), said.engine):
                 kept.add(line)
                 progress.one()
     if len(kept.rows) != sweep.count:
         raise NoEngine(f"the engine ended with {len(kept.rows)} of {sweep.count} runs done; start the sweep again to go on")
     path = sweep.file(".csv")
     path.write_text(table(sweep.columns, kept.rows))
+    again = sum(not sweep.lasts(row) for row in kept.rows.values())
+    if again:
+        print(f"pse52-sweep: runs that something ended from outside, as their rows say: {again}; the same words do them again", file=sys.stderr)
     return path
 
 
@@ -131,6 +135,8 @@ def main(words: list[str]) -> Status:
         said = words_of(words)
     except SystemExit as ended:
         return Status.DONE if ended.code == 0 else Status.USAGE
+    for number in (signal.SIGTERM, signal.SIGHUP):
+        signal.signal(number, signal.default_int_handler)
     try:
         sweep = read_sweep(said.sweep)
         over = over_of(sweep, said.over)

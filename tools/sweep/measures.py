@@ -11,8 +11,8 @@ from dataclasses import dataclass
 from fractions import Fraction
 from functools import cached_property
 
-from view.lines import Closing, Exhaust, Refill, Return, Trace
-from view.timeline import State, ThreadLine, Timeline, timeline_of
+from view.lines import Activate, Closing, Dispatch, Exhaust, Exit, Idle, Refill, Return, Trace
+from view.timeline import timeline_of
 
 Figure = int | Fraction | None
 LOCKS = frozenset(("lock", "timedlock"))
@@ -34,15 +34,20 @@ class Measure:
         return [shown(figure) for figure in self.read(seen)]
 
 
+@dataclass(frozen=True, slots=True)
+class Returned:
+    """A call's return: the number of its line, what it says, and since when its thread had not run, where it had waited."""
+
+    line: int
+    event: Return
+    waited_since: int | None
+
+
 class Seen:
-    """A trace that is measured. What the threads did is put together only where a measure asks for it."""
+    """A trace that is measured. What a measure asks for is put together once, and only where one asks for it."""
 
     def __init__(self, trace: Trace) -> None:
         self.trace = trace
-
-    @cached_property
-    def timeline(self) -> Timeline:
-        return timeline_of(self.trace)
 
     @cached_property
     def closing(self) -> dict[str, Closing]:
@@ -53,8 +58,19 @@ class Seen:
     def end(self) -> int:
         return next((event.time for event in reversed(self.trace.events) if not isinstance(event, Closing)), 0)
 
-    def thread(self, name: object) -> ThreadLine | None:
-        return next((thread for thread in self.timeline.threads if thread.name == name), None)
+    @cached_property
+    def returned(self) -> list[Returned]:
+        """The returns. A thread that did not run in the tick before had waited, since it was last dispatched and replaced."""
+        returned: list[Returned] = []
+        runs, stopped = "", {}
+        for line, event in enumerate(self.trace.events):
+            kind = type(event)
+            if kind is Return:
+                returned.append(Returned(line, event, None if event.name == runs else stopped.get(event.name)))
+            elif kind is Dispatch or kind is Idle:
+                stopped[runs] = event.time
+                runs = event.name if kind is Dispatch else ""
+        return returned
 
     def lines(self, words: list[str]) -> list[tuple[int, int]]:
         """The events, as (line, time), whose words behind their time begin with these; `*` stands for any word."""
@@ -107,11 +123,10 @@ def beginnings(seen: Seen, table: dict[str, object]) -> tuple[list[tuple[int, in
     begin = table["from"]
     if begin == "start":
         return seen.lines(["start", str(table["thread"])]), True
-    if begin != "wake":
-        return seen.lines(str(begin).split()), False
-    thread = seen.thread(table["thread"])
-    times = {span.end for span in thread.spans if span.state is State.WAITING} if thread else set()
-    return [(line, time) for line, time in seen.lines(["return", str(table["thread"])]) if time in times], True
+    if begin == "wake":
+        return [(call.line, call.event.time) for call in seen.returned
+                if call.event.name == table["thread"] and call.waited_since is not None], True
+    return seen.lines(str(begin).split()), False
 
 
 def responses(seen: Seen, table: dict[str, object]) -> tuple[list[int], list[int]]:
@@ -148,8 +163,14 @@ def read_ticks(seen: Seen, table: dict[str, object]) -> list[Figure]:
 
 
 def read_share(seen: Seen, table: dict[str, object]) -> list[Figure]:
-    thread = seen.thread(table["thread"])
-    return [Fraction(thread.high_ticks, thread.ticks) if thread and thread.ticks and thread.is_sporadic else None]
+    """From the closing line, where that tells of the thread's whole life; else from the stretches in which it ran."""
+    closing = seen.closing.get(str(table["thread"]))
+    if closing is None or closing.ticks == 0:
+        return [None]
+    if closing.budget and not any(call.event.call == "setsched" for call in seen.returned):
+        return [Fraction(closing.budget.high, closing.ticks)]
+    thread = next(thread for thread in timeline_of(seen.trace).threads if thread.name == closing.name)
+    return [Fraction(thread.high_ticks, closing.ticks) if thread.is_sporadic else None]
 
 
 def read_exhausted(seen: Seen, table: dict[str, object]) -> list[Figure]:
@@ -158,7 +179,10 @@ def read_exhausted(seen: Seen, table: dict[str, object]) -> list[Figure]:
 
 
 def read_refill_wait(seen: Seen, table: dict[str, object]) -> list[Figure]:
-    """From each exhaustion to the refill that follows it, or to the end: all of them, and the longest."""
+    """From each exhaustion to what ends it: all of them, and the longest.
+
+    That is the refill that follows, new parameters, the end of the thread, or the end of the run.
+    """
     name = str(table["thread"])
     if name not in seen.closing:
         return [None, None]
@@ -166,7 +190,7 @@ def read_refill_wait(seen: Seen, table: dict[str, object]) -> list[Figure]:
     for event in seen.trace.events:
         if isinstance(event, Exhaust) and event.name == name:
             since = event.time
-        elif isinstance(event, Refill) and event.name == name and since is not None:
+        elif since is not None and isinstance(event, Refill | Activate | Exit) and event.name == name:
             waits.append(event.time - since)
             since = None
     if since is not None:
@@ -176,16 +200,9 @@ def read_refill_wait(seen: Seen, table: dict[str, object]) -> list[Figure]:
 
 def read_lock(seen: Seen, table: dict[str, object]) -> list[Figure]:
     """From the call to its return: one tick for the call, and the wait that ends with the return."""
-    longest: int | None = None
-    for thread in seen.timeline.threads:
-        if thread.name != table.get("thread", thread.name):
-            continue
-        waits = {span.end: span.end - span.start + 1 for span in thread.spans
-                 if span.state is State.WAITING and span.call in LOCKS}
-        for event in seen.trace.events:
-            if isinstance(event, Return) and event.name == thread.name and event.call in LOCKS:
-                longest = max(longest or 0, waits.get(event.time, 1))
-    return [longest]
+    times = [1 if call.waited_since is None else call.event.time - call.waited_since + 1 for call in seen.returned
+             if call.event.call in LOCKS and call.event.name == table.get("thread", call.event.name)]
+    return [max(times, default=None)]
 
 
 Reader = Callable[[Seen, dict[str, object]], list[Figure]]

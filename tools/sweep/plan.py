@@ -8,7 +8,6 @@ import re
 import tomllib
 from collections.abc import Iterator
 from dataclasses import dataclass
-from itertools import product
 from pathlib import Path
 
 from .measures import Measure, WrongMeasure, measure_of
@@ -17,6 +16,10 @@ MOST_RUNS = 1_000_000
 GREATEST_NUMBER = 10**18
 PLACE = re.compile(r"\{([a-z][a-z0-9_]*)\}")
 RESERVED = ("status", "fault")
+# The exit statuses that a run has by its script and words alone: it would end so again.
+LASTING = frozenset(("0", "1", "2", "3"))
+# What measures a trace.
+MEASURING = [Path(__file__).with_name("measures.py"), *(Path(__file__).parents[1] / "view" / name for name in ("lines.py", "timeline.py"))]
 
 
 class WrongSweep(Exception):
@@ -51,13 +54,25 @@ class Sweep:
         return math.prod(len(values) for values in self.values.values())
 
     @property
+    def figures(self) -> int:
+        """How many columns the measures have."""
+        return sum(len(measure.columns) for measure in self.measures)
+
+    @property
     def columns(self) -> list[str]:
         return [*self.names, *RESERVED, *(column for measure in self.measures for column in measure.columns)]
 
+    def run(self, number: int) -> Run:
+        """The run of the grid with this number, the last name changing quickest."""
+        values, rest = [], number
+        for choices in reversed(self.values.values()):
+            rest, at = divmod(rest, len(choices))
+            values.append(choices[at])
+        return Run(number, tuple(reversed(values)))
+
     def runs(self) -> Iterator[Run]:
-        """The grid, the last name changing quickest."""
-        for number, values in enumerate(product(*self.values.values())):
-            yield Run(number, values)
+        """The whole grid in its order."""
+        return map(self.run, range(self.count))
 
     def script(self, run: Run) -> str:
         return filled(self.template, dict(zip(self.names, run.values)))
@@ -65,15 +80,19 @@ class Sweep:
     def horizon_of(self, run: Run) -> int:
         return self.horizon if isinstance(self.horizon, int) else int(filled(self.horizon, dict(zip(self.names, run.values))))
 
+    def lasts(self, row: list[str]) -> bool:
+        """Whether the run of this row would end so again: it was started, had what it needed, and was not killed."""
+        return row[len(self.names)] in LASTING
+
     def file(self, suffix: str) -> Path:
         return self.folder / f"{self.stem}{suffix}"
 
     def identity(self, program: list[str]) -> str:
-        """Two sweeps with the same identity have the same runs, so the one may go on where the other stopped.
+        """Two sweeps with the same identity have the same rows, so the one may go on where the other stopped.
 
-        Of the program it has the words, and the content of those that are files.
+        Of the program it has the words, and the content of those that are files; and the content of what measures.
         """
-        files = [hashlib.sha256(Path(word).read_bytes()).hexdigest() for word in program if Path(word).is_file()]
+        files = [hashlib.sha256(path.read_bytes()).hexdigest() for path in (*map(Path, program), *MEASURING) if path.is_file()]
         told = [self.template, self.horizon, list(self.values.items()), [measure.words for measure in self.measures], program, files]
         return hashlib.sha256(json.dumps(told).encode()).hexdigest()
 
@@ -86,14 +105,14 @@ def filled(template: str, values: dict[str, int]) -> str:
 def read_sweep(path: Path) -> Sweep:
     """Reads the file of a sweep and its script. Raises WrongSweep, and OSError where a file cannot be read."""
     try:
-        said = tomllib.loads(path.read_text())
-    except (tomllib.TOMLDecodeError, UnicodeDecodeError) as error:
+        said = tomllib.loads(_text(path))
+    except tomllib.TOMLDecodeError as error:
         raise WrongSweep(f"{path.name}: {error}") from None
     _only(said, {"script", "horizon", "values", "measure"}, "the file")
     script = said.get("script")
     if not isinstance(script, str):
         raise WrongSweep("'script' is the name of a file")
-    template = (path.parent / script).read_text()
+    template = _text(path.parent / script)
     values = _values(said.get("values", {}))
     sweep = Sweep(path.parent, path.stem, template, _horizon(said.get("horizon")), values, _measures(said.get("measure", [])))
     _places(sweep)
@@ -104,6 +123,14 @@ def read_sweep(path: Path) -> Sweep:
         if columns.count(column) > 1:
             raise WrongSweep(f"two columns have the name '{column}'")
     return sweep
+
+
+def _text(path: Path) -> str:
+    """The text of a file, its line ends as they are."""
+    try:
+        return path.read_bytes().decode()
+    except UnicodeDecodeError as error:
+        raise WrongSweep(f"{path.name}: {error}") from None
 
 
 def _only(table: dict, keys: set[str], what: str) -> None:

@@ -5,16 +5,20 @@ import csv
 import io
 import json
 import os
+from collections.abc import Callable
 from pathlib import Path
 
 Rows = dict[int, list[str]]
 
 
 class Kept:
-    """The file of the rows that have come. Its first line says of which sweep; a last line that is not whole does not count."""
+    """The file of the rows that have come. Its first line says of which sweep; a last line that is not whole does not count.
 
-    def __init__(self, path: Path, identity: str) -> None:
-        self._path = path
+    Nor does a row that does not last: its run is to be done again.
+    """
+
+    def __init__(self, path: Path, identity: str, lasts: Callable[[list[str]], bool]) -> None:
+        self._path, self._lasts = path, lasts
         self.rows: Rows = self._read(identity)
         fresh = not self.rows
         self._file = path.open("w" if fresh else "r+")
@@ -37,7 +41,7 @@ class Kept:
                 break
             if not line.endswith(b"\n") or (number == 0 and said != {"sweep": identity}):
                 break
-            if number > 0:
+            if number > 0 and self._lasts(said[1]):
                 rows[said[0]] = said[1]
             self._size += len(line)
         return rows

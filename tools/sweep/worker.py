@@ -9,11 +9,10 @@ from __future__ import annotations
 
 import json
 import os
+import signal
 import sys
-from collections.abc import Iterator
 from pathlib import Path
 from tempfile import TemporaryFile
-from typing import BinaryIO
 
 sys.path.insert(0, str(Path(__file__).resolve().parents[1]))
 
@@ -21,20 +20,53 @@ from sweep.measures import Seen  # noqa: E402
 from sweep.plan import Run, Sweep, read_sweep  # noqa: E402
 from view.lines import NotATraceLine, read_trace  # noqa: E402
 
-
 NOT_STARTED = 127
+LONGEST_FAULT = 200
 
 
-def row_of(sweep: Sweep, run: Run, program: list[str]) -> list[str]:
+class Streams:
+    """The standard streams of the runs: three files, each run's in turn.
+
+    A short run costs less so than with pipes, where somebody has to wait at both ends.
+    """
+
+    def __init__(self) -> None:
+        self._files = [TemporaryFile(buffering=0) for _ in range(3)]
+        self._actions = [(os.POSIX_SPAWN_DUP2, file.fileno(), number) for number, file in enumerate(self._files)]
+
+    def __enter__(self) -> Streams:
+        return self
+
+    def __exit__(self, *_: object) -> None:
+        for file in self._files:
+            file.close()
+
+    def run(self, words: list[str], script: bytes) -> tuple[int, bytes, bytes]:
+        """The exit status of a program, less than 0 where a signal killed it, what it wrote, and what it wrote as errors."""
+        for file in self._files:
+            file.seek(0)
+            file.truncate()
+        source, told, said = self._files
+        source.write(script)
+        source.seek(0)
+        process = os.posix_spawnp(words[0], words, os.environ, file_actions=self._actions)
+        status = os.waitstatus_to_exitcode(os.waitpid(process, 0)[1])
+        return status, _content(told.fileno()), _content(said.fileno())
+
+
+def _content(file: int) -> bytes:
+    return os.pread(file, os.fstat(file).st_size, 0)
+
+
+def row_of(sweep: Sweep, run: Run, program: list[str], streams: Streams) -> list[str]:
     """The row of a run: its values, the exit status, its fault, and the figures."""
-    fault, figures = "", [""] * (len(sweep.columns) - len(sweep.names) - 2)
     try:
-        status, told, said = carried_out([*program, "run", str(sweep.horizon_of(run))], sweep.script(run).encode())
+        status, told, said = streams.run([*program, "run", str(sweep.horizon_of(run))], sweep.script(run).encode())
     except OSError as error:
-        return [*map(str, run.values), str(NOT_STARTED), f"{program[0]}: {error.strerror}", *figures]
-    if status != 0:
-        fault = _first_line(told) or _first_line(said)
-    else:
+        status, told, said = NOT_STARTED, b"", f"{program[0]}: {error.strerror}".encode()
+    fault = fault_of(status, told, said)
+    figures = [""] * sweep.figures
+    if status == 0:
         try:
             seen = Seen(read_trace(told.splitlines(keepends=True)))
             figures = [figure for measure in sweep.measures for figure in measure.figures(seen)]
@@ -43,43 +75,30 @@ def row_of(sweep: Sweep, run: Run, program: list[str]) -> list[str]:
     return [*map(str, run.values), str(status), fault, *figures]
 
 
-def carried_out(words: list[str], script: bytes) -> tuple[int, bytes, bytes]:
-    """The exit status of a program, what it wrote, and what it wrote as errors.
-
-    Its streams are files, which costs a short run less than pipes do: nobody has to wait for both ends.
-    """
-    with TemporaryFile(buffering=0) as source, TemporaryFile(buffering=0) as told, TemporaryFile(buffering=0) as said:
-        source.write(script)
-        source.seek(0)
-        streams = [(os.POSIX_SPAWN_DUP2, file.fileno(), number) for number, file in enumerate((source, told, said))]
-        process = os.posix_spawnp(words[0], words, os.environ, file_actions=streams)
-        status = os.waitstatus_to_exitcode(os.waitpid(process, 0)[1])
-        return status, _content(told), _content(said)
-
-
-def _content(file: BinaryIO) -> bytes:
-    file.seek(0)
-    return file.read()
+def fault_of(status: int, told: bytes, said: bytes) -> str:
+    """What a run has to say of its end; nothing where all is well."""
+    if status == 0:
+        return ""
+    if status < 0:
+        return f"killed by signal {-status}"
+    return _first_line(told) or _first_line(said)
 
 
 def _first_line(text: bytes) -> str:
-    return text.decode("ascii", "backslashreplace").partition("\n")[0]
-
-
-def rows(sweep: Sweep, numbers: set[int], program: list[str]) -> Iterator[tuple[int, list[str]]]:
-    for run in sweep.runs():
-        if run.number in numbers:
-            yield run.number, row_of(sweep, run, program)
+    return text.partition(b"\n")[0].decode("ascii", "backslashreplace")[:LONGEST_FAULT]
 
 
 def main(words: list[str]) -> int:
+    # Where nobody takes the rows any more, as after the end of the sweep, the job ends without a word.
+    signal.signal(signal.SIGPIPE, signal.SIG_DFL)
     at = words.index("--")
     sweep, program, files = read_sweep(Path(words[0])), words[1:at], words[at + 1:]
     text = Path(files[0]).read_text() if files else sys.stdin.read()
-    for number, row in rows(sweep, set(map(int, text.split())), program):
-        # One write a line, so that lines of jobs that share an output never mix.
-        sys.stdout.write(json.dumps([number, row]) + "\n")
-        sys.stdout.flush()
+    with Streams() as streams:
+        for number in map(int, text.split()):
+            # One write a line, so that lines of jobs that share an output never mix.
+            sys.stdout.write(json.dumps([number, row_of(sweep, sweep.run(number), program, streams)]) + "\n")
+            sys.stdout.flush()
     return 0
 
 

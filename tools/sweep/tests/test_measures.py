@@ -5,21 +5,59 @@ import unittest
 from pathlib import Path
 
 from sweep.measures import Seen, WrongMeasure, measure_of
-from view.lines import read_trace
+from view.lines import Trace, read_trace
+from view.timeline import State, timeline_of
 
-WORKED = Path(__file__).resolve().parents[3] / "tests" / "worked"
+TOP = Path(__file__).resolve().parents[3]
+WORKED = TOP / "tests" / "worked"
 CONTROLLER, TWO_BUDGETS, CHAIN = (
     "controller_with_server_and_monitor", "six_high_ticks_in_one_period", "timeout_within_an_inheritance_chain")
 
 
+# A server that gets new parameters under its wait for a refill and ends in the next one, and one whose refill comes. Their script:
+#     thread s sporadic 8 2 20 3 4 at 0: run 4, setsched s sporadic 8 2 20 2 4, run 3
+#     thread w sporadic 7 2 6 3 4 at 9: run 50
+CHANGED = b"""\
+0 start s
+0 activate s 3
+0 dispatch s 8
+3 exhaust s
+3 plan s 3 20
+5 return s setsched 0 0
+5 activate s 2
+7 exhaust s
+7 plan s 2 25
+9 exit s
+9 start w
+9 activate w 3
+9 dispatch w 7
+12 exhaust w
+12 plan w 3 15
+15 refill w 3 3
+15 activate w 3
+18 exhaust w
+18 plan w 3 21
+20 end
+thread s ticks 9
+thread w ticks 11 high 6 init 3 refilled 3 capacity 0
+"""
+
+
+def trace_of(file: Path) -> Trace:
+    return read_trace(file.read_bytes().splitlines(keepends=True))
+
+
 def seen(name: str) -> Seen:
-    return Seen(read_trace((WORKED / f"{name}.trace").read_bytes().splitlines(keepends=True)))
+    return Seen(trace_of(WORKED / f"{name}.trace"))
 
 
 class Measures(unittest.TestCase):
     def check(self, trace: str, wanted: dict[str, str], **table: object) -> None:
+        self.check_in(seen(trace), wanted, **table)
+
+    def check_in(self, trace: Seen, wanted: dict[str, str], **table: object) -> None:
         measure = measure_of({"name": "m", **table})
-        self.assertEqual(dict(zip(measure.columns, measure.figures(seen(trace)))), wanted)
+        self.assertEqual(dict(zip(measure.columns, measure.figures(trace))), wanted)
 
     def test_from_an_event(self) -> None:
         # The request of 33 is answered as the server unlocks at 40.
@@ -67,6 +105,38 @@ class Measures(unittest.TestCase):
         self.check(CONTROLLER, {"m_total": "3", "m_longest": "2"}, kind="refill_wait", thread="srv")
         # At 12 the refill comes at once; from 15 to the end at 17.
         self.check(TWO_BUDGETS, {"m_total": "2", "m_longest": "2"}, kind="refill_wait", thread="s")
+
+    def test_a_server_that_changes(self) -> None:
+        trace = Seen(read_trace(CHANGED.splitlines(keepends=True)))
+        # s waits from 3 to 5 and from 7 to 9; of its 9 ticks those from 0 to 3 and from 5 to 7 are at high priority.
+        self.check_in(trace, {"m_total": "4", "m_longest": "2"}, kind="refill_wait", thread="s")
+        self.check_in(trace, {"m": "0.556"}, kind="high_share", thread="s")
+        # w waits from 12 to 15 and from 18 to the end; of its 11 ticks those from 9 to 12 and from 15 to 18 are at high priority.
+        self.check_in(trace, {"m_total": "5", "m_longest": "3"}, kind="refill_wait", thread="w")
+        self.check_in(trace, {"m": "0.545"}, kind="high_share", thread="w")
+        self.check_in(trace, {"m": "2"}, kind="exhausted", thread="w")
+
+    def test_signals_and_timers(self) -> None:
+        # The timer expires at 23, while the worker stands ready; its handler has counted that at 30.
+        watchdog = Seen(trace_of(TOP / "examples" / "23_watchdog.trace"))
+        self.check_in(watchdog, {"m_count": "1", "m_greatest": "7", "m_mean": "7.000", "m_late": "1", "m_open": "0"},
+                      kind="response", **{"from": "deliver worker rt7 TIMER", "to": "return worker sem_post"}, deadline=6)
+        # ctl takes its beat at 24 and sends its command at 33.
+        self.check(CONTROLLER, {"m_count": "1", "m_greatest": "9", "m_mean": "9.000", "m_open": "0"},
+                   kind="response", **{"from": "deliver ctl rt5", "to": "return ctl mq_send"})
+
+    def test_waits_are_those_of_the_viewer(self) -> None:
+        """In all worked traces and examples: which returns end a wait, and when that began."""
+        count = 0
+        for file in sorted([*WORKED.glob("*.trace"), *(TOP / "examples").glob("*.trace")]):
+            trace = trace_of(file)
+            drawn = {(thread.name, span.call, span.start, span.end) for thread in timeline_of(trace).threads for span in thread.spans
+                     if span.state is State.WAITING and span.call not in ("", "cancelled")}
+            found = {(call.event.name, call.event.call, call.waited_since, call.event.time) for call in Seen(trace).returned
+                     if call.waited_since is not None}
+            self.assertEqual(found, drawn, file.name)
+            count += len(found)
+        self.assertGreater(count, 200)
 
     def test_locks(self) -> None:
         # ctl calls lock in the tick from 24 on and has the mutex at 29. The locks of the others take their tick.

@@ -3,6 +3,7 @@ from __future__ import annotations
 
 import csv
 import os
+import re
 import shutil
 import signal
 import subprocess
@@ -10,13 +11,14 @@ import sys
 import tempfile
 import time
 import unittest
+from itertools import product
 from pathlib import Path
 
 from sweep.engine import gnu_parallel
 from sweep.plan import WrongSweep, read_sweep
 from sweep.plot import greatest_at
 from sweep.table import Kept, table
-from sweep.worker import row_of
+from sweep.worker import Streams, row_of
 
 TOP = Path(__file__).resolve().parents[3]
 SWEEP = TOP / "bin" / "pse52-sweep"
@@ -70,6 +72,27 @@ print(f"0 idle\\n{sys.argv[-1]} end\\nthread a ticks {zlib.crc32(text) % 1000}")
 """
 
 
+# Prints the idle trace. The first to come kills what WHOM says: itself, or the job that started it.
+KILLER = """\
+import os, pathlib, signal, sys
+text = sys.stdin.buffer.read()
+try:
+    (pathlib.Path(__file__).parent / "killed").touch(exist_ok=False)
+    print("0 idle", flush=True)
+    os.kill(WHOM, signal.SIGKILL)
+except FileExistsError:
+    pass
+print(f"0 idle\\n{sys.argv[-1]} end\\nthread a ticks {len(text)}")
+"""
+
+
+def engines() -> list[str]:
+    if gnu_parallel() is None:
+        print("skipped: a sweep by GNU parallel, since it is not here", file=sys.stderr)
+        return ["xargs"]
+    return ["parallel", "xargs"]
+
+
 class Folder(unittest.TestCase):
     def setUp(self) -> None:
         holder = tempfile.TemporaryDirectory()
@@ -81,9 +104,26 @@ class Folder(unittest.TestCase):
         (self.folder / "two.toml").write_text(toml)
         return self.folder / "two.toml"
 
-    def sweep(self, *words: str, program: str = REFERENCE) -> subprocess.CompletedProcess[str]:
-        return subprocess.run([sys.executable, str(SWEEP), str(self.folder / "two.toml"), "--program", program, *words],
-                              capture_output=True, text=True, check=False, timeout=300)
+    def words(self, *words: str, program: str = REFERENCE) -> list[str]:
+        return [sys.executable, str(SWEEP), str(self.folder / "two.toml"), "--program", program, *words]
+
+    def sweep(self, *words: str, program: str = REFERENCE, path: str | None = None) -> subprocess.CompletedProcess[str]:
+        environment = dict(os.environ, PATH=path or os.environ["PATH"])
+        return subprocess.run(self.words(*words, program=program), env=environment, capture_output=True, text=True, check=False, timeout=300)
+
+    def program(self, text: str) -> str:
+        """The words of a program in Python with this text."""
+        file = self.folder / "program.py"
+        file.write_text(text)
+        return f"{sys.executable} {file}"
+
+    def path(self, *names: str) -> str:
+        """A path that has these programs alone."""
+        folder = self.folder / "bin"
+        folder.mkdir()
+        for name in names:
+            (folder / name).symlink_to(shutil.which(name))
+        return str(folder)
 
     def table(self) -> str:
         return (self.folder / "two.csv").read_text()
@@ -101,16 +141,12 @@ class Sweeps(Folder):
         self.assertEqual(self.table(), TABLE)
 
     def test_one_job_and_many_with_each_engine(self) -> None:
-        grid = TOML.replace("[2, 5, 0]", "{ from = 1, to = 12 }")
-        (self.folder / "slow.py").write_text(SLOW)
+        self.write(TOML.replace("[2, 5, 0]", "{ from = 1, to = 12 }"))
+        program = self.program(SLOW)
         seen = set()
-        for engine in ("parallel", "xargs"):
-            if engine == "parallel" and gnu_parallel() is None:
-                print("skipped: a sweep by GNU parallel, since it is not here", file=sys.stderr)
-                continue
+        for engine in engines():
             for jobs in ("1", "5"):
-                self.write(grid)
-                ended = self.sweep("--anew", "--jobs", jobs, "--engine", engine, program=f"{sys.executable} {self.folder / 'slow.py'}")
+                ended = self.sweep("--anew", "--jobs", jobs, "--engine", engine, program=program)
                 self.assertEqual(ended.returncode, 0, ended.stderr)
                 seen.add(self.table())
         self.assertEqual(len(seen), 1)
@@ -118,10 +154,9 @@ class Sweeps(Folder):
 
     def test_a_sweep_that_is_killed_goes_on(self) -> None:
         self.write(TOML.replace("[2, 5, 0]", "{ from = 1, to = 20 }"))
-        (self.folder / "slow.py").write_text(SLOW)
-        program = f"{sys.executable} {self.folder / 'slow.py'}"
-        words = [sys.executable, str(SWEEP), str(self.folder / "two.toml"), "--program", program, "--jobs", "2"]
-        for how in (signal.SIGKILL, signal.SIGINT):
+        program = self.program(SLOW)
+        words = self.words("--jobs", "2", program=program)
+        for how in (signal.SIGKILL, signal.SIGINT, signal.SIGTERM):
             started = subprocess.Popen(words, stdout=subprocess.DEVNULL, stderr=subprocess.DEVNULL)
             rows = self.folder / "two.rows"
             before = rows.read_text().count("\n") if rows.exists() else 1
@@ -130,7 +165,7 @@ class Sweeps(Folder):
                     break
                 time.sleep(0.05)
             started.send_signal(how)
-            started.wait()
+            self.assertEqual(started.wait(), -how if how == signal.SIGKILL else 130)
             self.assertGreater(rows.read_text().count("\n"), before + 4)
             time.sleep(0.3)
         with rows.open("a") as file:
@@ -143,13 +178,69 @@ class Sweeps(Folder):
         self.assertEqual(went_on, self.table())
         self.assertEqual(len(went_on.splitlines()), 1 + 60)
 
+    def test_a_run_that_is_killed_is_a_row_and_is_done_again(self) -> None:
+        self.write()
+        program = self.program(KILLER.replace("WHOM", "os.getpid()"))
+        ended = self.sweep("--jobs", "2", program=program)
+        self.assertEqual(ended.returncode, 0, ended.stderr)
+        rows = [row for row in csv.DictReader(self.table().splitlines()) if row["status"] != "0"]
+        self.assertEqual([(row["status"], row["fault"], row["a"]) for row in rows], [("-9", "killed by signal 9", "")])
+        self.assertIn("as their rows say: 1;", ended.stderr)
+        again = self.sweep("--jobs", "2", program=program)
+        self.assertIn("8 of 9 runs were done before", again.stderr)
+        self.assertNotIn(",-9,", self.table())
+        self.assertEqual(len(self.table().splitlines()), 1 + 9)
+
+    def test_a_job_that_is_killed(self) -> None:
+        self.write()
+        for engine in engines():
+            program = self.program(KILLER.replace("WHOM", "os.getppid()"))
+            (self.folder / "killed").unlink(missing_ok=True)
+            ended = self.sweep("--anew", "--jobs", "2", "--engine", engine, program=program)
+            self.assertEqual(ended.returncode, 3, ended.stderr)
+            self.assertIn("start the sweep again to go on", ended.stderr)
+            again = self.sweep("--jobs", "2", "--engine", engine, program=program)
+            self.assertEqual(again.returncode, 0, again.stderr)
+            went_on = self.table()
+            self.sweep("--anew", "--jobs", "1", "--engine", engine, program=program)
+            self.assertEqual(went_on, self.table())
+
+    def test_progress(self) -> None:
+        self.write(TOML.replace("[2, 5, 0]", "{ from = 1, to = 10 }"))
+        ended = self.sweep("--jobs", "2", program=self.program(SLOW))
+        told = re.findall(r"^(\d+) of 30 runs, about (\d+) s left$", ended.stderr, re.M)
+        self.assertEqual([int(done) for done, _ in told], list(range(3, 31, 3)))
+        self.assertEqual(told[-1][1], "0")
+
+    def test_the_horizon_may_be_a_value(self) -> None:
+        self.write(TOML.replace("horizon = 20", 'horizon = "{until}"').replace("[2, 5, 0]", "[9]\nuntil = [0, 2, 4, 20]"))
+        ended = self.sweep("--jobs", "2")
+        self.assertEqual(ended.returncode, 0, ended.stderr)
+        # a runs from `when` on, but for the tick of b's yield and that of its end, from 3 on. It has 9 ticks and one for its end.
+        ticks = {(row["until"], row["when"]): row["a"] for row in csv.DictReader(self.table().splitlines())}
+        self.assertEqual(ticks, {("0", "0"): "0", ("0", "2"): "0", ("0", "4"): "0", ("2", "0"): "2", ("2", "2"): "0", ("2", "4"): "0",
+                                 ("4", "0"): "3", ("4", "2"): "1", ("4", "4"): "0", ("20", "0"): "10", ("20", "2"): "10", ("20", "4"): "10"})
+
+    def test_what_is_missing(self) -> None:
+        self.write()
+        alone = self.path("xargs")
+        ended = self.sweep("--jobs", "2", path=alone)
+        self.assertEqual((ended.returncode, self.table()), (0, TABLE), ended.stderr)
+        for words in (["--sshlogin", ":"], ["--engine", "parallel"], ["--plot", "a", "--over", "long"]):
+            self.assertEqual(self.sweep("--jobs", "2", *(["--anew"] if words[0] != "--plot" else []), *words, path=alone).returncode, 3, words)
+        self.assertEqual(self.sweep("--anew", path=str(self.folder)).returncode, 3)
+
     def test_a_changed_sweep_does_not_go_on(self) -> None:
         rows = self.folder / "rows"
-        with Kept(rows, "one") as kept:
+        with Kept(rows, "one", lambda row: row != ["6"]) as kept:
             kept.add('[0, ["1"]]')
-        with Kept(rows, "one") as kept:
+        with Kept(rows, "one", lambda row: row != ["6"]) as kept:
             self.assertEqual(kept.rows, {0: ["1"]})
-        with Kept(rows, "another") as kept:
+        with Kept(rows, "one", lambda row: row != ["6"]) as kept:
+            kept.add('[1, ["6"]]')
+        with Kept(rows, "one", lambda row: row != ["6"]) as kept:
+            self.assertEqual(kept.rows, {0: ["1"]})
+        with Kept(rows, "another", lambda row: True) as kept:
             self.assertEqual(kept.rows, {})
 
     def test_words_and_files_that_are_wrong(self) -> None:
@@ -168,18 +259,10 @@ class Sweeps(Folder):
         self.write()
         ended = self.sweep("--jobs", "1", program="/nowhere/pse52")
         self.assertEqual(ended.returncode, 3)
-        row = row_of(sweep := read_sweep(self.folder / "two.toml"), next(iter(sweep.runs())), ["/nowhere/pse52"])
+        sweep = read_sweep(self.folder / "two.toml")
+        with Streams() as streams:
+            row = row_of(sweep, sweep.run(0), ["/nowhere/pse52"], streams)
         self.assertEqual(row, ["2", "0", "127", "/nowhere/pse52: No such file or directory"] + [""] * 5)
-
-    def test_another_machine(self) -> None:
-        if gnu_parallel() is None or shutil.which("ssh") is None:
-            print("skipped: a sweep over ssh, since GNU parallel or ssh is not here", file=sys.stderr)
-            self.skipTest("no ssh")
-        # The login ':' is this machine, which GNU parallel takes without ssh.
-        self.write()
-        ended = self.sweep("--sshlogin", ":", "--jobs", "2")
-        self.assertEqual((ended.returncode, self.table()), (0, TABLE), ended.stderr)
-
 
 class Pictures(Folder):
     def test_the_greatest_of_each_point(self) -> None:
@@ -206,9 +289,9 @@ class Example(unittest.TestCase):
             stored = list(csv.reader(file))
         self.assertEqual(stored[0], sweep.columns)
         self.assertEqual(len(stored), 1 + sweep.count)
-        for run in sweep.runs():
-            if run.number % 19 == 0:
-                self.assertEqual(stored[1 + run.number], row_of(sweep, run, REFERENCE.split()))
+        with Streams() as streams:
+            for number in range(0, sweep.count, 19):
+                self.assertEqual(stored[1 + number], row_of(sweep, sweep.run(number), REFERENCE.split(), streams))
 
     def test_the_answer_of_the_page(self) -> None:
         with (TOP / "examples" / "sweeps" / "server_budget.csv").open(newline="") as file:
@@ -218,7 +301,12 @@ class Example(unittest.TestCase):
         self.assertEqual([late[budget] for budget in (11, 12, 13)], [0, 0, 0])
 
 
-class Rows(unittest.TestCase):
+class Rows(Folder):
+    def test_the_grid(self) -> None:
+        sweep = read_sweep(self.write())
+        self.assertEqual([run.values for run in sweep.runs()], list(product([2, 5, 0], [0, 2, 4])))
+        self.assertEqual([run.number for run in sweep.runs()], list(range(9)))
+
     def test_the_table_is_in_the_order_of_the_grid(self) -> None:
         self.assertEqual(table(["a", "b"], {2: ["3", "x,y"], 0: ["1", ""]}), 'a,b\n1,\n3,"x,y"\n')
 
