@@ -11,7 +11,7 @@ ghost use Rattle.script_table.specs.Calls.{call_of};
 ghost use Rattle.script_table.specs.Build.{Opened, Built, put_step, with_decl, with_step, close_one, closed, opens, after_form, after, nothing_built, built_from, script_of_built, script_of};
 
 use crate::names::Names;
-use crate::operands::{GREATEST, number_in};
+use crate::operands::number_in;
 use crate::structure::statement::Statement;
 use crate::{Body, Decl, Decls, Script, Step};
 use calls::call_of;
@@ -20,6 +20,7 @@ use script_lex::Words;
 use script_table::{CallForm, Form};
 use std::alloc::{AllocError, Global};
 use std::marker::Model;
+use tick_num::GREATEST_NUMBER;
 
 // A body or block that is open.
 #[derive(Drop)]
@@ -159,7 +160,7 @@ impl<'a> Builder<'a> {
           quantum = unwrap_or (number_in 1 greatest 1 words.now.words) self.old.quantum;
         } }
     {
-        if let Some(quantum) = number_in(1, GREATEST, 1, words) {
+        if let Some(quantum) = number_in(1, GREATEST_NUMBER, 1, words) {
             self.quantum = quantum;
         }
     }
