@@ -4,13 +4,9 @@ ghost use Rattle.script_table.specs.Operands.{map_two};
 ghost use Rattle.pse52_tool.specs.Command.{command, command_of, long_command_of, number_up_to, limit_of, reads, IsWithinLimit};
 
 use script_table::{capped_value, is_number};
-use tick_num::Tick;
-
-const FARTHEST_TICK: u64 = 1_000_000_000_000_000_000;
+use tick_num::{GREATEST_NUMBER, Tick};
 
 const GREATEST_BOUND: u64 = 100_000_000;
-
-const GREATEST_SEED: u64 = 1_000_000_000_000_000_000;
 
 /// A command of the tool.
 #[derive(Clone, Copy)]
@@ -76,7 +72,7 @@ fn tick_of(word: &[u8]) -> Option<Tick>
     ensures tick { result ≡ number_up_to (10 ^ 18) word.now }
     ensures limit { IfSome result (λ n. n ≤ 10 ^ 18) }
 {
-    match number_up_to(FARTHEST_TICK, word) {
+    match number_up_to(GREATEST_NUMBER, word) {
         None => None,
         Some(n) => Tick::try_new(n),
     }
@@ -102,7 +98,7 @@ fn command_of(word: &[u8], number: &[u8]) -> Option<Command>
             Some(bound) => Some(Command::ResponseTimes(bound)),
         }
     } else if word == b"gen".as_slice() {
-        match number_up_to(GREATEST_SEED, number) {
+        match number_up_to(GREATEST_NUMBER, number) {
             None => None,
             Some(seed) => Some(Command::Gen(seed)),
         }
@@ -115,7 +111,7 @@ fn soak(seed: &[u8], horizon: &[u8]) -> Option<Command>
     ensures command { result ≡ map_two Command.Soak (number_up_to (10 ^ 18) seed.now) (number_up_to (10 ^ 18) horizon.now) }
     ensures limit { IfSome result IsWithinLimit }
 {
-    match number_up_to(GREATEST_SEED, seed) {
+    match number_up_to(GREATEST_NUMBER, seed) {
         None => None,
         Some(seed) => match tick_of(horizon) {
             None => None,

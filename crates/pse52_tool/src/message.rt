@@ -5,28 +5,12 @@ ghost use Rattle.rta_core.specs.Faults as task_faults;
 ghost use Rattle.pse52_tool.specs.Answer.{refused_line};
 
 use arrayvec::ArrayVec;
-use itoa::Buffer;
+use fixed_text::{add, add_number};
 use rta_core::TaskFault;
 use script_table::FaultKind;
 
 /// Room for the longest line of a fault.
 pub(crate) type Message = ArrayVec<u8, 128>;
-
-fn add(message: &mut Message, bytes: &[u8])
-    requires { length message.old.items + length bytes.now ≤ 128 }
-    ensures { message.new.items ≡ message.old.items ++ bytes.now }
-{
-    let _ = message.try_extend_from_slice(bytes);
-}
-
-fn add_number(message: &mut Message, n: u64)
-    requires { length message.old.items + 20 ≤ 128 }
-    ensures text { message.new.items ≡ message.old.items ++ decimal n }
-    ensures short { length (decimal n) ≤ 20 }
-{
-    let mut buffer = Buffer::new();
-    add(message, buffer.format(n).as_bytes());
-}
 
 fn fault_line(line: u32, number: u8, name: &str) -> Message
     requires { length name.now ≤ 13 }

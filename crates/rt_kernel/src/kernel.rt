@@ -50,20 +50,6 @@ impl Model for Kernel {
     ghost invariant = { λ k. IsReady k.parts };
 }
 
-// The parts of a script's kernel, all of whose threads stand right.
-#[tactic(auto, using(crate::proofs::Opened::script_fits))]
-fn open_parts(alloc: Global, script: &Script) -> Result<Parts, AllocError>
-    requires runnable { IsRunnable script.now }
-    requires well_formed { IsWellFormed script.now }
-    ensures kernel { IfOk result (λ k. k ≡ opened script.now) }
-    ensures stood { IfOk result (λ k. StoodRight k.machine) }
-    ensures fits { IfOk result (λ k. StaysFit k (objects_in k)) }
-{
-    let parts = Parts::open(alloc, script)?;
-    parts.know_priorities();
-    Ok(parts)
-}
-
 impl Kernel {
     /// The kernel of a script, before the first tick. It takes all memory that the run needs.
     pub fn open(alloc: Global, script: &Script) -> Result<Kernel, AllocError>
@@ -136,4 +122,18 @@ impl Kernel {
     {
         self.parts.report(out)
     }
+}
+
+// The parts of a script's kernel, all of whose threads stand right.
+#[tactic(auto, using(crate::proofs::Opened::script_fits))]
+fn open_parts(alloc: Global, script: &Script) -> Result<Parts, AllocError>
+    requires runnable { IsRunnable script.now }
+    requires well_formed { IsWellFormed script.now }
+    ensures kernel { IfOk result (λ k. k ≡ opened script.now) }
+    ensures stood { IfOk result (λ k. StoodRight k.machine) }
+    ensures fits { IfOk result (λ k. StaysFit k (objects_in k)) }
+{
+    let parts = Parts::open(alloc, script)?;
+    parts.know_priorities();
+    Ok(parts)
 }

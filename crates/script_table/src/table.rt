@@ -8,15 +8,13 @@ use crate::{
     NameKind, ObjectForm, Pattern, Place, SemCall, SignalCall, StepForm, Table, ThreadCall,
     TimeCall,
 };
-
-// The greatest number of a script.
-const GREATEST: u64 = 1_000_000_000_000_000_000;
+use tick_num::GREATEST_NUMBER;
 
 // A place: a keyword, a priority P, a number N, an operand V, an answer R, signals, a name that is new or of a kind, a range.
 macro_rules! place {
     ($keyword:literal) => { Place::Keyword($keyword) };
     (P) => { Place::Number { low: 1, high: 255 } };
-    (N) => { Place::Number { low: 0, high: GREATEST } };
+    (N) => { Place::Number { low: 0, high: GREATEST_NUMBER } };
     (V) => { Place::Operand };
     (R) => { Place::Answer };
     (SIG) => { Place::Signal };
@@ -34,7 +32,7 @@ macro_rules! pattern {
 }
 
 static DECLARATIONS: [Pattern; 22] = [
-    pattern!(Form::Quantum, Nowhere => b"quantum" (in 1, GREATEST)),
+    pattern!(Form::Quantum, Nowhere => b"quantum" (in 1, GREATEST_NUMBER)),
     pattern!(Form::Body(BodyForm::FifoAt), Nowhere => b"thread" (new Thread) b"fifo" P b"at" N),
     pattern!(Form::Body(BodyForm::FifoDormant), Nowhere => b"thread" (new Thread) b"fifo" P b"dormant"),
     pattern!(Form::Body(BodyForm::RrAt), Nowhere => b"thread" (new Thread) b"rr" P b"at" N),
@@ -59,13 +57,13 @@ static DECLARATIONS: [Pattern; 22] = [
 ];
 
 static STEPS: [Pattern; 12] = [
-    pattern!(Form::Step(StepForm::Run), Nowhere => b"run" (in 1, GREATEST)),
+    pattern!(Form::Step(StepForm::Run), Nowhere => b"run" (in 1, GREATEST_NUMBER)),
     pattern!(Form::Step(StepForm::Set), Nowhere => b"set" N),
     pattern!(Form::Step(StepForm::Add), Nowhere => b"add" N),
     pattern!(Form::Step(StepForm::Take), Nowhere => b"take"),
     pattern!(Form::Block(BlockForm::If), Nowhere => b"if" R),
     pattern!(Form::Block(BlockForm::Unless), Nowhere => b"unless" R),
-    pattern!(Form::Block(BlockForm::Loop), Nowhere => b"loop" (in 1, GREATEST)),
+    pattern!(Form::Block(BlockForm::Loop), Nowhere => b"loop" (in 1, GREATEST_NUMBER)),
     pattern!(Form::Block(BlockForm::Forever), Nowhere => b"forever"),
     pattern!(Form::Block(BlockForm::Push), HandlersAndCleanups => b"push" (of Cleanup)),
     pattern!(Form::Close(CloseForm::End), Nowhere => b"end"),

@@ -5,6 +5,7 @@ ghost use Rattle.script_text.specs.Words.{operand_word, signal_word, set_word, s
 ghost use Rattle.script_text.specs.Line.{spelled, width, total_width, line_text, IsShort, AreShort};
 
 use arrayvec::ArrayVec;
+use fixed_text::{add, add_number};
 use itoa::Buffer;
 use script_tree::Operand;
 use tick_num::SigSet;
@@ -25,22 +26,6 @@ pub(crate) enum Word<'a> {
     Signal(u8),
     /// A set of signals.
     Signals(SigSet),
-}
-
-fn add(line: &mut Line, bytes: &[u8])
-    requires { length line.old.items + length bytes.now ≤ 256 }
-    ensures { line.new.items ≡ line.old.items ++ bytes.now }
-{
-    let _ = line.try_extend_from_slice(bytes);
-}
-
-fn add_number(line: &mut Line, n: u64)
-    requires { length line.old.items + 20 ≤ 256 }
-    ensures text { line.new.items ≡ line.old.items ++ decimal n }
-    ensures bound { length line.new.items ≤ length line.old.items + 20 }
-{
-    let mut buffer = Buffer::new();
-    add(line, buffer.format(n).as_bytes());
 }
 
 fn add_operand(line: &mut Line, operand: Operand)

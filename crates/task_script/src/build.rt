@@ -1,4 +1,7 @@
-// The script that statements say.
+// The script that statements say, where no phase has a fault.
+mod calls;
+mod meaning;
+
 ghost use Rattle.std.specs.Prelude.{◌≡◌, ◌∷◌, ◌++◌, [], IfOk, MatchOption, option_to_list, unwrap_or};
 ghost use Rattle.std.specs.Option.{option_map};
 ghost use Rattle.script_tree.specs.declared.body.Step.TheVariants as step;
@@ -7,16 +10,17 @@ ghost use Rattle.script_table.specs.Operands.{number_in};
 ghost use Rattle.script_table.specs.Calls.{call_of};
 ghost use Rattle.script_table.specs.Build.{Opened, Built, put_step, with_decl, with_step, close_one, closed, opens, after_form, after, nothing_built, built_from, script_of_built, script_of};
 
-use crate::calls::call_of;
-use crate::meaning::{action_decl, block_step, body_decl, object_decl, plain_step, runs_cleanup};
 use crate::names::Names;
-use crate::operands::{GREATEST, number_in};
-use crate::statement::Statement;
+use crate::operands::number_in;
+use crate::structure::statement::Statement;
 use crate::{Body, Decl, Decls, Script, Step};
+use calls::call_of;
+use meaning::{action_decl, block_step, body_decl, object_decl, plain_step, runs_cleanup};
 use script_lex::Words;
 use script_table::{CallForm, Form};
 use std::alloc::{AllocError, Global};
 use std::marker::Model;
+use tick_num::GREATEST_NUMBER;
 
 // A body or block that is open.
 #[derive(Drop)]
@@ -156,7 +160,7 @@ impl<'a> Builder<'a> {
           quantum = unwrap_or (number_in 1 greatest 1 words.now.words) self.old.quantum;
         } }
     {
-        if let Some(quantum) = number_in(1, GREATEST, 1, words) {
+        if let Some(quantum) = number_in(1, GREATEST_NUMBER, 1, words) {
             self.quantum = quantum;
         }
     }

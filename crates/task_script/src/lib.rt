@@ -1,21 +1,15 @@
-//! The script of a text, or the first mistake in the text.
+//! The script of a text, or the first mistake in the text. `read` goes through three phases, each over all lines before the next:
+//! `structure` (what each line is), `names` (what is declared and used) and `ranges` (numbers and limits). A text that has a fault in
+//! none of them is a script, which `build` makes. `operands` says what the word at a place says, for `ranges` and `build`.
 #![tactic(auto)]
 
-mod blocks;
 mod build;
-mod calls;
-mod counts;
-mod declared;
 mod end;
-mod line;
-mod lines;
-mod meaning;
 mod names;
 mod operands;
 mod ranges;
 mod read;
-mod statement;
-mod tally;
+mod structure;
 
 pub use end::ScriptEnd;
 pub use read::read_script;

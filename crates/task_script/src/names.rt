@@ -1,4 +1,7 @@
-// Names in order of declaration.
+// Phase 2: names in order of declaration.
+pub(crate) mod counts;
+pub(crate) mod declared;
+
 ghost use Rattle.std.specs.Prelude.{◌≡◌, ◌==◌, [], IfOk};
 ghost use Rattle.std.specs.Option.{option_map};
 ghost use Rattle.script_table.specs.Patterns.{kind_number, same_kind};
@@ -6,7 +9,7 @@ ghost use Rattle.script_table.specs.Names.{entry_of, with_name, duplicate, used}
 ghost use Rattle.script_table.specs.Operands.{number_of_kind};
 ghost use Rattle.task_script.specs.NameMap.{entry_named};
 
-use crate::counts::Counts;
+use counts::Counts;
 use indexmap::IndexMap;
 use script_table::{FaultKind, NameKind};
 use std::alloc::{AllocFailed, Global};

@@ -8,10 +8,7 @@ use crate::names::Names;
 use crate::{Name, Operand, Policy};
 use script_lex::Words;
 use script_table::{NameKind, answer_of, capped_value, is_register, set_of, signal_of};
-use tick_num::{ObjId, Params, Prio, Res, SigSet, Tid};
-
-/// The greatest number of a script.
-pub(crate) const GREATEST: u64 = 1_000_000_000_000_000_000;
+use tick_num::{GREATEST_NUMBER, ObjId, Params, Prio, Res, SigSet, Tid};
 
 pub(crate) fn word<'a>(k: usize, words: &Words<'a>) -> &'a [u8]
     ensures { result.now ≡ word k words.now.words }
@@ -31,7 +28,7 @@ pub(crate) fn word<'a>(k: usize, words: &Words<'a>) -> &'a [u8]
 pub(crate) fn capped_number_at(k: usize, words: &Words<'_>) -> u128
     ensures { result ≡ capped_number_at k words.now.words }
 {
-    capped_value(word(k, words), GREATEST)
+    capped_value(word(k, words), GREATEST_NUMBER)
 }
 
 /// Whether the value of digits lies in a range.
@@ -57,7 +54,7 @@ pub(crate) fn number_in(low: u64, high: u64, k: usize, words: &Words<'_>) -> Opt
 pub(crate) fn amount(k: usize, words: &Words<'_>) -> Option<u64>
     ensures { result ≡ amount_at k words.now.words }
 {
-    number_in(0, GREATEST, k, words)
+    number_in(0, GREATEST_NUMBER, k, words)
 }
 
 pub(crate) fn priority(k: usize, words: &Words<'_>) -> Option<Prio>
@@ -145,7 +142,7 @@ fn server(words: &Words<'_>) -> Option<Params>
 {
     let high = priority(3, words)?;
     let low = priority(4, words)?;
-    let period = number_in(0, GREATEST, 5, words)?;
+    let period = number_in(0, GREATEST_NUMBER, 5, words)?;
     let budget = amount(6, words)?;
     let max = number_in(1, 16, 7, words)?;
     server_of(high, low, period, budget, max)

@@ -1,4 +1,6 @@
-// Ranges and limits, and the least fault of phase 3.
+// Phase 3: ranges and limits, and the least fault of them.
+mod tally;
+
 ghost use Rattle.std.specs.Prelude.{◌≡◌, ◌≤◌, ◌<◌, ◌^◌, ◌∷◌, ◌++◌, ◌&&◌, not, [], map, None, Some, MatchResult, length};
 ghost use Rattle.std.specs.Option.{option_map};
 ghost use Rattle.script_table.specs.Faults.{least, least_kind, when};
@@ -9,13 +11,14 @@ ghost use Rattle.script_table.specs.Ranges.{range_fault, sets_server, is_server,
 ghost use Rattle.task_script.specs.Ends.{answered};
 
 use crate::ScriptEnd;
-use crate::operands::{GREATEST, capped_number_at, is_within};
-use crate::statement::Statement;
-use crate::tally::Tally;
+use crate::operands::{capped_number_at, is_within};
+use crate::structure::statement::Statement;
 use script_lex::Words;
 use script_table::{
     BodyForm, CallForm, FaultKind, Form, Place, ThreadCall, is_register, lesser_first,
 };
+use tally::Tally;
+use tick_num::GREATEST_NUMBER;
 
 fn range_fault(place: &Place, word: &[u8]) -> Option<FaultKind>
     ensures { result ≡ range_fault (spot_of place.now) word.now }
@@ -26,7 +29,7 @@ fn range_fault(place: &Place, word: &[u8]) -> Option<FaultKind>
         } else {
             Some(FaultKind::NumberRange)
         },
-        Place::Operand => if is_register(word) || is_within(0, GREATEST, word) {
+        Place::Operand => if is_register(word) || is_within(0, GREATEST_NUMBER, word) {
             None
         } else {
             Some(FaultKind::NumberRange)

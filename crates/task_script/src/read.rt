@@ -6,9 +6,9 @@ ghost use Rattle.script_table.specs.Read.{read};
 ghost use Rattle.task_script.specs.Ends.{IsRefusal};
 
 use crate::build::script_of;
-use crate::declared::{check_names, declarations};
-use crate::lines::statements;
+use crate::names::declared::{check_names, declarations};
 use crate::ranges::check_ranges;
+use crate::structure::lines::statements;
 use crate::{Script, ScriptEnd};
 use script_table::{Table, patterns};
 use std::alloc::Global;

@@ -18,3 +18,6 @@ pub use res::Res;
 pub use sig_code::SigCode;
 pub use sig_set::SigSet;
 pub use tick::Tick;
+
+/// The greatest number that a script or a command may say, whether of ticks, of passes or a value: 10^18.
+pub const GREATEST_NUMBER: u64 = 1_000_000_000_000_000_000;

@@ -2,7 +2,7 @@
 ghost use Rattle.std.specs.Prelude.{◌≡◌, ◌≤◌, ◌<◌, ◌^◌, Some, None, MatchOption};
 ghost use Rattle.tick_num.specs.Parameters.{Parameters, AreParameters};
 
-use crate::Prio;
+use crate::{GREATEST_NUMBER, Prio};
 use std::marker::Model;
 
 /// The parameters of SCHED_SPORADIC, IEEE 1003.1-2017, XSH 2.8.4: `sched_priority`, `sched_ss_low_priority`, `sched_ss_repl_period`,
@@ -45,7 +45,7 @@ impl Params {
         if low >= high || budget < 1 || budget > period {
             return None;
         }
-        if period > 1_000_000_000_000_000_000 || max < 1 || max > 16 {
+        if period > GREATEST_NUMBER || max < 1 || max > 16 {
             return None;
         }
         Some(Params {

@@ -9,26 +9,10 @@ ghost use Rattle.trace_check.specs.Comparison.{line_or_nothing, word_of_reading,
 use crate::lines::line_behind;
 use crate::{Form, first_difference, read_line};
 use arrayvec::ArrayVec;
-use itoa::Buffer;
+use fixed_text::{add, add_number};
 
 /// Room for the three lines that tell of a difference.
 pub type Difference = ArrayVec<u8, 320>;
-
-fn add(text: &mut Difference, bytes: &[u8])
-    requires { length text.old.items + length bytes.now ≤ 320 }
-    ensures { text.new.items ≡ text.old.items ++ bytes.now }
-{
-    let _ = text.try_extend_from_slice(bytes);
-}
-
-fn add_number(text: &mut Difference, n: u64)
-    requires { length text.old.items + 20 ≤ 320 }
-    ensures text { text.new.items ≡ text.old.items ++ decimal n }
-    ensures short { length (decimal n) ≤ 20 }
-{
-    let mut buffer = Buffer::new();
-    add(text, buffer.format(n).as_bytes());
-}
 
 fn line_or_nothing(line: Option<&[u8]>) -> &[u8]
     requires { IfSome line (λ l. length l.now ≤ 255) }

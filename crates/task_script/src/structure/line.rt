@@ -7,7 +7,7 @@ ghost use Rattle.script_table.specs.Patterns.{row_of, rows_of};
 ghost use Rattle.script_table.specs.LineFaults.{fitting_some, unknown_faults, faults_by};
 ghost use Rattle.script_table.specs.Structure.{line_faults, place_of_row};
 
-use crate::blocks::Blocks;
+use crate::structure::blocks::Blocks;
 use script_lex::{Line, Words};
 use script_table::{FaultKind, Pattern, Table, any_agrees, lesser_first, spelling_fault};
 

@@ -3,8 +3,8 @@ ghost use Rattle.std.specs.Prelude.{◌≡◌, ◌≤◌, ◌<◌, ◌^◌, ◌=
 ghost use Rattle.script_table.specs.Ranges.{object_kind, entered, left, tallied, is_too_many, no_tally};
 ghost use Rattle.task_script.specs.Bounds.{AreTallyBelow};
 
-use crate::blocks::{body_kind, closed_by, closer_of};
-use crate::counts::Counts;
+use crate::names::counts::Counts;
+use crate::structure::blocks::{body_kind, closed_by, closer_of};
 use script_table::{Closer, Form, NameKind, ObjectForm};
 use std::marker::Model;
 

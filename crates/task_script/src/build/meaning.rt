@@ -4,11 +4,12 @@ ghost use Rattle.script_table.specs.Meaning.{kind_of_object, object_decl, action
 
 use crate::names::Names;
 use crate::operands::{
-    GREATEST, amount, answer, fifo, name, number_in, object, priority, rr, signal, sporadic,
+    amount, answer, fifo, name, number_in, object, priority, rr, signal, sporadic,
 };
 use crate::{Body, Decl, Kind, Protocol, Step};
 use script_lex::Words;
 use script_table::{ActionForm, BlockForm, BodyForm, CloseForm, NameKind, ObjectForm, StepForm};
+use tick_num::GREATEST_NUMBER;
 
 fn kind_of_object(form: ObjectForm, words: &Words<'_>) -> Option<Kind>
     ensures { result ≡ kind_of_object form words.now.words }
@@ -107,7 +108,7 @@ pub(crate) fn plain_step(form: StepForm, words: &Words<'_>) -> Option<Step>
     ensures { result ≡ plain_step form words.now.words }
 {
     Some(match form {
-        StepForm::Run => Step::Run(number_in(1, GREATEST, 1, words)?),
+        StepForm::Run => Step::Run(number_in(1, GREATEST_NUMBER, 1, words)?),
         StepForm::Set => Step::Set(amount(1, words)?),
         StepForm::Add => Step::Add(amount(1, words)?),
         StepForm::Take => Step::Take,
@@ -144,7 +145,7 @@ pub(crate) fn block_step(
             body,
         },
         BlockForm::Loop => Step::Loop {
-            times: Some(number_in(1, GREATEST, 1, words)?),
+            times: Some(number_in(1, GREATEST_NUMBER, 1, words)?),
             body,
         },
         BlockForm::Forever => Step::Loop { times: None, body },

@@ -10,7 +10,7 @@ ghost use Rattle.task_script.specs.Ends.{answered};
 
 use crate::ScriptEnd;
 use crate::names::Names;
-use crate::statement::Statement;
+use crate::structure::statement::Statement;
 use script_lex::Words;
 use script_table::{FaultKind, NameKind, Place, lesser_first};
 use std::alloc::Global;

@@ -3,7 +3,7 @@ use Rattle.script_lex.specs.Lines.{lines_of}
 use Rattle.script_table.specs.Faults.{least}
 use Rattle.script_table.specs.Patterns.{rows_of}
 use Rattle.script_table.specs.Structure.{phase_one, said_from}
-use Rattle.task_script.proofs.lines.statements.Given as goal
+use Rattle.task_script.proofs.structure.lines.statements.Given as goal
 
 abbrev pub invariant-loop-line : goal.invariant-loop-line
 invariant-loop-line l = record {

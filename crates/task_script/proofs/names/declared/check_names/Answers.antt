@@ -1,5 +1,5 @@
 use Rattle.task_script.proofs.Phases.{at_drop, two_step, rises_on, no_fault, a_fault}
-use Rattle.task_script.proofs.declared.check_names.Goals as goal
+use Rattle.task_script.proofs.names.declared.check_names.Goals as goal
 
 pub returns-in-Some : goal.returns-in-Some
 returns-in-Some c =

@@ -8,9 +8,9 @@ ghost use Rattle.script_table.specs.Structure.{line_faults, said_line, said_from
 ghost use Rattle.task_script.specs.Ends.{EndsBy};
 
 use crate::ScriptEnd;
-use crate::blocks::Blocks;
-use crate::line::line_fault;
-use crate::statement::Statement;
+use crate::structure::blocks::Blocks;
+use crate::structure::line::line_fault;
+use crate::structure::statement::Statement;
 use script_lex::{Line, Lines};
 use script_table::{FaultKind, Table, pattern_of};
 use std::alloc::Global;

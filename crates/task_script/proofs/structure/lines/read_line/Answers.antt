@@ -4,7 +4,7 @@ use Rattle.script_table.specs.Patterns.{row_of, rows_of}
 use Rattle.script_table.specs.LineFaults.{fitting_some}
 use Rattle.script_table.specs.Structure.{row_of_line}
 use Rattle.task_script.proofs.LineReads.{line_says}
-use Rattle.task_script.proofs.lines.read_line.Goals as goal
+use Rattle.task_script.proofs.structure.lines.read_line.Goals as goal
 
 pub returns-in_ok-pass-in-Some-pattern : goal.returns-in_ok-pass-in-Some-pattern
 returns-in_ok-pass-in-Some-pattern c =

@@ -2,7 +2,7 @@ use Rattle.std.proofs.Common.{◌≡◌, drop, ℕ}
 use Rattle.script_table.specs.Faults.{least}
 use Rattle.script_table.specs.Structure.{IsRising}
 use Rattle.script_table.specs.Names.{phase_two}
-use Rattle.task_script.proofs.declared.check_names.Given as goal
+use Rattle.task_script.proofs.names.declared.check_names.Given as goal
 
 abbrev pub invariant-loop-s : goal.invariant-loop-s
 invariant-loop-s l = record {

@@ -1,0 +1,5 @@
+// Phase 1: what each line is, and the bodies and blocks that it stands in.
+pub(crate) mod blocks;
+mod line;
+pub(crate) mod lines;
+pub(crate) mod statement;
