@@ -7,6 +7,7 @@ mod call_name;
 mod event;
 mod line;
 mod names;
+mod place;
 mod report;
 mod tracer;
 

@@ -1,14 +1,20 @@
 // Lines: words with one blank between them, and a line end.
-ghost use Rattle.std.specs.Prelude.{◌≡◌, ◌≤◌, ◌<◌, ◌+◌, ◌++◌, ◌∷◌, [], length, decimal, Some};
-ghost use Rattle.std.specs.List.{join_with_byte};
-ghost use Rattle.pse52_trace.specs.Text.{IsNamed, budget_words, line, report_line, signal_name};
+ghost use Rattle.std.specs.Prelude.{◌≡◌, ◌≤◌, ◌<◌, ◌+◌, ◌++◌, ◌∷◌, [], length, decimal, slice_range, Some, IfSome};
+ghost use Rattle.pse52_trace.specs.Text.{IsNamed, budget_words, event_words, line, name_at, report_line, report_words, signal_name};
+ghost use Rattle.pse52_trace.specs.Placed.{Placed, blanks_before, words_behind};
 ghost use Rattle.pse52_trace.specs.ShortLines.{AreWhole};
 
+use crate::place::{place_byte, place_literal, place_number, place_word};
 use crate::{BudgetView, Event, Names, Report};
-use arrayvec::ArrayVec;
-use itoa::Buffer;
+use itoa::{Buffer, write_digits};
 use std::marker::Model;
 use tick_num::{Tick, Tid};
+
+// How long the buffer of a line is.
+const ROOM: usize = 256;
+
+// The time of an event ends here, so that the words behind it always begin here.
+const HEAD: usize = 20;
 
 /// How long the line of an event is, in bytes: at most 256, whatever its names and numbers.
 pub fn line_len(now: Tick, e: &Event, names: &Names) -> usize
@@ -21,18 +27,25 @@ pub fn line_len(now: Tick, e: &Event, names: &Names) -> usize
     line.len()
 }
 
-// A line, or the beginning of one, of at most 256 bytes. It is seen as its bytes.
+// A line of at most 256 bytes, which stands from `start` to `end`. It is seen as its bytes.
 #[derive(Drop)]
 pub struct Line {
-    text: ArrayVec<u8, 256>,
+    text: [u8; ROOM],
+    start: usize,
+    end: usize,
+    // whose digits stand from `start` to the head, so that the lines of one instant share them
+    time: Option<u64>,
 }
 
 impl Model for Line {
-    ghost use Rattle.std.specs.Prelude.{List, ℕ};
+    ghost use Rattle.std.specs.Prelude.{List, ℕ, ◌≡◌, ◌≤◌, IfSome, decimal, slice_range};
 
     ghost Value = { List ℕ };
 
-    ghost view = { λ l. l.text.items };
+    ghost view = { λ l. slice_range l.text l.start l.end };
+
+    ghost invariant = { λ l. (l.start ≤ 20) × (20 ≤ l.end) × (l.end ≤ 256)
+        × IfSome l.time (λ n. slice_range l.text l.start 20 ≡ decimal n) };
 }
 
 impl Line {
@@ -40,7 +53,10 @@ impl Line {
         ensures { result ≡ [] }
     {
         Line {
-            text: ArrayVec::new(),
+            text: [0; ROOM],
+            start: HEAD,
+            end: HEAD,
+            time: None,
         }
     }
 
@@ -50,50 +66,10 @@ impl Line {
         ensures value { self.new ≡ line names.now now e.now }
         ensures whole { AreWhole self.new }
     {
-        self.begin(Buffer::new().format(now.get()).as_bytes());
-        match e {
-            Event::Dispatch(t, prio) => {
-                self.of_thread(b"dispatch", names.get(*t));
-                self.number(prio.get() as u64);
-            }
-            Event::Idle => self.word(b"idle"),
-            Event::Start(t) => self.of_thread(b"start", names.get(*t)),
-            Event::Return(t, call, res, value) => {
-                self.of_thread(b"return", names.get(*t));
-                self.word(call.word().as_bytes());
-                self.word(res.text().as_bytes());
-                self.number(*value);
-            }
-            Event::Deliver(t, sig, code, value) => {
-                self.of_thread(b"deliver", names.get(*t));
-                self.signal(*sig);
-                self.word(code.text().as_bytes());
-                self.number(*value);
-            }
-            Event::Activate(t, capacity) => {
-                self.of_thread(b"activate", names.get(*t));
-                self.number(*capacity);
-            }
-            Event::Exhaust(t) => self.of_thread(b"exhaust", names.get(*t)),
-            Event::Plan(t, amount, due) => {
-                self.of_thread(b"plan", names.get(*t));
-                self.number(*amount);
-                self.number(due.get());
-            }
-            Event::Refill(t, amount, capacity) => {
-                self.of_thread(b"refill", names.get(*t));
-                self.number(*amount);
-                self.number(*capacity);
-            }
-            Event::Cancel(t) => self.of_thread(b"cancel", names.get(*t)),
-            Event::Exit(t) => self.of_thread(b"exit", names.get(*t)),
-            Event::Killed(sig) => {
-                self.word(b"killed");
-                self.signal(*sig);
-            }
-            Event::End => self.word(b"end"),
-        }
-        self.end();
+        let time = now.get();
+        self.start = place_time(&mut self.text, self.time, self.start, time);
+        self.time = Some(time);
+        self.end = place_event(&mut self.text, e, names);
     }
 
     // Becomes the closing line of a thread.
@@ -102,102 +78,166 @@ impl Line {
         ensures value { self.new ≡ report_line names.now t report.now }
         ensures whole { AreWhole self.new }
     {
-        self.begin(b"thread");
-        self.word(names.get(t));
-        self.word(b"ticks");
-        self.number(report.ticks);
-        if let Some(budget) = &report.budget {
-            self.budget(budget);
-        }
-        self.end();
-    }
-
-    // Becomes one word.
-    fn begin(&mut self, word: &[u8])
-        requires { length word.now ≤ 256 }
-        ensures { self.new ≡ word.now }
-    {
-        self.text.clear();
-        let _ = self.text.try_extend_from_slice(word);
+        self.start = HEAD;
+        self.time = None;
+        self.end = place_report(&mut self.text, t, report, names);
     }
 
     fn len(&self) -> usize
         ensures value { result ≡ length self.now }
         ensures fits { result ≤ 256 }
     {
-        self.text.len()
+        self.end - self.start
     }
 
     pub(crate) fn bytes(&self) -> &[u8]
         ensures { result.now ≡ self.now }
     {
-        self.text.as_slice()
+        &self.text[self.start..self.end]
     }
+}
 
-    // Adds the line end.
-    #[tactic(auto, using(crate::proofs::ShortLines::ended_is_whole))]
-    fn end(&mut self)
-        requires { length self.old < 256 }
-        ensures value { self.new ≡ self.old ++ 10 ∷ [] }
-        ensures whole { AreWhole self.new }
-    {
-        self.text.push(b'\n');
+// Puts the digits of a time before the head, unless they stand there, and answers where they begin.
+fn place_time(text: &mut [u8], stands: Option<u64>, start: usize, now: u64) -> usize
+    requires room { length text.old ≡ 256 }
+    requires head { start ≤ 20 }
+    requires stands { IfSome stands (λ n. slice_range text.old start 20 ≡ decimal n) }
+    ensures digits { slice_range text.new result 20 ≡ decimal now }
+    ensures head { result ≤ 20 }
+{
+    if stands == Some(now) {
+        return start;
     }
+    write_digits(now, text, HEAD)
+}
 
-    // Adds a blank and a word.
-    fn word(&mut self, word: &[u8])
-        requires { length self.old + 1 + length word.now ≤ 256 }
-        ensures value { self.new ≡ self.old ++ 32 ∷ word.now }
-        ensures longer { length self.new ≡ length self.old + 1 + length word.now }
-    {
-        self.text.push(b' ');
-        let _ = self.text.try_extend_from_slice(word);
+// Puts the words of an event and the line end behind the head.
+fn place_event(text: &mut [u8], e: &Event, names: &Names) -> usize
+    requires room { length text.old ≡ 256 }
+    requires named { IsNamed names.now e.now }
+    ensures placed { Placed text.old text.new 20 (words_behind (event_words names.now e.now)) result }
+    ensures within { result ≤ 256 }
+{
+    match e {
+        Event::Dispatch(t, prio) => {
+            let at = place_of_thread(text, b" dispatch ", names, *t);
+            let at = place_number(text, at, prio.get() as u64);
+            place_byte(text, at, b'\n')
+        }
+        Event::Idle => place_literal(text, HEAD, b" idle\n"),
+        Event::Start(t) => {
+            let at = place_of_thread(text, b" start ", names, *t);
+            place_byte(text, at, b'\n')
+        }
+        Event::Return(t, call, res, value) => {
+            let at = place_of_thread(text, b" return ", names, *t);
+            let at = place_byte(text, at, b' ');
+            let at = place_word(text, at, call.word().as_bytes());
+            let at = place_byte(text, at, b' ');
+            let at = place_word(text, at, res.text().as_bytes());
+            let at = place_number(text, at, *value);
+            place_byte(text, at, b'\n')
+        }
+        Event::Deliver(t, sig, code, value) => {
+            let at = place_of_thread(text, b" deliver ", names, *t);
+            let at = place_signal(text, at, *sig);
+            let at = place_byte(text, at, b' ');
+            let at = place_word(text, at, code.text().as_bytes());
+            let at = place_number(text, at, *value);
+            place_byte(text, at, b'\n')
+        }
+        Event::Activate(t, capacity) => {
+            let at = place_of_thread(text, b" activate ", names, *t);
+            let at = place_number(text, at, *capacity);
+            place_byte(text, at, b'\n')
+        }
+        Event::Exhaust(t) => {
+            let at = place_of_thread(text, b" exhaust ", names, *t);
+            place_byte(text, at, b'\n')
+        }
+        Event::Plan(t, amount, due) => {
+            let at = place_of_thread(text, b" plan ", names, *t);
+            let at = place_number(text, at, *amount);
+            let at = place_number(text, at, due.get());
+            place_byte(text, at, b'\n')
+        }
+        Event::Refill(t, amount, capacity) => {
+            let at = place_of_thread(text, b" refill ", names, *t);
+            let at = place_number(text, at, *amount);
+            let at = place_number(text, at, *capacity);
+            place_byte(text, at, b'\n')
+        }
+        Event::Cancel(t) => {
+            let at = place_of_thread(text, b" cancel ", names, *t);
+            place_byte(text, at, b'\n')
+        }
+        Event::Exit(t) => {
+            let at = place_of_thread(text, b" exit ", names, *t);
+            place_byte(text, at, b'\n')
+        }
+        Event::Killed(sig) => {
+            let at = place_literal(text, HEAD, b" killed");
+            let at = place_signal(text, at, *sig);
+            place_byte(text, at, b'\n')
+        }
+        Event::End => place_literal(text, HEAD, b" end\n"),
     }
+}
 
-    // Adds a blank and a number.
-    fn number(&mut self, n: u64)
-        requires { length self.old + 21 ≤ 256 }
-        ensures value { self.new ≡ self.old ++ 32 ∷ decimal n }
-        ensures longer { length self.new ≤ length self.old + 21 }
-    {
-        self.word(Buffer::new().format(n).as_bytes());
-    }
+// Puts what happens behind the head, and the name of the thread to which it happens.
+#[inline(always)]
+fn place_of_thread(text: &mut [u8], what: &[u8], names: &Names, t: Tid) -> usize
+    requires room { length text.old ≡ 256 }
+    requires short { length what.now ≤ 10 }
+    requires named { t < length names.now }
+    ensures placed { Placed text.old text.new 20 (what.now ++ name_at names.now t) result }
+    ensures within { result ≤ 62 }
+{
+    let at = place_literal(text, HEAD, what);
+    names.name(t).place(text, at)
+}
 
-    // Adds what happens, and the name of the thread to which it happens.
-    fn of_thread(&mut self, what: &[u8], name: &[u8])
-        requires { length self.old + 2 + length what.now + length name.now ≤ 256 }
-        ensures value { self.new ≡ self.old ++ 32 ∷ what.now ++ 32 ∷ name.now }
-        ensures longer { length self.new ≡ length self.old + 2 + length what.now + length name.now }
-    {
-        self.word(what);
-        self.word(name);
-    }
+// Puts a blank and a signal.
+fn place_signal(text: &mut [u8], at: usize, sig: u8) -> usize
+    requires { at + 24 ≤ length text.old }
+    ensures placed { Placed text.old text.new at (32 ∷ signal_name sig) result }
+    ensures within { result ≤ at + 24 }
+{
+    let at = place_literal(text, at, b" rt");
+    place_word(text, at, Buffer::new().format(sig).as_bytes())
+}
 
-    // Adds a blank and a signal.
-    fn signal(&mut self, sig: u8)
-        requires { length self.old + 24 ≤ 256 }
-        ensures value { self.new ≡ self.old ++ 32 ∷ signal_name sig }
-        ensures longer { length self.new ≤ length self.old + 24 }
-    {
-        self.word(b"rt");
-        let _ = self
-            .text
-            .try_extend_from_slice(Buffer::new().format(sig).as_bytes());
+// Puts the closing line of a thread behind the head.
+fn place_report(text: &mut [u8], t: Tid, report: &Report, names: &Names) -> usize
+    requires room { length text.old ≡ 256 }
+    requires named { t < length names.now }
+    ensures placed { Placed text.old text.new 20 (report_line names.now t report.now) result }
+    ensures within { result ≤ 256 }
+{
+    let at = place_of_thread(text, b"thread ", names, t);
+    let at = place_literal(text, at, b" ticks");
+    let at = place_number(text, at, report.ticks);
+    match &report.budget {
+        Some(budget) => {
+            let at = place_budget(text, at, budget);
+            place_byte(text, at, b'\n')
+        }
+        None => place_byte(text, at, b'\n'),
     }
+}
 
-    // Adds the words on a sporadic server.
-    fn budget(&mut self, budget: &BudgetView)
-        requires { length self.old + 112 ≤ 256 }
-        ensures value { self.new ≡ self.old ++ 32 ∷ join_with_byte 32 (budget_words (Some budget.now)) }
-        ensures longer { length self.new ≤ length self.old + 112 }
-    {
-        self.word(b"high");
-        self.number(budget.high);
-        self.word(b"init");
-        self.number(budget.init);
-        self.word(b"refilled");
-        self.number(budget.refilled);
-        self.word(b"capacity");
-        self.number(budget.capacity);
-    }
+// Puts the words on a sporadic server.
+fn place_budget(text: &mut [u8], at: usize, budget: &BudgetView) -> usize
+    requires { at + 112 ≤ length text.old }
+    ensures placed { Placed text.old text.new at (blanks_before (budget_words (Some budget.now))) result }
+    ensures within { result ≤ at + 112 }
+{
+    let at = place_literal(text, at, b" high");
+    let at = place_number(text, at, budget.high);
+    let at = place_literal(text, at, b" init");
+    let at = place_number(text, at, budget.init);
+    let at = place_literal(text, at, b" refilled");
+    let at = place_number(text, at, budget.refilled);
+    let at = place_literal(text, at, b" capacity");
+    place_number(text, at, budget.capacity)
 }

@@ -1,24 +1,27 @@
 // The names of the threads.
-ghost use Rattle.std.specs.Prelude.{◌≡◌, ◌≤◌, ◌<◌, List, ℕ, [], length, replicate, slice_set, IfOk};
+ghost use Rattle.std.specs.Prelude.{◌≡◌, ◌≤◌, ◌<◌, ◌+◌, List, ℕ, [], length, replicate, slice_set, IfOk};
+ghost use Rattle.pse52_trace.specs.Placed.{Placed};
 ghost use Rattle.pse52_trace.specs.Text.{name_at};
 
-use arrayvec::ArrayVec;
 use std::alloc::{AllocError, Global};
 use std::marker::Model;
 use tick_num::Tid;
 
 // A name of at most 32 bytes, as its bytes.
 #[derive(Drop)]
-struct Name {
-    text: ArrayVec<u8, 32>,
+pub(crate) struct Name {
+    text: [u8; 32],
+    len: usize,
 }
 
 impl Model for Name {
-    ghost use Rattle.std.specs.Prelude.{List, ℕ};
+    ghost use Rattle.std.specs.Prelude.{List, ℕ, ◌≤◌, take};
 
     ghost Value = { List ℕ };
 
-    ghost view = { λ n. n.text.items };
+    ghost view = { λ n. take n.len n.text };
+
+    ghost invariant = { λ n. n.len ≤ 32 };
 }
 
 impl Name {
@@ -26,16 +29,30 @@ impl Name {
         requires { length bytes.now ≤ 32 }
         ensures { result ≡ bytes.now }
     {
-        let mut text = ArrayVec::new();
-        let _ = text.try_extend_from_slice(bytes);
-        Name { text }
+        let mut text = [0; 32];
+        text[..bytes.len()].copy_from_slice(bytes);
+        Name {
+            text,
+            len: bytes.len(),
+        }
     }
 
     fn bytes(&self) -> &[u8]
         ensures value { result.now ≡ self.now }
         ensures short { length result.now ≤ 32 }
     {
-        self.text.as_slice()
+        &self.text[..self.len]
+    }
+
+    // Puts the name at a place with room for any name, and answers the place behind it.
+    #[inline(always)]
+    pub(crate) fn place(&self, buf: &mut [u8], at: usize) -> usize
+        requires { at + 32 ≤ length buf.old }
+        ensures placed { Placed buf.old buf.new at self.now result }
+        ensures within { result ≤ at + 32 }
+    {
+        buf[at..at + 32].copy_from_slice(&self.text);
+        at + self.len
     }
 }
 
@@ -82,7 +99,14 @@ impl Names {
         ensures value { result.now ≡ name_at self.now t }
         ensures short { length result.now ≤ 32 }
     {
-        let name = &self.list[t.get() as usize];
-        name.bytes()
+        self.name(t).bytes()
+    }
+
+    #[inline(always)]
+    pub(crate) fn name(&self, t: Tid) -> &Name
+        requires { t < length self.now }
+        ensures { result.now ≡ name_at self.now t }
+    {
+        &self.list[t.get() as usize]
     }
 }

@@ -1,0 +1,7 @@
+use Rattle.std.proofs.lemmas.Fmt.{decimal_digit}
+use Rattle.pse52_trace.proofs.Placed.{placed_then}
+use Rattle.pse52_trace.proofs.place.place_number.Goals as goal
+
+pub returns-then-n-lt10-clause-placed : goal.returns-then-n-lt10-clause-placed
+returns-then-n-lt10-clause-placed c =
+    rw (decimal_digit c.args.n c.if-n-lt10.true) (placed_then c.place_byte-at.ensures c.place_byte.ensures)

@@ -1,0 +1,18 @@
+-- Writes at places of one buffer. This project's own.
+use Rattle.std.specs.Prelude.{◌≡◌, ℕ, ◌+◌, List, [], ◌∷◌, ◌++◌, length, take}
+
+-- the new buffer has these bytes behind the first `at` bytes of the old one, up to `end`
+pub record Placed (old new : List ℕ) (at : ℕ) (bytes : List ℕ) (end : ℕ) : Type 0 where
+  pub front : take end new ≡ take at old ++ bytes
+  pub moved : end ≡ at + length bytes
+  pub same : length new ≡ length old
+
+-- a blank before each word
+abbrev pub blanks_before : List (List ℕ) → List ℕ
+blanks_before [] = []
+blanks_before (word ∷ words) = 32 ∷ word ++ blanks_before words
+
+-- a blank before each word, and a line end behind the last
+abbrev pub words_behind : List (List ℕ) → List ℕ
+words_behind [] = 10 ∷ []
+words_behind (word ∷ words) = 32 ∷ word ++ words_behind words
