@@ -5,9 +5,10 @@ use Rattle.std.specs.List.{list_all}
 use Rattle.script_lex.proofs.Rejoined.{both}
 use Rattle.script_table.specs.declared.form.Form.{Form}
 use Rattle.script_table.specs.declared.form.Form.TheVariants as form
-use Rattle.script_table.specs.declared.pattern.NameKind.{NameKind}
-use Rattle.script_table.specs.declared.pattern.NameKind.TheVariants as kind
-use Rattle.script_table.specs.Patterns.{Spot, Declares, Uses, Row, same_kind}
+use Rattle.script_tree.specs.declared.name_kind.NameKind.{NameKind}
+use Rattle.script_tree.specs.declared.name_kind.NameKind.TheVariants as kind
+use Rattle.script_tree.specs.Kinds.{same_kind}
+use Rattle.script_table.specs.Patterns.{Spot, Declares, Uses, Row}
 use Rattle.script_table.specs.LineFaults.{stands, fits}
 use Rattle.script_table.specs.Structure.{body_kind}
 use Rattle.script_table.specs.Ranges.{object_kind}

@@ -9,16 +9,16 @@ use Rattle.script_table.specs.declared.form.Form.{Form}
 use Rattle.script_table.specs.declared.form.Form.TheVariants as form
 use Rattle.script_table.specs.declared.pattern.Closer.{Closer}
 use Rattle.script_table.specs.declared.pattern.Closer.TheVariants as closer
-use Rattle.script_table.specs.declared.pattern.NameKind.{NameKind}
-use Rattle.script_table.specs.declared.pattern.NameKind.TheVariants as kind
+use Rattle.script_tree.specs.declared.name_kind.NameKind.{NameKind}
+use Rattle.script_tree.specs.declared.name_kind.NameKind.TheVariants as kind
 use Rattle.script_table.specs.Faults.{faults_at, when}
-use Rattle.script_table.specs.Patterns.{Spot, Keyword, Answer, Number, Operand, Declares, Uses, Signal, Acts, Signals, same_kind}
+use Rattle.script_tree.specs.Kinds.{same_kind}
+use Rattle.script_table.specs.Patterns.{Spot, Keyword, Answer, Number, Operand, Declares, Uses, Signal, Acts, Signals}
 use Rattle.script_table.specs.LineFaults.{stands, fits, place_faults}
 use Rattle.script_table.specs.Structure.{Said, closer_of, closed_by}
 use Rattle.script_table.specs.Ranges.{Tally, entered, left, tallied, is_over, is_too_many, range_faults, range_fault, server_faults, phase_three}
 use Rattle.script_table.specs.Names.{Counts, no_counts, counted, count_of, counts_from, Entry, entry_of, with_name, Declared, nothing_declared, with_declaration, declared_at, declared_from, duplicate, name_fault, name_faults, phase_two}
 use Rattle.script_table.specs.Build.{Built, after, built_from, nothing_built}
-use Rattle.script_text.specs.declared.names.Sort.{Sort}
 use Rattle.script_text.specs.Names.{names_of}
 use Rattle.canonical_law.proofs.Places.{both_none}
 use Rattle.canonical_law.proofs.Kept.{none_first}
@@ -28,7 +28,6 @@ use Rattle.canonical_law.proofs.Names.{Rises}
 use Rattle.canonical_law.proofs.Declares.{declared_kind, no_uses, by_kind, names_after, declared_names}
 use Rattle.canonical_law.proofs.Forms.{places_of}
 use Rattle.canonical_law.proofs.Shape.{first, rest}
-use Rattle.canonical_law.proofs.Shown.{sort_for}
 use Rattle.canonical_law.proofs.Sound.{Sound}
 use Rattle.canonical_law.proofs.Spelled.{AllGive, all_shown}
 use Rattle.canonical_law.proofs.Rebuilt.{SoundSaid, AllSound}
@@ -157,39 +156,39 @@ has_room t (form.Block f) e = tt
 has_room t (form.Close f) e = tt
 
 -- what is known of the names so far: of their numbers, of how many they are, and of the names of what is built
-pub record Known (es : List Entry) (c : Counts) (n : ℕ) (so_far : Sort → List (List ℕ)) : Type 0 where
+pub record Known (es : List Entry) (c : Counts) (n : ℕ) (so_far : NameKind → List (List ℕ)) : Type 0 where
   pub numbered : AreNumbered no_counts es
   pub counts : c ≡ counts_from no_counts es
   pub few : AreFew c
-  pub names : (sort : Sort) → so_far sort ≡ names_in sort es
+  pub names : (wanted : NameKind) → so_far wanted ≡ names_in wanted es
   pub before : AllBefore n es
 
-known_more : (es : List Entry) (c : Counts) (n line : ℕ) (so_far : Sort → List (List ℕ)) (k : Option NameKind) (words : List (List ℕ)) → Known es c n so_far → IsNew es k words → HasRoom c k → n ≤ line
-    → Known (names_after es line k words) (count_with c k) (line + 1) (λ sort. so_far sort ++ kind_names sort k words)
+known_more : (es : List Entry) (c : Counts) (n line : ℕ) (so_far : NameKind → List (List ℕ)) (k : Option NameKind) (words : List (List ℕ)) → Known es c n so_far → IsNew es k words → HasRoom c k → n ≤ line
+    → Known (names_after es line k words) (count_with c k) (line + 1) (λ wanted. so_far wanted ++ kind_names wanted k words)
 known_more es c n line so_far None words known new room h =
     record {
       numbered = known.numbered;
       counts = known.counts;
       few = known.few;
-      names = λ sort. append-nil (so_far sort) ∙ known.names sort;
+      names = λ wanted. append-nil (so_far wanted) ∙ known.names wanted;
       before = before_later n (line + 1) es (omega (arith, h)) known.before;
     }
 known_more es c n line so_far (Some k) words known new room h =
     let word : List ℕ = first (rest words) in
     let e : Entry = record { name = word; kind = k; line = line; number = count_of (counts_from no_counts es) k } in
     let grown : with_name es line k word ≡ es ++ e ∷ [] = rw new refl in
-    subst (λ xs. Known xs (counted c k) (line + 1) (λ sort. so_far sort ++ kind_names sort (Some k) words)) (sym grown)
+    subst (λ xs. Known xs (counted c k) (line + 1) (λ wanted. so_far wanted ++ kind_names wanted (Some k) words)) (sym grown)
     (record {
       numbered = numbered_more no_counts es e known.numbered refl;
       counts = ap (λ x. counted x k) known.counts ∙ sym (counts_more no_counts es e);
       few = few_more c k known.few room;
-      names = λ sort. ap (λ x. x ++ kind_names sort (Some k) words) (known.names sort) ∙ sym (names_more sort es e);
+      names = λ wanted. ap (λ x. x ++ kind_names wanted (Some k) words) (known.names wanted) ∙ sym (names_more wanted es e);
       before = before_more (line + 1) es e (before_later n (line + 1) es (omega (arith, h)) known.before) (omega arith);
     })
 
-known_as : (es xs : List Entry) (c x : Counts) (n : ℕ) (so_far names : Sort → List (List ℕ)) → xs ≡ es → x ≡ c → ((sort : Sort) → names sort ≡ so_far sort) → Known es c n so_far → Known xs x n names
+known_as : (es xs : List Entry) (c x : Counts) (n : ℕ) (so_far names : NameKind → List (List ℕ)) → xs ≡ es → x ≡ c → ((wanted : NameKind) → names wanted ≡ so_far wanted) → Known es c n so_far → Known xs x n names
 known_as es xs c x n so_far names p q r known =
-    let one : Known es c n names = record { numbered = known.numbered; counts = known.counts; few = known.few; names = λ sort. r sort ∙ known.names sort; before = known.before } in
+    let one : Known es c n names = record { numbered = known.numbered; counts = known.counts; few = known.few; names = λ wanted. r wanted ∙ known.names wanted; before = known.before } in
     subst (λ y. Known y x n names) (sym p) (subst (λ y. Known es y n names) (sym q) one)
 
 nothing_gives : AllGive [] []
@@ -252,15 +251,15 @@ fits_row s sound = subst (λ places. fits places s.words ≡ true) (sym sound.pl
 pub record AllKnown (es : List Entry) (ds : List Decl) : Type 0 where
   pub numbered : AreNumbered no_counts es
   pub few : (kind : NameKind) → count_of (counts_from no_counts es) kind ≤ most_of kind
-  pub names : (kind : NameKind) → names_of (sort_for kind) ds ≡ names_in (sort_for kind) es
+  pub names : (kind : NameKind) → names_of kind ds ≡ names_in kind es
 
-pub known_names : (es : List Entry) (ss : List Said) (d : Declared) (t : Tally) (b : Built) (n m : ℕ) → Known d.names t.counts n (λ sort. names_so_far sort b)
+pub known_names : (es : List Entry) (ss : List Said) (d : Declared) (t : Tally) (b : Built) (n m : ℕ) → Known d.names t.counts n (λ wanted. names_so_far wanted b)
     → AllSound ss → phase_two (declared_from d ss) ss ≡ [] → phase_three m t ss ≡ [] → Rises n ss → Stack Naming b.blocks → Placed (openings_of b.blocks) ss
     → AllKnown (declared_from d ss).names (built_from es b ss).decls
 known_names es [] d t b n m known sound names limits rises stack placed =
     let none = at_end Naming b.blocks stack placed in
-    let all : (kind : NameKind) → names_of (sort_for kind) b.decls ≡ names_in (sort_for kind) d.names =
-    λ kind. sym (append-nil (names_of (sort_for kind) b.decls)) ∙ (ap (λ bs. names_of (sort_for kind) b.decls ++ open_names (sort_for kind) bs) (sym none) ∙ known.names (sort_for kind)) in
+    let all : (kind : NameKind) → names_of kind b.decls ≡ names_in kind d.names =
+    λ kind. sym (append-nil (names_of kind b.decls)) ∙ (ap (λ bs. names_of kind b.decls ++ open_names kind bs) (sym none) ∙ known.names kind) in
     record {
       numbered = known.numbered;
       few = λ kind. subst (λ c. count_of c kind ≤ most_of kind) known.counts (known.few kind);
@@ -280,9 +279,9 @@ known_names es (s ∷ ss) d t b n m known sound names limits rises stack placed 
     let told = named f s.words kind_places sound.0.sound limit.server in
     let goes = after_goes Naming es b f s.row.bar s.words told stack placed.0 in
     let new = is_new d n s.line (s ∷ ss) k s.row.places s.words declares fit known.before rises.0 fault in
-    let more = known_more d.names t.counts n s.line (λ sort. names_so_far sort b) k s.words known new (has_room t f limit.room) rises.0 in
-    let after_known = known_as (names_after d.names s.line k s.words) next.names (count_with t.counts k) (tallied t f).counts (s.line + 1) (λ sort. names_so_far sort b ++ kind_names sort k s.words) (λ sort. names_so_far sort (after es b s))
-    (declared_names d s.line k s.row.places s.words declares fit) (tallied_counts t f) (λ sort. after_names sort es b f s.row.bar s.words told stack placed.0) more in
+    let more = known_more d.names t.counts n s.line (λ wanted. names_so_far wanted b) k s.words known new (has_room t f limit.room) rises.0 in
+    let after_known = known_as (names_after d.names s.line k s.words) next.names (count_with t.counts k) (tallied t f).counts (s.line + 1) (λ wanted. names_so_far wanted b ++ kind_names wanted k s.words) (λ wanted. names_so_far wanted (after es b s))
+    (declared_names d s.line k s.row.places s.words declares fit) (tallied_counts t f) (λ wanted. after_names wanted es b f s.row.bar s.words told stack placed.0) more in
     known_names es ss next (tallied t f) (after es b s) (s.line + 1) m after_known sound.1 own.1 ranges.1 rises.1 goes.stack (subst (λ os. Placed os ss) (sym goes.openings) placed.1)
 
 -- the numbers of all names give the names back
@@ -293,8 +292,8 @@ give_names es ds known word e found =
     let small = most_of-small e.kind in
     record { small = omega (arith, below, few, small); name = gives_name es ds known.numbered known.names word e found }
 
-pub nothing_known : Known [] no_counts 0 (λ sort. names_so_far sort nothing_built)
-nothing_known = record { numbered = tt; counts = refl; few = none_few; names = λ sort. refl; before = tt } where
+pub nothing_known : Known [] no_counts 0 (λ wanted. names_so_far wanted nothing_built)
+nothing_known = record { numbered = tt; counts = refl; few = none_few; names = λ wanted. refl; before = tt } where
   none_few : AreFew no_counts
   none_few kind.Thread = omega arith
   none_few kind.Mutex = omega arith

@@ -4,10 +4,11 @@ use Rattle.std.specs.Prelude.{nat_lt, ◌&&◌, if◌then◌else◌}
 use Rattle.std.specs.Str.{bytes_eq}
 use Rattle.script_table.specs.declared.fault.FaultKind.{FaultKind}
 use Rattle.script_table.specs.declared.fault.FaultKind.TheVariants.{DuplicateName}
-use Rattle.script_table.specs.declared.pattern.NameKind.{NameKind}
-use Rattle.script_table.specs.declared.pattern.NameKind.TheVariants as kind
+use Rattle.script_tree.specs.declared.name_kind.NameKind.{NameKind}
+use Rattle.script_tree.specs.declared.name_kind.NameKind.TheVariants as kind
 use Rattle.script_table.specs.Faults.{faults_at, fault}
-use Rattle.script_table.specs.Patterns.{Spot, Keyword, Answer, Number, Operand, Declares, Uses, Signal, Acts, Signals, same_kind}
+use Rattle.script_tree.specs.Kinds.{same_kind}
+use Rattle.script_table.specs.Patterns.{Spot, Keyword, Answer, Number, Operand, Declares, Uses, Signal, Acts, Signals}
 use Rattle.script_table.specs.LineFaults.{place_faults}
 use Rattle.script_table.specs.Structure.{Said}
 use Rattle.script_table.specs.Operands.{number_of_kind}

@@ -5,25 +5,24 @@ use Rattle.std.specs.Str.{bytes_eq}
 use Rattle.std.proofs.lemmas.Slice.Eq.{bytes_eq-Decides}
 use Rattle.std.proofs.lemmas.Option.{slice_get_within}
 use Rattle.script_tree.specs.declared.decl.Decl.{Decl}
-use Rattle.script_table.specs.declared.pattern.NameKind.{NameKind}
-use Rattle.script_table.specs.declared.pattern.NameKind.TheVariants as kind
+use Rattle.script_tree.specs.declared.name_kind.NameKind.{NameKind}
+use Rattle.script_tree.specs.declared.name_kind.NameKind.TheVariants as kind
 use Rattle.script_table.specs.Names.{Counts, no_counts, counted, count_of, counts_from, Entry, entry_of}
 use Rattle.script_table.specs.Ranges.{is_over}
-use Rattle.script_text.specs.declared.names.Sort.{Sort}
-use Rattle.script_text.specs.Names.{same_sort, names_of, name_of}
-use Rattle.canonical_law.proofs.Shown.{sort_for}
+use Rattle.script_tree.specs.Kinds.{same_kind}
+use Rattle.script_text.specs.Names.{names_of, name_of}
 
--- the names of a sort, in order of declaration
-abbrev pub names_in : Sort → List Entry → List (List ℕ)
-names_in sort [] = []
-names_in sort (e ∷ es) = if same_sort (sort_for e.kind) sort then e.name ∷ names_in sort es else names_in sort es
+-- the names of a kind, in order of declaration
+abbrev pub names_in : NameKind → List Entry → List (List ℕ)
+names_in wanted [] = []
+names_in wanted (e ∷ es) = if same_kind e.kind wanted then e.name ∷ names_in wanted es else names_in wanted es
 
 -- each number is how many of its kind stand before
 abbrev pub AreNumbered : Counts → List Entry → Type 0
 AreNumbered c [] = Unit {0}
 AreNumbered c (e ∷ es) = (e.number ≡ count_of c e.kind) × AreNumbered (counted c e.kind) es
 
-counted_one : (c : Counts) (a b : NameKind) → count_of (counted c a) b ≡ (if same_sort (sort_for a) (sort_for b) then count_of c b + 1 else count_of c b)
+counted_one : (c : Counts) (a b : NameKind) → count_of (counted c a) b ≡ (if same_kind a b then count_of c b + 1 else count_of c b)
 counted_one c kind.Thread kind.Thread = refl
 counted_one c kind.Mutex kind.Mutex = refl
 counted_one c kind.Cond kind.Cond = refl
@@ -46,17 +45,17 @@ names_case : (b : Bool) (name : List ℕ) (all front back : List (List ℕ)) →
 names_case true name all front back h = ap (λ x. name ∷ x) h
 names_case false name all front back h = h
 
-pub names_more : (sort : Sort) (es : List Entry) (e : Entry) → names_in sort (es ++ e ∷ []) ≡ names_in sort es ++ names_in sort (e ∷ [])
-names_more sort [] e = refl
-names_more sort (x ∷ es) e = names_case (same_sort (sort_for x.kind) sort) x.name (names_in sort (es ++ e ∷ [])) (names_in sort es) (names_in sort (e ∷ [])) (names_more sort es e)
+pub names_more : (wanted : NameKind) (es : List Entry) (e : Entry) → names_in wanted (es ++ e ∷ []) ≡ names_in wanted es ++ names_in wanted (e ∷ [])
+names_more wanted [] e = refl
+names_more wanted (x ∷ es) e = names_case (same_kind x.kind wanted) x.name (names_in wanted (es ++ e ∷ [])) (names_in wanted es) (names_in wanted (e ∷ [])) (names_more wanted es e)
 
 -- what a name that is found has
 record IsAt (c : Counts) (es : List Entry) (word : List ℕ) (e : Entry) : Type 0 where
   at : ℕ
   number : e.number ≡ count_of c e.kind + at
-  name : slice_get (names_in (sort_for e.kind) es) at ≡ Some word
+  name : slice_get (names_in e.kind es) at ≡ Some word
 
-later : (c : Counts) (x : Entry) (es : List Entry) (word : List ℕ) (e : Entry) (b : Bool) → same_sort (sort_for x.kind) (sort_for e.kind) ≡ b → IsAt (counted c x.kind) es word e → IsAt c (x ∷ es) word e
+later : (c : Counts) (x : Entry) (es : List Entry) (word : List ℕ) (e : Entry) (b : Bool) → same_kind x.kind e.kind ≡ b → IsAt (counted c x.kind) es word e → IsAt c (x ∷ es) word e
 later c x es word e true is h =
     let n : count_of (counted c x.kind) e.kind ≡ count_of c e.kind + 1 = counted_one c x.kind e.kind ∙ rw is refl in
     let m = h.number in
@@ -65,18 +64,18 @@ later c x es word e false is h =
     let n : count_of (counted c x.kind) e.kind ≡ count_of c e.kind = counted_one c x.kind e.kind ∙ rw is refl in
     record { at = h.at; number = h.number ∙ ap (λ k. k + h.at) n; name = rw is h.name }
 
-own_sort : (k : NameKind) → same_sort (sort_for k) (sort_for k) ≡ true
-own_sort kind.Thread = refl
-own_sort kind.Mutex = refl
-own_sort kind.Cond = refl
-own_sort kind.Sem = refl
-own_sort kind.Queue = refl
-own_sort kind.Timer = refl
-own_sort kind.Handler = refl
-own_sort kind.Cleanup = refl
+own_kind : (k : NameKind) → same_kind k k ≡ true
+own_kind kind.Thread = refl
+own_kind kind.Mutex = refl
+own_kind kind.Cond = refl
+own_kind kind.Sem = refl
+own_kind kind.Queue = refl
+own_kind kind.Timer = refl
+own_kind kind.Handler = refl
+own_kind kind.Cleanup = refl
 
 here : (c : Counts) (x : Entry) (es : List Entry) (word : List ℕ) → x.number ≡ count_of c x.kind → word ≡ x.name → IsAt c (x ∷ es) word x
-here c x es word number same = record { at = 0; number = omega (arith, number); name = rw (own_sort x.kind) (ap Some (sym same)) }
+here c x es word number same = record { at = 0; number = omega (arith, number); name = rw (own_kind x.kind) (ap Some (sym same)) }
 
 at_case : (b : Bool) (c : Counts) (x : Entry) (es : List Entry) (word : List ℕ) (e : Entry) → bytes_eq word x.name ≡ b → AreNumbered c (x ∷ es) → entry_of (x ∷ es) word ≡ Some e
     → (entry_of es word ≡ Some e → IsAt (counted c x.kind) es word e) → IsAt c (x ∷ es) word e
@@ -86,7 +85,7 @@ at_case true c x es word e is h found rest =
     let name : word ≡ x.name = search (rules, bytes_eq-Decides) in
     subst (λ y. IsAt c (x ∷ es) word y) same (here c x es word h.0 name)
 at_case false c x es word e is h found rest =
-    later c x es word e (same_sort (sort_for x.kind) (sort_for e.kind)) refl (rest (rw is at found))
+    later c x es word e (same_kind x.kind e.kind) refl (rest (rw is at found))
 
 is_at : (c : Counts) (es : List Entry) (word : List ℕ) (e : Entry) → AreNumbered c es → entry_of es word ≡ Some e → IsAt c es word e
 is_at c [] word e h found = absurd (let f : None ≡ Some e = found in cc)
@@ -103,7 +102,7 @@ no_count kind.Handler = refl
 no_count kind.Cleanup = refl
 
 -- a name's number is its place
-at_number : (es : List Entry) → AreNumbered no_counts es → (word : List ℕ) (e : Entry) → entry_of es word ≡ Some e → slice_get (names_in (sort_for e.kind) es) e.number ≡ Some word
+at_number : (es : List Entry) → AreNumbered no_counts es → (word : List ℕ) (e : Entry) → entry_of es word ≡ Some e → slice_get (names_in e.kind es) e.number ≡ Some word
 at_number es h word e found =
     let p = is_at no_counts es word e h found in
     let none : count_of no_counts e.kind ≡ 0 = no_count e.kind in
@@ -111,16 +110,16 @@ at_number es h word e found =
     rw number p.name
 
 -- a name's number gives back the name
-pub gives_name : (es : List Entry) (ds : List Decl) → AreNumbered no_counts es → ((kind : NameKind) → names_of (sort_for kind) ds ≡ names_in (sort_for kind) es)
-    → (word : List ℕ) (e : Entry) → entry_of es word ≡ Some e → name_of ds (sort_for e.kind) e.number ≡ word
+pub gives_name : (es : List Entry) (ds : List Decl) → AreNumbered no_counts es → ((kind : NameKind) → names_of kind ds ≡ names_in kind es)
+    → (word : List ℕ) (e : Entry) → entry_of es word ≡ Some e → name_of ds e.kind e.number ≡ word
 gives_name es ds h names word e found =
     let at = at_number es h word e found in
     rw (names e.kind, at) refl
 
 -- a name's number is below how many of its kind are declared
-pub is_declared : (es : List Entry) (ds : List Decl) → AreNumbered no_counts es → ((kind : NameKind) → names_of (sort_for kind) ds ≡ names_in (sort_for kind) es)
-    → (word : List ℕ) (e : Entry) → entry_of es word ≡ Some e → e.number < length (names_of (sort_for e.kind) ds)
-is_declared es ds h names word e found = rw (names e.kind) (slice_get_within (names_in (sort_for e.kind) es) e.number word (at_number es h word e found))
+pub is_declared : (es : List Entry) (ds : List Decl) → AreNumbered no_counts es → ((kind : NameKind) → names_of kind ds ≡ names_in kind es)
+    → (word : List ℕ) (e : Entry) → entry_of es word ≡ Some e → e.number < length (names_of e.kind ds)
+is_declared es ds h names word e found = rw (names e.kind) (slice_get_within (names_in e.kind es) e.number word (at_number es h word e found))
 
 -- how many names of a kind there may be
 abbrev pub most_of : NameKind → ℕ
@@ -142,14 +141,14 @@ length-names_case : (b : Bool) (name : List ℕ) (names : List (List ℕ)) (n m 
 length-names_case true name names n m e = omega (arith, e)
 length-names_case false name names n m e = e
 
-length-names_in : (c : Counts) (es : List Entry) (k : NameKind) → length (names_in (sort_for k) es) + count_of c k ≡ count_of (counts_from c es) k
+length-names_in : (c : Counts) (es : List Entry) (k : NameKind) → length (names_in k es) + count_of c k ≡ count_of (counts_from c es) k
 length-names_in c [] k = omega arith
 length-names_in c (x ∷ es) k =
-    length-names_case (same_sort (sort_for x.kind) (sort_for k)) x.name (names_in (sort_for k) es) (count_of c k) (count_of (counts_from c (x ∷ es)) k)
-    (subst (λ n. length (names_in (sort_for k) es) + n ≡ count_of (counts_from c (x ∷ es)) k) (counted_one c x.kind k) (length-names_in (counted c x.kind) es k))
+    length-names_case (same_kind x.kind k) x.name (names_in k es) (count_of c k) (count_of (counts_from c (x ∷ es)) k)
+    (subst (λ n. length (names_in k es) + n ≡ count_of (counts_from c (x ∷ es)) k) (counted_one c x.kind k) (length-names_in (counted c x.kind) es k))
 
 -- how many names of a kind are declared
-pub length-names : (es : List Entry) (k : NameKind) → length (names_in (sort_for k) es) ≡ count_of (counts_from no_counts es) k
+pub length-names : (es : List Entry) (k : NameKind) → length (names_in k es) ≡ count_of (counts_from no_counts es) k
 length-names es k =
     let none = no_count k in
     let all = length-names_in no_counts es k in
@@ -162,7 +161,7 @@ grows n false = omega arith
 grows_by : (c : Counts) (es : List Entry) (k : NameKind) → count_of c k ≤ count_of (counts_from c es) k
 grows_by c [] k = omega arith
 grows_by c (x ∷ es) k =
-    let one : count_of c k ≤ count_of (counted c x.kind) k = subst (λ n. count_of c k ≤ n) (sym (counted_one c x.kind k)) (grows (count_of c k) (same_sort (sort_for x.kind) (sort_for k))) in
+    let one : count_of c k ≤ count_of (counted c x.kind) k = subst (λ n. count_of c k ≤ n) (sym (counted_one c x.kind k)) (grows (count_of c k) (same_kind x.kind k)) in
     let more = grows_by (counted c x.kind) es k in
     omega (arith, one, more)
 
@@ -171,7 +170,7 @@ below_case : (b : Bool) (c : Counts) (x : Entry) (es : List Entry) (word : List 
 below_case true c x es word e is h found rest =
     let f : Some x ≡ Some e = rw is at found in
     let same : x ≡ e = cc in
-    let one : count_of (counted c x.kind) x.kind ≡ count_of c x.kind + 1 = counted_one c x.kind x.kind ∙ rw (own_sort x.kind) refl in
+    let one : count_of (counted c x.kind) x.kind ≡ count_of c x.kind + 1 = counted_one c x.kind x.kind ∙ rw (own_kind x.kind) refl in
     let more = grows_by (counted c x.kind) es x.kind in
     let number = h.0 in
     subst (λ y. y.number < count_of (counts_from c (x ∷ es)) y.kind) same (omega (arith, one, more, number))

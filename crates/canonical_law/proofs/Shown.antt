@@ -51,28 +51,15 @@ use Rattle.script_tree.specs.declared.decl.Decl.{Decl}
 use Rattle.script_tree.specs.declared.call.Call.{Call}
 use Rattle.script_tree.specs.declared.call.Operand as operands
 use Rattle.script_table.specs.declared.fault.FaultKind.TheVariants.{ServerRange}
-use Rattle.script_table.specs.declared.pattern.NameKind.{NameKind}
-use Rattle.script_table.specs.declared.pattern.NameKind.TheVariants as kind
+use Rattle.script_tree.specs.declared.name_kind.NameKind.{NameKind}
+use Rattle.script_tree.specs.declared.name_kind.NameKind.TheVariants as kind
 use Rattle.script_table.specs.Faults.{when}
 use Rattle.script_table.specs.Patterns.{greatest}
 use Rattle.script_table.specs.Words.{signal_of, answer_of}
 use Rattle.script_table.specs.Ranges.{is_within, server_faults, word}
-use Rattle.script_text.specs.declared.names.Sort.{Sort}
-use Rattle.script_text.specs.declared.names.Sort.TheVariants as sort
 use Rattle.script_text.specs.Names.{name_of}
 use Rattle.script_text.specs.Words.{operand_word, signal_word, set_word}
 use Rattle.script_text.specs.Canon.{Words, call_words, block_lines, decl_lines, end_words, pop_words}
-
--- the sort of the things of a kind
-abbrev pub sort_for : NameKind → Sort
-sort_for kind.Thread = sort.Thread
-sort_for kind.Mutex = sort.Mutex
-sort_for kind.Cond = sort.Cond
-sort_for kind.Sem = sort.Sem
-sort_for kind.Queue = sort.Queue
-sort_for kind.Timer = sort.Timer
-sort_for kind.Handler = sort.Handler
-sort_for kind.Cleanup = sort.Cleanup
 
 -- an operand that is written as the word that it is read from
 pub record ShowsOperand (word : List ℕ) : Type 0 where
@@ -84,7 +71,7 @@ pub record ShowsOperand (word : List ℕ) : Type 0 where
 pub record ShowsName (es : List Entry) (ds : List Decl) (kind : NameKind) (word : List ℕ) : Type 0 where
   pub number : ℕ
   pub found : number_of_kind kind (entry_of es word) ≡ Some number
-  pub text : name_of ds (sort_for kind) number ≡ word
+  pub text : name_of ds kind number ≡ word
 
 pub record ShowsSignal (word : List ℕ) : Type 0 where
   pub sig : ℕ

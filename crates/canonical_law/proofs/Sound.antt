@@ -6,7 +6,7 @@ use Rattle.script_lex.proofs.Rejoined.{both}
 use Rattle.script_tree.specs.declared.call.Operand.TheVariants.{Num}
 use Rattle.script_table.specs.declared.fault.FaultKind.TheVariants.{NumberRange, BadName}
 use Rattle.script_table.specs.declared.form.Form.{Form}
-use Rattle.script_table.specs.declared.pattern.NameKind.{NameKind}
+use Rattle.script_tree.specs.declared.name_kind.NameKind.{NameKind}
 use Rattle.script_table.specs.Patterns.{Spot, Keyword, Answer, Number, Operand, Declares, Uses, Signal, Acts, Signals, greatest}
 use Rattle.script_table.specs.Words.{value_of, set_of, is_register}
 use Rattle.script_table.specs.LineFaults.{fits, spelling, place_faults}

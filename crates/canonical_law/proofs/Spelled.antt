@@ -15,8 +15,9 @@ use Rattle.script_tree.specs.Names.{is_digit, is_name}
 use Rattle.script_tree.specs.declared.decl.Decl.{Decl}
 use Rattle.script_tree.specs.declared.call.Operand.TheVariants.{Num, Reg}
 use Rattle.script_table.specs.declared.fault.FaultKind.TheVariants.{NumberRange, BadName, UnknownName, WrongKind}
-use Rattle.script_table.specs.declared.pattern.NameKind.{NameKind}
-use Rattle.script_table.specs.Patterns.{Spot, Keyword, Answer, Number, Operand, Declares, Uses, Signal, Acts, Signals, greatest, same_kind}
+use Rattle.script_tree.specs.declared.name_kind.NameKind.{NameKind}
+use Rattle.script_tree.specs.Kinds.{same_kind}
+use Rattle.script_table.specs.Patterns.{Spot, Keyword, Answer, Number, Operand, Declares, Uses, Signal, Acts, Signals, greatest}
 use Rattle.script_table.specs.Words.{value_of, is_register, signal_number, signal_of, set_of, answer_of}
 use Rattle.script_table.specs.LineFaults.{stands, fits, spelling, place_faults}
 use Rattle.script_table.specs.Ranges.{range_fault, is_within}
@@ -28,7 +29,7 @@ use Rattle.canonical_law.proofs.Declares.{same_kind_is}
 use Rattle.canonical_law.proofs.Signals.{all_at}
 use Rattle.canonical_law.proofs.Kept.{IsClean, AreClean, holds, none_first}
 use Rattle.canonical_law.proofs.Shape.{Holds}
-use Rattle.canonical_law.proofs.Shown.{Shows, ShowsOperand, ShowsName, ShowsSignal, ShowsSet, ShowsAnswer, sort_for}
+use Rattle.canonical_law.proofs.Shown.{Shows, ShowsOperand, ShowsName, ShowsSignal, ShowsSet, ShowsAnswer}
 
 abbrev two_signs : ℕ → ℕ → Bool
 two_signs i b = bytes_eq (decimal ((i + 1) * 10 + b)) ((49 + i) ∷ (48 + b) ∷ [])
@@ -140,7 +141,7 @@ operand_shown false word is clean =
 -- what is known of the number of a name
 pub record GivesName (ds : List Decl) (word : List ℕ) (e : Entry) : Type 0 where
   pub small : e.number < 256
-  pub name : name_of ds (sort_for e.kind) e.number ≡ word
+  pub name : name_of ds e.kind e.number ≡ word
 
 abbrev pub AllGive : List Entry → List Decl → Type 0
 AllGive es ds = (word : List ℕ) (e : Entry) → entry_of es word ≡ Some e → GivesName ds word e
@@ -158,7 +159,7 @@ name_shown (Some e) es ds kind word give is fault =
     record {
       number = e.number;
       found = rw (is, same, small) refl;
-      text = ap (λ k. name_of ds (sort_for k) e.number) (sym (same_kind_is e.kind kind same)) ∙ h.name;
+      text = ap (λ k. name_of ds k e.number) (sym (same_kind_is e.kind kind same)) ∙ h.name;
     }
 
 one_shown : (d : Declared) (ds : List Decl) → AllGive d.names ds → (n : ℕ) (spot : Spot) (word : List ℕ) → stands spot word ≡ true → IsClean spot word → name_fault d n spot word ≡ None → Shows d.names ds spot word

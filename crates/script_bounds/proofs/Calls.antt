@@ -20,8 +20,8 @@ use Rattle.script_table.specs.declared.form.SignalCall.{SignalCall}
 use Rattle.script_table.specs.declared.form.SignalCall.TheVariants as signal
 use Rattle.script_table.specs.declared.form.MessageCall.{MessageCall}
 use Rattle.script_table.specs.declared.form.MessageCall.TheVariants as message
-use Rattle.script_table.specs.declared.pattern.NameKind.{NameKind}
-use Rattle.script_table.specs.declared.pattern.NameKind.TheVariants as kind
+use Rattle.script_tree.specs.declared.name_kind.NameKind.{NameKind}
+use Rattle.script_tree.specs.declared.name_kind.NameKind.TheVariants as kind
 use Rattle.script_table.specs.Names.{Entry}
 use Rattle.script_table.specs.Operands.{map_two, number_in, amount_at, priority_at, operand_at, signal_at, signals_at, named_at, fifo_at, rr_at, sporadic_at}
 use Rattle.script_table.specs.Calls.{thread_call, mutex_call, sem_call, time_call, signal_call, message_call, call_of}

@@ -17,7 +17,7 @@ use Rattle.script_table.specs.declared.form.ActionForm.{ActionForm}
 use Rattle.script_table.specs.declared.form.ActionForm.TheVariants as action
 use Rattle.script_table.specs.declared.form.BodyForm.{BodyForm}
 use Rattle.script_table.specs.declared.form.BodyForm.TheVariants as body
-use Rattle.script_table.specs.declared.pattern.NameKind.TheVariants.{Handler}
+use Rattle.script_tree.specs.declared.name_kind.NameKind.TheVariants.{Handler}
 use Rattle.script_table.specs.Names.{Entry}
 use Rattle.script_table.specs.Operands.{map_two, number_in, amount_at, priority_at, signal_at, name_at, named_at, fifo_at, rr_at, sporadic_at}
 use Rattle.script_table.specs.Meaning.{protect, queue, kind_of_object, object_decl, ignores, runs, action_decl, thread_at, thread_dormant, kind_of_body, body_decl}

@@ -21,7 +21,7 @@ use Rattle.script_table.specs.declared.form.ActionForm.{ActionForm}
 use Rattle.script_table.specs.declared.form.ActionForm.TheVariants as action
 use Rattle.script_table.specs.declared.form.BodyForm.{BodyForm}
 use Rattle.script_table.specs.declared.form.BodyForm.TheVariants as body
-use Rattle.script_table.specs.declared.pattern.NameKind.TheVariants as kind
+use Rattle.script_tree.specs.declared.name_kind.NameKind.TheVariants as kind
 use Rattle.script_table.specs.Names.{Entry}
 use Rattle.script_table.specs.Operands.{map_two, number_in, amount_at, priority_at, signal_at, name_at, named_at, fifo_at, rr_at, sporadic_at}
 use Rattle.script_table.specs.Meaning.{protect, queue, kind_of_object, object_decl, runs, ignores, action_decl, thread_at, thread_dormant, body_decl, block_step}

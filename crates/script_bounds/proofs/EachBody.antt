@@ -13,7 +13,7 @@ use Rattle.script_table.specs.declared.form.StepForm.{StepForm}
 use Rattle.script_table.specs.declared.form.StepForm.TheVariants as step
 use Rattle.script_table.specs.declared.form.BlockForm.{BlockForm}
 use Rattle.script_table.specs.declared.form.BlockForm.TheVariants as block
-use Rattle.script_table.specs.declared.pattern.NameKind.TheVariants.{Cleanup}
+use Rattle.script_tree.specs.declared.name_kind.NameKind.TheVariants.{Cleanup}
 use Rattle.script_table.specs.Patterns.{greatest}
 use Rattle.script_table.specs.Names.{Entry}
 use Rattle.script_table.specs.Operands.{number_in, amount_at, answer_at, named_at}

@@ -5,21 +5,20 @@ use Rattle.script_tree.specs.declared.decl.Decl.{Decl}
 use Rattle.script_tree.specs.declared.decl.Decl.TheVariants.{Named, Action}
 use Rattle.script_tree.specs.declared.decl.Kind.TheVariants as kinds
 use Rattle.script_tree.specs.declared.decl.Script.{Script}
-use Rattle.script_table.specs.declared.pattern.NameKind.{NameKind}
+use Rattle.script_tree.specs.declared.name_kind.NameKind.{NameKind}
 use Rattle.script_table.specs.Names.{Entry}
-use Rattle.script_text.specs.declared.names.Sort.TheVariants as sort
+use Rattle.script_tree.specs.declared.name_kind.NameKind.TheVariants as name_kind
 use Rattle.script_text.specs.Names.{names_of}
 use Rattle.machine_rules.specs.Declarations.{declared_thread, named, handler_kind, cleanup_kind, mutex_kind, semaphore_kind, queue_kind, timer_kind}
 use Rattle.machine_flat.specs.KnownCalls.{objects_of}
 use Rattle.canonical_law.proofs.Known.{AllKnown}
 use Rattle.canonical_law.proofs.Numbers.{is_declared, length-names, most_of}
-use Rattle.canonical_law.proofs.Shown.{sort_for}
 use Rattle.script_bounds.proofs.Calls.{objects_by}
 use Rattle.script_bounds.proofs.Operands.{AllBelow}
 
 -- how many names of a kind are declared
 abbrev pub declared_count : List Decl → NameKind → ℕ
-declared_count decls kind = length (names_of (sort_for kind) decls)
+declared_count decls kind = length (names_of kind decls)
 
 pub all_below : (es : List Entry) (decls : List Decl) → AllKnown es decls → AllBelow (declared_count decls) es
 all_below es decls known name e found = is_declared es decls known.numbered known.names name e found
@@ -31,43 +30,43 @@ declared_few es decls known kind =
     let many = length-names es kind in
     rw (known.names kind) (omega (arith, few, many))
 
-threads : (decls : List Decl) → length (names_of sort.Thread decls) ≡ length (filter_map declared_thread decls)
+threads : (decls : List Decl) → length (names_of name_kind.Thread decls) ≡ length (filter_map declared_thread decls)
 threads [] = refl
 threads (Named name (kinds.Thread policy start steps) ∷ decls) = ap suc (threads decls)
 threads (Named name other ∷ decls) = threads decls
 threads (Action sig handler ∷ decls) = threads decls
 
-pub handlers : (decls : List Decl) → length (names_of sort.Handler decls) ≡ length (filter_map (named handler_kind) decls)
+pub handlers : (decls : List Decl) → length (names_of name_kind.Handler decls) ≡ length (filter_map (named handler_kind) decls)
 handlers [] = refl
 handlers (Named name (kinds.Handler steps) ∷ decls) = ap suc (handlers decls)
 handlers (Named name other ∷ decls) = handlers decls
 handlers (Action sig handler ∷ decls) = handlers decls
 
-cleanups : (decls : List Decl) → length (names_of sort.Cleanup decls) ≡ length (filter_map (named cleanup_kind) decls)
+cleanups : (decls : List Decl) → length (names_of name_kind.Cleanup decls) ≡ length (filter_map (named cleanup_kind) decls)
 cleanups [] = refl
 cleanups (Named name (kinds.Cleanup steps) ∷ decls) = ap suc (cleanups decls)
 cleanups (Named name other ∷ decls) = cleanups decls
 cleanups (Action sig handler ∷ decls) = cleanups decls
 
-mutexes : (decls : List Decl) → length (names_of sort.Mutex decls) ≡ length (filter_map (named mutex_kind) decls)
+mutexes : (decls : List Decl) → length (names_of name_kind.Mutex decls) ≡ length (filter_map (named mutex_kind) decls)
 mutexes [] = refl
 mutexes (Named name (kinds.Mutex protocol recursive) ∷ decls) = ap suc (mutexes decls)
 mutexes (Named name other ∷ decls) = mutexes decls
 mutexes (Action sig handler ∷ decls) = mutexes decls
 
-semaphores : (decls : List Decl) → length (names_of sort.Sem decls) ≡ length (filter_map (named semaphore_kind) decls)
+semaphores : (decls : List Decl) → length (names_of name_kind.Sem decls) ≡ length (filter_map (named semaphore_kind) decls)
 semaphores [] = refl
 semaphores (Named name (kinds.Sem value) ∷ decls) = ap suc (semaphores decls)
 semaphores (Named name other ∷ decls) = semaphores decls
 semaphores (Action sig handler ∷ decls) = semaphores decls
 
-pub queues : (decls : List Decl) → length (names_of sort.Queue decls) ≡ length (filter_map (named queue_kind) decls)
+pub queues : (decls : List Decl) → length (names_of name_kind.Queue decls) ≡ length (filter_map (named queue_kind) decls)
 queues [] = refl
 queues (Named name (kinds.Queue depth longest nonblock) ∷ decls) = ap suc (queues decls)
 queues (Named name other ∷ decls) = queues decls
 queues (Action sig handler ∷ decls) = queues decls
 
-pub timers : (decls : List Decl) → length (names_of sort.Timer decls) ≡ length (filter_map (named timer_kind) decls)
+pub timers : (decls : List Decl) → length (names_of name_kind.Timer decls) ≡ length (filter_map (named timer_kind) decls)
 timers [] = refl
 timers (Named name (kinds.Timer sig value) ∷ decls) = ap suc (timers decls)
 timers (Named name other ∷ decls) = timers decls

@@ -7,8 +7,9 @@ use Rattle.script_lex.proofs.Rejoined.{both}
 use Rattle.tick_num.specs.Parameters.{Parameters}
 use Rattle.script_tree.specs.declared.call.Operand.TheVariants.{Num, Reg}
 use Rattle.script_tree.specs.declared.policy.Policy.TheVariants.{Fifo, Rr, Sporadic}
-use Rattle.script_table.specs.declared.pattern.NameKind.{NameKind}
-use Rattle.script_table.specs.Patterns.{same_kind, greatest}
+use Rattle.script_tree.specs.declared.name_kind.NameKind.{NameKind}
+use Rattle.script_tree.specs.Kinds.{same_kind}
+use Rattle.script_table.specs.Patterns.{greatest}
 use Rattle.script_table.specs.Words.{value_of, is_register}
 use Rattle.script_table.specs.Ranges.{word, is_within}
 use Rattle.script_table.specs.Names.{Entry, entry_of}

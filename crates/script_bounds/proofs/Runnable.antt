@@ -9,7 +9,7 @@ use Rattle.script_tree.specs.declared.decl.Script.{Script}
 use Rattle.script_table.specs.declared.form.BlockForm.{BlockForm}
 use Rattle.script_table.specs.declared.form.BlockForm.TheVariants as block
 use Rattle.script_table.specs.declared.form.CallForm.{CallForm}
-use Rattle.script_table.specs.declared.pattern.NameKind.TheVariants.{Cleanup, Handler, Queue, Timer}
+use Rattle.script_tree.specs.declared.name_kind.NameKind.TheVariants.{Cleanup, Handler, Queue, Timer}
 use Rattle.script_table.specs.Structure.{Said}
 use Rattle.script_table.specs.Table.{patterns}
 use Rattle.script_table.specs.Names.{Entry, declared}

@@ -17,7 +17,7 @@ use Rattle.script_table.specs.declared.form.SignalCall.{SignalCall}
 use Rattle.script_table.specs.declared.form.SignalCall.TheVariants as signal
 use Rattle.script_table.specs.declared.form.MessageCall.{MessageCall}
 use Rattle.script_table.specs.declared.form.MessageCall.TheVariants as message
-use Rattle.script_table.specs.declared.pattern.NameKind.TheVariants.{Thread, Mutex, Cond, Sem, Queue, Timer}
+use Rattle.script_tree.specs.declared.name_kind.NameKind.TheVariants.{Thread, Mutex, Cond, Sem, Queue, Timer}
 use Rattle.script_table.specs.Names.{Entry}
 use Rattle.script_table.specs.Operands.{map_two, map_three, map_four, map_five, number_in, amount_at, priority_at, operand_at, signal_at, signals_at, named_at, fifo_at, rr_at, sporadic_at}
 

@@ -23,7 +23,7 @@ use Rattle.script_table.specs.declared.form.BlockForm.{BlockForm}
 use Rattle.script_table.specs.declared.form.BlockForm.TheVariants as block
 use Rattle.script_table.specs.declared.form.CloseForm.{CloseForm}
 use Rattle.script_table.specs.declared.form.CloseForm.TheVariants as close
-use Rattle.script_table.specs.declared.pattern.NameKind.TheVariants.{Handler, Cleanup}
+use Rattle.script_tree.specs.declared.name_kind.NameKind.TheVariants.{Handler, Cleanup}
 use Rattle.script_table.specs.Patterns.{greatest}
 use Rattle.script_table.specs.Names.{Entry}
 use Rattle.script_table.specs.Operands.{map_two, number_in, amount_at, priority_at, answer_at, signal_at, name_at, named_at, fifo_at, rr_at, sporadic_at}

@@ -8,9 +8,10 @@ use Rattle.script_tree.specs.declared.policy.Policy.{Policy}
 use Rattle.script_tree.specs.declared.policy.Policy.TheVariants.{Fifo, Rr, Sporadic}
 use Rattle.script_tree.specs.declared.call.Operand.{Operand}
 use Rattle.script_tree.specs.declared.call.Operand.TheVariants.{Num, Reg}
-use Rattle.script_table.specs.declared.pattern.NameKind.{NameKind}
+use Rattle.script_tree.specs.declared.name_kind.NameKind.{NameKind}
 use Rattle.script_table.specs.Words.{value_of, is_register, signal_of, set_of, answer_of}
-use Rattle.script_table.specs.Patterns.{same_kind, greatest}
+use Rattle.script_tree.specs.Kinds.{same_kind}
+use Rattle.script_table.specs.Patterns.{greatest}
 use Rattle.script_table.specs.Names.{Entry, entry_of}
 use Rattle.script_table.specs.Ranges.{word, is_within}
 

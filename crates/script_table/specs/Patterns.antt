@@ -1,7 +1,8 @@
 -- Patterns of lines: keywords and operand places. The script language is this project's own.
 use Rattle.std.specs.Prelude.{ℕ, ◌^◌, ◌==◌, Bool, true, false, List, ◌++◌, map}
-use Rattle.script_table.specs.declared.pattern.NameKind.{NameKind}
-use Rattle.script_table.specs.declared.pattern.NameKind.TheVariants as kind
+use Rattle.script_tree.specs.Kinds.{same_kind}
+use Rattle.script_tree.specs.declared.name_kind.NameKind.{NameKind}
+use Rattle.script_tree.specs.declared.name_kind.NameKind.TheVariants as kind
 use Rattle.script_table.specs.declared.pattern.Closer.{Closer}
 use Rattle.script_table.specs.declared.pattern.Closer.TheVariants as closer
 use Rattle.script_table.specs.declared.pattern.Bar.{Bar}
@@ -51,20 +52,6 @@ rows_of t = map row_of t.declarations.now ++ (map row_of t.steps.now ++ map row_
 -- the greatest number of a script
 abbrev pub greatest : ℕ
 greatest = 10 ^ 18
-
--- numbers that tell kinds apart
-abbrev pub kind_number : NameKind → ℕ
-kind_number kind.Thread = 0
-kind_number kind.Mutex = 1
-kind_number kind.Cond = 2
-kind_number kind.Sem = 3
-kind_number kind.Queue = 4
-kind_number kind.Timer = 5
-kind_number kind.Handler = 6
-kind_number kind.Cleanup = 7
-
-abbrev pub same_kind : NameKind → NameKind → Bool
-same_kind a b = kind_number a == kind_number b
 
 abbrev pub same_closer : Closer → Closer → Bool
 same_closer closer.End closer.End = true

@@ -14,6 +14,7 @@ pub use form::{
     SemCall, SignalCall, StepForm, ThreadCall, TimeCall,
 };
 pub use line::{any_agrees, pattern_of, spelling_fault};
-pub use pattern::{Bar, Closer, NameKind, Opening, Pattern, Place, Table};
+pub use pattern::{Bar, Closer, Opening, Pattern, Place, Table};
+pub use script_tree::NameKind;
 pub use table::patterns;
 pub use word::{answer_of, capped_value, is_number, is_register, set_of, signal_of};

@@ -1,18 +1,6 @@
 // Patterns of lines.
 use crate::Form;
-
-/// What a name may stand for.
-#[derive(Clone, Copy)]
-pub enum NameKind {
-    Thread,
-    Mutex,
-    Cond,
-    Sem,
-    Queue,
-    Timer,
-    Handler,
-    Cleanup,
-}
+use script_tree::NameKind;
 
 /// The word that closes a block.
 #[derive(Clone, Copy)]

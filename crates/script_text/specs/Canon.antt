@@ -15,7 +15,7 @@ use Rattle.script_tree.specs.declared.decl.Kind.TheVariants as kind
 use Rattle.script_tree.specs.declared.decl.Script.{Script}
 use Rattle.script_tree.specs.Block.{Block, Nothing, Running, Making, Setting, Adding, Taking, Testing, Looping, Guarding}
 use Rattle.script_lex.specs.Joined.{joined_words, joined_lines}
-use Rattle.script_text.specs.declared.names.Sort.TheVariants as sort
+use Rattle.script_tree.specs.declared.name_kind.NameKind.TheVariants as name_kind
 use Rattle.script_text.specs.Names.{name_of}
 use Rattle.script_text.specs.Words.{operand_word, signal_word, set_word}
 
@@ -36,51 +36,51 @@ start_words None = codes "dormant" ∷ []
 -- a call: its word, and its operands in their order
 abbrev pub call_words : List Decl → Call → Words
 call_words decls call.Yield = codes "yield" ∷ []
-call_words decls (call.Create t) = codes "create" ∷ name_of decls sort.Thread t ∷ []
-call_words decls (call.Join t) = codes "join" ∷ name_of decls sort.Thread t ∷ []
-call_words decls (call.Cancel t) = codes "cancel" ∷ name_of decls sort.Thread t ∷ []
+call_words decls (call.Create t) = codes "create" ∷ name_of decls name_kind.Thread t ∷ []
+call_words decls (call.Join t) = codes "join" ∷ name_of decls name_kind.Thread t ∷ []
+call_words decls (call.Cancel t) = codes "cancel" ∷ name_of decls name_kind.Thread t ∷ []
 call_words decls call.Testcancel = codes "testcancel" ∷ []
 call_words decls (call.Setcancel true) = codes "setcancel" ∷ codes "enable" ∷ []
 call_words decls (call.Setcancel false) = codes "setcancel" ∷ codes "disable" ∷ []
-call_words decls (call.Push u) = codes "push" ∷ name_of decls sort.Cleanup u ∷ []
+call_words decls (call.Push u) = codes "push" ∷ name_of decls name_kind.Cleanup u ∷ []
 call_words decls (call.Pop true) = codes "pop" ∷ codes "1" ∷ []
 call_words decls (call.Pop false) = codes "pop" ∷ codes "0" ∷ []
 call_words decls (call.Exit v) = codes "exit" ∷ operand_word v ∷ []
-call_words decls (call.Setprio t p) = codes "setprio" ∷ name_of decls sort.Thread t ∷ decimal p ∷ []
-call_words decls (call.Setsched t p) = codes "setsched" ∷ name_of decls sort.Thread t ∷ policy_words p
-call_words decls (call.Lock m) = codes "lock" ∷ name_of decls sort.Mutex m ∷ []
-call_words decls (call.Timedlock m at) = codes "timedlock" ∷ name_of decls sort.Mutex m ∷ operand_word at ∷ []
-call_words decls (call.Trylock m) = codes "trylock" ∷ name_of decls sort.Mutex m ∷ []
-call_words decls (call.Unlock m) = codes "unlock" ∷ name_of decls sort.Mutex m ∷ []
-call_words decls (call.Wait c m) = codes "wait" ∷ name_of decls sort.Cond c ∷ name_of decls sort.Mutex m ∷ []
-call_words decls (call.Timedwait c m at) = codes "timedwait" ∷ name_of decls sort.Cond c ∷ name_of decls sort.Mutex m ∷ operand_word at ∷ []
-call_words decls (call.Signal c) = codes "signal" ∷ name_of decls sort.Cond c ∷ []
-call_words decls (call.Broadcast c) = codes "broadcast" ∷ name_of decls sort.Cond c ∷ []
-call_words decls (call.SemWait s) = codes "sem_wait" ∷ name_of decls sort.Sem s ∷ []
-call_words decls (call.SemTimedwait s at) = codes "sem_timedwait" ∷ name_of decls sort.Sem s ∷ operand_word at ∷ []
-call_words decls (call.SemTrywait s) = codes "sem_trywait" ∷ name_of decls sort.Sem s ∷ []
-call_words decls (call.SemGetvalue s) = codes "sem_getvalue" ∷ name_of decls sort.Sem s ∷ []
-call_words decls (call.SemPost s) = codes "sem_post" ∷ name_of decls sort.Sem s ∷ []
+call_words decls (call.Setprio t p) = codes "setprio" ∷ name_of decls name_kind.Thread t ∷ decimal p ∷ []
+call_words decls (call.Setsched t p) = codes "setsched" ∷ name_of decls name_kind.Thread t ∷ policy_words p
+call_words decls (call.Lock m) = codes "lock" ∷ name_of decls name_kind.Mutex m ∷ []
+call_words decls (call.Timedlock m at) = codes "timedlock" ∷ name_of decls name_kind.Mutex m ∷ operand_word at ∷ []
+call_words decls (call.Trylock m) = codes "trylock" ∷ name_of decls name_kind.Mutex m ∷ []
+call_words decls (call.Unlock m) = codes "unlock" ∷ name_of decls name_kind.Mutex m ∷ []
+call_words decls (call.Wait c m) = codes "wait" ∷ name_of decls name_kind.Cond c ∷ name_of decls name_kind.Mutex m ∷ []
+call_words decls (call.Timedwait c m at) = codes "timedwait" ∷ name_of decls name_kind.Cond c ∷ name_of decls name_kind.Mutex m ∷ operand_word at ∷ []
+call_words decls (call.Signal c) = codes "signal" ∷ name_of decls name_kind.Cond c ∷ []
+call_words decls (call.Broadcast c) = codes "broadcast" ∷ name_of decls name_kind.Cond c ∷ []
+call_words decls (call.SemWait s) = codes "sem_wait" ∷ name_of decls name_kind.Sem s ∷ []
+call_words decls (call.SemTimedwait s at) = codes "sem_timedwait" ∷ name_of decls name_kind.Sem s ∷ operand_word at ∷ []
+call_words decls (call.SemTrywait s) = codes "sem_trywait" ∷ name_of decls name_kind.Sem s ∷ []
+call_words decls (call.SemGetvalue s) = codes "sem_getvalue" ∷ name_of decls name_kind.Sem s ∷ []
+call_words decls (call.SemPost s) = codes "sem_post" ∷ name_of decls name_kind.Sem s ∷ []
 call_words decls (call.Nanosleep n) = codes "nanosleep" ∷ decimal n ∷ []
 call_words decls (call.ClockNanosleep at) = codes "clock_nanosleep" ∷ operand_word at ∷ []
 call_words decls call.Gettime = codes "gettime" ∷ []
-call_words decls (call.TimerSettimeRel k first every) = codes "timer_settime" ∷ name_of decls sort.Timer k ∷ codes "rel" ∷ decimal first ∷ decimal every ∷ []
-call_words decls (call.TimerSettimeAbs k at every) = codes "timer_settime" ∷ name_of decls sort.Timer k ∷ codes "abs" ∷ operand_word at ∷ decimal every ∷ []
-call_words decls (call.TimerGettime k) = codes "timer_gettime" ∷ name_of decls sort.Timer k ∷ []
-call_words decls (call.TimerGetoverrun k) = codes "timer_getoverrun" ∷ name_of decls sort.Timer k ∷ []
+call_words decls (call.TimerSettimeRel k first every) = codes "timer_settime" ∷ name_of decls name_kind.Timer k ∷ codes "rel" ∷ decimal first ∷ decimal every ∷ []
+call_words decls (call.TimerSettimeAbs k at every) = codes "timer_settime" ∷ name_of decls name_kind.Timer k ∷ codes "abs" ∷ operand_word at ∷ decimal every ∷ []
+call_words decls (call.TimerGettime k) = codes "timer_gettime" ∷ name_of decls name_kind.Timer k ∷ []
+call_words decls (call.TimerGetoverrun k) = codes "timer_getoverrun" ∷ name_of decls name_kind.Timer k ∷ []
 call_words decls (call.Kill sig) = codes "kill" ∷ signal_word sig ∷ []
-call_words decls (call.Tkill t sig) = codes "tkill" ∷ name_of decls sort.Thread t ∷ signal_word sig ∷ []
+call_words decls (call.Tkill t sig) = codes "tkill" ∷ name_of decls name_kind.Thread t ∷ signal_word sig ∷ []
 call_words decls (call.Sigqueue sig v) = codes "sigqueue" ∷ signal_word sig ∷ operand_word v ∷ []
 call_words decls (call.SigmaskBlock set) = codes "sigmask" ∷ codes "block" ∷ set_word set ∷ []
 call_words decls (call.SigmaskUnblock set) = codes "sigmask" ∷ codes "unblock" ∷ set_word set ∷ []
 call_words decls (call.SigmaskSet set) = codes "sigmask" ∷ codes "set" ∷ set_word set ∷ []
 call_words decls (call.Sigwaitinfo set) = codes "sigwaitinfo" ∷ set_word set ∷ []
 call_words decls (call.Sigtimedwait set n) = codes "sigtimedwait" ∷ set_word set ∷ decimal n ∷ []
-call_words decls (call.MqSend q len prio v) = codes "mq_send" ∷ name_of decls sort.Queue q ∷ decimal len ∷ decimal prio ∷ operand_word v ∷ []
-call_words decls (call.MqTimedsend q len prio v at) = codes "mq_timedsend" ∷ name_of decls sort.Queue q ∷ decimal len ∷ decimal prio ∷ operand_word v ∷ operand_word at ∷ []
-call_words decls (call.MqReceive q) = codes "mq_receive" ∷ name_of decls sort.Queue q ∷ []
-call_words decls (call.MqTimedreceive q at) = codes "mq_timedreceive" ∷ name_of decls sort.Queue q ∷ operand_word at ∷ []
-call_words decls (call.MqNotify q sig v) = codes "mq_notify" ∷ name_of decls sort.Queue q ∷ signal_word sig ∷ operand_word v ∷ []
+call_words decls (call.MqSend q len prio v) = codes "mq_send" ∷ name_of decls name_kind.Queue q ∷ decimal len ∷ decimal prio ∷ operand_word v ∷ []
+call_words decls (call.MqTimedsend q len prio v at) = codes "mq_timedsend" ∷ name_of decls name_kind.Queue q ∷ decimal len ∷ decimal prio ∷ operand_word v ∷ operand_word at ∷ []
+call_words decls (call.MqReceive q) = codes "mq_receive" ∷ name_of decls name_kind.Queue q ∷ []
+call_words decls (call.MqTimedreceive q at) = codes "mq_timedreceive" ∷ name_of decls name_kind.Queue q ∷ operand_word at ∷ []
+call_words decls (call.MqNotify q sig v) = codes "mq_notify" ∷ name_of decls name_kind.Queue q ∷ signal_word sig ∷ operand_word v ∷ []
 
 -- the lines of steps that have no block
 abbrev pub run_words : ℕ → Words
@@ -107,7 +107,7 @@ loop_words None = codes "forever" ∷ []
 
 -- the lines that open and close a guarded block
 abbrev pub push_words : List Decl → ℕ → Words
-push_words decls u = codes "push" ∷ name_of decls sort.Cleanup u ∷ []
+push_words decls u = codes "push" ∷ name_of decls name_kind.Cleanup u ∷ []
 
 abbrev pub pop_words : Bool → Words
 pop_words true = codes "pop" ∷ codes "1" ∷ []
@@ -152,7 +152,7 @@ kind_lines decls name (kind.Timer sig value) = (codes "timer" ∷ name ∷ signa
 -- what a signal does
 abbrev pub action_words : List Decl → ℕ → Option ℕ → Words
 action_words decls sig None = codes "action" ∷ signal_word sig ∷ codes "ignore" ∷ []
-action_words decls sig (Some h) = codes "action" ∷ signal_word sig ∷ codes "run" ∷ name_of decls sort.Handler h ∷ []
+action_words decls sig (Some h) = codes "action" ∷ signal_word sig ∷ codes "run" ∷ name_of decls name_kind.Handler h ∷ []
 
 -- the lines of a declaration, where decls are all declarations of the script
 abbrev pub decl_lines : List Decl → Decl → List Words

@@ -6,13 +6,12 @@ ghost use Rattle.script_text.specs.Line.{line_text};
 ghost use Rattle.script_text.specs.Canon.{test_words, loop_words, pop_words, end_words, block_lines, text_of};
 ghost use Rattle.script_text.specs.Writes.{Writes};
 
-use crate::Sort;
 use crate::call::call_line;
 use crate::line::Word::{Keyword, Name, Number};
 use crate::line::{Line, line_of};
 use crate::names::object;
 use rt_io::{Failed, Sink};
-use script_tree::{Body, Decl, Step};
+use script_tree::{Body, Decl, NameKind, Step};
 use tick_num::Res;
 
 /// Writes a line at once.
@@ -94,7 +93,7 @@ fn write_step<K: Sink>(sink: &mut K, decls: &[Decl], step: &Step) -> Result<(), 
         }
         Step::Loop { times, body } => write_block(sink, decls, loop_line(*times), body, end_line()),
         Step::Guard { cleanup, body, run } => {
-            let name = Name(object(decls, Sort::Cleanup, *cleanup));
+            let name = Name(object(decls, NameKind::Cleanup, *cleanup));
             let opening = line_of(&[Keyword(b"push"), name]);
             write_block(sink, decls, opening, body, pop_line(*run))
         }

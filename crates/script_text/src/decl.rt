@@ -6,13 +6,12 @@ ghost use Rattle.script_text.specs.Names.{name_of};
 ghost use Rattle.script_text.specs.Canon.{block_lines, policy_words, start_words, protocol_words, flag_words, kind_lines, action_words, decl_lines, text_of, end_words};
 ghost use Rattle.script_text.specs.Writes.{Writes};
 
-use crate::Sort;
 use crate::body::{end_line, write_block, write_line};
 use crate::line::Word::{Keyword, Name, Number, Signal};
 use crate::line::{Line, line_of};
 use crate::names::object;
 use rt_io::{Failed, Sink};
-use script_tree::{Decl, Kind, Policy, Protocol};
+use script_tree::{Decl, Kind, NameKind, Policy, Protocol};
 use tick_num::{ObjId, Params, Prio};
 
 // The line of a SCHED_FIFO or SCHED_RR thread.
@@ -153,7 +152,7 @@ fn action_line(decls: &[Decl], sig: u8, handler: Option<ObjId>) -> Line
     let action = Keyword(b"action");
     match handler {
         Some(h) => {
-            let name = Name(object(decls, Sort::Handler, h));
+            let name = Name(object(decls, NameKind::Handler, h));
             line_of(&[action, Signal(sig), Keyword(b"run"), name])
         }
         None => line_of(&[action, Signal(sig), Keyword(b"ignore")]),

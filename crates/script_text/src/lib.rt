@@ -12,5 +12,4 @@ mod line;
 mod names;
 mod write;
 
-pub use names::Sort;
 pub use write::write_script;

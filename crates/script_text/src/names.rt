@@ -1,54 +1,20 @@
 // The names of threads and objects.
 ghost use Rattle.std.specs.Prelude.{◌≡◌, ◌≤◌, length};
-ghost use Rattle.script_text.specs.Names.{sort_of, same_sort, name_of};
-ghost use Rattle.script_text.specs.declared.names.Sort.TheVariants as sort;
+ghost use Rattle.script_text.specs.Names.{name_of};
+ghost use Rattle.script_tree.specs.declared.name_kind.NameKind.TheVariants as name_kind;
 
-use script_tree::{Decl, Kind};
+use script_tree::{Decl, NameKind};
 use tick_num::{ObjId, Tid};
 
-/// What a name stands for. The things of each sort are numbered by themselves.
-#[derive(Clone, Copy, Debug, PartialEq, Eq)]
-pub enum Sort {
-    Thread,
-    Handler,
-    Cleanup,
-    Mutex,
-    Cond,
-    Sem,
-    Queue,
-    Timer,
-}
-
-fn sort_of(kind: &Kind) -> Sort
-    ensures { result ≡ sort_of kind.now }
-{
-    match kind {
-        Kind::Thread { .. } => Sort::Thread,
-        Kind::Handler { .. } => Sort::Handler,
-        Kind::Cleanup { .. } => Sort::Cleanup,
-        Kind::Mutex { .. } => Sort::Mutex,
-        Kind::Cond => Sort::Cond,
-        Kind::Sem { .. } => Sort::Sem,
-        Kind::Queue { .. } => Sort::Queue,
-        Kind::Timer { .. } => Sort::Timer,
-    }
-}
-
-fn is_of(kind: &Kind, sort: Sort) -> bool
-    ensures { result ≡ same_sort (sort_of kind.now) sort }
-{
-    sort_of(kind) == sort
-}
-
-// The name of what is the k-th of its sort, or nothing where there are fewer.
-fn name_of(decls: &[Decl], sort: Sort, k: u16) -> &[u8]
-    ensures name { result.now ≡ name_of decls.now sort k }
+// The name of what is the k-th of its kind, or nothing where there are fewer.
+fn name_of(decls: &[Decl], of: NameKind, k: u16) -> &[u8]
+    ensures name { result.now ≡ name_of decls.now of k }
     ensures short { length result.now ≤ 32 }
 {
     let mut left = k;
     for decl in decls {
         if let Decl::Named(name, kind) = decl {
-            if is_of(kind, sort) {
+            if kind.name_kind().is_same(of) {
                 if left == 0 {
                     return name.bytes();
                 }
@@ -61,14 +27,14 @@ fn name_of(decls: &[Decl], sort: Sort, k: u16) -> &[u8]
 
 /// The name of a thread.
 pub(crate) fn thread(decls: &[Decl], t: Tid) -> &[u8]
-    ensures name { result.now ≡ name_of decls.now sort.Thread t }
+    ensures name { result.now ≡ name_of decls.now name_kind.Thread t }
     ensures short { length result.now ≤ 32 }
 {
-    name_of(decls, Sort::Thread, t.get())
+    name_of(decls, NameKind::Thread, t.get())
 }
 
-/// The name of an object of this sort.
-pub(crate) fn object(decls: &[Decl], of: Sort, k: ObjId) -> &[u8]
+/// The name of an object of this kind.
+pub(crate) fn object(decls: &[Decl], of: NameKind, k: ObjId) -> &[u8]
     ensures name { result.now ≡ name_of decls.now of k }
     ensures short { length result.now ≤ 32 }
 {

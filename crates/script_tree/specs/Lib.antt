@@ -1,4 +1,5 @@
 pub mod Names
 pub mod Block
+pub mod Kinds
 pub mod Tree
 pub mod Weight

@@ -1,7 +1,7 @@
 // Declarations, and the script.
 ghost use Rattle.std.specs.Prelude.{◌≡◌};
 
-use crate::{Body, Name, Policy, Protocol};
+use crate::{Body, Name, NameKind, Policy, Protocol};
 use std::marker::Model;
 use tick_num::ObjId;
 
@@ -41,6 +41,26 @@ pub enum Kind {
         sig: u8,
         value: u64,
     },
+}
+
+impl Kind {
+    ghost use Rattle.script_tree.specs.Kinds.{kind_of};
+
+    /// The kind alone.
+    pub fn name_kind(&self) -> NameKind
+        ensures { result ≡ kind_of self.now }
+    {
+        match self {
+            Kind::Thread { .. } => NameKind::Thread,
+            Kind::Handler { .. } => NameKind::Handler,
+            Kind::Cleanup { .. } => NameKind::Cleanup,
+            Kind::Mutex { .. } => NameKind::Mutex,
+            Kind::Cond => NameKind::Cond,
+            Kind::Sem { .. } => NameKind::Sem,
+            Kind::Queue { .. } => NameKind::Queue,
+            Kind::Timer { .. } => NameKind::Timer,
+        }
+    }
 }
 
 /// A declaration of a script.

@@ -1,7 +1,7 @@
 -- Counts grow by one at most.
 use Rattle.std.proofs.Common.{◌≡◌, ◌<◌, ℕ, ◌+◌, List, [], ◌∷◌, length, arith, subst, sym}
-use Rattle.script_table.specs.declared.pattern.NameKind.{NameKind}
-use Rattle.script_table.specs.declared.pattern.NameKind.TheVariants as kind
+use Rattle.script_tree.specs.declared.name_kind.NameKind.{NameKind}
+use Rattle.script_tree.specs.declared.name_kind.NameKind.TheVariants as kind
 use Rattle.script_table.specs.declared.pattern.Closer.{Closer}
 use Rattle.script_table.specs.declared.pattern.Closer.TheVariants as closer
 use Rattle.script_table.specs.declared.form.Form.{Form}

@@ -7,7 +7,7 @@ use Rattle.std.specs.Str.{bytes_eq}
 use Rattle.std.specs.Map.{lookup}
 use Rattle.std.proofs.lemmas.Slice.Eq.{bytes_eq-Decides}
 use Rattle.script_table.specs.Names.{Entry, entry_of, with_name, counts_from, counted, count_of, no_counts, Counts}
-use Rattle.script_table.specs.declared.pattern.NameKind.{NameKind}
+use Rattle.script_tree.specs.declared.name_kind.NameKind.{NameKind}
 use Rattle.std.proofs.lemmas.List.{map-append}
 use Rattle.task_script.specs.declared.names.Declaration.{Declaration}
 use Rattle.task_script.specs.NameMap.{entry_named, entry_of_pair}

@@ -4,7 +4,6 @@ pub(crate) mod declared;
 
 ghost use Rattle.std.specs.Prelude.{◌≡◌, ◌==◌, [], IfOk};
 ghost use Rattle.std.specs.Option.{option_map};
-ghost use Rattle.script_table.specs.Patterns.{kind_number, same_kind};
 ghost use Rattle.script_table.specs.Names.{entry_of, with_name, duplicate, used};
 ghost use Rattle.script_table.specs.Operands.{number_of_kind};
 ghost use Rattle.task_script.specs.NameMap.{entry_named};
@@ -14,27 +13,6 @@ use indexmap::IndexMap;
 use script_table::{FaultKind, NameKind};
 use std::alloc::{AllocFailed, Global};
 use std::marker::Model;
-
-fn kind_number(kind: NameKind) -> u8
-    ensures { result ≡ kind_number kind }
-{
-    match kind {
-        NameKind::Thread => 0,
-        NameKind::Mutex => 1,
-        NameKind::Cond => 2,
-        NameKind::Sem => 3,
-        NameKind::Queue => 4,
-        NameKind::Timer => 5,
-        NameKind::Handler => 6,
-        NameKind::Cleanup => 7,
-    }
-}
-
-fn same_kind(a: NameKind, b: NameKind) -> bool
-    ensures { result ≡ same_kind a b }
-{
-    kind_number(a) == kind_number(b)
-}
 
 /// How a name was declared: as what, on which line, and as which of its kind.
 #[derive(Clone, Copy)]
@@ -120,7 +98,7 @@ impl<'a> Names<'a> {
     {
         match self.get(name) {
             None => Some(FaultKind::UnknownName),
-            Some(d) => if same_kind(d.kind, kind) {
+            Some(d) => if d.kind.is_same(kind) {
                 None
             } else {
                 Some(FaultKind::WrongKind)
@@ -134,7 +112,7 @@ impl<'a> Names<'a> {
     {
         match self.get(name) {
             None => None,
-            Some(d) => if same_kind(d.kind, kind) && d.number < 256 {
+            Some(d) => if d.kind.is_same(kind) && d.number < 256 {
                 Some(d.number as u16)
             } else {
                 None

@@ -2,7 +2,7 @@
 ghost use Rattle.std.specs.Prelude.{◌≡◌, ◌≤◌, ◌+◌, ◌^◌, min, [], IfSome};
 ghost use Rattle.script_table.specs.Ranges.{word, capped_number_at, is_within};
 ghost use Rattle.script_table.specs.Operands.{number_in, amount_at, priority_at, operand_at, signal_at, signals_at, answer_at, name_at, named_at, server_of, server_at, fifo_at, rr_at, sporadic_at};
-ghost use Rattle.script_table.specs.declared.pattern.NameKind.TheVariants as kind;
+ghost use Rattle.script_tree.specs.declared.name_kind.NameKind.TheVariants as kind;
 
 use crate::names::Names;
 use crate::{Name, Operand, Policy};

@@ -8,7 +8,7 @@ use Rattle.script_table.specs.declared.form.Form.TheVariants as form
 use Rattle.script_table.specs.declared.form.BlockForm.{BlockForm}
 use Rattle.script_table.specs.declared.form.BlockForm.TheVariants as block
 use Rattle.script_table.specs.declared.form.BodyForm.{BodyForm}
-use Rattle.script_table.specs.declared.pattern.NameKind.{NameKind}
+use Rattle.script_tree.specs.declared.name_kind.NameKind.{NameKind}
 use Rattle.script_table.specs.declared.pattern.Opening.{Opening}
 use Rattle.script_table.specs.declared.pattern.Closer.{Closer}
 use Rattle.script_table.specs.declared.pattern.Closer.TheVariants as closer

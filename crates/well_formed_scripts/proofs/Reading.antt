@@ -20,8 +20,8 @@ use Rattle.script_table.specs.declared.form.StepForm.{StepForm}
 use Rattle.script_table.specs.declared.form.CloseForm.{CloseForm}
 use Rattle.script_table.specs.declared.pattern.Bar.{Bar}
 use Rattle.script_table.specs.declared.pattern.Bar.TheVariants as bar
-use Rattle.script_table.specs.declared.pattern.NameKind.{NameKind}
-use Rattle.script_table.specs.declared.pattern.NameKind.TheVariants as kind
+use Rattle.script_tree.specs.declared.name_kind.NameKind.{NameKind}
+use Rattle.script_tree.specs.declared.name_kind.NameKind.TheVariants as kind
 use Rattle.script_table.specs.declared.pattern.Opening.{Opening}
 use Rattle.script_table.specs.Faults.{Fault, earlier, faults_at, is_before, least, when}
 use Rattle.script_table.specs.LineFaults.{faults_by, fitting_some, place_faults}

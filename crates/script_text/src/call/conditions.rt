@@ -3,32 +3,31 @@ ghost use Rattle.std.specs.Prelude.{◌≡◌, ◌∷◌, [], codes};
 ghost use Rattle.script_text.specs.Line.{line_text};
 ghost use Rattle.script_text.specs.Names.{name_of};
 ghost use Rattle.script_text.specs.Words.{operand_word};
-ghost use Rattle.script_text.specs.declared.names.Sort.TheVariants as sort;
+ghost use Rattle.script_tree.specs.declared.name_kind.NameKind.TheVariants as name_kind;
 
-use crate::Sort;
 use crate::line::Word::{Keyword, Name, Value};
 use crate::line::{Line, line_of};
 use crate::names::object;
-use script_tree::{Decl, Operand};
+use script_tree::{Decl, NameKind, Operand};
 use tick_num::ObjId;
 
 pub(super) fn wait(decls: &[Decl], cond: ObjId, mutex: ObjId) -> Line
-    ensures { result.items ≡ line_text (codes "wait" ∷ name_of decls.now sort.Cond cond
-        ∷ name_of decls.now sort.Mutex mutex ∷ []) }
+    ensures { result.items ≡ line_text (codes "wait" ∷ name_of decls.now name_kind.Cond cond
+        ∷ name_of decls.now name_kind.Mutex mutex ∷ []) }
 {
-    let cond = Name(object(decls, Sort::Cond, cond));
+    let cond = Name(object(decls, NameKind::Cond, cond));
     line_of(&[
         Keyword(b"wait"),
         cond,
-        Name(object(decls, Sort::Mutex, mutex)),
+        Name(object(decls, NameKind::Mutex, mutex)),
     ])
 }
 
 pub(super) fn timedwait(decls: &[Decl], cond: ObjId, mutex: ObjId, at: Operand) -> Line
-    ensures { result.items ≡ line_text (codes "timedwait" ∷ name_of decls.now sort.Cond cond
-        ∷ name_of decls.now sort.Mutex mutex ∷ operand_word at ∷ []) }
+    ensures { result.items ≡ line_text (codes "timedwait" ∷ name_of decls.now name_kind.Cond cond
+        ∷ name_of decls.now name_kind.Mutex mutex ∷ operand_word at ∷ []) }
 {
-    let cond = Name(object(decls, Sort::Cond, cond));
-    let mutex = Name(object(decls, Sort::Mutex, mutex));
+    let cond = Name(object(decls, NameKind::Cond, cond));
+    let mutex = Name(object(decls, NameKind::Mutex, mutex));
     line_of(&[Keyword(b"timedwait"), cond, mutex, Value(at)])
 }

@@ -3,13 +3,12 @@ ghost use Rattle.std.specs.Prelude.{◌≡◌, ◌≤◌, ◌∷◌, [], length,
 ghost use Rattle.script_text.specs.Line.{line_text};
 ghost use Rattle.script_text.specs.Names.{name_of};
 ghost use Rattle.script_text.specs.Words.{operand_word};
-ghost use Rattle.script_text.specs.declared.names.Sort.TheVariants as sort;
+ghost use Rattle.script_tree.specs.declared.name_kind.NameKind.TheVariants as name_kind;
 
-use crate::Sort;
 use crate::line::Word::{Keyword, Name, Number, Value};
 use crate::line::{Line, line_of};
 use crate::names::{object, thread};
-use script_tree::{Decl, Operand};
+use script_tree::{Decl, NameKind, Operand};
 use tick_num::{ObjId, Tid};
 
 pub(super) fn bare(word: &[u8]) -> Line
@@ -43,12 +42,12 @@ pub(super) fn with_operand(word: &[u8], operand: Operand) -> Line
 
 pub(super) fn on_thread(decls: &[Decl], word: &[u8], t: Tid) -> Line
     requires { length word.now ≤ 16 }
-    ensures { result.items ≡ line_text (word.now ∷ name_of decls.now sort.Thread t ∷ []) }
+    ensures { result.items ≡ line_text (word.now ∷ name_of decls.now name_kind.Thread t ∷ []) }
 {
     line_of(&[Keyword(word), Name(thread(decls, t))])
 }
 
-pub(super) fn on_object(decls: &[Decl], word: &[u8], of: Sort, k: ObjId) -> Line
+pub(super) fn on_object(decls: &[Decl], word: &[u8], of: NameKind, k: ObjId) -> Line
     requires { length word.now ≤ 16 }
     ensures { result.items ≡ line_text (word.now ∷ name_of decls.now of k ∷ []) }
 {
@@ -58,7 +57,7 @@ pub(super) fn on_object(decls: &[Decl], word: &[u8], of: Sort, k: ObjId) -> Line
 pub(super) fn on_object_with<'a>(
     decls: &'a [Decl],
     word: &'a [u8],
-    of: Sort,
+    of: NameKind,
     k: ObjId,
     operand: Operand,
 ) -> Line

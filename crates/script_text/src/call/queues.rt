@@ -3,22 +3,21 @@ ghost use Rattle.std.specs.Prelude.{◌≡◌, ◌∷◌, [], codes, decimal};
 ghost use Rattle.script_text.specs.Line.{line_text};
 ghost use Rattle.script_text.specs.Names.{name_of};
 ghost use Rattle.script_text.specs.Words.{operand_word, signal_word};
-ghost use Rattle.script_text.specs.declared.names.Sort.TheVariants as sort;
+ghost use Rattle.script_tree.specs.declared.name_kind.NameKind.TheVariants as name_kind;
 
-use crate::Sort;
 use crate::line::Word::{Keyword, Name, Number, Signal, Value};
 use crate::line::{Line, line_of};
 use crate::names::object;
-use script_tree::{Decl, Operand};
+use script_tree::{Decl, NameKind, Operand};
 use tick_num::ObjId;
 
 pub(super) fn mq_send(decls: &[Decl], queue: ObjId, len: u32, prio: u8, value: Operand) -> Line
-    ensures { result.items ≡ line_text (codes "mq_send" ∷ name_of decls.now sort.Queue queue
+    ensures { result.items ≡ line_text (codes "mq_send" ∷ name_of decls.now name_kind.Queue queue
         ∷ decimal len ∷ decimal prio ∷ operand_word value ∷ []) }
 {
     line_of(&[
         Keyword(b"mq_send"),
-        Name(object(decls, Sort::Queue, queue)),
+        Name(object(decls, NameKind::Queue, queue)),
         Number(u64::from(len)),
         Number(u64::from(prio)),
         Value(value),
@@ -33,12 +32,12 @@ pub(super) fn mq_timedsend(
     value: Operand,
     at: Operand,
 ) -> Line
-    ensures { result.items ≡ line_text (codes "mq_timedsend" ∷ name_of decls.now sort.Queue queue
+    ensures { result.items ≡ line_text (codes "mq_timedsend" ∷ name_of decls.now name_kind.Queue queue
         ∷ decimal len ∷ decimal prio ∷ operand_word value ∷ operand_word at ∷ []) }
 {
     line_of(&[
         Keyword(b"mq_timedsend"),
-        Name(object(decls, Sort::Queue, queue)),
+        Name(object(decls, NameKind::Queue, queue)),
         Number(u64::from(len)),
         Number(u64::from(prio)),
         Value(value),
@@ -47,12 +46,12 @@ pub(super) fn mq_timedsend(
 }
 
 pub(super) fn mq_notify(decls: &[Decl], queue: ObjId, sig: u8, value: Operand) -> Line
-    ensures { result.items ≡ line_text (codes "mq_notify" ∷ name_of decls.now sort.Queue queue
+    ensures { result.items ≡ line_text (codes "mq_notify" ∷ name_of decls.now name_kind.Queue queue
         ∷ signal_word sig ∷ operand_word value ∷ []) }
 {
     line_of(&[
         Keyword(b"mq_notify"),
-        Name(object(decls, Sort::Queue, queue)),
+        Name(object(decls, NameKind::Queue, queue)),
         Signal(sig),
         Value(value),
     ])

@@ -3,7 +3,7 @@ ghost use Rattle.std.specs.Prelude.{◌≡◌, ◌≤◌, ◌∷◌, [], length,
 ghost use Rattle.script_text.specs.Line.{line_text};
 ghost use Rattle.script_text.specs.Names.{name_of};
 ghost use Rattle.script_text.specs.Words.{operand_word, signal_word, set_word};
-ghost use Rattle.script_text.specs.declared.names.Sort.TheVariants as sort;
+ghost use Rattle.script_tree.specs.declared.name_kind.NameKind.TheVariants as name_kind;
 
 use crate::line::Word::{Keyword, Name, Number, Signal, Signals, Value};
 use crate::line::{Line, line_of};
@@ -18,7 +18,7 @@ pub(super) fn kill(sig: u8) -> Line
 }
 
 pub(super) fn tkill(decls: &[Decl], t: Tid, sig: u8) -> Line
-    ensures { result.items ≡ line_text (codes "tkill" ∷ name_of decls.now sort.Thread t ∷ signal_word sig ∷ []) }
+    ensures { result.items ≡ line_text (codes "tkill" ∷ name_of decls.now name_kind.Thread t ∷ signal_word sig ∷ []) }
 {
     line_of(&[Keyword(b"tkill"), Name(thread(decls, t)), Signal(sig)])
 }

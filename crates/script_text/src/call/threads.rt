@@ -3,7 +3,7 @@ ghost use Rattle.std.specs.Prelude.{◌≡◌, ◌∷◌, [], codes, decimal};
 ghost use Rattle.script_text.specs.Line.{line_text};
 ghost use Rattle.script_text.specs.Names.{name_of};
 ghost use Rattle.script_text.specs.Canon.{policy_words};
-ghost use Rattle.script_text.specs.declared.names.Sort.TheVariants as sort;
+ghost use Rattle.script_tree.specs.declared.name_kind.NameKind.TheVariants as name_kind;
 
 use crate::line::Word::{Keyword, Name, Number};
 use crate::line::{Line, line_of};
@@ -12,7 +12,7 @@ use script_tree::{Decl, Policy};
 use tick_num::{Prio, Tid};
 
 pub(super) fn setprio(decls: &[Decl], t: Tid, prio: Prio) -> Line
-    ensures { result.items ≡ line_text (codes "setprio" ∷ name_of decls.now sort.Thread t ∷ decimal prio ∷ []) }
+    ensures { result.items ≡ line_text (codes "setprio" ∷ name_of decls.now name_kind.Thread t ∷ decimal prio ∷ []) }
 {
     let level = Number(u64::from(prio.get()));
     line_of(&[Keyword(b"setprio"), Name(thread(decls, t)), level])
@@ -20,7 +20,7 @@ pub(super) fn setprio(decls: &[Decl], t: Tid, prio: Prio) -> Line
 
 // `setsched` with the parameters of its policy.
 pub(super) fn setsched(decls: &[Decl], t: Tid, policy: Policy) -> Line
-    ensures { result.items ≡ line_text (codes "setsched" ∷ name_of decls.now sort.Thread t ∷ policy_words policy) }
+    ensures { result.items ≡ line_text (codes "setsched" ∷ name_of decls.now name_kind.Thread t ∷ policy_words policy) }
 {
     let word = Keyword(b"setsched");
     let name = Name(thread(decls, t));

@@ -3,23 +3,22 @@ ghost use Rattle.std.specs.Prelude.{◌≡◌, ◌∷◌, [], codes, decimal};
 ghost use Rattle.script_text.specs.Line.{line_text};
 ghost use Rattle.script_text.specs.Names.{name_of};
 ghost use Rattle.script_text.specs.Words.{operand_word};
-ghost use Rattle.script_text.specs.declared.names.Sort.TheVariants as sort;
+ghost use Rattle.script_tree.specs.declared.name_kind.NameKind.TheVariants as name_kind;
 
-use crate::Sort;
 use crate::line::Word::{Keyword, Name, Number, Value};
 use crate::line::{Line, line_of};
 use crate::names::object;
-use script_tree::{Decl, Operand};
+use script_tree::{Decl, NameKind, Operand};
 use tick_num::ObjId;
 
 // With a first expiry after so many ticks.
 pub(super) fn settime_rel(decls: &[Decl], timer: ObjId, first: u64, interval: u64) -> Line
-    ensures { result.items ≡ line_text (codes "timer_settime" ∷ name_of decls.now sort.Timer timer
+    ensures { result.items ≡ line_text (codes "timer_settime" ∷ name_of decls.now name_kind.Timer timer
         ∷ codes "rel" ∷ decimal first ∷ decimal interval ∷ []) }
 {
     line_of(&[
         Keyword(b"timer_settime"),
-        Name(object(decls, Sort::Timer, timer)),
+        Name(object(decls, NameKind::Timer, timer)),
         Keyword(b"rel"),
         Number(first),
         Number(interval),
@@ -28,12 +27,12 @@ pub(super) fn settime_rel(decls: &[Decl], timer: ObjId, first: u64, interval: u6
 
 // With a first expiry at a time.
 pub(super) fn settime_abs(decls: &[Decl], timer: ObjId, at: Operand, interval: u64) -> Line
-    ensures { result.items ≡ line_text (codes "timer_settime" ∷ name_of decls.now sort.Timer timer
+    ensures { result.items ≡ line_text (codes "timer_settime" ∷ name_of decls.now name_kind.Timer timer
         ∷ codes "abs" ∷ operand_word at ∷ decimal interval ∷ []) }
 {
     line_of(&[
         Keyword(b"timer_settime"),
-        Name(object(decls, Sort::Timer, timer)),
+        Name(object(decls, NameKind::Timer, timer)),
         Keyword(b"abs"),
         Value(at),
         Number(interval),

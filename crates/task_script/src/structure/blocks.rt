@@ -1,6 +1,7 @@
 // The bodies and blocks that are open.
 ghost use Rattle.std.specs.Prelude.{◌≡◌, ◌∷◌, [], IfOk, not, MatchOption};
-ghost use Rattle.script_table.specs.Patterns.{same_closer, same_kind, is_barred};
+ghost use Rattle.script_tree.specs.Kinds.{same_kind};
+ghost use Rattle.script_table.specs.Patterns.{same_closer, is_barred};
 ghost use Rattle.script_table.specs.Structure.{body_kind, closer_of, closed_by, not_here, step_faults, close_faults, inner, opened, tail_of, is_nil};
 ghost use Rattle.script_table.specs.Faults.{least_kind, when};
 
