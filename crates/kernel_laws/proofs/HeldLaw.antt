@@ -24,7 +24,7 @@ use Rattle.machine_rules.specs.Threads.{action_of, is_main, no_queue, no_thread,
 use Rattle.machine_rules.specs.Cancellation.{runs_cleanup, runs_cleanup_if, without_cleanup}
 use Rattle.machine_rules.specs.Ticks.{tick_charged}
 use Rattle.machine_rules.specs.Turns.{turn_of}
-use Rattle.machine_rules.specs.Units.{begins_ending, begins_finish, in_unit, in_unit_if, in_unit_of, top_in_unit}
+use Rattle.machine_rules.specs.Units.{Following, advances, advancing, begins_finish, cleaning_up, continuing, finishing, following, in_cleanup, in_unit, takes_unit}
 use Rattle.machine_rules.specs.Throughout.{after_items}
 use Rattle.machine_moves.proofs.Waiters.Best.{Each}
 use Rattle.machine_laws.proofs.Servers.Ticks.{kept_in_unit}
@@ -113,29 +113,23 @@ run_status bodies false us th = refl
 module _ (o : Objects) (code : flat.Bodies (List Op)) (calls : (n : ℕ) → EachMade (CallIsRunnable o) (ops_of code n)) where
   -- ---- the unit that a thread is in
 
-  makes_top : (left : ℕ) (f : Frame Cursor) (fs : List (Frame Cursor)) (th : Thread Cursor) → UnitMakes (CallIsRunnable o) (top_in_unit (flat_bodies code) left f fs th).unit
-  makes_top zero f fs th = fetched_makes (CallIsRunnable o) code (cursor_of f) (calls f.place.body)
-  makes_top (suc left) f fs th = tt
-
-  makes_of : (fs : List (Frame Cursor)) (th : Thread Cursor) → UnitMakes (CallIsRunnable o) (in_unit_of (flat_bodies code) fs th).unit
-  makes_of [] th = tt
-  makes_of (f ∷ fs) th = makes_top f.left f fs th
+  makes_next : (fs : List (Frame Cursor)) (th : Thread Cursor) → UnitMakes (CallIsRunnable o) (advances (flat_bodies code) fs th).unit
+  makes_next [] th = tt
+  makes_next (f ∷ fs) th = fetched_makes (CallIsRunnable o) code (cursor_of f) (calls f.place.body)
 
   makes_finish : (fs : List (Frame Cursor)) (th : Thread Cursor) → UnitMakes (CallIsRunnable o) (begins_finish fs th).unit
   makes_finish [] th = tt
   makes_finish (f ∷ fs) th = tt
 
-  makes_ending : (us : List ℕ) (th : Thread Cursor) → UnitMakes (CallIsRunnable o) (begins_ending (flat_bodies code) us th).unit
-  makes_ending [] th = makes_finish th.frames th
-  makes_ending (u ∷ us) th = let begun = runs_cleanup (flat_bodies code) (u ∷ us) (without_cleanup th) in makes_of begun.frames begun
-
-  makes_if : (b : Bool) (th : Thread Cursor) → UnitMakes (CallIsRunnable o) (in_unit_if (flat_bodies code) b th).unit
-  makes_if true th = makes_ending th.cleanups th
-  makes_if false th = makes_of th.frames th
-
   -- it makes only calls that name what there is
   pub unit_makes : (th : Thread Cursor) → UnitMakes (CallIsRunnable o) (in_unit (flat_bodies code) th).unit
-  unit_makes th = makes_if (th.is_ending && is_main (top_kind th.frames) && top_left th.frames == 0) th
+  unit_makes th = by_case (following th)
+    where
+      by_case : (x : Following) → UnitMakes (CallIsRunnable o) (takes_unit (flat_bodies code) x th).unit
+      by_case (continuing left) = tt
+      by_case advancing = makes_next th.frames th
+      by_case (cleaning_up u) = makes_next (in_cleanup (flat_bodies code) u th).frames (in_cleanup (flat_bodies code) u th)
+      by_case finishing = makes_finish th.frames th
 
 module _ (o : Objects) (handlers : ℕ) (code : flat.Bodies (List Op)) (calls : (n : ℕ) → EachMade (CallIsRunnable o) (ops_of code n)) where
   abbrev pub of_calls : Given Cursor

@@ -5,8 +5,8 @@ use Rattle.tick_num.specs.declared.res.Res.{Res}
 use Rattle.tick_num.specs.declared.res.Res.TheVariants as res
 use Rattle.machine_rules.specs.State.{Machine}
 use Rattle.machine_rules.specs.Threads.{can_run, mutex_at, thread_at}
-use Rattle.machine_rules.specs.Mutexes.{LockAnswer, closes_cycle, counts, is_above_ceiling, is_free, lock_answer, locked_again, must_wait, owns, recursion_limit, refused, takes, trylock_answer, unless_late}
-use Rattle.machine_rules.specs.Turns.{has_passed}
+use Rattle.machine_rules.specs.Mutexes.{LockAnswer, closes_cycle, counts, is_above_ceiling, is_free, lock_answer, locked_again, must_wait, owns, recursion_limit, refused, takes, trylock_answer}
+use Rattle.machine_rules.specs.Turns.{is_late}
 use Rattle.script_flat.specs.declared.cursor.Cursor.{Cursor}
 use Rattle.machine_rules.specs.Priorities.{mutex_awaited_by}
 use Rattle.kernel_state.proofs.Waits.{awaits_none as running_awaits}
@@ -29,31 +29,18 @@ module _ {P : Type 0} (m : Machine P) (t k : ℕ) where
   owned_is None h = absurd cc
   owned_is (Some u) h = refl
 
-  lock_can : CanAct m t k (lock_answer m t k)
-  lock_can = by_case (is_above_ceiling (thread_at m t) (mutex_at m k).protocol) (owns m t k) (is_free m k) refl (closes_cycle m k t) refl
-    where
-      by_case : (a b c : Bool) → is_free m k ≡ c → (d : Bool) → closes_cycle m k t ≡ d →
-          CanAct m t k (if a then refused res.Inval else if b then locked_again (mutex_at m k) res.Deadlk else if c then takes else if d then refused res.Deadlk else must_wait)
-      by_case true b c e d f = tt
-      by_case false true c e d f = again res.Deadlk
-      by_case false false true e d f = free_is (mutex_at m k).owner e
-      by_case false false false e true f = tt
-      by_case false false false e false f = (owned_is (mutex_at m k).owner e, f)
-
-  late_can : (due : Option ℕ) (a : LockAnswer) → CanAct m t k a → CanAct m t k (unless_late due m a)
-  late_can None a can = can
-  late_can (Some at) (refused r) can = tt
-  late_can (Some at) counts can = can
-  late_can (Some at) takes can = can
-  late_can (Some at) must_wait can = by_case (has_passed at m)
-    where
-      by_case : (b : Bool) → CanAct m t k (if b then refused res.Timedout else must_wait)
-      by_case true = tt
-      by_case false = can
-
   -- what a lock comes to
-  pub lock_acts : (due : Option ℕ) → CanAct m t k (unless_late due m (lock_answer m t k))
-  lock_acts due = late_can due (lock_answer m t k) lock_can
+  pub lock_acts : (due : Option ℕ) → CanAct m t k (lock_answer m t k due)
+  lock_acts due = by_case (is_above_ceiling (thread_at m t) (mutex_at m k).protocol) (owns m t k) (is_free m k) refl (closes_cycle m k t) refl (is_late due m)
+    where
+      by_case : (a b c : Bool) → is_free m k ≡ c → (d : Bool) → closes_cycle m k t ≡ d → (late : Bool) →
+          CanAct m t k (if a then refused res.Inval else if b then locked_again (mutex_at m k) res.Deadlk else if c then takes else if d then refused res.Deadlk else if late then refused res.Timedout else must_wait)
+      by_case true b c e d f late = tt
+      by_case false true c e d f late = again res.Deadlk
+      by_case false false true e d f late = free_is (mutex_at m k).owner e
+      by_case false false false e true f late = tt
+      by_case false false false e false f true = tt
+      by_case false false false e false f false = (owned_is (mutex_at m k).owner e, f)
 
   pub trylock_can : CanAct m t k (trylock_answer m t k)
   trylock_can = by_case (is_above_ceiling (thread_at m t) (mutex_at m k).protocol) (owns m t k) (is_free m k) refl

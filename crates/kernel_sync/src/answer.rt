@@ -1,6 +1,6 @@
 // How a lock comes out.
 ghost use Rattle.std.specs.Prelude.{◌≡◌, ◌<◌, Some, length};
-ghost use Rattle.machine_rules.specs.Mutexes.{lock_answer, locked_again, trylock_answer, unless_late};
+ghost use Rattle.machine_rules.specs.Mutexes.{lock_answer, locked_again, trylock_answer};
 ghost use Rattle.machine_rules.specs.State.{Waiting};
 ghost use Rattle.machine_rules.specs.Threads.{waiting_of};
 ghost use Rattle.machine_rules.specs.Turns.{is_late};
@@ -40,11 +40,11 @@ fn locked_again(k: &MutexState, otherwise: Res) -> LockAnswer
     }
 }
 
-/// How `pthread_mutex_lock` comes out.
-pub(crate) fn lock_answer(p: &Parts, t: Tid, k: ObjId) -> LockAnswer
+/// How `pthread_mutex_lock` comes out, and with a time, in ticks, `pthread_mutex_timedlock`.
+pub(crate) fn lock_answer(p: &Parts, t: Tid, k: ObjId, due: &Option<Tick>) -> LockAnswer
     requires known { t < length p.now.names }
     requires mutex { k < length p.now.machine.mutexes }
-    ensures { answer_of result ≡ lock_answer p.now.machine t k }
+    ensures { answer_of result ≡ lock_answer p.now.machine t k due.now }
 {
     let mutex = p.mutex(k);
     if p.is_above_ceiling(t, k) {
@@ -55,6 +55,8 @@ pub(crate) fn lock_answer(p: &Parts, t: Tid, k: ObjId) -> LockAnswer
         LockAnswer::Takes
     } else if p.closes_cycle(t, k) {
         LockAnswer::Refused(Res::Deadlk)
+    } else if is_late(p, due) {
+        LockAnswer::Refused(Res::Timedout)
     } else {
         LockAnswer::MustWait
     }
@@ -85,22 +87,6 @@ pub(crate) fn is_late(p: &Parts, due: &Option<Tick>) -> bool
     match due {
         None => false,
         Some(at) => *at <= p.instant(),
-    }
-}
-
-/// Only a lock that must wait looks at its time.
-pub(crate) fn unless_late(p: &Parts, due: &Option<Tick>, answer: LockAnswer) -> LockAnswer
-    ensures { answer_of result ≡ unless_late due.now p.now.machine (answer_of answer) }
-{
-    match answer {
-        LockAnswer::MustWait => {
-            if is_late(p, due) {
-                LockAnswer::Refused(Res::Timedout)
-            } else {
-                LockAnswer::MustWait
-            }
-        }
-        _ => answer,
     }
 }
 

@@ -11,7 +11,7 @@ ghost use Rattle.kernel_sync.specs.Answers.{CanAct, answer_of};
 ghost use Rattle.kernel_sync.specs.Waits.{BlockedRest, MutexWaitersRest};
 
 use crate::answer::{
-    LockAnswer, answer_as_owner, is_cancelled_waiter, lock_answer, trylock_answer, unless_late,
+    LockAnswer, answer_as_owner, is_cancelled_waiter, lock_answer, trylock_answer,
 };
 use kernel_state::Parts;
 use pse52_trace::Tracer;
@@ -91,7 +91,7 @@ pub fn lock<K: Sink>(
     ensures state { p.new ≡ after (locks (by t call.now) k due) p.old }
     ensures told { Tells K.text K.faults p.old.names out.old out.new (told (locks (by t call.now) k due) p.old) }
 {
-    let answer = unless_late(p, &due, lock_answer(p, t, k));
+    let answer = lock_answer(p, t, k, &due);
     act(p, t, call, k, due, answer, out);
 }
 

@@ -12,7 +12,7 @@ ghost use Rattle.machine_rules.specs.DueItems.{due_items, item_then, next_item};
 ghost use Rattle.machine_rules.specs.State.{Machine};
 ghost use Rattle.machine_rules.specs.Machine.{bodies_of};
 ghost use Rattle.machine_rules.specs.Promises.{RunKeepsBudgets, RunStaysGood};
-ghost use Rattle.machine_rules.specs.Runs.{opening};
+ghost use Rattle.machine_rules.specs.Runs.{follow, opening, tick_begun, tick_finished, tick_of};
 ghost use Rattle.machine_rules.specs.Throughout.{HoldsThroughout, turn_after};
 ghost use Rattle.machine_laws.specs.Rest.{ServersRest};
 ghost use Rattle.machine_laws.specs.Times.{TimesAreRight};
@@ -39,6 +39,12 @@ pub fn threads_run_in_time()
 /// The states between the items of an instant are those that one item more leaves, with its moves and its sweep, as long as one is due.
 pub fn items_come_one_by_one()
     ensures { (script : Script) → (n k : ℕ) → let s = turn_after (bodies_of script) (opening script) n k in turn_after (bodies_of script) (opening script) n (suc k) ≡ item_then (bodies_of script) (next_item s.machine) (λ x. x) s }
+{}
+
+/// A tick is what begins it, the items of its instant, and what finishes it from the machine that these leave; the events of the one
+/// stand behind those of the other. The account of a server is read off these two parts.
+pub fn ticks_have_two_parts()
+    ensures { (script : Script) → (m : Machine Place) → let bodies = bodies_of script in tick_of bodies m ≡ follow (tick_begun bodies m) (tick_finished bodies) }
 {}
 
 /// The items of an instant, as the machine finds them, are those of all that is to come whose due tick has come, in the same order.

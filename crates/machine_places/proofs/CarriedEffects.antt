@@ -18,7 +18,7 @@ use Rattle.machine_rules.specs.CallNames.{name_of}
 use Rattle.machine_rules.specs.Turns.{By, Turn, answered, changes, changes_mutex, changes_pending, changes_queue, changes_semaphore, changes_timer, frames_answered, has_passed, is_late, moves, moves_if, returns, settles_since, takes_serial, tells}
 use Rattle.machine_rules.specs.Servers.{activates, activates_if, activates_if_high, activates_server, amount_of, high_server, plans, plans_for, refills, refills_for, regains_high, with_server}
 use Rattle.machine_rules.specs.Waking.{blocks, blocks_unordered, call_in, cancelled_value, ending_with, put_to_wait, wakes, wakes_cancelled, wakes_telling, woken}
-use Rattle.machine_rules.specs.Mutexes.{LockAnswer, counted_down, counted_up, counts, hands_over, is_free, lock_answer, locked_again, locks, locks_on, moves_unless_boosted, must_wait, owned_by, owns, owns_boosting, refused, releases, returns_from_wait, taken_by, takes, tries_lock, trylock_answer, unless_late, unlocks, waits_for_mutex, wakes_owner}
+use Rattle.machine_rules.specs.Mutexes.{LockAnswer, closes_cycle, counted_down, counted_up, counts, hands_over, is_above_ceiling, is_free, lock_answer, locked_again, locks, locks_on, moves_unless_boosted, must_wait, owned_by, owns, owns_boosting, refused, releases, returns_from_wait, taken_by, takes, tries_lock, trylock_answer, unlocks, waits_for_mutex, wakes_owner}
 use Rattle.machine_rules.specs.Conditions.{broadcasts, contends, contends_for, released_mutex, signals, signals_best, signals_best_of, signals_waiter, waits, waits_on_condition, waits_with_other_mutex}
 use Rattle.machine_rules.specs.Semaphores.{blocks_unless_late, posts, posts_to, semaphore_limit, tries_semaphore, waits_on_semaphore, waits_semaphore}
 use Rattle.machine_rules.specs.Signals.{acceptor, accepts, becomes_pending, delivers, generates, generates_for, goes_to, has_no_room, is_full, is_ignore, sends_signal, tells_overrun, waits_signal_on, waits_ticks, without_record}
@@ -142,13 +142,24 @@ module _ {P Q : Type 0} (carry : BodyOf → P → Q) where
 
   -- ---- mutexes
 
-  lock_answer_carries : (m : Machine P) (t k : ℕ) → lock_answer (M carry m) t k ≡ lock_answer m t k
-  lock_answer_carries m t k =
+  late_carries : (due : Option ℕ) (m : Machine P) → is_late due (M carry m) ≡ is_late due m
+  late_carries None m = refl
+  late_carries (Some at) m = refl
+
+  lock_answer_carries : (m : Machine P) (t k : ℕ) (due : Option ℕ) → lock_answer (M carry m) t k due ≡ lock_answer m t k due
+  lock_answer_carries m t k due =
       ap₂ (λ (a c : Bool). if a then refused res.Inval
       else if owns m t k then locked_again (mutex_at m k) res.Deadlk
       else if is_free m k then takes
       else if c then refused res.Deadlk
+      else if is_late due (M carry m) then refused res.Timedout
       else must_wait) (ceiling_carries carry m t (mutex_at m k).protocol) (cycle_carries carry m k t)
+      ∙ ap (λ (late : Bool). if is_above_ceiling (thread_at m t) (mutex_at m k).protocol then refused res.Inval
+      else if owns m t k then locked_again (mutex_at m k) res.Deadlk
+      else if is_free m k then takes
+      else if closes_cycle m k t then refused res.Deadlk
+      else if late then refused res.Timedout
+      else must_wait) (late_carries due m)
 
   trylock_answer_carries : (m : Machine P) (t k : ℕ) → trylock_answer (M carry m) t k ≡ trylock_answer m t k
   trylock_answer_carries m t k =
@@ -156,13 +167,6 @@ module _ {P Q : Type 0} (carry : BodyOf → P → Q) where
       else if owns m t k then locked_again (mutex_at m k) res.Busy
       else if is_free m k then takes
       else refused res.Busy) (ceiling_carries carry m t (mutex_at m k).protocol)
-
-  unless_late_carries : (due : Option ℕ) (m : Machine P) (a : LockAnswer) → unless_late due (M carry m) a ≡ unless_late due m a
-  unless_late_carries None m a = refl
-  unless_late_carries (Some at) m (refused r) = refl
-  unless_late_carries (Some at) m counts = refl
-  unless_late_carries (Some at) m takes = refl
-  unless_late_carries (Some at) m must_wait = refl
 
   locks_on_carries : (a : LockAnswer) (by : By) (k : ℕ) (due : Option ℕ) → Carries (locks_on a by k due) (locks_on a by k due)
   locks_on_carries (refused r) by k due s = returns_carries by r 0 s
@@ -172,10 +176,7 @@ module _ {P Q : Type 0} (carry : BodyOf → P → Q) where
 
   pub locks_carries : (by : By) (k : ℕ) (due : Option ℕ) → Carries (locks by k due) (locks by k due)
   locks_carries by k due s =
-      let answer = lock_answer s.machine by.thread k in
-      ap (λ (a : LockAnswer). locks_on (unless_late due (M carry s.machine) a) by k due (T s)) (lock_answer_carries s.machine by.thread k)
-      ∙ ap (λ (a : LockAnswer). locks_on a by k due (T s)) (unless_late_carries due s.machine answer)
-      ∙ locks_on_carries (unless_late due s.machine answer) by k due s
+      ap (λ (a : LockAnswer). locks_on a by k due (T s)) (lock_answer_carries s.machine by.thread k due) ∙ locks_on_carries (lock_answer s.machine by.thread k due) by k due s
 
   pub tries_lock_carries : (by : By) (k : ℕ) → Carries (tries_lock by k) (tries_lock by k)
   tries_lock_carries by k s =
@@ -255,11 +256,7 @@ module _ {P Q : Type 0} (carry : BodyOf → P → Q) where
 
   pub blocks_unless_late_carries : (by : By) (wait : Wait) (due : Option ℕ) → Carries (blocks_unless_late by wait due) (blocks_unless_late by wait due)
   blocks_unless_late_carries by wait due s =
-      if_carries _ (is_late due s.machine) _ _ (returns by res.Timedout 0 s) (blocks by wait due s) (late due) (returns_carries by res.Timedout 0 s) (blocks_carries by wait due s)
-    where
-      late : (o : Option ℕ) → is_late o (M carry s.machine) ≡ is_late o s.machine
-      late None = refl
-      late (Some at) = refl
+      if_carries _ (is_late due s.machine) _ _ (returns by res.Timedout 0 s) (blocks by wait due s) (late_carries due s.machine) (returns_carries by res.Timedout 0 s) (blocks_carries by wait due s)
 
   pub waits_semaphore_carries : (by : By) (k : ℕ) (due : Option ℕ) → Carries (waits_semaphore by k due) (waits_semaphore by k due)
   waits_semaphore_carries by k due s =

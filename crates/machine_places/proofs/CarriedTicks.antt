@@ -1,6 +1,6 @@
 -- A run of a carried machine is the carried run, where both know the same of bodies.
 use Rattle.std.proofs.Common.{Bool, List, None, Option, Some, [], ap, false, refl, suc, true, zero, ℕ, ◌+◌, ◌++◌, ◌∷◌, ◌≡◌}
-use Rattle.std.specs.Prelude.{filter, length, map, not, option_and_then, ◌==◌, ◌&&◌, ◌||◌, if◌then◌else◌}
+use Rattle.std.specs.Prelude.{filter, length, map, not, option_and_then, ◌&&◌, ◌||◌, if◌then◌else◌}
 use Rattle.std.specs.Option.{option_map_or}
 use mathlib.Core.Path.{ap₂, ◌∙◌}
 use Rattle.tick_num.specs.Signals.{every_signal, has_signal}
@@ -24,7 +24,7 @@ use Rattle.machine_rules.specs.declared.signal.SigAction.TheVariants as action
 use Rattle.machine_rules.specs.Lists.{first_by}
 use Rattle.machine_rules.specs.Bodies.{Bodies, Seen}
 use Rattle.machine_rules.specs.State.{Frame, Machine, SignalRecord, Thread, Waiting}
-use Rattle.machine_rules.specs.Threads.{action_of, is_dormant, is_live, is_main, is_signal, number_of, thread_at, thread_numbers, top_kind, top_left, waiting_of}
+use Rattle.machine_rules.specs.Threads.{action_of, is_dormant, is_live, is_main, is_signal, number_of, thread_at, thread_numbers, top_left, waiting_of}
 use Rattle.machine_rules.specs.Turns.{By, Turn, becomes, changes, changes_pending, moves, returns, settles_since, tells, turn_of}
 use Rattle.machine_rules.specs.Servers.{activates, has_high, server_of}
 use Rattle.machine_rules.specs.Waking.{cancelled_value, ending_with, new_frame, on_top, started, starts}
@@ -35,7 +35,7 @@ use Rattle.machine_rules.specs.Cancellation.{is_cancellation_point, is_cancelled
 use Rattle.machine_rules.specs.Calls.{call_effect, makes_call, unit_effect}
 use Rattle.machine_rules.specs.DueItems.{due_items, due_of, first_item, handles, has_come, instant, item_bound, item_done, item_then, items_done, next_item, refill_due, start_due, start_in, timeout_due, times_out}
 use Rattle.machine_rules.specs.Dispatch.{dispatches, head}
-use Rattle.machine_rules.specs.Units.{InUnit, begins_ending, begins_finish, in_unit, in_unit_if, in_unit_of, top_in_unit}
+use Rattle.machine_rules.specs.Units.{Following, InUnit, advances, advancing, begins_finish, choice, cleaning_up, continuing, finishing, following, in_cleanup, in_unit, takes_unit}
 use Rattle.machine_rules.specs.Ticks.{completes, completes_at, frames_charged, goes_on, later, runs, runs_head, tick, tick_charged, tick_ends, unit_ticked, unless_killed}
 use Rattle.machine_rules.specs.Runs.{Ran, follow, tick_of, ticks}
 use Rattle.machine_places.specs.Carried.{Agree, frame_carried, ran_carried}
@@ -293,38 +293,31 @@ module _ {P Q : Type 0} (carry : BodyOf → P → Q) (p : Bodies P) (q : Bodies 
     unit = u;
   }
 
-  top_in_unit_carries : (left : ℕ) (f : Frame P) (fs : List (Frame P)) (th : Thread P) →
-      top_in_unit q left (frame_carried carry f) (map (frame_carried carry) fs) (C carry th) ≡ in_unit_carried (top_in_unit p left f fs th)
-  top_in_unit_carries zero f fs th =
+  advances_carries : (fs : List (Frame P)) (th : Thread P) → advances q (map (frame_carried carry) fs) (C carry th) ≡ in_unit_carried (advances p fs th)
+  advances_carries [] th = refl
+  advances_carries (f ∷ fs) th =
       let seen : Seen = record { register = f.register; result = f.result; value = f.value } in
       let found = q.next f.body (carry f.body f.place) seen in
       let next = p.next f.body f.place seen in
       ap (λ (u : Unit). begun f fs th u found.place found.register) (a.unit f.body f.place seen)
       ∙ ap₂ (λ (place : Q) (register : ℕ). begun f fs th next.unit place register) (a.place f.body f.place seen) (a.register f.body f.place seen)
-  top_in_unit_carries (suc left) f fs th = refl
-
-  in_unit_of_carries : (fs : List (Frame P)) (th : Thread P) → in_unit_of q (map (frame_carried carry) fs) (C carry th) ≡ in_unit_carried (in_unit_of p fs th)
-  in_unit_of_carries [] th = refl
-  in_unit_of_carries (f ∷ fs) th = top_in_unit_carries f.left f fs th
 
   begins_finish_carries : (fs : List (Frame P)) (th : Thread P) → begins_finish (map (frame_carried carry) fs) (C carry th) ≡ in_unit_carried (begins_finish fs th)
   begins_finish_carries [] th = refl
   begins_finish_carries (f ∷ fs) th = refl
 
-  begins_ending_carries : (cleanups : List ℕ) (th : Thread P) → begins_ending q cleanups (C carry th) ≡ in_unit_carried (begins_ending p cleanups th)
-  begins_ending_carries [] th = begins_finish_carries th.frames th
-  begins_ending_carries (u ∷ us) th =
-      let ending = runs_cleanup p (u ∷ us) (without_cleanup th) in
-      ap (λ (x : Thread Q). in_unit_of q x.frames x) (runs_cleanup_carries (u ∷ us) (without_cleanup th)) ∙ in_unit_of_carries ending.frames ending
-
-  in_unit_if_carries : (b : Bool) (th : Thread P) → in_unit_if q b (C carry th) ≡ in_unit_carried (in_unit_if p b th)
-  in_unit_if_carries true th = begins_ending_carries th.cleanups th
-  in_unit_if_carries false th = in_unit_of_carries th.frames th
+  takes_unit_carries : (x : Following) (th : Thread P) → takes_unit q x (C carry th) ≡ in_unit_carried (takes_unit p x th)
+  takes_unit_carries (continuing left) th = refl
+  takes_unit_carries advancing th = advances_carries th.frames th
+  takes_unit_carries (cleaning_up u) th =
+      let ending = in_cleanup p u th in
+      ap (λ (x : Thread Q). advances q x.frames x) (runs_cleanup_carries (u ∷ []) (without_cleanup th)) ∙ advances_carries ending.frames ending
+  takes_unit_carries finishing th = begins_finish_carries th.frames th
 
   pub in_unit_carries : (th : Thread P) → in_unit q (C carry th) ≡ in_unit_carried (in_unit p th)
   in_unit_carries th =
-      ap₂ (λ (k : FrameKind) (left : ℕ). in_unit_if q (th.is_ending && is_main k && left == 0) (C carry th)) (kind_carried carry th.frames) (left_carried carry th.frames)
-      ∙ in_unit_if_carries (th.is_ending && is_main (top_kind th.frames) && top_left th.frames == 0) th
+      ap₂ (λ (k : FrameKind) (left : ℕ). takes_unit q (choice left (th.is_ending && is_main k) th.cleanups) (C carry th)) (kind_carried carry th.frames) (left_carried carry th.frames)
+      ∙ takes_unit_carries (following th) th
 
   -- ---- a tick
 

@@ -17,7 +17,7 @@ use Rattle.machine_rules.specs.CallNames.{name_of}
 use Rattle.machine_rules.specs.Turns.{By, Turn, answered, changes, changes_mutex, moves, returns, tells, ◌▷◌}
 use Rattle.machine_rules.specs.Servers.{activates_if, activates_if_high, activates_server, with_server}
 use Rattle.machine_rules.specs.Waking.{call_in, cancelled_value, ending_with, wakes, wakes_cancelled, wakes_telling, woken}
-use Rattle.machine_rules.specs.Mutexes.{LockAnswer, counted_down, counted_up, counts, hands_over, locks, locks_on, lock_answer, must_wait, owns, refused, releases, returns_from_wait, taken_by, takes, unless_late, unlocks, waits_for_mutex, wakes_owner}
+use Rattle.machine_rules.specs.Mutexes.{LockAnswer, counted_down, counted_up, counts, hands_over, locks, locks_on, lock_answer, must_wait, owns, refused, releases, returns_from_wait, taken_by, takes, unlocks, waits_for_mutex, wakes_owner}
 
 module _ {P : Type 0} where
   -- the turn with that told before it
@@ -72,7 +72,7 @@ module _ {P : Type 0} where
   locks_on_behind must_wait by k due told s = refl
 
   pub locks_behind : (by : By) (k : ℕ) (due : Option ℕ) → AddsBehind (locks by k due)
-  locks_behind by k due told s = locks_on_behind (unless_late due s.machine (lock_answer s.machine by.thread k)) by k due told s
+  locks_behind by k due told s = locks_on_behind (lock_answer s.machine by.thread k due) by k due told s
 
   pub returns_from_wait_behind : (how : CondEnd) (t : ℕ) → AddsBehind (returns_from_wait how t)
   returns_from_wait_behind cond_end.Signalled t told s = wakes_behind t res.Zero 0 told s

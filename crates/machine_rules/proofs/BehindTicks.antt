@@ -172,8 +172,9 @@ module _ {P : Type 0} (bodies : Bodies P) where
   runs_head_behind told s =
       ap (runs bodies (head s.machine)) (dispatches_behind (head s.machine) told s) ∙ runs_behind (head s.machine) told (dispatches (head s.machine) s)
 
+  pub goes_on_behind : AddsBehind (goes_on bodies)
+  goes_on_behind told s = unless_killed_behind s.machine.killed (runs_head bodies) runs_head_behind told s
+
   -- a tick tells its events behind those that were told before
   pub tick_behind : AddsBehind (tick bodies)
-  tick_behind told s =
-      let ready = instant bodies s in
-      ap (goes_on bodies) (instant_behind told s) ∙ unless_killed_behind ready.machine.killed (runs_head bodies) runs_head_behind told ready
+  tick_behind told s = ap (goes_on bodies) (instant_behind told s) ∙ goes_on_behind told (instant bodies s)

@@ -13,3 +13,4 @@ pub mod Behind
 pub mod BehindCalls
 pub mod BehindTicks
 pub mod Counting
+pub mod Parts

@@ -1,6 +1,6 @@
 -- The law of the budget: what the events of a run say of a sporadic thread's server. XSH 2.8.4 SCHED_SPORADIC; the law itself is
 -- this project's own.
-use Rattle.std.specs.Prelude.{All, Bool, List, None, Option, Some, [], drop, false, filter_map, length, map, max, suc, take, true, zero, ℕ, ◌≡◌, ◌≤◌, ◌+◌, ◌==◌, ◌&&◌, ◌∷◌, ◌++◌, if◌then◌else◌}
+use Rattle.std.specs.Prelude.{All, Bool, List, None, Option, Some, [], false, filter_map, length, map, max, suc, take, true, zero, ℕ, ◌≡◌, ◌≤◌, ◌+◌, ◌==◌, ◌&&◌, ◌∷◌, ◌++◌, if◌then◌else◌}
 use Rattle.std.specs.List.{sum}
 use Rattle.script_tree.specs.declared.call.Call.TheVariants as call
 use Rattle.script_flat.specs.declared.unit.Unit.{Unit}
@@ -13,12 +13,11 @@ use Rattle.sporadic_server.specs.Server.{ServerState, pending_total}
 use Rattle.machine_rules.specs.Bodies.{Bodies}
 use Rattle.machine_rules.specs.State.{Machine}
 use Rattle.machine_rules.specs.Threads.{lives, thread_at}
-use Rattle.machine_rules.specs.Turns.{Turn, turn_of, ◌▷◌}
+use Rattle.machine_rules.specs.Turns.{◌▷◌}
 use Rattle.machine_rules.specs.Servers.{has_high}
-use Rattle.machine_rules.specs.DueItems.{instant}
-use Rattle.machine_rules.specs.Dispatch.{dispatches, head}
+use Rattle.machine_rules.specs.Dispatch.{runner}
 use Rattle.machine_rules.specs.Units.{in_unit}
-use Rattle.machine_rules.specs.Runs.{tick_of, ticks}
+use Rattle.machine_rules.specs.Runs.{tick_begun, tick_finished, ticks}
 use Rattle.machine_rules.specs.Throughout.{after_items, turn_after}
 use Rattle.machine_rules.specs.GoodState.{is_sporadic}
 
@@ -36,7 +35,7 @@ abbrev pub posted_if : Bool → Posting → List Posting → List Posting
 posted_if true posting account = account ++ posting ∷ []
 posted_if false posting account = account
 
--- An event of the thread is entered, and its start begins a new account.
+-- The thread's activations, plans and refills are entered, and its start begins a new account.
 abbrev pub posted : ℕ → ℕ → Event → List Posting → List Posting
 posted t time (event.Start u) account = if u == t then [] else account
 posted t time (event.Activate u capacity) account = posted_if (u == t) (activated time) account
@@ -54,26 +53,22 @@ renews t (unit.Make (call.Setsched u policy)) = u == t
 renews t other = false
 
 module _ {P : Type 0} (bodies : Bodies P) where
-  -- the machine as its head begins its tick: the items are handled, and the dispatch is made
-  abbrev pub at_dispatch : Machine P → Turn P
-  at_dispatch m = let ready = instant bodies (turn_of m) in ready ▷ dispatches (head ready.machine)
-
-  -- the tick of the head is entered, and a setsched of the thread begins a new account
+  -- The runner's tick is entered where it is one of the thread at its high priority. A setsched of a thread that lives gives it a new
+  -- server, and that begins a new account.
   abbrev pub posted_tick : ℕ → Option ℕ → Machine P → List Posting → List Posting
   posted_tick t None m account = account
   posted_tick t (Some u) m account =
       if renews t (in_unit bodies (thread_at m u)).unit then (if lives m t then [] else account)
       else posted_if (u == t && has_high (thread_at m t).server) used account
 
-  abbrev pub posted_unless_ended : Option ℕ → ℕ → Machine P → List Posting → List Posting
-  posted_unless_ended (Some signal) t m account = all_posted t (instant bodies (turn_of m)).events account
-  posted_unless_ended None t m account =
-      let begun = at_dispatch m in
-      all_posted t (drop (length begun.events) (tick_of bodies m).events) (posted_tick t (head begun.machine) begun.machine (all_posted t begun.events account))
-
-  -- the account after one tick more
+  -- the account after one tick more: the events that begin it, the tick itself, and the events that finish it
   abbrev pub ticked_account : ℕ → Machine P → List Posting → List Posting
-  ticked_account t m account = posted_unless_ended (instant bodies (turn_of m)).machine.killed t m account
+  ticked_account t m account =
+      let begun = tick_begun bodies m in
+      account
+      ▷ all_posted t begun.events
+      ▷ posted_tick t (runner begun.machine) begun.machine
+      ▷ all_posted t (tick_finished bodies begun.machine).events
 
   -- the account of a thread's server after n ticks, since that server was new
   abbrev pub account : ℕ → Machine P → ℕ → List Posting

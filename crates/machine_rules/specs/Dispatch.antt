@@ -1,5 +1,5 @@
 -- The dispatch: XSH 2.8.4, the thread at the head of the highest list that is not empty runs.
-use Rattle.std.specs.Prelude.{Bool, None, Option, Some, false, true, ℕ, ◌==◌}
+use Rattle.std.specs.Prelude.{Bool, None, Option, Some, false, is_some, true, ℕ, ◌==◌, if◌then◌else◌}
 use Rattle.pse52_trace.specs.declared.event.Event.{Event}
 use Rattle.pse52_trace.specs.declared.event.Event.TheVariants as event
 use Rattle.ready_lists.specs.Lists.{highest}
@@ -12,6 +12,10 @@ use Rattle.machine_rules.specs.Turns.{Turn, becomes, tells, ◌▷◌}
 -- the thread that runs next, or none where all lists are empty
 abbrev pub head : {P : Type 0} → Machine P → Option ℕ
 head m = highest m.lists
+
+-- the thread that a tick is given to: the head, or nobody where the process has ended
+abbrev pub runner : {P : Type 0} → Machine P → Option ℕ
+runner m = if is_some m.killed then None else head m
 
 abbrev pub dispatch_of : Option ℕ → LastDispatch
 dispatch_of None = last.Idle

@@ -13,7 +13,7 @@ use Rattle.machine_rules.specs.State.{Machine, Mutex, Thread, Wait, for_mutex, f
 use Rattle.machine_rules.specs.Threads.{mutex_at, mutex_in, thread_at, thread_in}
 use Rattle.machine_rules.specs.Priorities.{assigned_of, mutex_awaited_by, mutex_waited}
 use Rattle.machine_rules.specs.Waiters.{Waiter, best_waiter}
-use Rattle.machine_rules.specs.Turns.{By, Turn, changes_mutex, has_passed, moves_if, returns, ◌▷◌}
+use Rattle.machine_rules.specs.Turns.{By, Turn, changes_mutex, is_late, moves_if, returns, ◌▷◌}
 use Rattle.machine_rules.specs.Waking.{blocks, wakes, wakes_cancelled}
 
 -- ---- owners
@@ -92,28 +92,23 @@ recursion_limit = 65_535
 abbrev pub locked_again : Mutex → Res → LockAnswer
 locked_again k otherwise = if not k.is_recursive then refused otherwise else if k.count == recursion_limit then refused res.Again else counts
 
-abbrev pub lock_answer : {P : Type 0} → Machine P → ℕ → ℕ → LockAnswer
-lock_answer m t k =
+-- pthread_mutex_lock, and with a time pthread_mutex_timedlock, whose ETIMEDOUT only a lock that must wait can get
+abbrev pub lock_answer : {P : Type 0} → Machine P → ℕ → ℕ → Option ℕ → LockAnswer
+lock_answer m t k due =
     if is_above_ceiling (thread_at m t) (mutex_at m k).protocol then refused res.Inval
     else if owns m t k then locked_again (mutex_at m k) res.Deadlk
     else if is_free m k then takes
     else if closes_cycle m k t then refused res.Deadlk
+    else if is_late due m then refused res.Timedout
     else must_wait
 
+-- pthread_mutex_trylock: EBUSY in the place of EDEADLK and of waiting
 abbrev pub trylock_answer : {P : Type 0} → Machine P → ℕ → ℕ → LockAnswer
 trylock_answer m t k =
     if is_above_ceiling (thread_at m t) (mutex_at m k).protocol then refused res.Inval
     else if owns m t k then locked_again (mutex_at m k) res.Busy
     else if is_free m k then takes
     else refused res.Busy
-
--- ETIMEDOUT of pthread_mutex_timedlock: only a lock that must wait looks at its time
-abbrev pub unless_late : {P : Type 0} → Option ℕ → Machine P → LockAnswer → LockAnswer
-unless_late None m answer = answer
-unless_late (Some at) m (refused result) = refused result
-unless_late (Some at) m counts = counts
-unless_late (Some at) m takes = takes
-unless_late (Some at) m must_wait = if has_passed at m then refused res.Timedout else must_wait
 
 -- ---- locking
 
@@ -125,7 +120,7 @@ locks_on must_wait by k due s = blocks by (for_mutex k) due s
 
 -- pthread_mutex_lock, and with a time pthread_mutex_timedlock
 abbrev pub locks : {P : Type 0} → By → ℕ → Option ℕ → Turn P → Turn P
-locks by k due s = locks_on (unless_late due s.machine (lock_answer s.machine by.thread k)) by k due s
+locks by k due s = locks_on (lock_answer s.machine by.thread k due) by k due s
 
 -- pthread_mutex_trylock
 abbrev pub tries_lock : {P : Type 0} → By → ℕ → Turn P → Turn P

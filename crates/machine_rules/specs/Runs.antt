@@ -9,7 +9,8 @@ use Rattle.machine_rules.specs.State.{Machine, Thread, dormant}
 use Rattle.machine_rules.specs.Threads.{no_thread}
 use Rattle.machine_rules.specs.Declarations.{ThreadDecl, actions_of, mutexes_of, queues_of, semaphores_of, threads_of, timers_of}
 use Rattle.machine_rules.specs.Turns.{Turn, turn_of}
-use Rattle.machine_rules.specs.Ticks.{tick}
+use Rattle.machine_rules.specs.DueItems.{instant}
+use Rattle.machine_rules.specs.Ticks.{goes_on, tick}
 
 -- a dormant thread, with nothing masked and cancellation enabled
 abbrev pub thread_opened : {P : Type 0} → ThreadDecl → Thread P
@@ -48,6 +49,13 @@ follow first more = let second = more first.machine in record { machine = second
 module _ {P : Type 0} (bodies : Bodies P) where
   abbrev pub tick_of : Machine P → Ran P
   tick_of m = ran (tick bodies (turn_of m))
+
+  -- The same in two parts, what begins it and what finishes it: each tick is the one, and the other from the machine that it leaves.
+  abbrev pub tick_begun : Machine P → Ran P
+  tick_begun m = ran (instant bodies (turn_of m))
+
+  abbrev pub tick_finished : Machine P → Ran P
+  tick_finished m = ran (goes_on bodies (turn_of m))
 
   -- n ticks
   abbrev pub ticks : ℕ → Machine P → Ran P

@@ -65,11 +65,15 @@ slice_is_used (policy.Fifo p) slice quantum = false
 slice_is_used (policy.Rr p) slice quantum = slice == quantum
 slice_is_used (policy.Sporadic params) slice quantum = false
 
--- A server that this tick charged has consumed something as long as it is the same server; one that setsched made has not.
+-- Whether the thread's server, as the tick's effect left it, is the one that the tick charged. A tick at the high priority made it
+-- consume one, and only the rule below plans that away; a server that a setsched put in its place has consumed nothing yet.
+abbrev pub is_charged : Bool → Option ServerState → Bool
+is_charged was_high server = was_high && nat_lt 0 (consumed_in server)
+
 abbrev pub tick_end : {P : Type 0} → Bool → ℕ → Thread P → TickEnd
 tick_end was_high quantum th =
-    if was_high && nat_lt 0 (consumed_in th.server) && is_blocked th.status then planning
-    else if was_high && nat_lt 0 (consumed_in th.server) && is_runnable th.status && capacity_in th.server == 0 then exhausting
+    if is_charged was_high th.server && is_blocked th.status then planning
+    else if is_charged was_high th.server && is_runnable th.status && capacity_in th.server == 0 then exhausting
     else if slice_is_used th.policy th.slice quantum then slicing
     else nothing
 
@@ -114,9 +118,10 @@ module _ {P : Type 0} (bodies : Bodies P) where
   abbrev pub runs_head : Turn P → Turn P
   runs_head s = s ▷ dispatches (head s.machine) ▷ runs (head s.machine)
 
+  -- the tick from its dispatch on, unless the process has ended
   abbrev pub goes_on : Turn P → Turn P
   goes_on s = unless_killed s.machine.killed runs_head s
 
-  -- one tick
+  -- one tick: the items of the instant begin it, and the dispatch and what runs then finish it
   abbrev pub tick : Turn P → Turn P
   tick s = s ▷ instant bodies ▷ goes_on

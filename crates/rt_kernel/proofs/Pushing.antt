@@ -20,7 +20,7 @@ use Rattle.machine_rules.specs.Threads.{is_dormant, is_main, thread_at, top_kind
 use Rattle.machine_rules.specs.Throughout.{after_items}
 use Rattle.machine_rules.specs.Ticks.{frames_charged, tick_charged}
 use Rattle.machine_rules.specs.Turns.{Turn, turn_of}
-use Rattle.machine_rules.specs.Units.{InUnit, begins_ending, begins_finish, in_unit, in_unit_if, in_unit_of, top_in_unit}
+use Rattle.machine_rules.specs.Units.{InUnit, advances, begins_finish, choice, in_unit, is_at_end, takes_unit}
 use Rattle.machine_rules.specs.WellFormed.{IsWellFormed}
 use Rattle.machine_moves.proofs.Runs.Units.{bodies_fit}
 use Rattle.machine_laws.specs.GuardedBodies.{BodiesGuarded, most_of}
@@ -30,6 +30,7 @@ use Rattle.machine_laws.proofs.Cleanups.Kept.{items_clean, run_all_clean}
 use Rattle.machine_laws.proofs.Cleanups.Units.{BeforeIn, charged_before, guards_too}
 use Rattle.machine_flat.specs.FlatBodies.{code_of, flat_bodies}
 use Rattle.flat_traces.proofs.Agrees.{carry, flat_agrees}
+use Rattle.machine_rules.proofs.Parts.{by_following}
 use Rattle.machine_places.proofs.CarriedReads.{thread_carries}
 use Rattle.machine_places.proofs.CarriedTicks.{in_unit_carries, items_done_carries}
 use Rattle.machine_places.proofs.CarriedTrace.{runs_carry}
@@ -38,8 +39,8 @@ use Rattle.thread_table.proofs.Statuses.{unit_keeps}
 not_both : {X : Type 0} (b : Bool) → b ≡ false → b ≡ true → X
 not_both b off on = let a : true ≡ false = sym on ∙ off in absurd cc
 
-all_of : (a b : Bool) (n : ℕ) → a ≡ true → b ≡ true → n ≡ 0 → (a && b && n == 0) ≡ true
-all_of a b n p q r = rw (p, q, r) refl
+all_of : (a b : Bool) → a ≡ true → b ≡ true → (a && b) ≡ true
+all_of a b p q = rw (p, q) refl
 
 module _ {P : Type 0} (bodies : Bodies P) where
   -- ---- an ending thread pushes nothing in its main body
@@ -48,54 +49,37 @@ module _ {P : Type 0} (bodies : Bodies P) where
   finish_plain [] th = refl
   finish_plain (f ∷ fs) th = refl
 
-  ending_plain : (us : List ℕ) (th : Thread P) → is_main (top_kind (begins_ending bodies us th).thread.frames) ≡ true → guards_too (begins_ending bodies us th).unit ≡ false
+  ending_plain : (us : List ℕ) (th : Thread P) → is_main (top_kind (takes_unit bodies (choice 0 true us) th).thread.frames) ≡ true → guards_too (takes_unit bodies (choice 0 true us) th).unit ≡ false
   ending_plain [] th main = finish_plain th.frames th
   ending_plain (u ∷ us) th main = absurd cc
 
   module _ (th : Thread P) (ending : th.is_ending ≡ true) where
-    goes_on_plain : (th.is_ending && is_main (top_kind th.frames) && top_left th.frames == 0) ≡ false → (fs : List (Frame P)) → th.frames ≡ fs →
-        is_main (top_kind (in_unit_of bodies fs th).thread.frames) ≡ true → guards_too (in_unit_of bodies fs th).unit ≡ false
-    goes_on_plain off [] same main = refl
-    goes_on_plain off (f ∷ fs) same main = by_left f.left refl main
-      where
-        by_left : (n : ℕ) → f.left ≡ n → is_main (top_kind (top_in_unit bodies n f fs th).thread.frames) ≡ true → guards_too (top_in_unit bodies n f fs th).unit ≡ false
-        by_left zero left main =
-            not_both (th.is_ending && is_main (top_kind th.frames) && top_left th.frames == 0) off
-            (all_of th.is_ending (is_main (top_kind th.frames)) (top_left th.frames) ending (ap (λ (gs : List (Frame P)). is_main (top_kind gs)) same ∙ main) (ap top_left same ∙ left))
-        by_left (suc n) left main = refl
+    advances_plain : is_at_end th ≡ false → (fs : List (Frame P)) → th.frames ≡ fs → is_main (top_kind (advances bodies fs th).thread.frames) ≡ true → guards_too (advances bodies fs th).unit ≡ false
+    advances_plain off [] same main = refl
+    advances_plain off (f ∷ fs) same main = not_both (is_at_end th) off (all_of th.is_ending (is_main (top_kind th.frames)) ending (ap (λ (gs : List (Frame P)). is_main (top_kind gs)) same ∙ main))
 
     unit_plain : is_main (top_kind (in_unit bodies th).thread.frames) ≡ true → guards_too (in_unit bodies th).unit ≡ false
-    unit_plain = by_choice (th.is_ending && is_main (top_kind th.frames) && top_left th.frames == 0) refl
-      where
-        by_choice : (b : Bool) → (th.is_ending && is_main (top_kind th.frames) && top_left th.frames == 0) ≡ b → is_main (top_kind (in_unit_if bodies b th).thread.frames) ≡ true →
-            guards_too (in_unit_if bodies b th).unit ≡ false
-        by_choice true e main = ending_plain th.cleanups th main
-        by_choice false e main = goes_on_plain e th.frames refl main
+    unit_plain =
+        by_following th (λ x. is_main (top_kind (takes_unit bodies x th).thread.frames) ≡ true → guards_too (takes_unit bodies x th).unit ≡ false) (λ n some main. refl) (λ none off. advances_plain off th.frames refl)
+        (λ none end us same. ending_plain us th)
 
   -- ---- what was pushed before the start is nothing
 
-  top_cleanups : (left : ℕ) (f : Frame P) (fs : List (Frame P)) (th : Thread P) → (top_in_unit bodies left f fs th).thread.cleanups ≡ th.cleanups
-  top_cleanups zero f fs th = refl
-  top_cleanups (suc left) f fs th = refl
-
-  of_cleanups : (fs : List (Frame P)) (th : Thread P) → (in_unit_of bodies fs th).thread.cleanups ≡ th.cleanups
-  of_cleanups [] th = refl
-  of_cleanups (f ∷ fs) th = top_cleanups f.left f fs th
+  advances_cleanups : (fs : List (Frame P)) (th : Thread P) → (advances bodies fs th).thread.cleanups ≡ th.cleanups
+  advances_cleanups [] th = refl
+  advances_cleanups (f ∷ fs) th = refl
 
   finish_cleanups : (fs : List (Frame P)) (th : Thread P) → (begins_finish fs th).thread.cleanups ≡ th.cleanups
   finish_cleanups [] th = refl
   finish_cleanups (f ∷ fs) th = refl
 
-  none_ending : (us : List ℕ) (th : Thread P) → us ≡ [] → th.cleanups ≡ [] → (begins_ending bodies us th).thread.cleanups ≡ []
+  none_ending : (us : List ℕ) (th : Thread P) → us ≡ [] → th.cleanups ≡ [] → (takes_unit bodies (choice 0 true us) th).thread.cleanups ≡ []
   none_ending [] th none e = finish_cleanups th.frames th ∙ e
   none_ending (u ∷ us) th none e = absurd cc
 
   none_taken : (th : Thread P) → th.cleanups ≡ [] → (in_unit bodies th).thread.cleanups ≡ []
-  none_taken th e = by_choice (th.is_ending && is_main (top_kind th.frames) && top_left th.frames == 0)
-    where
-      by_choice : (b : Bool) → (in_unit_if bodies b th).thread.cleanups ≡ []
-      by_choice true = none_ending th.cleanups th e e
-      by_choice false = of_cleanups th.frames th ∙ e
+  none_taken th e =
+      by_following th (λ x. (takes_unit bodies x th).thread.cleanups ≡ []) (λ n some. e) (λ none off. advances_cleanups th.frames th ∙ e) (λ none end us same. none_ending us th (sym same ∙ e) e)
 
   -- ---- so at most eight are pushed
 

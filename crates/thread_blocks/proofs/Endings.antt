@@ -1,13 +1,9 @@
 -- The cleanup handlers of an ending thread.
-use Rattle.std.proofs.Common.{◌≡◌, ◌<◌, ℕ, zero, suc, List, [], ◌∷◌, None, Some, arith, length, refl, subst}
+use Rattle.std.proofs.Common.{◌≡◌, ◌<◌, ℕ, zero, suc, true, List, [], ◌∷◌, None, Some, arith, length, refl, subst}
 use Rattle.std.specs.Prelude.{slice_get, slice_index, slice_index_or}
-use Rattle.machine_rules.specs.declared.frame.BodyOf.TheVariants as body_of
-use Rattle.machine_rules.specs.declared.frame.FrameKind.TheVariants as frame
 use Rattle.machine_rules.specs.Bodies.{Bodies}
-use Rattle.machine_rules.specs.Cancellation.{without_cleanup}
 use Rattle.machine_rules.specs.State.{Thread}
-use Rattle.machine_rules.specs.Units.{begins_ending, begins_finish, in_unit_of}
-use Rattle.machine_rules.specs.Waking.{new_frame}
+use Rattle.machine_rules.specs.Units.{begins_cleanup, begins_finish, choice, takes_unit}
 use Rattle.thread_blocks.specs.Handlers.{AreHandlers}
 
 -- a number that is there does not depend on what stands past the end
@@ -17,17 +13,14 @@ number_known (n ∷ ns) zero d lt = refl
 number_known (n ∷ ns) (suc t) d lt = number_known ns t d (omega arith)
 
 -- with no cleanup handler left a thread ends its main body
-pub begun_none : {P : Type 0} (bodies : Bodies P) (us : List ℕ) (th : Thread P) → None ≡ slice_get us 0 → begins_ending bodies us th ≡ begins_finish th.frames th
+pub begun_none : {P : Type 0} (bodies : Bodies P) (us : List ℕ) (th : Thread P) → None ≡ slice_get us 0 → takes_unit bodies (choice 0 true us) th ≡ begins_finish th.frames th
 begun_none bodies [] th e = refl
 begun_none bodies (u ∷ us) th e = absurd cc
 
 -- else the last one begins in a frame of its own
-pub begun_some : {P : Type 0} (bodies : Bodies P) (us : List ℕ) (th : Thread P) (u : ℕ) → Some u ≡ slice_get us 0 →
-    begins_ending bodies us th ≡ in_unit_of bodies (new_frame bodies frame.Cleanup (body_of.Cleanup u) 0 ∷ th.frames) (without_cleanup th)
+pub begun_some : {P : Type 0} (bodies : Bodies P) (us : List ℕ) (th : Thread P) (u : ℕ) → Some u ≡ slice_get us 0 → takes_unit bodies (choice 0 true us) th ≡ begins_cleanup bodies u th
 begun_some bodies [] th u e = absurd cc
-begun_some {P} bodies (v ∷ us) th u e =
-    let same : v ≡ u = cc in
-    subst (λ (x : ℕ). begins_ending bodies (v ∷ us) th ≡ in_unit_of bodies (new_frame bodies frame.Cleanup (body_of.Cleanup x) 0 ∷ th.frames) (without_cleanup th)) same refl
+begun_some {P} bodies (v ∷ us) th u e = let same : v ≡ u = cc in subst (λ (x : ℕ). takes_unit bodies (choice 0 true (v ∷ us)) th ≡ begins_cleanup bodies x th) same refl
 
 -- and it is one of those that are there
 pub first_known : (n u : ℕ) (us : List ℕ) → Some u ≡ slice_get us 0 → AreHandlers n us → u < n

@@ -5,7 +5,7 @@ ghost use Rattle.machine_rules.specs.declared.frame.BodyOf.TheVariants as body_o
 ghost use Rattle.machine_rules.specs.Cancellation.{request_acts, requested, without_cleanup};
 ghost use Rattle.machine_rules.specs.Lives.{with_joiner, without_life, without_top};
 ghost use Rattle.machine_rules.specs.Threads.{is_main, top_kind, top_left};
-ghost use Rattle.machine_rules.specs.Units.{begins_ending, begins_finish, in_unit, in_unit_of};
+ghost use Rattle.machine_rules.specs.Units.{advances, begins_cleanup, begins_finish, choice, in_unit, is_at_end, takes_unit};
 ghost use Rattle.machine_rules.specs.Waking.{ending_with, new_frame, on_top};
 ghost use Rattle.machine_flat.specs.FlatBodies.{flat_bodies};
 ghost use Rattle.machine_flat.specs.Placed.{ArePlaced};
@@ -143,21 +143,17 @@ impl Thread {
 
     // Whether it is ending and takes no more units of its main body.
     fn is_at_end(&self) -> bool
-        ensures { result ≡ (self.now.is_ending && is_main (top_kind self.now.frames) && top_left self.now.frames == 0) }
+        ensures { result ≡ is_at_end self.now }
     {
-        self.is_ending && is_main(self.kind()) && self.left() == 0
+        self.is_ending && is_main(self.kind())
     }
 
-    // The unit of its present body.
-    fn go_on(&mut self, code: &Code) -> Unit
+    // The next unit of its present body.
+    fn advance(&mut self, code: &Code) -> Unit
         requires placed { ArePlaced code.now self.old.frames }
-        ensures unit { result ≡ (in_unit_of (flat_bodies code.now) self.old.frames self.old).unit }
-        ensures thread { self.new ≡ (in_unit_of (flat_bodies code.now) self.old.frames self.old).thread }
+        ensures unit { result ≡ (advances (flat_bodies code.now) self.old.frames self.old).unit }
+        ensures thread { self.new ≡ (advances (flat_bodies code.now) self.old.frames self.old).thread }
     {
-        let left = self.left();
-        if left > 0 {
-            return Unit::Run(left);
-        }
         match self.frames.get_mut(0) {
             None => Unit::Finish,
             Some(frame) => frame.begin(code),
@@ -175,14 +171,15 @@ impl Thread {
         Unit::Finish
     }
 
-    // A cleanup handler begins its first unit in a frame of its own.
+    // The cleanup handler that was pushed last begins its first unit in a frame of its own.
     fn begin_cleanup(&mut self, code: &Code, u: ObjId) -> Unit
         requires known { u < length code.now.cleanups }
         requires begins { HandlersBegin code.now }
         requires room { length self.old.frames ≤ 2 }
-        ensures unit { result ≡ (in_unit_of (flat_bodies code.now) (new_frame (flat_bodies code.now) FrameKind.Cleanup (BodyOf.Cleanup u) 0 ∷ self.old.frames) self.old).unit }
-        ensures thread { self.new ≡ (in_unit_of (flat_bodies code.now) (new_frame (flat_bodies code.now) FrameKind.Cleanup (BodyOf.Cleanup u) 0 ∷ self.old.frames) self.old).thread }
+        ensures unit { result ≡ (begins_cleanup (flat_bodies code.now) u self.old).unit }
+        ensures thread { self.new ≡ (begins_cleanup (flat_bodies code.now) u self.old).thread }
     {
+        self.drop_cleanup();
         let mut frame = handler_frame(code, u);
         let unit = frame.begin(code);
         self.frames.insert(0, frame);
@@ -195,15 +192,12 @@ impl Thread {
         requires room { length self.old.frames ≤ 2 }
         requires begins { HandlersBegin code.now }
         requires handlers { AreHandlers (length code.now.cleanups) self.old.cleanups }
-        ensures unit { result ≡ (begins_ending (flat_bodies code.now) self.old.cleanups self.old).unit }
-        ensures thread { self.new ≡ (begins_ending (flat_bodies code.now) self.old.cleanups self.old).thread }
+        ensures unit { result ≡ (takes_unit (flat_bodies code.now) (choice 0 true self.old.cleanups) self.old).unit }
+        ensures thread { self.new ≡ (takes_unit (flat_bodies code.now) (choice 0 true self.old.cleanups) self.old).thread }
     {
         match self.last_cleanup() {
             None => self.begin_finish(),
-            Some(u) => {
-                self.drop_cleanup();
-                self.begin_cleanup(code, u)
-            }
+            Some(u) => self.begin_cleanup(code, u),
         }
     }
 
@@ -215,10 +209,14 @@ impl Thread {
         ensures unit { result ≡ (in_unit (flat_bodies code.now) self.old).unit }
         ensures thread { self.new ≡ (in_unit (flat_bodies code.now) self.old).thread }
     {
+        let left = self.left();
+        if left > 0 {
+            return Unit::Run(left);
+        }
         if self.is_at_end() {
             self.begin_ending(code)
         } else {
-            self.go_on(code)
+            self.advance(code)
         }
     }
 }

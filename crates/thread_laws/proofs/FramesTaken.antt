@@ -1,6 +1,6 @@
 -- The unit that a thread is in, or takes next, leaves its frames at places of the code, and makes only calls that name what is declared.
 use Rattle.std.proofs.Common.{Bool, List, [], ap, arith, false, length, refl, subst, suc, sym, true, zero, ℕ, ◌∙◌, ◌∷◌, ◌≡◌}
-use Rattle.std.specs.Prelude.{map, slice_index_or, ◌==◌, ◌&&◌}
+use Rattle.std.specs.Prelude.{map, slice_index_or, ◌&&◌}
 use Rattle.std.proofs.lemmas.List.{length-map}
 use Rattle.script_tree.specs.declared.call.Call.{Call}
 use Rattle.script_tree.specs.declared.decl.Script.{Script}
@@ -15,15 +15,16 @@ use Rattle.script_flat.proofs.Agrees.{fetched_agrees, fetched_placed}
 use Rattle.machine_rules.specs.declared.frame.FrameKind.{FrameKind}
 use Rattle.machine_rules.specs.declared.frame.FrameKind.TheVariants as frame
 use Rattle.machine_rules.specs.State.{Frame, Thread, Timer}
-use Rattle.machine_rules.specs.Threads.{is_main, no_thread, thread_at, top_kind, top_left}
+use Rattle.machine_rules.specs.Threads.{is_main, no_thread, thread_at, top_kind}
 use Rattle.machine_rules.specs.Declarations.{ThreadDecl, cleanups_of, threads_of}
-use Rattle.machine_rules.specs.Cancellation.{runs_cleanup, without_cleanup}
-use Rattle.machine_rules.specs.Units.{InUnit, begins_ending, begins_finish, in_unit, in_unit_if, in_unit_of, top_in_unit}
+use Rattle.machine_rules.specs.Cancellation.{without_cleanup}
+use Rattle.machine_rules.specs.Units.{InUnit, advances, begins_finish, choice, in_cleanup, in_unit, takes_unit}
 use Rattle.machine_rules.specs.Ticks.{frames_charged, tick_charged}
 use Rattle.machine_rules.specs.Runs.{opening, thread_opened, ticks}
 use Rattle.machine_rules.specs.Turns.{Turn, turn_of}
 use Rattle.machine_rules.specs.DueItems.{items_done}
 use Rattle.machine_rules.specs.WellFormed.{is_guarding}
+use Rattle.machine_rules.proofs.Parts.{by_following}
 use Rattle.machine_flat.specs.EachCall.{EachMade}
 use Rattle.machine_flat.specs.FlatBodies.{code_of, flat_bodies}
 use Rattle.machine_flat.specs.KnownCalls.{KnowsObjects, objects_of}
@@ -81,19 +82,15 @@ module _ (script : Script) (ok : IsPlaceable script) where
     pub stands : Stands (code_of script) (length (cleanups_of script)) x.thread
     pub unit : TakenStands (objects_of script) x
 
-  taken_top : (left : ℕ) (f : Frame Cursor) (fs : List (Frame Cursor)) (th : Thread Cursor) → th.frames ≡ f ∷ fs → StandsNow th → Taken (top_in_unit (flat_bodies code) left f fs th)
-  taken_top zero f fs th e h =
+  taken_next : (fs : List (Frame Cursor)) (th : Thread Cursor) → th.frames ≡ fs → StandsNow th → Taken (advances (flat_bodies code) fs th)
+  taken_next [] th e h = record { stands = h; unit = tt }
+  taken_next (f ∷ fs) th e h =
       let all : AllStand code (f ∷ fs) = rw e at h.all in
       let ordered : AreInOrder (f ∷ fs) = rw e at h.ordered in
       record {
         stands = record { all = (begun_stands f _ all.0 refl refl, all.1); ordered = ordered; cleanups = h.cleanups };
         unit = next_stands f all.0;
       }
-  taken_top (suc left) f fs th e h = record { stands = h; unit = tt }
-
-  taken_of : (fs : List (Frame Cursor)) (th : Thread Cursor) → th.frames ≡ fs → StandsNow th → Taken (in_unit_of (flat_bodies code) fs th)
-  taken_of [] th e h = record { stands = h; unit = tt }
-  taken_of (f ∷ fs) th e h = taken_top f.left f fs th e h
 
   taken_finish : (fs : List (Frame Cursor)) (th : Thread Cursor) → th.frames ≡ fs → StandsNow th → Taken (begins_finish fs th)
   taken_finish [] th e h = record { stands = h; unit = tt }
@@ -102,25 +99,23 @@ module _ (script : Script) (ok : IsPlaceable script) where
       let ordered : AreInOrder (f ∷ fs) = rw e at h.ordered in
       record { stands = record { all = (record { placed = all.0.placed; plain = all.0.plain }, all.1); ordered = ordered; cleanups = h.cleanups }; unit = tt }
 
-  taken_ending : (us : List ℕ) (th : Thread Cursor) → th.cleanups ≡ us → top_kind th.frames ≡ frame.Main → StandsNow th → Taken (begins_ending (flat_bodies code) us th)
+  taken_ending : (us : List ℕ) (th : Thread Cursor) → th.cleanups ≡ us → top_kind th.frames ≡ frame.Main → StandsNow th → Taken (takes_unit (flat_bodies code) (choice 0 true us) th)
   taken_ending [] th e main h = taken_finish th.frames th refl h
   taken_ending (u ∷ us) th e main h =
-      let begun = runs_cleanup (flat_bodies code) (u ∷ us) (without_cleanup th) in
-      taken_of begun.frames begun refl
+      let begun = in_cleanup (flat_bodies code) u th in
+      taken_next begun.frames begun refl
       (runs_stands script ok (u ∷ us) (without_cleanup th) (rw e at h.cleanups) main
       (record { all = h.all; ordered = h.ordered; cleanups = dropped_declared script ok th.cleanups h.cleanups }))
 
-  main_of : (kind : FrameKind) (a b : Bool) → (a && is_main kind && b) ≡ true → kind ≡ frame.Main
-  main_of frame.Main a b e = refl
-  main_of frame.Cleanup a b e = absurd (grind arith)
-  main_of frame.Signal a b e = absurd (grind arith)
+  main_of : (kind : FrameKind) (a : Bool) → (a && is_main kind) ≡ true → kind ≡ frame.Main
+  main_of frame.Main a e = refl
+  main_of frame.Cleanup a e = absurd (grind arith)
+  main_of frame.Signal a e = absurd (grind arith)
 
   pub taken : (th : Thread Cursor) → StandsNow th → Taken (in_unit (flat_bodies code) th)
-  taken th h = by_ending (th.is_ending && is_main (top_kind th.frames) && top_left th.frames == 0) refl
-    where
-      by_ending : (b : Bool) → (th.is_ending && is_main (top_kind th.frames) && top_left th.frames == 0) ≡ b → Taken (in_unit_if (flat_bodies code) b th)
-      by_ending true e = taken_ending th.cleanups th refl (main_of (top_kind th.frames) th.is_ending (top_left th.frames == 0) e) h
-      by_ending false e = taken_of th.frames th refl h
+  taken th h =
+      by_following th (λ x. Taken (takes_unit (flat_bodies code) x th)) (λ n some. record { stands = h; unit = tt }) (λ none going. taken_next th.frames th refl h)
+      (λ none end us same. taken_ending us th same (main_of (top_kind th.frames) th.is_ending end) h)
 
   -- ---- its charge
 

@@ -1,19 +1,19 @@
 -- The head runs: what a tick does to the counts of the threads.
 use Rattle.std.proofs.Common.{Bool, List, None, Option, Some, [], add-one, arith, false, length, refl, suc, true, zero, ℕ, ◌+◌, ◌<◌, ◌∙◌, ◌∷◌, ◌≡◌}
-use Rattle.std.specs.Prelude.{◌==◌, ◌&&◌}
+use Rattle.std.specs.Prelude.{◌==◌}
 use Rattle.std.proofs.lemmas.List.{length-map}
 use Rattle.script_tree.specs.declared.decl.Script.{Script}
 use Rattle.script_flat.specs.Next.{Place}
 use Rattle.machine_rules.specs.Lists.{is}
 use Rattle.machine_rules.specs.Bodies.{Bodies}
 use Rattle.machine_rules.specs.State.{Frame, Machine, Thread}
-use Rattle.machine_rules.specs.Threads.{is_main, thread_at, top_kind, top_left}
+use Rattle.machine_rules.specs.Threads.{thread_at}
 use Rattle.machine_rules.specs.Turns.{Turn, turn_of}
 use Rattle.machine_rules.specs.Declarations.{threads_of}
 use Rattle.machine_rules.specs.Cancellation.{runs_cleanup_if}
 use Rattle.machine_rules.specs.DueItems.{instant}
 use Rattle.machine_rules.specs.Dispatch.{head}
-use Rattle.machine_rules.specs.Units.{begins_ending, begins_finish, in_unit, in_unit_if, in_unit_of, top_in_unit}
+use Rattle.machine_rules.specs.Units.{Following, advances, advancing, begins_finish, cleaning_up, continuing, finishing, following, in_unit, takes_unit}
 use Rattle.machine_rules.specs.Ticks.{runs_head, tick, tick_charged, unless_killed}
 use Rattle.machine_rules.specs.Runs.{opening, thread_opened, ticks}
 use Rattle.machine_rules.specs.Machine.{bodies_of, machine}
@@ -71,28 +71,22 @@ module _ {P : Type 0} (bodies : Bodies P) (count : ℕ) (T : ℕ → ℕ) where
 -- ---- nor does the beginning of a unit
 
 module _ {P : Type 0} (bodies : Bodies P) where
-  in_unit_of_ticks : (fs : List (Frame P)) (th : Thread P) → (in_unit_of bodies fs th).thread.ticks ≡ th.ticks
-  in_unit_of_ticks [] th = refl
-  in_unit_of_ticks (f ∷ fs) th = by_left f.left
-    where
-      by_left : (left : ℕ) → (top_in_unit bodies left f fs th).thread.ticks ≡ th.ticks
-      by_left zero = refl
-      by_left (suc left) = refl
+  advances_ticks : (fs : List (Frame P)) (th : Thread P) → (advances bodies fs th).thread.ticks ≡ th.ticks
+  advances_ticks [] th = refl
+  advances_ticks (f ∷ fs) th = refl
 
-  ending_ticks : (us : List ℕ) (th : Thread P) → (begins_ending bodies us th).thread.ticks ≡ th.ticks
-  ending_ticks [] th = by_frames th.frames
-    where
-      by_frames : (fs : List (Frame P)) → (begins_finish fs th).thread.ticks ≡ th.ticks
-      by_frames [] = refl
-      by_frames (f ∷ fs) = refl
-  ending_ticks (u ∷ us) th = refl
+  finish_ticks : (fs : List (Frame P)) (th : Thread P) → (begins_finish fs th).thread.ticks ≡ th.ticks
+  finish_ticks [] th = refl
+  finish_ticks (f ∷ fs) th = refl
 
   pub in_unit_ticks : (th : Thread P) → (in_unit bodies th).thread.ticks ≡ th.ticks
-  in_unit_ticks th = by_ending (th.is_ending && is_main (top_kind th.frames) && top_left th.frames == 0)
+  in_unit_ticks th = by_case (following th)
     where
-      by_ending : (b : Bool) → (in_unit_if bodies b th).thread.ticks ≡ th.ticks
-      by_ending true = ending_ticks th.cleanups th
-      by_ending false = in_unit_of_ticks th.frames th
+      by_case : (x : Following) → (takes_unit bodies x th).thread.ticks ≡ th.ticks
+      by_case (continuing left) = refl
+      by_case advancing = advances_ticks th.frames th
+      by_case (cleaning_up u) = refl
+      by_case finishing = finish_ticks th.frames th
 
 -- ---- a tick counts for the head alone
 

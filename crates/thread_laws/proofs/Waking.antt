@@ -1,5 +1,5 @@
 -- What threads keep, they keep where they answer, block, wake and start, where their servers act, and where mutexes change hands.
-use Rattle.std.proofs.Common.{Bool, None, Option, Some, false, inl, inr, length, refl, subst, suc, sym, true, zero, ℕ, ◌∙◌, ◌≡◌, ◌⊎◌}
+use Rattle.std.proofs.Common.{Bool, None, Option, Some, false, inl, inr, length, refl, subst, suc, sym, true, zero, ℕ, ◌∙◌, ◌≡◌}
 use Rattle.std.specs.Prelude.{nat_lt, not, option_and_then, ◌&&◌, ◌||◌}
 use Rattle.tick_num.specs.declared.res.Res.{Res}
 use Rattle.tick_num.specs.declared.res.Res.TheVariants as res
@@ -16,7 +16,7 @@ use Rattle.machine_rules.specs.Turns.{By, Turn, answered, changes, changes_mutex
 use Rattle.machine_rules.specs.CallNames.{name_of}
 use Rattle.machine_rules.specs.Servers.{activates_if, activates_server, amount_of, high_server, plans_for, refills_for, regains_high, with_server}
 use Rattle.machine_rules.specs.Waking.{blocks, blocks_unordered, call_in, cancelled_value, ending_with, put_to_wait, started, starts, wakes, wakes_cancelled, wakes_telling, woken}
-use Rattle.machine_rules.specs.Mutexes.{LockAnswer, counted_up, counts, hands_over, is_free, lock_answer, locks, locks_on, moves_unless_boosted, must_wait, owned_by, owns, owns_boosting, refused, releases, returns_from_wait, taken_by, takes, unless_late, unlocks, waits_for_mutex, wakes_owner}
+use Rattle.machine_rules.specs.Mutexes.{LockAnswer, counted_up, counts, hands_over, is_free, lock_answer, locks, locks_on, moves_unless_boosted, must_wait, owned_by, owns, owns_boosting, refused, releases, returns_from_wait, taken_by, takes, unlocks, waits_for_mutex, wakes_owner}
 use Rattle.machine_rules.specs.Conditions.{broadcasts, contends, contends_for, released_mutex, signals, signals_best_of, signals_waiter, waits, waits_on_condition, waits_with_other_mutex}
 use Rattle.machine_rules.specs.Semaphores.{blocks_unless_late}
 use Rattle.machine_rules.specs.Cancellation.{request_acts}
@@ -126,7 +126,7 @@ module _ {P : Type 0} (given : Given P) (Q : ℕ → ℕ → Thread P → Type 0
   locks_on_hold must_wait by k due s may h = blocks_hold by (for_mutex k) due s may h
 
   pub locks_hold : (by : By) (k : ℕ) (due : Option ℕ) (s : Turn P) → MayBlock by (for_mutex k) → Holding s → Holding (locks by k due s)
-  locks_hold by k due s may h = locks_on_hold (unless_late due s.machine (lock_answer s.machine by.thread k)) by k due s may h
+  locks_hold by k due s may h = locks_on_hold (lock_answer s.machine by.thread k due) by k due s may h
 
   -- a wait ends so
   abbrev pub MayReturn : CondEnd → Thread P → Type 0

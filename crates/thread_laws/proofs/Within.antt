@@ -12,7 +12,7 @@ use Rattle.machine_rules.specs.Threads.{no_thread}
 use Rattle.machine_rules.specs.Declarations.{ThreadDecl, threads_of}
 use Rattle.machine_rules.specs.Servers.{charged, server_of}
 use Rattle.machine_rules.specs.Cancellation.{runs_cleanup_if}
-use Rattle.machine_rules.specs.Units.{begins_ending, begins_finish, in_unit, in_unit_if, in_unit_of, top_in_unit}
+use Rattle.machine_rules.specs.Units.{Following, advances, advancing, begins_finish, cleaning_up, continuing, finishing, in_unit, takes_unit}
 use Rattle.machine_rules.specs.Ticks.{slice_charged, tick_charged}
 use Rattle.machine_rules.specs.Runs.{opening, thread_opened}
 use Rattle.machine_rules.specs.Throughout.{HoldsThroughout, after_items}
@@ -108,25 +108,19 @@ module _ {P : Type 0} (bodies : Bodies P) (count : ℕ) where
 
   -- ---- a tick
 
-  in_unit_of_within : (now : ℕ) (fs : List (Frame P)) (th : Thread P) → IsWithin now th → IsWithin now (in_unit_of bodies fs th).thread
-  in_unit_of_within now [] th h = h
-  in_unit_of_within now (f ∷ fs) th h = by_left f.left
-    where
-      by_left : (left : ℕ) → IsWithin now (top_in_unit bodies left f fs th).thread
-      by_left zero = same now th _ refl refl refl h
-      by_left (suc left) = h
+  advances_within : (now : ℕ) (fs : List (Frame P)) (th : Thread P) → IsWithin now th → IsWithin now (advances bodies fs th).thread
+  advances_within now [] th h = h
+  advances_within now (f ∷ fs) th h = same now th _ refl refl refl h
 
-  ending_within : (now : ℕ) (us : List ℕ) (th : Thread P) → IsWithin now th → IsWithin now (begins_ending bodies us th).thread
-  ending_within now [] th h = by_frames th.frames
-    where
-      by_frames : (fs : List (Frame P)) → IsWithin now (begins_finish fs th).thread
-      by_frames [] = h
-      by_frames (f ∷ fs) = same now th _ refl refl refl h
-  ending_within now (u ∷ us) th h = same now th _ refl refl refl h
+  finish_within : (now : ℕ) (fs : List (Frame P)) (th : Thread P) → IsWithin now th → IsWithin now (begins_finish fs th).thread
+  finish_within now [] th h = h
+  finish_within now (f ∷ fs) th h = same now th _ refl refl refl h
 
-  in_unit_within : (now : ℕ) (b : Bool) (th : Thread P) → IsWithin now th → IsWithin now (in_unit_if bodies b th).thread
-  in_unit_within now true th h = ending_within now th.cleanups th h
-  in_unit_within now false th h = in_unit_of_within now th.frames th h
+  in_unit_within : (now : ℕ) (x : Following) (th : Thread P) → IsWithin now th → IsWithin now (takes_unit bodies x th).thread
+  in_unit_within now (continuing left) th h = h
+  in_unit_within now advancing th h = advances_within now th.frames th h
+  in_unit_within now (cleaning_up u) th h = same now th _ refl refl refl h
+  in_unit_within now finishing th h = finish_within now th.frames th h
 
   charged_within : (now : ℕ) (th : Thread P) → IsWithin now th → IsWithin (now + 1) (tick_charged th)
   charged_within now th h = record {

@@ -10,33 +10,27 @@ use Rattle.machine_rules.specs.Priorities.{assigned_under, claim_of, mutex_await
 use Rattle.machine_rules.specs.Servers.{with_server}
 use Rattle.machine_rules.specs.State.{Frame, Thread}
 use Rattle.machine_rules.specs.Threads.{is_main, top_kind, top_left}
-use Rattle.machine_rules.specs.Units.{begins_ending, begins_finish, frame_begins, in_unit, in_unit_if, in_unit_of, next_of, top_in_unit}
+use Rattle.machine_rules.specs.Units.{Following, advances, advancing, begins_finish, cleaning_up, continuing, finishing, following, frame_begins, in_cleanup, in_unit, next_of, takes_unit}
 
 -- what goes by neither frames nor cleanup handlers
 module _ {P X : Type 0} (bodies : Bodies P) (view : Thread P → X) (same : (th : Thread P) (fs : List (Frame P)) (us : List ℕ) → view (record th { frames = fs; cleanups = us }) ≡ view th) where
-  top_keeps : (left : ℕ) (f : Frame P) (fs : List (Frame P)) (th : Thread P) → view (top_in_unit bodies left f fs th).thread ≡ view th
-  top_keeps zero f fs th = same th (frame_begins (next_of bodies f) f ∷ fs) th.cleanups
-  top_keeps (suc left) f fs th = refl
-
-  of_keeps : (fs : List (Frame P)) (th : Thread P) → view (in_unit_of bodies fs th).thread ≡ view th
-  of_keeps [] th = refl
-  of_keeps (f ∷ fs) th = top_keeps f.left f fs th
+  advances_keeps : (fs : List (Frame P)) (th : Thread P) → view (advances bodies fs th).thread ≡ view th
+  advances_keeps [] th = refl
+  advances_keeps (f ∷ fs) th = same th (frame_begins (next_of bodies f) f ∷ fs) th.cleanups
 
   finish_keeps : (fs : List (Frame P)) (th : Thread P) → view (begins_finish fs th).thread ≡ view th
   finish_keeps [] th = refl
   finish_keeps (f ∷ fs) th = same th (record f { left = 1 } ∷ fs) th.cleanups
 
-  ending_keeps : (us : List ℕ) (th : Thread P) → view (begins_ending bodies us th).thread ≡ view th
-  ending_keeps [] th = finish_keeps th.frames th
-  ending_keeps (u ∷ us) th = let begun = runs_cleanup bodies (u ∷ us) (without_cleanup th) in of_keeps begun.frames begun ∙ same th begun.frames begun.cleanups
-
-  by_choice : (b : Bool) (th : Thread P) → view (in_unit_if bodies b th).thread ≡ view th
-  by_choice true th = ending_keeps th.cleanups th
-  by_choice false th = of_keeps th.frames th
-
   -- a thread that takes a unit keeps it
   pub unit_keeps : (th : Thread P) → view (in_unit bodies th).thread ≡ view th
-  unit_keeps th = by_choice (th.is_ending && is_main (top_kind th.frames) && top_left th.frames == 0) th
+  unit_keeps th = by_case (following th)
+    where
+      by_case : (x : Following) → view (takes_unit bodies x th).thread ≡ view th
+      by_case (continuing left) = refl
+      by_case advancing = advances_keeps th.frames th
+      by_case (cleaning_up u) = let begun = in_cleanup bodies u th in advances_keeps begun.frames begun ∙ same th begun.frames begun.cleanups
+      by_case finishing = finish_keeps th.frames th
 
 activated_under : (now : ℕ) (p : Policy) (o : Option ServerState) → assigned_under p (option_map (activate now) o) ≡ assigned_under p o
 activated_under now (policy.Fifo p) o = refl

@@ -13,7 +13,7 @@ use Rattle.machine_rules.specs.Waking.{cancelled_value, ending_with, wakes}
 use Rattle.machine_rules.specs.Cancellation.{is_cancellation_point, is_cancelled, request_acts}
 use Rattle.machine_rules.specs.Lives.{inherited_mask}
 use Rattle.machine_rules.specs.Scheduling.{takes_priority, with_policy}
-use Rattle.machine_rules.specs.Mutexes.{lock_answer, owns_boosting, trylock_answer, unless_late}
+use Rattle.machine_rules.specs.Mutexes.{lock_answer, owns_boosting, trylock_answer}
 use Rattle.machine_rules.specs.Conditions.{signals_best, signals_best_of, waits_on_condition}
 use Rattle.machine_rules.specs.Semaphores.{waits_on_semaphore}
 use Rattle.machine_rules.specs.Waiters.{best_waiter, waiters}
@@ -48,9 +48,9 @@ calls_come bodies b (call.Setsched u policy) s =
     let c = changes u (with_policy policy s.machine.now) r in
     let x = activates_if (can_run s.machine u) u c in
     if_come (lives s.machine u) _ _ s (setsched_come b u policy s.machine.now (can_run s.machine u) (not (owns_boosting x.machine u)) s) (returns_come b res.Srch 0 s)
-calls_come bodies b (call.Lock k) s = locks_on_come (lock_answer s.machine b.thread k) b k None s
+calls_come bodies b (call.Lock k) s = locks_on_come (lock_answer s.machine b.thread k None) b k None s
 calls_come bodies b (call.Timedlock k at) s =
-    let due = Some (number_of s.machine b.thread at) in locks_on_come (unless_late due s.machine (lock_answer s.machine b.thread k)) b k due s
+    let due = Some (number_of s.machine b.thread at) in locks_on_come (lock_answer s.machine b.thread k due) b k due s
 calls_come bodies b (call.Trylock k) s = locks_on_come (trylock_answer s.machine b.thread k) b k None s
 calls_come bodies b (call.Unlock k) s = unlocks_come b k s
 calls_come bodies b (call.Wait c k) s = waits_come b c k None s

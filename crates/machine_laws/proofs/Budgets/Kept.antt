@@ -1,6 +1,6 @@
 -- The law of the budget, in every state of every run.
-use Rattle.std.proofs.Common.{Bool, List, None, Option, Some, [], ap, arith, false, length, refl, suc, sym, true, zero, ℕ, ◌+◌, ◌∷◌, ◌++◌, ◌≡◌}
-use Rattle.std.specs.Prelude.{drop, is_some, option_map, ◌==◌, ◌&&◌, if◌then◌else◌}
+use Rattle.std.proofs.Common.{Bool, List, None, Option, Some, [], ap, arith, false, refl, suc, sym, true, zero, ℕ, ◌+◌, ◌∷◌, ◌++◌, ◌≡◌}
+use Rattle.std.specs.Prelude.{is_some, option_map, ◌==◌, ◌&&◌, if◌then◌else◌}
 use mathlib.Core.Path.{subst, ◌∙◌}
 use Rattle.script_tree.specs.declared.call.Call.{Call}
 use Rattle.script_tree.specs.declared.call.Call.TheVariants as call
@@ -12,7 +12,7 @@ use Rattle.pse52_trace.specs.Text.{Entry}
 use Rattle.sporadic_server.specs.Server.{ServerState}
 use Rattle.machine_rules.specs.Throughout.{after_items, turn_after}
 use Rattle.machine_laws.proofs.Items.{servers_throughout}
-use Rattle.machine_rules.specs.Budget.{KeepsBudgets, KeepsServer, Posting, account, account_after, all_posted, posted_if, posted_tick, posted_unless_ended, renews, ticked_account, used}
+use Rattle.machine_rules.specs.Budget.{KeepsBudgets, KeepsServer, Posting, account, account_after, all_posted, posted_if, posted_tick, renews, ticked_account, used}
 use Rattle.machine_rules.specs.Bodies.{Bodies}
 use Rattle.machine_rules.specs.State.{Machine, Status, Thread}
 use Rattle.machine_rules.specs.Threads.{can_run, is_live, lives, thread_at, top_left}
@@ -23,12 +23,12 @@ use Rattle.machine_rules.specs.DueItems.{instant, items_done, next_item}
 use Rattle.machine_rules.specs.Dispatch.{dispatch_event, dispatches, head, is_same, tells_unless}
 use Rattle.machine_rules.specs.Units.{in_unit}
 use Rattle.machine_rules.specs.Ticks.{completes_at, ends_tick, runs, runs_head, tick_charged, tick_end, unless_killed}
-use Rattle.machine_rules.specs.Runs.{opening, tick_of, ticks}
+use Rattle.machine_rules.specs.Runs.{Ran, opening, tick_of, ticks}
 use Rattle.machine_rules.specs.Declarations.{threads_of}
 use Rattle.machine_rules.specs.GoodState.{is_sporadic}
 use Rattle.machine_rules.proofs.ItemsEnd.{instant_ends}
+use Rattle.machine_rules.proofs.Parts.{tick_in_parts}
 use Rattle.machine_rules.proofs.Reading.{thread-other, thread-same}
-use Rattle.machine_moves.specs.Moves.{is_plain}
 use Rattle.machine_rules.specs.WellFormed.{IsWellFormed}
 use Rattle.machine_moves.specs.UnitRanges.{BodiesFit}
 use Rattle.machine_moves.proofs.Waiters.Best.{running_within}
@@ -41,13 +41,9 @@ use Rattle.machine_laws.proofs.Parts.Opening.{opening_listed}
 use Rattle.machine_laws.proofs.Servers.Kept.{opened_server, opening_served}
 use Rattle.machine_laws.proofs.Budgets.Units.{Book, BookDone, BooksOf, NotDue, book_round, booked_later, booked_ticked, ends_booked, not_due, one_tick, renewing_unit, renews_booked, unit_booked}
 use Rattle.machine_laws.proofs.Budgets.Accounts.{keeps_account}
-use Rattle.machine_laws.proofs.Budgets.Moves.{Booked, Posted, told_plainly}
+use Rattle.machine_laws.proofs.Budgets.Moves.{Booked, Posted}
 
 -- ---- a tick
-
-drop_first : {X : Type 0} (xs ys : List X) → drop (length xs) (xs ++ ys) ≡ ys
-drop_first [] ys = refl
-drop_first (x ∷ xs) ys = drop_first xs ys
 
 none_more : {X : Type 0} (xs : List X) → xs ++ [] ≡ xs
 none_more [] = refl
@@ -153,78 +149,63 @@ module _ {P : Type 0} (bodies : Bodies P) (known : BodiesFit bodies) (t : ℕ) w
 
   -- ---- a whole tick
 
-  plain_dispatch : (m : Machine P) (to : Option ℕ) → is_plain (dispatch_event m to) ≡ true
-  plain_dispatch m None = refl
-  plain_dispatch m (Some u) = refl
-
-  dispatched_posted : (acc : List Posting) (to : Option ℕ) (s : Turn P) → Posted bodies t [] acc s → Posted bodies t [] acc (dispatches to s)
-  dispatched_posted acc to s q = unless (is_same s.machine.last to)
-    where
-      unless : (b : Bool) → Posted bodies t [] acc (tells_unless b (dispatch_event s.machine to) s)
-      unless true = q
-      unless false = told_plainly bodies t [] acc Booked (dispatch_event s.machine to) s (plain_dispatch s.machine to) q
-
   -- what is posted of all the events so far
   all_told : (acc : List Posting) (s : Turn P) → Posted bodies t [] acc s → BooksOf s.machine.now (thread_at s.machine t) (all_posted t s.events acc)
   all_told acc s q = subst (λ (es : List Entry). BooksOf s.machine.now (thread_at s.machine t) (all_posted t es acc)) (sym q.1) q.2
 
-  -- and of those since
-  since_told : (pre : List Entry) (acc : List Posting) (s : Turn P) → Posted bodies t pre acc s → BooksOf s.machine.now (thread_at s.machine t) (all_posted t (drop (length pre) s.events) acc)
-  since_told pre acc s q =
-      subst (λ (es : List Entry). BooksOf s.machine.now (thread_at s.machine t) (all_posted t (drop (length pre) es) acc)) (sym q.1)
-      (subst (λ (es : List Entry). BooksOf s.machine.now (thread_at s.machine t) (all_posted t es acc)) (sym (drop_first pre q.0)) q.2)
+  -- a dispatch is not posted
+  dispatch_unposted : (o : Option ℕ) (m : Machine P) (es : List Entry) (acc : List Posting) → all_posted t ((dispatches o (turn_of m)).events ++ es) acc ≡ all_posted t es acc
+  dispatch_unposted o m es acc = unless (is_same m.last o) o
+    where
+      unless : (b : Bool) (to : Option ℕ) → all_posted t ((tells_unless b (dispatch_event m to) (turn_of m)).events ++ es) acc ≡ all_posted t es acc
+      unless true to = refl
+      unless false None = refl
+      unless false (Some u) = refl
 
-  module _ (ready : Turn P) (acc : List Posting) (alive : ready.machine.killed ≡ None) (ends : next_item ready.machine ≡ None) (right : ServedRight bodies ready) (listed : AllRun ready.machine ready.machine.lists) (q : Posted bodies t [] acc ready) where
+  module _ (ready : Machine P) (before : List Posting) (ends : next_item ready ≡ None) (right : ServedRight bodies (turn_of ready)) (listed : AllRun ready ready.lists) (h : BooksOf ready.now (thread_at ready t) before) where
+    abbrev begun : Option ℕ → Turn P
+    begun o = dispatches o (turn_of ready)
+
     abbrev ran_to : Option ℕ → Turn P
-    ran_to o = runs bodies o (dispatches o ready)
+    ran_to o = runs bodies o (begun o)
 
-    ready_due : (x : ServerState) → (thread_at ready.machine t).server ≡ Some x → NotDue ready.machine.now x
-    ready_due x e = not_due ready.machine alive ends t x e ((right.1 t).each x e).sound.rising
+    module _ (alive : ready.killed ≡ None) where
+      ready_due : (x : ServerState) → (thread_at ready t).server ≡ Some x → NotDue ready.now x
+      ready_due x e = not_due ready alive ends t x e ((right.1 t).each x e).sound.rising
 
-    begun_due : (o : Option ℕ) (x : ServerState) → (thread_at (dispatches o ready).machine t).server ≡ Some x → NotDue (dispatches o ready).machine.now x
-    begun_due o = subst (λ (m : Machine P). (x : ServerState) → (thread_at m t).server ≡ Some x → NotDue m.now x) (sym (dispatched o ready)) ready_due
+      begun_due : (o : Option ℕ) (x : ServerState) → (thread_at (begun o).machine t).server ≡ Some x → NotDue (begun o).machine.now x
+      begun_due o = subst (λ (m : Machine P). (x : ServerState) → (thread_at m t).server ≡ Some x → NotDue m.now x) (sym (dispatched o (turn_of ready))) ready_due
 
-    headed : (o : Option ℕ) → head ready.machine ≡ o →
-        BooksOf (ran_to o).machine.now (thread_at (ran_to o).machine t) (all_posted t (drop (length (dispatches o ready).events) (ran_to o).events) (posted_tick bodies t o (dispatches o ready).machine (all_posted t (dispatches o ready).events acc)))
-    headed None e =
-        let to = dispatches None ready in
-        let h = all_told acc to (dispatched_posted acc None ready q) in
-        subst (λ (es : List Entry). BooksOf (to.machine.now + 1) (thread_at to.machine t) (all_posted t es (all_posted t to.events acc))) (sym (none_left_over to.events))
-        (λ x k. booked_later to.machine.now (thread_at to.machine t).status x (all_posted t to.events acc) (begun_due None x k) (h x k))
-      where
-        none_left_over : (es : List Entry) → drop (length es) es ≡ []
-        none_left_over [] = refl
-        none_left_over (e ∷ es) = none_left_over es
-    headed (Some u) e =
-        let to = dispatches (Some u) ready in
-        let can : can_run ready.machine u ≡ true = head_can_run ready.machine u listed e in
-        let can' : can_run to.machine u ≡ true = ap (λ (m : Machine P). can_run m u) (dispatched (Some u) ready) ∙ can in
-        let h = all_told acc to (dispatched_posted acc (Some u) ready q) in
-        let mid = (served_tick bodies).charges u ready ends can right in
-        since_told to.events (posted_tick bodies t (Some u) to.machine (all_posted t to.events acc)) (ran_to (Some u))
-        (runs_booked u to can' (dispatched_threads bodies (Some u) ready right.1) (begun_due (Some u)) (all_posted t to.events acc) h mid).1
+      begun_books : (o : Option ℕ) → BooksOf (begun o).machine.now (thread_at (begun o).machine t) before
+      begun_books o = subst (λ (m : Machine P). BooksOf m.now (thread_at m t) before) (sym (dispatched o (turn_of ready))) h
+
+      headed : (o : Option ℕ) → head ready ≡ o → BooksOf (ran_to o).machine.now (thread_at (ran_to o).machine t) (all_posted t (ran_to o).events (posted_tick bodies t o ready before))
+      headed None e =
+          subst (λ (acc : List Posting). BooksOf ((begun None).machine.now + 1) (thread_at (begun None).machine t) acc) (sym (dispatch_unposted None ready [] before) ∙ ap (λ (es : List Entry). all_posted t es before) (none_more (begun None).events))
+          (λ x k. booked_later (begun None).machine.now (thread_at (begun None).machine t).status x before (begun_due None x k) (begun_books None x k))
+      headed (Some u) e =
+          let to = begun (Some u) in
+          let ran = ran_to (Some u) in
+          let can' : can_run to.machine u ≡ true = ap (λ (m : Machine P). can_run m u) (dispatched (Some u) (turn_of ready)) ∙ head_can_run ready u listed e in
+          let mid = (served_tick bodies).charges u (turn_of ready) ends (head_can_run ready u listed e) right in
+          let q = (runs_booked u to can' (dispatched_threads bodies (Some u) (turn_of ready) right.1) (begun_due (Some u)) before (begun_books (Some u)) mid).1 in
+          let entered = posted_tick bodies t (Some u) ready before in
+          subst (λ (acc : List Posting). BooksOf ran.machine.now (thread_at ran.machine t) acc)
+          (ap (λ (m : Machine P). all_posted t q.0 (posted_tick bodies t (Some u) m before)) (dispatched (Some u) (turn_of ready))
+          ∙ sym (dispatch_unposted (Some u) ready q.0 entered) ∙ ap (λ (es : List Entry). all_posted t es entered) (sym q.1)) q.2
+
+    -- what finishes the tick, unless the process has ended
+    finished : (k : Option ℕ) → ready.killed ≡ k → let s = unless_killed k (runs_head bodies) (turn_of ready) in
+        BooksOf s.machine.now (thread_at s.machine t) (all_posted t s.events (posted_tick bodies t (if is_some k then None else head ready) ready before))
+    finished (Some signal) e = h
+    finished None e = headed e (head ready) refl
 
   tick_booked : (m : Machine P) (acc : List Posting) → ServedRight bodies (turn_of m) → AllRun m m.lists → BooksOf m.now (thread_at m t) acc → BooksOf (tick_of bodies m).machine.now (thread_at (tick_of bodies m).machine t) (ticked_account bodies t m acc)
-  tick_booked m acc right listed h = by_killed (instant bodies (turn_of m)).machine.killed refl
-    where
-      rests : Rests bodies (Book bodies t [] acc) (instant bodies (turn_of m))
-      rests = instant_keep bodies (Book bodies t [] acc) (book_round bodies t [] acc) (turn_of m) ((right, ([], refl, h)), listed)
-
-      same_head : (o : Option ℕ) → head (dispatches o (instant bodies (turn_of m))).machine ≡ head (instant bodies (turn_of m)).machine
-      same_head o = ap (λ (n : Machine P). head n) (dispatched o (instant bodies (turn_of m)))
-
-      by_killed : (k : Option ℕ) → (instant bodies (turn_of m)).machine.killed ≡ k →
-          BooksOf (unless_killed k (runs_head bodies) (instant bodies (turn_of m))).machine.now (thread_at (unless_killed k (runs_head bodies) (instant bodies (turn_of m))).machine t) (posted_unless_ended bodies k t m acc)
-      by_killed (Some signal) e = all_told acc (instant bodies (turn_of m)) rests.0.1
-      by_killed None e =
-          let ready = instant bodies (turn_of m) in
-          let o = head ready.machine in
-          let begun = dispatches o ready in
-          let ran = runs bodies o begun in
-          let before = all_posted t begun.events acc in
-          subst (λ (es : List Entry). BooksOf ran.machine.now (thread_at ran.machine t) (all_posted t (drop (length begun.events) es) (posted_tick bodies t (head begun.machine) begun.machine before))) (sym (ap (λ (k : Option ℕ). (unless_killed k (runs_head bodies) ready).events) e))
-          (subst (λ (to : Option ℕ). BooksOf ran.machine.now (thread_at ran.machine t) (all_posted t (drop (length begun.events) ran.events) (posted_tick bodies t to begun.machine before))) (sym (same_head o))
-          (headed ready acc e (instant_ends bodies (turn_of m)) rests.0.0 rests.1 rests.0.1 o refl))
+  tick_booked m acc right listed h =
+      let ready = instant bodies (turn_of m) in
+      let rests : Rests bodies (Book bodies t [] acc) ready = instant_keep bodies (Book bodies t [] acc) (book_round bodies t [] acc) (turn_of m) ((right, ([], refl, h)), listed) in
+      subst (λ (n : Machine P). BooksOf n.now (thread_at n t) (ticked_account bodies t m acc)) (sym (ap (λ (x : Ran P). x.machine) (tick_in_parts bodies m)))
+      (finished ready.machine (all_posted t ready.events acc) (instant_ends bodies (turn_of m)) rests.0.0 rests.1 (all_told acc ready rests.0.1) ready.machine.killed refl)
 
   -- ---- a run
 

@@ -1,7 +1,7 @@
 -- The books of a server through a unit and the end of a tick, and that nothing pending is due where no item is.
 use Rattle.std.proofs.Common.{Bool, List, None, Option, Some, [], ap, append_assoc, arith, false, length, refl, suc, sym, true, zero, ℕ, ◌+◌, ◌<◌, ◌≤◌, ◌∷◌, ◌++◌, ◌≡◌}
 use Rattle.std.specs.List.{range_with_len}
-use Rattle.std.specs.Prelude.{filter, slice_get, is_some, map, nat_lt, not, option_and_then, option_map, ◌-◌, ◌==◌, ◌&&◌, if◌then◌else◌}
+use Rattle.std.specs.Prelude.{filter, slice_get, is_some, map, nat_lt, not, option_and_then, option_map, ◌-◌, ◌==◌, if◌then◌else◌}
 use mathlib.Core.Path.{subst, ◌∙◌}
 use Rattle.tick_num.specs.declared.item.Item.{Item}
 use Rattle.tick_num.specs.declared.item.Item.TheVariants as item
@@ -20,17 +20,16 @@ use Rattle.sporadic_server.specs.Server.{ServerState, charge, is_high, next_due,
 use Rattle.machine_rules.specs.Budget.{Posting, planned, posted_if, renews, used}
 use Rattle.machine_rules.specs.Bodies.{Bodies}
 use Rattle.machine_rules.specs.State.{Frame, Machine, Status, Thread, blocked, dormant, ended, runnable, waits_to_join}
-use Rattle.machine_rules.specs.Threads.{can_run, is_blocked, is_live, is_main, is_runnable, lives, no_thread, thread_at, thread_numbers, top_kind, top_left}
+use Rattle.machine_rules.specs.Threads.{can_run, is_blocked, is_live, is_runnable, lives, no_thread, thread_at, thread_numbers, top_left}
 use Rattle.machine_rules.specs.Turns.{By, Turn, answered, changes, moves_if, returns, tells}
 use Rattle.machine_rules.specs.CallNames.{name_of}
 use Rattle.machine_rules.specs.Servers.{activates_if, charged, has_high, plans_for, with_server}
 use Rattle.machine_rules.specs.Mutexes.{owns_boosting}
 use Rattle.machine_rules.specs.Lives.{with_joiner}
 use Rattle.machine_rules.specs.Scheduling.{with_policy}
-use Rattle.machine_rules.specs.Cancellation.{runs_cleanup, without_cleanup}
 use Rattle.machine_rules.specs.Calls.{unit_effect}
 use Rattle.machine_rules.specs.DueItems.{due_items, first_item, has_come, next_item, refill_due}
-use Rattle.machine_rules.specs.Units.{begins_ending, begins_finish, in_unit, in_unit_if, in_unit_of, top_in_unit}
+use Rattle.machine_rules.specs.Units.{Following, advances, advancing, begins_finish, cleaning_up, continuing, finishing, following, in_cleanup, in_unit, takes_unit}
 use Rattle.machine_rules.specs.Ticks.{TickEnd, capacity_in, consumed_in, ends_tick, exhausting, frames_charged, nothing, planning, runs, slice_is_used, slicing, tick_end, without_slice}
 use Rattle.machine_rules.proofs.Reading.{changed-length, thread-same}
 use Rattle.machine_moves.specs.Moves.{KeepsAwake, Stops}
@@ -143,29 +142,23 @@ module _ {P : Type 0} (bodies : Bodies P) (c : Call) where
   not_finish : unit.Finish ≡ unit.Make c → ⊥
   not_finish e = absurd (grind arith)
 
-  one_tick_of : (fs : List (Frame P)) (th : Thread P) → LeavesNone (in_unit_of bodies fs th).thread (in_unit_of bodies fs th).unit
-  one_tick_of [] th e = absurd (not_finish e)
-  one_tick_of (f ∷ fs) th e = by_left f.left e
-    where
-      by_left : (left : ℕ) → LeavesNone (top_in_unit bodies left f fs th).thread (top_in_unit bodies left f fs th).unit
-      by_left zero e = ap (λ (u : Unit). ticks_of u - 1) e
-      by_left (suc left) e = absurd (grind arith)
+  one_tick_next : (fs : List (Frame P)) (th : Thread P) → LeavesNone (advances bodies fs th).thread (advances bodies fs th).unit
+  one_tick_next [] th e = absurd (not_finish e)
+  one_tick_next (f ∷ fs) th e = ap (λ (u : Unit). ticks_of u - 1) e
 
-  one_tick_ending : (us : List ℕ) (th : Thread P) → LeavesNone (begins_ending bodies us th).thread (begins_ending bodies us th).unit
-  one_tick_ending [] th e = by_frames th.frames e
-    where
-      by_frames : (fs : List (Frame P)) → LeavesNone (begins_finish fs th).thread (begins_finish fs th).unit
-      by_frames [] e = absurd (not_finish e)
-      by_frames (f ∷ fs) e = absurd (not_finish e)
-  one_tick_ending (u ∷ us) th e = let begun = runs_cleanup bodies (u ∷ us) (without_cleanup th) in one_tick_of begun.frames begun e
+  one_tick_finish : (fs : List (Frame P)) (th : Thread P) → LeavesNone (begins_finish fs th).thread (begins_finish fs th).unit
+  one_tick_finish [] th e = absurd (not_finish e)
+  one_tick_finish (f ∷ fs) th e = absurd (not_finish e)
 
   -- a call takes one tick
   pub one_tick : (th : Thread P) → LeavesNone (in_unit bodies th).thread (in_unit bodies th).unit
-  one_tick th e = by_ending (th.is_ending && is_main (top_kind th.frames) && top_left th.frames == 0) e
+  one_tick th = by_case (following th)
     where
-      by_ending : (b : Bool) → LeavesNone (in_unit_if bodies b th).thread (in_unit_if bodies b th).unit
-      by_ending true e = one_tick_ending th.cleanups th e
-      by_ending false e = one_tick_of th.frames th e
+      by_case : (x : Following) → LeavesNone (takes_unit bodies x th).thread (takes_unit bodies x th).unit
+      by_case (continuing left) = λ e. absurd (grind arith)
+      by_case advancing = one_tick_next th.frames th
+      by_case (cleaning_up u) = one_tick_next (in_cleanup bodies u th).frames (in_cleanup bodies u th)
+      by_case finishing = one_tick_finish th.frames th
 
 -- ---- a unit
 

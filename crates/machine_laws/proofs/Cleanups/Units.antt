@@ -22,15 +22,16 @@ use Rattle.machine_rules.specs.Turns.{By, Turn, changes, changes_pending, return
 use Rattle.machine_rules.specs.Waking.{new_frame, on_top}
 use Rattle.machine_rules.specs.Signals.{delivers, without_record}
 use Rattle.machine_rules.specs.Lives.{finishes_in, without_life, without_target, without_top}
-use Rattle.machine_rules.specs.Cancellation.{runs_cleanup, runs_cleanup_if, without_cleanup}
+use Rattle.machine_rules.specs.Cancellation.{runs_cleanup_if, without_cleanup}
 use Rattle.machine_rules.specs.Calls.{makes_call, unit_effect}
 use Rattle.machine_rules.specs.Delivery.{acts, catches, interrupts, sweeps_all, sweeps_thread, taken_by_sweep, takes_record, ticks_left}
-use Rattle.machine_rules.specs.Units.{begins_ending, begins_finish, frame_begins, in_unit, in_unit_if, in_unit_of, next_of, top_in_unit}
+use Rattle.machine_rules.specs.Units.{advances, begins_finish, choice, frame_begins, in_cleanup, in_unit, next_of, takes_unit}
 use Rattle.machine_rules.specs.Ticks.{completes_at, frames_charged, tick_charged}
 use Rattle.machine_rules.specs.GoodState.{main_guards}
 use Rattle.machine_rules.proofs.Reading.{thread-other, thread-same}
 use Rattle.machine_rules.specs.WellFormed.{is_guarding}
 use Rattle.machine_laws.specs.GuardedBodies.{BodiesGuarded, Guards, most_of}
+use Rattle.machine_rules.proofs.Parts.{by_following}
 use Rattle.machine_moves.proofs.Waiters.Best.{Each, running_within}
 use Rattle.machine_laws.proofs.Cleanups.Frames.{Clean, FrameFits, Keeps, change, deliver_same, is_thread, returned, wakes_same}
 use Rattle.machine_laws.proofs.Cleanups.Calls.{joined_same, made_same}
@@ -151,56 +152,53 @@ module _ {P : Type 0} (bodies : Bodies P) (guards : BodyOf → P → List ℕ) (
   runs_on true n cs gs e = sym e
   runs_on false n cs gs e = e
 
-  begun_of : (fs : List (Frame P)) (th : Thread P) → th.frames ≡ fs → is_dormant th.status ≡ false → (th.is_ending ≡ false → th.cleanups ≡ main_guards guards fs) → Each FrameFits fs → Begun (in_unit_of bodies fs th).unit (in_unit_of bodies fs th).thread
-  begun_of [] th same awake pushed fit = record {
+  begun_next : (fs : List (Frame P)) (th : Thread P) → th.frames ≡ fs → is_dormant th.status ≡ false → (th.is_ending ≡ false → th.cleanups ≡ main_guards guards fs) → Each FrameFits fs → Begun (advances bodies fs th).unit (advances bodies fs th).thread
+  begun_next [] th same awake pushed fit = record {
     pushed = λ e. subst (λ (fs : List (Frame P)). BeforeIn (is_main (top_kind fs)) unit.Finish th.cleanups (main_guards guards fs)) (sym same) (pushed e, refl);
     awake = awake;
     placed = subst (Each FrameFits) (sym same) tt;
     whole = λ e. (let none = ap top_left same in omega arith);
     aside = λ e. refl;
   }
-  begun_of (f ∷ fs) th same awake pushed fit = by_left f.left refl
-    where
-      by_left : (n : ℕ) → f.left ≡ n → Begun (top_in_unit bodies n f fs th).unit (top_in_unit bodies n f fs th).thread
-      by_left zero left = begun_main f fs th awake pushed fit
-      by_left (suc n) left = record {
-        pushed = λ e. subst (λ (gs : List (Frame P)). BeforeIn (is_main (top_kind gs)) (unit.Run (suc n)) th.cleanups (main_guards guards gs)) (sym same) (runs_on (is_main f.kind) (suc n) th.cleanups (main_guards guards (f ∷ fs)) (pushed e));
-        awake = awake;
-        placed = subst (Each FrameFits) (sym same) fit;
-        whole = λ e. absurd (grind arith);
-        aside = λ e. refl;
-      }
+  begun_next (f ∷ fs) th same awake pushed fit = begun_main f fs th awake pushed fit
 
-  begun_ending : (us : List ℕ) (th : Thread P) → th.is_ending ≡ true → is_dormant th.status ≡ false → Each FrameFits th.frames → Begun (begins_ending bodies us th).unit (begins_ending bodies us th).thread
-  begun_ending [] th ending awake fit = by_frames th.frames refl fit
-    where
-      by_frames : (fs : List (Frame P)) → th.frames ≡ fs → Each FrameFits fs → Begun (begins_finish fs th).unit (begins_finish fs th).thread
-      by_frames [] same fit = record {
-        pushed = λ e. absurd (contra ending e);
-        awake = awake;
-        placed = subst (Each FrameFits) (sym same) tt;
-        whole = λ e. (let none = ap top_left same in omega arith);
-        aside = λ e. refl;
-      }
-      by_frames (f ∷ fs) same fit = record {
-        pushed = λ e. absurd (contra ending e);
-        awake = awake;
-        placed = fit;
-        whole = λ e. omega arith;
-        aside = λ e. refl;
-      }
-  begun_ending (u ∷ us) th ending awake fit =
-      let begun = runs_cleanup bodies (u ∷ us) (without_cleanup th) in begun_of begun.frames begun refl awake (λ e. absurd (contra ending e)) (refl, fit)
+  begun_on : (n : ℕ) (fs : List (Frame P)) (th : Thread P) → th.frames ≡ fs → top_left fs ≡ suc n → is_dormant th.status ≡ false → (th.is_ending ≡ false → th.cleanups ≡ main_guards guards fs) → Each FrameFits fs → Begun (unit.Run (suc n)) th
+  begun_on n [] th same left awake pushed fit = absurd (grind arith)
+  begun_on n (f ∷ fs) th same left awake pushed fit = record {
+    pushed = λ e. subst (λ (gs : List (Frame P)). BeforeIn (is_main (top_kind gs)) (unit.Run (suc n)) th.cleanups (main_guards guards gs)) (sym same) (runs_on (is_main f.kind) (suc n) th.cleanups (main_guards guards (f ∷ fs)) (pushed e));
+    awake = awake;
+    placed = subst (Each FrameFits) (sym same) fit;
+    whole = λ e. absurd (grind arith);
+    aside = λ e. refl;
+  }
+
+  begun_finish : (fs : List (Frame P)) (th : Thread P) → th.frames ≡ fs → th.is_ending ≡ true → is_dormant th.status ≡ false → Each FrameFits fs → Begun (begins_finish fs th).unit (begins_finish fs th).thread
+  begun_finish [] th same ending awake fit = record {
+    pushed = λ e. absurd (contra ending e);
+    awake = awake;
+    placed = subst (Each FrameFits) (sym same) tt;
+    whole = λ e. (let none = ap top_left same in omega arith);
+    aside = λ e. refl;
+  }
+  begun_finish (f ∷ fs) th same ending awake fit = record {
+    pushed = λ e. absurd (contra ending e);
+    awake = awake;
+    placed = fit;
+    whole = λ e. omega arith;
+    aside = λ e. refl;
+  }
+
+  begun_ending : (us : List ℕ) (th : Thread P) → th.is_ending ≡ true → is_dormant th.status ≡ false → Each FrameFits th.frames → Begun (takes_unit bodies (choice 0 true us) th).unit (takes_unit bodies (choice 0 true us) th).thread
+  begun_ending [] th ending awake fit = begun_finish th.frames th refl ending awake fit
+  begun_ending (u ∷ us) th ending awake fit = begun_next (in_cleanup bodies u th).frames (in_cleanup bodies u th) refl awake (λ e. absurd (contra ending e)) (refl, fit)
 
   begun_in : (th : Thread P) → Clean guards th → is_dormant th.status ≡ false → Begun (in_unit bodies th).unit (in_unit bodies th).thread
-  begun_in th q awake = by_ending (th.is_ending && is_main (top_kind th.frames) && top_left th.frames == 0) refl
+  begun_in th q awake =
+      by_following th (λ x. Begun (takes_unit bodies x th).unit (takes_unit bodies x th).thread) (λ n some. begun_on n th.frames th refl some awake q.0 q.2) (λ none going. begun_next th.frames th refl awake q.0 q.2)
+      (λ none end us same. begun_ending us th (first th.is_ending (is_main (top_kind th.frames)) end) awake q.2)
     where
-      first : (a b c : Bool) → (a && b && c) ≡ true → a ≡ true
-      first a b c e = grind arith
-
-      by_ending : (b : Bool) → (th.is_ending && is_main (top_kind th.frames) && top_left th.frames == 0) ≡ b → Begun (in_unit_if bodies b th).unit (in_unit_if bodies b th).thread
-      by_ending true e = begun_ending th.cleanups th (first th.is_ending (is_main (top_kind th.frames)) (top_left th.frames == 0) e) awake q.2
-      by_ending false e = begun_of th.frames th refl awake q.0 q.2
+      first : (a b : Bool) → (a && b) ≡ true → a ≡ true
+      first a b e = grind arith
 
   pub charged_before : (th : Thread P) → Clean guards th → is_dormant th.status ≡ false → Before guards (in_unit bodies th).unit (tick_charged (in_unit bodies th).thread)
   charged_before th q awake = charged_begun (in_unit bodies th).unit (in_unit bodies th).thread (begun_in th q awake)

@@ -1,6 +1,6 @@
 -- At every instant of every run each runnable thread stands once, on the list of its execution priority, and no other on any.
 use Rattle.std.proofs.Common.{Bool, List, None, Option, Some, [], ap, arith, false, refl, suc, sym, true, zero, ℕ, ◌+◌, ◌∷◌, ◌≡◌}
-use Rattle.std.specs.Prelude.{filter_map, map, replicate, ◌==◌, ◌&&◌}
+use Rattle.std.specs.Prelude.{filter_map, map, replicate}
 use mathlib.Core.Path.{subst, ◌∙◌}
 use Rattle.script_tree.specs.declared.decl.Decl.{Decl}
 use Rattle.script_tree.specs.declared.decl.Decl.TheVariants as decl
@@ -14,7 +14,7 @@ use Rattle.machine_rules.specs.declared.dispatch.LastDispatch.{LastDispatch}
 use Rattle.machine_rules.specs.Lists.{changed_at}
 use Rattle.machine_rules.specs.Bodies.{Bodies}
 use Rattle.machine_rules.specs.State.{Frame, Machine, Thread, for_end, waits_to_join}
-use Rattle.machine_rules.specs.Threads.{can_run, is_main, is_runnable, no_thread, thread_at, thread_in, top_kind, top_left}
+use Rattle.machine_rules.specs.Threads.{can_run, is_runnable, no_thread, thread_at, thread_in}
 use Rattle.machine_rules.specs.Declarations.{ThreadDecl, mutex_kind, named, threads_of}
 use Rattle.machine_rules.specs.Turns.{Turn, changes, moves_if, tells}
 use Rattle.machine_rules.specs.Servers.{plans_for, with_server}
@@ -23,7 +23,7 @@ use Rattle.machine_rules.specs.Lives.{with_joiner}
 use Rattle.machine_rules.specs.Settling.{settled}
 use Rattle.machine_rules.specs.GoodState.{HasParameters}
 use Rattle.machine_rules.specs.Dispatch.{dispatch_of, dispatches}
-use Rattle.machine_rules.specs.Units.{begins_ending, begins_finish, in_unit, in_unit_if, in_unit_of, top_in_unit}
+use Rattle.machine_rules.specs.Units.{Following, advances, advancing, begins_finish, cleaning_up, continuing, finishing, following, in_unit, takes_unit}
 use Rattle.machine_rules.specs.Ticks.{TickEnd, ends_tick, exhausting, nothing, planning, slicing, tick_charged, without_slice}
 use Rattle.machine_rules.specs.Runs.{opening, thread_opened}
 use Rattle.machine_rules.proofs.Standing.{stands}
@@ -64,28 +64,22 @@ abbrev pub plans_of : {P : Type 0} → Thread P → Plans
 plans_of th = record { policy = th.policy; server = th.server; slice = th.slice }
 
 module _ {P : Type 0} (bodies : Bodies P) where
-  in_unit_of_plans : (fs : List (Frame P)) (th : Thread P) → plans_of (in_unit_of bodies fs th).thread ≡ plans_of th
-  in_unit_of_plans [] th = refl
-  in_unit_of_plans (f ∷ fs) th = by_left f.left
-    where
-      by_left : (left : ℕ) → plans_of (top_in_unit bodies left f fs th).thread ≡ plans_of th
-      by_left zero = refl
-      by_left (suc left) = refl
+  advances_plans : (fs : List (Frame P)) (th : Thread P) → plans_of (advances bodies fs th).thread ≡ plans_of th
+  advances_plans [] th = refl
+  advances_plans (f ∷ fs) th = refl
 
-  ending_plans : (us : List ℕ) (th : Thread P) → plans_of (begins_ending bodies us th).thread ≡ plans_of th
-  ending_plans [] th = by_frames th.frames
-    where
-      by_frames : (fs : List (Frame P)) → plans_of (begins_finish fs th).thread ≡ plans_of th
-      by_frames [] = refl
-      by_frames (f ∷ fs) = refl
-  ending_plans (u ∷ us) th = refl
+  finish_plans : (fs : List (Frame P)) (th : Thread P) → plans_of (begins_finish fs th).thread ≡ plans_of th
+  finish_plans [] th = refl
+  finish_plans (f ∷ fs) th = refl
 
   pub in_unit_plans : (th : Thread P) → plans_of (in_unit bodies th).thread ≡ plans_of th
-  in_unit_plans th = by_ending (th.is_ending && is_main (top_kind th.frames) && top_left th.frames == 0)
+  in_unit_plans th = by_case (following th)
     where
-      by_ending : (b : Bool) → plans_of (in_unit_if bodies b th).thread ≡ plans_of th
-      by_ending true = ending_plans th.cleanups th
-      by_ending false = in_unit_of_plans th.frames th
+      by_case : (x : Following) → plans_of (takes_unit bodies x th).thread ≡ plans_of th
+      by_case (continuing left) = refl
+      by_case advancing = advances_plans th.frames th
+      by_case (cleaning_up u) = refl
+      by_case finishing = finish_plans th.frames th
 
   charged_thread : (th : Thread P) → ThreadFits th → ThreadFits (tick_charged (in_unit bodies th).thread)
   charged_thread th h =

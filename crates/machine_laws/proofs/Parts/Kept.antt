@@ -1,13 +1,13 @@
 -- The parts that go by statuses, kept by every tick: mutexes, semaphores, queues, pending records, and who joins.
-use Rattle.std.proofs.Common.{Bool, List, None, Option, Some, [], ap, arith, false, inl, inr, refl, suc, sym, true, zero, ℕ, ◌+◌, ◌∷◌, ◌≡◌, ◌⊎◌}
-use Rattle.std.specs.Prelude.{◌==◌, ◌&&◌}
+use Rattle.std.proofs.Common.{Bool, List, None, Option, Some, [], ap, arith, false, inl, inr, refl, sym, true, ℕ, ◌+◌, ◌∷◌, ◌≡◌, ◌⊎◌}
+use Rattle.std.specs.Prelude.{◌==◌}
 use mathlib.Core.Path.{subst, ◌∙◌}
 use Rattle.sporadic_server.specs.Server.{ServerState, plan}
 use Rattle.pse52_trace.specs.declared.event.Event.TheVariants as event
 use Rattle.machine_rules.specs.declared.dispatch.LastDispatch.{LastDispatch}
 use Rattle.machine_rules.specs.Bodies.{Bodies}
 use Rattle.machine_rules.specs.State.{Frame, Joiner, Machine, Thread, Waiting, for_end, for_mutex_again, nobody, waits_to_join}
-use Rattle.machine_rules.specs.Threads.{can_run, is_main, is_runnable, no_thread, thread_at, top_kind, top_left, waiting_in, waiting_of}
+use Rattle.machine_rules.specs.Threads.{can_run, is_runnable, no_thread, thread_at, waiting_in, waiting_of}
 use Rattle.machine_rules.specs.Turns.{By, Turn, changes, moves_if, tells, turn_of}
 use Rattle.machine_rules.specs.Servers.{plans_for, with_server}
 use Rattle.machine_rules.specs.Waking.{put_to_wait}
@@ -21,7 +21,7 @@ use Rattle.machine_laws.proofs.Waits.Queues.{QueuesAreRight, queues_keep}
 use Rattle.machine_laws.proofs.Signals.Records.{RecordsAreRight, records_keep}
 use Rattle.machine_laws.proofs.Mutexes.Owners.{mutexes_keep}
 use Rattle.machine_laws.proofs.Waits.Joiners.{changed_joiners, idle, joiners_keep, joiners_renewed, running_idle}
-use Rattle.machine_rules.specs.Units.{begins_ending, begins_finish, in_unit, in_unit_if, in_unit_of, top_in_unit}
+use Rattle.machine_rules.specs.Units.{Following, advances, advancing, begins_finish, cleaning_up, continuing, finishing, following, in_unit, takes_unit}
 use Rattle.machine_rules.specs.Dispatch.{dispatch_of, dispatches}
 use Rattle.machine_rules.proofs.Reading.{changed-keeps, thread-other, thread-same}
 use Rattle.machine_moves.proofs.Waiters.Best.{running_within}
@@ -179,28 +179,22 @@ module _ {P : Type 0} (bodies : Bodies P) (who : Option ℕ) where
 -- ---- the unit of a thread leaves its joiner
 
 module _ {P : Type 0} (bodies : Bodies P) where
-  in_unit_of_joiner : (fs : List (Frame P)) (th : Thread P) → (in_unit_of bodies fs th).thread.joiner ≡ th.joiner
-  in_unit_of_joiner [] th = refl
-  in_unit_of_joiner (f ∷ fs) th = by_left f.left
-    where
-      by_left : (left : ℕ) → (top_in_unit bodies left f fs th).thread.joiner ≡ th.joiner
-      by_left zero = refl
-      by_left (suc left) = refl
+  advances_joiner : (fs : List (Frame P)) (th : Thread P) → (advances bodies fs th).thread.joiner ≡ th.joiner
+  advances_joiner [] th = refl
+  advances_joiner (f ∷ fs) th = refl
 
-  ending_joiner : (us : List ℕ) (th : Thread P) → (begins_ending bodies us th).thread.joiner ≡ th.joiner
-  ending_joiner [] th = by_frames th.frames
-    where
-      by_frames : (fs : List (Frame P)) → (begins_finish fs th).thread.joiner ≡ th.joiner
-      by_frames [] = refl
-      by_frames (f ∷ fs) = refl
-  ending_joiner (u ∷ us) th = refl
+  finish_joiner : (fs : List (Frame P)) (th : Thread P) → (begins_finish fs th).thread.joiner ≡ th.joiner
+  finish_joiner [] th = refl
+  finish_joiner (f ∷ fs) th = refl
 
   in_unit_joiner : (th : Thread P) → (in_unit bodies th).thread.joiner ≡ th.joiner
-  in_unit_joiner th = by_ending (th.is_ending && is_main (top_kind th.frames) && top_left th.frames == 0)
+  in_unit_joiner th = by_case (following th)
     where
-      by_ending : (b : Bool) → (in_unit_if bodies b th).thread.joiner ≡ th.joiner
-      by_ending true = ending_joiner th.cleanups th
-      by_ending false = in_unit_of_joiner th.frames th
+      by_case : (x : Following) → (takes_unit bodies x th).thread.joiner ≡ th.joiner
+      by_case (continuing left) = refl
+      by_case advancing = advances_joiner th.frames th
+      by_case (cleaning_up u) = refl
+      by_case finishing = finish_joiner th.frames th
 
   -- ---- every run
 

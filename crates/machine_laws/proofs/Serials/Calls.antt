@@ -25,7 +25,7 @@ use Rattle.machine_rules.specs.Waiters.{Waiter, best_waiter, somebody_waits, wai
 use Rattle.machine_rules.specs.Turns.{By, Turn, changes, changes_pending, changes_queue, changes_timer, has_passed, is_late, moves, moves_if, returns, tells}
 use Rattle.machine_rules.specs.Servers.{activates_if, amount_of, plans_for, refills_for, regains_high, with_server}
 use Rattle.machine_rules.specs.Waking.{blocks, cancelled_value, ending_with, new_frame, on_top, started, starts, wakes}
-use Rattle.machine_rules.specs.Mutexes.{LockAnswer, counts, lock_answer, locks_on, must_wait, owned_by, owns, owns_boosting, refused, takes, trylock_answer, unless_late, unlocks}
+use Rattle.machine_rules.specs.Mutexes.{LockAnswer, counts, lock_answer, locks_on, must_wait, owned_by, owns, owns_boosting, refused, takes, trylock_answer, unlocks}
 use Rattle.machine_rules.specs.Conditions.{signals_best_of, waits, waits_on_condition, waits_with_other_mutex}
 use Rattle.machine_rules.specs.Semaphores.{blocks_unless_late, posts_to, semaphore_limit, tries_semaphore, waits_on_semaphore, waits_semaphore}
 use Rattle.machine_rules.specs.Signals.{delivers, generates, goes_to, has_no_room, record_of_kill, record_of_sigqueue, selected, sends_signal, sets_mask, waits_signal_on, waits_ticks, with_signals, without_record, without_signals}
@@ -261,9 +261,9 @@ module _ {P : Type 0} (bodies : Bodies P) where
   call_cost by (call.Exit v) s plain once = ending_cost by.thread (number_of s.machine by.thread v) s
   call_cost by (call.Setprio u p) s plain once = price_cost by u p s
   call_cost by (call.Setsched u policy) s plain once = policy_cost by u policy s
-  call_cost by (call.Lock k) s plain once = lock_cost (unless_late None s.machine (lock_answer s.machine by.thread k)) by k None s
+  call_cost by (call.Lock k) s plain once = lock_cost (lock_answer s.machine by.thread k None) by k None s
   call_cost by (call.Timedlock k at) s plain once =
-      lock_cost (unless_late (Some (number_of s.machine by.thread at)) s.machine (lock_answer s.machine by.thread k)) by k (Some (number_of s.machine by.thread at)) s
+      let due = Some (number_of s.machine by.thread at) in lock_cost (lock_answer s.machine by.thread k due) by k due s
   call_cost by (call.Trylock k) s plain once = lock_cost (trylock_answer s.machine by.thread k) by k None s
   call_cost by (call.Unlock k) s plain once = unlock_cost by k s
   call_cost by (call.Wait c k) s plain once = condition_cost by c k None s

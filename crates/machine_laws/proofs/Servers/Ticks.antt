@@ -11,15 +11,15 @@ use Rattle.sporadic_server.specs.Server.{ServerState, activate, charge, is_high,
 use Rattle.machine_rules.specs.Lists.{changed_at, is}
 use Rattle.machine_rules.specs.Bodies.{Bodies}
 use Rattle.machine_rules.specs.State.{Frame, Machine, Status, Thread, Waiting, blocked, dormant, ended, for_end, for_mutex_again, runnable, waits_to_join}
-use Rattle.machine_rules.specs.Threads.{can_run, is_blocked, is_live, is_main, is_runnable, no_thread, thread_at, thread_in, top_kind, top_left, waiting_in}
+use Rattle.machine_rules.specs.Threads.{can_run, is_blocked, is_live, is_runnable, no_thread, thread_at, thread_in, waiting_in}
 use Rattle.machine_rules.specs.Turns.{Turn, changes, moves, moves_if, tells}
 use Rattle.machine_rules.specs.Servers.{activates_if, activates_server, charged, has_high, high_server, plans_for, server_of, with_server}
 use Rattle.machine_rules.specs.Waking.{ending_with, on_top, put_to_wait, started, woken}
 use Rattle.machine_rules.specs.Lives.{with_joiner, without_life, without_top}
-use Rattle.machine_rules.specs.Cancellation.{runs_cleanup, without_cleanup}
+use Rattle.machine_rules.specs.Cancellation.{without_cleanup}
 use Rattle.machine_rules.specs.Scheduling.{with_policy, with_priority}
 use Rattle.machine_rules.specs.Dispatch.{dispatches}
-use Rattle.machine_rules.specs.Units.{begins_ending, begins_finish, in_unit, in_unit_if, in_unit_of, top_in_unit}
+use Rattle.machine_rules.specs.Units.{Following, advances, advancing, begins_finish, cleaning_up, continuing, finishing, following, in_cleanup, in_unit, takes_unit}
 use Rattle.machine_rules.specs.Ticks.{TickEnd, capacity_in, consumed_in, ends_tick, exhausting, nothing, planning, slice_is_used, slicing, tick_charged, tick_end, without_slice}
 use Rattle.machine_rules.specs.GoodState.{HasParameters, is_in_condition_wait, is_sporadic}
 use Rattle.machine_rules.proofs.Reading.{changed-keeps, thread-other, thread-same}
@@ -127,29 +127,22 @@ module _ {P : Type 0} (bodies : Bodies P) (tolled : Bool) (t : ℕ) where
 -- ---- the unit of a thread leaves what its places and handlers do not concern
 
 module _ {P : Type 0} {Y : Type 0} (bodies : Bodies P) (g : Thread P → Y) (frames_alone : (fs : List (Frame P)) (th : Thread P) → g (record th { frames = fs }) ≡ g th) (drops_alone : (th : Thread P) → g (without_cleanup th) ≡ g th) where
-  kept_in_unit_of : (fs : List (Frame P)) (th : Thread P) → g (in_unit_of bodies fs th).thread ≡ g th
-  kept_in_unit_of [] th = refl
-  kept_in_unit_of (f ∷ fs) th = by_left f.left
-    where
-      by_left : (left : ℕ) → g (top_in_unit bodies left f fs th).thread ≡ g th
-      by_left zero = frames_alone _ th
-      by_left (suc left) = refl
+  kept_advances : (fs : List (Frame P)) (th : Thread P) → g (advances bodies fs th).thread ≡ g th
+  kept_advances [] th = refl
+  kept_advances (f ∷ fs) th = frames_alone _ th
 
-  kept_ending : (us : List ℕ) (th : Thread P) → g (begins_ending bodies us th).thread ≡ g th
-  kept_ending [] th = by_frames th.frames
-    where
-      by_frames : (fs : List (Frame P)) → g (begins_finish fs th).thread ≡ g th
-      by_frames [] = refl
-      by_frames (f ∷ fs) = frames_alone _ th
-  kept_ending (u ∷ us) th =
-      let begun = runs_cleanup bodies (u ∷ us) (without_cleanup th) in kept_in_unit_of begun.frames begun ∙ frames_alone begun.frames (without_cleanup th) ∙ drops_alone th
+  kept_finish : (fs : List (Frame P)) (th : Thread P) → g (begins_finish fs th).thread ≡ g th
+  kept_finish [] th = refl
+  kept_finish (f ∷ fs) th = frames_alone _ th
 
   pub kept_in_unit : (th : Thread P) → g (in_unit bodies th).thread ≡ g th
-  kept_in_unit th = by_ending (th.is_ending && is_main (top_kind th.frames) && top_left th.frames == 0)
+  kept_in_unit th = by_case (following th)
     where
-      by_ending : (b : Bool) → g (in_unit_if bodies b th).thread ≡ g th
-      by_ending true = kept_ending th.cleanups th
-      by_ending false = kept_in_unit_of th.frames th
+      by_case : (x : Following) → g (takes_unit bodies x th).thread ≡ g th
+      by_case (continuing left) = refl
+      by_case advancing = kept_advances th.frames th
+      by_case (cleaning_up u) = let begun = in_cleanup bodies u th in kept_advances begun.frames begun ∙ frames_alone begun.frames (without_cleanup th) ∙ drops_alone th
+      by_case finishing = kept_finish th.frames th
 
 -- ---- a thread between units
 

@@ -1,7 +1,7 @@
 -- The last tick of a leap: so many charges and then one ordinary tick are one charge of all of them, and then what an ordinary tick does
 -- after its charge.
 use Rattle.std.proofs.Common.{Bool, List, None, Option, Some, [], ap, arith, false, refl, suc, sym, true, zero, ℕ, ◌∷◌, ◌≡◌}
-use Rattle.std.specs.Prelude.{is_some, not, option_map, ◌-◌, ◌==◌, ◌&&◌, if◌then◌else◌}
+use Rattle.std.specs.Prelude.{is_some, not, option_map, ◌-◌, ◌&&◌, if◌then◌else◌}
 use mathlib.Core.Path.{subst, ◌∙◌}
 use Rattle.thread_lists.specs.Threads.{stands_in}
 use Rattle.script_flat.specs.declared.unit.Unit.{Unit}
@@ -11,15 +11,14 @@ use Rattle.sporadic_server.specs.Server.{ServerState, charge_ticks, is_high}
 use Rattle.machine_rules.specs.declared.dispatch.LastDispatch.TheVariants as last
 use Rattle.machine_rules.specs.Bodies.{Bodies}
 use Rattle.machine_rules.specs.State.{Frame, Machine, Thread}
-use Rattle.machine_rules.specs.Threads.{can_run, is_main, thread_at, thread_numbers, top_kind, top_left}
+use Rattle.machine_rules.specs.Threads.{can_run, thread_at, thread_numbers, top_left}
 use Rattle.machine_rules.specs.Priorities.{exec}
 use Rattle.machine_rules.specs.Settling.{Shift, left_runnable, settled, shift_between, shift_of, shifted, shifted_all, stayed}
 use Rattle.machine_rules.specs.Turns.{Turn, settles_since, turn_of}
 use Rattle.machine_rules.specs.Servers.{has_high}
 use Rattle.machine_rules.specs.Delivery.{sweeps}
 use Rattle.machine_rules.specs.Dispatch.{dispatch_event, dispatches, is_same, tells_unless}
-use Rattle.machine_rules.specs.Cancellation.{runs_cleanup, without_cleanup}
-use Rattle.machine_rules.specs.Units.{InUnit, begins_ending, begins_finish, in_unit, in_unit_if, in_unit_of, top_in_unit}
+use Rattle.machine_rules.specs.Units.{Following, InUnit, advances, advancing, begins_finish, choice, cleaning_up, continuing, finishing, following, in_cleanup, in_unit, is_at_end, takes_unit}
 use Rattle.machine_rules.specs.Ticks.{completes, completes_at, frames_charged, runs, runs_head, tick_ends, unit_ticked, unless_killed}
 use Rattle.machine_rules.specs.Runs.{ran, tick_of}
 use Rattle.machine_rules.specs.Eventful.{head_matters, unless_ended}
@@ -58,16 +57,9 @@ module _ {P : Type 0} (before then' m : Machine P) (can : (u : ℕ) → can_run 
 module _ {P : Type 0} (bodies : Bodies P) where
   -- ---- a unit of several ticks is a run
 
-  not_ending : (a b : Bool) (n l : ℕ) → n ≡ suc l → (a && b && n == 0) ≡ false
-  not_ending a b n l e = grind arith
-
   -- a unit that goes on
   in_unit_run : (th : Thread P) (l : ℕ) → top_left th.frames ≡ suc l → in_unit bodies th ≡ record { thread = th; unit = unit.Run (suc l) }
-  in_unit_run th l e = ap (λ (b : Bool). in_unit_if bodies b th) (not_ending th.is_ending (is_main (top_kind th.frames)) (top_left th.frames) l e) ∙ by_frames th.frames e
-    where
-      by_frames : (fs : List (Frame P)) → top_left fs ≡ suc l → in_unit_of bodies fs th ≡ record { thread = th; unit = unit.Run (suc l) }
-      by_frames [] e = absurd (grind arith)
-      by_frames (f ∷ fs) e = ap (λ (n : ℕ). top_in_unit bodies n f fs th) e
+  in_unit_run th l e = ap (λ (n : ℕ). takes_unit bodies (choice n (is_at_end th) th.cleanups) th) e
 
   abbrev Run : Unit → Type 0
   Run x = (n : ℕ) × (x ≡ unit.Run n)
@@ -78,36 +70,25 @@ module _ {P : Type 0} (bodies : Bodies P) where
   run_of unit.Jump l e = absurd (grind arith)
   run_of unit.Finish l e = absurd (grind arith)
 
-  long_of : (fs : List (Frame P)) (th : Thread P) (l : ℕ) → top_left (frames_charged (in_unit_of bodies fs th).thread.frames) ≡ suc l → th.frames ≡ fs → Run (in_unit_of bodies fs th).unit
-  long_of [] th l e same = absurd (no (ap (λ (gs : List (Frame P)). top_left (frames_charged gs)) same) e)
-    where
-      no : top_left (frames_charged th.frames) ≡ 0 → top_left (frames_charged th.frames) ≡ suc l → ⊥
-      no h k = absurd (grind arith)
-  long_of (f ∷ fs) th l e same = by_left f.left e
-    where
-      by_left : (n : ℕ) → top_left (frames_charged (top_in_unit bodies n f fs th).thread.frames) ≡ suc l → Run (top_in_unit bodies n f fs th).unit
-      by_left zero e = run_of (top_in_unit bodies 0 f fs th).unit l e
-      by_left (suc n) e = (suc n, refl)
+  no_left : (fs : List (Frame P)) (th : Thread P) (l : ℕ) → th.frames ≡ fs → top_left (frames_charged fs) ≡ 0 → top_left (frames_charged th.frames) ≡ suc l → ⊥
+  no_left fs th l same none e = let e' : top_left (frames_charged fs) ≡ suc l = subst (λ (gs : List (Frame P)). top_left (frames_charged gs) ≡ suc l) same e in absurd (grind arith)
+
+  long_next : (fs : List (Frame P)) (th : Thread P) (l : ℕ) → th.frames ≡ fs → top_left (frames_charged (advances bodies fs th).thread.frames) ≡ suc l → Run (advances bodies fs th).unit
+  long_next [] th l same e = absurd (no_left [] th l same refl e)
+  long_next (f ∷ fs) th l same e = run_of (advances bodies (f ∷ fs) th).unit l e
+
+  long_finish : (fs : List (Frame P)) (th : Thread P) (l : ℕ) → th.frames ≡ fs → top_left (frames_charged (begins_finish fs th).thread.frames) ≡ suc l → Run (begins_finish fs th).unit
+  long_finish [] th l same e = absurd (no_left [] th l same refl e)
+  long_finish (f ∷ fs) th l same e = absurd (grind arith)
 
   long_run : (th : Thread P) (l : ℕ) → top_left (frames_charged (in_unit bodies th).thread.frames) ≡ suc l → Run (in_unit bodies th).unit
-  long_run th l = by_ending (th.is_ending && is_main (top_kind th.frames) && top_left th.frames == 0)
+  long_run th l = by_case (following th)
     where
-      finishing : (fs : List (Frame P)) → th.frames ≡ fs → top_left (frames_charged (begins_finish fs th).thread.frames) ≡ suc l → Run (begins_finish fs th).unit
-      finishing [] same e = absurd (no (ap (λ (gs : List (Frame P)). top_left (frames_charged gs)) same) e)
-        where
-          no : top_left (frames_charged th.frames) ≡ 0 → top_left (frames_charged th.frames) ≡ suc l → ⊥
-          no h k = absurd (grind arith)
-      finishing (f ∷ fs) same e = absurd (grind arith)
-
-      ending : (us : List ℕ) → top_left (frames_charged (begins_ending bodies us th).thread.frames) ≡ suc l → Run (begins_ending bodies us th).unit
-      ending [] e = finishing th.frames refl e
-      ending (u ∷ us) e =
-          let begun = runs_cleanup bodies (u ∷ us) (without_cleanup th) in
-          long_of begun.frames begun l e refl
-
-      by_ending : (b : Bool) → top_left (frames_charged (in_unit_if bodies b th).thread.frames) ≡ suc l → Run (in_unit_if bodies b th).unit
-      by_ending true e = ending th.cleanups e
-      by_ending false e = long_of th.frames th l e refl
+      by_case : (x : Following) → top_left (frames_charged (takes_unit bodies x th).thread.frames) ≡ suc l → Run (takes_unit bodies x th).unit
+      by_case (continuing left) e = (left, refl)
+      by_case advancing e = long_next th.frames th l refl e
+      by_case (cleaning_up u) e = long_next (in_cleanup bodies u th).frames (in_cleanup bodies u th) l refl e
+      by_case finishing e = long_finish th.frames th l refl e
 
   run_completes : (t : ℕ) (x : Unit) (s : Turn P) → Run x → completes bodies t x s ≡ s
   run_completes t x s r = ap (λ (x : Unit). completes bodies t x s) r.1 ∙ by_left (top_left (thread_at s.machine t).frames)

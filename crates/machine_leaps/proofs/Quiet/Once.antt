@@ -9,11 +9,11 @@ use Rattle.machine_rules.specs.declared.dispatch.LastDispatch.TheVariants as las
 use Rattle.machine_rules.specs.Lists.{changed_at}
 use Rattle.machine_rules.specs.Bodies.{Bodies}
 use Rattle.machine_rules.specs.State.{Frame, Machine, Thread}
-use Rattle.machine_rules.specs.Threads.{is_main, no_thread, thread_at, top_kind, top_left}
+use Rattle.machine_rules.specs.Threads.{no_thread, thread_at, top_left}
 use Rattle.machine_rules.specs.Turns.{with_thread}
 use Rattle.machine_rules.specs.Servers.{charged, has_high}
 use Rattle.machine_rules.specs.Dispatch.{head}
-use Rattle.machine_rules.specs.Units.{in_unit, in_unit_if, in_unit_of, top_in_unit}
+use Rattle.machine_rules.specs.Units.{choice, in_unit, is_at_end, takes_unit}
 use Rattle.machine_rules.specs.Ticks.{capacity_in, frames_charged, slice_charged, slice_is_used, tick_charged}
 use Rattle.machine_rules.specs.Eventful.{head_matters, tick_matters, unless_ended}
 use Rattle.machine_rules.proofs.Reading.{changed-length, changed-twice, thread-same}
@@ -102,14 +102,7 @@ charged_is (suc k) th h =
 module _ {P : Type 0} (bodies : Bodies P) where
   -- a unit that goes on is left as it is
   pub in_unit_on : (th : Thread P) (l : ℕ) → top_left th.frames ≡ suc l → (in_unit bodies th).thread ≡ th
-  in_unit_on th l e = ap (λ (b : Bool). (in_unit_if bodies b th).thread) (not_ending th.is_ending (is_main (top_kind th.frames)) (top_left th.frames) e) ∙ by_frames th.frames e
-    where
-      not_ending : (a b : Bool) (n : ℕ) → n ≡ suc l → (a && b && n == 0) ≡ false
-      not_ending a b n e = grind arith
-
-      by_frames : (fs : List (Frame P)) → top_left fs ≡ suc l → (in_unit_of bodies fs th).thread ≡ th
-      by_frames [] e = absurd (grind arith)
-      by_frames (f ∷ fs) e = ap (λ (n : ℕ). (top_in_unit bodies n f fs th).thread) e
+  in_unit_on th l e = ap (λ (n : ℕ). (takes_unit bodies (choice n (is_at_end th) th.cleanups) th).thread) e
 
   -- the head's ticks, each charged after another
   abbrev pub head_times : ℕ → ℕ → Machine P → Machine P

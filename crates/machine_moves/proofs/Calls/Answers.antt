@@ -9,8 +9,8 @@ use Rattle.machine_rules.specs.State.{Machine, SignalRecord, Status, Thread, Wai
 use Rattle.machine_rules.specs.Threads.{is_blocked, mutex_at, no_thread, thread_at, waiting_in, waiting_of}
 use Rattle.machine_rules.specs.Priorities.{claim_of, exec}
 use Rattle.machine_rules.specs.Waiters.{Waiter, is_served_before, waiter_of, waiters, waits_so}
-use Rattle.machine_rules.specs.Turns.{has_passed, with_thread}
-use Rattle.machine_rules.specs.Mutexes.{LockAnswer, closes_cycle, counts, is_above_ceiling, is_free, lock_answer, locked_again, must_wait, owns, recursion_limit, refused, takes, trylock_answer, unless_late}
+use Rattle.machine_rules.specs.Turns.{is_late, with_thread}
+use Rattle.machine_rules.specs.Mutexes.{LockAnswer, closes_cycle, counts, is_above_ceiling, is_free, lock_answer, locked_again, must_wait, owns, recursion_limit, refused, takes, trylock_answer}
 use Rattle.machine_rules.specs.Conditions.{released_mutex}
 use Rattle.machine_rules.specs.Signals.{acceptor, accepts, goes_to}
 use Rattle.machine_rules.specs.GoodState.{is_in_condition_wait}
@@ -36,16 +36,17 @@ module _ {P : Type 0} (m : Machine P) (t k : ℕ) where
   again_may false true otherwise e h = tt
   again_may false false otherwise e h = e
 
-  lock_by : (above owned free cycle : Bool) → (owned ≡ true → is_free m k ≡ false) → is_free m k ≡ free → closes_cycle m k t ≡ cycle →
-      MayLock m t k (if above then refused res.Inval else if owned then locked_again (mutex_at m k) res.Deadlk else if free then takes else if cycle then refused res.Deadlk else must_wait)
-  lock_by true owned free cycle h e c = tt
-  lock_by false true free cycle h e c = again_may (not (mutex_at m k).is_recursive) ((mutex_at m k).count == recursion_limit) (refused res.Deadlk) (h refl) tt
-  lock_by false false true cycle h e c = tt
-  lock_by false false false true h e c = tt
-  lock_by false false false false h e c = (e, c)
+  lock_by : (above owned free cycle late : Bool) → (owned ≡ true → is_free m k ≡ false) → is_free m k ≡ free → closes_cycle m k t ≡ cycle →
+      MayLock m t k (if above then refused res.Inval else if owned then locked_again (mutex_at m k) res.Deadlk else if free then takes else if cycle then refused res.Deadlk else if late then refused res.Timedout else must_wait)
+  lock_by true owned free cycle late h e c = tt
+  lock_by false true free cycle late h e c = again_may (not (mutex_at m k).is_recursive) ((mutex_at m k).count == recursion_limit) (refused res.Deadlk) (h refl) tt
+  lock_by false false true cycle late h e c = tt
+  lock_by false false false true late h e c = tt
+  lock_by false false false false true h e c = tt
+  lock_by false false false false false h e c = (e, c)
 
-  pub lock_may : MayLock m t k (lock_answer m t k)
-  lock_may = lock_by (is_above_ceiling (thread_at m t) (mutex_at m k).protocol) (owns m t k) (is_free m k) (closes_cycle m k t) (owned_not_free (mutex_at m k).owner t) refl refl
+  pub lock_may : (due : Option ℕ) → MayLock m t k (lock_answer m t k due)
+  lock_may due = lock_by (is_above_ceiling (thread_at m t) (mutex_at m k).protocol) (owns m t k) (is_free m k) (closes_cycle m k t) (is_late due m) (owned_not_free (mutex_at m k).owner t) refl refl
 
   trylock_by : (above owned free : Bool) → (owned ≡ true → is_free m k ≡ false) →
       MayLock m t k (if above then refused res.Inval else if owned then locked_again (mutex_at m k) res.Busy else if free then takes else refused res.Busy)
@@ -56,17 +57,6 @@ module _ {P : Type 0} (m : Machine P) (t k : ℕ) where
 
   pub trylock_may : MayLock m t k (trylock_answer m t k)
   trylock_may = trylock_by (is_above_ceiling (thread_at m t) (mutex_at m k).protocol) (owns m t k) (is_free m k) (owned_not_free (mutex_at m k).owner t)
-
-  pub late_may : (due : Option ℕ) (a : LockAnswer) → MayLock m t k a → MayLock m t k (unless_late due m a)
-  late_may None a h = h
-  late_may (Some at) (refused r) h = tt
-  late_may (Some at) counts h = h
-  late_may (Some at) takes h = tt
-  late_may (Some at) must_wait h = by_time (has_passed at m)
-    where
-      by_time : (b : Bool) → MayLock m t k (if b then refused res.Timedout else must_wait)
-      by_time true = tt
-      by_time false = h
 
 -- ---- a thread in a condition wait
 

@@ -15,14 +15,14 @@ use Rattle.machine_rules.specs.Waiters.{Waiter, best_waiter, somebody_waits}
 use Rattle.machine_rules.specs.CallNames.{name_of}
 use Rattle.machine_rules.specs.Turns.{By, Turn, answered, changes, is_late, returns}
 use Rattle.machine_rules.specs.Waking.{call_in, cancelled_value, ending_with, wakes, wakes_cancelled, wakes_telling}
-use Rattle.machine_rules.specs.Mutexes.{LockAnswer, counts, hands_over, is_free, lock_answer, locks, locks_on, must_wait, owns, refused, releases, returns_from_wait, taken_by, takes, tries_lock, trylock_answer, unless_late, unlocks, waits_for_mutex, wakes_owner}
+use Rattle.machine_rules.specs.Mutexes.{LockAnswer, counts, hands_over, is_free, lock_answer, locks, locks_on, must_wait, owns, refused, releases, returns_from_wait, taken_by, takes, tries_lock, trylock_answer, unlocks, waits_for_mutex, wakes_owner}
 use Rattle.machine_rules.specs.Conditions.{contends, contends_for, released_mutex, signals_best_of, signals_waiter, waits_on_condition}
 use Rattle.machine_rules.specs.Semaphores.{blocks_unless_late, posts, posts_to, semaphore_limit, tries_semaphore, waits_on_semaphore, waits_semaphore}
 use Rattle.machine_rules.specs.GoodState.{is_in_condition_wait}
 use Rattle.machine_moves.specs.Moves.{KeepsAwake, MayWake, Stops, is_for_end, Runs, MayWait, alters, blocks_for, counts_down, counts_up, ends_with, frees, sem_down, sem_up, takes_for, tells_of, wakes_with}
 use Rattle.machine_moves.proofs.Waiters.Best.{best_waits, nobody_waits}
 use Rattle.machine_moves.proofs.Calls.Commuting.{answered_core, returns_from_wait_passes, status_kept, wakes_owner_passes, woken_runs}
-use Rattle.machine_moves.proofs.Calls.Answers.{InCondition, MayLock, late_may, lock_may, released_waits, trylock_may, waits_blocked}
+use Rattle.machine_moves.proofs.Calls.Answers.{InCondition, MayLock, lock_may, released_waits, trylock_may, waits_blocked}
 
 -- ---- statuses that stay
 
@@ -105,9 +105,7 @@ module _ {P : Type 0} (bodies : Bodies P) (who : Option ℕ) (Law Done : Turn P 
   locks_on_keep must_wait by k due s runs may q = stops.sleeps by (for_mutex k) due s runs (runs, may.0, may.1) q
 
   pub locks_keep : (by : By) (k : ℕ) (due : Option ℕ) (s : Turn P) → Runs who s.machine by.thread → Law s → Done (locks by k due s)
-  locks_keep by k due s runs q =
-      locks_on_keep (unless_late due s.machine (lock_answer s.machine by.thread k)) by k due s runs
-      (late_may s.machine by.thread k due (lock_answer s.machine by.thread k) (lock_may s.machine by.thread k)) q
+  locks_keep by k due s runs q = locks_on_keep (lock_answer s.machine by.thread k due) by k due s runs (lock_may s.machine by.thread k due) q
 
   pub tries_lock_keep : (by : By) (k : ℕ) (s : Turn P) → Runs who s.machine by.thread → Law s → Done (tries_lock by k s)
   tries_lock_keep by k s runs q = locks_on_keep (trylock_answer s.machine by.thread k) by k None s runs (trylock_may s.machine by.thread k) q

@@ -1,6 +1,5 @@
 -- What every move and the parts of a tick keep, every run keeps.
 use Rattle.std.proofs.Common.{Bool, List, None, Option, Some, [], ap, arith, false, refl, suc, sym, true, zero, ℕ, ◌∷◌, ◌≡◌}
-use Rattle.std.specs.Prelude.{◌==◌, ◌&&◌}
 use mathlib.Core.Path.{subst, ◌∙◌}
 use Rattle.tick_num.specs.declared.item.Item.{Item}
 use Rattle.tick_num.specs.declared.item.Item.TheVariants as item
@@ -8,13 +7,13 @@ use Rattle.script_flat.specs.declared.unit.Unit.{Unit}
 use Rattle.pse52_trace.specs.declared.event.Event.{Event}
 use Rattle.machine_rules.specs.Bodies.{Bodies}
 use Rattle.machine_rules.specs.State.{Frame, Machine, Status, Thread, blocked, dormant, ended, runnable}
-use Rattle.machine_rules.specs.Threads.{can_run, is_dormant, is_main, is_runnable, thread_at, thread_numbers, top_kind, top_left, waiting_of}
+use Rattle.machine_rules.specs.Threads.{can_run, is_dormant, is_runnable, thread_at, thread_numbers, top_left, waiting_of}
 use Rattle.machine_rules.specs.Turns.{Turn, becomes, changes, settles_since, turn_of}
 use Rattle.machine_rules.specs.Servers.{has_high}
 use Rattle.machine_rules.specs.Delivery.{sweeps, sweeps_all}
 use Rattle.machine_rules.specs.DueItems.{handles, has_come, instant, item_bound, item_done, item_then, items_done, next_item, start_due, start_in}
 use Rattle.machine_rules.specs.Dispatch.{dispatch_event, dispatch_of, dispatches, head, is_same, tells_unless}
-use Rattle.machine_rules.specs.Units.{begins_ending, begins_finish, in_unit, in_unit_if, in_unit_of, top_in_unit}
+use Rattle.machine_rules.specs.Units.{Following, advances, advancing, begins_finish, cleaning_up, continuing, finishing, following, in_unit, takes_unit}
 use Rattle.machine_rules.specs.Ticks.{completes_at, ends_tick, later, runs, runs_head, tick, tick_charged, tick_end, tick_ends, unit_ticked, unless_killed}
 use Rattle.machine_rules.specs.Runs.{ticks}
 use Rattle.machine_rules.proofs.ItemsEnd.{instant_ends, is_due, next_is_due}
@@ -51,28 +50,22 @@ pub record TickKeeps {P : Type 0} (bodies : Bodies P) (Law : Turn P → Type 0) 
 -- ---- the unit of a thread leaves its status
 
 module _ {P : Type 0} (bodies : Bodies P) where
-  in_unit_of_status : (fs : List (Frame P)) (th : Thread P) → (in_unit_of bodies fs th).thread.status ≡ th.status
-  in_unit_of_status [] th = refl
-  in_unit_of_status (f ∷ fs) th = by_left f.left
-    where
-      by_left : (left : ℕ) → (top_in_unit bodies left f fs th).thread.status ≡ th.status
-      by_left zero = refl
-      by_left (suc left) = refl
+  advances_status : (fs : List (Frame P)) (th : Thread P) → (advances bodies fs th).thread.status ≡ th.status
+  advances_status [] th = refl
+  advances_status (f ∷ fs) th = refl
 
-  ending_status : (us : List ℕ) (th : Thread P) → (begins_ending bodies us th).thread.status ≡ th.status
-  ending_status [] th = by_frames th.frames
-    where
-      by_frames : (fs : List (Frame P)) → (begins_finish fs th).thread.status ≡ th.status
-      by_frames [] = refl
-      by_frames (f ∷ fs) = refl
-  ending_status (u ∷ us) th = refl
+  finish_status : (fs : List (Frame P)) (th : Thread P) → (begins_finish fs th).thread.status ≡ th.status
+  finish_status [] th = refl
+  finish_status (f ∷ fs) th = refl
 
   pub in_unit_status : (th : Thread P) → (in_unit bodies th).thread.status ≡ th.status
-  in_unit_status th = by_ending (th.is_ending && is_main (top_kind th.frames) && top_left th.frames == 0)
+  in_unit_status th = by_case (following th)
     where
-      by_ending : (b : Bool) → (in_unit_if bodies b th).thread.status ≡ th.status
-      by_ending true = ending_status th.cleanups th
-      by_ending false = in_unit_of_status th.frames th
+      by_case : (x : Following) → (takes_unit bodies x th).thread.status ≡ th.status
+      by_case (continuing left) = refl
+      by_case advancing = advances_status th.frames th
+      by_case (cleaning_up u) = refl
+      by_case finishing = finish_status th.frames th
 
   pub charged_runs : (t : ℕ) (s : Turn P) → can_run s.machine t ≡ true → can_run (charged_turn bodies t s).machine t ≡ true
   charged_runs t s runs =

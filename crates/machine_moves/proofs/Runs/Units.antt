@@ -1,6 +1,6 @@
 -- Every unit of a well formed script is in its ranges.
 use Rattle.std.proofs.Common.{Bool, List, None, Option, Some, [], false, suc, true, zero, ℕ, ◌+◌, ◌∷◌}
-use Rattle.std.specs.Prelude.{filter_map, if◌then◌else◌, map, slice_index_or, ◌==◌, ◌&&◌}
+use Rattle.std.specs.Prelude.{filter_map, if◌then◌else◌, map, slice_index_or}
 use Rattle.tick_num.specs.declared.res.Res.{Res}
 use Rattle.script_tree.specs.Block.{Adding, Block, Guarding, Looping, Making, Nothing, Running, Setting, Taking, Testing}
 use Rattle.script_tree.specs.declared.decl.Decl.{Decl}
@@ -12,10 +12,8 @@ use Rattle.machine_rules.specs.declared.frame.BodyOf.{BodyOf}
 use Rattle.machine_rules.specs.declared.frame.BodyOf.TheVariants as body_of
 use Rattle.machine_rules.specs.Bodies.{Bodies, seen_by}
 use Rattle.machine_rules.specs.State.{Frame, Thread}
-use Rattle.machine_rules.specs.Threads.{is_main, top_kind, top_left}
-use Rattle.machine_rules.specs.Cancellation.{runs_cleanup, without_cleanup}
 use Rattle.machine_rules.specs.Declarations.{ThreadDecl, cleanup_kind, declared_thread, handler_kind, named, threads_of}
-use Rattle.machine_rules.specs.Units.{begins_ending, begins_finish, in_unit, in_unit_if, in_unit_of, top_in_unit}
+use Rattle.machine_rules.specs.Units.{Following, advances, advancing, begins_finish, cleaning_up, continuing, finishing, following, in_cleanup, in_unit, takes_unit}
 use Rattle.machine_rules.specs.Machine.{block_of, bodies_of}
 use Rattle.machine_rules.specs.WellFormed.{BlockFits, DeclsFit, PolicyFits}
 use Rattle.machine_moves.specs.UnitRanges.{BodiesFit, UnitFits}
@@ -24,28 +22,22 @@ use Rattle.machine_moves.proofs.Waiters.Best.{Each}
 -- ---- the unit that a thread is in
 
 module _ {P : Type 0} (bodies : Bodies P) (fits : BodiesFit bodies) where
-  in_unit_of_fits : (fs : List (Frame P)) (th : Thread P) → UnitFits (in_unit_of bodies fs th).unit
-  in_unit_of_fits [] th = tt
-  in_unit_of_fits (f ∷ fs) th = by_left f.left
-    where
-      by_left : (left : ℕ) → UnitFits (top_in_unit bodies left f fs th).unit
-      by_left zero = fits f.body f.place (seen_by f)
-      by_left (suc left) = tt
+  advances_fit : (fs : List (Frame P)) (th : Thread P) → UnitFits (advances bodies fs th).unit
+  advances_fit [] th = tt
+  advances_fit (f ∷ fs) th = fits f.body f.place (seen_by f)
 
-  ending_fits : (us : List ℕ) (th : Thread P) → UnitFits (begins_ending bodies us th).unit
-  ending_fits [] th = by_frames th.frames
-    where
-      by_frames : (fs : List (Frame P)) → UnitFits (begins_finish fs th).unit
-      by_frames [] = tt
-      by_frames (f ∷ fs) = tt
-  ending_fits (u ∷ us) th = let begun = runs_cleanup bodies (u ∷ us) (without_cleanup th) in in_unit_of_fits begun.frames begun
+  finish_fits : (fs : List (Frame P)) (th : Thread P) → UnitFits (begins_finish fs th).unit
+  finish_fits [] th = tt
+  finish_fits (f ∷ fs) th = tt
 
   pub in_unit_fits : (th : Thread P) → UnitFits (in_unit bodies th).unit
-  in_unit_fits th = by_ending (th.is_ending && is_main (top_kind th.frames) && top_left th.frames == 0)
+  in_unit_fits th = by_case (following th)
     where
-      by_ending : (b : Bool) → UnitFits (in_unit_if bodies b th).unit
-      by_ending true = ending_fits th.cleanups th
-      by_ending false = in_unit_of_fits th.frames th
+      by_case : (x : Following) → UnitFits (takes_unit bodies x th).unit
+      by_case (continuing left) = tt
+      by_case advancing = advances_fit th.frames th
+      by_case (cleaning_up u) = advances_fit (in_cleanup bodies u th).frames (in_cleanup bodies u th)
+      by_case finishing = finish_fits th.frames th
 
 -- ---- what a block comes to
 
