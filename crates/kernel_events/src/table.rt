@@ -25,7 +25,7 @@ use kernel_signals::{
 };
 use kernel_state::Parts;
 use kernel_sync::{
-    broadcast, get_value, lock, post, signal, try_lock, try_wait, unlock, wait, wait_on,
+    broadcast, cond_wait, get_value, lock, post, signal, try_lock, try_wait, unlock, wait,
 };
 use pse52_trace::Tracer;
 use rt_io::Sink;
@@ -65,9 +65,9 @@ fn do_call<K: Sink>(p: &mut Parts, t: Tid, call: &Call, out: &mut Tracer<'_, K>)
         Call::Timedlock { mutex, at } => lock(p, t, call, *mutex, Some(p.moment(t, at)), out),
         Call::Trylock(k) => try_lock(p, t, call, *k, out),
         Call::Unlock(k) => unlock(p, t, call, *k, out),
-        Call::Wait(c, k) => wait_on(p, t, call, *c, *k, None, out),
+        Call::Wait(c, k) => cond_wait(p, t, call, *c, *k, None, out),
         Call::Timedwait { cond, mutex, at } => {
-            wait_on(p, t, call, *cond, *mutex, Some(p.moment(t, at)), out)
+            cond_wait(p, t, call, *cond, *mutex, Some(p.moment(t, at)), out)
         }
         Call::Signal(c) => signal(p, t, call, *c, out),
         Call::Broadcast(c) => broadcast(p, t, call, *c, out),

@@ -110,7 +110,7 @@ run_status bodies true [] th = refl
 run_status bodies true (u ∷ us) th = refl
 run_status bodies false us th = refl
 
-module _ (o : Objects) (code : flat.Bodies (List Op)) (calls : (n : ℕ) → EachMade (CallIsRunnable o) (ops_of code n)) where
+module _ (o : Objects) (code : flat.NumberedBodies (List Op)) (calls : (n : ℕ) → EachMade (CallIsRunnable o) (ops_of code n)) where
   -- ---- the unit that a thread is in
 
   makes_next : (fs : List (Frame Cursor)) (th : Thread Cursor) → UnitMakes (CallIsRunnable o) (advances (flat_bodies code) fs th).unit
@@ -131,7 +131,7 @@ module _ (o : Objects) (code : flat.Bodies (List Op)) (calls : (n : ℕ) → Eac
       by_case (cleaning_up u) = makes_next (in_cleanup (flat_bodies code) u th).frames (in_cleanup (flat_bodies code) u th)
       by_case finishing = makes_finish th.frames th
 
-module _ (o : Objects) (handlers : ℕ) (code : flat.Bodies (List Op)) (calls : (n : ℕ) → EachMade (CallIsRunnable o) (ops_of code n)) where
+module _ (o : Objects) (handlers : ℕ) (code : flat.NumberedBodies (List Op)) (calls : (n : ℕ) → EachMade (CallIsRunnable o) (ops_of code n)) where
   abbrev pub of_calls : Given Cursor
   of_calls = record {
     bodies = flat_bodies code;

@@ -9,7 +9,7 @@ use Rattle.machine_rules.specs.Bodies.{Bodies}
 use Rattle.machine_rules.specs.State.{Machine, Queue, Registration, SignalRecord, Timer}
 use Rattle.machine_rules.specs.Threads.{can_run, no_mutex, no_queue, no_timer, thread_at}
 use Rattle.machine_rules.specs.Turns.{Turn, changes, moves_if, tells, turn_of}
-use Rattle.machine_rules.specs.Servers.{plans_for}
+use Rattle.machine_rules.specs.Servers.{plans_server}
 use Rattle.machine_rules.specs.Mutexes.{counted_down, counted_up, freed, taken_by}
 use Rattle.machine_rules.specs.Queues.{record_of_notification, registered, with_message, without_message}
 use Rattle.machine_rules.specs.DueItems.{has_come}
@@ -103,7 +103,7 @@ module _ {P : Type 0} (bodies : Bodies P) (c : Counts) where
   keep who (recasts t f) s may q = absurd may
   keep who move s may q = q
 
-  planned : (t : ℕ) (o : Option ServerState) (s : Turn P) → Has s.machine → Has (plans_for t o s).machine
+  planned : (t : ℕ) (o : Option ServerState) (s : Turn P) → Has s.machine → Has (plans_server t o s).machine
   planned t None s q = q
   planned t (Some server) s q = q
 

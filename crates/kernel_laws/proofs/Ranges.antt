@@ -10,7 +10,7 @@ use Rattle.script_tree.specs.declared.decl.Script.{Script}
 use Rattle.script_flat.specs.declared.unit.Unit as units
 use Rattle.script_flat.specs.declared.unit.Unit.TheVariants as unit
 use Rattle.script_flat.specs.Fetch.{fetched}
-use Rattle.script_flat.specs.Flat.{Bodies, bodies_of, no_bodies, with_decl, with_decls}
+use Rattle.script_flat.specs.Flat.{NumberedBodies, bodies_of, no_bodies, with_decl, with_decls}
 use Rattle.machine_rules.specs.WellFormed.{BlockFits, CallFits, DeclsFit}
 use Rattle.machine_flat.specs.EachCall.{EachCall}
 use Rattle.machine_flat.specs.FlatBodies.{code_of, cursor_at, flat_bodies}
@@ -37,7 +37,7 @@ one_more all body h fits = All-append (EachCall CallFits) all (body ∷ []) h (A
 abbrev tree : Block → Block
 tree body = body
 
-all_fit : (decls : List Decl) (b : Bodies Block) → Fit b.all → DeclsFit decls → Fit (with_decls tree decls b).all
+all_fit : (decls : List Decl) (b : NumberedBodies Block) → Fit b.all → DeclsFit decls → Fit (with_decls tree decls b).all
 all_fit [] b h fits = h
 all_fit (decl.Named name (kind.Thread policy start body) ∷ decls) b h fits = all_fit decls (with_decl tree (decl.Named name (kind.Thread policy start body)) b) (one_more b.all body h fits.0.1) fits.1
 all_fit (decl.Named name (kind.Handler body) ∷ decls) b h fits = all_fit decls (with_decl tree (decl.Named name (kind.Handler body)) b) (one_more b.all body h fits.0) fits.1

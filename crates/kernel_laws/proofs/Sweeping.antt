@@ -180,7 +180,7 @@ module _ (bodies : Bodies Cursor) where
 
   -- ---- so it was before
 
-  pub swept_back : (code : flat.Bodies (List Op)) (s : Turn Cursor) → CanBeSwept code (sweeps bodies s).machine → CanBeSwept code s.machine
+  pub swept_back : (code : flat.NumberedBodies (List Op)) (s : Turn Cursor) → CanBeSwept code (sweeps bodies s).machine → CanBeSwept code s.machine
   swept_back code s h = record {
     caught = λ signal. subst (λ (actions : List SigAction). CatchesBy (length code.handlers) (slice_index_or actions signal action.Kill)) (all_acted (thread_numbers s.machine) s) (h.caught signal);
     each = all_back (thread_numbers s.machine) s h.each;

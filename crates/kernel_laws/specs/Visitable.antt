@@ -21,6 +21,6 @@ pub record IsVisitable (now : ℕ) (th : Thread Cursor) : Type 0 where
   pub consuming : (s : ServerState) → th.server ≡ Some s → 1 ≤ s.consumed → ConsumesHigh now th.status s
 
 -- whatever a sweep may ask of a machine over such code
-pub record CanBeSwept (code : flat.Bodies (List Op)) (m : Machine Cursor) : Type 0 where
+pub record CanBeSwept (code : flat.NumberedBodies (List Op)) (m : Machine Cursor) : Type 0 where
   pub caught : (signal : ℕ) → CatchesBy (length code.handlers) (action_of m signal)
   pub each : (t : ℕ) → IsVisitable m.now (thread_at m t)

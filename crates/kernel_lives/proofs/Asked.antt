@@ -5,7 +5,7 @@ use Rattle.script_flat.specs.declared.cursor.Cursor.{Cursor}
 use Rattle.machine_rules.specs.Cancellation.{requested}
 use Rattle.machine_rules.specs.State.{Thread}
 use Rattle.machine_rules.specs.Threads.{is_blocked, no_thread, waiting_in}
-use Rattle.machine_rules.specs.Turns.{By, Turn, answered, changes, returns, ◌▷◌}
+use Rattle.machine_rules.specs.Turns.{Caller, Turn, answered, changes, returns, ◌▷◌}
 use Rattle.machine_rules.proofs.Reading.{changed-keeps, changed-length}
 use Rattle.kernel_sync.specs.Waits.{WaitsFit}
 use Rattle.kernel_sync.proofs.Kept.{kept_fits, kept_status}
@@ -20,7 +20,7 @@ kept_joins t f s status joiner h = record {
   ends = λ u v w waits is. (let lt = h.ends u v w (sym (ap waiting_in (kept_status t f s status u)) ∙ waits) is in let e = changed-length no_thread t f s.machine.threads in omega (arith, e, lt));
 }
 
-module _ (by : By) (u : ℕ) (s : Turn Cursor) where
+module _ (by : Caller) (u : ℕ) (s : Turn Cursor) where
   pub asked_fits : WaitsFit s.machine → WaitsFit (s ▷ returns by res.Zero 0 ▷ changes u requested).machine
   asked_fits h = kept_fits u requested (returns by res.Zero 0 s) (λ th. refl) (λ th. refl) (returned_fits by res.Zero s h)
 

@@ -10,7 +10,7 @@ use Rattle.machine_rules.specs.Cancellation.{runs_cleanup_if, without_cleanup}
 use Rattle.machine_rules.specs.Lists.{changed_at}
 use Rattle.machine_rules.specs.State.{Frame, Thread}
 use Rattle.machine_rules.specs.Threads.{no_thread, thread_at}
-use Rattle.machine_rules.specs.Turns.{By, Turn, answered, changes, frames_answered, returns, ◌▷◌}
+use Rattle.machine_rules.specs.Turns.{Caller, Turn, answered, changes, frames_answered, returns, ◌▷◌}
 use Rattle.machine_rules.specs.Waking.{new_frame, on_top}
 use Rattle.machine_rules.proofs.Reading.{changed-keeps}
 use Rattle.thread_blocks.specs.Handlers.{AreHandlers}
@@ -49,7 +49,7 @@ answered_length r value [] = refl
 answered_length r value (f ∷ fs) = refl
 
 -- a call that returns leaves as many frames
-pub frames_kept : (by : By) (r : Res) (value : ℕ) (s : Turn Cursor) (u : ℕ) →
+pub frames_kept : (by : Caller) (r : Res) (value : ℕ) (s : Turn Cursor) (u : ℕ) →
     length (thread_at (s ▷ changes by.thread without_cleanup ▷ returns by r value).machine u).frames ≡ length (thread_at s.machine u).frames
 frames_kept by r value s u =
     changed-keeps no_thread by.thread u (answered r value) (λ (th : Thread Cursor). length th.frames) (λ th. answered_length r value th.frames) (changes by.thread without_cleanup s).machine.threads

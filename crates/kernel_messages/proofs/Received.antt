@@ -7,10 +7,10 @@ use Rattle.tick_num.specs.declared.res.Res.TheVariants as res
 use Rattle.pse52_trace.specs.Tells.{Tells}
 use Rattle.pse52_trace.specs.declared.tracer.Tracer.{Tracer}
 use Rattle.script_flat.specs.declared.cursor.Cursor.{Cursor}
-use Rattle.machine_rules.specs.Queues.{enters, message_of, next_message, receives_message, receives_on, takes_over, value_at, waits_to_send, without_message}
+use Rattle.machine_rules.specs.Queues.{enters, message_of, next_message, receives_message, takes_message_or_blocks, takes_over, value_at, waits_to_send, without_message}
 use Rattle.machine_rules.specs.State.{Machine, Message, Queue, Thread, Wait, Waiting, for_condition, for_end, for_message, for_mutex, for_mutex_again, for_room, for_semaphore, for_signal, for_time}
 use Rattle.machine_rules.specs.Threads.{is_blocked, no_thread, queue_at, thread_at, waiting_in, waiting_of}
-use Rattle.machine_rules.specs.Turns.{By, Turn, answered, changes_queue, returns}
+use Rattle.machine_rules.specs.Turns.{Caller, Turn, answered, changes_queue, returns}
 use Rattle.machine_rules.specs.Waiters.{Waiter, best_waiter}
 use Rattle.machine_rules.specs.Waking.{wakes}
 use Rattle.machine_rules.proofs.Behind.{AddsBehind, wakes_behind}
@@ -52,7 +52,7 @@ sender_fits m q o is fits = rw is (by_best (best_waiter m (waits_to_send q)) ref
         subst (λ (x : Message). x.priority < 32) (sym (is_message m w.thread w.waiting so.0))
         (from_room q w.waiting.wait (λ x. x.priority < 32) so.1 (λ p x room. (fits.senders w.thread p x w.waiting so.0 room).1))
 
-module _ (by : By) (r : Res) (v : ℕ) (s : Turn Cursor) where
+module _ (by : Caller) (r : Res) (v : ℕ) (s : Turn Cursor) where
   -- who waits for what is the same once the call has returned
   same_waits : (u : ℕ) → waiting_of (returns by r v s).machine u ≡ waiting_of s.machine u
   same_waits u = changed-keeps no_thread by.thread u (answered r v) (λ (th : Thread Cursor). waiting_in th.status) (λ th. refl) s.machine.threads
@@ -62,7 +62,7 @@ module _ (by : By) (r : Res) (v : ℕ) (s : Turn Cursor) where
 
 -- ---- a message leaves
 
-module _ (by : By) (q : ℕ) (due : Option ℕ) (k l : Kernel) (taken : l ≡ after (changes_queue q without_next) k) where
+module _ (by : Caller) (q : ℕ) (due : Option ℕ) (k l : Kernel) (taken : l ≡ after (changes_queue q without_next) k) where
   abbrev queue : Queue
   queue = queue_at k.machine q
 
@@ -86,7 +86,7 @@ module _ (by : By) (q : ℕ) (due : Option ℕ) (k l : Kernel) (taken : l ≡ af
       let rest : changes_queue q (without_message n) (turn k) ≡ changes_queue q without_next (turn k) =
       ap (λ (i : Option ℕ). record (turn k) { machine = record (k.machine) { queues = slice_set k.machine.queues q (without_one i queue) } }) (sym e) in
       let s = returns by res.Zero value (changes_queue q without_next (turn k)) in
-      ap (λ (i : Option ℕ). receives_on i by q due (turn k)) e
+      ap (λ (i : Option ℕ). takes_message_or_blocks i by q due (turn k)) e
       ∙ ap (λ (t : Turn Cursor). takes_over best q (returns by res.Zero (value_at queue.messages n) t)) rest
       ∙ ap (λ (v : ℕ). takes_over best q (returns by res.Zero v (changes_queue q without_next (turn k)))) read
       ∙ taking s (λ u. same_waits by res.Zero value (changes_queue q without_next (turn k)) u) best refl
@@ -105,12 +105,12 @@ module _ (by : By) (q : ℕ) (due : Option ℕ) (k l : Kernel) (taken : l ≡ af
 
 -- ---- the sender, once the call has returned
 
-pub sender_stays_blocked : (by : By) (r : Res) (v : ℕ) (k l : Kernel) (o : Option ℕ) → l ≡ after (returns by r v) k → IfSome o (λ t. is_blocked (thread_at k.machine t).status ≡ true) →
+pub sender_stays_blocked : (by : Caller) (r : Res) (v : ℕ) (k l : Kernel) (o : Option ℕ) → l ≡ after (returns by r v) k → IfSome o (λ t. is_blocked (thread_at k.machine t).status ≡ true) →
     IfSome o (λ t. is_blocked (thread_at l.machine t).status ≡ true)
 sender_stays_blocked by r v k l None e h = tt
 sender_stays_blocked by r v k l (Some t) e h = returned_blocked by r v t k l e h
 
-pub sender_stays_fit : (by : By) (r : Res) (v : ℕ) (k l : Kernel) (o : Option ℕ) → l ≡ after (returns by r v) k → IfSome o (λ t. (waiting_message k.machine t).priority < 32) →
+pub sender_stays_fit : (by : Caller) (r : Res) (v : ℕ) (k l : Kernel) (o : Option ℕ) → l ≡ after (returns by r v) k → IfSome o (λ t. (waiting_message k.machine t).priority < 32) →
     IfSome o (λ t. (waiting_message l.machine t).priority < 32)
 sender_stays_fit by r v k l None e h = tt
 sender_stays_fit by r v k l (Some t) e h =

@@ -2,7 +2,7 @@
 use Rattle.std.specs.Prelude.{None, Option, Some, ℕ}
 use Rattle.tick_num.specs.declared.res.Res.TheVariants as res
 use Rattle.machine_rules.specs.Queues.{enters}
-use Rattle.machine_rules.specs.Turns.{By, Turn, returns, ◌▷◌}
+use Rattle.machine_rules.specs.Turns.{Caller, Turn, returns, ◌▷◌}
 use Rattle.machine_rules.specs.Waking.{wakes}
 use Rattle.kernel_state.specs.Waits.{waiting_message}
 
@@ -12,5 +12,5 @@ takes_over_from None q s = s
 takes_over_from (Some w) q s = enters q (waiting_message s.machine w) (wakes w res.Zero 0) s
 
 -- the call returns with the value, and the message of the sender enters
-abbrev pub hands_out : {P : Type 0} → By → ℕ → Option ℕ → ℕ → Turn P → Turn P
+abbrev pub hands_out : {P : Type 0} → Caller → ℕ → Option ℕ → ℕ → Turn P → Turn P
 hands_out by value sender q s = s ▷ returns by res.Zero value ▷ takes_over_from sender q

@@ -2,7 +2,7 @@
 ghost use Rattle.std.specs.Prelude.{◌≡◌, ◌≤◌, ◌<◌, ◌^◌, None, length, true};
 ghost use Rattle.tick_num.specs.declared.res.Res.TheVariants as res;
 ghost use Rattle.pse52_trace.specs.Tells.{Tells};
-ghost use Rattle.machine_rules.specs.Queues.{sends_message, sends_to};
+ghost use Rattle.machine_rules.specs.Queues.{sends_message, reaches_receiver_or_queue};
 ghost use Rattle.machine_rules.specs.Threads.{can_run, is_blocked, thread_at};
 ghost use Rattle.machine_rules.specs.Turns.{returns, ◌▷◌};
 ghost use Rattle.machine_rules.specs.Waking.{wakes};
@@ -23,7 +23,7 @@ use thread_blocks::{Message, Wait};
 use tick_num::{ObjId, Res, Tick, Tid};
 
 // The call returns, and the receiver that is served first wakes with the message.
-fn send_to<K: Sink>(
+fn hand_to_receiver<K: Sink>(
     p: &mut Parts,
     t: Tid,
     call: &Call,
@@ -60,8 +60,8 @@ fn send_to_queue<K: Sink>(
     requires priority { message.priority < 32 }
     requires can { CanNotify p.old.machine q }
     requires room { length p.old.direct < 256 }
-    ensures state { p.new ≡ after (sends_to None (by t call.now) q (message_of message) due) p.old }
-    ensures told { Tells K.text K.faults p.old.names out.old out.new (told (sends_to None (by t call.now) q (message_of message) due) p.old) }
+    ensures state { p.new ≡ after (reaches_receiver_or_queue None (by t call.now) q (message_of message) due) p.old }
+    ensures told { Tells K.text K.faults p.old.names out.old out.new (told (reaches_receiver_or_queue None (by t call.now) q (message_of message) due) p.old) }
 {
     if p.has_room(q) {
         enter_and_return(p, t, call, q, message, out);
@@ -98,7 +98,7 @@ pub fn send<K: Sink>(
     if p.is_too_long(q, len) {
         p.returns(t, call, Res::Msgsize, 0, out);
     } else if let Some(receiver) = p.best_receiver(q) {
-        send_to(p, t, call, receiver, value, out);
+        hand_to_receiver(p, t, call, receiver, value, out);
     } else {
         send_to_queue(p, t, call, q, Message { priority, value }, due, out);
     }

@@ -7,9 +7,9 @@ use Rattle.pse52_trace.specs.Tells.{Tells}
 use Rattle.pse52_trace.specs.declared.tracer.Tracer.{Tracer}
 use Rattle.pse52_trace.proofs.Tells.{tells_nothing}
 use Rattle.script_flat.specs.declared.cursor.Cursor.{Cursor}
-use Rattle.machine_rules.specs.Signals.{delivers, goes_to, selected, waits_signal, waits_signal_on, waits_ticks, without_record}
+use Rattle.machine_rules.specs.Signals.{delivers, may_go_to, selected, waits_signal, takes_signal_or_waits, blocks_for_signal, without_record}
 use Rattle.machine_rules.specs.State.{Machine, SignalRecord, for_signal}
-use Rattle.machine_rules.specs.Turns.{By, Turn, changes_pending, returns, ◌▷◌}
+use Rattle.machine_rules.specs.Turns.{Caller, Turn, changes_pending, returns, ◌▷◌}
 use Rattle.machine_rules.specs.Waking.{blocks}
 use Rattle.machine_rules.proofs.Behind.{returns_behind}
 use Rattle.machine_rules.proofs.BehindCalls.{delivers_behind}
@@ -18,36 +18,36 @@ use Rattle.kernel_state.proofs.Turns.{then_state, then_told}
 
 -- the pending record that a thread takes which asks for a set
 abbrev pub awaited : Machine Cursor → ℕ → ℕ → Option SignalRecord
-awaited m t set = selected m (λ (r : SignalRecord). has_signal set r.signal && goes_to t r.target)
+awaited m t set = selected m (λ (r : SignalRecord). has_signal set r.signal && may_go_to t r.target)
 
-module _ (ticks : Option ℕ) (by : By) (set : ℕ) (k l : Kernel) where
+module _ (ticks : Option ℕ) (by : Caller) (set : ℕ) (k l : Kernel) where
   pub waits_some : (r : SignalRecord) → Some r ≡ awaited k.machine by.thread set → l ≡ after (λ (s : Turn Cursor). s ▷ changes_pending (without_record r) ▷ delivers by.thread r ▷ returns by res.Zero r.signal) k →
       l ≡ after (waits_signal ticks by set) k
-  waits_some r is e = e ∙ ap (λ (o : Option SignalRecord). after (waits_signal_on o ticks by set) k) is
+  waits_some r is e = e ∙ ap (λ (o : Option SignalRecord). after (takes_signal_or_waits o ticks by set) k) is
 
-  pub waits_none : (o : Option SignalRecord) → o ≡ awaited k.machine by.thread set → o ≡ None → l ≡ after (waits_ticks ticks by set) k → l ≡ after (waits_signal ticks by set) k
-  waits_none o is none e = e ∙ ap (λ (o : Option SignalRecord). after (waits_signal_on o ticks by set) k) (sym none ∙ is)
+  pub waits_none : (o : Option SignalRecord) → o ≡ awaited k.machine by.thread set → o ≡ None → l ≡ after (blocks_for_signal ticks by set) k → l ≡ after (waits_signal ticks by set) k
+  waits_none o is none e = e ∙ ap (λ (o : Option SignalRecord). after (takes_signal_or_waits o ticks by set) k) (sym none ∙ is)
 
-module _ {K : Type 0} (text : K → Option (List ℕ)) (faults : K → ℕ) (ticks : Option ℕ) (by : By) (set : ℕ) (k : Kernel) (a b : Tracer K) where
+module _ {K : Type 0} (text : K → Option (List ℕ)) (faults : K → ℕ) (ticks : Option ℕ) (by : Caller) (set : ℕ) (k : Kernel) (a b : Tracer K) where
   pub told_some : (r : SignalRecord) → Some r ≡ awaited k.machine by.thread set →
       Tells text faults k.names a b (told (λ (s : Turn Cursor). s ▷ changes_pending (without_record r) ▷ delivers by.thread r ▷ returns by res.Zero r.signal) k) → Tells text faults k.names a b (told (waits_signal ticks by set) k)
-  told_some r is h = subst (λ (o : Option SignalRecord). Tells text faults k.names a b (told (waits_signal_on o ticks by set) k)) is h
+  told_some r is h = subst (λ (o : Option SignalRecord). Tells text faults k.names a b (told (takes_signal_or_waits o ticks by set) k)) is h
 
-  pub told_none : (o : Option SignalRecord) → o ≡ awaited k.machine by.thread set → o ≡ None → Tells text faults k.names a b (told (waits_ticks ticks by set) k) → Tells text faults k.names a b (told (waits_signal ticks by set) k)
-  told_none o is none h = subst (λ (o : Option SignalRecord). Tells text faults k.names a b (told (waits_signal_on o ticks by set) k)) (sym none ∙ is) h
+  pub told_none : (o : Option SignalRecord) → o ≡ awaited k.machine by.thread set → o ≡ None → Tells text faults k.names a b (told (blocks_for_signal ticks by set) k) → Tells text faults k.names a b (told (waits_signal ticks by set) k)
+  told_none o is none h = subst (λ (o : Option SignalRecord). Tells text faults k.names a b (told (takes_signal_or_waits o ticks by set) k)) (sym none ∙ is) h
 
 -- some ticks are given to wait
-pub waits_some_ticks : (n : ℕ) (by : By) (set : ℕ) (k l : Kernel) → n ≢ 0 → l ≡ after (blocks by (for_signal set) (Some (k.machine.now + n))) k → l ≡ after (waits_ticks (Some n) by set) k
+pub waits_some_ticks : (n : ℕ) (by : Caller) (set : ℕ) (k l : Kernel) → n ≢ 0 → l ≡ after (blocks by (for_signal set) (Some (k.machine.now + n))) k → l ≡ after (blocks_for_signal (Some n) by set) k
 waits_some_ticks zero by set k l some e = absurd (some refl)
 waits_some_ticks (suc n) by set k l some e = e
 
 -- then nothing is told
-pub told_some_ticks : {K : Type 0} (text : K → Option (List ℕ)) (faults : K → ℕ) (n : ℕ) (by : By) (set : ℕ) (k : Kernel) (a : Tracer K) → n ≢ 0 → Tells text faults k.names a a (told (waits_ticks (Some n) by set) k)
+pub told_some_ticks : {K : Type 0} (text : K → Option (List ℕ)) (faults : K → ℕ) (n : ℕ) (by : Caller) (set : ℕ) (k : Kernel) (a : Tracer K) → n ≢ 0 → Tells text faults k.names a a (told (blocks_for_signal (Some n) by set) k)
 told_some_ticks text faults zero by set k a some = absurd (some refl)
 told_some_ticks text faults (suc n) by set k a some = tells_nothing text faults k.names a
 
 -- a record is taken, then delivered, and then the call returns
-module _ (by : By) (r : SignalRecord) (k l m n : Kernel) (first : l ≡ after (changes_pending (without_record r)) k) (second : m ≡ after (delivers by.thread r) l) where
+module _ (by : Caller) (r : SignalRecord) (k l m n : Kernel) (first : l ≡ after (changes_pending (without_record r)) k) (second : m ≡ after (delivers by.thread r) l) where
   taken : m ≡ after (λ (s : Turn Cursor). s ▷ changes_pending (without_record r) ▷ delivers by.thread r) k
   taken = second ∙ ap (after (delivers by.thread r)) first
 

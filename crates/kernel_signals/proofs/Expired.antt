@@ -10,7 +10,7 @@ use Rattle.sporadic_server.specs.Server.{ServerState}
 use Rattle.script_flat.specs.declared.cursor.Cursor.{Cursor}
 use Rattle.machine_rules.specs.CallNames.{name_of}
 use Rattle.machine_rules.specs.Servers.{activates_server, high_server}
-use Rattle.machine_rules.specs.Signals.{acceptor, becomes_pending, delivers, generates, generates_for, is_ignore, tells_overrun, with_overrun_told}
+use Rattle.machine_rules.specs.Signals.{acceptor, becomes_pending, delivers, generates, is_accepted_or_pends, is_ignore, tells_overrun, with_overrun_told}
 use Rattle.machine_rules.specs.State.{SignalRecord, Timer}
 use Rattle.machine_rules.specs.Threads.{action_of, no_timer, thread_at, timer_at, waiting_of}
 use Rattle.machine_rules.specs.Timers.{armed_again, expires, is_pending_from, overrun_once_more, record_of_timer, signals_expiry}
@@ -47,7 +47,7 @@ if_many : (b : Bool) (x y : Turn Cursor) (n : ℕ) → many x ≡ n → many y �
 if_many true x y n h g = h
 if_many false x y n h g = g
 
-generates_many : (w : Option Waiter) (r : SignalRecord) (s : Turn Cursor) → many (generates_for w r s) ≡ many s
+generates_many : (w : Option Waiter) (r : SignalRecord) (s : Turn Cursor) → many (is_accepted_or_pends w r s) ≡ many s
 generates_many (Some w) r s =
     wakes_many w.thread res.Zero r.signal (delivers w.thread r s) ∙ overrun_many r.timer (tells (event.Deliver w.thread r.signal r.code r.value) s)
 generates_many None r s = if_many (is_ignore (action_of s.machine r.signal)) s (becomes_pending r s) (many s) refl refl

@@ -5,7 +5,7 @@ use Rattle.tick_num.specs.declared.res.Res.TheVariants as res
 use Rattle.pse52_trace.specs.Tells.{Tells}
 use Rattle.pse52_trace.specs.declared.tracer.Tracer.{Tracer}
 use Rattle.script_flat.specs.declared.cursor.Cursor.{Cursor}
-use Rattle.machine_rules.specs.Signals.{acceptor, becomes_pending, delivers, generates, generates_for, is_ignore}
+use Rattle.machine_rules.specs.Signals.{acceptor, becomes_pending, delivers, generates, is_accepted_or_pends, is_ignore}
 use Rattle.machine_rules.specs.State.{SignalRecord}
 use Rattle.machine_rules.specs.Threads.{action_of}
 use Rattle.machine_rules.specs.Turns.{Turn, ◌▷◌}
@@ -15,8 +15,8 @@ use Rattle.kernel_state.specs.Kernel.{Kernel, after, told, turn}
 use Rattle.kernel_signals.proofs.Same.{nothing_after, nothing_told as nothing_of, same_after, same_told}
 
 module _ (r : SignalRecord) (s : Turn Cursor) where
-  generated_as : (o : Option Waiter) → acceptor s.machine r ≡ o → generates r s ≡ generates_for o r s
-  generated_as o e = ap (λ (x : Option Waiter). generates_for x r s) e
+  generated_as : (o : Option Waiter) → acceptor s.machine r ≡ o → generates r s ≡ is_accepted_or_pends o r s
+  generated_as o e = ap (λ (x : Option Waiter). is_accepted_or_pends x r s) e
 
   abbrev ignores : Bool
   ignores = is_ignore (action_of s.machine r.signal)

@@ -6,10 +6,10 @@ use Rattle.tick_num.specs.declared.res.Res.TheVariants as res
 use Rattle.pse52_trace.specs.Tells.{Tells}
 use Rattle.pse52_trace.specs.declared.tracer.Tracer.{Tracer}
 use Rattle.script_flat.specs.declared.cursor.Cursor.{Cursor}
-use Rattle.machine_rules.specs.Signals.{acceptor, becomes_pending, delivers, generates, generates_for, has_no_room, is_full, is_ignore, sends_signal}
+use Rattle.machine_rules.specs.Signals.{acceptor, becomes_pending, delivers, generates, is_accepted_or_pends, has_no_room, is_full, is_ignore, sends_signal}
 use Rattle.machine_rules.specs.State.{Machine, SignalRecord, Thread}
 use Rattle.machine_rules.specs.Threads.{action_of, is_blocked, no_thread, thread_at, thread_in}
-use Rattle.machine_rules.specs.Turns.{By, Turn, answered, returns, ◌▷◌}
+use Rattle.machine_rules.specs.Turns.{Caller, Turn, answered, returns, ◌▷◌}
 use Rattle.machine_rules.specs.Waiters.{Waiter}
 use Rattle.machine_rules.specs.Waking.{wakes}
 use Rattle.machine_rules.proofs.Reading.{changed-keeps}
@@ -28,16 +28,16 @@ thread_of (Some w) e = absurd cc
 pub nobody_accepts : (m : Machine Cursor) (r : SignalRecord) (o : Option ℕ) → o ≡ option_map (λ (w : Waiter). w.thread) (acceptor m r) → o ≡ None → acceptor m r ≡ None
 nobody_accepts m r o is none = thread_of (acceptor m r) (sym is ∙ none)
 
-module _ (by : By) (r : SignalRecord) (s : Turn Cursor) where
+module _ (by : Caller) (r : SignalRecord) (s : Turn Cursor) where
   -- who accepts it is the same once the call has returned
   same_acceptor : acceptor (returns by res.Zero 0 s).machine r ≡ acceptor s.machine r
   same_acceptor = acceptor_kept s.machine by.thread (answered res.Zero 0) r (λ th. refl) (λ th. refl)
 
   sent_as : (o : Option Waiter) (b : Bool) → acceptor s.machine r ≡ o → has_no_room s.machine r ≡ b →
-      sends_signal by r s ≡ (if b then returns by res.Again 0 s else generates_for o r (returns by res.Zero 0 s))
+      sends_signal by r s ≡ (if b then returns by res.Again 0 s else is_accepted_or_pends o r (returns by res.Zero 0 s))
   sent_as o b e h =
       ap (λ (c : Bool). if c then returns by res.Again 0 s else generates r (returns by res.Zero 0 s)) h
-      ∙ ap (λ (x : Option Waiter). if b then returns by res.Again 0 s else generates_for x r (returns by res.Zero 0 s)) (same_acceptor ∙ e)
+      ∙ ap (λ (x : Option Waiter). if b then returns by res.Again 0 s else is_accepted_or_pends x r (returns by res.Zero 0 s)) (same_acceptor ∙ e)
 
   abbrev ignores : Bool
   ignores = is_ignore (action_of s.machine r.signal)
@@ -71,7 +71,7 @@ module _ (by : By) (r : SignalRecord) (s : Turn Cursor) where
 
 -- ---- the same of a kernel
 
-module _ (by : By) (r : SignalRecord) (k l : Kernel) where
+module _ (by : Caller) (r : SignalRecord) (k l : Kernel) where
   pub as_sent_to : (t : ℕ) → Some t ≡ option_map (λ (w : Waiter). w.thread) (acceptor k.machine r) → l ≡ after (λ (s : Turn Cursor). s ▷ returns by res.Zero 0 ▷ delivers t r ▷ wakes t res.Zero r.signal) k →
       l ≡ after (sends_signal by r) k
   as_sent_to t is e = same_after (sends_signal by r) (λ s. s ▷ returns by res.Zero 0 ▷ delivers t r ▷ wakes t res.Zero r.signal) k l (sent_to by r (turn k) t is) e
@@ -86,7 +86,7 @@ module _ (by : By) (r : SignalRecord) (k l : Kernel) where
       l ≡ after (λ (s : Turn Cursor). s ▷ returns by res.Zero 0 ▷ becomes_pending r) k → l ≡ after (sends_signal by r) k
   as_pending b full is off filled not_on none e = same_after (sends_signal by r) (λ s. s ▷ returns by res.Zero 0 ▷ becomes_pending r) k l (sent_pending by r (turn k) none (sym is ∙ off) (sym filled ∙ not_on)) e
 
-module _ {K : Type 0} (text : K → Option (List ℕ)) (faults : K → ℕ) (by : By) (r : SignalRecord) (k : Kernel) (a b : Tracer K) where
+module _ {K : Type 0} (text : K → Option (List ℕ)) (faults : K → ℕ) (by : Caller) (r : SignalRecord) (k : Kernel) (a b : Tracer K) where
   pub told_sent_to : (t : ℕ) → Some t ≡ option_map (λ (w : Waiter). w.thread) (acceptor k.machine r) →
       Tells text faults k.names a b (told (λ (s : Turn Cursor). s ▷ returns by res.Zero 0 ▷ delivers t r ▷ wakes t res.Zero r.signal) k) → Tells text faults k.names a b (told (sends_signal by r) k)
   told_sent_to t is h = same_told text faults (sends_signal by r) (λ s. s ▷ returns by res.Zero 0 ▷ delivers t r ▷ wakes t res.Zero r.signal) k a b (sent_to by r (turn k) t is) h
@@ -106,14 +106,14 @@ module _ {K : Type 0} (text : K → Option (List ℕ)) (faults : K → ℕ) (by 
 
 -- ---- what stays once the call has returned
 
-pub returned_pends : (by : By) (x : Res) (value : ℕ) (k l : Kernel) → l ≡ after (returns by x value) k → HasRoomToPend k.machine → HasRoomToPend l.machine
+pub returned_pends : (by : Caller) (x : Res) (value : ℕ) (k l : Kernel) → l ≡ after (returns by x value) k → HasRoomToPend k.machine → HasRoomToPend l.machine
 returned_pends by x value k l e h = rw e (record { few = h.few; youngest = h.youngest })
 
-pub returned_blocked : (by : By) (x : Res) (value u : ℕ) (k l : Kernel) → l ≡ after (returns by x value) k → is_blocked (thread_at k.machine u).status ≡ true → is_blocked (thread_at l.machine u).status ≡ true
+pub returned_blocked : (by : Caller) (x : Res) (value u : ℕ) (k l : Kernel) → l ≡ after (returns by x value) k → is_blocked (thread_at k.machine u).status ≡ true → is_blocked (thread_at l.machine u).status ≡ true
 returned_blocked by x value u k l e h =
     rw e (ap is_blocked (changed-keeps no_thread by.thread u (answered x value) (λ th. th.status) (λ th. refl) k.machine.threads) ∙ h)
 
-pub returned_rests : (by : By) (x : Res) (value : ℕ) (k l : Kernel) → l ≡ after (returns by x value) k → AllRest k.machine → AllRest l.machine
+pub returned_rests : (by : Caller) (x : Res) (value : ℕ) (k l : Kernel) → l ≡ after (returns by x value) k → AllRest k.machine → AllRest l.machine
 returned_rests by x value k l e h = rw e all
   where
     all : AllRest (returns by x value (turn k)).machine

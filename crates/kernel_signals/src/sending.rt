@@ -56,7 +56,7 @@ pub(crate) fn accept<K: Sink>(p: &mut Parts, w: Tid, r: &SignalRecord, out: &mut
 
 // The call returns, and a thread that waits for the signal accepts it.
 #[tactic(auto, using(crate::proofs::Sent::returned_blocked, crate::proofs::Sent::returned_rests))]
-fn send_to<K: Sink>(
+fn send_to_acceptor<K: Sink>(
     p: &mut Parts,
     t: Tid,
     call: &Call,
@@ -139,7 +139,7 @@ fn send<K: Sink>(p: &mut Parts, t: Tid, call: &Call, r: &SignalRecord, out: &mut
     ensures told { Tells K.text K.faults p.old.names out.old out.new (told (sends_signal (by t call.now) r.now) p.old) }
 {
     match p.acceptor(r) {
-        Some(w) => send_to(p, t, call, w, r, out),
+        Some(w) => send_to_acceptor(p, t, call, w, r, out),
         None => send_unaccepted(p, t, call, r, out),
     }
 }

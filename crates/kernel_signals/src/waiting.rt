@@ -2,7 +2,7 @@
 ghost use Rattle.std.specs.Prelude.{◌≡◌, ◌≤◌, ◌<◌, ◌+◌, ◌^◌, Contains, IfSome, Some, length, true};
 ghost use Rattle.tick_num.specs.declared.res.Res.TheVariants as res;
 ghost use Rattle.pse52_trace.specs.Tells.{Tells};
-ghost use Rattle.machine_rules.specs.Signals.{delivers, waits_signal, waits_ticks, without_record};
+ghost use Rattle.machine_rules.specs.Signals.{delivers, waits_signal, blocks_for_signal, without_record};
 ghost use Rattle.machine_rules.specs.State.{for_signal};
 ghost use Rattle.machine_rules.specs.Threads.{can_run};
 ghost use Rattle.machine_rules.specs.Turns.{changes_pending, returns, ◌▷◌};
@@ -56,8 +56,8 @@ fn wait_at_most<K: Sink>(
     requires ticks { n ≤ 10 ^ 18 }
     requires serial { p.old.machine.next_serial < 2 ^ 63 }
     requires early { p.old.machine.now ≤ 10 ^ 18 }
-    ensures state { p.new ≡ after (waits_ticks (Some n) (by t call.now) awaited) p.old }
-    ensures told { Tells K.text K.faults p.old.names out.old out.new (told (waits_ticks (Some n) (by t call.now) awaited) p.old) }
+    ensures state { p.new ≡ after (blocks_for_signal (Some n) (by t call.now) awaited) p.old }
+    ensures told { Tells K.text K.faults p.old.names out.old out.new (told (blocks_for_signal (Some n) (by t call.now) awaited) p.old) }
 {
     if n == 0 {
         p.returns(t, call, Res::Again, 0, out);
@@ -81,8 +81,8 @@ fn wait_ticks<K: Sink>(
     requires ticks { IfSome ticks (λ n. n ≤ 10 ^ 18) }
     requires serial { p.old.machine.next_serial < 2 ^ 63 }
     requires early { p.old.machine.now ≤ 10 ^ 18 }
-    ensures state { p.new ≡ after (waits_ticks ticks (by t call.now) awaited) p.old }
-    ensures told { Tells K.text K.faults p.old.names out.old out.new (told (waits_ticks ticks (by t call.now) awaited) p.old) }
+    ensures state { p.new ≡ after (blocks_for_signal ticks (by t call.now) awaited) p.old }
+    ensures told { Tells K.text K.faults p.old.names out.old out.new (told (blocks_for_signal ticks (by t call.now) awaited) p.old) }
 {
     match ticks {
         None => p.block(t, call, Wait::Signal(awaited), None),

@@ -3,7 +3,7 @@ use Rattle.std.proofs.Common.{◌≡◌, ◌≢◌, ◌<◌, ◌≤◌, ◌∙�
 use Rattle.std.specs.Prelude.{IfSome, ◌==◌}
 use Rattle.script_flat.specs.declared.cursor.Cursor.{Cursor}
 use Rattle.script_flat.specs.declared.op.Op.{Op}
-use Rattle.script_flat.specs.Flat.{Bodies}
+use Rattle.script_flat.specs.Flat.{NumberedBodies}
 use Rattle.machine_rules.specs.Lists.{is}
 use Rattle.machine_rules.specs.State.{Mutex, Thread}
 use Rattle.machine_rules.specs.Threads.{is_runnable, no_thread}
@@ -21,7 +21,7 @@ use Rattle.kernel_state.proofs.StandOn.{RunOn, both_out, run_on, stand_on, still
 pub as_many : (old new : Table) (t : ℕ) (f : Thread Cursor → Thread Cursor) → new ≡ with_thread t f old → length new.threads ≡ length old.threads
 as_many old new t f is = ap (λ (x : Table). length x.threads) is ∙ changed-length no_thread t f old.threads
 
-pub tied_again : (names : List (List ℕ)) (code : Bodies (List Op)) (ready : ℕ) (old new : List (Thread Cursor)) (direct : List ℕ) → length new ≡ length old →
+pub tied_again : (names : List (List ℕ)) (code : NumberedBodies (List Op)) (ready : ℕ) (old new : List (Thread Cursor)) (direct : List ℕ) → length new ≡ length old →
     IsTied names code ready old direct → IsTied names code ready new direct
 tied_again names code ready old new direct long tied = record {
   few = (let few = tied.few in omega (arith, few, long));

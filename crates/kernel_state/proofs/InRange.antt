@@ -7,27 +7,27 @@ use Rattle.kernel_state.specs.Settled.{HavePriorities}
 use Rattle.machine_rules.specs.Lists.{greatest, is, numbers_from}
 use Rattle.machine_rules.specs.State.{Machine, Mutex}
 use Rattle.machine_rules.specs.Threads.{mutex_in, no_mutex}
-use Rattle.machine_rules.specs.Priorities.{Claim, base_in, ceiling_for, claim_of, claims, exec, exec_in, exec_within, is_inherit, lenders_in, lends_to}
+use Rattle.machine_rules.specs.Priorities.{Claim, base_in, owner_ceiling, claim_of, claims, exec, exec_in, exec_within, is_inherit, inherit_waiters_in, is_inherit_mutex_of}
 use Rattle.inherit_chain.specs.Chains.{IsPriority, OwnersAreThreads}
 
 -- the thread owns none of these
 abbrev OwnsNone : ℕ → List Mutex → Type 0
 OwnsNone t mutexes = (k : ℕ) → is (slice_index_or mutexes k no_mutex).owner t ≡ false
 
-ceiling_none : (t : ℕ) (k : Mutex) → is k.owner t ≡ false → ceiling_for t k ≡ 0
+ceiling_none : (t : ℕ) (k : Mutex) → is k.owner t ≡ false → owner_ceiling t k ≡ 0
 ceiling_none t k none = rw none refl
 
-no_ceilings : (t : ℕ) (mutexes : List Mutex) → OwnsNone t mutexes → greatest (map (ceiling_for t) mutexes) ≡ 0
+no_ceilings : (t : ℕ) (mutexes : List Mutex) → OwnsNone t mutexes → greatest (map (owner_ceiling t) mutexes) ≡ 0
 no_ceilings t [] none = refl
 no_ceilings t (k ∷ ks) none = rw (ceiling_none t k (none 0), no_ceilings t ks (λ n. none (suc n))) refl
 
-lends_none : (t : ℕ) (k : Mutex) → is k.owner t ≡ false → lends_to t k ≡ false
+lends_none : (t : ℕ) (k : Mutex) → is k.owner t ≡ false → is_inherit_mutex_of t k ≡ false
 lends_none t k none = by_case (is_inherit k.protocol) (is k.owner t) none
   where
     by_case : (a b : Bool) → b ≡ false → (a && b) ≡ false
     by_case a b h = grind arith
 
-no_lenders : (t n : ℕ) (mutexes : List Mutex) → OwnsNone t mutexes → numbers_from n (lends_to t) mutexes ≡ []
+no_lenders : (t n : ℕ) (mutexes : List Mutex) → OwnsNone t mutexes → numbers_from n (is_inherit_mutex_of t) mutexes ≡ []
 no_lenders t n [] none = refl
 no_lenders t n (k ∷ ks) none = rw (lends_none t k (none 0)) (no_lenders t (n + 1) ks (λ j. none (suc j)))
 
@@ -47,7 +47,7 @@ within_beyond cs mutexes steps t none le = by_steps steps
     base : base_in cs mutexes t ≡ 0
     base = rw (no_ceilings t mutexes none, ap (λ (c : Claim). c.assigned) (get_or-eq_default cs (record { assigned = 0; awaited = None }) le)) refl
 
-    alone : lenders_in cs mutexes t ≡ []
+    alone : inherit_waiters_in cs mutexes t ≡ []
     alone = rw (no_lenders t 0 mutexes none) refl
 
     by_steps : (steps : ℕ) → exec_within cs mutexes steps t ≡ 0

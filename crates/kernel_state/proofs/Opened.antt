@@ -57,7 +57,7 @@ numbered_at all (n ∷ ns) (b ∷ bs) (suc t) (one, rest) lt = numbered_at all n
 pub handlers_opening : (script : Script) → IsRunnable script → HandlersBegin (code_of script)
 handlers_opening script ok = record { each = begins }
   where
-    b : flat.Bodies Block
+    b : flat.NumberedBodies Block
     b = flat.bodies_of script.decls
 
     begins : (u : ℕ) → u < length (code_of script).cleanups → HandlerBegins (code_of script) u

@@ -8,7 +8,7 @@ use Rattle.tick_num.specs.Signals.{has_signal}
 use Rattle.machine_rules.specs.Delivery.{can_take, may_be_interrupted, may_run_handler, taken_by_sweep}
 use Rattle.machine_rules.specs.Lists.{first_by, kept_if, numbers_from}
 use Rattle.machine_rules.specs.Priorities.{exec}
-use Rattle.machine_rules.specs.Signals.{accepts, acceptor, goes_to, is_kill, is_selected_before, selected}
+use Rattle.machine_rules.specs.Signals.{accepts, acceptor, may_go_to, is_kill, is_selected_before, selected}
 use Rattle.machine_rules.specs.State.{Machine, SignalRecord, Thread, Wait, Waiting, for_condition, for_end, for_message, for_mutex, for_mutex_again, for_room, for_semaphore, for_signal, for_time}
 use Rattle.machine_rules.specs.Threads.{action_of, is_blocked, no_thread, thread_at, waiting_in, waiting_of}
 use Rattle.machine_rules.specs.Waiters.{Waiter, is_served_before, waiter_of, waiters, waits_so}
@@ -35,7 +35,7 @@ taken_alike m t kills are (r ∷ pending) small =
     let same : has_signal kills r.signal ≡ is_kill (action_of m r.signal) =
     are.each r.signal lt ∙ ap (λ (b : Bool). b && is_kill (action_of m r.signal)) (below r.signal lt) in
     filter_alike (may_take t (thread_at m t).mask kills (may_run_handler m t)) (can_take m t) r pending
-    (ap (λ (b : Bool). goes_to t r.target && not (has_signal (thread_at m t).mask r.signal) && (b || may_run_handler m t)) same)
+    (ap (λ (b : Bool). may_go_to t r.target && not (has_signal (thread_at m t).mask r.signal) && (b || may_run_handler m t)) same)
     (taken_alike m t kills are pending (λ k d l. small (suc k) d (omega (arith, l))))
 
 -- a record that is pending has a signal from 0 to 31
@@ -84,7 +84,7 @@ not_both b off on = let a : true ≡ false = sym on ∙ off in absurd cc
 
 module _ (m : Machine Cursor) (r : SignalRecord) (t : ℕ) (aimed : r.target ≡ Some t) where
   abbrev is_it : Waiter → Bool
-  is_it w = goes_to w.thread r.target
+  is_it w = may_go_to w.thread r.target
 
   abbrev at : ℕ → Option Waiter
   at u = waiter_of u (exec m u) (waiting_of m u)

@@ -33,7 +33,7 @@ pub then_state_in : (f g : Bodies Cursor → Turn Cursor → Turn Cursor) (k l m
     m ≡ after (g (flat_bodies l.code)) l → m ≡ after (λ (s : Turn Cursor). g (flat_bodies k.code) (f (flat_bodies k.code) s)) k
 then_state_in f g k l m adds first second =
     let code = ap (λ (x : Kernel). x.code) first in
-    then_state (f (flat_bodies k.code)) (g (flat_bodies k.code)) k l m (adds (flat_bodies k.code)) first (subst (λ (c : flat.Bodies (List Op)). m ≡ after (g (flat_bodies c)) l) code second)
+    then_state (f (flat_bodies k.code)) (g (flat_bodies k.code)) k l m (adds (flat_bodies k.code)) first (subst (λ (c : flat.NumberedBodies (List Op)). m ≡ after (g (flat_bodies c)) l) code second)
 
 pub then_told_in : {K : Type 0} (text : K → Option (List ℕ)) (faults : K → ℕ) (f g : Bodies Cursor → Turn Cursor → Turn Cursor) (k l : Kernel) (a b c : Tracer K) →
     ((b : Bodies Cursor) → AddsBehind (g b)) → l ≡ after (f (flat_bodies k.code)) k → Tells text faults k.names a b (told (f (flat_bodies k.code)) k) →
@@ -41,4 +41,4 @@ pub then_told_in : {K : Type 0} (text : K → Option (List ℕ)) (faults : K →
 then_told_in text faults f g k l a b c adds first one two =
     let code = ap (λ (x : Kernel). x.code) first in
     then_told text faults (f (flat_bodies k.code)) (g (flat_bodies k.code)) k l a b c (adds (flat_bodies k.code)) first one
-    (subst (λ (x : flat.Bodies (List Op)). Tells text faults l.names b c (told (g (flat_bodies x)) l)) code two)
+    (subst (λ (x : flat.NumberedBodies (List Op)). Tells text faults l.names b c (told (g (flat_bodies x)) l)) code two)

@@ -15,7 +15,7 @@ use Rattle.thread_blocks.specs.declared.ends.Refilled.{Refilled}
 use Rattle.tick_num.specs.declared.res.Res.TheVariants as res
 use Rattle.script_tree.specs.declared.policy.Policy.{Policy}
 use Rattle.script_tree.specs.declared.decl.Script.{Script}
-use Rattle.machine_rules.specs.Turns.{By, Turn, changes, moves, returns, tells, ◌▷◌}
+use Rattle.machine_rules.specs.Turns.{Caller, Turn, changes, moves, returns, tells, ◌▷◌}
 use Rattle.machine_rules.specs.Scheduling.{with_policy}
 use Rattle.machine_rules.specs.Runs.{opening}
 use Rattle.machine_rules.specs.Machine.{names_of}
@@ -26,7 +26,7 @@ use Rattle.machine_rules.specs.Bodies.{Bodies}
 -- the names of the threads, the flat code, the machine over its places, and the direct moves since the last settling
 pub record Kernel : Type 0 where
   pub names : List (List ℕ)
-  pub code : flat.Bodies (List Op)
+  pub code : flat.NumberedBodies (List Op)
   pub machine : Machine Cursor
   pub direct : List ℕ
 
@@ -54,11 +54,11 @@ abbrev pub refilled_telling : ℕ → Refilled → Bool → Turn Cursor → Turn
 refilled_telling t r runs s = s ▷ tells (event.Refill t r.amount r.capacity) ▷ activates_if (r.regains_high && runs) t
 
 -- the call returns, and the thread has its new policy
-abbrev pub changes_policy : By → ℕ → Policy → ℕ → Turn Cursor → Turn Cursor
+abbrev pub changes_policy : Caller → ℕ → Policy → ℕ → Turn Cursor → Turn Cursor
 changes_policy by u new now s = s ▷ returns by res.Zero 0 ▷ changes u (with_policy new now)
 
 -- who calls, and what
-abbrev pub by : ℕ → Call → By
+abbrev pub by : ℕ → Call → Caller
 by t call = record { thread = t; call = call }
 
 -- the kernel of a script, before the first tick

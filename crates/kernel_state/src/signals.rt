@@ -7,7 +7,7 @@ ghost use Rattle.machine_rules.specs.declared.frame.BodyOf.{BodyOf};
 ghost use Rattle.machine_rules.specs.declared.frame.FrameKind.{FrameKind};
 ghost use Rattle.machine_rules.specs.Delivery.{kills, taken_by_sweep, ticks_left};
 ghost use Rattle.machine_rules.specs.Lives.{without_target};
-ghost use Rattle.machine_rules.specs.Signals.{accepts, acceptor, becomes_pending, goes_to, is_full, selected, tells_overrun, with_signals, without_record, without_signals};
+ghost use Rattle.machine_rules.specs.Signals.{accepts, acceptor, becomes_pending, may_go_to, is_full, selected, tells_overrun, with_signals, without_record, without_signals};
 ghost use Rattle.machine_rules.specs.State as machine;
 ghost use Rattle.machine_rules.specs.Threads.{action_of, is_blocked, thread_at, waiting_of as waiting_at};
 ghost use Rattle.machine_rules.specs.Turns.{changes, changes_pending};
@@ -68,7 +68,7 @@ impl Parts {
 
     /// The pending record that a thread takes which asks for one of a set; it stays. `None` exactly where there is none.
     pub fn next_awaited(&self, t: Tid, set: SigSet) -> Option<SignalRecord>
-        ensures value { result ≡ selected self.now.machine (λ (r : machine.SignalRecord). has_signal set r.signal && goes_to t r.target) }
+        ensures value { result ≡ selected self.now.machine (λ (r : machine.SignalRecord). has_signal set r.signal && may_go_to t r.target) }
         ensures pending { IfSome result (λ r. Contains self.now.machine.pending r) }
     {
         self.pending.next_in(t, set)

@@ -12,13 +12,13 @@ use Rattle.script_flat.specs.declared.cursor.Cursor.{Cursor}
 use Rattle.machine_rules.specs.declared.thread.CondEnd.{CondEnd}
 use Rattle.machine_rules.specs.declared.thread.CondEnd.TheVariants as cond_end
 use Rattle.machine_rules.specs.CallNames.{name_of}
-use Rattle.machine_rules.specs.Conditions.{contends, contends_for, released_mutex, signals_best, signals_waiter, waits_on_condition}
+use Rattle.machine_rules.specs.Conditions.{contends, reacquires_or_waits, released_mutex, signals_best, signals_waiter, waits_on_condition}
 use Rattle.machine_rules.specs.GoodState.{is_in_condition_wait}
 use Rattle.machine_rules.specs.Lists.{changed_at, is}
 use Rattle.machine_rules.specs.Mutexes.{is_free, owned_by, returns_from_wait, taken_by}
 use Rattle.machine_rules.specs.State.{Machine, Mutex, Status, Thread, Wait, Waiting, blocked, dormant, ended, for_condition, for_mutex_again, runnable}
 use Rattle.machine_rules.specs.Threads.{can_run, is_blocked, is_runnable, no_mutex, no_thread, thread_at, waiting_in, waiting_of}
-use Rattle.machine_rules.specs.Turns.{By, Turn, changes, changes_mutex, moves, tells, ◌▷◌}
+use Rattle.machine_rules.specs.Turns.{Caller, Turn, changes, changes_mutex, moves, tells, ◌▷◌}
 use Rattle.machine_rules.specs.Waiters.{Waiter, best_waiter, waits_so}
 use Rattle.machine_rules.specs.Waking.{blocks, call_in, cancelled_value, ending_with, put_to_wait, wakes_telling, woken}
 use Rattle.machine_rules.proofs.Reading.{changed-length, thread-other}
@@ -126,7 +126,7 @@ taken_fits d t k r s waits h = record { mutexes = λ u. mutexes_at u (t == u) re
 
 -- ---- a thread waits for its mutex again
 
-again_fits : (by : By) (k : ℕ) (how : CondEnd) (s : Turn Cursor) → is_blocked (thread_at s.machine by.thread).status ≡ true → OwnsNone s.machine by.thread →
+again_fits : (by : Caller) (k : ℕ) (how : CondEnd) (s : Turn Cursor) → is_blocked (thread_at s.machine by.thread).status ≡ true → OwnsNone s.machine by.thread →
     WaitsFit s.machine → WaitsFit (blocks by (for_mutex_again k how) None s).machine
 again_fits by k how s waits none h = record {
   mutexes = only_blocked by (for_mutex_again k how) None s tt h.mutexes;
@@ -165,7 +165,7 @@ returned_fits cond_end.Cancelled t k s waits h =
     kept_fits t (ending_with cancelled_value) (s ▷ changes_mutex k (taken_by t) ▷ wakes_telling (event.Cancel t) t res.Zero 0) (λ th. refl) (λ th. refl) (taken_fits (event.Cancel t) t k res.Zero s waits h)
 
 contended_fits : (t k : ℕ) (how : CondEnd) (s : Turn Cursor) → is_blocked (thread_at s.machine t).status ≡ true → OwnsNone s.machine t → WaitsFit s.machine →
-    WaitsFit (contends_for (Some k) t how s).machine
+    WaitsFit (reacquires_or_waits (Some k) t how s).machine
 contended_fits t k how s waits none h = by_free (is_free s.machine k)
   where
     by_free : (b : Bool) → WaitsFit (if b then (s ▷ changes_mutex k (taken_by t) ▷ returns_from_wait how t)
@@ -180,12 +180,12 @@ in_condition m t w waits is = rw waits is
 pub contends_fits : (t : ℕ) (how : CondEnd) (s : Turn Cursor) → WaitsFit s.machine → WaitsFit (contends t how s).machine
 contends_fits t how s h = by_wait (waiting_of s.machine t) refl
   where
-    by_object : (w : Waiting) (x : Wait) → waiting_of s.machine t ≡ Some w → w.wait ≡ x → WaitsFit (contends_for (released_mutex x) t how s).machine
+    by_object : (w : Waiting) (x : Wait) → waiting_of s.machine t ≡ Some w → w.wait ≡ x → WaitsFit (reacquires_or_waits (released_mutex x) t how s).machine
     by_object w (for_condition c k) e is =
         contended_fits t k how s (waits_blocked s.machine t w e) (h.own_none t (in_condition s.machine t w e (ap is_in_condition_wait is))) h
     by_object w _ e is = h
 
-    by_wait : (o : Option Waiting) → waiting_of s.machine t ≡ o → WaitsFit (contends_for (option_and_then (λ (w : Waiting). released_mutex w.wait) o) t how s).machine
+    by_wait : (o : Option Waiting) → waiting_of s.machine t ≡ o → WaitsFit (reacquires_or_waits (option_and_then (λ (w : Waiting). released_mutex w.wait) o) t how s).machine
     by_wait None e = h
     by_wait (Some w) e = by_object w w.wait e refl
 
@@ -223,7 +223,7 @@ contends_grows t how s = by_mutex (option_and_then (λ (w : Waiting). released_m
     by_free k true = returned_grows how t k s
     by_free k false = record { moves = omega arith; serial = omega arith; time = refl }
 
-    by_mutex : (o : Option ℕ) → Grows s (contends_for o t how s)
+    by_mutex : (o : Option ℕ) → Grows s (reacquires_or_waits o t how s)
     by_mutex None = stays_same s
     by_mutex (Some k) = by_free k (is_free s.machine k)
 

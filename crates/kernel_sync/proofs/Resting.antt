@@ -5,7 +5,7 @@ use Rattle.script_flat.specs.declared.cursor.Cursor.{Cursor}
 use Rattle.machine_rules.specs.State.{Machine, Thread, Wait, Waiting, for_condition}
 use Rattle.machine_rules.specs.Threads.{no_thread, thread_at, waiting_in}
 use Rattle.machine_rules.specs.Mutexes.{waits_for_mutex}
-use Rattle.machine_rules.specs.Turns.{By, Turn}
+use Rattle.machine_rules.specs.Turns.{Caller, Turn}
 use Rattle.machine_rules.specs.Waiters.{Waiter, best_waiter}
 use Rattle.machine_rules.specs.Waking.{blocks, put_to_wait}
 use Rattle.machine_moves.proofs.Calls.Answers.{waits_blocked}
@@ -32,7 +32,7 @@ not_both : {X : Type 0} (b : Bool) → b ≡ false → b ≡ true → X
 not_both b off on = let a : true ≡ false = sym on ∙ off in absurd cc
 
 -- a caller that blocks on a condition waits for no mutex
-pub blocked_on_condition : (by : By) (c j : ℕ) (due : Option ℕ) (k : ℕ) (s : Turn Cursor) → BlockedRest s.machine → MutexWaitersRest (blocks by (for_condition c j) due s).machine k
+pub blocked_on_condition : (by : Caller) (c j : ℕ) (due : Option ℕ) (k : ℕ) (s : Turn Cursor) → BlockedRest s.machine → MutexWaitersRest (blocks by (for_condition c j) due s).machine k
 blocked_on_condition by c j due k s rests u w waits passes = by_thread (changed_is no_thread by.thread u (put_to_wait own) s.machine.threads)
   where
     own : Waiting
@@ -45,7 +45,7 @@ blocked_on_condition by c j due k s rests u w waits passes = by_thread (changed_
     by_thread (inl (same, at)) = not_both (waits_for_mutex k w.wait) (let e : own ≡ w = (let f : Some own ≡ Some w = sym (ap (λ (th : Thread Cursor). waiting_in th.status) at) ∙ waits in cc) in ap (λ (v : Waiting). waits_for_mutex k v.wait) (sym e)) passes
     by_thread (inr at) = subst (λ (th : Thread Cursor). IsUnused th.server) (sym at) (rests u (waits_blocked s.machine u w (sym (ap (λ (th : Thread Cursor). waiting_in th.status) at) ∙ waits)))
 
-pub only_blocked : (by : By) (x : Wait) (due : Option ℕ) (s : Turn Cursor) → KnowsMutex (length s.machine.mutexes) x → WaitsKnowMutexes s.machine → WaitsKnowMutexes (blocks by x due s).machine
+pub only_blocked : (by : Caller) (x : Wait) (due : Option ℕ) (s : Turn Cursor) → KnowsMutex (length s.machine.mutexes) x → WaitsKnowMutexes s.machine → WaitsKnowMutexes (blocks by x due s).machine
 only_blocked by x due s built only u = by_thread (changed_is no_thread by.thread u (put_to_wait own) s.machine.threads)
   where
     own : Waiting

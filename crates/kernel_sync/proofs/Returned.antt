@@ -6,13 +6,13 @@ use Rattle.script_flat.specs.declared.cursor.Cursor.{Cursor}
 use Rattle.machine_rules.specs.GoodState.{is_in_condition_wait}
 use Rattle.machine_rules.specs.State.{Status, Thread, Waiting}
 use Rattle.machine_rules.specs.Threads.{is_blocked, no_thread, thread_at, waiting_in}
-use Rattle.machine_rules.specs.Turns.{By, Turn, answered, returns}
+use Rattle.machine_rules.specs.Turns.{Caller, Turn, answered, returns}
 use Rattle.machine_moves.proofs.Calls.Answers.{waits_blocked}
 use Rattle.machine_moves.proofs.Waiters.OfThreads.{changed_is}
 use Rattle.thread_blocks.specs.Unused.{IsUnused}
 use Rattle.kernel_sync.specs.Waits.{WaitKnowsMutex, BlockedRest, MutexWaitersRest, WaitsFit}
 
-module _ (by : By) (r : Res) (s : Turn Cursor) where
+module _ (by : Caller) (r : Res) (s : Turn Cursor) where
   abbrev answered_at : ℕ → Thread Cursor
   answered_at u = thread_at (returns by r 0 s).machine u
 

@@ -3,7 +3,7 @@ use Rattle.std.proofs.Common.{◌≡◌, ◌≤◌, ◌+◌, ◌∙◌, ℕ, suc
 use Rattle.pse52_trace.specs.declared.tracer.Tracer.{Tracer}
 use Rattle.pse52_trace.specs.Tells.{Tells}
 use Rattle.pse52_trace.proofs.Tells.{tells_nothing}
-use Rattle.machine_rules.specs.Conditions.{signals_best, signals_best_of}
+use Rattle.machine_rules.specs.Conditions.{signals_best, signals_best_times}
 use Rattle.machine_rules.proofs.BehindCalls.{signals_best_behind}
 use Rattle.kernel_state.specs.Kernel.{Kernel, after, told, turn}
 use Rattle.kernel_state.proofs.Turns.{then_state, then_told}
@@ -12,8 +12,8 @@ use Rattle.kernel_sync.proofs.Contended.{signals_fit, signals_grow}
 
 -- so many have contended
 pub record Signalled {K : Type 0} (text : K → Option (List ℕ)) (faults : K → ℕ) (c : ℕ) (start k : Kernel) (n : ℕ) (a b : Tracer K) : Type 0 where
-  pub state : k ≡ after (signals_best_of n c) start
-  pub told : Tells text faults start.names a b (told (signals_best_of n c) start)
+  pub state : k ≡ after (signals_best_times n c) start
+  pub told : Tells text faults start.names a b (told (signals_best_times n c) start)
   pub fits : WaitsFit k.machine
   pub room : length k.direct ≤ length start.direct + n
   pub serial : k.machine.next_serial ≤ start.machine.next_serial + n
@@ -31,8 +31,8 @@ module _ {K : Type 0} (text : K → Option (List ℕ)) (faults : K → ℕ) (c :
       let moved : length l.direct ≡ length (signals_best c (turn k)).direct = ap (λ (x : Kernel). length x.direct) state in
       let serials : l.machine.next_serial ≡ (signals_best c (turn k)).machine.next_serial = ap (λ (x : Kernel). x.machine.next_serial) state in
       let all : Signalled text faults c start l (suc n) a d = record {
-        state = then_state (signals_best_of n c) (signals_best c) start k l (signals_best_behind c) so.state state;
-        told = then_told text faults (signals_best_of n c) (signals_best c) start k a b d (signals_best_behind c) so.state so.told tells;
+        state = then_state (signals_best_times n c) (signals_best c) start k l (signals_best_behind c) so.state state;
+        told = then_told text faults (signals_best_times n c) (signals_best c) start k a b d (signals_best_behind c) so.state so.told tells;
         fits = subst (λ (x : Kernel). WaitsFit x.machine) (sym state) (signals_fit c (turn k) so.fits);
         room = (let g = grown.moves in let r = so.room in omega (arith, moved, g, r));
         serial = (let g = grown.serial in let r = so.serial in omega (arith, serials, g, r));

@@ -3,7 +3,7 @@ ghost use Rattle.std.specs.Prelude.{◌≡◌, ◌≤◌, ◌<◌, ◌+◌, ◌^
 ghost use Rattle.tick_num.specs.declared.res.Res.TheVariants as res;
 ghost use Rattle.pse52_trace.specs.Tells.{Tells};
 ghost use Rattle.machine_rules.specs.declared.thread.CondEnd.TheVariants as cond_end;
-ghost use Rattle.machine_rules.specs.Conditions.{broadcasts, contends, contends_for, signals, signals_best, signals_best_of, waits};
+ghost use Rattle.machine_rules.specs.Conditions.{broadcasts, contends, reacquires_or_waits, signals, signals_best, signals_best_times, waits};
 ghost use Rattle.machine_rules.specs.Mutexes.{releases, returns_from_wait, taken_by};
 ghost use Rattle.machine_rules.specs.Priorities.{mutex_awaited_by};
 ghost use Rattle.machine_rules.specs.State.{for_condition};
@@ -58,7 +58,13 @@ fn take_again<K: Sink>(p: &mut Parts, t: Tid, k: ObjId, how: CondEnd, out: &mut 
 
 // The thread owns the mutex of its condition wait again at once, or waits for it.
 #[tactic(auto, using(crate::proofs::Contending::can_wait))]
-fn contend_for<K: Sink>(p: &mut Parts, t: Tid, k: ObjId, how: CondEnd, out: &mut Tracer<'_, K>)
+fn reacquire_or_wait<K: Sink>(
+    p: &mut Parts,
+    t: Tid,
+    k: ObjId,
+    how: CondEnd,
+    out: &mut Tracer<'_, K>,
+)
     requires known { t < length p.old.names }
     requires mutex { k < length p.old.machine.mutexes }
     requires waits_not { mutex_awaited_by (thread_at p.old.machine t) ≡ None }
@@ -67,8 +73,8 @@ fn contend_for<K: Sink>(p: &mut Parts, t: Tid, k: ObjId, how: CondEnd, out: &mut
     requires serial { p.old.machine.next_serial < 2 ^ 63 }
     requires unused { IsUnused (thread_at p.old.machine t).server }
     requires early { p.old.machine.now ≤ 10 ^ 18 }
-    ensures state { p.new ≡ after (contends_for (Some k) t how) p.old }
-    ensures told { Tells K.text K.faults p.old.names out.old out.new (told (contends_for (Some k) t how) p.old) }
+    ensures state { p.new ≡ after (reacquires_or_waits (Some k) t how) p.old }
+    ensures told { Tells K.text K.faults p.old.names out.old out.new (told (reacquires_or_waits (Some k) t how) p.old) }
 {
     if p.mutex(k).owner().is_none() {
         take_again(p, t, k, how, out);
@@ -88,7 +94,7 @@ pub fn contend<K: Sink>(p: &mut Parts, t: Tid, how: CondEnd, out: &mut Tracer<'_
     ensures told { Tells K.text K.faults p.old.names out.old out.new (told (contends t how) p.old) }
 {
     if let Some(k) = p.released_mutex(t) {
-        contend_for(p, t, k, how, out);
+        reacquire_or_wait(p, t, k, how, out);
     }
 }
 
@@ -119,7 +125,7 @@ fn block_and_release<K: Sink>(
 }
 
 /// `pthread_cond_wait`, and with a time `pthread_cond_timedwait`.
-pub fn wait_on<K: Sink>(
+pub fn cond_wait<K: Sink>(
     p: &mut Parts,
     t: Tid,
     call: &Call,
@@ -171,8 +177,8 @@ fn signal_all<K: Sink>(p: &mut Parts, c: ObjId, count: u16, out: &mut Tracer<'_,
     requires room { length p.old.direct < 128 }
     requires serial { p.old.machine.next_serial < 2 ^ 62 }
     requires early { p.old.machine.now ≤ 10 ^ 18 }
-    ensures state { p.new ≡ after (signals_best_of count c) p.old }
-    ensures told { Tells K.text K.faults p.old.names out.old out.new (told (signals_best_of count c) p.old) }
+    ensures state { p.new ≡ after (signals_best_times count c) p.old }
+    ensures told { Tells K.text K.faults p.old.names out.old out.new (told (signals_best_times count c) p.old) }
 {
     for _ in 0..count {
         signal_best(p, c, out);

@@ -94,7 +94,7 @@ fn raise<K: Sink>(p: &mut Parts, t: Tid, call: &Call, k: ObjId, out: &mut Tracer
 }
 
 // The call returns, and the waiter that is served first wakes.
-fn hand_on<K: Sink>(p: &mut Parts, t: Tid, call: &Call, w: Tid, out: &mut Tracer<'_, K>)
+fn return_and_wake<K: Sink>(p: &mut Parts, t: Tid, call: &Call, w: Tid, out: &mut Tracer<'_, K>)
     requires known { t < length p.old.names }
     requires waiter { w < length p.old.names }
     requires room { length p.old.direct < 256 }
@@ -119,7 +119,7 @@ pub fn post<K: Sink>(p: &mut Parts, t: Tid, call: &Call, k: ObjId, out: &mut Tra
     ensures told { Tells K.text K.faults p.old.names out.old out.new (told (posts (by t call.now) k) p.old) }
 {
     if let Some(w) = p.best_waiter(WaitObj::Sem(k)) {
-        hand_on(p, t, call, w, out);
+        return_and_wake(p, t, call, w, out);
     } else if p.semaphore(k) == SEM_VALUE_MAX {
         p.returns(t, call, Res::Overflow, 0, out);
     } else {

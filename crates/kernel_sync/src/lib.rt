@@ -8,6 +8,6 @@ mod counting;
 mod mutexes;
 
 pub use blocking::block_unless_late;
-pub use conditions::{broadcast, contend, signal, wait_on};
+pub use conditions::{broadcast, cond_wait, contend, signal};
 pub use counting::{get_value, post, try_wait, wait};
 pub use mutexes::{lock, try_lock, unlock};

@@ -2,7 +2,7 @@
 ghost use Rattle.std.specs.Prelude.{◌≡◌, ◌≤◌, ◌<◌, ◌==◌, ◌^◌, None, Some, IfSome, false, length, option_map, true};
 ghost use Rattle.tick_num.specs.declared.res.Res.TheVariants as res;
 ghost use Rattle.pse52_trace.specs.Tells.{Tells};
-ghost use Rattle.machine_rules.specs.Mutexes.{counted_up, counted_down, locks, locks_on, recursion_limit, releases, taken_by, tries_lock, unlocks, waits_for_mutex};
+ghost use Rattle.machine_rules.specs.Mutexes.{counted_up, counted_down, locks, carries_out_lock, recursion_limit, releases, taken_by, tries_lock, unlocks, waits_for_mutex};
 ghost use Rattle.machine_rules.specs.Threads.{can_run, mutex_at};
 ghost use Rattle.machine_rules.specs.Turns.{changes_mutex, returns, ◌▷◌};
 ghost use Rattle.machine_rules.specs.Waiters.{Waiter, best_waiter};
@@ -63,8 +63,8 @@ fn act<K: Sink>(
     requires mutex { k < length p.old.machine.mutexes }
     requires can { CanAct p.old.machine t k (answer_of answer) }
     requires serial { p.old.machine.next_serial < 2 ^ 63 }
-    ensures state { p.new ≡ after (locks_on (answer_of answer) (by t call.now) k due) p.old }
-    ensures told { Tells K.text K.faults p.old.names out.old out.new (told (locks_on (answer_of answer) (by t call.now) k due) p.old) }
+    ensures state { p.new ≡ after (carries_out_lock (answer_of answer) (by t call.now) k due) p.old }
+    ensures told { Tells K.text K.faults p.old.names out.old out.new (told (carries_out_lock (answer_of answer) (by t call.now) k due) p.old) }
 {
     match answer {
         LockAnswer::Refused(refusal) => p.returns(t, call, refusal, 0, out),
@@ -111,7 +111,7 @@ pub fn try_lock<K: Sink>(p: &mut Parts, t: Tid, call: &Call, k: ObjId, out: &mut
 
 // The owner's mutex goes to its best waiter.
 #[tactic(auto, using(crate::proofs::Resting::best_rests))]
-fn hand_to<K: Sink>(p: &mut Parts, t: Tid, k: ObjId, w: Tid, out: &mut Tracer<'_, K>)
+fn hand_over<K: Sink>(p: &mut Parts, t: Tid, k: ObjId, w: Tid, out: &mut Tracer<'_, K>)
     requires known { w < length p.old.names }
     requires mutex { k < length p.old.machine.mutexes }
     requires owned { (mutex_at p.old.machine k).owner ≡ Some t }
@@ -142,7 +142,7 @@ pub(crate) fn release<K: Sink>(p: &mut Parts, t: Tid, k: ObjId, out: &mut Tracer
 {
     match p.best_waiter(WaitObj::Mutex(k)) {
         None => p.release_mutex(k, t),
-        Some(w) => hand_to(p, t, k, w, out),
+        Some(w) => hand_over(p, t, k, w, out),
     }
 }
 

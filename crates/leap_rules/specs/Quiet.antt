@@ -33,12 +33,12 @@ charged_head bodies None m = record m { now = m.now + 1; last = last.Idle }
 charged_head bodies (Some t) m = after_quiet bodies t m
 
 -- an ended process stays as it is
-abbrev pub charged_unless : {P : Type 0} → Bodies P → Option ℕ → Machine P → Machine P
-charged_unless bodies None m = charged_head bodies (head m) m
-charged_unless bodies (Some signal) m = m
+abbrev pub charged_unless_killed : {P : Type 0} → Bodies P → Option ℕ → Machine P → Machine P
+charged_unless_killed bodies None m = charged_head bodies (head m) m
+charged_unless_killed bodies (Some signal) m = m
 
 abbrev pub one_charge : {P : Type 0} → Bodies P → Machine P → Machine P
-one_charge bodies m = charged_unless bodies m.killed m
+one_charge bodies m = charged_unless_killed bodies m.killed m
 
 -- ---- so many at once
 
@@ -73,17 +73,17 @@ abbrev pub ticks_of_head : {P : Type 0} → Bodies P → ℕ → Option ℕ → 
 ticks_of_head bodies k None m = record m { now = m.now + k; last = last.Idle }
 ticks_of_head bodies k (Some t) m = head_after bodies k t m
 
-abbrev pub ticks_unless : {P : Type 0} → Bodies P → ℕ → Option ℕ → Machine P → Machine P
-ticks_unless bodies k None m = ticks_of_head bodies k (head m) m
-ticks_unless bodies k (Some signal) m = m
+abbrev pub ticks_unless_killed : {P : Type 0} → Bodies P → ℕ → Option ℕ → Machine P → Machine P
+ticks_unless_killed bodies k None m = ticks_of_head bodies k (head m) m
+ticks_unless_killed bodies k (Some signal) m = m
 
 abbrev pub at_once : {P : Type 0} → Bodies P → ℕ → Machine P → Machine P
-at_once bodies k m = ticks_unless bodies k m.killed m
+at_once bodies k m = ticks_unless_killed bodies k m.killed m
 
 -- what is told: the items of the instant, and the dispatch that follows where it is a change
-abbrev pub told_from : {P : Type 0} → Option ℕ → Turn P → List Entry
-told_from None s = (dispatches (head s.machine) s).events
-told_from (Some signal) s = s.events
+abbrev pub told_with_dispatch : {P : Type 0} → Option ℕ → Turn P → List Entry
+told_with_dispatch None s = (dispatches (head s.machine) s).events
+told_with_dispatch (Some signal) s = s.events
 
 -- ---- spans
 
@@ -99,7 +99,7 @@ IsQuiet bodies k m = (i : ℕ) → 1 ≤ i → i ≤ k → is_eventful bodies m 
 
 -- of any machine: each of the next k ticks, and then the first part of one more
 pub record AreCharges {P : Type 0} (bodies : Bodies P) (k : ℕ) (m : Machine P) : Type 0 where
-  pub each : (j : ℕ) → 1 ≤ j → j ≤ k → ticks bodies j m ≡ record { machine = at_once bodies j m; events = told_from m.killed (turn_of m) }
+  pub each : (j : ℕ) → 1 ≤ j → j ≤ k → ticks bodies j m ≡ record { machine = at_once bodies j m; events = told_with_dispatch m.killed (turn_of m) }
   pub last : one_charge bodies (ticks bodies k m).machine ≡ at_once bodies (k + 1) m
 
 -- an instant with its items handled

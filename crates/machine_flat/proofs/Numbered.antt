@@ -7,7 +7,7 @@ use Rattle.script_tree.specs.declared.decl.Script.{Script}
 use Rattle.script_tree.specs.declared.decl.Decl.{Decl}
 use Rattle.script_tree.specs.declared.decl.Decl.TheVariants.{Named, Action}
 use Rattle.script_tree.specs.declared.decl.Kind.TheVariants.{Thread, Handler, Cleanup, Mutex, Cond, Sem, Queue, Timer}
-use Rattle.script_flat.specs.Flat.{Bodies, flat, no_bodies, with_decl, with_decls, bodies_of}
+use Rattle.script_flat.specs.Flat.{NumberedBodies, flat, no_bodies, with_decl, with_decls, bodies_of}
 use Rattle.script_flat.specs.Fetch.{ops_of}
 use Rattle.machine_rules.specs.declared.frame.BodyOf.{BodyOf}
 use Rattle.machine_rules.specs.declared.frame.BodyOf.TheVariants as body_of
@@ -43,7 +43,7 @@ last all [] (c ∷ bs) n b is new = absurd is
 last all (m ∷ ns) [] n b is new = absurd is
 last all (m ∷ ns) (c ∷ bs) n b (one, rest) new = (one, last all ns bs n b rest new)
 
-pub record Known (b : Bodies Block) (ts hs us : List Block) : Type 0 where
+pub record Known (b : NumberedBodies Block) (ts hs us : List Block) : Type 0 where
   pub threads : Numbered b.all b.threads ts
   pub handlers : Numbered b.all b.handlers hs
   pub cleanups : Numbered b.all b.cleanups us
@@ -60,7 +60,7 @@ handler_blocks decls = filter_map (named handler_kind) decls
 abbrev pub cleanup_blocks : List Decl → List Block
 cleanup_blocks decls = filter_map (named cleanup_kind) decls
 
-known_all : (decls : List Decl) (b : Bodies Block) (ts hs us : List Block) → Known b ts hs us →
+known_all : (decls : List Decl) (b : NumberedBodies Block) (ts hs us : List Block) → Known b ts hs us →
     Known (with_decls tree decls b) (ts ++ thread_blocks decls) (hs ++ handler_blocks decls) (us ++ cleanup_blocks decls)
 known_all [] b ts hs us is = rw (append-nil ts, append-nil hs, append-nil us) is
 known_all (Named name (Thread policy start body) ∷ decls) b ts hs us is =

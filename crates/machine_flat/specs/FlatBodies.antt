@@ -12,7 +12,7 @@ use Rattle.machine_rules.specs.declared.frame.BodyOf.TheVariants as body_of
 use Rattle.machine_rules.specs.Bodies.{Bodies, NextUnit, Seen}
 
 -- A body that is not there has the number past the last one, so it has no operations.
-abbrev pub number_of : flat.Bodies (List Op) → BodyOf → ℕ
+abbrev pub number_of : flat.NumberedBodies (List Op) → BodyOf → ℕ
 number_of code (body_of.Thread t) = slice_index_or code.threads t (length code.all)
 number_of code (body_of.Cleanup u) = slice_index_or code.cleanups u (length code.all)
 number_of code (body_of.Handler h) = slice_index_or code.handlers h (length code.all)
@@ -28,12 +28,12 @@ cursor_at place seen = record place { register = seen.register; result = seen.re
 abbrev pub next_unit : Cursor × unit.Unit → NextUnit Cursor
 next_unit (c, u) = record { unit = u; place = place_of c; register = c.register }
 
-abbrev pub flat_bodies : flat.Bodies (List Op) → Bodies Cursor
+abbrev pub flat_bodies : flat.NumberedBodies (List Op) → Bodies Cursor
 flat_bodies code = record {
   start = λ body. place_of (started (number_of code body) 0);
   next = λ body place seen. next_unit (fetched code (cursor_at place seen));
 }
 
 -- the flat code of a script
-abbrev pub code_of : Script → flat.Bodies (List Op)
+abbrev pub code_of : Script → flat.NumberedBodies (List Op)
 code_of script = flat.flat_form (flat.bodies_of script.decls)

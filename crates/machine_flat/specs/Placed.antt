@@ -2,7 +2,7 @@
 use Rattle.std.specs.Prelude.{List, [], ◌∷◌}
 use Rattle.script_flat.specs.declared.cursor.Cursor.{Cursor}
 use Rattle.script_flat.specs.declared.op.Op.{Op}
-use Rattle.script_flat.specs.Flat.{Bodies}
+use Rattle.script_flat.specs.Flat.{NumberedBodies}
 use Rattle.script_flat.specs.Stands.{IsPlaced}
 use Rattle.machine_rules.specs.Bodies.{seen_by}
 use Rattle.machine_rules.specs.State.{Frame}
@@ -11,6 +11,6 @@ use Rattle.machine_flat.specs.FlatBodies.{cursor_at}
 abbrev pub cursor_of : Frame Cursor → Cursor
 cursor_of f = cursor_at f.place (seen_by f)
 
-abbrev pub ArePlaced : Bodies (List Op) → List (Frame Cursor) → Type 0
+abbrev pub ArePlaced : NumberedBodies (List Op) → List (Frame Cursor) → Type 0
 ArePlaced code [] = Unit {0}
 ArePlaced code (f ∷ fs) = IsPlaced code (cursor_of f) × ArePlaced code fs

@@ -8,17 +8,17 @@ use Rattle.tick_num.specs.declared.item.Item.TheVariants as item
 use Rattle.machine_rules.specs.Lists.{numbers}
 use Rattle.machine_rules.specs.State.{Machine}
 use Rattle.machine_rules.specs.Threads.{thread_numbers}
-use Rattle.machine_rules.specs.DueItems.{due_items, due_of, has_come, refill_due, start_due, timeout_due, timer_due}
+use Rattle.machine_rules.specs.DueItems.{due_items, due_of_kind, has_come, refill_due, start_due, timeout_due, timer_due}
 use Rattle.machine_rules.specs.Agenda.{Coming, agenda, coming_of, due_by, items_due}
 
 module _ {P : Type 0} (m : Machine P) where
   of_one : (kind : ℕ → Item) (due : Machine P → ℕ → Option ℕ) (n : ℕ) (ns : List ℕ) (o : Option ℕ) (b : Bool) → due m n ≡ o → has_come o m.now ≡ b →
-      due_of kind due ns m ≡ items_due m.now (coming_of kind due ns m) → due_of kind due (n ∷ ns) m ≡ items_due m.now (coming_of kind due (n ∷ ns) m)
+      due_of_kind kind due ns m ≡ items_due m.now (coming_of kind due ns m) → due_of_kind kind due (n ∷ ns) m ≡ items_due m.now (coming_of kind due (n ∷ ns) m)
   of_one kind due n ns None b e h rest = rw e rest
   of_one kind due n ns (Some d) true e h rest = rw (e, h) (ap (λ is. kind n ∷ is) rest)
   of_one kind due n ns (Some d) false e h rest = rw (e, h) rest
 
-  of_kind : (kind : ℕ → Item) (due : Machine P → ℕ → Option ℕ) (ns : List ℕ) → due_of kind due ns m ≡ items_due m.now (coming_of kind due ns m)
+  of_kind : (kind : ℕ → Item) (due : Machine P → ℕ → Option ℕ) (ns : List ℕ) → due_of_kind kind due ns m ≡ items_due m.now (coming_of kind due ns m)
   of_kind kind due [] = refl
   of_kind kind due (n ∷ ns) = of_one kind due n ns (due m n) (has_come (due m n) m.now) refl refl (of_kind kind due ns)
 

@@ -13,7 +13,7 @@ use Rattle.machine_rules.specs.State.{Machine, Thread, for_end, waits_to_join}
 use Rattle.machine_rules.specs.Threads.{can_run, is_blocked, is_runnable, no_thread, thread_at, thread_in}
 use Rattle.machine_rules.specs.Declarations.{ThreadDecl, threads_of}
 use Rattle.machine_rules.specs.Turns.{Turn, changes, moves, moves_if, tells}
-use Rattle.machine_rules.specs.Servers.{activates_if, activates_server, amount_of, high_server, plans_for, refills_for, regains_high, with_server}
+use Rattle.machine_rules.specs.Servers.{activates_if, activates_server, amount_of, high_server, plans_server, refills_server, regains_high, with_server}
 use Rattle.machine_rules.specs.Waking.{ending_with, on_top, put_to_wait, started, woken}
 use Rattle.machine_rules.specs.Lives.{with_joiner, without_life, without_top}
 use Rattle.machine_rules.specs.Cancellation.{without_cleanup}
@@ -87,7 +87,7 @@ module _ {P : Type 0} (bodies : Bodies P) (who : Option ℕ) where
   activated_if true t s q = activated t (thread_at s.machine t).server s q
   activated_if false t s q = q
 
-  refilled : (t : ℕ) (o : Option ServerState) (s : Turn P) → Slices who s.machine → Slices who (refills_for t o s).machine
+  refilled : (t : ℕ) (o : Option ServerState) (s : Turn P) → Slices who s.machine → Slices who (refills_server t o s).machine
   refilled t None s q = q
   refilled t (Some server) s q =
       let k = one t (with_server refill) s (λ b th h. h) q in
@@ -122,7 +122,7 @@ module _ {P : Type 0} (bodies : Bodies P) (who : Option ℕ) where
 
   -- ---- the tick's end
 
-  planned : (t : ℕ) (o : Option ServerState) (s : Turn P) → Slices who s.machine → Slices who (plans_for t o s).machine
+  planned : (t : ℕ) (o : Option ServerState) (s : Turn P) → Slices who s.machine → Slices who (plans_server t o s).machine
   planned t None s q = q
   planned t (Some server) s q = let k = one t (with_server plan) s (λ b th h. h) q in record { some = k.some; each = k.each }
 

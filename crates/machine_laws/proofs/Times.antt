@@ -14,7 +14,7 @@ use Rattle.machine_rules.specs.State.{Machine, Thread, for_end, waits_to_join}
 use Rattle.machine_rules.specs.Threads.{can_run, no_thread, thread_at, thread_in}
 use Rattle.machine_rules.specs.Declarations.{ThreadDecl, threads_of}
 use Rattle.machine_rules.specs.Turns.{Turn, changes, moves, moves_if, tells, turn_of}
-use Rattle.machine_rules.specs.Servers.{activates_if, activates_server, amount_of, charged, high_server, plans_for, refills_for, regains_high, server_of, with_server}
+use Rattle.machine_rules.specs.Servers.{activates_if, activates_server, amount_of, charged, high_server, plans_server, refills_server, regains_high, server_of, with_server}
 use Rattle.machine_rules.specs.Waking.{ending_with, on_top, put_to_wait, started, woken}
 use Rattle.machine_rules.specs.Lives.{with_joiner, without_life, without_top}
 use Rattle.machine_rules.specs.Cancellation.{without_cleanup}
@@ -103,12 +103,12 @@ module _ {P : Type 0} where
   activated_if true t s q = activated t (thread_at s.machine t).server s q
   activated_if false t s q = q
 
-  refilled : (t : ℕ) (o : Option ServerState) (s : Turn P) → TimesAreRight s.machine → TimesAreRight (refills_for t o s).machine
+  refilled : (t : ℕ) (o : Option ServerState) (s : Turn P) → TimesAreRight s.machine → TimesAreRight (refills_server t o s).machine
   refilled t None s q = q
   refilled t (Some server) s q =
       activated_if (regains_high server && can_run s.machine t) t (tells (event.Refill t (amount_of (oldest_pending server)) (refill server).capacity) (changes t (with_server refill) s)) (record { each = (served refill refill_total t s q).each })
 
-  planned : (t : ℕ) (o : Option ServerState) (s : Turn P) → TimesAreRight s.machine → TimesAreRight (plans_for t o s).machine
+  planned : (t : ℕ) (o : Option ServerState) (s : Turn P) → TimesAreRight s.machine → TimesAreRight (plans_server t o s).machine
   planned t None s q = q
   planned t (Some server) s q = record { each = (served plan (λ x. refl) t s q).each }
 

@@ -13,7 +13,7 @@ use Rattle.machine_rules.specs.Bodies.{Bodies}
 use Rattle.machine_rules.specs.State.{Frame, Joiner, Machine, Message, Registration, SignalRecord, Status, Thread, Timer, Wait, Waiting, for_condition, for_end, for_message, for_mutex, for_mutex_again, for_room, for_semaphore, for_signal, for_time, waits_to_join}
 use Rattle.machine_rules.specs.Threads.{action_of, can_run, is_blocked, is_dormant, lives, mutex_at, queue_at, semaphore_at, thread_at, waiting_of}
 use Rattle.machine_rules.specs.Waiters.{somebody_waits, waits_so}
-use Rattle.machine_rules.specs.Turns.{By, Turn, becomes, changes, changes_mutex, changes_pending, changes_queue, changes_semaphore, changes_timer, moves, tells, ◌▷◌}
+use Rattle.machine_rules.specs.Turns.{Caller, Turn, becomes, changes, changes_mutex, changes_pending, changes_queue, changes_semaphore, changes_timer, moves, tells, ◌▷◌}
 use Rattle.machine_rules.specs.Servers.{activates_if, refills}
 use Rattle.machine_rules.specs.Waking.{blocks, blocks_unordered, ending_with, on_top, starts, wakes_telling}
 use Rattle.machine_rules.specs.Mutexes.{closes_cycle, counted_down, counted_up, freed, is_free, owned_by, taken_by, waits_for_mutex}
@@ -79,8 +79,8 @@ pub data Move (P : Type 0) : Type 0 where
   -- a new policy; the flag says whether the thread is activated
   renews_with : Bool → ℕ → Policy → Move P
   wakes_with : ℕ → Event → Res → ℕ → Move P
-  blocks_for : By → Wait → Option ℕ → Move P
-  blocks_plainly : By → Wait → Option ℕ → Move P
+  blocks_for : Caller → Wait → Option ℕ → Move P
+  blocks_plainly : Caller → Wait → Option ℕ → Move P
   begins : ℕ → ℕ → Move P
   lives_no_more : ℕ → Move P
   -- a thread changes, and its status stays; no call does so alone
@@ -265,9 +265,9 @@ KeepsRenewing {P} bodies who Law = (move : Move P) (s : Turn P) → MayRenewing 
 -- The unit's own thread blocks last: Law holds before, and Done after it.
 pub record Sleeps {P : Type 0} (who : Option ℕ) (Law Done : Turn P → Type 0) : Type 0 where
   pub done : (s : Turn P) → Law s → Done s
-  pub sleeps : (by : By) (wait : Wait) (due : Option ℕ) (s : Turn P) → Runs who s.machine by.thread → MayWait who s.machine by.thread wait → Law s → Done (blocks by wait due s)
-  pub dozes : (by : By) (wait : Wait) (due : Option ℕ) (s : Turn P) → Runs who s.machine by.thread → MayWaitPlainly who s.machine by.thread wait → is_for_end wait ≡ false → Law s → Done (blocks_unordered by wait due s)
-  pub joins : (by : By) (u : ℕ) (s : Turn P) → Runs who s.machine by.thread → (u == by.thread) ≡ false → is_nobody (thread_at s.machine u).joiner ≡ true → Law s →
+  pub sleeps : (by : Caller) (wait : Wait) (due : Option ℕ) (s : Turn P) → Runs who s.machine by.thread → MayWait who s.machine by.thread wait → Law s → Done (blocks by wait due s)
+  pub dozes : (by : Caller) (wait : Wait) (due : Option ℕ) (s : Turn P) → Runs who s.machine by.thread → MayWaitPlainly who s.machine by.thread wait → is_for_end wait ≡ false → Law s → Done (blocks_unordered by wait due s)
+  pub joins : (by : Caller) (u : ℕ) (s : Turn P) → Runs who s.machine by.thread → (u == by.thread) ≡ false → is_nobody (thread_at s.machine u).joiner ≡ true → Law s →
       Done (blocks_unordered by (for_end u) None (changes u (with_joiner (waits_to_join by.thread)) s))
 
 -- And the threads are named that may have a new policy.
@@ -275,7 +275,7 @@ pub record Stops {P : Type 0} (who : Option ℕ) (Law Done : Turn P → Type 0) 
   pub done : (s : Turn P) → Law s → Done s
   pub renewable : ℕ → Bool
   pub renewing : (active : Bool) (u : ℕ) (new : Policy) (s : Turn P) → renewable u ≡ true → lives s.machine u ≡ true → active ≡ can_run s.machine u → PolicyFits new → Law s → Law (activates_if active u (changes u (with_policy new s.machine.now) s))
-  pub sleeps : (by : By) (wait : Wait) (due : Option ℕ) (s : Turn P) → Runs who s.machine by.thread → MayWait who s.machine by.thread wait → Law s → Done (blocks by wait due s)
-  pub dozes : (by : By) (wait : Wait) (due : Option ℕ) (s : Turn P) → Runs who s.machine by.thread → MayWaitPlainly who s.machine by.thread wait → is_for_end wait ≡ false → Law s → Done (blocks_unordered by wait due s)
-  pub joins : (by : By) (u : ℕ) (s : Turn P) → Runs who s.machine by.thread → (u == by.thread) ≡ false → is_nobody (thread_at s.machine u).joiner ≡ true → Law s →
+  pub sleeps : (by : Caller) (wait : Wait) (due : Option ℕ) (s : Turn P) → Runs who s.machine by.thread → MayWait who s.machine by.thread wait → Law s → Done (blocks by wait due s)
+  pub dozes : (by : Caller) (wait : Wait) (due : Option ℕ) (s : Turn P) → Runs who s.machine by.thread → MayWaitPlainly who s.machine by.thread wait → is_for_end wait ≡ false → Law s → Done (blocks_unordered by wait due s)
+  pub joins : (by : Caller) (u : ℕ) (s : Turn P) → Runs who s.machine by.thread → (u == by.thread) ≡ false → is_nobody (thread_at s.machine u).joiner ≡ true → Law s →
       Done (blocks_unordered by (for_end u) None (changes u (with_joiner (waits_to_join by.thread)) s))

@@ -14,15 +14,15 @@ use Rattle.machine_rules.specs.declared.frame.FrameKind.TheVariants as frame
 use Rattle.machine_rules.specs.declared.thread.CondEnd.TheVariants as cond_end
 use Rattle.machine_rules.specs.State.{Frame, Joiner, Machine, Thread, Wait, Waiting, for_condition, for_end, for_mutex, for_mutex_again, for_semaphore, for_signal, for_time, has_joined, nobody, waits_to_join}
 use Rattle.machine_rules.specs.Threads.{can_run, is_dormant, lives, number_of, thread_at, top_kind, waiting_of}
-use Rattle.machine_rules.specs.Turns.{By, Turn, becomes, changes, changes_pending, moves_if, returns, settles_since, tells, ◌▷◌}
+use Rattle.machine_rules.specs.Turns.{Caller, Turn, becomes, changes, changes_pending, moves_if, returns, settles_since, tells, ◌▷◌}
 use Rattle.machine_rules.specs.Servers.{activates_if, plans}
 use Rattle.machine_rules.specs.Waking.{blocks_unordered, wakes}
 use Rattle.machine_rules.specs.Mutexes.{moves_unless_boosted}
 use Rattle.machine_rules.specs.Delivery.{interrupts, ticks_left}
-use Rattle.machine_rules.specs.Lives.{ends, finishes, finishes_in, is_nobody, joins, wakes_joiner, with_joiner, without_life, without_target, without_top}
+use Rattle.machine_rules.specs.Lives.{ends, finishes, ends_frame, is_nobody, joins, wakes_joiner, with_joiner, without_life, without_target, without_top}
 use Rattle.machine_rules.specs.Cancellation.{acts_if_blocked, cancels, leaves, leaves_wait, on_live, request_acts, requested}
 use Rattle.machine_rules.specs.Scheduling.{sets_policy, sets_priority, takes_priority, with_policy, with_priority}
-use Rattle.machine_rules.specs.DueItems.{items_of_threads, pending_count, times_out, times_out_of}
+use Rattle.machine_rules.specs.DueItems.{items_of_threads, pending_count, times_out, wait_times_out}
 use Rattle.machine_rules.specs.Dispatch.{dispatch_event, dispatch_of, dispatches, is_same, tells_unless}
 use Rattle.machine_rules.specs.Ticks.{TickEnd, ends_tick, exhausting, nothing, planning, slicing, tick_end, tick_ends, without_slice}
 use Rattle.machine_places.specs.Carried.{frame_carried}
@@ -36,7 +36,7 @@ module _ {P Q : Type 0} (carry : BodyOf → P → Q) where
   number_carries m t (operand.Num n) = refl
   number_carries m t operand.Reg = register_carries carry m t
 
-  pub joins_carries : (by : By) (u : ℕ) → Carries carry (joins by u) (joins by u)
+  pub joins_carries : (by : Caller) (u : ℕ) → Carries carry (joins by u) (joins by u)
   joins_carries by u s =
       let waiting = changes u (with_joiner (waits_to_join by.thread)) s in
       let joined = changes u (with_joiner has_joined) s in
@@ -68,14 +68,14 @@ module _ {P Q : Type 0} (carry : BodyOf → P → Q) where
   drop_carried [] = refl
   drop_carried (f ∷ fs) = refl
 
-  finishes_in_carries : (kind : FrameKind) (t : ℕ) → Carries carry (finishes_in kind t) (finishes_in kind t)
+  finishes_in_carries : (kind : FrameKind) (t : ℕ) → Carries carry (ends_frame kind t) (ends_frame kind t)
   finishes_in_carries frame.Main t s = ends_carries t s
   finishes_in_carries frame.Cleanup t s = changes_carry carry t without_top without_top (λ th. ap (λ (fs : List (Frame Q)). record (C carry th) { frames = fs }) (drop_carried th.frames)) s
   finishes_in_carries frame.Signal t s = changes_carry carry t without_top without_top (λ th. ap (λ (fs : List (Frame Q)). record (C carry th) { frames = fs }) (drop_carried th.frames)) s
 
   pub finishes_carries : (t : ℕ) → Carries carry (finishes t) (finishes t)
   finishes_carries t s =
-      ap (λ (k : FrameKind). finishes_in k t (T carry s)) (kind_carries carry s.machine t) ∙ finishes_in_carries (top_kind (thread_at s.machine t).frames) t s
+      ap (λ (k : FrameKind). ends_frame k t (T carry s)) (kind_carries carry s.machine t) ∙ finishes_in_carries (top_kind (thread_at s.machine t).frames) t s
 
   leaves_carries : (wait : Wait) (u : ℕ) → Carries carry (leaves wait u) (leaves wait u)
   leaves_carries (for_mutex k) u s = refl
@@ -94,10 +94,10 @@ module _ {P Q : Type 0} (carry : BodyOf → P → Q) where
       if_carries carry _ (request_acts (thread_at s.machine u)) _ _ (leaves_wait (waiting_of s.machine u) u s) s (ap request_acts (thread_carries carry s.machine u))
       (ap (λ (w : Option Waiting). leaves_wait w u (T carry s)) (waiting_carries carry s.machine u) ∙ leaves_wait_carries (waiting_of s.machine u) u s) refl
 
-  pub on_live_carries : (by : By) (u : ℕ) (f' : Turn Q → Turn Q) (f : Turn P → Turn P) → Carries carry f' f → Carries carry (on_live by u f') (on_live by u f)
+  pub on_live_carries : (by : Caller) (u : ℕ) (f' : Turn Q → Turn Q) (f : Turn P → Turn P) → Carries carry f' f → Carries carry (on_live by u f') (on_live by u f)
   on_live_carries by u f' f h s = if_carries carry _ (lives s.machine u) _ _ (f s) (returns by res.Srch 0 s) (lives_carries carry s.machine u) (h s) (returns_carries carry by res.Srch 0 s)
 
-  pub cancels_carries : (by : By) (u : ℕ) → Carries carry (cancels by u) (cancels by u)
+  pub cancels_carries : (by : Caller) (u : ℕ) → Carries carry (cancels by u) (cancels by u)
   cancels_carries by u =
       on_live_carries by u (λ s. s ▷ returns by res.Zero 0 ▷ changes u requested ▷ acts_if_blocked u) (λ s. s ▷ returns by res.Zero 0 ▷ changes u requested ▷ acts_if_blocked u)
       (λ s.
@@ -106,7 +106,7 @@ module _ {P Q : Type 0} (carry : BodyOf → P → Q) where
       ∙ ap (acts_if_blocked u) (changes_carry carry u requested requested (λ th. refl) back)
       ∙ acts_if_blocked_carries u (changes u requested back))
 
-  pub sets_priority_carries : (by : By) (u p : ℕ) → Carries carry (sets_priority by u p) (sets_priority by u p)
+  pub sets_priority_carries : (by : Caller) (u p : ℕ) → Carries carry (sets_priority by u p) (sets_priority by u p)
   sets_priority_carries by u p =
       on_live_carries by u (λ s. if takes_priority (thread_at s.machine u).policy p then (s ▷ changes u (with_priority p) ▷ returns by res.Zero 0) else returns by res.Inval 0 s)
       (λ s. if takes_priority (thread_at s.machine u).policy p then (s ▷ changes u (with_priority p) ▷ returns by res.Zero 0) else returns by res.Inval 0 s)
@@ -116,7 +116,7 @@ module _ {P Q : Type 0} (carry : BodyOf → P → Q) where
       (ap (returns by res.Zero 0) (changes_carry carry u (with_priority p) (with_priority p) (λ th. refl) s) ∙ returns_carries carry by res.Zero 0 (changes u (with_priority p) s))
       (returns_carries carry by res.Inval 0 s))
 
-  pub sets_policy_carries : (by : By) (u : ℕ) (new : Policy) → Carries carry (sets_policy by u new) (sets_policy by u new)
+  pub sets_policy_carries : (by : Caller) (u : ℕ) (new : Policy) → Carries carry (sets_policy by u new) (sets_policy by u new)
   sets_policy_carries by u new =
       on_live_carries by u (λ s. s ▷ returns by res.Zero 0 ▷ changes u (with_policy new s.machine.now) ▷ activates_if (can_run s.machine u) u ▷ moves_unless_boosted u)
       (λ s. s ▷ returns by res.Zero 0 ▷ changes u (with_policy new s.machine.now) ▷ activates_if (can_run s.machine u) u ▷ moves_unless_boosted u)
@@ -129,14 +129,14 @@ module _ {P Q : Type 0} (carry : BodyOf → P → Q) where
       ∙ ap (moves_unless_boosted u) (activates_if_carries carry (can_run s.machine u) u renewed)
       ∙ moves_unless_boosted_carries carry u (activates_if (can_run s.machine u) u renewed))
 
-  pub sets_mask_carries : (by : By) (f : ℕ → ℕ) → Carries carry (λ s. s ▷ changes by.thread (λ th. record th { mask = f th.mask }) ▷ returns by res.Zero 0) (λ s. s ▷ changes by.thread (λ th. record th { mask = f th.mask }) ▷ returns by res.Zero 0)
+  pub sets_mask_carries : (by : Caller) (f : ℕ → ℕ) → Carries carry (λ s. s ▷ changes by.thread (λ th. record th { mask = f th.mask }) ▷ returns by res.Zero 0) (λ s. s ▷ changes by.thread (λ th. record th { mask = f th.mask }) ▷ returns by res.Zero 0)
   sets_mask_carries by f s =
       let masked = changes by.thread (λ th. record th { mask = f th.mask }) s in
       ap (returns by res.Zero 0) (changes_carry carry by.thread (λ th. record th { mask = f th.mask }) (λ th. record th { mask = f th.mask }) (λ th. refl) s) ∙ returns_carries carry by res.Zero 0 masked
 
   -- ---- the rule of the tick's end, timeouts, the dispatch
 
-  times_out_of_carries : (wait : Wait) (t : ℕ) → Carries carry (times_out_of wait t) (times_out_of wait t)
+  times_out_of_carries : (wait : Wait) (t : ℕ) → Carries carry (wait_times_out wait t) (wait_times_out wait t)
   times_out_of_carries (for_condition c k) t s = contends_carries carry t cond_end.Timedout s
   times_out_of_carries for_time t s = wakes_carries carry t res.Zero 0 s
   times_out_of_carries (for_signal set) t s = wakes_carries carry t res.Again 0 s

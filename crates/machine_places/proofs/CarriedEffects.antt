@@ -15,15 +15,15 @@ use Rattle.machine_rules.specs.State.{Frame, Machine, Message, Registration, Sig
 use Rattle.machine_rules.specs.Threads.{action_of, can_run, mutex_at, queue_at, semaphore_at, thread_at, timer_at, waiting_of}
 use Rattle.machine_rules.specs.Waiters.{Waiter, best_waiter, is_served_before, somebody_waits, waiters}
 use Rattle.machine_rules.specs.CallNames.{name_of}
-use Rattle.machine_rules.specs.Turns.{By, Turn, answered, changes, changes_mutex, changes_pending, changes_queue, changes_semaphore, changes_timer, frames_answered, has_passed, is_late, moves, moves_if, returns, settles_since, takes_serial, tells}
-use Rattle.machine_rules.specs.Servers.{activates, activates_if, activates_if_high, activates_server, amount_of, high_server, plans, plans_for, refills, refills_for, regains_high, with_server}
+use Rattle.machine_rules.specs.Turns.{Caller, Turn, answered, changes, changes_mutex, changes_pending, changes_queue, changes_semaphore, changes_timer, frames_answered, has_passed, is_late, moves, moves_if, returns, settles_since, takes_serial, tells}
+use Rattle.machine_rules.specs.Servers.{activates, activates_if, activates_if_high, activates_server, amount_of, high_server, plans, plans_server, refills, refills_server, regains_high, with_server}
 use Rattle.machine_rules.specs.Waking.{blocks, blocks_unordered, call_in, cancelled_value, ending_with, put_to_wait, wakes, wakes_cancelled, wakes_telling, woken}
-use Rattle.machine_rules.specs.Mutexes.{LockAnswer, closes_cycle, counted_down, counted_up, counts, hands_over, is_above_ceiling, is_free, lock_answer, locked_again, locks, locks_on, moves_unless_boosted, must_wait, owned_by, owns, owns_boosting, refused, releases, returns_from_wait, taken_by, takes, tries_lock, trylock_answer, unlocks, waits_for_mutex, wakes_owner}
-use Rattle.machine_rules.specs.Conditions.{broadcasts, contends, contends_for, released_mutex, signals, signals_best, signals_best_of, signals_waiter, waits, waits_on_condition, waits_with_other_mutex}
-use Rattle.machine_rules.specs.Semaphores.{blocks_unless_late, posts, posts_to, semaphore_limit, tries_semaphore, waits_on_semaphore, waits_semaphore}
-use Rattle.machine_rules.specs.Signals.{acceptor, accepts, becomes_pending, delivers, generates, generates_for, goes_to, has_no_room, is_full, is_ignore, sends_signal, tells_overrun, waits_signal_on, waits_ticks, without_record}
+use Rattle.machine_rules.specs.Mutexes.{LockAnswer, closes_cycle, counted_down, counted_up, counts, hands_over, is_above_ceiling, is_free, lock_answer, locked_again, locks, carries_out_lock, moves_unless_boosted, must_wait, owned_by, owns, owns_boosting, refused, releases, returns_from_wait, taken_by, takes, tries_lock, trylock_answer, unlocks, waits_for_mutex, wakes_owner}
+use Rattle.machine_rules.specs.Conditions.{broadcasts, contends, reacquires_or_waits, released_mutex, signals, signals_best, signals_best_times, signals_waiter, waits, waits_on_condition, waits_with_other_mutex}
+use Rattle.machine_rules.specs.Semaphores.{blocks_unless_late, posts, wakes_waiter_or_raises_value, semaphore_limit, tries_semaphore, waits_on_semaphore, waits_semaphore}
+use Rattle.machine_rules.specs.Signals.{acceptor, accepts, becomes_pending, delivers, generates, is_accepted_or_pends, may_go_to, has_no_room, is_full, is_ignore, sends_signal, tells_overrun, takes_signal_or_waits, blocks_for_signal, without_record}
 use Rattle.machine_rules.specs.Timers.{armed_again, expires, is_pending_from, overrun_once_more, record_of_timer, signals_expiry, sleeps_until}
-use Rattle.machine_rules.specs.Queues.{asks_notification, blocks_unless_nonblock, enters, fired_by_message, has_room, is_notifying, message_of, next_message, notifies, receives_message, receives_on, record_of_notification, registered, sends_message, sends_to, takes_over, value_at, waits_to_receive, waits_to_send, with_message, without_message}
+use Rattle.machine_rules.specs.Queues.{asks_notification, blocks_unless_nonblock, enters, fired_by_message, has_room, is_notifying, message_of, next_message, notifies, receives_message, takes_message_or_blocks, record_of_notification, registered, sends_message, reaches_receiver_or_queue, takes_over, value_at, waits_to_receive, waits_to_send, with_message, without_message}
 use Rattle.machine_places.specs.Carried.{frame_carried, turn_carried}
 use Rattle.machine_places.proofs.CarriedReads.{C, M, best_carries, can_run_carries, ceiling_carries, changed_carries, cycle_carries, server_carries, settled_carries, somebody_carries, waiters_carry, waiting_carries}
 
@@ -62,7 +62,7 @@ module _ {P Q : Type 0} (carry : BodyOf → P → Q) where
   answered_carries : (r : Res) (value : ℕ) (th : Thread P) → answered r value (C carry th) ≡ C carry (answered r value th)
   answered_carries r value th = ap (λ (fs : List (Frame Q)). record (C carry th) { frames = fs }) (frames_answered_carry r value th.frames)
 
-  pub returns_carries : (by : By) (r : Res) (value : ℕ) → Carries (returns by r value) (returns by r value)
+  pub returns_carries : (by : Caller) (r : Res) (value : ℕ) → Carries (returns by r value) (returns by r value)
   returns_carries by r value s =
       ap (tells (event.Return by.thread (name_of by.call) r value)) (changes_carry by.thread (answered r value) (answered r value) (answered_carries r value) s)
 
@@ -84,15 +84,15 @@ module _ {P Q : Type 0} (carry : BodyOf → P → Q) where
   activates_if_high_carries t s =
       ap (λ (o : Option ServerState). activates_server t (high_server o) (T s)) (server_carries carry s.machine t) ∙ activates_server_carries t (high_server (thread_at s.machine t).server) s
 
-  plans_for_carries : (t : ℕ) (server : Option ServerState) → Carries (plans_for t server) (plans_for t server)
+  plans_for_carries : (t : ℕ) (server : Option ServerState) → Carries (plans_server t server) (plans_server t server)
   plans_for_carries t None s = refl
   plans_for_carries t (Some server) s =
       ap (tells (event.Plan t (replenishment server).amount (replenishment server).due)) (changes_carry t (with_server plan) (with_server plan) (λ th. refl) s)
 
   pub plans_carries : (t : ℕ) → Carries (plans t) (plans t)
-  plans_carries t s = ap (λ (o : Option ServerState). plans_for t o (T s)) (server_carries carry s.machine t) ∙ plans_for_carries t (thread_at s.machine t).server s
+  plans_carries t s = ap (λ (o : Option ServerState). plans_server t o (T s)) (server_carries carry s.machine t) ∙ plans_for_carries t (thread_at s.machine t).server s
 
-  refills_for_carries : (t : ℕ) (server : Option ServerState) → Carries (refills_for t server) (refills_for t server)
+  refills_for_carries : (t : ℕ) (server : Option ServerState) → Carries (refills_server t server) (refills_server t server)
   refills_for_carries t None s = refl
   refills_for_carries t (Some server) s =
       let e = event.Refill t (amount_of (oldest_pending server)) (refill server).capacity in
@@ -102,16 +102,16 @@ module _ {P Q : Type 0} (carry : BodyOf → P → Q) where
       ∙ activates_if_carries (regains_high server && can_run s.machine t) t fed
 
   pub refills_carries : (t : ℕ) → Carries (refills t) (refills t)
-  refills_carries t s = ap (λ (o : Option ServerState). refills_for t o (T s)) (server_carries carry s.machine t) ∙ refills_for_carries t (thread_at s.machine t).server s
+  refills_carries t s = ap (λ (o : Option ServerState). refills_server t o (T s)) (server_carries carry s.machine t) ∙ refills_for_carries t (thread_at s.machine t).server s
 
   -- ---- blocking and waking
 
-  pub blocks_carries : (by : By) (wait : Wait) (due : Option ℕ) → Carries (blocks by wait due) (blocks by wait due)
+  pub blocks_carries : (by : Caller) (wait : Wait) (due : Option ℕ) → Carries (blocks by wait due) (blocks by wait due)
   blocks_carries by wait due s =
       let w : Waiting = record { wait = wait; serial = s.machine.next_serial; due = due; call = by.call } in
       ap takes_serial (changes_carry by.thread (put_to_wait w) (put_to_wait w) (λ th. refl) s)
 
-  pub blocks_unordered_carries : (by : By) (wait : Wait) (due : Option ℕ) → Carries (blocks_unordered by wait due) (blocks_unordered by wait due)
+  pub blocks_unordered_carries : (by : Caller) (wait : Wait) (due : Option ℕ) → Carries (blocks_unordered by wait due) (blocks_unordered by wait due)
   blocks_unordered_carries by wait due s =
       let w : Waiting = record { wait = wait; serial = 0; due = due; call = by.call } in
       changes_carry by.thread (put_to_wait w) (put_to_wait w) (λ th. refl) s
@@ -168,19 +168,19 @@ module _ {P Q : Type 0} (carry : BodyOf → P → Q) where
       else if is_free m k then takes
       else refused res.Busy) (ceiling_carries carry m t (mutex_at m k).protocol)
 
-  locks_on_carries : (a : LockAnswer) (by : By) (k : ℕ) (due : Option ℕ) → Carries (locks_on a by k due) (locks_on a by k due)
+  locks_on_carries : (a : LockAnswer) (by : Caller) (k : ℕ) (due : Option ℕ) → Carries (carries_out_lock a by k due) (carries_out_lock a by k due)
   locks_on_carries (refused r) by k due s = returns_carries by r 0 s
   locks_on_carries counts by k due s = returns_carries by res.Zero 0 (changes_mutex k counted_up s)
   locks_on_carries takes by k due s = returns_carries by res.Zero 0 (changes_mutex k (taken_by by.thread) s)
   locks_on_carries must_wait by k due s = blocks_carries by (for_mutex k) due s
 
-  pub locks_carries : (by : By) (k : ℕ) (due : Option ℕ) → Carries (locks by k due) (locks by k due)
+  pub locks_carries : (by : Caller) (k : ℕ) (due : Option ℕ) → Carries (locks by k due) (locks by k due)
   locks_carries by k due s =
-      ap (λ (a : LockAnswer). locks_on a by k due (T s)) (lock_answer_carries s.machine by.thread k due) ∙ locks_on_carries (lock_answer s.machine by.thread k due) by k due s
+      ap (λ (a : LockAnswer). carries_out_lock a by k due (T s)) (lock_answer_carries s.machine by.thread k due) ∙ locks_on_carries (lock_answer s.machine by.thread k due) by k due s
 
-  pub tries_lock_carries : (by : By) (k : ℕ) → Carries (tries_lock by k) (tries_lock by k)
+  pub tries_lock_carries : (by : Caller) (k : ℕ) → Carries (tries_lock by k) (tries_lock by k)
   tries_lock_carries by k s =
-      ap (λ (a : LockAnswer). locks_on a by k None (T s)) (trylock_answer_carries s.machine by.thread k) ∙ locks_on_carries (trylock_answer s.machine by.thread k) by k None s
+      ap (λ (a : LockAnswer). carries_out_lock a by k None (T s)) (trylock_answer_carries s.machine by.thread k) ∙ locks_on_carries (trylock_answer s.machine by.thread k) by k None s
 
   pub returns_from_wait_carries : (how : CondEnd) (t : ℕ) → Carries (returns_from_wait how t) (returns_from_wait how t)
   returns_from_wait_carries cond_end.Signalled t s = wakes_carries t res.Zero 0 s
@@ -199,7 +199,7 @@ module _ {P Q : Type 0} (carry : BodyOf → P → Q) where
   releases_carries k s =
       ap (λ (w : Option Waiter). hands_over w k (T s)) (best_carries carry s.machine (waits_for_mutex k)) ∙ hands_over_carries (best_waiter s.machine (waits_for_mutex k)) k s
 
-  pub unlocks_carries : (by : By) (k : ℕ) → Carries (unlocks by k) (unlocks by k)
+  pub unlocks_carries : (by : Caller) (k : ℕ) → Carries (unlocks by k) (unlocks by k)
   unlocks_carries by k s =
       let back = returns by res.Zero 0 s in
       let back' : returns by res.Zero 0 (T s) ≡ T back = returns_carries by res.Zero 0 s in
@@ -209,20 +209,20 @@ module _ {P Q : Type 0} (carry : BodyOf → P → Q) where
 
   -- ---- conditions
 
-  contends_for_carries : (k : Option ℕ) (t : ℕ) (how : CondEnd) → Carries (contends_for k t how) (contends_for k t how)
+  contends_for_carries : (k : Option ℕ) (t : ℕ) (how : CondEnd) → Carries (reacquires_or_waits k t how) (reacquires_or_waits k t how)
   contends_for_carries None t how s = refl
   contends_for_carries (Some k) t how s =
-      let by : By = record { thread = t; call = call_in (waiting_of s.machine t) } in
+      let by : Caller = record { thread = t; call = call_in (waiting_of s.machine t) } in
       if_carries (is_free s.machine k) (is_free s.machine k) _ _ (returns_from_wait how t (changes_mutex k (taken_by t) s)) (blocks by (for_mutex_again k how) None s) refl
       (returns_from_wait_carries how t (changes_mutex k (taken_by t) s))
       (ap (λ (w : Option Waiting). blocks (record { thread = t; call = call_in w }) (for_mutex_again k how) None (T s)) (waiting_carries carry s.machine t) ∙ blocks_carries by (for_mutex_again k how) None s)
 
   pub contends_carries : (t : ℕ) (how : CondEnd) → Carries (contends t how) (contends t how)
   contends_carries t how s =
-      ap (λ (o : Option Waiting). contends_for (option_and_then (λ (w : Waiting). released_mutex w.wait) o) t how (T s)) (waiting_carries carry s.machine t)
+      ap (λ (o : Option Waiting). reacquires_or_waits (option_and_then (λ (w : Waiting). released_mutex w.wait) o) t how (T s)) (waiting_carries carry s.machine t)
       ∙ contends_for_carries (option_and_then (λ (w : Waiting). released_mutex w.wait) (waiting_of s.machine t)) t how s
 
-  pub waits_carries : (by : By) (c k : ℕ) (due : Option ℕ) → Carries (waits by c k due) (waits by c k due)
+  pub waits_carries : (by : Caller) (c k : ℕ) (due : Option ℕ) → Carries (waits by c k due) (waits by c k due)
   waits_carries by c k due s =
       let blocked = blocks by (for_condition c k) due s in
       if_carries (not (owns s.machine by.thread k)) (not (owns s.machine by.thread k)) _ _ (returns by res.Perm 0 s) _ refl (returns_carries by res.Perm 0 s)
@@ -239,44 +239,44 @@ module _ {P Q : Type 0} (carry : BodyOf → P → Q) where
   signals_best_carries c s =
       ap (λ (w : Option Waiter). signals_waiter w (T s)) (best_carries carry s.machine (waits_on_condition c)) ∙ signals_waiter_carries (best_waiter s.machine (waits_on_condition c)) s
 
-  signals_best_of_carries : (n c : ℕ) → Carries (signals_best_of n c) (signals_best_of n c)
+  signals_best_of_carries : (n c : ℕ) → Carries (signals_best_times n c) (signals_best_times n c)
   signals_best_of_carries zero c s = refl
-  signals_best_of_carries (suc n) c s = ap (signals_best c) (signals_best_of_carries n c s) ∙ signals_best_carries c (signals_best_of n c s)
+  signals_best_of_carries (suc n) c s = ap (signals_best c) (signals_best_of_carries n c s) ∙ signals_best_carries c (signals_best_times n c s)
 
-  pub signals_carries : (by : By) (c : ℕ) → Carries (signals by c) (signals by c)
+  pub signals_carries : (by : Caller) (c : ℕ) → Carries (signals by c) (signals by c)
   signals_carries by c = then_carries (returns by res.Zero 0) (signals_best c) (returns by res.Zero 0) (signals_best c) (returns_carries by res.Zero 0) (signals_best_carries c)
 
-  pub broadcasts_carries : (by : By) (c : ℕ) → Carries (broadcasts by c) (broadcasts by c)
+  pub broadcasts_carries : (by : Caller) (c : ℕ) → Carries (broadcasts by c) (broadcasts by c)
   broadcasts_carries by c s =
       let n = length (waiters s.machine (waits_on_condition c)) in
-      ap₂ (λ (ws : List Waiter) (x : Turn Q). signals_best_of (length ws) c x) (waiters_carry carry s.machine (waits_on_condition c)) (returns_carries by res.Zero 0 s)
+      ap₂ (λ (ws : List Waiter) (x : Turn Q). signals_best_times (length ws) c x) (waiters_carry carry s.machine (waits_on_condition c)) (returns_carries by res.Zero 0 s)
       ∙ signals_best_of_carries n c (returns by res.Zero 0 s)
 
   -- ---- semaphores
 
-  pub blocks_unless_late_carries : (by : By) (wait : Wait) (due : Option ℕ) → Carries (blocks_unless_late by wait due) (blocks_unless_late by wait due)
+  pub blocks_unless_late_carries : (by : Caller) (wait : Wait) (due : Option ℕ) → Carries (blocks_unless_late by wait due) (blocks_unless_late by wait due)
   blocks_unless_late_carries by wait due s =
       if_carries _ (is_late due s.machine) _ _ (returns by res.Timedout 0 s) (blocks by wait due s) (late_carries due s.machine) (returns_carries by res.Timedout 0 s) (blocks_carries by wait due s)
 
-  pub waits_semaphore_carries : (by : By) (k : ℕ) (due : Option ℕ) → Carries (waits_semaphore by k due) (waits_semaphore by k due)
+  pub waits_semaphore_carries : (by : Caller) (k : ℕ) (due : Option ℕ) → Carries (waits_semaphore by k due) (waits_semaphore by k due)
   waits_semaphore_carries by k due s =
       if_carries (nat_lt 0 (semaphore_at s.machine k)) (nat_lt 0 (semaphore_at s.machine k)) _ _ (returns by res.Zero 0 (changes_semaphore k pred s)) (blocks_unless_late by (for_semaphore k) due s) refl
       (returns_carries by res.Zero 0 (changes_semaphore k pred s)) (blocks_unless_late_carries by (for_semaphore k) due s)
 
-  pub tries_semaphore_carries : (by : By) (k : ℕ) → Carries (tries_semaphore by k) (tries_semaphore by k)
+  pub tries_semaphore_carries : (by : Caller) (k : ℕ) → Carries (tries_semaphore by k) (tries_semaphore by k)
   tries_semaphore_carries by k s =
       if_carries (semaphore_at s.machine k == 0) (semaphore_at s.machine k == 0) _ _ (returns by res.Again 0 s) (returns by res.Zero 0 (changes_semaphore k pred s)) refl
       (returns_carries by res.Again 0 s) (returns_carries by res.Zero 0 (changes_semaphore k pred s))
 
-  posts_to_carries : (w : Option Waiter) (by : By) (k : ℕ) → Carries (posts_to w by k) (posts_to w by k)
+  posts_to_carries : (w : Option Waiter) (by : Caller) (k : ℕ) → Carries (wakes_waiter_or_raises_value w by k) (wakes_waiter_or_raises_value w by k)
   posts_to_carries (Some w) by k s = ap (wakes w.thread res.Zero 0) (returns_carries by res.Zero 0 s) ∙ wakes_carries w.thread res.Zero 0 (returns by res.Zero 0 s)
   posts_to_carries None by k s =
       if_carries (semaphore_at s.machine k == semaphore_limit) (semaphore_at s.machine k == semaphore_limit) _ _ (returns by res.Overflow 0 s) (returns by res.Zero 0 (changes_semaphore k suc s)) refl
       (returns_carries by res.Overflow 0 s) (returns_carries by res.Zero 0 (changes_semaphore k suc s))
 
-  pub posts_carries : (by : By) (k : ℕ) → Carries (posts by k) (posts by k)
+  pub posts_carries : (by : Caller) (k : ℕ) → Carries (posts by k) (posts by k)
   posts_carries by k s =
-      ap (λ (w : Option Waiter). posts_to w by k (T s)) (best_carries carry s.machine (waits_on_semaphore k)) ∙ posts_to_carries (best_waiter s.machine (waits_on_semaphore k)) by k s
+      ap (λ (w : Option Waiter). wakes_waiter_or_raises_value w by k (T s)) (best_carries carry s.machine (waits_on_semaphore k)) ∙ posts_to_carries (best_waiter s.machine (waits_on_semaphore k)) by k s
 
   -- ---- signals
 
@@ -288,29 +288,29 @@ module _ {P Q : Type 0} (carry : BodyOf → P → Q) where
   delivers_carries t r s = tells_overrun_carries r.timer (tells (event.Deliver t r.signal r.code r.value) s)
 
   acceptor_carries : (m : Machine P) (r : SignalRecord) → acceptor (M carry m) r ≡ acceptor m r
-  acceptor_carries m r = ap (λ (ws : List Waiter). first_by is_served_before (filter (λ (w : Waiter). goes_to w.thread r.target) ws)) (waiters_carry carry m (accepts r))
+  acceptor_carries m r = ap (λ (ws : List Waiter). first_by is_served_before (filter (λ (w : Waiter). may_go_to w.thread r.target) ws)) (waiters_carry carry m (accepts r))
 
-  generates_for_carries : (w : Option Waiter) (r : SignalRecord) → Carries (generates_for w r) (generates_for w r)
+  generates_for_carries : (w : Option Waiter) (r : SignalRecord) → Carries (is_accepted_or_pends w r) (is_accepted_or_pends w r)
   generates_for_carries (Some w) r s =
       ap (wakes w.thread res.Zero r.signal) (delivers_carries w.thread r s) ∙ wakes_carries w.thread res.Zero r.signal (delivers w.thread r s)
   generates_for_carries None r s = if_carries (is_ignore (action_of s.machine r.signal)) (is_ignore (action_of s.machine r.signal)) _ _ s (becomes_pending r s) refl refl refl
 
   pub generates_carries : (r : SignalRecord) → Carries (generates r) (generates r)
-  generates_carries r s = ap (λ (w : Option Waiter). generates_for w r (T s)) (acceptor_carries s.machine r) ∙ generates_for_carries (acceptor s.machine r) r s
+  generates_carries r s = ap (λ (w : Option Waiter). is_accepted_or_pends w r (T s)) (acceptor_carries s.machine r) ∙ generates_for_carries (acceptor s.machine r) r s
 
-  pub sends_signal_carries : (by : By) (r : SignalRecord) → Carries (sends_signal by r) (sends_signal by r)
+  pub sends_signal_carries : (by : Caller) (r : SignalRecord) → Carries (sends_signal by r) (sends_signal by r)
   sends_signal_carries by r s =
       let back = returns by res.Zero 0 s in
       if_carries _ (has_no_room s.machine r) _ _ (returns by res.Again 0 s) (generates r back)
       (ap (λ (w : Option Waiter). is_none w && not (is_ignore (action_of s.machine r.signal)) && is_full s.machine) (acceptor_carries s.machine r))
       (returns_carries by res.Again 0 s) (ap (generates r) (returns_carries by res.Zero 0 s) ∙ generates_carries r back)
 
-  waits_ticks_carries : (n : Option ℕ) (by : By) (set : ℕ) → Carries (waits_ticks n by set) (waits_ticks n by set)
+  waits_ticks_carries : (n : Option ℕ) (by : Caller) (set : ℕ) → Carries (blocks_for_signal n by set) (blocks_for_signal n by set)
   waits_ticks_carries None by set s = blocks_carries by (for_signal set) None s
   waits_ticks_carries (Some zero) by set s = returns_carries by res.Again 0 s
   waits_ticks_carries (Some (suc n)) by set s = blocks_carries by (for_signal set) (Some (s.machine.now + suc n)) s
 
-  pub waits_signal_on_carries : (r : Option SignalRecord) (n : Option ℕ) (by : By) (set : ℕ) → Carries (waits_signal_on r n by set) (waits_signal_on r n by set)
+  pub waits_signal_on_carries : (r : Option SignalRecord) (n : Option ℕ) (by : Caller) (set : ℕ) → Carries (takes_signal_or_waits r n by set) (takes_signal_or_waits r n by set)
   waits_signal_on_carries (Some r) n by set s =
       let out = changes_pending (without_record r) s in
       ap (returns by res.Zero r.signal) (delivers_carries by.thread r out) ∙ returns_carries by res.Zero r.signal (delivers by.thread r out)
@@ -318,7 +318,7 @@ module _ {P Q : Type 0} (carry : BodyOf → P → Q) where
 
   -- ---- time
 
-  pub sleeps_until_carries : (by : By) (at : ℕ) → Carries (sleeps_until by at) (sleeps_until by at)
+  pub sleeps_until_carries : (by : Caller) (at : ℕ) → Carries (sleeps_until by at) (sleeps_until by at)
   sleeps_until_carries by at s =
       if_carries (has_passed at s.machine) (has_passed at s.machine) _ _ (returns by res.Zero 0 s) (blocks_unordered by for_time (Some at) s) refl
       (returns_carries by res.Zero 0 s) (blocks_unordered_carries by for_time (Some at) s)
@@ -350,24 +350,24 @@ module _ {P Q : Type 0} (carry : BodyOf → P → Q) where
   takes_over_carries None q s = refl
   takes_over_carries (Some w) q s = enters_carries q (message_of w.waiting.wait) (wakes w.thread res.Zero 0) (wakes w.thread res.Zero 0) (wakes_carries w.thread res.Zero 0) s
 
-  blocks_unless_nonblock_carries : (by : By) (q : ℕ) (wait : Wait) (due : Option ℕ) → Carries (blocks_unless_nonblock by q wait due) (blocks_unless_nonblock by q wait due)
+  blocks_unless_nonblock_carries : (by : Caller) (q : ℕ) (wait : Wait) (due : Option ℕ) → Carries (blocks_unless_nonblock by q wait due) (blocks_unless_nonblock by q wait due)
   blocks_unless_nonblock_carries by q wait due s =
       if_carries (queue_at s.machine q).is_nonblock (queue_at s.machine q).is_nonblock _ _ (returns by res.Again 0 s) (blocks_unless_late by wait due s) refl
       (returns_carries by res.Again 0 s) (blocks_unless_late_carries by wait due s)
 
-  sends_to_carries : (w : Option Waiter) (by : By) (q : ℕ) (x : Message) (due : Option ℕ) → Carries (sends_to w by q x due) (sends_to w by q x due)
+  sends_to_carries : (w : Option Waiter) (by : Caller) (q : ℕ) (x : Message) (due : Option ℕ) → Carries (reaches_receiver_or_queue w by q x due) (reaches_receiver_or_queue w by q x due)
   sends_to_carries (Some w) by q x due s = ap (wakes w.thread res.Zero x.value) (returns_carries by res.Zero 0 s) ∙ wakes_carries w.thread res.Zero x.value (returns by res.Zero 0 s)
   sends_to_carries None by q x due s =
       if_carries (has_room (queue_at s.machine q)) (has_room (queue_at s.machine q)) _ _ (enters q x (returns by res.Zero 0) s) (blocks_unless_nonblock by q (for_room q x) due s) refl
       (enters_carries q x (returns by res.Zero 0) (returns by res.Zero 0) (returns_carries by res.Zero 0) s) (blocks_unless_nonblock_carries by q (for_room q x) due s)
 
-  pub sends_message_carries : (by : By) (q len : ℕ) (x : Message) (due : Option ℕ) → Carries (sends_message by q len x due) (sends_message by q len x due)
+  pub sends_message_carries : (by : Caller) (q len : ℕ) (x : Message) (due : Option ℕ) → Carries (sends_message by q len x due) (sends_message by q len x due)
   sends_message_carries by q len x due s =
-      if_carries (nat_lt (queue_at s.machine q).longest len) (nat_lt (queue_at s.machine q).longest len) _ _ (returns by res.Msgsize 0 s) (sends_to (best_waiter s.machine (waits_to_receive q)) by q x due s) refl
+      if_carries (nat_lt (queue_at s.machine q).longest len) (nat_lt (queue_at s.machine q).longest len) _ _ (returns by res.Msgsize 0 s) (reaches_receiver_or_queue (best_waiter s.machine (waits_to_receive q)) by q x due s) refl
       (returns_carries by res.Msgsize 0 s)
-      (ap (λ (w : Option Waiter). sends_to w by q x due (T s)) (best_carries carry s.machine (waits_to_receive q)) ∙ sends_to_carries (best_waiter s.machine (waits_to_receive q)) by q x due s)
+      (ap (λ (w : Option Waiter). reaches_receiver_or_queue w by q x due (T s)) (best_carries carry s.machine (waits_to_receive q)) ∙ sends_to_carries (best_waiter s.machine (waits_to_receive q)) by q x due s)
 
-  receives_on_carries : (n : Option ℕ) (by : By) (q : ℕ) (due : Option ℕ) → Carries (receives_on n by q due) (receives_on n by q due)
+  receives_on_carries : (n : Option ℕ) (by : Caller) (q : ℕ) (due : Option ℕ) → Carries (takes_message_or_blocks n by q due) (takes_message_or_blocks n by q due)
   receives_on_carries (Some n) by q due s =
       let value = value_at (queue_at s.machine q).messages n in
       let out = changes_queue q (without_message n) s in
@@ -375,10 +375,10 @@ module _ {P Q : Type 0} (carry : BodyOf → P → Q) where
       ∙ takes_over_carries (best_waiter s.machine (waits_to_send q)) q (returns by res.Zero value out)
   receives_on_carries None by q due s = blocks_unless_nonblock_carries by q (for_message q) due s
 
-  pub receives_message_carries : (by : By) (q : ℕ) (due : Option ℕ) → Carries (receives_message by q due) (receives_message by q due)
+  pub receives_message_carries : (by : Caller) (q : ℕ) (due : Option ℕ) → Carries (receives_message by q due) (receives_message by q due)
   receives_message_carries by q due s = receives_on_carries (next_message (queue_at s.machine q).messages) by q due s
 
-  pub asks_notification_carries : (by : By) (q : ℕ) (r : Registration) → Carries (asks_notification by q r) (asks_notification by q r)
+  pub asks_notification_carries : (by : Caller) (q : ℕ) (r : Registration) → Carries (asks_notification by q r) (asks_notification by q r)
   asks_notification_carries by q r s =
       if_carries (is_notifying s.machine q) (is_notifying s.machine q) _ _ (returns by res.Busy 0 s) (returns by res.Zero 0 (changes_queue q (registered (Some r)) s)) refl
       (returns_carries by res.Busy 0 s) (returns_carries by res.Zero 0 (changes_queue q (registered (Some r)) s))

@@ -25,15 +25,15 @@ use Rattle.machine_rules.specs.Lists.{first_by}
 use Rattle.machine_rules.specs.Bodies.{Bodies, Seen}
 use Rattle.machine_rules.specs.State.{Frame, Machine, SignalRecord, Thread, Waiting}
 use Rattle.machine_rules.specs.Threads.{action_of, is_dormant, is_live, is_main, is_signal, number_of, thread_at, thread_numbers, top_left, waiting_of}
-use Rattle.machine_rules.specs.Turns.{By, Turn, becomes, changes, changes_pending, moves, returns, settles_since, tells, turn_of}
+use Rattle.machine_rules.specs.Turns.{Caller, Turn, becomes, changes, changes_pending, moves, returns, settles_since, tells, turn_of}
 use Rattle.machine_rules.specs.Servers.{activates, has_high, server_of}
 use Rattle.machine_rules.specs.Waking.{cancelled_value, ending_with, new_frame, on_top, started, starts}
-use Rattle.machine_rules.specs.Signals.{delivers, goes_to, is_kill, is_selected_before, record_of_kill, record_of_sigqueue, selected, sends_signal, with_signals, without_record, without_signals}
+use Rattle.machine_rules.specs.Signals.{delivers, may_go_to, is_kill, is_selected_before, record_of_kill, record_of_sigqueue, selected, sends_signal, with_signals, without_record, without_signals}
 use Rattle.machine_rules.specs.Delivery.{acts, can_take, defers_handlers, interrupts, may_be_interrupted, sweeps, sweeps_all, sweeps_thread, taken_by_sweep, takes_record}
 use Rattle.machine_rules.specs.Lives.{creates, exits, inherited_mask}
 use Rattle.machine_rules.specs.Cancellation.{is_cancellation_point, is_cancelled, pops_cleanup, request_acts, runs_cleanup, runs_cleanup_if, without_cleanup}
 use Rattle.machine_rules.specs.Calls.{call_effect, makes_call, unit_effect}
-use Rattle.machine_rules.specs.DueItems.{due_items, due_of, first_item, handles, has_come, instant, item_bound, item_done, item_then, items_done, next_item, refill_due, start_due, start_in, timeout_due, times_out}
+use Rattle.machine_rules.specs.DueItems.{due_items, due_of_kind, first_item, handles, has_come, instant, item_bound, item_done, item_then, items_done, next_item, refill_due, start_due, start_in, timeout_due, times_out}
 use Rattle.machine_rules.specs.Dispatch.{dispatches, head}
 use Rattle.machine_rules.specs.Units.{Following, InUnit, advances, advancing, begins_finish, choice, cleaning_up, continuing, finishing, following, in_cleanup, in_unit, takes_unit}
 use Rattle.machine_rules.specs.Ticks.{completes, completes_at, frames_charged, goes_on, later, runs, runs_head, tick, tick_charged, tick_ends, unit_ticked, unless_killed}
@@ -65,7 +65,7 @@ module _ {P Q : Type 0} (carry : BodyOf → P → Q) (p : Bodies P) (q : Bodies 
   mask_carried : (th : Thread P) → inherited_mask (C carry th) ≡ inherited_mask th
   mask_carried th = ap (λ (k : FrameKind). if is_signal k then every_signal else th.mask) (kind_carried carry th.frames)
 
-  creates_carries : (by : By) (u : ℕ) → Carries carry (creates q by u) (creates p by u)
+  creates_carries : (by : Caller) (u : ℕ) → Carries carry (creates q by u) (creates p by u)
   creates_carries by u s =
       let mask = inherited_mask (thread_at s.machine by.thread) in
       let back = returns by res.Zero 0 s in
@@ -82,7 +82,7 @@ module _ {P Q : Type 0} (carry : BodyOf → P → Q) (p : Bodies P) (q : Bodies 
   runs_cleanup_if_carries true cleanups th = runs_cleanup_carries cleanups th
   runs_cleanup_if_carries false cleanups th = refl
 
-  pops_cleanup_carries : (by : By) (runs : Bool) → Carries carry (pops_cleanup q by runs) (pops_cleanup p by runs)
+  pops_cleanup_carries : (by : Caller) (runs : Bool) → Carries carry (pops_cleanup q by runs) (pops_cleanup p by runs)
   pops_cleanup_carries by runs s =
       let t = by.thread in
       let cleanups = (thread_at s.machine t).cleanups in
@@ -111,7 +111,7 @@ module _ {P Q : Type 0} (carry : BodyOf → P → Q) (p : Bodies P) (q : Bodies 
 
   can_take_carries : (m : Machine P) (t : ℕ) (r : SignalRecord) → can_take (M carry m) t r ≡ can_take m t r
   can_take_carries m t r =
-      ap₂ (λ (mask : ℕ) (w : Option Waiting). goes_to t r.target && not (has_signal mask r.signal) && (is_kill (action_of m r.signal) || not (option_map_or (λ (w : Waiting). defers_handlers w.wait) w false)))
+      ap₂ (λ (mask : ℕ) (w : Option Waiting). may_go_to t r.target && not (has_signal mask r.signal) && (is_kill (action_of m r.signal) || not (option_map_or (λ (w : Waiting). defers_handlers w.wait) w false)))
       (ap (λ (th : Thread Q). th.mask) (thread_carries carry m t)) (waiting_carries carry m t)
 
   interrupted_carried : (th : Thread P) → may_be_interrupted (C carry th) ≡ may_be_interrupted th
@@ -167,11 +167,11 @@ module _ {P Q : Type 0} (carry : BodyOf → P → Q) (p : Bodies P) (q : Bodies 
   due_items_carry m =
       let ns = numbers_carry carry m in
       let ns' = thread_numbers (M carry m) in
-      let refills_first : due_of item.Refill refill_due ns' (M carry m) ≡ due_of item.Refill refill_due (thread_numbers m) m =
+      let refills_first : due_of_kind item.Refill refill_due ns' (M carry m) ≡ due_of_kind item.Refill refill_due (thread_numbers m) m =
       due_of_carries m item.Refill (refill_due (M carry m)) (refill_due m) (λ n. ap (option_and_then next_due) (server_carries carry m n)) ns' (thread_numbers m) ns in
-      let starts_next : due_of item.Start start_due ns' (M carry m) ≡ due_of item.Start start_due (thread_numbers m) m =
+      let starts_next : due_of_kind item.Start start_due ns' (M carry m) ≡ due_of_kind item.Start start_due (thread_numbers m) m =
       due_of_carries m item.Start (start_due (M carry m)) (start_due m) (λ n. ap start_in (status_carries carry m n)) ns' (thread_numbers m) ns in
-      let timeouts_next : due_of item.Timeout timeout_due ns' (M carry m) ≡ due_of item.Timeout timeout_due (thread_numbers m) m =
+      let timeouts_next : due_of_kind item.Timeout timeout_due ns' (M carry m) ≡ due_of_kind item.Timeout timeout_due (thread_numbers m) m =
       due_of_carries m item.Timeout (timeout_due (M carry m)) (timeout_due m) (λ n. ap (option_and_then (λ (w : Waiting). w.due)) (waiting_carries carry m n)) ns' (thread_numbers m) ns in
       cc (refills_first, starts_next, timeouts_next)
 
@@ -194,7 +194,7 @@ module _ {P Q : Type 0} (carry : BodyOf → P → Q) (p : Bodies P) (q : Bodies 
 
   -- ---- calls
 
-  call_effect_carries : (by : By) (call' : Call) → Carries carry (call_effect q by call') (call_effect p by call')
+  call_effect_carries : (by : Caller) (call' : Call) → Carries carry (call_effect q by call') (call_effect p by call')
   call_effect_carries by call.Yield s = returns_carries carry by res.Zero 0 (moves by.thread s)
   call_effect_carries by (call.Create u) s = creates_carries by u s
   call_effect_carries by (call.Join u) s = joins_carries carry by u s
@@ -252,9 +252,9 @@ module _ {P Q : Type 0} (carry : BodyOf → P → Q) (p : Bodies P) (q : Bodies 
   call_effect_carries by (call.SigmaskUnblock set) s = sets_mask_carries carry by (without_signals set) s
   call_effect_carries by (call.SigmaskSet set) s = sets_mask_carries carry by (λ (mask : ℕ). set) s
   call_effect_carries by (call.Sigwaitinfo set) s =
-      waits_signal_on_carries carry (selected s.machine (λ (r : SignalRecord). has_signal set r.signal && goes_to by.thread r.target)) None by set s
+      waits_signal_on_carries carry (selected s.machine (λ (r : SignalRecord). has_signal set r.signal && may_go_to by.thread r.target)) None by set s
   call_effect_carries by (call.Sigtimedwait set n) s =
-      waits_signal_on_carries carry (selected s.machine (λ (r : SignalRecord). has_signal set r.signal && goes_to by.thread r.target)) (Some n) by set s
+      waits_signal_on_carries carry (selected s.machine (λ (r : SignalRecord). has_signal set r.signal && may_go_to by.thread r.target)) (Some n) by set s
   call_effect_carries by (call.MqSend queue len prio v) s =
       ap (λ (n : ℕ). call_effect q by (call.MqSend queue len prio (operand.Num n)) (T carry s)) (number_carries carry s.machine by.thread v)
       ∙ sends_message_carries carry by queue len (record { priority = prio; value = number_of s.machine by.thread v }) None s
@@ -269,7 +269,7 @@ module _ {P Q : Type 0} (carry : BodyOf → P → Q) (p : Bodies P) (q : Bodies 
       ap (λ (n : ℕ). call_effect q by (call.MqNotify queue signal (operand.Num n)) (T carry s)) (number_carries carry s.machine by.thread v)
       ∙ asks_notification_carries carry by queue (record { signal = signal; value = number_of s.machine by.thread v }) s
 
-  makes_call_carries : (by : By) → Carries carry (makes_call q by) (makes_call p by)
+  makes_call_carries : (by : Caller) → Carries carry (makes_call q by) (makes_call p by)
   makes_call_carries by s =
       if_carries carry _ (is_cancellation_point by.call && request_acts (thread_at s.machine by.thread)) _ _ (is_cancelled by.thread s) (call_effect p by by.call s)
       (ap (λ (th : Thread Q). is_cancellation_point by.call && request_acts th) (thread_carries carry s.machine by.thread))

@@ -14,10 +14,10 @@ use Rattle.machine_rules.specs.State.{Machine, Wait, for_mutex_again}
 use Rattle.machine_rules.specs.Threads.{mutex_at, thread_at, waiting_of}
 use Rattle.machine_rules.specs.Waiters.{Waiter, best_waiter}
 use Rattle.machine_rules.specs.CallNames.{name_of}
-use Rattle.machine_rules.specs.Turns.{By, Turn, answered, changes, changes_mutex, moves, returns, tells, ◌▷◌}
+use Rattle.machine_rules.specs.Turns.{Caller, Turn, answered, changes, changes_mutex, moves, returns, tells, ◌▷◌}
 use Rattle.machine_rules.specs.Servers.{activates_if, activates_if_high, activates_server, with_server}
 use Rattle.machine_rules.specs.Waking.{call_in, cancelled_value, ending_with, wakes, wakes_cancelled, wakes_telling, woken}
-use Rattle.machine_rules.specs.Mutexes.{LockAnswer, counted_down, counted_up, counts, hands_over, locks, locks_on, lock_answer, must_wait, owns, refused, releases, returns_from_wait, taken_by, takes, unlocks, waits_for_mutex, wakes_owner}
+use Rattle.machine_rules.specs.Mutexes.{LockAnswer, counted_down, counted_up, counts, hands_over, locks, carries_out_lock, lock_answer, must_wait, owns, refused, releases, returns_from_wait, taken_by, takes, unlocks, waits_for_mutex, wakes_owner}
 
 module _ {P : Type 0} where
   -- the turn with that told before it
@@ -43,7 +43,7 @@ module _ {P : Type 0} where
   pub tells_behind : (e : Event) → AddsBehind (tells e)
   tells_behind e told s = ap (λ es. record s { events = es }) (append_assoc told s.events (record { time = s.machine.now; event = e } ∷ []))
 
-  pub returns_behind : (by : By) (r : Res) (value : ℕ) → AddsBehind (returns by r value)
+  pub returns_behind : (by : Caller) (r : Res) (value : ℕ) → AddsBehind (returns by r value)
   returns_behind by r value told s = tells_behind (event.Return by.thread (name_of by.call) r value) told (changes by.thread (answered r value) s)
 
   pub activates_server_behind : (t : ℕ) (server : Option ServerState) → AddsBehind (activates_server t server)
@@ -65,13 +65,13 @@ module _ {P : Type 0} where
   pub wakes_cancelled_behind : (t : ℕ) → AddsBehind (wakes_cancelled t)
   wakes_cancelled_behind t told s = ap (changes t (ending_with cancelled_value)) (wakes_telling_behind (event.Cancel t) t res.Zero 0 told s)
 
-  pub locks_on_behind : (a : LockAnswer) (by : By) (k : ℕ) (due : Option ℕ) → AddsBehind (locks_on a by k due)
+  pub locks_on_behind : (a : LockAnswer) (by : Caller) (k : ℕ) (due : Option ℕ) → AddsBehind (carries_out_lock a by k due)
   locks_on_behind (refused r) by k due told s = returns_behind by r 0 told s
   locks_on_behind counts by k due told s = returns_behind by res.Zero 0 told (changes_mutex k counted_up s)
   locks_on_behind takes by k due told s = returns_behind by res.Zero 0 told (changes_mutex k (taken_by by.thread) s)
   locks_on_behind must_wait by k due told s = refl
 
-  pub locks_behind : (by : By) (k : ℕ) (due : Option ℕ) → AddsBehind (locks by k due)
+  pub locks_behind : (by : Caller) (k : ℕ) (due : Option ℕ) → AddsBehind (locks by k due)
   locks_behind by k due told s = locks_on_behind (lock_answer s.machine by.thread k due) by k due told s
 
   pub returns_from_wait_behind : (how : CondEnd) (t : ℕ) → AddsBehind (returns_from_wait how t)
@@ -90,7 +90,7 @@ module _ {P : Type 0} where
   pub releases_behind : (k : ℕ) → AddsBehind (releases k)
   releases_behind k told s = hands_over_behind (best_waiter s.machine (waits_for_mutex k)) k told s
 
-  pub unlocks_behind : (by : By) (k : ℕ) → AddsBehind (unlocks by k)
+  pub unlocks_behind : (by : Caller) (k : ℕ) → AddsBehind (unlocks by k)
   unlocks_behind by k =
       if_behind (λ m. not (owns m by.thread k)) (returns by res.Perm 0)
       (λ s. if nat_lt 1 (mutex_at s.machine k).count then (s ▷ returns by res.Zero 0 ▷ changes_mutex k counted_down) else (s ▷ returns by res.Zero 0 ▷ releases k))

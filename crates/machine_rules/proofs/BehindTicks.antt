@@ -19,13 +19,13 @@ use Rattle.machine_rules.specs.Bodies.{Bodies}
 use Rattle.machine_rules.specs.State.{Machine, SignalRecord, Wait, Waiting, for_condition, for_signal, for_time}
 use Rattle.machine_rules.specs.Threads.{action_of, can_run, thread_at, thread_numbers, timer_at, top_left, waiting_of}
 use Rattle.machine_rules.specs.Turns.{Turn, becomes, changes, changes_pending, changes_timer, settles_since, tells}
-use Rattle.machine_rules.specs.Servers.{activates_if, amount_of, has_high, plans, plans_for, refills_for, regains_high, with_server}
+use Rattle.machine_rules.specs.Servers.{activates_if, amount_of, has_high, plans, plans_server, refills_server, regains_high, with_server}
 use Rattle.machine_rules.specs.Waking.{new_frame, on_top}
 use Rattle.machine_rules.specs.Mutexes.{moves_unless_boosted}
 use Rattle.machine_rules.specs.Signals.{delivers, without_record}
 use Rattle.machine_rules.specs.Timers.{armed_again, expires, is_pending_from, overrun_once_more, record_of_timer, signals_expiry}
 use Rattle.machine_rules.specs.Delivery.{acts, interrupts, sweeps, sweeps_all, sweeps_thread, taken_by_sweep, takes_record, ticks_left}
-use Rattle.machine_rules.specs.DueItems.{handles, instant, item_bound, item_done, item_then, items_done, next_item, times_out, times_out_of}
+use Rattle.machine_rules.specs.DueItems.{handles, instant, item_bound, item_done, item_then, items_done, next_item, times_out, wait_times_out}
 use Rattle.machine_rules.specs.Dispatch.{dispatch_event, dispatch_of, dispatches, head, is_same, tells_unless}
 use Rattle.machine_rules.specs.Units.{InUnit, in_unit}
 use Rattle.machine_rules.specs.Ticks.{TickEnd, completes_at, ends_tick, exhausting, goes_on, later, nothing, planning, runs, runs_head, slicing, tick, tick_charged, tick_end, tick_ends, unit_ticked, unless_killed, without_slice}
@@ -35,7 +35,7 @@ use Rattle.machine_rules.proofs.BehindCalls.{contends_behind, delivers_behind, g
 module _ {P : Type 0} where
   -- ---- items
 
-  pub refills_for_behind : (t : ℕ) (server : Option ServerState) → AddsBehind {P = P} (refills_for t server)
+  pub refills_for_behind : (t : ℕ) (server : Option ServerState) → AddsBehind {P = P} (refills_server t server)
   refills_for_behind t None told s = refl
   refills_for_behind t (Some server) told s =
       let e = event.Refill t (amount_of (oldest_pending server)) (refill server).capacity in
@@ -43,7 +43,7 @@ module _ {P : Type 0} where
       let fed = changes t (with_server refill) s in
       ap (activates_if regains t) (tells_behind e told fed) ∙ activates_if_behind regains t told (tells e fed)
 
-  pub times_out_of_behind : (wait : Wait) (t : ℕ) → AddsBehind {P = P} (times_out_of wait t)
+  pub times_out_of_behind : (wait : Wait) (t : ℕ) → AddsBehind {P = P} (wait_times_out wait t)
   times_out_of_behind (for_condition c k) t told s = contends_behind t cond_end.Timedout told s
   times_out_of_behind for_time t told s = wakes_behind t res.Zero 0 told s
   times_out_of_behind (for_signal set) t told s = wakes_behind t res.Again 0 told s
@@ -74,7 +74,7 @@ module _ {P : Type 0} where
   dispatches_behind to told s =
       ap (becomes (λ m. record m { last = dispatch_of to })) (tells_unless_behind (is_same s.machine.last to) (dispatch_event s.machine to) told s)
 
-  pub plans_for_behind : (t : ℕ) (server : Option ServerState) → AddsBehind {P = P} (plans_for t server)
+  pub plans_for_behind : (t : ℕ) (server : Option ServerState) → AddsBehind {P = P} (plans_server t server)
   plans_for_behind t None told s = refl
   plans_for_behind t (Some server) told s = tells_behind (event.Plan t (replenishment server).amount (replenishment server).due) told (changes t (with_server plan) s)
 

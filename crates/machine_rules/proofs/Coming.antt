@@ -17,13 +17,13 @@ use Rattle.machine_rules.specs.Bodies.{Bodies}
 use Rattle.machine_rules.specs.State.{Machine, SignalRecord, Thread, Timer, Wait, Waiting, for_mutex_again}
 use Rattle.machine_rules.specs.Threads.{action_of, can_run, mutex_at, no_thread, no_timer, thread_at, thread_in, timer_at, waiting_in, waiting_of}
 use Rattle.machine_rules.specs.Waiters.{Waiter}
-use Rattle.machine_rules.specs.Turns.{By, Turn, changes, changes_mutex, changes_timer, moves, tells, ◌▷◌}
+use Rattle.machine_rules.specs.Turns.{Caller, Turn, changes, changes_mutex, changes_timer, moves, tells, ◌▷◌}
 use Rattle.machine_rules.specs.CallNames.{name_of}
-use Rattle.machine_rules.specs.Servers.{activates_if, activates_server, amount_of, high_server, refills_for, regains_high, server_of, with_server}
+use Rattle.machine_rules.specs.Servers.{activates_if, activates_server, amount_of, high_server, refills_server, regains_high, server_of, with_server}
 use Rattle.machine_rules.specs.Waking.{blocks, call_in, cancelled_value, ending_with, put_to_wait, started, starts, wakes, wakes_cancelled, wakes_telling, woken}
 use Rattle.machine_rules.specs.Mutexes.{returns_from_wait, taken_by}
-use Rattle.machine_rules.specs.Conditions.{contends_for}
-use Rattle.machine_rules.specs.Signals.{acceptor, becomes_pending, delivers, generates, generates_for, is_ignore, tells_overrun, with_overrun_told}
+use Rattle.machine_rules.specs.Conditions.{reacquires_or_waits}
+use Rattle.machine_rules.specs.Signals.{acceptor, becomes_pending, delivers, generates, is_accepted_or_pends, is_ignore, tells_overrun, with_overrun_told}
 use Rattle.machine_rules.specs.Timers.{armed_again, expires, is_pending_from, next_expiry, overrun_once_more, record_of_timer}
 use Rattle.machine_rules.specs.DueItems.{has_come, pending_count, start_in}
 use Rattle.machine_rules.proofs.Kept.{Kept}
@@ -138,13 +138,13 @@ module _ {P : Type 0} where
   returns_from_wait_falls cond_end.Timedout t s = wakes_falls t res.Timedout 0 s
   returns_from_wait_falls cond_end.Cancelled t s = cancelled_falls t s
 
-  blocks_falls : (by : By) (wait : Wait) (s : Turn P) → coming (blocks by wait None s).machine + owes (thread_at s.machine by.thread) ≤ coming s.machine
+  blocks_falls : (by : Caller) (wait : Wait) (s : Turn P) → coming (blocks by wait None s).machine + owes (thread_at s.machine by.thread) ≤ coming s.machine
   blocks_falls by wait s =
       omega (arith, changed_loads by.thread (put_to_wait (record { wait = wait; serial = s.machine.next_serial; due = None; call = by.call })) owes (λ th. omega arith) s.machine.threads)
 
-  pub contends_falls : (k t : ℕ) (how : CondEnd) (s : Turn P) → coming (contends_for (Some k) t how s).machine + owes (thread_at s.machine t) ≤ coming s.machine
+  pub contends_falls : (k t : ℕ) (how : CondEnd) (s : Turn P) → coming (reacquires_or_waits (Some k) t how s).machine + owes (thread_at s.machine t) ≤ coming s.machine
   contends_falls k t how s =
-      let by : By = record { thread = t; call = call_in (waiting_of s.machine t) } in
+      let by : Caller = record { thread = t; call = call_in (waiting_of s.machine t) } in
       if_falls (is_none (mutex_at s.machine k).owner) (s ▷ changes_mutex k (taken_by t) ▷ returns_from_wait how t) (blocks by (for_mutex_again k how) None s)
       (owes (thread_at s.machine t)) (coming s.machine) (returns_from_wait_falls how t (changes_mutex k (taken_by t) s)) (blocks_falls by (for_mutex_again k how) s)
 
@@ -161,7 +161,7 @@ module _ {P : Type 0} where
 
   -- ---- a refill: a pending replenishment is gone
 
-  pub refills_falls : (t : ℕ) (o : Option ServerState) (s : Turn P) → (thread_at s.machine t).server ≡ o → coming (refills_for t o s).machine + refillable o ≤ coming s.machine
+  pub refills_falls : (t : ℕ) (o : Option ServerState) (s : Turn P) → (thread_at s.machine t).server ≡ o → coming (refills_server t o s).machine + refillable o ≤ coming s.machine
   refills_falls t None s e = omega arith
   refills_falls t (Some server) s e =
       let fed = tells (event.Refill t (amount_of (oldest_pending server)) (refill server).capacity) (changes t (with_server refill) s) in
@@ -179,7 +179,7 @@ module _ {P : Type 0} where
   overrun_falls None s = omega arith
   overrun_falls (Some k) s = omega (arith, changed_alarms s.machine.now k with_overrun_told (λ x. 0) (λ x. omega arith) s.machine.timers)
 
-  generates_for_falls : (w : Option Waiter) (r : SignalRecord) (s : Turn P) → coming (generates_for w r s).machine ≤ coming s.machine
+  generates_for_falls : (w : Option Waiter) (r : SignalRecord) (s : Turn P) → coming (is_accepted_or_pends w r s).machine ≤ coming s.machine
   generates_for_falls (Some w) r s =
       omega (arith, wakes_falls w.thread res.Zero r.signal (delivers w.thread r s), overrun_falls r.timer (tells (event.Deliver w.thread r.signal r.code r.value) s))
   generates_for_falls None r s = omega (arith, if_falls (is_ignore (action_of s.machine r.signal)) s (becomes_pending r s) 0 (coming s.machine) (omega arith) (omega arith))
@@ -203,7 +203,7 @@ module _ {P : Type 0} where
   if_due true x y k d h g = h
   if_due false x y k d h g = g
 
-  generates_for_due : (w : Option Waiter) (r : SignalRecord) (k : ℕ) (s : Turn P) → (timer_at (generates_for w r s).machine k).due ≡ (timer_at s.machine k).due
+  generates_for_due : (w : Option Waiter) (r : SignalRecord) (k : ℕ) (s : Turn P) → (timer_at (is_accepted_or_pends w r s).machine k).due ≡ (timer_at s.machine k).due
   generates_for_due (Some w) r k s =
       ap (λ (ks : List Timer). (slice_index_or ks k no_timer).due) (wakes_timers w.thread res.Zero r.signal (delivers w.thread r s))
       ∙ overrun_due r.timer k (tells (event.Deliver w.thread r.signal r.code r.value) s)

@@ -13,9 +13,9 @@ use Rattle.machine_rules.specs.Bodies.{Bodies}
 use Rattle.machine_rules.specs.State.{Machine, Wait, Waiting, for_condition, for_signal, for_time}
 use Rattle.machine_rules.specs.Threads.{can_run, thread_at, timer_at, waiting_of}
 use Rattle.machine_rules.specs.Turns.{Turn, changes, settles_since, tells, turn_of}
-use Rattle.machine_rules.specs.Servers.{amount_of, refills_for, regains_high, with_server}
+use Rattle.machine_rules.specs.Servers.{amount_of, refills_server, regains_high, with_server}
 use Rattle.machine_rules.specs.Timers.{is_pending_from, record_of_timer, signals_expiry}
-use Rattle.machine_rules.specs.DueItems.{due_items, first_item, handles, instant, item_bound, item_done, item_then, items_done, next_item, times_out, times_out_of}
+use Rattle.machine_rules.specs.DueItems.{due_items, first_item, handles, instant, item_bound, item_done, item_then, items_done, next_item, times_out, wait_times_out}
 use Rattle.machine_rules.specs.Dispatch.{dispatch_event, dispatches, head, is_same, tells_unless}
 use Rattle.machine_rules.specs.Ticks.{goes_on, runs_head, tick, unless_killed}
 use Rattle.machine_rules.specs.Runs.{tick_of}
@@ -25,13 +25,13 @@ use Rattle.machine_rules.proofs.Instants.{runs_now, sweeps_now}
 
 -- ---- an item leaves the instant
 
-refills_for_kept : {P : Type 0} (t : ℕ) (server : Option ServerState) (s : Turn P) → kept (refills_for t server s) ≡ kept s
+refills_for_kept : {P : Type 0} (t : ℕ) (server : Option ServerState) (s : Turn P) → kept (refills_server t server s) ≡ kept s
 refills_for_kept t None s = refl
 refills_for_kept t (Some server) s =
     let e = event.Refill t (amount_of (oldest_pending server)) (refill server).capacity in
     activates_if_kept (regains_high server && can_run s.machine t) t (tells e (changes t (with_server refill) s))
 
-times_out_of_kept : {P : Type 0} (wait : Wait) (t : ℕ) (s : Turn P) → kept (times_out_of wait t s) ≡ kept s
+times_out_of_kept : {P : Type 0} (wait : Wait) (t : ℕ) (s : Turn P) → kept (wait_times_out wait t s) ≡ kept s
 times_out_of_kept (for_condition c k) t s = contends_kept t cond_end.Timedout s
 times_out_of_kept for_time t s = wakes_kept t res.Zero 0 s
 times_out_of_kept (for_signal set) t s = wakes_kept t res.Again 0 s

@@ -12,7 +12,7 @@ use Rattle.machine_rules.specs.State.{Machine, SignalRecord, Waiting}
 use Rattle.machine_rules.specs.Threads.{action_of, can_run, thread_at, thread_numbers, top_left, waiting_of}
 use Rattle.machine_rules.specs.Settling.{settled}
 use Rattle.machine_rules.specs.Turns.{Turn, becomes, changes, changes_pending, settles_since, tells}
-use Rattle.machine_rules.specs.Servers.{has_high, plans, plans_for}
+use Rattle.machine_rules.specs.Servers.{has_high, plans, plans_server}
 use Rattle.machine_rules.specs.Signals.{without_record}
 use Rattle.machine_rules.specs.Delivery.{acts, interrupts, sweeps, sweeps_all, sweeps_thread, taken_by_sweep, takes_record, ticks_left}
 use Rattle.machine_rules.specs.Units.{InUnit, in_unit}
@@ -34,7 +34,7 @@ pub interrupts_kept : {P : Type 0} (w : Option Waiting) (t : ℕ) (s : Turn P) �
 interrupts_kept None t s = refl
 interrupts_kept (Some w) t s = wakes_kept t res.Intr (ticks_left w.call w.due s.machine.now) s
 
-pub plans_kept : {P : Type 0} (t : ℕ) (server : Option ServerState) (s : Turn P) → kept (plans_for t server s) ≡ kept s
+pub plans_kept : {P : Type 0} (t : ℕ) (server : Option ServerState) (s : Turn P) → kept (plans_server t server s) ≡ kept s
 plans_kept t None s = refl
 plans_kept t (Some server) s = refl
 

@@ -18,10 +18,10 @@ use Rattle.machine_rules.specs.State.{Machine, SignalRecord, Thread, Timer, Wait
 use Rattle.machine_rules.specs.Threads.{action_of, thread_at, thread_numbers, timer_at, waiting_in, waiting_of}
 use Rattle.machine_rules.specs.Turns.{Turn, changes_pending, settles_since, tells}
 use Rattle.machine_rules.specs.Waking.{new_frame, on_top}
-use Rattle.machine_rules.specs.Conditions.{contends_for, released_mutex}
+use Rattle.machine_rules.specs.Conditions.{reacquires_or_waits, released_mutex}
 use Rattle.machine_rules.specs.Signals.{delivers, without_record}
 use Rattle.machine_rules.specs.Delivery.{acts, interrupts, sweeps, sweeps_all, sweeps_thread, taken_by_sweep, takes_record, ticks_left}
-use Rattle.machine_rules.specs.DueItems.{due_items, due_of, first_item, handles, has_come, instant, item_bound, item_done, item_then, items_done, items_of_threads, next_item, refill_due, start_due, start_in, timeout_due, timer_due, times_out, times_out_of}
+use Rattle.machine_rules.specs.DueItems.{due_items, due_of_kind, first_item, handles, has_come, instant, item_bound, item_done, item_then, items_done, items_of_threads, next_item, refill_due, start_due, start_in, timeout_due, timer_due, times_out, wait_times_out}
 use Rattle.machine_rules.proofs.Coming.{alarm, alarms, bit, changed_loads, coming, contends_falls, count, expires_falls, loads, overrun_falls, owes, refills_falls, starts_falls, wakes_falls}
 
 -- ---- the next item is due
@@ -40,21 +40,21 @@ module _ {P : Type 0} (m : Machine P) where
   first_of_both [] ys h g = g
   first_of_both (x ∷ xs) ys h g = h
 
-  due_of_first : (kind : ℕ → Item) (due : Machine P → ℕ → Option ℕ) → ((n : ℕ) → is_due (kind n) ≡ has_come (due m n) m.now) → (ns : List ℕ) → FirstIsDue (due_of kind due ns m)
+  due_of_first : (kind : ℕ → Item) (due : Machine P → ℕ → Option ℕ) → ((n : ℕ) → is_due (kind n) ≡ has_come (due m n) m.now) → (ns : List ℕ) → FirstIsDue (due_of_kind kind due ns m)
   due_of_first kind due h [] = λ i e. absurd (grind arith)
   due_of_first kind due h (n ∷ ns) = split (has_come (due m n) m.now) refl (due_of_first kind due h ns)
     where
-      split : (b : Bool) → has_come (due m n) m.now ≡ b → FirstIsDue (due_of kind due ns m) →
+      split : (b : Bool) → has_come (due m n) m.now ≡ b → FirstIsDue (due_of_kind kind due ns m) →
           FirstIsDue (map kind (cond b (n ∷ filter (λ (n : ℕ). has_come (due m n) m.now) ns) (filter (λ (n : ℕ). has_come (due m n) m.now) ns)))
       split true come rest i e = let it : kind n ≡ i = grind arith in subst (λ (i : Item). is_due i ≡ true) it (h n ∙ come)
       split false come rest i e = rest i e
 
   due_items_first : FirstIsDue (due_items m)
   due_items_first =
-      let refills_first = due_of item.Refill refill_due (thread_numbers m) m in
-      let starts_next = due_of item.Start start_due (thread_numbers m) m in
-      let timeouts_next = due_of item.Timeout timeout_due (thread_numbers m) m in
-      let timers_last = due_of item.Timer timer_due (numbers m.timers) m in
+      let refills_first = due_of_kind item.Refill refill_due (thread_numbers m) m in
+      let starts_next = due_of_kind item.Start start_due (thread_numbers m) m in
+      let timeouts_next = due_of_kind item.Timeout timeout_due (thread_numbers m) m in
+      let timers_last = due_of_kind item.Timer timer_due (numbers m.timers) m in
       first_of_both (refills_first ++ starts_next ++ timeouts_next) timers_last
       (first_of_both (refills_first ++ starts_next) timeouts_next
       (first_of_both refills_first starts_next (due_of_first item.Refill refill_due (λ n. refl) (thread_numbers m)) (due_of_first item.Start start_due (λ n. refl) (thread_numbers m)))
@@ -129,10 +129,10 @@ module _ {P : Type 0} (bodies : Bodies P) where
   owes_due : (th : Thread P) (w : Waiting) → waiting_in th.status ≡ Some w → count w.due ≤ owes th
   owes_due th w e = rw e (omega arith)
 
-  times_out_of_falls : (wait : Wait) (w : Waiting) (t : ℕ) (s : Turn P) → w.wait ≡ wait → waiting_of s.machine t ≡ Some w → coming (times_out_of wait t s).machine + count w.due ≤ coming s.machine
+  times_out_of_falls : (wait : Wait) (w : Waiting) (t : ℕ) (s : Turn P) → w.wait ≡ wait → waiting_of s.machine t ≡ Some w → coming (wait_times_out wait t s).machine + count w.due ≤ coming s.machine
   times_out_of_falls (for_condition c k) w t s h e =
       let mutex : option_and_then (λ (w : Waiting). released_mutex w.wait) (waiting_of s.machine t) ≡ Some k = ap (option_and_then (λ (w : Waiting). released_mutex w.wait)) e ∙ ap released_mutex h in
-      subst (λ (o : Option ℕ). coming (contends_for o t cond_end.Timedout s).machine + count w.due ≤ coming s.machine) (sym mutex)
+      subst (λ (o : Option ℕ). coming (reacquires_or_waits o t cond_end.Timedout s).machine + count w.due ≤ coming s.machine) (sym mutex)
       (omega (arith, contends_falls k t cond_end.Timedout s, owes_due (thread_at s.machine t) w e))
   times_out_of_falls for_time w t s h e = omega (arith, wakes_falls t res.Zero 0 s, owes_due (thread_at s.machine t) w e)
   times_out_of_falls (for_signal set) w t s h e = omega (arith, wakes_falls t res.Again 0 s, owes_due (thread_at s.machine t) w e)

@@ -10,11 +10,11 @@ use Rattle.machine_rules.specs.declared.thread.CondEnd.{CondEnd}
 use Rattle.machine_rules.specs.declared.thread.CondEnd.TheVariants as cond_end
 use Rattle.machine_rules.specs.State.{Machine, Wait, for_mutex_again}
 use Rattle.machine_rules.specs.Waiters.{Waiter, best_waiter}
-use Rattle.machine_rules.specs.Turns.{By, Turn, changes_mutex}
+use Rattle.machine_rules.specs.Turns.{Caller, Turn, changes_mutex}
 use Rattle.machine_rules.specs.Servers.{activates_if, activates_server}
 use Rattle.machine_rules.specs.Threads.{thread_at}
 use Rattle.machine_rules.specs.Waking.{wakes, wakes_cancelled, wakes_telling}
-use Rattle.machine_rules.specs.Mutexes.{LockAnswer, counts, hands_over, locks, locks_on, must_wait, refused, releases, returns_from_wait, taken_by, takes, waits_for_mutex, wakes_owner}
+use Rattle.machine_rules.specs.Mutexes.{LockAnswer, counts, hands_over, locks, carries_out_lock, must_wait, refused, releases, returns_from_wait, taken_by, takes, waits_for_mutex, wakes_owner}
 
 pub record Kept : Type 0 where
   pub now : ℕ
@@ -51,13 +51,13 @@ wakes_kept t r value s = wakes_telling_kept _ t r value s
 pub wakes_cancelled_kept : {P : Type 0} (t : ℕ) (s : Turn P) → kept (wakes_cancelled t s) ≡ kept s
 wakes_cancelled_kept t s = wakes_telling_kept _ t _ _ s
 
-pub locks_on_kept : {P : Type 0} (a : LockAnswer) (by : By) (k : ℕ) (due : Option ℕ) (s : Turn P) → kept (locks_on a by k due s) ≡ kept s
+pub locks_on_kept : {P : Type 0} (a : LockAnswer) (by : Caller) (k : ℕ) (due : Option ℕ) (s : Turn P) → kept (carries_out_lock a by k due s) ≡ kept s
 locks_on_kept (refused r) by k due s = refl
 locks_on_kept counts by k due s = refl
 locks_on_kept takes by k due s = refl
 locks_on_kept must_wait by k due s = refl
 
-pub locks_kept : {P : Type 0} (by : By) (k : ℕ) (due : Option ℕ) (s : Turn P) → kept (locks by k due s) ≡ kept s
+pub locks_kept : {P : Type 0} (by : Caller) (k : ℕ) (due : Option ℕ) (s : Turn P) → kept (locks by k due s) ≡ kept s
 locks_kept by k due s = locks_on_kept _ by k due s
 
 pub returns_from_wait_kept : {P : Type 0} (how : CondEnd) (t : ℕ) (s : Turn P) → kept (returns_from_wait how t s) ≡ kept s

@@ -24,28 +24,28 @@ use Rattle.machine_rules.specs.GoodState.{is_sporadic}
 -- ---- the account of a server
 
 -- what is entered in it: a tick at the high priority, or an event of the thread, with its time
-pub data Posting : Type 0 where
-  used : Posting
-  activated : ℕ → Posting
+pub data ServerEvent : Type 0 where
+  used : ServerEvent
+  activated : ℕ → ServerEvent
   -- the amount, and when it is due
-  planned : ℕ → Replenish → Posting
-  refilled : ℕ → ℕ → Posting
+  planned : ℕ → Replenish → ServerEvent
+  refilled : ℕ → ℕ → ServerEvent
 
-abbrev pub posted_if : Bool → Posting → List Posting → List Posting
-posted_if true posting account = account ++ posting ∷ []
-posted_if false posting account = account
+abbrev pub recorded_if : Bool → ServerEvent → List ServerEvent → List ServerEvent
+recorded_if true entry account = account ++ entry ∷ []
+recorded_if false entry account = account
 
 -- The thread's activations, plans and refills are entered, and its start begins a new account.
-abbrev pub posted : ℕ → ℕ → Event → List Posting → List Posting
-posted t time (event.Start u) account = if u == t then [] else account
-posted t time (event.Activate u capacity) account = posted_if (u == t) (activated time) account
-posted t time (event.Plan u amount due) account = posted_if (u == t) (planned time (record { amount = amount; due = due })) account
-posted t time (event.Refill u amount capacity) account = posted_if (u == t) (refilled time amount) account
-posted t time other account = account
+abbrev pub recorded : ℕ → ℕ → Event → List ServerEvent → List ServerEvent
+recorded t time (event.Start u) account = if u == t then [] else account
+recorded t time (event.Activate u capacity) account = recorded_if (u == t) (activated time) account
+recorded t time (event.Plan u amount due) account = recorded_if (u == t) (planned time (record { amount = amount; due = due })) account
+recorded t time (event.Refill u amount capacity) account = recorded_if (u == t) (refilled time amount) account
+recorded t time other account = account
 
-abbrev pub all_posted : ℕ → List Entry → List Posting → List Posting
-all_posted t [] account = account
-all_posted t (e ∷ entries) account = all_posted t entries (posted t e.time e.event account)
+abbrev pub all_recorded : ℕ → List Entry → List ServerEvent → List ServerEvent
+all_recorded t [] account = account
+all_recorded t (e ∷ entries) account = all_recorded t entries (recorded t e.time e.event account)
 
 -- whether a unit gives the thread a new server: a setsched of it
 abbrev pub renews : ℕ → Unit → Bool
@@ -55,35 +55,35 @@ renews t other = false
 module _ {P : Type 0} (bodies : Bodies P) where
   -- The runner's tick is entered where it is one of the thread at its high priority. A setsched of a thread that lives gives it a new
   -- server, and that begins a new account.
-  abbrev pub posted_tick : ℕ → Option ℕ → Machine P → List Posting → List Posting
-  posted_tick t None m account = account
-  posted_tick t (Some u) m account =
+  abbrev pub recorded_tick : ℕ → Option ℕ → Machine P → List ServerEvent → List ServerEvent
+  recorded_tick t None m account = account
+  recorded_tick t (Some u) m account =
       if renews t (in_unit bodies (thread_at m u)).unit then (if lives m t then [] else account)
-      else posted_if (u == t && has_high (thread_at m t).server) used account
+      else recorded_if (u == t && has_high (thread_at m t).server) used account
 
   -- the account after one tick more: the events that begin it, the tick itself, and the events that finish it
-  abbrev pub ticked_account : ℕ → Machine P → List Posting → List Posting
+  abbrev pub ticked_account : ℕ → Machine P → List ServerEvent → List ServerEvent
   ticked_account t m account =
       let begun = tick_begun bodies m in
       account
-      ▷ all_posted t begun.events
-      ▷ posted_tick t (runner begun.machine) begun.machine
-      ▷ all_posted t (tick_finished bodies begun.machine).events
+      ▷ all_recorded t begun.events
+      ▷ recorded_tick t (runner begun.machine) begun.machine
+      ▷ all_recorded t (tick_finished bodies begun.machine).events
 
   -- the account of a thread's server after n ticks, since that server was new
-  abbrev pub account : ℕ → Machine P → ℕ → List Posting
+  abbrev pub account : ℕ → Machine P → ℕ → List ServerEvent
   account t start zero = []
   account t start (suc n) = ticked_account t (ticks bodies n start).machine (account t start n)
 
 -- ---- what is read off an account
 
-abbrev pub used_one : Posting → ℕ
+abbrev pub used_one : ServerEvent → ℕ
 used_one used = 1
 used_one (activated time) = 0
 used_one (planned time r) = 0
 used_one (refilled time amount) = 0
 
-abbrev pub high_ticks : List Posting → ℕ
+abbrev pub high_ticks : List ServerEvent → ℕ
 high_ticks account = sum (map used_one account)
 
 -- a plan, with the instant from which on it can be carried out: when it is due, or when it is made if that is later
@@ -92,49 +92,49 @@ pub record Plan : Type 0 where
   pub due : ℕ
   pub from : ℕ
 
-abbrev pub plan_in : Posting → Option Plan
+abbrev pub plan_in : ServerEvent → Option Plan
 plan_in used = None
 plan_in (activated time) = None
 plan_in (planned time r) = Some (record { amount = r.amount; due = r.due; from = max r.due time })
 plan_in (refilled time amount) = None
 
-abbrev pub plans_in : List Posting → List Plan
+abbrev pub plans_in : List ServerEvent → List Plan
 plans_in account = filter_map plan_in account
 
-abbrev pub refill_amount : Posting → Option ℕ
+abbrev pub refill_amount : ServerEvent → Option ℕ
 refill_amount used = None
 refill_amount (activated time) = None
 refill_amount (planned time r) = None
 refill_amount (refilled time amount) = Some amount
 
-abbrev pub refill_amounts : List Posting → List ℕ
+abbrev pub refill_amounts : List ServerEvent → List ℕ
 refill_amounts account = filter_map refill_amount account
 
-abbrev pub refill_time : Posting → Option ℕ
+abbrev pub refill_time : ServerEvent → Option ℕ
 refill_time used = None
 refill_time (activated time) = None
 refill_time (planned time r) = None
 refill_time (refilled time amount) = Some time
 
-abbrev pub refill_times : List Posting → List ℕ
+abbrev pub refill_times : List ServerEvent → List ℕ
 refill_times account = filter_map refill_time account
 
 -- The replenishments as they should have been planned: the high ticks since the last activation, one period after it.
-abbrev pub owed_since : ℕ → ℕ → ℕ → List Posting → List Replenish
-owed_since period count since [] = []
-owed_since period count since (used ∷ rest) = owed_since period (count + 1) since rest
-owed_since period count since (activated time ∷ rest) = owed_since period 0 time rest
-owed_since period count since (planned time r ∷ rest) = record { amount = count; due = since + period } ∷ owed_since period count since rest
-owed_since period count since (refilled time amount ∷ rest) = owed_since period count since rest
+abbrev pub expected_since : ℕ → ℕ → ℕ → List ServerEvent → List Replenish
+expected_since period count since [] = []
+expected_since period count since (used ∷ rest) = expected_since period (count + 1) since rest
+expected_since period count since (activated time ∷ rest) = expected_since period 0 time rest
+expected_since period count since (planned time r ∷ rest) = record { amount = count; due = since + period } ∷ expected_since period count since rest
+expected_since period count since (refilled time amount ∷ rest) = expected_since period count since rest
 
-abbrev pub owed : ℕ → List Posting → List Replenish
-owed period account = owed_since period 0 0 account
+abbrev pub expected_plans : ℕ → List ServerEvent → List Replenish
+expected_plans period account = expected_since period 0 0 account
 
 abbrev pub replenishment_in : Plan → Replenish
 replenishment_in p = record { amount = p.amount; due = p.due }
 
 -- whether each plan stands behind an activation; the flag says whether one came before
-abbrev pub plans_follow : Bool → List Posting → Bool
+abbrev pub plans_follow : Bool → List ServerEvent → Bool
 plans_follow active [] = true
 plans_follow active (used ∷ rest) = plans_follow active rest
 plans_follow active (activated time ∷ rest) = plans_follow true rest
@@ -143,7 +143,7 @@ plans_follow active (refilled time amount ∷ rest) = plans_follow active rest
 
 -- ---- the law
 
-pub record KeepsAccount (s : ServerState) (account : List Posting) : Type 0 where
+pub record KeepsAccount (s : ServerState) (account : List ServerEvent) : Type 0 where
   -- the high ticks are the initial budget and all refilled amounts, but for the capacity
   pub high : high_ticks account + s.capacity ≡ s.params.budget + sum (refill_amounts account)
   -- the totals are those of the account
@@ -157,18 +157,18 @@ pub record KeepsAccount (s : ServerState) (account : List Posting) : Type 0 wher
   pub on_time : refill_times account ≡ take (length (refill_times account)) (map (λ (p : Plan). p.from) (plans_in account))
   -- each plan is of what was consumed since the activation, and due one period after it
   pub follows : plans_follow false account ≡ true
-  pub as_owed : map replenishment_in (plans_in account) ≡ owed s.params.period account
+  pub as_expected : map replenishment_in (plans_in account) ≡ expected_plans s.params.period account
   pub not_empty : All (λ (p : Plan). 1 ≤ p.amount) (plans_in account)
 
 -- a live sporadic thread has a server
-abbrev pub KeepsServer : Option ServerState → List Posting → Type 0
+abbrev pub KeepsServer : Option ServerState → List ServerEvent → Type 0
 KeepsServer None account = ⊥
 KeepsServer (Some s) account = KeepsAccount s account
 
 module _ {P : Type 0} (bodies : Bodies P) (start : Machine P) where
   -- the account after n ticks and k items of that instant
-  abbrev pub account_after : ℕ → ℕ → ℕ → List Posting
-  account_after t n k = all_posted t (turn_after bodies start n k).events (account bodies t start n)
+  abbrev pub account_after : ℕ → ℕ → ℕ → List ServerEvent
+  account_after t n k = all_recorded t (turn_after bodies start n k).events (account bodies t start n)
 
   -- the law after n ticks of a run from an opening state, and k items of that instant, of each live sporadic thread
   pub record KeepsBudgets (n k : ℕ) : Type 0 where

@@ -7,7 +7,7 @@ use Rattle.script_flat.specs.declared.unit.Unit.{Unit}
 use Rattle.script_flat.specs.declared.unit.Unit.TheVariants as unit
 use Rattle.machine_rules.specs.Bodies.{Bodies}
 use Rattle.machine_rules.specs.Threads.{number_of, thread_at}
-use Rattle.machine_rules.specs.Turns.{By, Turn, returns}
+use Rattle.machine_rules.specs.Turns.{Caller, Turn, returns}
 use Rattle.machine_rules.specs.Mutexes.{locks, tries_lock, unlocks}
 use Rattle.machine_rules.specs.Conditions.{broadcasts, signals, waits}
 use Rattle.machine_rules.specs.Semaphores.{posts, reads_semaphore, tries_semaphore, waits_semaphore}
@@ -19,7 +19,7 @@ use Rattle.machine_rules.specs.Cancellation.{cancels, is_cancellation_point, is_
 use Rattle.machine_rules.specs.Scheduling.{sets_policy, sets_priority, yields}
 
 module _ {P : Type 0} (bodies : Bodies P) where
-  abbrev pub call_effect : By → Call → Turn P → Turn P
+  abbrev pub call_effect : Caller → Call → Turn P → Turn P
   call_effect by call.Yield s = yields by s
   call_effect by (call.Create u) s = creates bodies by u s
   call_effect by (call.Join u) s = joins by u s
@@ -68,7 +68,7 @@ module _ {P : Type 0} (bodies : Bodies P) where
   call_effect by (call.MqNotify q signal v) s = asks_notification by q (record { signal = signal; value = number_of s.machine by.thread v }) s
 
   -- XSH 2.9.5.2: at a cancellation point a request acts in place of the call
-  abbrev pub makes_call : By → Turn P → Turn P
+  abbrev pub makes_call : Caller → Turn P → Turn P
   makes_call by s = if is_cancellation_point by.call && request_acts (thread_at s.machine by.thread) then is_cancelled by.thread s else call_effect by by.call s
 
   -- what a unit does once it is complete

@@ -10,7 +10,7 @@ use Rattle.machine_rules.specs.declared.thread.CondEnd.TheVariants as cond_end
 use Rattle.machine_rules.specs.Bodies.{Bodies}
 use Rattle.machine_rules.specs.State.{Thread, Wait, Waiting, for_condition, for_end, for_mutex, for_mutex_again, nobody}
 use Rattle.machine_rules.specs.Threads.{lives, thread_at, waiting_of}
-use Rattle.machine_rules.specs.Turns.{By, Turn, changes, returns, tells, ◌▷◌}
+use Rattle.machine_rules.specs.Turns.{Caller, Turn, changes, returns, tells, ◌▷◌}
 use Rattle.machine_rules.specs.Waking.{cancelled_value, ending_with, new_frame, on_top, wakes_cancelled}
 use Rattle.machine_rules.specs.Conditions.{contends}
 use Rattle.machine_rules.specs.Lives.{with_joiner}
@@ -65,19 +65,19 @@ abbrev pub requested : {P : Type 0} → Thread P → Thread P
 requested th = record th { is_requested = true }
 
 -- an effect on a thread that lives; ESRCH where it does not
-abbrev pub on_live : {P : Type 0} → By → ℕ → (Turn P → Turn P) → Turn P → Turn P
+abbrev pub on_live : {P : Type 0} → Caller → ℕ → (Turn P → Turn P) → Turn P → Turn P
 on_live by u effect s = if lives s.machine u then effect s else returns by res.Srch 0 s
 
 -- pthread_cancel
-abbrev pub cancels : {P : Type 0} → By → ℕ → Turn P → Turn P
+abbrev pub cancels : {P : Type 0} → Caller → ℕ → Turn P → Turn P
 cancels by u s = on_live by u (λ s. s ▷ returns by res.Zero 0 ▷ changes u requested ▷ acts_if_blocked u) s
 
 -- pthread_setcancelstate
-abbrev pub sets_cancelability : {P : Type 0} → By → Bool → Turn P → Turn P
+abbrev pub sets_cancelability : {P : Type 0} → Caller → Bool → Turn P → Turn P
 sets_cancelability by on s = s ▷ changes by.thread (λ th. record th { is_enabled = on }) ▷ returns by res.Zero 0
 
 -- pthread_cleanup_push
-abbrev pub pushes_cleanup : {P : Type 0} → By → ℕ → Turn P → Turn P
+abbrev pub pushes_cleanup : {P : Type 0} → Caller → ℕ → Turn P → Turn P
 pushes_cleanup by u s = s ▷ changes by.thread (λ th. record th { cleanups = u ∷ th.cleanups }) ▷ returns by res.Zero 0
 
 abbrev pub without_cleanup : {P : Type 0} → Thread P → Thread P
@@ -93,6 +93,6 @@ runs_cleanup_if true bodies cleanups th = runs_cleanup bodies cleanups th
 runs_cleanup_if false bodies cleanups th = th
 
 -- pthread_cleanup_pop
-abbrev pub pops_cleanup : {P : Type 0} → Bodies P → By → Bool → Turn P → Turn P
+abbrev pub pops_cleanup : {P : Type 0} → Bodies P → Caller → Bool → Turn P → Turn P
 pops_cleanup bodies by runs s =
     s ▷ changes by.thread without_cleanup ▷ returns by res.Zero 0 ▷ changes by.thread (runs_cleanup_if runs bodies (thread_at s.machine by.thread).cleanups)

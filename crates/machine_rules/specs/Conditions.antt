@@ -7,7 +7,7 @@ use Rattle.machine_rules.specs.declared.thread.CondEnd.TheVariants as cond_end
 use Rattle.machine_rules.specs.State.{Wait, Waiting, for_condition, for_mutex_again}
 use Rattle.machine_rules.specs.Threads.{mutex_at, waiting_of}
 use Rattle.machine_rules.specs.Waiters.{Waiter, best_waiter, somebody_waits, waiters}
-use Rattle.machine_rules.specs.Turns.{By, Turn, changes_mutex, returns, ◌▷◌}
+use Rattle.machine_rules.specs.Turns.{Caller, Turn, changes_mutex, returns, ◌▷◌}
 use Rattle.machine_rules.specs.Waking.{blocks, call_in}
 use Rattle.machine_rules.specs.Mutexes.{is_free, owned_by, owns, releases, returns_from_wait, taken_by}
 
@@ -26,21 +26,21 @@ abbrev pub released_mutex : Wait → Option ℕ
 released_mutex (for_condition c k) = Some k
 released_mutex wait = None
 
-abbrev pub contends_for : {P : Type 0} → Option ℕ → ℕ → CondEnd → Turn P → Turn P
-contends_for None t how s = s
-contends_for (Some k) t how s =
+abbrev pub reacquires_or_waits : {P : Type 0} → Option ℕ → ℕ → CondEnd → Turn P → Turn P
+reacquires_or_waits None t how s = s
+reacquires_or_waits (Some k) t how s =
     if is_free s.machine k then (s ▷ changes_mutex k (taken_by t) ▷ returns_from_wait how t)
     else blocks (record { thread = t; call = call_in (waiting_of s.machine t) }) (for_mutex_again k how) None s
 
 -- The thread leaves its condition, and owns the mutex again at once or waits for it, with no ceiling and no cycle tested.
 -- It waits there as one that came now, and no timeout, signal of the condition or request ends that wait.
 abbrev pub contends : {P : Type 0} → ℕ → CondEnd → Turn P → Turn P
-contends t how s = contends_for (option_and_then (λ (w : Waiting). released_mutex w.wait) (waiting_of s.machine t)) t how s
+contends t how s = reacquires_or_waits (option_and_then (λ (w : Waiting). released_mutex w.wait) (waiting_of s.machine t)) t how s
 
 -- ---- waiting
 
 -- pthread_cond_wait, and with a time pthread_cond_timedwait: a time that has passed ends the wait at the instant that follows
-abbrev pub waits : {P : Type 0} → By → ℕ → ℕ → Option ℕ → Turn P → Turn P
+abbrev pub waits : {P : Type 0} → Caller → ℕ → ℕ → Option ℕ → Turn P → Turn P
 waits by c k due s =
     if not (owns s.machine by.thread k) then returns by res.Perm 0 s
     else if nat_lt 1 (mutex_at s.machine k).count || somebody_waits s.machine (waits_with_other_mutex c k) then returns by res.Inval 0 s
@@ -58,14 +58,14 @@ abbrev pub signals_best : {P : Type 0} → ℕ → Turn P → Turn P
 signals_best c s = signals_waiter (best_waiter s.machine (waits_on_condition c)) s
 
 -- so many waiters, each the best of those that are left
-abbrev pub signals_best_of : {P : Type 0} → ℕ → ℕ → Turn P → Turn P
-signals_best_of zero c s = s
-signals_best_of (suc n) c s = s ▷ signals_best_of n c ▷ signals_best c
+abbrev pub signals_best_times : {P : Type 0} → ℕ → ℕ → Turn P → Turn P
+signals_best_times zero c s = s
+signals_best_times (suc n) c s = s ▷ signals_best_times n c ▷ signals_best c
 
 -- pthread_cond_signal
-abbrev pub signals : {P : Type 0} → By → ℕ → Turn P → Turn P
+abbrev pub signals : {P : Type 0} → Caller → ℕ → Turn P → Turn P
 signals by c s = s ▷ returns by res.Zero 0 ▷ signals_best c
 
 -- pthread_cond_broadcast
-abbrev pub broadcasts : {P : Type 0} → By → ℕ → Turn P → Turn P
-broadcasts by c s = s ▷ returns by res.Zero 0 ▷ signals_best_of (length (waiters s.machine (waits_on_condition c))) c
+abbrev pub broadcasts : {P : Type 0} → Caller → ℕ → Turn P → Turn P
+broadcasts by c s = s ▷ returns by res.Zero 0 ▷ signals_best_times (length (waiters s.machine (waits_on_condition c))) c

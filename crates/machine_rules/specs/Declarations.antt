@@ -62,13 +62,13 @@ declared_thread (decl.Named name kind) = thread_kind name kind
 declared_thread (decl.Action signal handler) = None
 
 -- XSH 2.4.3 and sigaction: a handler, or SIG_IGN
-abbrev pub action_for : Option ℕ → SigAction
-action_for None = action.Ignore
-action_for (Some h) = action.Handler h
+abbrev pub declared_action : Option ℕ → SigAction
+declared_action None = action.Ignore
+declared_action (Some h) = action.Handler h
 
 abbrev pub with_action : List SigAction → Decl → List SigAction
 with_action actions (decl.Named name kind) = actions
-with_action actions (decl.Action signal handler) = slice_set actions signal (action_for handler)
+with_action actions (decl.Action signal handler) = slice_set actions signal (declared_action handler)
 
 abbrev pub threads_of : Script → List ThreadDecl
 threads_of script = filter_map declared_thread script.decls

@@ -17,7 +17,7 @@ use Rattle.machine_rules.specs.State.{Machine, SignalRecord, Thread, Wait, Waiti
 use Rattle.machine_rules.specs.Threads.{action_of, catches_signal, is_live, thread_at, thread_numbers, waiting_of}
 use Rattle.machine_rules.specs.Turns.{Turn, becomes, changes, changes_pending, settles_since, tells, ◌▷◌}
 use Rattle.machine_rules.specs.Waking.{new_frame, on_top, wakes}
-use Rattle.machine_rules.specs.Signals.{delivers, goes_to, is_kill, selected, without_record}
+use Rattle.machine_rules.specs.Signals.{delivers, may_go_to, is_kill, selected, without_record}
 
 -- ---- which record a thread takes
 
@@ -38,7 +38,7 @@ may_run_handler m t = not (option_map_or (λ (w : Waiting). defers_handlers w.wa
 
 -- a record that may go to the thread, that its mask lets through, and that ends the process or finds the thread ready for a handler
 abbrev pub can_take : {P : Type 0} → Machine P → ℕ → SignalRecord → Bool
-can_take m t r = goes_to t r.target && not (has_signal (thread_at m t).mask r.signal) && (is_kill (action_of m r.signal) || may_run_handler m t)
+can_take m t r = may_go_to t r.target && not (has_signal (thread_at m t).mask r.signal) && (is_kill (action_of m r.signal) || may_run_handler m t)
 
 -- in a signal-catching function all signals are masked
 abbrev pub may_be_interrupted : {P : Type 0} → Thread P → Bool

@@ -43,16 +43,16 @@ has_come None now = false
 has_come (Some due) now = nat_le due now
 
 -- those of one kind that are due, by number
-abbrev pub due_of : {P : Type 0} → (ℕ → Item) → (Machine P → ℕ → Option ℕ) → List ℕ → Machine P → List Item
-due_of kind due ns m = map kind (filter (λ (n : ℕ). has_come (due m n) m.now) ns)
+abbrev pub due_of_kind : {P : Type 0} → (ℕ → Item) → (Machine P → ℕ → Option ℕ) → List ℕ → Machine P → List Item
+due_of_kind kind due ns m = map kind (filter (λ (n : ℕ). has_come (due m n) m.now) ns)
 
 -- all that is due, in the order of the items' numbers
 abbrev pub due_items : {P : Type 0} → Machine P → List Item
 due_items m =
-    due_of item.Refill refill_due (thread_numbers m) m
-    ++ due_of item.Start start_due (thread_numbers m) m
-    ++ due_of item.Timeout timeout_due (thread_numbers m) m
-    ++ due_of item.Timer timer_due (numbers m.timers) m
+    due_of_kind item.Refill refill_due (thread_numbers m) m
+    ++ due_of_kind item.Start start_due (thread_numbers m) m
+    ++ due_of_kind item.Timeout timeout_due (thread_numbers m) m
+    ++ due_of_kind item.Timer timer_due (numbers m.timers) m
 
 -- the least item, unless the process has ended
 abbrev pub first_item : Option ℕ → List Item → Option Item
@@ -66,15 +66,15 @@ next_item m = first_item m.killed (due_items m)
 -- ---- timeouts
 
 -- what a wait comes to at its time: a sleep ends, a timed call is refused, and a condition wait has the mutex to own again first
-abbrev pub times_out_of : {P : Type 0} → Wait → ℕ → Turn P → Turn P
-times_out_of (for_condition c k) t s = contends t cond_end.Timedout s
-times_out_of for_time t s = wakes t res.Zero 0 s
-times_out_of (for_signal set) t s = wakes t res.Again 0 s
-times_out_of wait t s = wakes t res.Timedout 0 s
+abbrev pub wait_times_out : {P : Type 0} → Wait → ℕ → Turn P → Turn P
+wait_times_out (for_condition c k) t s = contends t cond_end.Timedout s
+wait_times_out for_time t s = wakes t res.Zero 0 s
+wait_times_out (for_signal set) t s = wakes t res.Again 0 s
+wait_times_out wait t s = wakes t res.Timedout 0 s
 
 abbrev pub times_out : {P : Type 0} → Option Waiting → ℕ → Turn P → Turn P
 times_out None t s = s
-times_out (Some w) t s = times_out_of w.wait t s
+times_out (Some w) t s = wait_times_out w.wait t s
 
 -- ---- the items of an instant
 

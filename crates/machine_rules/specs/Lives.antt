@@ -10,7 +10,7 @@ use Rattle.machine_rules.specs.Lists.{is}
 use Rattle.machine_rules.specs.Bodies.{Bodies}
 use Rattle.machine_rules.specs.State.{Joiner, SignalRecord, Thread, ended, for_end, has_joined, nobody, waits_to_join}
 use Rattle.machine_rules.specs.Threads.{catches_signal, is_dormant, lives, thread_at, top_kind}
-use Rattle.machine_rules.specs.Turns.{By, Turn, changes, changes_pending, returns, tells, ◌▷◌}
+use Rattle.machine_rules.specs.Turns.{Caller, Turn, changes, changes_pending, returns, tells, ◌▷◌}
 use Rattle.machine_rules.specs.Waking.{blocks_unordered, ending_with, starts, wakes}
 
 -- ---- creation
@@ -20,7 +20,7 @@ abbrev pub inherited_mask : {P : Type 0} → Thread P → ℕ
 inherited_mask th = if catches_signal th then every_signal else th.mask
 
 -- pthread_create, of a thread that the script declares: EAGAIN where it has started already
-abbrev pub creates : {P : Type 0} → Bodies P → By → ℕ → Turn P → Turn P
+abbrev pub creates : {P : Type 0} → Bodies P → Caller → ℕ → Turn P → Turn P
 creates bodies by u s =
     if is_dormant (thread_at s.machine u).status then (s ▷ returns by res.Zero 0 ▷ starts bodies u (inherited_mask (thread_at s.machine by.thread)))
     else returns by res.Again 0 s
@@ -36,7 +36,7 @@ is_nobody (waits_to_join t) = false
 is_nobody has_joined = false
 
 -- pthread_join
-abbrev pub joins : {P : Type 0} → By → ℕ → Turn P → Turn P
+abbrev pub joins : {P : Type 0} → Caller → ℕ → Turn P → Turn P
 joins by u s =
     if u == by.thread then returns by res.Deadlk 0 s
     else if is_dormant (thread_at s.machine u).status then returns by res.Srch 0 s
@@ -47,7 +47,7 @@ joins by u s =
 -- ---- ending
 
 -- pthread_exit: the thread is ending, and its cleanup handlers come first
-abbrev pub exits : {P : Type 0} → By → ℕ → Turn P → Turn P
+abbrev pub exits : {P : Type 0} → Caller → ℕ → Turn P → Turn P
 exits by value s = changes by.thread (ending_with value) s
 
 abbrev pub wakes_joiner : {P : Type 0} → Joiner → ℕ → Turn P → Turn P
@@ -69,10 +69,10 @@ abbrev pub without_top : {P : Type 0} → Thread P → Thread P
 without_top th = record th { frames = drop 1 th.frames }
 
 -- a body ends: a handler returns to what it interrupted, and the end of the main body is that of the thread
-abbrev pub finishes_in : {P : Type 0} → FrameKind → ℕ → Turn P → Turn P
-finishes_in frame.Main t s = ends t s
-finishes_in frame.Cleanup t s = changes t without_top s
-finishes_in frame.Signal t s = changes t without_top s
+abbrev pub ends_frame : {P : Type 0} → FrameKind → ℕ → Turn P → Turn P
+ends_frame frame.Main t s = ends t s
+ends_frame frame.Cleanup t s = changes t without_top s
+ends_frame frame.Signal t s = changes t without_top s
 
 abbrev pub finishes : {P : Type 0} → ℕ → Turn P → Turn P
-finishes t s = finishes_in (top_kind (thread_at s.machine t).frames) t s
+finishes t s = ends_frame (top_kind (thread_at s.machine t).frames) t s

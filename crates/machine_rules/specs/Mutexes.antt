@@ -13,7 +13,7 @@ use Rattle.machine_rules.specs.State.{Machine, Mutex, Thread, Wait, for_mutex, f
 use Rattle.machine_rules.specs.Threads.{mutex_at, mutex_in, thread_at, thread_in}
 use Rattle.machine_rules.specs.Priorities.{assigned_of, mutex_awaited_by, mutex_waited}
 use Rattle.machine_rules.specs.Waiters.{Waiter, best_waiter}
-use Rattle.machine_rules.specs.Turns.{By, Turn, changes_mutex, is_late, moves_if, returns, ◌▷◌}
+use Rattle.machine_rules.specs.Turns.{Caller, Turn, changes_mutex, is_late, moves_if, returns, ◌▷◌}
 use Rattle.machine_rules.specs.Waking.{blocks, wakes, wakes_cancelled}
 
 -- ---- owners
@@ -112,19 +112,19 @@ trylock_answer m t k =
 
 -- ---- locking
 
-abbrev pub locks_on : {P : Type 0} → LockAnswer → By → ℕ → Option ℕ → Turn P → Turn P
-locks_on (refused result) by k due s = returns by result 0 s
-locks_on counts by k due s = s ▷ changes_mutex k counted_up ▷ returns by res.Zero 0
-locks_on takes by k due s = s ▷ changes_mutex k (taken_by by.thread) ▷ returns by res.Zero 0
-locks_on must_wait by k due s = blocks by (for_mutex k) due s
+abbrev pub carries_out_lock : {P : Type 0} → LockAnswer → Caller → ℕ → Option ℕ → Turn P → Turn P
+carries_out_lock (refused result) by k due s = returns by result 0 s
+carries_out_lock counts by k due s = s ▷ changes_mutex k counted_up ▷ returns by res.Zero 0
+carries_out_lock takes by k due s = s ▷ changes_mutex k (taken_by by.thread) ▷ returns by res.Zero 0
+carries_out_lock must_wait by k due s = blocks by (for_mutex k) due s
 
 -- pthread_mutex_lock, and with a time pthread_mutex_timedlock
-abbrev pub locks : {P : Type 0} → By → ℕ → Option ℕ → Turn P → Turn P
-locks by k due s = locks_on (lock_answer s.machine by.thread k due) by k due s
+abbrev pub locks : {P : Type 0} → Caller → ℕ → Option ℕ → Turn P → Turn P
+locks by k due s = carries_out_lock (lock_answer s.machine by.thread k due) by k due s
 
 -- pthread_mutex_trylock
-abbrev pub tries_lock : {P : Type 0} → By → ℕ → Turn P → Turn P
-tries_lock by k s = locks_on (trylock_answer s.machine by.thread k) by k None s
+abbrev pub tries_lock : {P : Type 0} → Caller → ℕ → Turn P → Turn P
+tries_lock by k s = carries_out_lock (trylock_answer s.machine by.thread k) by k None s
 
 -- ---- unlocking
 
@@ -151,7 +151,7 @@ abbrev pub releases : {P : Type 0} → ℕ → Turn P → Turn P
 releases k s = hands_over (best_waiter s.machine (waits_for_mutex k)) k s
 
 -- pthread_mutex_unlock
-abbrev pub unlocks : {P : Type 0} → By → ℕ → Turn P → Turn P
+abbrev pub unlocks : {P : Type 0} → Caller → ℕ → Turn P → Turn P
 unlocks by k s =
     if not (owns s.machine by.thread k) then returns by res.Perm 0 s
     else if nat_lt 1 (mutex_at s.machine k).count then (s ▷ returns by res.Zero 0 ▷ changes_mutex k counted_down)

@@ -51,12 +51,12 @@ is_inherit protocol.Plain = false
 is_inherit protocol.Inherit = true
 is_inherit (protocol.Protect p) = false
 
-abbrev pub ceiling_for : ℕ → Mutex → ℕ
-ceiling_for t k = if is k.owner t then ceiling_under k.protocol else 0
+abbrev pub owner_ceiling : ℕ → Mutex → ℕ
+owner_ceiling t k = if is k.owner t then ceiling_under k.protocol else 0
 
 -- PTHREAD_PRIO_INHERIT: the owner runs at least at the priority of each thread that waits for the mutex
-abbrev pub lends_to : ℕ → Mutex → Bool
-lends_to t k = is_inherit k.protocol && is k.owner t
+abbrev pub is_inherit_mutex_of : ℕ → Mutex → Bool
+is_inherit_mutex_of t k = is_inherit k.protocol && is k.owner t
 
 module _ (claims : List Claim) (mutexes : List Mutex) where
   abbrev pub assigned_in : ℕ → ℕ
@@ -64,16 +64,16 @@ module _ (claims : List Claim) (mutexes : List Mutex) where
 
   -- the greatest of the assigned priority and the ceilings of the mutexes that the thread owns
   abbrev pub base_in : ℕ → ℕ
-  base_in t = max (assigned_in t) (greatest (map (ceiling_for t) mutexes))
+  base_in t = max (assigned_in t) (greatest (map (owner_ceiling t) mutexes))
 
   -- the threads that wait for an inherit mutex of the thread
-  abbrev pub lenders_in : ℕ → List ℕ
-  lenders_in t = flat_map (λ (k : ℕ). numbers_where (λ (c : Claim). is c.awaited k) claims) (numbers_where (lends_to t) mutexes)
+  abbrev pub inherit_waiters_in : ℕ → List ℕ
+  inherit_waiters_in t = flat_map (λ (k : ℕ). numbers_where (λ (c : Claim). is c.awaited k) claims) (numbers_where (is_inherit_mutex_of t) mutexes)
 
   -- the greatest base among the threads that lead to the thread in at most so many steps from waiter to owner
   abbrev pub exec_within : ℕ → ℕ → ℕ
   exec_within zero t = base_in t
-  exec_within (suc steps) t = max (base_in t) (greatest (map (exec_within steps) (lenders_in t)))
+  exec_within (suc steps) t = max (base_in t) (greatest (map (exec_within steps) (inherit_waiters_in t)))
 
   -- The execution priority. Inheritance is transitive: it passes from waiter to owner along any chain, and no chain is longer
   -- than there are threads.

@@ -8,7 +8,7 @@ use Rattle.machine_rules.specs.Lists.{greatest, is, without_at}
 use Rattle.machine_rules.specs.State.{Machine, Message, Queue, Registration, SignalRecord, Wait, for_message, for_room}
 use Rattle.machine_rules.specs.Threads.{queue_at}
 use Rattle.machine_rules.specs.Waiters.{Waiter, best_waiter, somebody_waits}
-use Rattle.machine_rules.specs.Turns.{By, Turn, changes_queue, returns, ◌▷◌}
+use Rattle.machine_rules.specs.Turns.{Caller, Turn, changes_queue, returns, ◌▷◌}
 use Rattle.machine_rules.specs.Waking.{wakes}
 use Rattle.machine_rules.specs.Semaphores.{blocks_unless_late}
 use Rattle.machine_rules.specs.Signals.{generates}
@@ -43,7 +43,7 @@ abbrev pub is_notifying : {P : Type 0} → Machine P → ℕ → Bool
 is_notifying m q = is_some (queue_at m q).registration || list_any (λ (r : SignalRecord). is r.queue q) m.pending
 
 -- mq_notify
-abbrev pub asks_notification : {P : Type 0} → By → ℕ → Registration → Turn P → Turn P
+abbrev pub asks_notification : {P : Type 0} → Caller → ℕ → Registration → Turn P → Turn P
 asks_notification by q r s =
     if is_notifying s.machine q then returns by res.Busy 0 s else (s ▷ changes_queue q (registered (Some r)) ▷ returns by res.Zero 0)
 
@@ -73,21 +73,21 @@ abbrev pub enters : {P : Type 0} → ℕ → Message → (Turn P → Turn P) →
 enters q message told s = s ▷ changes_queue q (with_message message) ▷ told ▷ notifies (fired_by_message s.machine q) q
 
 -- EAGAIN of a queue that is O_NONBLOCK, or a wait
-abbrev pub blocks_unless_nonblock : {P : Type 0} → By → ℕ → Wait → Option ℕ → Turn P → Turn P
+abbrev pub blocks_unless_nonblock : {P : Type 0} → Caller → ℕ → Wait → Option ℕ → Turn P → Turn P
 blocks_unless_nonblock by q wait due s = if (queue_at s.machine q).is_nonblock then returns by res.Again 0 s else blocks_unless_late by wait due s
 
 -- ---- sending
 
-abbrev pub sends_to : {P : Type 0} → Option Waiter → By → ℕ → Message → Option ℕ → Turn P → Turn P
-sends_to (Some w) by q message due s = s ▷ returns by res.Zero 0 ▷ wakes w.thread res.Zero message.value
-sends_to None by q message due s =
+abbrev pub reaches_receiver_or_queue : {P : Type 0} → Option Waiter → Caller → ℕ → Message → Option ℕ → Turn P → Turn P
+reaches_receiver_or_queue (Some w) by q message due s = s ▷ returns by res.Zero 0 ▷ wakes w.thread res.Zero message.value
+reaches_receiver_or_queue None by q message due s =
     if has_room (queue_at s.machine q) then enters q message (returns by res.Zero 0) s else blocks_unless_nonblock by q (for_room q message) due s
 
 -- mq_send, and with a time mq_timedsend: a waiting receiver gets the message, and else it enters the queue
-abbrev pub sends_message : {P : Type 0} → By → ℕ → ℕ → Message → Option ℕ → Turn P → Turn P
+abbrev pub sends_message : {P : Type 0} → Caller → ℕ → ℕ → Message → Option ℕ → Turn P → Turn P
 sends_message by q len message due s =
     if nat_lt (queue_at s.machine q).longest len then returns by res.Msgsize 0 s
-    else sends_to (best_waiter s.machine (waits_to_receive q)) by q message due s
+    else reaches_receiver_or_queue (best_waiter s.machine (waits_to_receive q)) by q message due s
 
 -- ---- receiving
 
@@ -100,11 +100,11 @@ abbrev pub takes_over : {P : Type 0} → Option Waiter → ℕ → Turn P → Tu
 takes_over None q s = s
 takes_over (Some w) q s = enters q (message_of w.waiting.wait) (wakes w.thread res.Zero 0) s
 
-abbrev pub receives_on : {P : Type 0} → Option ℕ → By → ℕ → Option ℕ → Turn P → Turn P
-receives_on (Some n) by q due s =
+abbrev pub takes_message_or_blocks : {P : Type 0} → Option ℕ → Caller → ℕ → Option ℕ → Turn P → Turn P
+takes_message_or_blocks (Some n) by q due s =
     s ▷ changes_queue q (without_message n) ▷ returns by res.Zero (value_at (queue_at s.machine q).messages n) ▷ takes_over (best_waiter s.machine (waits_to_send q)) q
-receives_on None by q due s = blocks_unless_nonblock by q (for_message q) due s
+takes_message_or_blocks None by q due s = blocks_unless_nonblock by q (for_message q) due s
 
 -- mq_receive, and with a time mq_timedreceive
-abbrev pub receives_message : {P : Type 0} → By → ℕ → Option ℕ → Turn P → Turn P
-receives_message by q due s = receives_on (next_message (queue_at s.machine q).messages) by q due s
+abbrev pub receives_message : {P : Type 0} → Caller → ℕ → Option ℕ → Turn P → Turn P
+receives_message by q due s = takes_message_or_blocks (next_message (queue_at s.machine q).messages) by q due s

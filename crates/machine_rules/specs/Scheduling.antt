@@ -7,13 +7,13 @@ use Rattle.script_tree.specs.declared.policy.Policy.TheVariants as policy
 use Rattle.sporadic_server.specs.Server.{set_high}
 use Rattle.machine_rules.specs.State.{Thread}
 use Rattle.machine_rules.specs.Threads.{can_run, thread_at}
-use Rattle.machine_rules.specs.Turns.{By, Turn, changes, moves, returns, ◌▷◌}
+use Rattle.machine_rules.specs.Turns.{Caller, Turn, changes, moves, returns, ◌▷◌}
 use Rattle.machine_rules.specs.Servers.{activates_if, server_of}
 use Rattle.machine_rules.specs.Mutexes.{moves_unless_boosted}
 use Rattle.machine_rules.specs.Cancellation.{on_live}
 
 -- sched_yield: the caller becomes the tail of its list, and its round robin interval goes on
-abbrev pub yields : {P : Type 0} → By → Turn P → Turn P
+abbrev pub yields : {P : Type 0} → Caller → Turn P → Turn P
 yields by s = s ▷ moves by.thread ▷ returns by res.Zero 0
 
 -- EINVAL: the high priority of a sporadic server is above its low one
@@ -32,7 +32,7 @@ abbrev pub with_priority : {P : Type 0} → ℕ → Thread P → Thread P
 with_priority p th = record th { policy = at_priority p th.policy; server = option_map (set_high p) th.server }
 
 -- pthread_setschedprio: a runnable thread moves as its priority rises or falls, and not where it stays
-abbrev pub sets_priority : {P : Type 0} → By → ℕ → ℕ → Turn P → Turn P
+abbrev pub sets_priority : {P : Type 0} → Caller → ℕ → ℕ → Turn P → Turn P
 sets_priority by u p s =
     on_live by u (λ s. if takes_priority (thread_at s.machine u).policy p then (s ▷ changes u (with_priority p) ▷ returns by res.Zero 0) else returns by res.Inval 0 s) s
 
@@ -40,6 +40,6 @@ abbrev pub with_policy : {P : Type 0} → Policy → ℕ → Thread P → Thread
 with_policy new now th = record th { policy = new; slice = 0; server = server_of new now }
 
 -- pthread_setschedparam: a runnable thread becomes the tail of its list, and a sporadic one has a new server
-abbrev pub sets_policy : {P : Type 0} → By → ℕ → Policy → Turn P → Turn P
+abbrev pub sets_policy : {P : Type 0} → Caller → ℕ → Policy → Turn P → Turn P
 sets_policy by u new s =
     on_live by u (λ s. s ▷ returns by res.Zero 0 ▷ changes u (with_policy new s.machine.now) ▷ activates_if (can_run s.machine u) u ▷ moves_unless_boosted u) s

@@ -4,7 +4,7 @@ use Rattle.tick_num.specs.declared.res.Res.TheVariants as res
 use Rattle.machine_rules.specs.State.{Wait, for_semaphore}
 use Rattle.machine_rules.specs.Threads.{semaphore_at}
 use Rattle.machine_rules.specs.Waiters.{Waiter, best_waiter}
-use Rattle.machine_rules.specs.Turns.{By, Turn, changes_semaphore, is_late, returns, ◌▷◌}
+use Rattle.machine_rules.specs.Turns.{Caller, Turn, changes_semaphore, is_late, returns, ◌▷◌}
 use Rattle.machine_rules.specs.Waking.{blocks, wakes}
 
 -- SEM_VALUE_MAX
@@ -16,28 +16,28 @@ waits_on_semaphore k (for_semaphore j) = j == k
 waits_on_semaphore k wait = false
 
 -- a call that must wait: ETIMEDOUT where its time is not in the future, or it blocks
-abbrev pub blocks_unless_late : {P : Type 0} → By → Wait → Option ℕ → Turn P → Turn P
+abbrev pub blocks_unless_late : {P : Type 0} → Caller → Wait → Option ℕ → Turn P → Turn P
 blocks_unless_late by wait due s = if is_late due s.machine then returns by res.Timedout 0 s else blocks by wait due s
 
 -- sem_wait, and with a time sem_timedwait
-abbrev pub waits_semaphore : {P : Type 0} → By → ℕ → Option ℕ → Turn P → Turn P
+abbrev pub waits_semaphore : {P : Type 0} → Caller → ℕ → Option ℕ → Turn P → Turn P
 waits_semaphore by k due s =
     if nat_lt 0 (semaphore_at s.machine k) then (s ▷ changes_semaphore k pred ▷ returns by res.Zero 0) else blocks_unless_late by (for_semaphore k) due s
 
 -- sem_trywait
-abbrev pub tries_semaphore : {P : Type 0} → By → ℕ → Turn P → Turn P
+abbrev pub tries_semaphore : {P : Type 0} → Caller → ℕ → Turn P → Turn P
 tries_semaphore by k s =
     if semaphore_at s.machine k == 0 then returns by res.Again 0 s else (s ▷ changes_semaphore k pred ▷ returns by res.Zero 0)
 
-abbrev pub posts_to : {P : Type 0} → Option Waiter → By → ℕ → Turn P → Turn P
-posts_to (Some w) by k s = s ▷ returns by res.Zero 0 ▷ wakes w.thread res.Zero 0
-posts_to None by k s =
+abbrev pub wakes_waiter_or_raises_value : {P : Type 0} → Option Waiter → Caller → ℕ → Turn P → Turn P
+wakes_waiter_or_raises_value (Some w) by k s = s ▷ returns by res.Zero 0 ▷ wakes w.thread res.Zero 0
+wakes_waiter_or_raises_value None by k s =
     if semaphore_at s.machine k == semaphore_limit then returns by res.Overflow 0 s else (s ▷ changes_semaphore k suc ▷ returns by res.Zero 0)
 
 -- sem_post: the best waiter wakes, or the value grows. EOVERFLOW at the greatest value is this project's own.
-abbrev pub posts : {P : Type 0} → By → ℕ → Turn P → Turn P
-posts by k s = posts_to (best_waiter s.machine (waits_on_semaphore k)) by k s
+abbrev pub posts : {P : Type 0} → Caller → ℕ → Turn P → Turn P
+posts by k s = wakes_waiter_or_raises_value (best_waiter s.machine (waits_on_semaphore k)) by k s
 
 -- sem_getvalue
-abbrev pub reads_semaphore : {P : Type 0} → By → ℕ → Turn P → Turn P
+abbrev pub reads_semaphore : {P : Type 0} → Caller → ℕ → Turn P → Turn P
 reads_semaphore by k s = returns by res.Zero (semaphore_at s.machine k) s

@@ -50,12 +50,12 @@ activates_if_high t s = activates_server t (high_server (thread_at s.machine t).
 
 -- ---- planning: what was consumed becomes a pending replenishment
 
-abbrev pub plans_for : {P : Type 0} → ℕ → Option ServerState → Turn P → Turn P
-plans_for t None s = s
-plans_for t (Some server) s = s ▷ changes t (with_server plan) ▷ tells (event.Plan t (replenishment server).amount (replenishment server).due)
+abbrev pub plans_server : {P : Type 0} → ℕ → Option ServerState → Turn P → Turn P
+plans_server t None s = s
+plans_server t (Some server) s = s ▷ changes t (with_server plan) ▷ tells (event.Plan t (replenishment server).amount (replenishment server).due)
 
 abbrev pub plans : {P : Type 0} → ℕ → Turn P → Turn P
-plans t s = plans_for t (thread_at s.machine t).server s
+plans t s = plans_server t (thread_at s.machine t).server s
 
 -- ---- refilling: the oldest pending replenishment is carried out
 
@@ -67,10 +67,10 @@ amount_of (Some r) = r.amount
 abbrev pub regains_high : ServerState → Bool
 regains_high server = not (is_high server) && is_high (refill server)
 
-abbrev pub refills_for : {P : Type 0} → ℕ → Option ServerState → Turn P → Turn P
-refills_for t None s = s
-refills_for t (Some server) s =
+abbrev pub refills_server : {P : Type 0} → ℕ → Option ServerState → Turn P → Turn P
+refills_server t None s = s
+refills_server t (Some server) s =
     s ▷ changes t (with_server refill) ▷ tells (event.Refill t (amount_of (oldest_pending server)) (refill server).capacity) ▷ activates_if (regains_high server && can_run s.machine t) t
 
 abbrev pub refills : {P : Type 0} → ℕ → Turn P → Turn P
-refills t s = refills_for t (thread_at s.machine t).server s
+refills t s = refills_server t (thread_at s.machine t).server s

@@ -12,7 +12,7 @@ use Rattle.machine_rules.specs.Lists.{first_by}
 use Rattle.machine_rules.specs.State.{Machine, SignalRecord, Timer, Wait, for_signal}
 use Rattle.machine_rules.specs.Threads.{action_of}
 use Rattle.machine_rules.specs.Waiters.{Waiter, is_served_before, waiters}
-use Rattle.machine_rules.specs.Turns.{By, Turn, changes, changes_pending, changes_timer, returns, takes_serial, tells, ◌▷◌}
+use Rattle.machine_rules.specs.Turns.{Caller, Turn, changes, changes_pending, changes_timer, returns, takes_serial, tells, ◌▷◌}
 use Rattle.machine_rules.specs.Waking.{blocks, wakes}
 
 -- ---- records
@@ -39,9 +39,9 @@ abbrev pub record_limit : ℕ
 record_limit = 64
 
 -- whether a signal that has the target may go to the thread: one for the process may go to each
-abbrev pub goes_to : ℕ → Option ℕ → Bool
-goes_to t None = true
-goes_to t (Some u) = u == t
+abbrev pub may_go_to : ℕ → Option ℕ → Bool
+may_go_to t None = true
+may_go_to t (Some u) = u == t
 
 -- XSH 2.4.2: the lowest signal number first, and of one number the order in which they became pending
 abbrev pub is_selected_before : SignalRecord → SignalRecord → Bool
@@ -63,7 +63,7 @@ accepts r wait = false
 
 -- the thread that accepts a record as it is generated: the best of all that wait for its signal and that it may go to
 abbrev pub acceptor : {P : Type 0} → Machine P → SignalRecord → Option Waiter
-acceptor m r = first_by is_served_before (filter (λ (w : Waiter). goes_to w.thread r.target) (waiters m (accepts r)))
+acceptor m r = first_by is_served_before (filter (λ (w : Waiter). may_go_to w.thread r.target) (waiters m (accepts r)))
 
 -- timer_getoverrun: the count as the timer's signal is delivered or accepted
 abbrev pub with_overrun_told : Timer → Timer
@@ -82,13 +82,13 @@ delivers t r s = s ▷ tells (event.Deliver t r.signal r.code r.value) ▷ tells
 abbrev pub becomes_pending : {P : Type 0} → SignalRecord → Turn P → Turn P
 becomes_pending r s = s ▷ changes_pending (λ (pending : List SignalRecord). pending ++ record r { serial = s.machine.next_serial } ∷ []) ▷ takes_serial
 
-abbrev pub generates_for : {P : Type 0} → Option Waiter → SignalRecord → Turn P → Turn P
-generates_for (Some w) r s = s ▷ delivers w.thread r ▷ wakes w.thread res.Zero r.signal
-generates_for None r s = if is_ignore (action_of s.machine r.signal) then s else becomes_pending r s
+abbrev pub is_accepted_or_pends : {P : Type 0} → Option Waiter → SignalRecord → Turn P → Turn P
+is_accepted_or_pends (Some w) r s = s ▷ delivers w.thread r ▷ wakes w.thread res.Zero r.signal
+is_accepted_or_pends None r s = if is_ignore (action_of s.machine r.signal) then s else becomes_pending r s
 
 -- a waiting thread accepts the signal, or it is ignored, or it becomes pending
 abbrev pub generates : {P : Type 0} → SignalRecord → Turn P → Turn P
-generates r s = generates_for (acceptor s.machine r) r s
+generates r s = is_accepted_or_pends (acceptor s.machine r) r s
 
 -- whether as many records are pending as may be queued
 abbrev pub is_full : {P : Type 0} → Machine P → Bool
@@ -99,7 +99,7 @@ abbrev pub has_no_room : {P : Type 0} → Machine P → SignalRecord → Bool
 has_no_room m r = is_none (acceptor m r) && not (is_ignore (action_of m r.signal)) && is_full m
 
 -- kill, pthread_kill and sigqueue
-abbrev pub sends_signal : {P : Type 0} → By → SignalRecord → Turn P → Turn P
+abbrev pub sends_signal : {P : Type 0} → Caller → SignalRecord → Turn P → Turn P
 sends_signal by r s = if has_no_room s.machine r then returns by res.Again 0 s else (s ▷ returns by res.Zero 0 ▷ generates r)
 
 -- SI_USER, by kill to the process, by pthread_kill to a thread (that code for it is this project's own)
@@ -118,21 +118,21 @@ with_signals more set = bit_or set more
 abbrev pub without_signals : ℕ → ℕ → ℕ
 without_signals fewer set = bit_and set (every_signal - fewer)
 
-abbrev pub sets_mask : {P : Type 0} → By → (ℕ → ℕ) → Turn P → Turn P
+abbrev pub sets_mask : {P : Type 0} → Caller → (ℕ → ℕ) → Turn P → Turn P
 sets_mask by change s = s ▷ changes by.thread (λ th. record th { mask = change th.mask }) ▷ returns by res.Zero 0
 
 -- ---- waiting for signals: sigwaitinfo, and with ticks sigtimedwait
 
 -- nothing is pending: EAGAIN where no time is given to wait
-abbrev pub waits_ticks : {P : Type 0} → Option ℕ → By → ℕ → Turn P → Turn P
-waits_ticks None by set s = blocks by (for_signal set) None s
-waits_ticks (Some zero) by set s = returns by res.Again 0 s
-waits_ticks (Some (suc n)) by set s = blocks by (for_signal set) (Some (s.machine.now + suc n)) s
+abbrev pub blocks_for_signal : {P : Type 0} → Option ℕ → Caller → ℕ → Turn P → Turn P
+blocks_for_signal None by set s = blocks by (for_signal set) None s
+blocks_for_signal (Some zero) by set s = returns by res.Again 0 s
+blocks_for_signal (Some (suc n)) by set s = blocks by (for_signal set) (Some (s.machine.now + suc n)) s
 
-abbrev pub waits_signal_on : {P : Type 0} → Option SignalRecord → Option ℕ → By → ℕ → Turn P → Turn P
-waits_signal_on (Some r) ticks by set s = s ▷ changes_pending (without_record r) ▷ delivers by.thread r ▷ returns by res.Zero r.signal
-waits_signal_on None ticks by set s = waits_ticks ticks by set s
+abbrev pub takes_signal_or_waits : {P : Type 0} → Option SignalRecord → Option ℕ → Caller → ℕ → Turn P → Turn P
+takes_signal_or_waits (Some r) ticks by set s = s ▷ changes_pending (without_record r) ▷ delivers by.thread r ▷ returns by res.Zero r.signal
+takes_signal_or_waits None ticks by set s = blocks_for_signal ticks by set s
 
 -- a pending record of the set is accepted, whatever its action and the mask
-abbrev pub waits_signal : {P : Type 0} → Option ℕ → By → ℕ → Turn P → Turn P
-waits_signal ticks by set s = waits_signal_on (selected s.machine (λ (r : SignalRecord). has_signal set r.signal && goes_to by.thread r.target)) ticks by set s
+abbrev pub waits_signal : {P : Type 0} → Option ℕ → Caller → ℕ → Turn P → Turn P
+waits_signal ticks by set s = takes_signal_or_waits (selected s.machine (λ (r : SignalRecord). has_signal set r.signal && may_go_to by.thread r.target)) ticks by set s

@@ -7,16 +7,16 @@ use Rattle.tick_num.specs.declared.sig_code.SigCode.TheVariants as code
 use Rattle.machine_rules.specs.Lists.{is}
 use Rattle.machine_rules.specs.State.{Machine, SignalRecord, Timer, for_time}
 use Rattle.machine_rules.specs.Threads.{timer_at}
-use Rattle.machine_rules.specs.Turns.{By, Turn, changes_timer, has_passed, returns, ◌▷◌}
+use Rattle.machine_rules.specs.Turns.{Caller, Turn, changes_timer, has_passed, returns, ◌▷◌}
 use Rattle.machine_rules.specs.Waking.{blocks_unordered}
 use Rattle.machine_rules.specs.Signals.{generates}
 
 -- nanosleep and clock_nanosleep
-abbrev pub sleeps_until : {P : Type 0} → By → ℕ → Turn P → Turn P
+abbrev pub sleeps_until : {P : Type 0} → Caller → ℕ → Turn P → Turn P
 sleeps_until by at s = if has_passed at s.machine then returns by res.Zero 0 s else blocks_unordered by for_time (Some at) s
 
 -- clock_gettime
-abbrev pub reads_clock : {P : Type 0} → By → Turn P → Turn P
+abbrev pub reads_clock : {P : Type 0} → Caller → Turn P → Turn P
 reads_clock by s = returns by res.Zero s.machine.now s
 
 -- ---- arming
@@ -31,7 +31,7 @@ abbrev pub armed : Option ℕ → ℕ → Timer → Timer
 armed due interval k = record k { due = due; interval = interval }
 
 -- timer_settime
-abbrev pub sets_timer : {P : Type 0} → By → ℕ → Option ℕ → ℕ → Turn P → Turn P
+abbrev pub sets_timer : {P : Type 0} → Caller → ℕ → Option ℕ → ℕ → Turn P → Turn P
 sets_timer by k due interval s = s ▷ changes_timer k (armed due interval) ▷ returns by res.Zero 0
 
 abbrev pub ticks_to : Option ℕ → ℕ → ℕ
@@ -39,11 +39,11 @@ ticks_to None now = 0
 ticks_to (Some due) now = due - now
 
 -- timer_gettime
-abbrev pub reads_timer : {P : Type 0} → By → ℕ → Turn P → Turn P
+abbrev pub reads_timer : {P : Type 0} → Caller → ℕ → Turn P → Turn P
 reads_timer by k s = returns by res.Zero (ticks_to (timer_at s.machine k).due s.machine.now) s
 
 -- timer_getoverrun
-abbrev pub reads_overrun : {P : Type 0} → By → ℕ → Turn P → Turn P
+abbrev pub reads_overrun : {P : Type 0} → Caller → ℕ → Turn P → Turn P
 reads_overrun by k s = returns by res.Zero (timer_at s.machine k).overrun s
 
 -- ---- expiry

@@ -21,7 +21,7 @@ abbrev pub turn_of : {P : Type 0} → Machine P → Turn P
 turn_of m = record { machine = m; direct = []; events = [] }
 
 -- who calls, and what
-pub record By : Type 0 where
+pub record Caller : Type 0 where
   pub thread : ℕ
   pub call : Call
 
@@ -103,7 +103,7 @@ abbrev pub answered : {P : Type 0} → Res → ℕ → Thread P → Thread P
 answered result value th = record th { frames = frames_answered result value th.frames }
 
 -- the caller's call returns
-abbrev pub returns : {P : Type 0} → By → Res → ℕ → Turn P → Turn P
+abbrev pub returns : {P : Type 0} → Caller → Res → ℕ → Turn P → Turn P
 returns by result value s = s ▷ changes by.thread (answered result value) ▷ tells (event.Return by.thread (name_of by.call) result value)
 
 -- whether an absolute time is not in the future

@@ -13,7 +13,7 @@ use Rattle.machine_rules.specs.declared.frame.FrameKind.TheVariants as frame
 use Rattle.machine_rules.specs.State.{Frame, Thread, Wait, Waiting, blocked, runnable}
 use Rattle.machine_rules.specs.Threads.{waiting_of}
 use Rattle.machine_rules.specs.Bodies.{Bodies}
-use Rattle.machine_rules.specs.Turns.{By, Turn, answered, changes, moves, takes_serial, tells, ◌▷◌}
+use Rattle.machine_rules.specs.Turns.{Caller, Turn, answered, changes, moves, takes_serial, tells, ◌▷◌}
 use Rattle.machine_rules.specs.CallNames.{name_of}
 use Rattle.machine_rules.specs.Servers.{activates, activates_if_high, server_of}
 
@@ -23,12 +23,12 @@ abbrev pub put_to_wait : {P : Type 0} → Waiting → Thread P → Thread P
 put_to_wait w th = record th { status = blocked w }
 
 -- the caller blocks; its wait takes the next serial
-abbrev pub blocks : {P : Type 0} → By → Wait → Option ℕ → Turn P → Turn P
+abbrev pub blocks : {P : Type 0} → Caller → Wait → Option ℕ → Turn P → Turn P
 blocks by wait due s =
     s ▷ changes by.thread (put_to_wait (record { wait = wait; serial = s.machine.next_serial; due = due; call = by.call })) ▷ takes_serial
 
 -- a wait with no order among its waiters, for a time or an end, takes no serial
-abbrev pub blocks_unordered : {P : Type 0} → By → Wait → Option ℕ → Turn P → Turn P
+abbrev pub blocks_unordered : {P : Type 0} → Caller → Wait → Option ℕ → Turn P → Turn P
 blocks_unordered by wait due s = changes by.thread (put_to_wait (record { wait = wait; serial = 0; due = due; call = by.call })) s
 
 -- ---- waking

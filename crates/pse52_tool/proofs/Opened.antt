@@ -11,12 +11,12 @@ use Rattle.machine_places.proofs.CarriedTrace.{closing_carries, runs_carry}
 use Rattle.machine_flat.specs.FlatBodies.{code_of, flat_bodies}
 use Rattle.flat_traces.proofs.Agrees.{carry, flat_agrees, flat_traces}
 use Rattle.kernel_state.specs.Kernel.{Kernel, opened}
-use Rattle.rt_kernel.specs.Ran.{run_text, ticked_by}
+use Rattle.rt_kernel.specs.Ran.{kernel_trace, ticked_by}
 use Rattle.pse52_tool.specs.Answer.{closing_lines}
 
 -- it is the trace of the machine over the trees of the script
-pub opened_text : (k : Kernel) (script : Script) (n : ℕ) → k ≡ opened script → run_text k n ≡ trace script n
-opened_text k script n is = ap (λ (s : Kernel). run_text s n) is ∙ flat_traces script n
+pub opened_text : (k : Kernel) (script : Script) (n : ℕ) → k ≡ opened script → kernel_trace k n ≡ trace script n
+opened_text k script n is = ap (λ (s : Kernel). kernel_trace s n) is ∙ flat_traces script n
 
 -- it is as busy as that machine
 pub opened_busy : (k : Kernel) (script : Script) (n : ℕ) → k ≡ opened script → busy (flat_bodies k.code) k.machine 0 n ≡ busy_between script 0 n

@@ -8,7 +8,7 @@ ghost use Rattle.machine_rules.specs.Eventful.{busy};
 ghost use Rattle.machine_rules.specs.Machine.{trace};
 ghost use Rattle.machine_rules.specs.Promises.{busy_between};
 ghost use Rattle.machine_rules.specs.WellFormed.{IsWellFormed};
-ghost use Rattle.rt_kernel.specs.Ran.{run_text, ticked_by};
+ghost use Rattle.rt_kernel.specs.Ran.{kernel_trace, ticked_by};
 ghost use Rattle.pse52_tool.specs.Answer.{closing_lines};
 
 use pse52_trace::Tracer;
@@ -21,7 +21,7 @@ use step_counter::Steps;
 use tick_num::Tick;
 
 // Runs a kernel from its first instant to the horizon, and prints the trace. A process that a signal ended has come to an ordinary end.
-fn run_kernel<K: Sink, L: Ledger>(
+fn run_and_report<K: Sink, L: Ledger>(
     kernel: &mut Kernel,
     horizon: Tick,
     out: &mut Tracer<'_, K>,
@@ -30,7 +30,7 @@ fn run_kernel<K: Sink, L: Ledger>(
     requires fresh { kernel.old.machine.now ≡ 0 }
     requires limit { horizon ≤ 10 ^ 18 }
     requires unfailed { out.old.failed ≡ false }
-    ensures printed { Prints K.text K.faults out.old out.new (run_text kernel.old horizon) }
+    ensures printed { Prints K.text K.faults out.old out.new (kernel_trace kernel.old horizon) }
     ensures busy { steps.new ≤ steps.old + busy (flat_bodies kernel.old.code) kernel.old.machine 0 horizon + 1 }
 {
     let _ = kernel.run_until(horizon, out, steps);
@@ -41,7 +41,7 @@ fn run_kernel<K: Sink, L: Ledger>(
 }
 
 // Runs a script from its first instant to the horizon, and prints its trace. From the open kernel on, nothing takes memory.
-fn print_trace<K: Sink, L: Ledger>(
+fn open_and_run<K: Sink, L: Ledger>(
     alloc: Global,
     script: &Script,
     horizon: Tick,
@@ -57,7 +57,7 @@ fn print_trace<K: Sink, L: Ledger>(
     ensures busy { steps.new ≤ steps.old + busy_between script.now 0 horizon + 1 }
 {
     let mut kernel = Kernel::open(alloc, script)?;
-    run_kernel(&mut kernel, horizon, out, steps);
+    run_and_report(&mut kernel, horizon, out, steps);
     Ok(())
 }
 
@@ -79,7 +79,7 @@ pub(crate) fn print_run<K: Sink, L: Ledger>(
     ensures busy { steps.new ≤ steps.old + busy_between script.now 0 horizon + 1 }
 {
     let mut out = Tracer::new(sink);
-    print_trace(alloc, script, horizon, &mut out, steps)?;
+    open_and_run(alloc, script, horizon, &mut out, steps)?;
     Ok(out.failed())
 }
 

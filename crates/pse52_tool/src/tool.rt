@@ -33,7 +33,7 @@ use task_script::{Script, ScriptEnd, read_script};
 use tick_num::Tick;
 
 // Runs a script and prints its trace.
-fn run_script<K: Sink, L: Ledger>(
+fn tell_trace<K: Sink, L: Ledger>(
     alloc: Global,
     script: &Script,
     horizon: Tick,
@@ -73,7 +73,7 @@ pub(crate) fn put_text<K: Sink>(sink: &mut K, text: &[u8], status: Status) -> St
 }
 
 // Reads a script, runs it and prints its trace.
-fn run_text<K: Sink, L: Ledger>(
+fn answer_run<K: Sink, L: Ledger>(
     alloc: Global,
     text: &[u8],
     horizon: Tick,
@@ -89,7 +89,7 @@ fn run_text<K: Sink, L: Ledger>(
     ensures busy { StepsAreFew horizon text.now steps.old steps.new }
 {
     match read_script(alloc, text) {
-        Ok(script) => run_script(alloc, &script, horizon, sink, steps),
+        Ok(script) => tell_trace(alloc, &script, horizon, sink, steps),
         Err(ScriptEnd::Fault(line, kind)) => {
             let message = refused_line(line, kind);
             put_text(sink, message.as_slice(), Status::Refused)
@@ -117,7 +117,7 @@ fn answer_text<K: Sink, L: Ledger>(
     ensures soaks { (seed n : ℕ) → command.now ≡ Command.Soak seed n → steps.new ≤ steps.old + busy_between (script_of seed) 0 n + 1 }
 {
     match *command {
-        Command::Run(horizon) => run_text(alloc, text, horizon, sink, steps),
+        Command::Run(horizon) => answer_run(alloc, text, horizon, sink, steps),
         Command::Check(horizon) => check_text(alloc, text, horizon, sink, steps),
         Command::ResponseTimes(bound) => tell_responses(alloc, text, bound, sink, steps),
         Command::Gen(seed) => tell_generated(alloc, seed, sink),

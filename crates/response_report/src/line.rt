@@ -6,10 +6,10 @@ use arrayvec::ArrayVec;
 use fixed_text::{add, add_number};
 
 /// Room for the longest line, in bytes: a name has at most 32, and a number at most 20.
-pub(crate) type Line = ArrayVec<u8, 68>;
+pub(crate) type TaskLine = ArrayVec<u8, 68>;
 
 /// The line of the task of that name: its response in ticks, or that there is none up to the bound.
-pub(crate) fn task_line(name: &[u8], response: Option<u64>) -> Line
+pub(crate) fn task_line(name: &[u8], response: Option<u64>) -> TaskLine
     requires { length name.now ≤ 32 }
     ensures { result.items ≡ task_line name.now response }
 {

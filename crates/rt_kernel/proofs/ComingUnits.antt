@@ -11,7 +11,7 @@ use Rattle.machine_rules.specs.State.{Frame, Machine, Thread}
 use Rattle.machine_rules.specs.Lists.{changed_at}
 use Rattle.machine_rules.specs.Threads.{can_run, is_runnable, no_thread, thread_at, top_kind}
 use Rattle.machine_rules.specs.Turns.{Turn, changes, tells, with_thread}
-use Rattle.machine_rules.specs.Servers.{plans, plans_for, with_server}
+use Rattle.machine_rules.specs.Servers.{plans, plans_server, with_server}
 use Rattle.machine_rules.specs.Mutexes.{owns_boosting}
 use Rattle.machine_rules.specs.Calls.{unit_effect}
 use Rattle.machine_rules.specs.Ticks.{TickEnd, completes_at, ends_tick, exhausting, nothing, planning, slicing, without_slice}
@@ -39,7 +39,7 @@ completes_come bodies o (suc left) t u s can = fewer_come s.machine s.machine s.
 
 -- ---- the rule of the tick's end
 
-plans_fewer : {P : Type 0} (t : ℕ) (o : Option ServerState) (s : Turn P) → Fewer s.machine (plans_for t o s).machine
+plans_fewer : {P : Type 0} (t : ℕ) (o : Option ServerState) (s : Turn P) → Fewer s.machine (plans_server t o s).machine
 plans_fewer t None s u r = r
 plans_fewer t (Some server) s u r = changes_fewer t (with_server plan) s (λ h. h) u r
 

@@ -80,7 +80,7 @@ module _ {P : Type 0} (m : Machine P) where
 
 -- ---- so it may have a tick
 
-head_fits : (o : Objects) (code : flat.Bodies (List Op)) (m : Machine Cursor) (last : LastDispatch) (t : ℕ) → StoodRight m → head m ≡ Some t → Fits o code m → FitsLeap o code (record m { last = last }) t
+head_fits : (o : Objects) (code : flat.NumberedBodies (List Op)) (m : Machine Cursor) (last : LastDispatch) (t : ℕ) → StoodRight m → head m ≡ Some t → Fits o code m → FitsLeap o code (record m { last = last }) t
 head_fits o code m last t stood e fit = record {
   thread = fit.top t e;
   runs = head_runs m t stood e;

@@ -26,13 +26,13 @@ use Rattle.kernel_laws.specs.Visitable.{CanBeSwept}
 use Rattle.rt_kernel.specs.Good.{IsGood}
 
 -- a thread that may have ticks
-pub record FitsThread (o : Objects) (code : flat.Bodies (List Op)) (now : ℕ) (th : Thread Cursor) : Type 0 where
+pub record FitsThread (o : Objects) (code : flat.NumberedBodies (List Op)) (now : ℕ) (th : Thread Cursor) : Type 0 where
   pub can : CanTick o (flat_bodies code) th
   pub placed : ArePlaced code th.frames
   pub room : IsWithin now th
 
 -- a machine with so many objects, whose head may have ticks; a sweep could come, or came to it
-pub record Fits (o : Objects) (code : flat.Bodies (List Op)) (m : Machine Cursor) : Type 0 where
+pub record Fits (o : Objects) (code : flat.NumberedBodies (List Op)) (m : Machine Cursor) : Type 0 where
   pub items : CanHandle m
   pub joins : JoinsFit m
   pub top : (t : ℕ) → head m ≡ Some t → FitsThread o code m.now (thread_at m t)
@@ -43,7 +43,7 @@ pub record Fits (o : Objects) (code : flat.Bodies (List Op)) (m : Machine Cursor
   pub good : IsGood (flat_bodies code) m
 
 -- a thread of a machine may have ticks
-pub record FitsLeap (o : Objects) (code : flat.Bodies (List Op)) (m : Machine Cursor) (t : ℕ) : Type 0 where
+pub record FitsLeap (o : Objects) (code : flat.NumberedBodies (List Op)) (m : Machine Cursor) (t : ℕ) : Type 0 where
   pub thread : FitsThread o code m.now (thread_at m t)
   pub runs : can_run m t ≡ true
   pub waits : WaitsFit m

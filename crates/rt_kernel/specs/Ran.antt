@@ -10,5 +10,5 @@ abbrev pub ticked_by : ℕ → Kernel → Kernel
 ticked_by n k = record k { machine = (ticks (flat_bodies k.code) n k.machine).machine }
 
 -- the text of a run of n ticks, with the closing lines
-abbrev pub run_text : Kernel → ℕ → List ℕ
-run_text k n = let done = ticks (flat_bodies k.code) n k.machine in lines k.names done.events ++ closing k.names done.machine
+abbrev pub kernel_trace : Kernel → ℕ → List ℕ
+kernel_trace k n = let done = ticks (flat_bodies k.code) n k.machine in lines k.names done.events ++ closing k.names done.machine

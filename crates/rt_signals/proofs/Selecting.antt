@@ -8,7 +8,7 @@ use Rattle.std.proofs.lemmas.Nat.Bits.{bit_at-lt, bit_at_and, bit_at_not}
 use Rattle.tick_num.specs.Signals.{has_signal}
 use Rattle.machine_rules.specs.Lists.{first_by, first_of}
 use Rattle.machine_rules.specs.State.{SignalRecord}
-use Rattle.machine_rules.specs.Signals.{goes_to, is_selected_before}
+use Rattle.machine_rules.specs.Signals.{may_go_to, is_selected_before}
 use Rattle.ranked_arrivals.specs.Arrivals.{Arrival, IsArrival}
 use Rattle.rt_signals.specs.Choice.{IsLowest, NoneBelow, is_in_set, may_take, selected_in}
 use Rattle.rt_signals.specs.Kept.{AreRanked, AreRising, record_at, record_of, records_of}
@@ -52,7 +52,7 @@ module _ (t set : ℕ) (records : List SignalRecord) where
   AreAbove order limit = AllByRecursion (λ (a : Arrival). is_in_set t set (record_of records a) ≡ true → limit ≤ a.rank) order
 
   none_later : (a : Arrival) (order : List Arrival) (limit : ℕ) → NoneBelow t set records (a ∷ order) limit → NoneBelow t set records order limit
-  none_later a order limit none s below has = without (a.rank == s && goes_to t (record_of records a).target) (none s below has)
+  none_later a order limit none s below has = without (a.rank == s && may_go_to t (record_of records a).target) (none s below has)
     where
       without : (b : Bool) → (if b then Some a.node else first_wanted (ForThread t) s records order) ≡ None → first_wanted (ForThread t) s records order ≡ None
       without true e = cc
@@ -64,11 +64,11 @@ module _ (t set : ℕ) (records : List SignalRecord) where
       at_least : (b : Bool) → nat_lt a.rank limit ≡ b → limit ≤ a.rank
       at_least true e =
           let below : a.rank < limit = grind (arith, nat_tests, e) in
-          let both = both_true (has_signal set (record_of records a).signal) (goes_to t (record_of records a).target) in_set in
+          let both = both_true (has_signal set (record_of records a).signal) (may_go_to t (record_of records a).target) in_set in
           let has : has_signal set a.rank ≡ true = ap (has_signal set) (sym ranked) ∙ both.0 in
           let same : (a.rank == a.rank) ≡ true = grind (arith, nat_tests) in
           let some : Some a.node ≡ None =
-          sym (ap (λ (b : Bool). if b && goes_to t (record_of records a).target then Some a.node else first_wanted (ForThread t) a.rank records order) same
+          sym (ap (λ (b : Bool). if b && may_go_to t (record_of records a).target then Some a.node else first_wanted (ForThread t) a.rank records order) same
           ∙ ap (λ (b : Bool). if b then Some a.node else first_wanted (ForThread t) a.rank records order) both.1) ∙ none a.rank below has in
           cc
       at_least false e = grind (arith, nat_tests, e)
@@ -92,16 +92,16 @@ module _ (t set : ℕ) (records : List SignalRecord) where
     selected : lowest_in order ≡ Some (record_at records n)
     of_signal : (record_at records n).signal ≡ signal
 
-  found_here : (a : Arrival) (order : List Arrival) (signal n : ℕ) → (a.rank == signal && goes_to t (record_of records a).target) ≡ true → Some a.node ≡ Some n → has_signal set signal ≡ true →
+  found_here : (a : Arrival) (order : List Arrival) (signal n : ℕ) → (a.rank == signal && may_go_to t (record_of records a).target) ≡ true → Some a.node ≡ Some n → has_signal set signal ≡ true →
       AreRanked records (a ∷ order) → AreRising (records_of records (a ∷ order)) → AreAbove (a ∷ order) signal → IsFound (a ∷ order) signal n
   found_here a order signal n test e has ranked rising above =
       let node : a.node ≡ n = cc in
-      let both = both_true (a.rank == signal) (goes_to t (record_of records a).target) test in
+      let both = both_true (a.rank == signal) (may_go_to t (record_of records a).target) test in
       let rank : a.rank ≡ signal = (let same = both.0 in grind (arith, nat_tests, same)) in
       let of_it : (record_of records a).signal ≡ signal = ranked.0 ∙ rank in
       let pass : is_in_set t set (record_of records a) ≡ true =
-      ap (λ s. has_signal set s && goes_to t (record_of records a).target) of_it
-      ∙ ap (λ (b : Bool). b && goes_to t (record_of records a).target) has ∙ both.1 in
+      ap (λ s. has_signal set s && may_go_to t (record_of records a).target) of_it
+      ∙ ap (λ (b : Bool). b && may_go_to t (record_of records a).target) has ∙ both.1 in
       let first = first_each (λ (s : SignalRecord). is_selected_before s (record_of records a) ≡ false) (filter (is_in_set t set) (records_of records order))
       (not_before (record_of records a) signal of_it order ranked.1 above.1 rising.0) in
       record {
@@ -110,13 +110,13 @@ module _ (t set : ℕ) (records : List SignalRecord) where
         of_signal = ap (λ k. (record_at records k).signal) (sym node) ∙ of_it;
       }
 
-  pass_on : (a : Arrival) (order : List Arrival) (signal n : ℕ) (b : Bool) → is_in_set t set (record_of records a) ≡ b → (a.rank == signal && goes_to t (record_of records a).target) ≡ false →
+  pass_on : (a : Arrival) (order : List Arrival) (signal n : ℕ) (b : Bool) → is_in_set t set (record_of records a) ≡ b → (a.rank == signal && may_go_to t (record_of records a).target) ≡ false →
       (record_of records a).signal ≡ a.rank → (is_in_set t set (record_of records a) ≡ true → signal ≤ a.rank) → IsFound order signal n →
       first_by is_selected_before (if b then record_of records a ∷ filter (is_in_set t set) (records_of records order) else filter (is_in_set t set) (records_of records order)) ≡ Some (record_at records n)
   pass_on a order signal n true p test ranked above later =
-      let goes : goes_to t (record_of records a).target ≡ true = (both_true (has_signal set (record_of records a).signal) (goes_to t (record_of records a).target) p).1 in
+      let goes : may_go_to t (record_of records a).target ≡ true = (both_true (has_signal set (record_of records a).signal) (may_go_to t (record_of records a).target) p).1 in
       let le : signal ≤ a.rank = above p in
-      let other : (a.rank == signal) ≡ false = not_and (a.rank == signal) (goes_to t (record_of records a).target) goes test in
+      let other : (a.rank == signal) ≡ false = not_and (a.rank == signal) (may_go_to t (record_of records a).target) goes test in
       let less : (record_at records n).signal < (record_of records a).signal = (let is = later.of_signal in grind (arith, nat_tests, le, other, ranked, is)) in
       let before : is_selected_before (record_at records n) (record_of records a) ≡ true = grind (arith, nat_tests, less) in
       ap (λ (o : Option SignalRecord). Some (first_of is_selected_before (record_of records a) o)) later.selected
@@ -127,7 +127,7 @@ module _ (t set : ℕ) (records : List SignalRecord) where
       not_and false c e f = refl
   pass_on a order signal n false p test ranked above later = later.selected
 
-  found_if : (a : Arrival) (order : List Arrival) (signal n : ℕ) (b : Bool) → (a.rank == signal && goes_to t (record_of records a).target) ≡ b →
+  found_if : (a : Arrival) (order : List Arrival) (signal n : ℕ) (b : Bool) → (a.rank == signal && may_go_to t (record_of records a).target) ≡ b →
       (if b then Some a.node else first_wanted (ForThread t) signal records order) ≡ Some n → has_signal set signal ≡ true →
       AreRanked records (a ∷ order) → AreRising (records_of records (a ∷ order)) → AreAbove (a ∷ order) signal →
       (first_wanted (ForThread t) signal records order ≡ Some n → IsFound order signal n) → IsFound (a ∷ order) signal n
@@ -141,7 +141,7 @@ module _ (t set : ℕ) (records : List SignalRecord) where
       AreAbove order signal → IsFound order signal n
   found_in [] signal n e has ranked rising above = cc
   found_in (a ∷ order) signal n e has ranked rising above =
-      found_if a order signal n (a.rank == signal && goes_to t (record_of records a).target) refl e has ranked rising above (λ f. found_in order signal n f has ranked.1 rising.1 above.1)
+      found_if a order signal n (a.rank == signal && may_go_to t (record_of records a).target) refl e has ranked rising above (λ f. found_in order signal n f has ranked.1 rising.1 above.1)
 
   pub is_selected : (order : List Arrival) (n : ℕ) → AreRanked records order → AreRising (records_of records order) → IsLowest t set records order n →
       selected_in (records_of records order) (is_in_set t set) ≡ Some (record_at records n)
@@ -218,8 +218,8 @@ pub taken_same : (t mask kills set : ℕ) (runs : Bool) → ((s : ℕ) → s < 3
 taken_same t mask kills set runs is [] small = refl
 taken_same t mask kills set runs is (r ∷ pending) small =
     filter_same (is_in_set t set) (may_take t mask kills runs) r pending
-    (ap (λ (b : Bool). b && goes_to t r.target) (is r.signal (small 0 r (omega arith)))
-    ∙ and_turned (not (has_signal mask r.signal)) (has_signal kills r.signal || runs) (goes_to t r.target))
+    (ap (λ (b : Bool). b && may_go_to t r.target) (is r.signal (small 0 r (omega arith)))
+    ∙ and_turned (not (has_signal mask r.signal)) (has_signal kills r.signal || runs) (may_go_to t r.target))
     (taken_same t mask kills set runs is pending (λ k d l. small (suc k) d (omega (arith, l))))
 
 -- ---- bits of sets

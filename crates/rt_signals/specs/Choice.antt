@@ -2,7 +2,7 @@
 use Rattle.std.specs.Prelude.{◌≡◌, ◌<◌, ◌&&◌, ◌||◌, Bool, List, None, Option, Some, filter, not, true, ℕ}
 use Rattle.tick_num.specs.Signals.{has_signal}
 use Rattle.machine_rules.specs.Lists.{first_by}
-use Rattle.machine_rules.specs.Signals.{goes_to, is_selected_before, without_record}
+use Rattle.machine_rules.specs.Signals.{may_go_to, is_selected_before, without_record}
 use Rattle.machine_rules.specs.State.{SignalRecord}
 use Rattle.ranked_arrivals.specs.Arrivals.{Arrival}
 use Rattle.rt_signals.specs.Walks.{first_wanted}
@@ -14,12 +14,12 @@ selected_in pending passes = first_by is_selected_before (filter passes pending)
 
 -- a record of the set that may go to the thread
 abbrev pub is_in_set : ℕ → ℕ → SignalRecord → Bool
-is_in_set t set r = has_signal set r.signal && goes_to t r.target
+is_in_set t set r = has_signal set r.signal && may_go_to t r.target
 
 -- a record that may go to the thread, that its mask lets through, and that ends the process or finds the thread ready for a handler:
 -- `can_take` of the machine, where `kills` has the signals that end the process
 abbrev pub may_take : ℕ → ℕ → ℕ → Bool → SignalRecord → Bool
-may_take t mask kills runs_handlers r = goes_to t r.target && not (has_signal mask r.signal) && (has_signal kills r.signal || runs_handlers)
+may_take t mask kills runs_handlers r = may_go_to t r.target && not (has_signal mask r.signal) && (has_signal kills r.signal || runs_handlers)
 
 -- without the record, if there is one
 abbrev pub without_one : Option SignalRecord → List SignalRecord → List SignalRecord

@@ -1,7 +1,7 @@
 -- A walk along the nodes of one rank.
 use Rattle.std.specs.Prelude.{◌==◌, ◌&&◌, if◌then◌else◌, Bool, List, [], ◌∷◌, None, Option, Some, ℕ}
 use Rattle.machine_rules.specs.State.{SignalRecord}
-use Rattle.machine_rules.specs.Signals.{goes_to}
+use Rattle.machine_rules.specs.Signals.{may_go_to}
 use Rattle.ranked_arrivals.specs.Arrivals.{Arrival}
 use Rattle.rt_signals.specs.Kept.{record_of}
 use Rattle.rt_signals.specs.declared.choice.Wanted.{Wanted}
@@ -9,7 +9,7 @@ use Rattle.rt_signals.specs.declared.choice.Wanted.TheVariants.{ForThread, WithS
 
 -- whether a record is the one
 abbrev pub is_wanted : Wanted → SignalRecord → Bool
-is_wanted (ForThread t) r = goes_to t r.target
+is_wanted (ForThread t) r = may_go_to t r.target
 is_wanted (WithSerial n) r = r.serial == n
 
 -- the oldest of a signal that is wanted

@@ -2,7 +2,7 @@
 ghost use Rattle.std.specs.Prelude.{◌≡◌, ◌<◌, length, slice_index_or, if◌then◌else◌};
 ghost use Rattle.tick_num.specs.Signals.{with_signal};
 ghost use Rattle.machine_rules.specs.declared.signal.SigAction.{SigAction};
-ghost use Rattle.machine_rules.specs.Declarations.{action_for, actions_of, with_action};
+ghost use Rattle.machine_rules.specs.Declarations.{declared_action, actions_of, with_action};
 ghost use Rattle.machine_rules.specs.Signals.{is_kill};
 ghost use Rattle.rt_signals.specs.Actions.{Kills};
 
@@ -32,8 +32,8 @@ impl Model for Actions {
     ghost invariant = { λ a. AreActions a.items a.kills };
 }
 
-fn action_for(handler: &Option<ObjId>) -> SigAction
-    ensures { result ≡ action_for handler.now }
+fn declared_action(handler: &Option<ObjId>) -> SigAction
+    ensures { result ≡ declared_action handler.now }
 {
     match handler {
         None => SigAction::Ignore,
@@ -58,7 +58,7 @@ fn declare(items: &mut [SigAction; 32], decl: &Decl)
 {
     if let Decl::Action(signal, handler) = decl {
         if *signal < 32 {
-            items[*signal as usize] = action_for(handler);
+            items[*signal as usize] = declared_action(handler);
         }
     }
 }

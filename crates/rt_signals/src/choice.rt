@@ -1,6 +1,6 @@
 // The search for a record, along the lists of the signals.
 ghost use Rattle.std.specs.Prelude.{◌≡◌, ◌≤◌, ◌<◌, true, length, IfSome, MatchOption};
-ghost use Rattle.machine_rules.specs.Signals.{goes_to};
+ghost use Rattle.machine_rules.specs.Signals.{may_go_to};
 ghost use Rattle.ranked_arrivals.specs.Arrivals.{AreArrivals, has_come};
 ghost use Rattle.rt_signals.specs.Choice.{IsLowest, NoneBelow};
 ghost use Rattle.rt_signals.specs.Walks.{first_wanted, is_wanted};
@@ -16,8 +16,8 @@ pub(crate) enum Wanted {
     WithSerial(u64),
 }
 
-fn goes_to(t: Tid, target: Option<Tid>) -> bool
-    ensures { result ≡ goes_to t target }
+fn may_go_to(t: Tid, target: Option<Tid>) -> bool
+    ensures { result ≡ may_go_to t target }
 {
     match target {
         Some(only) => only.get() == t.get(),
@@ -29,7 +29,7 @@ fn is_wanted(wanted: &Wanted, kept: &SignalRecord) -> bool
     ensures { result ≡ is_wanted wanted.now kept.now }
 {
     match *wanted {
-        Wanted::ForThread(t) => goes_to(t, kept.target()),
+        Wanted::ForThread(t) => may_go_to(t, kept.target()),
         Wanted::WithSerial(serial) => kept.serial() == serial,
     }
 }

@@ -6,7 +6,7 @@ use Rattle.script_tree.specs.Block.{Block}
 use Rattle.script_tree.specs.declared.decl.Kind.TheVariants as kinds
 use Rattle.script_tree.specs.declared.decl.Decl.{Decl}
 use Rattle.script_tree.specs.declared.decl.Decl.TheVariants.{Named}
-use Rattle.script_flat.specs.Flat.{Bodies, no_bodies, bodies_of, with_decl, with_decls}
+use Rattle.script_flat.specs.Flat.{NumberedBodies, no_bodies, bodies_of, with_decl, with_decls}
 use Rattle.script_bounds.proofs.Decls.{bodies_in, decl_more}
 use Rattle.script_bounds.proofs.EachDecl.{Each}
 
@@ -24,7 +24,7 @@ module _ (Q : Block → Type 0) where
   body_has (Named name (kinds.Cleanup steps)) h = All-cons Q steps [] h (All-nil Q)
   body_has other h = All-nil Q
 
-  more_have : (decls : List Decl) (b : Bodies Block) → All Q b.all → Each (BodyHas Q) decls → All Q (with_decls (λ steps. steps) decls b).all
+  more_have : (decls : List Decl) (b : NumberedBodies Block) → All Q b.all → Each (BodyHas Q) decls → All Q (with_decls (λ steps. steps) decls b).all
   more_have [] b h all = h
   more_have (d ∷ decls) b h all =
       more_have decls (with_decl (λ steps. steps) d b) (subst (All Q) (sym (decl_more d b)) (All-append Q b.all (bodies_in (Some d)) h (body_has d all.0))) all.1
@@ -39,7 +39,7 @@ one_body (Named name (kinds.Handler steps)) = omega arith
 one_body (Named name (kinds.Cleanup steps)) = omega arith
 one_body other = omega arith
 
-more_number : (decls : List Decl) (b : Bodies Block) → length (with_decls (λ steps. steps) decls b).all ≤ length b.all + length decls
+more_number : (decls : List Decl) (b : NumberedBodies Block) → length (with_decls (λ steps. steps) decls b).all ≤ length b.all + length decls
 more_number [] b = omega arith
 more_number (d ∷ decls) b =
     let next = with_decl (λ steps. steps) d b in

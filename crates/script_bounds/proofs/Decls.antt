@@ -11,7 +11,7 @@ use Rattle.script_tree.specs.declared.decl.Kind.{Kind}
 use Rattle.script_tree.specs.declared.decl.Kind.TheVariants as kinds
 use Rattle.script_tree.specs.declared.decl.Decl.{Decl}
 use Rattle.script_tree.specs.declared.decl.Decl.TheVariants.{Named, Action}
-use Rattle.script_flat.specs.Flat.{Bodies, nesting, no_bodies, bodies_of, with_decl, with_decls}
+use Rattle.script_flat.specs.Flat.{NumberedBodies, nesting, no_bodies, bodies_of, with_decl, with_decls}
 use Rattle.machine_rules.specs.Declarations.{declared_thread}
 use Rattle.script_table.specs.declared.form.Form.{Form}
 use Rattle.script_table.specs.declared.form.Form.TheVariants as form
@@ -38,12 +38,12 @@ bodies_in (Some other) = []
 abbrev pub threads_in : Option Decl → ℕ
 threads_in d = length (filter_map declared_thread (option_to_list d))
 
-decls_more : (decls : List Decl) (d : Decl) (b : Bodies Block) →
+decls_more : (decls : List Decl) (d : Decl) (b : NumberedBodies Block) →
     with_decls (λ steps. steps) (decls ++ d ∷ []) b ≡ with_decl (λ steps. steps) d (with_decls (λ steps. steps) decls b)
 decls_more [] d b = refl
 decls_more (e ∷ decls) d b = decls_more decls d (with_decl (λ steps. steps) e b)
 
-pub decl_more : (d : Decl) (b : Bodies Block) → (with_decl (λ steps. steps) d b).all ≡ b.all ++ bodies_in (Some d)
+pub decl_more : (d : Decl) (b : NumberedBodies Block) → (with_decl (λ steps. steps) d b).all ≡ b.all ++ bodies_in (Some d)
 decl_more (Named name (kinds.Thread policy start steps)) b = refl
 decl_more (Named name (kinds.Handler steps)) b = refl
 decl_more (Named name (kinds.Cleanup steps)) b = refl
@@ -52,7 +52,7 @@ decl_more other b = sym (append-nil b.all)
 bodies_more : (decls : List Decl) (d : Option Decl) → (bodies_of (decls ++ option_to_list d)).all ≡ (bodies_of decls).all ++ bodies_in d
 bodies_more decls None = ap (λ (ds : List Decl). (bodies_of ds).all) (append-nil decls) ∙ sym (append-nil (bodies_of decls).all)
 bodies_more decls (Some d) =
-    ap (λ (b : Bodies Block). b.all) (decls_more decls d no_bodies) ∙ decl_more d (with_decls (λ steps. steps) decls no_bodies)
+    ap (λ (b : NumberedBodies Block). b.all) (decls_more decls d no_bodies) ∙ decl_more d (with_decls (λ steps. steps) decls no_bodies)
 
 threads_more : (decls : List Decl) (d : Option Decl) → length (filter_map declared_thread (decls ++ option_to_list d)) ≡ length (filter_map declared_thread decls) + threads_in d
 threads_more decls d = ap length (filter_map-append declared_thread decls (option_to_list d)) ∙ length-append (filter_map declared_thread decls) (filter_map declared_thread (option_to_list d))

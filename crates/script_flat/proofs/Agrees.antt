@@ -6,7 +6,7 @@ use Rattle.script_flat.specs.declared.cursor.Cursor.{Cursor}
 use Rattle.script_flat.specs.declared.op.Op.{Op}
 use Rattle.script_flat.specs.declared.unit.Unit as unit
 use Rattle.script_flat.specs.Next.{Place, At, In, Outcome, Due, Ended, next, or_finish, register_limit, capped, holds, later, later_by, and_then, in_test, in_loop, in_guard, end_of_pass, passes_of, steps_from, step_number, from_head, from_inside, from_place}
-use Rattle.script_flat.specs.Flat.{Bodies, flat, op_number}
+use Rattle.script_flat.specs.Flat.{NumberedBodies, flat, op_number}
 use Rattle.script_flat.specs.Fetch.{found_in, fetched}
 use Rattle.script_flat.specs.Stands.{step_at, op_at, counts_at, IsBody, Stands, IsPlaced, Fetches}
 use Rattle.script_flat.proofs.Lands.{placed, landed}
@@ -122,7 +122,7 @@ standing : (c : Cursor) (pc : ℕ) (counts : List ℕ) → c.pc ≡ pc → c.cou
 standing c pc counts e f = ap (λ k. placed c k c.register c.counts.items) e ∙ ap (λ xs. placed c pc c.register xs) f
 
 -- what is fetched at a place that stands for one of a tree
-fetched_lands : (code : Bodies (List Op)) (c : Cursor) (body : Block) (place : Place) → IsBody code c.body body → Stands body place c
+fetched_lands : (code : NumberedBodies (List Op)) (c : Cursor) (body : Block) (place : Place) → IsBody code c.body body → Stands body place c
     → fetched code c ≡ landed c 0 body [] (op_number body) [] (from_place c.result c.value place body c.register)
 fetched_lands code c body place is_body stands =
     ap (λ ops. found_in (drop c.pc ops) 0 c) (ops_of-body code.all c.body (flat 0 body) is_body.flat_form)
@@ -155,7 +155,7 @@ landed_fetches (Ended r) body place c h e = record {
 }
 
 -- What is fetched is the next unit of the tree, and the cursor after it stands for the place after it.
-pub fetched_agrees : (code : Bodies (List Op)) (c : Cursor) (body : Block) (place : Place) → IsBody code c.body body → Stands body place c
+pub fetched_agrees : (code : NumberedBodies (List Op)) (c : Cursor) (body : Block) (place : Place) → IsBody code c.body body → Stands body place c
     → Fetches body place c (fetched code c).0 (fetched code c).1
 fetched_agrees code c body place is_body stands =
     let o = from_place c.result c.value place body c.register in
@@ -164,7 +164,7 @@ fetched_agrees code c body place is_body stands =
     (from_place_in_limit c.result c.value place body c.register stands.register) refl)
 
 -- so the cursor after it is again one that stands for a place
-pub fetched_placed : (code : Bodies (List Op)) (c : Cursor) → IsPlaced code c → IsPlaced code (fetched code c).0
+pub fetched_placed : (code : NumberedBodies (List Op)) (c : Cursor) → IsPlaced code c → IsPlaced code (fetched code c).0
 fetched_placed code c placed =
     let f = fetched_agrees code c placed.body placed.place placed.is_body placed.stands in
     record {
@@ -175,10 +175,10 @@ fetched_placed code c placed =
     }
 
 -- the same of a cursor and a unit that are what is fetched
-pub fetches : (code : Bodies (List Op)) (c new : Cursor) (u : unit.Unit) → fetched code c ≡ (new, u) → (body : Block) (place : Place)
+pub fetches : (code : NumberedBodies (List Op)) (c new : Cursor) (u : unit.Unit) → fetched code c ≡ (new, u) → (body : Block) (place : Place)
     → IsBody code c.body body → Stands body place c → Fetches body place c new u
 fetches code c new u e body place is_body stands =
     subst (λ (p : Cursor × unit.Unit). Fetches body place c p.0 p.1) e (fetched_agrees code c body place is_body stands)
 
-pub stays_placed : (code : Bodies (List Op)) (c new : Cursor) (u : unit.Unit) → fetched code c ≡ (new, u) → IsPlaced code c → IsPlaced code new
+pub stays_placed : (code : NumberedBodies (List Op)) (c new : Cursor) (u : unit.Unit) → fetched code c ≡ (new, u) → IsPlaced code c → IsPlaced code new
 stays_placed code c new u e placed = subst (λ (p : Cursor × unit.Unit). IsPlaced code p.0) e (fetched_placed code c placed)

@@ -9,7 +9,7 @@ use Rattle.script_tree.specs.declared.decl.Decl.{Decl}
 use Rattle.script_tree.specs.declared.decl.Decl.TheVariants.{Named, Action}
 use Rattle.script_tree.specs.declared.decl.Kind.TheVariants.{Thread, Handler, Cleanup, Mutex, Cond, Sem, Queue, Timer}
 use Rattle.script_flat.specs.declared.op.Op.{Op}
-use Rattle.script_flat.specs.Flat.{Bodies, IsFlattenable, flat, flat_form, bodies_of, body_list, no_bodies, with_decl, with_decls, nesting}
+use Rattle.script_flat.specs.Flat.{NumberedBodies, IsFlattenable, flat, flat_form, bodies_of, body_list, no_bodies, with_decl, with_decls, nesting}
 use Rattle.script_flat.specs.Stands.{IsBody}
 
 -- the bodies of declarations, in their order
@@ -17,7 +17,7 @@ abbrev pub bodies_in : List Decl → List Block
 bodies_in [] = []
 bodies_in (decl ∷ decls) = body_list decl ++ bodies_in decls
 
-all-with_decl : (decl : Decl) (b : Bodies Block) → (with_decl (λ body. body) decl b).all ≡ b.all ++ body_list decl
+all-with_decl : (decl : Decl) (b : NumberedBodies Block) → (with_decl (λ body. body) decl b).all ≡ b.all ++ body_list decl
 all-with_decl (Named name (Thread policy start body)) b = refl
 all-with_decl (Named name (Handler body)) b = refl
 all-with_decl (Named name (Cleanup body)) b = refl
@@ -28,7 +28,7 @@ all-with_decl (Named name (Queue depth max_len nonblock)) b = sym (append-nil b.
 all-with_decl (Named name (Timer sig value)) b = sym (append-nil b.all)
 all-with_decl (Action sig handler) b = sym (append-nil b.all)
 
-all-with_decls : (decls : List Decl) (b : Bodies Block) → (with_decls (λ body. body) decls b).all ≡ b.all ++ bodies_in decls
+all-with_decls : (decls : List Decl) (b : NumberedBodies Block) → (with_decls (λ body. body) decls b).all ≡ b.all ++ bodies_in decls
 all-with_decls [] b = sym (append-nil b.all)
 all-with_decls (decl ∷ decls) b =
     all-with_decls decls (with_decl (λ body. body) decl b)
@@ -46,7 +46,7 @@ length-map_flat : (xs : List Block) → length (map (flat 0) xs) ≡ length xs
 length-map_flat [] = refl
 length-map_flat (x ∷ xs) = ap suc (length-map_flat xs)
 
-with_decl-flat_form : (decl : Decl) (b : Bodies Block) → with_decl (flat 0) decl (flat_form b) ≡ flat_form (with_decl (λ body. body) decl b)
+with_decl-flat_form : (decl : Decl) (b : NumberedBodies Block) → with_decl (flat 0) decl (flat_form b) ≡ flat_form (with_decl (λ body. body) decl b)
 with_decl-flat_form (Named name (Thread policy start body)) b =
     ap (λ n. record (flat_form b) { all = map (flat 0) b.all ++ flat 0 body ∷ []; threads = b.threads ++ n ∷ [] }) (length-map_flat b.all)
     ∙ ap (λ xs. record (flat_form b) { all = xs; threads = b.threads ++ length b.all ∷ [] }) (map-append_one b.all body)
@@ -63,7 +63,7 @@ with_decl-flat_form (Named name (Queue depth max_len nonblock)) b = refl
 with_decl-flat_form (Named name (Timer sig value)) b = refl
 with_decl-flat_form (Action sig handler) b = refl
 
-pub with_decls-flat_form : (decls : List Decl) (b : Bodies Block)
+pub with_decls-flat_form : (decls : List Decl) (b : NumberedBodies Block)
     → with_decls (flat 0) decls (flat_form b) ≡ flat_form (with_decls (λ body. body) decls b)
 with_decls-flat_form [] b = refl
 with_decls-flat_form (decl ∷ decls) b =
@@ -78,22 +78,22 @@ slice_get-map_flat (y ∷ xs) (suc n) x e = slice_get-map_flat xs n x e
 holds_at : (P : Block → Type 0) (xs : List Block) (n : ℕ) (x : Block) → All P xs → slice_get xs n ≡ Some x → P x
 holds_at P xs n x h e = subst P (get_or_from_slice_get xs n x x e) (h n x (slice_get_within xs n x e))
 
-pub is_body_of_script : (bodies : Bodies Block) (code : Bodies (List Op)) (n : ℕ) (body : Block) → code ≡ flat_form bodies → IsFlattenable bodies.all
+pub is_body_of_script : (bodies : NumberedBodies Block) (code : NumberedBodies (List Op)) (n : ℕ) (body : Block) → code ≡ flat_form bodies → IsFlattenable bodies.all
     → slice_get bodies.all n ≡ Some body → IsBody code n body
 is_body_of_script bodies code n body e h at = record {
-  flat_form = ap (λ (c : Bodies (List Op)). slice_get c.all n) e ∙ slice_get-map_flat bodies.all n body at;
+  flat_form = ap (λ (c : NumberedBodies (List Op)). slice_get c.all n) e ∙ slice_get-map_flat bodies.all n body at;
   short = holds_at (λ body. step_count body ≤ 65536) bodies.all n body h.short at;
   nested = holds_at (λ body. nesting body ≤ 15) bodies.all n body h.nested at;
 }
 
 -- Of a script's declarations, all but these are taken.
-pub record Opens (decls : List Decl) (code : Bodies (List Op)) (left : List Decl) : Type 0 where
+pub record Opens (decls : List Decl) (code : NumberedBodies (List Op)) (left : List Decl) : Type 0 where
   pub taken : with_decls (flat 0) left code ≡ flat_form (bodies_of decls)
   pub room : length code.all + length (bodies_in left) ≤ 65536
   pub short : All (λ body. step_count body ≤ 65536) (bodies_in left)
 
 -- code without bodies
-empty_code : (code : Bodies (List Op)) → code.all ≡ [] → code.threads ≡ [] → code.handlers ≡ [] → code.cleanups ≡ [] → code ≡ no_bodies
+empty_code : (code : NumberedBodies (List Op)) → code.all ≡ [] → code.threads ≡ [] → code.handlers ≡ [] → code.cleanups ≡ [] → code ≡ no_bodies
 empty_code code e f g h =
     ap (λ xs. record code { all = xs }) e
     ∙ (ap (λ xs. record code { all = []; threads = xs }) f
@@ -110,7 +110,7 @@ opens_at_first decls h =
       short = subst (All (λ body. step_count body ≤ 65536)) e h.short;
     }
 
-pub opens_empty : (decls items : List Decl) (code : Bodies (List Op)) → IsFlattenable (bodies_of decls).all → items ≡ decls
+pub opens_empty : (decls items : List Decl) (code : NumberedBodies (List Op)) → IsFlattenable (bodies_of decls).all → items ≡ decls
     → code.all ≡ [] → code.threads ≡ [] → code.handlers ≡ [] → code.cleanups ≡ [] → Opens decls code items
 opens_empty decls items code h e all threads handlers cleanups =
     subst (λ code. Opens decls code items) (sym (empty_code code all threads handlers cleanups))
@@ -129,11 +129,11 @@ drop_at_decl decls i d past at =
     drop-cons decls i d past ∙ (ap (λ x. x ∷ drop (suc i) decls) (sym at) ∙ ap (λ k. d ∷ drop k decls) (sym (add-one i)))
 
 -- the next declaration
-pub record OpensNext (code : Bodies (List Op)) (decl : Decl) : Type 0 where
+pub record OpensNext (code : NumberedBodies (List Op)) (decl : Decl) : Type 0 where
   pub room : length code.all + length (body_list decl) ≤ 65536
   pub short : All (λ body. step_count body ≤ 65536) (body_list decl)
 
-pub opens_next : (decls items : List Decl) (code : Bodies (List Op)) (i : ℕ) (d : Decl) → Opens decls code (drop i items) → i < length items
+pub opens_next : (decls items : List Decl) (code : NumberedBodies (List Op)) (i : ℕ) (d : Decl) → Opens decls code (drop i items) → i < length items
     → d ≡ get_or items i d → OpensNext code d
 opens_next decls items code i d h past at =
     let split = ap bodies_in (drop_at_decl items i d past at) in
@@ -144,7 +144,7 @@ opens_next decls items code i d h past at =
           (subst (All (λ body. step_count body ≤ 65536)) split h.short);
     }
 
-length-with_decl : (decl : Decl) (code : Bodies (List Op)) → length (with_decl (flat 0) decl code).all ≡ length code.all + length (body_list decl)
+length-with_decl : (decl : Decl) (code : NumberedBodies (List Op)) → length (with_decl (flat 0) decl code).all ≡ length code.all + length (body_list decl)
 length-with_decl (Named name (Thread policy start body)) code = length-append code.all (flat 0 body ∷ [])
 length-with_decl (Named name (Handler body)) code = length-append code.all (flat 0 body ∷ [])
 length-with_decl (Named name (Cleanup body)) code = length-append code.all (flat 0 body ∷ [])
@@ -155,14 +155,14 @@ length-with_decl (Named name (Queue depth max_len nonblock)) code = omega arith
 length-with_decl (Named name (Timer sig value)) code = omega arith
 length-with_decl (Action sig handler) code = omega arith
 
-pub opens_more : (decls items : List Decl) (code new : Bodies (List Op)) (i : ℕ) (d : Decl) → Opens decls code (drop i items) → i < length items
+pub opens_more : (decls items : List Decl) (code new : NumberedBodies (List Op)) (i : ℕ) (d : Decl) → Opens decls code (drop i items) → i < length items
     → d ≡ get_or items i d → new ≡ with_decl (flat 0) d code → Opens decls new (drop (i + 1) items)
 opens_more decls items code new i d h past at e =
     let split = drop_at_decl items i d past at in
     let bodies = ap bodies_in split in
     let room = h.room in
     let n = length-with_decl d code in
-    let m = ap (λ (c : Bodies (List Op)). length c.all) e in
+    let m = ap (λ (c : NumberedBodies (List Op)). length c.all) e in
     record {
       taken = ap (with_decls (flat 0) (drop (i + 1) items)) e ∙ (ap (λ ds. with_decls (flat 0) ds code) (sym split) ∙ h.taken);
       room = omega (arith, ap length bodies, length-append (body_list d) (bodies_in (drop (i + 1) items)));
@@ -175,6 +175,6 @@ pub short_body : (decl : Decl) (body : Block) → body_list decl ≡ body ∷ []
 short_body decl body e h = subst (All (λ body. step_count body ≤ 65536)) e h 0 body (omega arith)
 
 -- all declarations are taken
-pub opens_all : (decls items : List Decl) (code : Bodies (List Op)) (i : ℕ) → Opens decls code (drop i items) → length items ≤ i
+pub opens_all : (decls items : List Decl) (code : NumberedBodies (List Op)) (i : ℕ) → Opens decls code (drop i items) → length items ≤ i
     → code ≡ flat_form (bodies_of decls)
 opens_all decls items code i h past = ap (λ ds. with_decls (flat 0) ds code) (sym (drop_of_length-le items past)) ∙ h.taken

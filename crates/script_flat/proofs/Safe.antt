@@ -15,7 +15,7 @@ use Rattle.script_flat.specs.declared.op.Effect.TheVariants.{Gives, Skips}
 use Rattle.script_flat.specs.declared.unit.Unit as unit
 use Rattle.script_flat.specs.declared.unit.Unit.TheVariants.{Finish}
 use Rattle.script_flat.specs.Next.{Place, At, In, rest_of, steps_from, holds}
-use Rattle.script_flat.specs.Flat.{Bodies, flat, op_number, nesting}
+use Rattle.script_flat.specs.Flat.{NumberedBodies, flat, op_number, nesting}
 use Rattle.script_flat.specs.Fetch.{moved_on, innermost, outer, after_pass, carried_out, or_search, found_in, ops_of}
 use Rattle.script_flat.specs.Stands.{step_at, op_at, counts_inside, counts_at, IsPlaced}
 use Rattle.script_flat.specs.Ready.{open_loops, IsSafe, IsReady}
@@ -253,7 +253,7 @@ few_at (In i passes place) block counts =
     omega arith
 
 -- a cursor that stands for a place is ready for a search through the operations ahead
-pub placed_ready : (code : Bodies (List Op)) (c : Cursor) → IsPlaced code c → IsReady (drop c.pc (ops_of code c.body)) c
+pub placed_ready : (code : NumberedBodies (List Op)) (c : Cursor) → IsPlaced code c → IsReady (drop c.pc (ops_of code c.body)) c
 placed_ready code c h =
     let body = h.body in
     let place = h.place in
@@ -290,7 +290,7 @@ pub record IsWithin (ops : List Op) (pc : ℕ) : Type 0 where
   pub within : pc ≤ length ops
   pub short : length ops ≤ 131072
 
-pub placed_within : (code : Bodies (List Op)) (c : Cursor) → IsPlaced code c → IsWithin (ops_of code c.body) c.pc
+pub placed_within : (code : NumberedBodies (List Op)) (c : Cursor) → IsPlaced code c → IsWithin (ops_of code c.body) c.pc
 placed_within code c h =
     let ops : ops_of code c.body ≡ flat 0 h.body = ops_of-body code.all c.body (flat 0 h.body) h.is_body.flat_form in
     let lengths : length (ops_of code c.body) ≡ length (flat 0 h.body) = ap length ops in

@@ -8,7 +8,7 @@ use Rattle.script_flat.specs.declared.op.Effect.{Effect}
 use Rattle.script_flat.specs.declared.op.Effect.TheVariants.{Gives, Skips}
 use Rattle.script_flat.specs.declared.unit.Unit as unit
 use Rattle.script_flat.specs.declared.unit.Unit.TheVariants.{Run, Make, Jump, Finish}
-use Rattle.script_flat.specs.Flat.{Bodies}
+use Rattle.script_flat.specs.Flat.{NumberedBodies}
 use Rattle.script_flat.specs.Next.{capped, holds}
 
 -- the cursor at the next operation
@@ -52,11 +52,11 @@ found_in (o ∷ ops) (suc skip) c = found_in ops skip (moved_on c)
 found_in (o ∷ ops) zero c = or_search (carried_out o (moved_on c)) (found_in ops)
 
 -- the operations of a body
-abbrev pub ops_of : Bodies (List Op) → ℕ → List Op
+abbrev pub ops_of : NumberedBodies (List Op) → ℕ → List Op
 ops_of code body = slice_index_or code.all body []
 
 -- the cursor after the next unit, and that unit
-abbrev pub fetched : Bodies (List Op) → Cursor → Cursor × unit.Unit
+abbrev pub fetched : NumberedBodies (List Op) → Cursor → Cursor × unit.Unit
 fetched code c = found_in (drop c.pc (ops_of code c.body)) 0 c
 
 -- the cursor at the beginning of a body

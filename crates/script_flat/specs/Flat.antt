@@ -52,18 +52,18 @@ nesting (Looping times inner rest) = max (1 + nesting inner) (nesting rest)
 nesting (Guarding cleanup run inner rest) = max (1 + nesting inner) (nesting rest)
 
 -- The bodies of a script, and the numbers of those of its threads, of its handlers and of its cleanup handlers.
-pub record Bodies (B : Type 0) : Type 0 where
+pub record NumberedBodies (B : Type 0) : Type 0 where
   pub all : List B
   pub threads : List ℕ
   pub handlers : List ℕ
   pub cleanups : List ℕ
 
 -- no bodies
-abbrev pub no_bodies : {B : Type 0} → Bodies B
+abbrev pub no_bodies : {B : Type 0} → NumberedBodies B
 no_bodies = record { all = []; threads = []; handlers = []; cleanups = [] }
 
 -- A declaration's body, kept in some form, takes the next number.
-abbrev pub with_decl : {B : Type 0} → (Block → B) → Decl → Bodies B → Bodies B
+abbrev pub with_decl : {B : Type 0} → (Block → B) → Decl → NumberedBodies B → NumberedBodies B
 with_decl form (Named name (Thread policy start body)) b =
     record b { all = b.all ++ form body ∷ []; threads = b.threads ++ length b.all ∷ [] }
 with_decl form (Named name (Handler body)) b =
@@ -77,16 +77,16 @@ abbrev pub body_list : Decl → List Block
 body_list decl = (with_decl (λ body. body) decl no_bodies).all
 
 -- those of declarations, in their order
-abbrev pub with_decls : {B : Type 0} → (Block → B) → List Decl → Bodies B → Bodies B
+abbrev pub with_decls : {B : Type 0} → (Block → B) → List Decl → NumberedBodies B → NumberedBodies B
 with_decls form [] b = b
 with_decls form (decl ∷ decls) b = with_decls form decls (with_decl form decl b)
 
 -- the bodies of a script as trees
-abbrev pub bodies_of : List Decl → Bodies Block
+abbrev pub bodies_of : List Decl → NumberedBodies Block
 bodies_of decls = with_decls (λ body. body) decls no_bodies
 
 -- the flat form of the bodies of a script
-abbrev pub flat_form : Bodies Block → Bodies (List Op)
+abbrev pub flat_form : NumberedBodies Block → NumberedBodies (List Op)
 flat_form b = record { all = map (flat 0) b.all; threads = b.threads; handlers = b.handlers; cleanups = b.cleanups }
 
 -- What a script keeps to: its bodies have numbers of 16 bits, and each has at most 65,536 steps and 16 blocks inside one another, the

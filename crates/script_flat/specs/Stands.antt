@@ -6,7 +6,7 @@ use Rattle.script_flat.specs.declared.cursor.Cursor.{Cursor}
 use Rattle.script_flat.specs.declared.op.Op.{Op}
 use Rattle.script_flat.specs.declared.unit.Unit as unit
 use Rattle.script_flat.specs.Next.{Place, At, In, next, rest_of, steps_from, register_limit}
-use Rattle.script_flat.specs.Flat.{Bodies, flat, op_number, nesting}
+use Rattle.script_flat.specs.Flat.{NumberedBodies, flat, op_number, nesting}
 
 -- how many operations the first step of a block has
 abbrev pub head_ops : Block → ℕ
@@ -50,7 +50,7 @@ counts_at (In i passes place) counts block =
     counts_inside (λ counts inner. counts_at place counts inner) passes counts (steps_from i block)
 
 -- the body of a number, in code that is the flat form of its script
-pub record IsBody (code : Bodies (List Op)) (number : ℕ) (body : Block) : Type 0 where
+pub record IsBody (code : NumberedBodies (List Op)) (number : ℕ) (body : Block) : Type 0 where
   pub flat_form : slice_get code.all number ≡ Some (flat 0 body)
   pub short : step_count body ≤ 65536
   pub nested : nesting body ≤ 15
@@ -62,7 +62,7 @@ pub record Stands (body : Block) (place : Place) (c : Cursor) : Type 0 where
   pub register : c.register ≤ register_limit
 
 -- a cursor stands for some place of its body
-pub record IsPlaced (code : Bodies (List Op)) (c : Cursor) : Type 0 where
+pub record IsPlaced (code : NumberedBodies (List Op)) (c : Cursor) : Type 0 where
   pub body : Block
   pub is_body : IsBody code c.body body
   pub place : Place

@@ -29,10 +29,10 @@ pub struct Code {
 
 impl Model for Code {
     ghost use Rattle.std.specs.Prelude.{List, map};
-    ghost use Rattle.script_flat.specs.Flat.{Bodies};
+    ghost use Rattle.script_flat.specs.Flat.{NumberedBodies};
     ghost use Rattle.script_flat.specs.declared.op.Op.{Op};
 
-    ghost Value = { Bodies (List Op) };
+    ghost Value = { NumberedBodies (List Op) };
 
     ghost view = { λ c. record {
       all = map (λ body. body.items) c.bodies.items;

@@ -8,28 +8,28 @@ ghost use Rattle.script_text.specs.Writes.{Writes};
 
 use crate::call::call_line;
 use crate::line::Word::{Keyword, Name, Number};
-use crate::line::{Line, line_of};
+use crate::line::{LineText, line_of};
 use crate::names::object;
 use rt_io::{Failed, Sink};
 use script_tree::{Body, Decl, NameKind, Step};
 use tick_num::Res;
 
 /// Writes a line at once.
-pub(crate) fn write_line<K: Sink>(sink: &mut K, line: Line) -> Result<(), Failed>
+pub(crate) fn write_line<K: Sink>(sink: &mut K, line: LineText) -> Result<(), Failed>
     ensures { Writes K.text K.faults sink.old sink.new result line.items }
 {
     sink.write(line.as_slice())
 }
 
 /// The line that closes a body, and a block that is no guarded one.
-pub(crate) fn end_line() -> Line
+pub(crate) fn end_line() -> LineText
     ensures { result.items ≡ line_text end_words }
 {
     line_of(&[Keyword(b"end")])
 }
 
 // The line that closes a guarded block.
-fn pop_line(run: bool) -> Line
+fn pop_line(run: bool) -> LineText
     ensures { result.items ≡ line_text (pop_words run) }
 {
     if run {
@@ -39,7 +39,7 @@ fn pop_line(run: bool) -> Line
     }
 }
 
-fn test_line(res: Res, equal: bool) -> Line
+fn test_line(res: Res, equal: bool) -> LineText
     ensures { result.items ≡ line_text (test_words res equal) }
 {
     let answer = Keyword(res.text().as_bytes());
@@ -50,7 +50,7 @@ fn test_line(res: Res, equal: bool) -> Line
     }
 }
 
-fn loop_line(times: Option<u64>) -> Line
+fn loop_line(times: Option<u64>) -> LineText
     ensures { result.items ≡ line_text (loop_words times) }
 {
     match times {
@@ -64,9 +64,9 @@ fn loop_line(times: Option<u64>) -> Line
 pub(crate) fn write_block<K: Sink>(
     sink: &mut K,
     decls: &[Decl],
-    opening: Line,
+    opening: LineText,
     body: &Body,
-    closing: Line,
+    closing: LineText,
 ) -> Result<(), Failed>
     ensures { Writes K.text K.faults sink.old sink.new result
         (opening.items ++ (text_of (block_lines decls.now body.now) ++ closing.items)) }

@@ -10,7 +10,7 @@ ghost use Rattle.std.specs.Prelude.{◌≡◌};
 ghost use Rattle.script_text.specs.Line.{line_text};
 ghost use Rattle.script_text.specs.Canon.{call_words};
 
-use crate::line::Line;
+use crate::line::LineText;
 use conditions::{timedwait, wait};
 use operands::{
     bare, on_object, on_object_with, on_thread, two_keywords, with_number, with_operand,
@@ -22,7 +22,7 @@ use threads::{setprio, setsched};
 use timers::{settime_abs, settime_rel};
 
 /// The line of a call.
-pub(crate) fn call_line(decls: &[Decl], call: &Call) -> Line
+pub(crate) fn call_line(decls: &[Decl], call: &Call) -> LineText
     ensures { result.items ≡ line_text (call_words decls.now call.now) }
 {
     match call {

@@ -8,14 +8,19 @@ ghost use Rattle.script_text.specs.Writes.{Writes};
 
 use crate::body::{end_line, write_block, write_line};
 use crate::line::Word::{Keyword, Name, Number, Signal};
-use crate::line::{Line, line_of};
+use crate::line::{LineText, line_of};
 use crate::names::object;
 use rt_io::{Failed, Sink};
 use script_tree::{Decl, Kind, NameKind, Policy, Protocol};
 use tick_num::{ObjId, Params, Prio};
 
 // The line of a SCHED_FIFO or SCHED_RR thread.
-fn plain_thread_line<'a>(name: &'a [u8], policy: &'a [u8], prio: Prio, start: Option<u64>) -> Line
+fn plain_thread_line<'a>(
+    name: &'a [u8],
+    policy: &'a [u8],
+    prio: Prio,
+    start: Option<u64>,
+) -> LineText
     requires name { length name.now ≤ 32 }
     requires policy { length policy.now ≤ 16 }
     ensures { result.items ≡ line_text (codes "thread" ∷ name.now ∷ policy.now ∷ decimal prio ∷ start_words start) }
@@ -41,7 +46,7 @@ fn plain_thread_line<'a>(name: &'a [u8], policy: &'a [u8], prio: Prio, start: Op
 }
 
 // The line of a SCHED_SPORADIC thread.
-fn sporadic_thread_line(name: &[u8], params: Params, start: Option<u64>) -> Line
+fn sporadic_thread_line(name: &[u8], params: Params, start: Option<u64>) -> LineText
     requires { length name.now ≤ 32 }
     ensures { result.items
         ≡ line_text (codes "thread" ∷ name.now ∷ (policy_words (policy.Sporadic params) ++ start_words start)) }
@@ -81,7 +86,7 @@ fn sporadic_thread_line(name: &[u8], params: Params, start: Option<u64>) -> Line
     }
 }
 
-fn thread_line(name: &[u8], policy: Policy, start: Option<u64>) -> Line
+fn thread_line(name: &[u8], policy: Policy, start: Option<u64>) -> LineText
     requires { length name.now ≤ 32 }
     ensures { result.items ≡ line_text (codes "thread" ∷ name.now ∷ (policy_words policy ++ start_words start)) }
 {
@@ -93,7 +98,7 @@ fn thread_line(name: &[u8], policy: Policy, start: Option<u64>) -> Line
 }
 
 // The line of a mutex without the word of a recursive one.
-fn mutex_line(name: &[u8], protocol: Protocol) -> Line
+fn mutex_line(name: &[u8], protocol: Protocol) -> LineText
     requires { length name.now ≤ 32 }
     ensures { result.items
         ≡ line_text (codes "mutex" ∷ name.now ∷ (protocol_words protocol ++ flag_words (codes "recursive") false)) }
@@ -111,7 +116,7 @@ fn mutex_line(name: &[u8], protocol: Protocol) -> Line
     }
 }
 
-fn recursive_mutex_line(name: &[u8], protocol: Protocol) -> Line
+fn recursive_mutex_line(name: &[u8], protocol: Protocol) -> LineText
     requires { length name.now ≤ 32 }
     ensures { result.items
         ≡ line_text (codes "mutex" ∷ name.now ∷ (protocol_words protocol ++ flag_words (codes "recursive") true)) }
@@ -131,7 +136,7 @@ fn recursive_mutex_line(name: &[u8], protocol: Protocol) -> Line
     }
 }
 
-fn queue_line(name: &[u8], depth: u32, max_len: u32, nonblock: bool) -> Line
+fn queue_line(name: &[u8], depth: u32, max_len: u32, nonblock: bool) -> LineText
     requires { length name.now ≤ 32 }
     ensures { result.items
         ≡ line_text (codes "queue" ∷ name.now ∷ decimal depth ∷ decimal max_len ∷ flag_words (codes "nonblock") nonblock) }
@@ -146,7 +151,7 @@ fn queue_line(name: &[u8], depth: u32, max_len: u32, nonblock: bool) -> Line
     }
 }
 
-fn action_line(decls: &[Decl], sig: u8, handler: Option<ObjId>) -> Line
+fn action_line(decls: &[Decl], sig: u8, handler: Option<ObjId>) -> LineText
     ensures { result.items ≡ line_text (action_words decls.now sig handler) }
 {
     let action = Keyword(b"action");

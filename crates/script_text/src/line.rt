@@ -11,7 +11,7 @@ use script_tree::Operand;
 use tick_num::SigSet;
 
 /// The text of a line with its end.
-pub(crate) type Line = ArrayVec<u8, 256>;
+pub(crate) type LineText = ArrayVec<u8, 256>;
 
 /// A word of a line.
 #[derive(Clone, Copy)]
@@ -28,7 +28,7 @@ pub(crate) enum Word<'a> {
     Signals(SigSet),
 }
 
-fn add_operand(line: &mut Line, operand: Operand)
+fn add_operand(line: &mut LineText, operand: Operand)
     requires { length line.old.items + 20 ≤ 256 }
     ensures text { line.new.items ≡ line.old.items ++ operand_word operand }
     ensures bound { length line.new.items ≤ length line.old.items + 20 }
@@ -39,7 +39,7 @@ fn add_operand(line: &mut Line, operand: Operand)
     }
 }
 
-fn add_signal(line: &mut Line, sig: u8)
+fn add_signal(line: &mut LineText, sig: u8)
     requires { length line.old.items + 5 ≤ 256 }
     ensures text { line.new.items ≡ line.old.items ++ signal_word sig }
     ensures bound { length line.new.items ≤ length line.old.items + 5 }
@@ -49,7 +49,7 @@ fn add_signal(line: &mut Line, sig: u8)
     add(line, buffer.format(sig).as_bytes());
 }
 
-fn add_signals(line: &mut Line, set: SigSet)
+fn add_signals(line: &mut LineText, set: SigSet)
     requires { length line.old.items + 192 ≤ 256 }
     ensures text { line.new.items ≡ line.old.items ++ set_word set }
     ensures bound { length line.new.items ≤ length line.old.items + 192 }
@@ -62,7 +62,7 @@ fn add_signals(line: &mut Line, set: SigSet)
 }
 
 // A signal of a list, with a comma before it unless it is the first.
-fn add_listed(line: &mut Line, sig: u8, is_first: bool)
+fn add_listed(line: &mut LineText, sig: u8, is_first: bool)
     requires { length line.old.items + 6 ≤ 256 }
     ensures text { line.new.items ≡ line.old.items ++ listed is_first (signal_word sig) }
     ensures bound { length line.new.items ≤ length line.old.items + 6 }
@@ -74,7 +74,7 @@ fn add_listed(line: &mut Line, sig: u8, is_first: bool)
 }
 
 // The signals of a set, rising, with commas between them.
-fn add_each_signal(line: &mut Line, set: SigSet)
+fn add_each_signal(line: &mut LineText, set: SigSet)
     requires { length line.old.items + 192 ≤ 256 }
     ensures text { line.new.items ≡ line.old.items ++ joined_by_commas (map signal_word (signals_of set)) }
     ensures bound { length line.new.items ≤ length line.old.items + 192 }
@@ -88,7 +88,7 @@ fn add_each_signal(line: &mut Line, set: SigSet)
     }
 }
 
-fn add_word(line: &mut Line, word: &Word<'_>)
+fn add_word(line: &mut LineText, word: &Word<'_>)
     requires room { length line.old.items + width word.now ≤ 256 }
     requires short { IsShort word.now }
     ensures text { line.new.items ≡ line.old.items ++ spelled word.now }
@@ -105,7 +105,7 @@ fn add_word(line: &mut Line, word: &Word<'_>)
 }
 
 // The words, with a blank before each.
-fn add_words(line: &mut Line, words: &[Word<'_>])
+fn add_words(line: &mut LineText, words: &[Word<'_>])
     requires room { length line.old.items + total_width words.now ≤ 255 }
     requires short { AreShort words.now }
     ensures text { line.new.items ≡ line.old.items ++ after_blanks (map spelled words.now) }
@@ -118,7 +118,7 @@ fn add_words(line: &mut Line, words: &[Word<'_>])
 }
 
 /// The line of these words, with one blank between them.
-pub(crate) fn line_of(words: &[Word<'_>]) -> Line
+pub(crate) fn line_of(words: &[Word<'_>]) -> LineText
     requires room { total_width words.now ≤ 256 }
     requires short { AreShort words.now }
     ensures { result.items ≡ line_text (map spelled words.now) }

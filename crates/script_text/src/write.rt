@@ -9,11 +9,11 @@ ghost use Rattle.script_text.specs.Writes.{Writes};
 use crate::body::write_line;
 use crate::decl::write_decl;
 use crate::line::Word::{Keyword, Number};
-use crate::line::{Line, line_of};
+use crate::line::{LineText, line_of};
 use rt_io::{Failed, Sink};
 use script_tree::{Decl, Script};
 
-fn quantum_line(quantum: u64) -> Line
+fn quantum_line(quantum: u64) -> LineText
     ensures { result.items ≡ line_text (quantum_words quantum) }
 {
     line_of(&[Keyword(b"quantum"), Number(quantum)])

@@ -3,22 +3,22 @@ use Rattle.std.specs.Prelude.{◌≡◌, ◌≤◌, ◌<◌, ◌∷◌, ℕ, Lis
 use Rattle.script_flat.specs.declared.cursor.Cursor.{Cursor}
 use Rattle.script_flat.specs.declared.op.Op.{Op}
 use Rattle.script_flat.specs.Fetch.{started}
-use Rattle.script_flat.specs.Flat.{Bodies}
+use Rattle.script_flat.specs.Flat.{NumberedBodies}
 use Rattle.script_flat.specs.Stands.{IsPlaced}
 use Rattle.machine_rules.specs.State.{Thread}
 use Rattle.machine_rules.specs.Threads.{is_main, top_kind}
 
 -- the cleanup handler of that number begins at a place of the code
-pub record HandlerBegins (code : Bodies (List Op)) (u : ℕ) : Type 0 where
+pub record HandlerBegins (code : NumberedBodies (List Op)) (u : ℕ) : Type 0 where
   pub there : slice_index code.cleanups u < length code.all
   pub placed : IsPlaced code (started (slice_index code.cleanups u) 0)
 
 -- and so does each that the code has
-pub record HandlersBegin (code : Bodies (List Op)) : Type 0 where
+pub record HandlersBegin (code : NumberedBodies (List Op)) : Type 0 where
   pub each : (u : ℕ) → u < length code.cleanups → HandlerBegins code u
 
 -- each handler of a signal has a body of the code
-pub record CatchersBegin (code : Bodies (List Op)) : Type 0 where
+pub record CatchersBegin (code : NumberedBodies (List Op)) : Type 0 where
   pub each : (h : ℕ) → h < length code.handlers → slice_index code.handlers h < length code.all
 
 -- numbers of so many cleanup handlers

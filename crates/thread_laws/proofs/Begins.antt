@@ -38,10 +38,10 @@ numbered_at all (n ∷ ns) (b ∷ bs) zero d (one, rest) lt = one
 numbered_at all (n ∷ ns) (b ∷ bs) (suc t) d (one, rest) lt = numbered_at all ns bs t d rest (omega arith)
 
 module _ (script : Script) (ok : IsPlaceable script) where
-  abbrev b : flat.Bodies Block
+  abbrev b : flat.NumberedBodies Block
   b = flat.bodies_of script.decls
 
-  abbrev code : flat.Bodies (List Op)
+  abbrev code : flat.NumberedBodies (List Op)
   code = code_of script
 
   -- the body of a number, from its first step on

@@ -6,7 +6,7 @@ use Rattle.tick_num.specs.declared.res.Res.TheVariants as res
 use Rattle.script_tree.specs.declared.decl.Script.{Script}
 use Rattle.script_flat.specs.declared.cursor.Cursor.{Cursor}
 use Rattle.script_flat.specs.declared.op.Op.{Op}
-use Rattle.script_flat.specs.Flat.{Bodies}
+use Rattle.script_flat.specs.Flat.{NumberedBodies}
 use Rattle.script_flat.specs.Fetch.{ops_of}
 use Rattle.script_flat.specs.Next.{capped}
 use Rattle.script_flat.specs.Stands.{IsPlaced}
@@ -32,20 +32,20 @@ use Rattle.thread_laws.proofs.Plain.{IsPlain, cleanup_plain, handler_plain}
 -- ---- what is kept of each frame and thread
 
 -- the body of another frame than the main one pushes and pops nothing
-pub record FrameStands (code : Bodies (List Op)) (f : Frame Cursor) : Type 0 where
+pub record FrameStands (code : NumberedBodies (List Op)) (f : Frame Cursor) : Type 0 where
   pub placed : IsPlaced code (cursor_of f)
   pub plain : is_main f.kind ≡ false → EachMade IsPlain (ops_of code f.place.body)
 
-abbrev pub AllStand : Bodies (List Op) → List (Frame Cursor) → Type 0
+abbrev pub AllStand : NumberedBodies (List Op) → List (Frame Cursor) → Type 0
 AllStand code [] = Unit {0}
 AllStand code (f ∷ fs) = FrameStands code f × AllStand code fs
 
-pub record Stands (code : Bodies (List Op)) (declared : ℕ) (th : Thread Cursor) : Type 0 where
+pub record Stands (code : NumberedBodies (List Op)) (declared : ℕ) (th : Thread Cursor) : Type 0 where
   pub all : AllStand code th.frames
   pub ordered : AreInOrder th.frames
   pub cleanups : AreDeclared declared th.cleanups
 
-pub placed_same : (code : Bodies (List Op)) (c d : Cursor) → IsPlaced code c → d.body ≡ c.body → d.pc ≡ c.pc → d.counts.items ≡ c.counts.items → d.register ≡ c.register → IsPlaced code d
+pub placed_same : (code : NumberedBodies (List Op)) (c d : Cursor) → IsPlaced code c → d.body ≡ c.body → d.pc ≡ c.pc → d.counts.items ≡ c.counts.items → d.register ≡ c.register → IsPlaced code d
 placed_same code c d p b pc counts register = record {
   body = p.body;
   is_body = rw b p.is_body;
@@ -53,7 +53,7 @@ placed_same code c d p b pc counts register = record {
   stands = record { at = pc ∙ p.stands.at; passes = counts ∙ p.stands.passes; register = rw register p.stands.register };
 }
 
-pub all_placed : (code : Bodies (List Op)) (fs : List (Frame Cursor)) → AllStand code fs → ArePlaced code fs
+pub all_placed : (code : NumberedBodies (List Op)) (fs : List (Frame Cursor)) → AllStand code fs → ArePlaced code fs
 all_placed code [] h = tt
 all_placed code (f ∷ fs) h = (h.0.placed, all_placed code fs h.1)
 
@@ -101,7 +101,7 @@ not_main kind e other = let a : is_main kind ≡ true = ap is_main e in absurd (
 -- ---- changes
 
 module _ (script : Script) (ok : IsPlaceable script) where
-  abbrev code : Bodies (List Op)
+  abbrev code : NumberedBodies (List Op)
   code = code_of script
 
   abbrev declared : ℕ

@@ -8,7 +8,7 @@ use Rattle.script_flat.specs.declared.cursor.Cursor.{Cursor}
 use Rattle.script_flat.specs.declared.op.Op.{Op}
 use Rattle.script_flat.specs.declared.unit.Unit as units
 use Rattle.script_flat.specs.declared.unit.Unit.TheVariants as unit
-use Rattle.script_flat.specs.Flat.{Bodies, bodies_of}
+use Rattle.script_flat.specs.Flat.{NumberedBodies, bodies_of}
 use Rattle.script_flat.specs.Fetch.{fetched, ops_of}
 use Rattle.script_flat.specs.Stands.{IsPlaced}
 use Rattle.script_flat.proofs.Agrees.{fetched_agrees, fetched_placed}
@@ -41,7 +41,7 @@ use Rattle.thread_laws.proofs.Frames.{AllStand, FrameStands, Stands, StandsIn, a
 use Rattle.thread_laws.proofs.Runs.{holds_throughout}
 
 module _ (script : Script) (ok : IsPlaceable script) where
-  abbrev code : Bodies (List Op)
+  abbrev code : NumberedBodies (List Op)
   code = code_of script
 
   abbrev StandsNow : Thread Cursor → Type 0

@@ -21,7 +21,7 @@ use Rattle.machine_rules.specs.Servers.{activates_server, high_server, with_serv
 use Rattle.machine_rules.specs.Waking.{call_in, new_frame, on_top, woken}
 use Rattle.machine_rules.specs.Signals.{delivers, selected, tells_overrun, without_record}
 use Rattle.machine_rules.specs.Delivery.{acts, can_take, interrupts, may_be_interrupted, sweeps, sweeps_all, sweeps_thread, takes_record, ticks_left}
-use Rattle.machine_rules.specs.DueItems.{handles, instant, item_bound, item_done, item_then, items_done, next_item, times_out, times_out_of}
+use Rattle.machine_rules.specs.DueItems.{handles, instant, item_bound, item_done, item_then, items_done, next_item, times_out, wait_times_out}
 use Rattle.machine_rules.proofs.Reading.{changed-keeps}
 use Rattle.thread_laws.specs.EachThread.{ActionKnown, Closed, Given}
 use Rattle.thread_laws.proofs.Changes.{Holds, changes_hold}
@@ -96,7 +96,7 @@ module _ {P : Type 0} (given : Given P) (Q : ℕ → ℕ → Thread P → Type 0
 
   -- ---- due items
 
-  times_out_of_hold : (wait : Wait) (t : ℕ) (s : Turn P) → Holding s → Holding (times_out_of wait t s)
+  times_out_of_hold : (wait : Wait) (t : ℕ) (s : Turn P) → Holding s → Holding (wait_times_out wait t s)
   times_out_of_hold (for_condition c k) t s h = contends_hold given Q closed t cond_end.Timedout s tt h
   times_out_of_hold for_time t s h = wakes_hold given Q closed t res.Zero 0 s h
   times_out_of_hold (for_signal set) t s h = wakes_hold given Q closed t res.Again 0 s h

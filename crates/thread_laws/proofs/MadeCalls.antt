@@ -9,7 +9,7 @@ use Rattle.script_flat.specs.declared.op.Op.{Op}
 use Rattle.script_flat.specs.declared.op.Op.TheVariants as op
 use Rattle.script_flat.specs.declared.unit.Unit as units
 use Rattle.script_flat.specs.declared.unit.Unit.TheVariants as unit
-use Rattle.script_flat.specs.Flat.{Bodies, flat, op_number}
+use Rattle.script_flat.specs.Flat.{NumberedBodies, flat, op_number}
 use Rattle.script_flat.specs.Fetch.{after_pass, carried_out, fetched, found_in, innermost, moved_on, or_search, ops_of}
 use Rattle.machine_flat.specs.EachCall.{EachCall, EachMade}
 
@@ -97,7 +97,7 @@ module _ (Holds : Call → Type 0) where
   made_drop (suc k) [] h = h
   made_drop (suc k) (o ∷ ops) h = made_drop k ops (made_tail o ops h)
 
-  pub fetched_makes : (code : Bodies (List Op)) (c : Cursor) → EachMade Holds (ops_of code c.body) → UnitMakes (fetched code c).1
+  pub fetched_makes : (code : NumberedBodies (List Op)) (c : Cursor) → EachMade Holds (ops_of code c.body) → UnitMakes (fetched code c).1
   fetched_makes code c h = found_makes (drop c.pc (ops_of code c.body)) 0 c (made_drop c.pc (ops_of code c.body) h)
 
 -- a weaker fact of each call

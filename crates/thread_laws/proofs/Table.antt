@@ -10,10 +10,10 @@ use Rattle.script_flat.specs.declared.unit.Unit.TheVariants as unit
 use Rattle.machine_rules.specs.State.{SignalRecord, Thread, Timer, Wait, for_condition, for_end, for_message, for_mutex, for_room, for_semaphore, for_signal, for_time}
 use Rattle.machine_rules.specs.Threads.{lives, number_of, queue_at, semaphore_at, thread_at, timer_at}
 use Rattle.machine_rules.specs.Waiters.{best_waiter}
-use Rattle.machine_rules.specs.Turns.{By, Turn, changes_timer, moves}
+use Rattle.machine_rules.specs.Turns.{Caller, Turn, changes_timer, moves}
 use Rattle.machine_rules.specs.Mutexes.{trylock_answer}
 use Rattle.machine_rules.specs.Semaphores.{waits_on_semaphore}
-use Rattle.machine_rules.specs.Signals.{goes_to, record_of_kill, record_of_sigqueue, selected, with_signals, without_signals}
+use Rattle.machine_rules.specs.Signals.{may_go_to, record_of_kill, record_of_sigqueue, selected, with_signals, without_signals}
 use Rattle.machine_rules.specs.Timers.{armed, first_expiry, ticks_to}
 use Rattle.machine_rules.specs.Queues.{next_message}
 use Rattle.machine_rules.specs.Cancellation.{is_cancellation_point, is_cancelled, request_acts}
@@ -28,10 +28,10 @@ module _ {P : Type 0} (given : Given P) (Q : ℕ → ℕ → Thread P → Type 0
   Holding s = Holds given Q s
 
   -- what a known call waits for
-  may : (by : By) (c : Call) (wait : Wait) (caller : Thread P) → by.call ≡ c → given.Known caller c → MakesWait c wait → MayBlock given Q closed by wait
+  may : (by : Caller) (c : Call) (wait : Wait) (caller : Thread P) → by.call ≡ c → given.Known caller c → MakesWait c wait → MayBlock given Q closed by wait
   may by c wait caller e known makes = record { caller = caller; known = subst (λ (c : Call). given.Known caller c) (sym e) known; makes = subst (λ (c : Call). MakesWait c wait) (sym e) makes }
 
-  pub call_effect_hold : (by : By) (c : Call) (s : Turn P) → by.call ≡ c → given.Known (thread_at s.machine by.thread) c → Holding s → Holding (call_effect given.bodies by c s)
+  pub call_effect_hold : (by : Caller) (c : Call) (s : Turn P) → by.call ≡ c → given.Known (thread_at s.machine by.thread) c → Holding s → Holding (call_effect given.bodies by c s)
   call_effect_hold by call.Yield s e known h = returns_hold given Q closed by res.Zero 0 (moves by.thread s) h
   call_effect_hold by (call.Create u) s e known h = creates_hold given Q closed by u s h
   call_effect_hold by (call.Join u) s e known h = joins_hold given Q closed by u s known (may by (call.Join u) (for_end u) (thread_at s.machine by.thread) e known refl) h
@@ -74,9 +74,9 @@ module _ {P : Type 0} (given : Given P) (Q : ℕ → ℕ → Thread P → Type 0
   call_effect_hold by (call.SigmaskUnblock set) s e known h = sets_mask_hold given Q closed by (without_signals set) s h
   call_effect_hold by (call.SigmaskSet set) s e known h = sets_mask_hold given Q closed by (λ (mask : ℕ). set) s h
   call_effect_hold by (call.Sigwaitinfo set) s e known h =
-      waits_signal_on_hold given Q closed (selected s.machine (λ (r : SignalRecord). has_signal set r.signal && goes_to by.thread r.target)) None by set s (may by (call.Sigwaitinfo set) (for_signal set) (thread_at s.machine by.thread) e known refl) h
+      waits_signal_on_hold given Q closed (selected s.machine (λ (r : SignalRecord). has_signal set r.signal && may_go_to by.thread r.target)) None by set s (may by (call.Sigwaitinfo set) (for_signal set) (thread_at s.machine by.thread) e known refl) h
   call_effect_hold by (call.Sigtimedwait set n) s e known h =
-      waits_signal_on_hold given Q closed (selected s.machine (λ (r : SignalRecord). has_signal set r.signal && goes_to by.thread r.target)) (Some n) by set s (may by (call.Sigtimedwait set n) (for_signal set) (thread_at s.machine by.thread) e known refl) h
+      waits_signal_on_hold given Q closed (selected s.machine (λ (r : SignalRecord). has_signal set r.signal && may_go_to by.thread r.target)) (Some n) by set s (may by (call.Sigtimedwait set n) (for_signal set) (thread_at s.machine by.thread) e known refl) h
   call_effect_hold by (call.MqSend q len p v) s e known h =
       sends_message_hold given Q closed by q len (record { priority = p; value = number_of s.machine by.thread v }) None s
       (may by (call.MqSend q len p v) (for_room q (record { priority = p; value = number_of s.machine by.thread v })) (thread_at s.machine by.thread) e known (_, refl, refl)) h
@@ -90,7 +90,7 @@ module _ {P : Type 0} (given : Given P) (Q : ℕ → ℕ → Thread P → Type 0
   call_effect_hold by (call.MqNotify q signal v) s e known h =
       asks_notification_hold given Q closed by q (record { signal = signal; value = number_of s.machine by.thread v }) s (closed.notifies (thread_at s.machine by.thread) q signal v known) h
 
-  pub makes_call_hold : (by : By) (s : Turn P) → given.Known (thread_at s.machine by.thread) by.call → Holding s → Holding (makes_call given.bodies by s)
+  pub makes_call_hold : (by : Caller) (s : Turn P) → given.Known (thread_at s.machine by.thread) by.call → Holding s → Holding (makes_call given.bodies by s)
   makes_call_hold by s known h =
       by_request (is_cancellation_point by.call && request_acts (thread_at s.machine by.thread)) refl
     where

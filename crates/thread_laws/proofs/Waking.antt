@@ -12,12 +12,12 @@ use Rattle.machine_rules.specs.declared.thread.CondEnd.TheVariants as cond_end
 use Rattle.machine_rules.specs.State.{Thread, Wait, Waiting, for_condition, for_mutex, for_mutex_again}
 use Rattle.machine_rules.specs.Threads.{can_run, mutex_at, no_thread, thread_at, waiting_of}
 use Rattle.machine_rules.specs.Waiters.{Waiter, best_waiter, somebody_waits, waiters}
-use Rattle.machine_rules.specs.Turns.{By, Turn, answered, changes, changes_mutex, is_late, moves, moves_if, returns, tells}
+use Rattle.machine_rules.specs.Turns.{Caller, Turn, answered, changes, changes_mutex, is_late, moves, moves_if, returns, tells}
 use Rattle.machine_rules.specs.CallNames.{name_of}
-use Rattle.machine_rules.specs.Servers.{activates_if, activates_server, amount_of, high_server, plans_for, refills_for, regains_high, with_server}
+use Rattle.machine_rules.specs.Servers.{activates_if, activates_server, amount_of, high_server, plans_server, refills_server, regains_high, with_server}
 use Rattle.machine_rules.specs.Waking.{blocks, blocks_unordered, call_in, cancelled_value, ending_with, put_to_wait, started, starts, wakes, wakes_cancelled, wakes_telling, woken}
-use Rattle.machine_rules.specs.Mutexes.{LockAnswer, counted_up, counts, hands_over, is_free, lock_answer, locks, locks_on, moves_unless_boosted, must_wait, owned_by, owns, owns_boosting, refused, releases, returns_from_wait, taken_by, takes, unlocks, waits_for_mutex, wakes_owner}
-use Rattle.machine_rules.specs.Conditions.{broadcasts, contends, contends_for, released_mutex, signals, signals_best_of, signals_waiter, waits, waits_on_condition, waits_with_other_mutex}
+use Rattle.machine_rules.specs.Mutexes.{LockAnswer, counted_up, counts, hands_over, is_free, lock_answer, locks, carries_out_lock, moves_unless_boosted, must_wait, owned_by, owns, owns_boosting, refused, releases, returns_from_wait, taken_by, takes, unlocks, waits_for_mutex, wakes_owner}
+use Rattle.machine_rules.specs.Conditions.{broadcasts, contends, reacquires_or_waits, released_mutex, signals, signals_best_times, signals_waiter, waits, waits_on_condition, waits_with_other_mutex}
 use Rattle.machine_rules.specs.Semaphores.{blocks_unless_late}
 use Rattle.machine_rules.specs.Cancellation.{request_acts}
 use Rattle.machine_rules.proofs.Reading.{changed-keeps}
@@ -31,25 +31,25 @@ module _ {P : Type 0} (given : Given P) (Q : ℕ → ℕ → Thread P → Type 0
 
   -- ---- answers and waits
 
-  pub returns_hold : (by : By) (r : Res) (value : ℕ) (s : Turn P) → Holding s → Holding (returns by r value s)
+  pub returns_hold : (by : Caller) (r : Res) (value : ℕ) (s : Turn P) → Holding s → Holding (returns by r value s)
   returns_hold by r value s h = changes_hold given Q by.thread (answered r value) s (λ lt q. closed.answers s.machine.now by.thread (thread_at s.machine by.thread) r value q) h
 
   -- a known call may wait so
-  pub record MayBlock (by : By) (wait : Wait) : Type 0 where
+  pub record MayBlock (by : Caller) (wait : Wait) : Type 0 where
     pub caller : Thread P
     pub known : given.Known caller by.call
     pub makes : MakesWait by.call wait
 
-  sleeps_hold : (by : By) (w : Waiting) (s : Turn P) → w.call ≡ by.call → MayBlock by w.wait → Holding s → Holding (changes by.thread (put_to_wait w) s)
+  sleeps_hold : (by : Caller) (w : Waiting) (s : Turn P) → w.call ≡ by.call → MayBlock by w.wait → Holding s → Holding (changes by.thread (put_to_wait w) s)
   sleeps_hold by w s e may h =
       let t = by.thread in
       changes_hold given Q t (put_to_wait w) s
       (λ lt q. closed.waits s.machine.now t (thread_at s.machine t) may.caller w (subst (λ (c : Call). given.Known may.caller c) (sym e) may.known) (subst (λ (c : Call). MakesWait c w.wait) (sym e) may.makes) q) h
 
-  pub blocks_hold : (by : By) (wait : Wait) (due : Option ℕ) (s : Turn P) → MayBlock by wait → Holding s → Holding (blocks by wait due s)
+  pub blocks_hold : (by : Caller) (wait : Wait) (due : Option ℕ) (s : Turn P) → MayBlock by wait → Holding s → Holding (blocks by wait due s)
   blocks_hold by wait due s may h = sleeps_hold by (record { wait = wait; serial = s.machine.next_serial; due = due; call = by.call }) s refl may h
 
-  pub blocks_unordered_hold : (by : By) (wait : Wait) (due : Option ℕ) (s : Turn P) → MayBlock by wait → Holding s → Holding (blocks_unordered by wait due s)
+  pub blocks_unordered_hold : (by : Caller) (wait : Wait) (due : Option ℕ) (s : Turn P) → MayBlock by wait → Holding s → Holding (blocks_unordered by wait due s)
   blocks_unordered_hold by wait due s may h = sleeps_hold by (record { wait = wait; serial = 0; due = due; call = by.call }) s refl may h
 
   -- ---- servers
@@ -62,11 +62,11 @@ module _ {P : Type 0} (given : Given P) (Q : ℕ → ℕ → Thread P → Type 0
   activates_if_hold true t s h = activates_server_hold t (thread_at s.machine t).server s h
   activates_if_hold false t s h = h
 
-  pub plans_hold : (t : ℕ) (o : Option ServerState) (s : Turn P) → Holding s → Holding (plans_for t o s)
+  pub plans_hold : (t : ℕ) (o : Option ServerState) (s : Turn P) → Holding s → Holding (plans_server t o s)
   plans_hold t None s h = h
   plans_hold t (Some server) s h = changes_hold given Q t (with_server plan) s (λ lt q. closed.plans s.machine.now t (thread_at s.machine t) q) h
 
-  pub refills_hold : (t : ℕ) (o : Option ServerState) (s : Turn P) → Holding s → Holding (refills_for t o s)
+  pub refills_hold : (t : ℕ) (o : Option ServerState) (s : Turn P) → Holding s → Holding (refills_server t o s)
   refills_hold t None s h = h
   refills_hold t (Some server) s h =
       activates_if_hold (regains_high server && can_run s.machine t) t (tells (event.Refill t (amount_of (oldest_pending server)) (refill server).capacity) (changes t (with_server refill) s))
@@ -119,13 +119,13 @@ module _ {P : Type 0} (given : Given P) (Q : ℕ → ℕ → Thread P → Type 0
 
   -- ---- mutexes
 
-  pub locks_on_hold : (a : LockAnswer) (by : By) (k : ℕ) (due : Option ℕ) (s : Turn P) → MayBlock by (for_mutex k) → Holding s → Holding (locks_on a by k due s)
+  pub locks_on_hold : (a : LockAnswer) (by : Caller) (k : ℕ) (due : Option ℕ) (s : Turn P) → MayBlock by (for_mutex k) → Holding s → Holding (carries_out_lock a by k due s)
   locks_on_hold (refused r) by k due s may h = returns_hold by r 0 s h
   locks_on_hold counts by k due s may h = returns_hold by res.Zero 0 (changes_mutex k counted_up s) h
   locks_on_hold takes by k due s may h = returns_hold by res.Zero 0 (changes_mutex k (taken_by by.thread) s) h
   locks_on_hold must_wait by k due s may h = blocks_hold by (for_mutex k) due s may h
 
-  pub locks_hold : (by : By) (k : ℕ) (due : Option ℕ) (s : Turn P) → MayBlock by (for_mutex k) → Holding s → Holding (locks by k due s)
+  pub locks_hold : (by : Caller) (k : ℕ) (due : Option ℕ) (s : Turn P) → MayBlock by (for_mutex k) → Holding s → Holding (locks by k due s)
   locks_hold by k due s may h = locks_on_hold (lock_answer s.machine by.thread k due) by k due s may h
 
   -- a wait ends so
@@ -157,7 +157,7 @@ module _ {P : Type 0} (given : Given P) (Q : ℕ → ℕ → Thread P → Type 0
           let waits = waiting_known given Q closed w.thread w.waiting s (best_waits s.machine (waits_for_mutex k) w e).0 h in
           wakes_owner_hold w.waiting.wait w.thread (changes_mutex k (taken_by w.thread) s) waits h
 
-  pub unlocks_hold : (by : By) (k : ℕ) (s : Turn P) → Holding s → Holding (unlocks by k s)
+  pub unlocks_hold : (by : Caller) (k : ℕ) (s : Turn P) → Holding s → Holding (unlocks by k s)
   unlocks_hold by k s h =
       let back = returns_hold by res.Zero 0 s h in
       if_holds given Q (not (owns s.machine by.thread k)) _ _ (returns_hold by res.Perm 0 s h)
@@ -165,7 +165,7 @@ module _ {P : Type 0} (given : Given P) (Q : ℕ → ℕ → Thread P → Type 0
 
   -- ---- conditions
 
-  contends_for_hold : (c k t : ℕ) (how : CondEnd) (s : Turn P) → given.Waits (for_condition c k) → MayReturn how (thread_at s.machine t) → Holding s → Holding (contends_for (Some k) t how s)
+  contends_for_hold : (c k t : ℕ) (how : CondEnd) (s : Turn P) → given.Waits (for_condition c k) → MayReturn how (thread_at s.machine t) → Holding s → Holding (reacquires_or_waits (Some k) t how s)
   contends_for_hold c k t how s waits may h =
       let w : Waiting = record { wait = for_mutex_again k how; serial = s.machine.next_serial; due = None; call = call_in (waiting_of s.machine t) } in
       if_holds given Q (is_free s.machine k) _ _ (returns_from_wait_hold how t (changes_mutex k (taken_by t) s) may h)
@@ -174,11 +174,11 @@ module _ {P : Type 0} (given : Given P) (Q : ℕ → ℕ → Thread P → Type 0
   pub contends_hold : (t : ℕ) (how : CondEnd) (s : Turn P) → MayReturn how (thread_at s.machine t) → Holding s → Holding (contends t how s)
   contends_hold t how s may h = by_waiting (waiting_of s.machine t) refl
     where
-      by_wait : (x : Wait) → given.Waits x → Holding (contends_for (released_mutex x) t how s)
+      by_wait : (x : Wait) → given.Waits x → Holding (reacquires_or_waits (released_mutex x) t how s)
       by_wait (for_condition c k) waits = contends_for_hold c k t how s waits may h
       by_wait _ waits = h
 
-      by_waiting : (o : Option Waiting) → waiting_of s.machine t ≡ o → Holding (contends_for (option_and_then (λ (w : Waiting). released_mutex w.wait) o) t how s)
+      by_waiting : (o : Option Waiting) → waiting_of s.machine t ≡ o → Holding (reacquires_or_waits (option_and_then (λ (w : Waiting). released_mutex w.wait) o) t how s)
       by_waiting None e = h
       by_waiting (Some w) e = by_wait w.wait (waiting_known given Q closed t w s e h)
 
@@ -186,18 +186,18 @@ module _ {P : Type 0} (given : Given P) (Q : ℕ → ℕ → Thread P → Type 0
   signals_waiter_hold None s h = h
   signals_waiter_hold (Some w) s h = contends_hold w.thread cond_end.Signalled s tt h
 
-  pub signals_best_of_hold : (n c : ℕ) (s : Turn P) → Holding s → Holding (signals_best_of n c s)
+  pub signals_best_of_hold : (n c : ℕ) (s : Turn P) → Holding s → Holding (signals_best_times n c s)
   signals_best_of_hold zero c s h = h
   signals_best_of_hold (suc n) c s h =
-      signals_waiter_hold (best_waiter (signals_best_of n c s).machine (waits_on_condition c)) (signals_best_of n c s) (signals_best_of_hold n c s h)
+      signals_waiter_hold (best_waiter (signals_best_times n c s).machine (waits_on_condition c)) (signals_best_times n c s) (signals_best_of_hold n c s h)
 
-  pub signals_hold : (by : By) (c : ℕ) (s : Turn P) → Holding s → Holding (signals by c s)
+  pub signals_hold : (by : Caller) (c : ℕ) (s : Turn P) → Holding s → Holding (signals by c s)
   signals_hold by c s h = let back = returns by res.Zero 0 s in signals_waiter_hold (best_waiter back.machine (waits_on_condition c)) back (returns_hold by res.Zero 0 s h)
 
-  pub broadcasts_hold : (by : By) (c : ℕ) (s : Turn P) → Holding s → Holding (broadcasts by c s)
+  pub broadcasts_hold : (by : Caller) (c : ℕ) (s : Turn P) → Holding s → Holding (broadcasts by c s)
   broadcasts_hold by c s h = signals_best_of_hold (length (waiters s.machine (waits_on_condition c))) c (returns by res.Zero 0 s) (returns_hold by res.Zero 0 s h)
 
-  pub waits_hold : (by : By) (c k : ℕ) (due : Option ℕ) (s : Turn P) → MayBlock by (for_condition c k) → Holding s → Holding (waits by c k due s)
+  pub waits_hold : (by : Caller) (c k : ℕ) (due : Option ℕ) (s : Turn P) → MayBlock by (for_condition c k) → Holding s → Holding (waits by c k due s)
   waits_hold by c k due s may h =
       if_holds given Q (not (owns s.machine by.thread k)) _ _ (returns_hold by res.Perm 0 s h)
       (if_holds given Q (nat_lt 1 (mutex_at s.machine k).count || somebody_waits s.machine (waits_with_other_mutex c k)) _ _ (returns_hold by res.Inval 0 s h)
@@ -206,5 +206,5 @@ module _ {P : Type 0} (given : Given P) (Q : ℕ → ℕ → Thread P → Type 0
 
   -- ---- calls that wait up to a time
 
-  pub blocks_unless_late_hold : (by : By) (wait : Wait) (due : Option ℕ) (s : Turn P) → MayBlock by wait → Holding s → Holding (blocks_unless_late by wait due s)
+  pub blocks_unless_late_hold : (by : Caller) (wait : Wait) (due : Option ℕ) (s : Turn P) → MayBlock by wait → Holding s → Holding (blocks_unless_late by wait due s)
   blocks_unless_late_hold by wait due s may h = if_holds given Q (is_late due s.machine) _ _ (returns_hold by res.Timedout 0 s h) (blocks_hold by wait due s may h)

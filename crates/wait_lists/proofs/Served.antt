@@ -8,7 +8,7 @@ use Rattle.machine_rules.specs.State.{Machine, SignalRecord, Thread, Wait, Waiti
 use Rattle.machine_rules.specs.Mutexes.{waits_for_mutex}
 use Rattle.machine_rules.specs.Threads.{thread_in, waiting_in, waiting_of}
 use Rattle.machine_rules.specs.Priorities.{exec}
-use Rattle.machine_rules.specs.Signals.{accepts, acceptor, goes_to}
+use Rattle.machine_rules.specs.Signals.{accepts, acceptor, may_go_to}
 use Rattle.machine_rules.specs.Waiters.{Waiter, best_waiter, is_served_before, waiter_of, waiters, waits_so}
 use Rattle.wait_lists.specs.declared.order.Candidate.{Candidate}
 use Rattle.wait_lists.specs.declared.Place.{Place}
@@ -125,7 +125,7 @@ awaits_told r sets t priority serial (for_room q message) set x is = none_kept (
 awaits_told r sets t priority serial (for_message q) set x is = none_kept (has_signal (slice_index_or sets t 0) r.signal)
 awaits_told r sets t priority serial (for_signal signals) set x is = rw (set signals refl, is) refl
 
-all_go : (ws : List Waiter) → filter (λ (w : Waiter). goes_to w.thread None) ws ≡ ws
+all_go : (ws : List Waiter) → filter (λ (w : Waiter). may_go_to w.thread None) ws ≡ ws
 all_go [] = refl
 all_go (w ∷ ws) = ap (λ xs. w ∷ xs) (all_go ws)
 

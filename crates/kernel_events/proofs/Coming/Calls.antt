@@ -7,14 +7,14 @@ use Rattle.script_tree.specs.declared.call.Call.TheVariants as call
 use Rattle.machine_rules.specs.Bodies.{Bodies}
 use Rattle.machine_rules.specs.State.{Wait, nobody}
 use Rattle.machine_rules.specs.Threads.{can_run, is_dormant, lives, number_of, semaphore_at, thread_at, timer_at}
-use Rattle.machine_rules.specs.Turns.{By, Turn, changes, changes_semaphore, changes_timer, has_passed, moves, returns}
+use Rattle.machine_rules.specs.Turns.{Caller, Turn, changes, changes_semaphore, changes_timer, has_passed, moves, returns}
 use Rattle.machine_rules.specs.Servers.{activates_if}
 use Rattle.machine_rules.specs.Waking.{cancelled_value, ending_with, wakes}
 use Rattle.machine_rules.specs.Cancellation.{is_cancellation_point, is_cancelled, request_acts}
 use Rattle.machine_rules.specs.Lives.{inherited_mask}
 use Rattle.machine_rules.specs.Scheduling.{takes_priority, with_policy}
 use Rattle.machine_rules.specs.Mutexes.{lock_answer, owns_boosting, trylock_answer}
-use Rattle.machine_rules.specs.Conditions.{signals_best, signals_best_of, waits_on_condition}
+use Rattle.machine_rules.specs.Conditions.{signals_best, signals_best_times, waits_on_condition}
 use Rattle.machine_rules.specs.Semaphores.{waits_on_semaphore}
 use Rattle.machine_rules.specs.Waiters.{best_waiter, waiters}
 use Rattle.machine_rules.specs.Calls.{call_effect, makes_call}
@@ -28,7 +28,7 @@ use Rattle.kernel_events.proofs.Coming.Lives.{joins_come, cancels_come, pops_com
 
 -- ---- the table of calls
 
-pub calls_come : {P : Type 0} (bodies : Bodies P) (b : By) (c : Call) (s : Turn P) → Comes s (call_effect bodies b c s)
+pub calls_come : {P : Type 0} (bodies : Bodies P) (b : Caller) (c : Call) (s : Turn P) → Comes s (call_effect bodies b c s)
 calls_come bodies b call.Yield s = fewer_come s.machine (returns b res.Zero 0 (moves b.thread s)).machine (moves b.thread s).direct (returns_fewer b res.Zero 0 s)
 calls_come bodies b (call.Create u) s =
     if_come (is_dormant (thread_at s.machine u).status) _ _ s (creates_come bodies b u (inherited_mask (thread_at s.machine b.thread)) s) (returns_come b res.Again 0 s)
@@ -57,7 +57,7 @@ calls_come bodies b (call.Wait c k) s = waits_come b c k None s
 calls_come bodies b (call.Timedwait c k at) s = waits_come b c k (Some (number_of s.machine b.thread at)) s
 calls_come bodies b (call.Signal c) s = returned_come b res.Zero 0 (signals_best c) s (signals_best_come c (returns b res.Zero 0 s))
 calls_come bodies b (call.Broadcast c) s =
-    returned_come b res.Zero 0 (signals_best_of (length (waiters s.machine (waits_on_condition c))) c) s (signals_best_of_come (length (waiters s.machine (waits_on_condition c))) c (returns b res.Zero 0 s))
+    returned_come b res.Zero 0 (signals_best_times (length (waiters s.machine (waits_on_condition c))) c) s (signals_best_of_come (length (waiters s.machine (waits_on_condition c))) c (returns b res.Zero 0 s))
 calls_come bodies b (call.SemWait k) s = waits_semaphore_come b k None s
 calls_come bodies b (call.SemTimedwait k at) s = waits_semaphore_come b k (Some (number_of s.machine b.thread at)) s
 calls_come bodies b (call.SemTrywait k) s = if_come (semaphore_at s.machine k == 0) _ _ s (returns_come b res.Again 0 s) (returns_come b res.Zero 0 (changes_semaphore k pred s))
@@ -87,7 +87,7 @@ calls_come bodies b (call.MqTimedreceive q at) s = receives_message_come b q (So
 calls_come bodies b (call.MqNotify q signal v) s = asks_notification_come b q (record { signal = signal; value = number_of s.machine b.thread v }) s
 
 -- a request in place of a call wakes nobody
-pub made_come : {P : Type 0} (bodies : Bodies P) (b : By) (s : Turn P) → Comes s (makes_call bodies b s)
+pub made_come : {P : Type 0} (bodies : Bodies P) (b : Caller) (s : Turn P) → Comes s (makes_call bodies b s)
 made_come bodies b s =
     if_come (is_cancellation_point b.call && request_acts (thread_at s.machine b.thread)) _ _ s
     (fewer_come s.machine (is_cancelled b.thread s).machine s.direct (changes_fewer b.thread (ending_with cancelled_value) s (λ h. h)))

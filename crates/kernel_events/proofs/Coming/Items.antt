@@ -9,13 +9,13 @@ use Rattle.machine_rules.specs.State.{Wait, Waiting, for_condition, for_end, for
 use Rattle.machine_rules.specs.declared.thread.CondEnd.TheVariants as cond_end
 use Rattle.machine_rules.specs.Threads.{thread_at, waiting_of}
 use Rattle.machine_rules.specs.Turns.{Turn}
-use Rattle.machine_rules.specs.Servers.{refills_for}
-use Rattle.machine_rules.specs.DueItems.{handles, times_out, times_out_of}
+use Rattle.machine_rules.specs.Servers.{refills_server}
+use Rattle.machine_rules.specs.DueItems.{handles, times_out, wait_times_out}
 use Rattle.kernel_events.proofs.Coming.Steps.{Comes, fewer_come, nobody_comes, refills_fewer, starts_come, wakes_come}
 use Rattle.kernel_events.proofs.Coming.Waits.{contends_come}
 use Rattle.kernel_events.proofs.Coming.Signals.{expires_come}
 
-times_out_of_come : {P : Type 0} (x : Wait) (t : ℕ) (s : Turn P) → Comes s (times_out_of x t s)
+times_out_of_come : {P : Type 0} (x : Wait) (t : ℕ) (s : Turn P) → Comes s (wait_times_out x t s)
 times_out_of_come (for_mutex k) t s = wakes_come t res.Timedout 0 s
 times_out_of_come (for_mutex_again k how) t s = wakes_come t res.Timedout 0 s
 times_out_of_come (for_condition c k) t s = contends_come t cond_end.Timedout s
@@ -33,7 +33,7 @@ times_out_come (Some w) t s = times_out_of_come w.wait t s
 pub handles_come : {P : Type 0} (bodies : Bodies P) (i : Item) (s : Turn P) → Comes s (handles bodies i s)
 handles_come bodies (item.Refill t) s =
     let o = (thread_at s.machine t).server in
-    fewer_come s.machine (refills_for t o s).machine (refills_for t o s).direct (refills_fewer t o s)
+    fewer_come s.machine (refills_server t o s).machine (refills_server t o s).direct (refills_fewer t o s)
 handles_come bodies (item.Start t) s = starts_come bodies t 0 s
 handles_come bodies (item.Timeout t) s = times_out_come (waiting_of s.machine t) t s
 handles_come bodies (item.Timer k) s = expires_come k s

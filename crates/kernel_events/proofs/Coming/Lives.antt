@@ -7,18 +7,18 @@ use Rattle.machine_rules.specs.Bodies.{Bodies}
 use Rattle.machine_rules.specs.State.{Joiner, Thread, Wait, Waiting, has_joined, nobody, waits_to_join, for_condition, for_end, for_message, for_mutex, for_mutex_again, for_room, for_semaphore, for_signal, for_time}
 use Rattle.machine_rules.specs.declared.thread.CondEnd.TheVariants as cond_end
 use Rattle.machine_rules.specs.Threads.{is_dormant, is_runnable, lives, thread_at, waiting_of}
-use Rattle.machine_rules.specs.Turns.{By, Turn, changes, changes_pending, returns, tells}
+use Rattle.machine_rules.specs.Turns.{Caller, Turn, changes, changes_pending, returns, tells}
 use Rattle.machine_rules.specs.Waking.{blocks_unordered, wakes, wakes_cancelled}
 use Rattle.machine_rules.specs.declared.frame.FrameKind.{FrameKind}
 use Rattle.machine_rules.specs.declared.frame.FrameKind.TheVariants as frame
 use Rattle.machine_rules.specs.Cancellation.{acts_if_blocked, cancels, leaves, leaves_wait, pops_cleanup, request_acts, requested, runs_cleanup_if, without_cleanup}
-use Rattle.machine_rules.specs.Lives.{finishes_in, is_nobody, joins, wakes_joiner, with_joiner, without_life, without_target, without_top}
+use Rattle.machine_rules.specs.Lives.{ends_frame, is_nobody, joins, wakes_joiner, with_joiner, without_life, without_target, without_top}
 use Rattle.kernel_events.proofs.Coming.Steps.{wakes_come, fewer_come, changes_fewer, returns_fewer, Comes, if_come, returns_come, sleeps_come, fewer_before, changed_come}
 use Rattle.kernel_events.proofs.Coming.Waits.{cancelled_come, contends_come}
 
 -- ---- joins, ends and requests
 
-pub joins_come : {P : Type 0} (b : By) (u : ℕ) (s : Turn P) → Comes s (joins b u s)
+pub joins_come : {P : Type 0} (b : Caller) (u : ℕ) (s : Turn P) → Comes s (joins b u s)
 joins_come b u s =
     if_come (u == b.thread) _ _ s (returns_come b res.Deadlk 0 s)
     (if_come (is_dormant (thread_at s.machine u).status) _ _ s (returns_come b res.Srch 0 s)
@@ -48,7 +48,7 @@ leaves_wait_come (Some w) u s = leaves_come w.wait u s
 acts_come : {P : Type 0} (u : ℕ) (s : Turn P) → Comes s (acts_if_blocked u s)
 acts_come u s = if_come (request_acts (thread_at s.machine u)) _ _ s (leaves_wait_come (waiting_of s.machine u) u s) (fewer_come s.machine s.machine s.direct (λ v r. r))
 
-pub cancels_come : {P : Type 0} (b : By) (u : ℕ) (s : Turn P) → Comes s (cancels b u s)
+pub cancels_come : {P : Type 0} (b : Caller) (u : ℕ) (s : Turn P) → Comes s (cancels b u s)
 cancels_come b u s =
     let r = returns b res.Zero 0 s in
     let x = changes u requested r in
@@ -61,7 +61,7 @@ run_status true bodies [] th = refl
 run_status true bodies (u ∷ us) th = refl
 run_status false bodies us th = refl
 
-pub pops_come : {P : Type 0} (bodies : Bodies P) (b : By) (runs : Bool) (s : Turn P) → Comes s (pops_cleanup bodies b runs s)
+pub pops_come : {P : Type 0} (bodies : Bodies P) (b : Caller) (runs : Bool) (s : Turn P) → Comes s (pops_cleanup bodies b runs s)
 pops_come bodies b runs s =
     let us = (thread_at s.machine b.thread).cleanups in
     let x = returns b res.Zero 0 (changes b.thread without_cleanup s) in
@@ -77,7 +77,7 @@ wakes_joiner_come (waits_to_join u) t s =
     let x = changes t (with_joiner has_joined) s in
     fewer_before s x (wakes u res.Zero (thread_at s.machine t).exit_value x) (changes_fewer t (with_joiner has_joined) s (λ h. h)) (wakes_come u res.Zero (thread_at s.machine t).exit_value x)
 
-pub finishes_come : {P : Type 0} (kind : FrameKind) (t : ℕ) (s : Turn P) → Comes s (finishes_in kind t s)
+pub finishes_come : {P : Type 0} (kind : FrameKind) (t : ℕ) (s : Turn P) → Comes s (ends_frame kind t s)
 finishes_come frame.Main t s =
     let x = changes_pending (without_target t) (tells (event.Exit t) (changes t without_life s)) in
     let j = (thread_at s.machine t).joiner in

@@ -6,11 +6,11 @@ use Rattle.tick_num.specs.Signals.{has_signal}
 use Rattle.tick_num.specs.declared.res.Res.TheVariants as res
 use Rattle.pse52_trace.specs.declared.event.Event.TheVariants as event
 use Rattle.machine_rules.specs.CallNames.{name_of}
-use Rattle.machine_rules.specs.Signals.{acceptor, becomes_pending, delivers, generates, generates_for, goes_to, has_no_room, is_ignore, selected, sends_signal, sets_mask, tells_overrun, waits_signal, waits_signal_on, waits_ticks, with_overrun_told, without_record}
+use Rattle.machine_rules.specs.Signals.{acceptor, becomes_pending, delivers, generates, is_accepted_or_pends, may_go_to, has_no_room, is_ignore, selected, sends_signal, sets_mask, tells_overrun, waits_signal, takes_signal_or_waits, blocks_for_signal, with_overrun_told, without_record}
 use Rattle.machine_rules.specs.State.{SignalRecord, Thread, for_signal}
 use Rattle.machine_rules.specs.Threads.{action_of, can_run, timer_at, waiting_of}
 use Rattle.machine_rules.specs.Timers.{armed_again, expires, is_pending_from, overrun_once_more, record_of_timer, signals_expiry}
-use Rattle.machine_rules.specs.Turns.{By, Turn, changes_pending, changes_timer, returns, tells}
+use Rattle.machine_rules.specs.Turns.{Caller, Turn, changes_pending, changes_timer, returns, tells}
 use Rattle.machine_rules.specs.Waiters.{Waiter}
 use Rattle.machine_rules.specs.Waking.{blocks, call_in, wakes}
 use Rattle.kernel_events.proofs.Coming.Steps.{Comes, KeepsMoves, blocks_come, changed_come, come_later, fewer_come, if_come, if_keeps, nobody_comes, returned_come, returns_come, returns_fewer, wakes_come, woken_keeps}
@@ -36,7 +36,7 @@ delivers_come t r s = fewer_come s.machine (delivers t r s).machine (delivers t 
 
 -- ---- generation
 
-generates_for_come : {P : Type 0} (o : Option Waiter) (r : SignalRecord) (s : Turn P) → Comes s (generates_for o r s)
+generates_for_come : {P : Type 0} (o : Option Waiter) (r : SignalRecord) (s : Turn P) → Comes s (is_accepted_or_pends o r s)
 generates_for_come (Some w) r s =
     let x = delivers w.thread r s in
     let y = wakes w.thread res.Zero r.signal x in
@@ -46,7 +46,7 @@ generates_for_come None r s = if_come (is_ignore (action_of s.machine r.signal))
 pub generates_come : {P : Type 0} (r : SignalRecord) (s : Turn P) → Comes s (generates r s)
 generates_come r s = generates_for_come (acceptor s.machine r) r s
 
-generates_for_keeps : {P : Type 0} (o : Option Waiter) (r : SignalRecord) (s : Turn P) → KeepsMoves s (generates_for o r s)
+generates_for_keeps : {P : Type 0} (o : Option Waiter) (r : SignalRecord) (s : Turn P) → KeepsMoves s (is_accepted_or_pends o r s)
 generates_for_keeps (Some w) r s u h =
     let x = delivers w.thread r s in
     woken_keeps (event.Return w.thread (name_of (call_in (waiting_of x.machine w.thread))) res.Zero r.signal) w.thread res.Zero r.signal x u (delivers_keeps w.thread r s u h)
@@ -57,26 +57,26 @@ generates_keeps r s = generates_for_keeps (acceptor s.machine r) r s
 
 -- ---- calls
 
-pub sends_signal_come : {P : Type 0} (b : By) (r : SignalRecord) (s : Turn P) → Comes s (sends_signal b r s)
+pub sends_signal_come : {P : Type 0} (b : Caller) (r : SignalRecord) (s : Turn P) → Comes s (sends_signal b r s)
 sends_signal_come b r s = if_come (has_no_room s.machine r) _ _ s (returns_come b res.Again 0 s) (returned_come b res.Zero 0 (generates r) s (generates_come r (returns b res.Zero 0 s)))
 
-pub sets_mask_come : {P : Type 0} (b : By) (change : ℕ → ℕ) (s : Turn P) → Comes s (sets_mask b change s)
+pub sets_mask_come : {P : Type 0} (b : Caller) (change : ℕ → ℕ) (s : Turn P) → Comes s (sets_mask b change s)
 sets_mask_come b change s = changed_come b b.thread (λ th. record th { mask = change th.mask }) res.Zero 0 s (λ th. refl)
 
-waits_ticks_come : {P : Type 0} (ticks : Option ℕ) (b : By) (set : ℕ) (s : Turn P) → Comes s (waits_ticks ticks b set s)
+waits_ticks_come : {P : Type 0} (ticks : Option ℕ) (b : Caller) (set : ℕ) (s : Turn P) → Comes s (blocks_for_signal ticks b set s)
 waits_ticks_come None b set s = blocks_come b (for_signal set) None s
 waits_ticks_come (Some zero) b set s = returns_come b res.Again 0 s
 waits_ticks_come (Some (suc n)) b set s = blocks_come b (for_signal set) (Some (s.machine.now + suc n)) s
 
-waits_signal_on_come : {P : Type 0} (o : Option SignalRecord) (ticks : Option ℕ) (b : By) (set : ℕ) (s : Turn P) → Comes s (waits_signal_on o ticks b set s)
+waits_signal_on_come : {P : Type 0} (o : Option SignalRecord) (ticks : Option ℕ) (b : Caller) (set : ℕ) (s : Turn P) → Comes s (takes_signal_or_waits o ticks b set s)
 waits_signal_on_come (Some r) ticks b set s =
     let x = delivers b.thread r (changes_pending (without_record r) s) in
     fewer_come s.machine (returns b res.Zero r.signal x).machine (returns b res.Zero r.signal x).direct
     (λ u h. sym (delivers_runs b.thread r (changes_pending (without_record r) s) u) ∙ returns_fewer b res.Zero r.signal x u h)
 waits_signal_on_come None ticks b set s = waits_ticks_come ticks b set s
 
-pub waits_signal_come : {P : Type 0} (ticks : Option ℕ) (b : By) (set : ℕ) (s : Turn P) → Comes s (waits_signal ticks b set s)
-waits_signal_come ticks b set s = waits_signal_on_come (selected s.machine (λ (r : SignalRecord). has_signal set r.signal && goes_to b.thread r.target)) ticks b set s
+pub waits_signal_come : {P : Type 0} (ticks : Option ℕ) (b : Caller) (set : ℕ) (s : Turn P) → Comes s (waits_signal ticks b set s)
+waits_signal_come ticks b set s = waits_signal_on_come (selected s.machine (λ (r : SignalRecord). has_signal set r.signal && may_go_to b.thread r.target)) ticks b set s
 
 -- ---- timers
 

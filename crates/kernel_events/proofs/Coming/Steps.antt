@@ -11,9 +11,9 @@ use Rattle.machine_rules.specs.Bodies.{Bodies}
 use Rattle.machine_rules.specs.State.{Machine, Thread, Wait, Waiting, nobody}
 use Rattle.machine_rules.specs.Lists.{changed_at}
 use Rattle.machine_rules.specs.Threads.{can_run, is_runnable, no_thread, thread_at, waiting_of}
-use Rattle.machine_rules.specs.Turns.{By, Turn, answered, changes, moves, moves_if, returns, tells, with_thread}
+use Rattle.machine_rules.specs.Turns.{Caller, Turn, answered, changes, moves, moves_if, returns, tells, with_thread}
 use Rattle.machine_rules.specs.CallNames.{name_of}
-use Rattle.machine_rules.specs.Servers.{activates_if, activates_server, amount_of, high_server, refills_for, regains_high, with_server}
+use Rattle.machine_rules.specs.Servers.{activates_if, activates_server, amount_of, high_server, refills_server, regains_high, with_server}
 use Rattle.machine_rules.specs.Waking.{blocks, call_in, put_to_wait, started, starts, wakes, wakes_telling, woken}
 use Rattle.machine_rules.specs.Cancellation.{leaves}
 use Rattle.machine_rules.specs.Scheduling.{with_policy, with_priority}
@@ -87,7 +87,7 @@ pub activates_if_fewer : {P : Type 0} (b : Bool) (t : ℕ) (s : Turn P) → Fewe
 activates_if_fewer true t s u r = sym (activated t (thread_at s.machine t).server s u) ∙ r
 activates_if_fewer false t s u r = r
 
-pub refills_fewer : {P : Type 0} (t : ℕ) (o : Option ServerState) (s : Turn P) → Fewer s.machine (refills_for t o s).machine
+pub refills_fewer : {P : Type 0} (t : ℕ) (o : Option ServerState) (s : Turn P) → Fewer s.machine (refills_server t o s).machine
 refills_fewer t None s u r = r
 refills_fewer t (Some server) s u r =
     let told = tells (event.Refill t (amount_of (oldest_pending server)) (refill server).capacity) (changes t (with_server refill) s) in
@@ -95,10 +95,10 @@ refills_fewer t (Some server) s u r =
 
 -- ---- one step
 
-pub returns_fewer : {P : Type 0} (b : By) (r : Res) (value : ℕ) (s : Turn P) → Fewer s.machine (returns b r value s).machine
+pub returns_fewer : {P : Type 0} (b : Caller) (r : Res) (value : ℕ) (s : Turn P) → Fewer s.machine (returns b r value s).machine
 returns_fewer b r value s = changes_fewer b.thread (answered r value) s (λ h. h)
 
-pub returns_same : {P : Type 0} (b : By) (r : Res) (value : ℕ) (s : Turn P) (u : ℕ) → can_run (returns b r value s).machine u ≡ can_run s.machine u
+pub returns_same : {P : Type 0} (b : Caller) (r : Res) (value : ℕ) (s : Turn P) (u : ℕ) → can_run (returns b r value s).machine u ≡ can_run s.machine u
 returns_same b r value s u = changed-keeps no_thread b.thread u (answered r value) (λ th. is_runnable th.status) (λ th. refl) s.machine.threads
 
 pub come_later : {P : Type 0} (before mid m : Machine P) (direct : List ℕ) → ((u : ℕ) → can_run mid u ≡ can_run before u) → HaveCome mid direct m → HaveCome before direct m
@@ -115,16 +115,16 @@ pub if_come : {P : Type 0} (b : Bool) (x y s : Turn P) → Comes s x → Comes s
 if_come true x y s h k = h
 if_come false x y s h k = k
 
-pub returns_come : {P : Type 0} (b : By) (r : Res) (value : ℕ) (s : Turn P) → Comes s (returns b r value s)
+pub returns_come : {P : Type 0} (b : Caller) (r : Res) (value : ℕ) (s : Turn P) → Comes s (returns b r value s)
 returns_come b r value s = fewer_come s.machine (returns b r value s).machine s.direct (returns_fewer b r value s)
 
-pub creates_come : {P : Type 0} (bodies : Bodies P) (b : By) (u mask : ℕ) (s : Turn P) → Comes s (starts bodies u mask (returns b res.Zero 0 s))
+pub creates_come : {P : Type 0} (bodies : Bodies P) (b : Caller) (u mask : ℕ) (s : Turn P) → Comes s (starts bodies u mask (returns b res.Zero 0 s))
 creates_come bodies b u mask s =
     let r = returns b res.Zero 0 s in
     let x = starts bodies u mask r in
     come_later s.machine r.machine x.machine x.direct (returns_same b res.Zero 0 s) (starts_come bodies u mask r)
 
-pub setprio_come : {P : Type 0} (b : By) (u p : ℕ) (s : Turn P) → Comes s (returns b res.Zero 0 (changes u (with_priority p) s))
+pub setprio_come : {P : Type 0} (b : Caller) (u p : ℕ) (s : Turn P) → Comes s (returns b res.Zero 0 (changes u (with_priority p) s))
 setprio_come b u p s =
     let c = changes u (with_priority p) s in
     fewer_come s.machine (returns b res.Zero 0 c).machine s.direct (λ v r. changes_fewer u (with_priority p) s (λ h. h) v (returns_fewer b res.Zero 0 c v r))
@@ -133,7 +133,7 @@ pub moves_if_machine : {P : Type 0} (b : Bool) (t : ℕ) (s : Turn P) → (moves
 moves_if_machine true t s = refl
 moves_if_machine false t s = refl
 
-pub setsched_come : {P : Type 0} (b : By) (u : ℕ) (new : _) (now : ℕ) (a d : Bool) (s : Turn P) →
+pub setsched_come : {P : Type 0} (b : Caller) (u : ℕ) (new : _) (now : ℕ) (a d : Bool) (s : Turn P) →
     Comes s (moves_if d u (activates_if a u (changes u (with_policy new now) (returns b res.Zero 0 s))))
 setsched_come b u new now a d s =
     let r = returns b res.Zero 0 s in
@@ -142,10 +142,10 @@ setsched_come b u new now a d s =
     fewer_come s.machine (moves_if d u x).machine (moves_if d u x).direct
     (λ v k. returns_fewer b res.Zero 0 s v (changes_fewer u (with_policy new now) r (λ h. h) v (activates_if_fewer a u c v (sym (ap (λ (m : _). can_run m v) (moves_if_machine d u x)) ∙ k))))
 
-pub sleeps_come : {P : Type 0} (b : By) (w : Waiting) (s : Turn P) → Comes s (changes b.thread (put_to_wait w) s)
+pub sleeps_come : {P : Type 0} (b : Caller) (w : Waiting) (s : Turn P) → Comes s (changes b.thread (put_to_wait w) s)
 sleeps_come b w s = fewer_come s.machine (changes b.thread (put_to_wait w) s).machine s.direct (changes_fewer b.thread (put_to_wait w) s (λ h. absurd cc))
 
-pub blocks_come : {P : Type 0} (b : By) (wait : Wait) (due : Option ℕ) (s : Turn P) → Comes s (blocks b wait due s)
+pub blocks_come : {P : Type 0} (b : Caller) (wait : Wait) (due : Option ℕ) (s : Turn P) → Comes s (blocks b wait due s)
 blocks_come b wait due s = sleeps_come b _ s
 
 -- where nobody came before
@@ -156,15 +156,15 @@ fewer_before s x r fewer come u off runs = by_run (can_run x.machine u) refl
     by_run true e = not_both (can_run s.machine u) off (fewer u e)
     by_run false e = come u e runs
 
-pub blocks_fewer : {P : Type 0} (b : By) (wait : Wait) (due : Option ℕ) (s : Turn P) → Fewer s.machine (blocks b wait due s).machine
+pub blocks_fewer : {P : Type 0} (b : Caller) (wait : Wait) (due : Option ℕ) (s : Turn P) → Fewer s.machine (blocks b wait due s).machine
 blocks_fewer b wait due s = changes_fewer b.thread (put_to_wait (record { wait = wait; serial = s.machine.next_serial; due = due; call = b.call })) s (λ h. absurd cc)
 
 -- behind the caller's return
-pub returned_come : {P : Type 0} (b : By) (r : Res) (value : ℕ) (f : Turn P → Turn P) (s : Turn P) → Comes (returns b r value s) (f (returns b r value s)) → Comes s (f (returns b r value s))
+pub returned_come : {P : Type 0} (b : Caller) (r : Res) (value : ℕ) (f : Turn P → Turn P) (s : Turn P) → Comes (returns b r value s) (f (returns b r value s)) → Comes s (f (returns b r value s))
 returned_come b r value f s h = let x = f (returns b r value s) in come_later s.machine (returns b r value s).machine x.machine x.direct (returns_same b r value s) h
 
 -- a change of the caller that leaves its status, and its return
-pub changed_come : {P : Type 0} (b : By) (t : ℕ) (f : Thread P → Thread P) (r : Res) (value : ℕ) (s : Turn P) → ((th : Thread P) → (f th).status ≡ th.status) → Comes s (returns b r value (changes t f s))
+pub changed_come : {P : Type 0} (b : Caller) (t : ℕ) (f : Thread P → Thread P) (r : Res) (value : ℕ) (s : Turn P) → ((th : Thread P) → (f th).status ≡ th.status) → Comes s (returns b r value (changes t f s))
 changed_come b t f r value s same =
     let x = changes t f s in
     fewer_before s x (returns b r value x) (changes_fewer t f s (λ h. sym (ap is_runnable (same (thread_at s.machine t))) ∙ h)) (returns_come b r value x)

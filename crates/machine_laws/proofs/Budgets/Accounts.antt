@@ -1,4 +1,4 @@
--- The books of a server: its account and its fields agree, and each posting keeps them so.
+-- The books of a server: its account and its fields agree, and each entry keeps them so.
 use Rattle.std.proofs.Common.{Bool, List, None, Option, Some, [], ap, append_assoc, arith, length, max, false, refl, suc, sym, true, zero, ℕ, ◌+◌, ◌<◌, ◌≤◌, ◌∷◌, ◌++◌, ◌≡◌}
 use Rattle.std.specs.Prelude.{All, filter_map, map, sum_by, take, ◌&&◌, ◌||◌}
 use Rattle.std.specs.List.{sum}
@@ -7,12 +7,12 @@ use mathlib.Core.Path.{subst, ◌∙◌}
 use Rattle.sporadic_server.specs.declared.Replenish.{Replenish}
 use Rattle.sporadic_server.specs.Server.{ServerState, activate, charge, new_server, pending_total, plan, refill, refill_from, replenishment, set_high}
 use Rattle.tick_num.specs.Parameters.{Parameters}
-use Rattle.machine_rules.specs.Budget.{KeepsAccount, Plan, Posting, activated, high_ticks, owed, owed_since, plan_in, planned, plans_in, refill_amount, refill_amounts, refill_time, refill_times, refilled, replenishment_in, used, used_one}
+use Rattle.machine_rules.specs.Budget.{KeepsAccount, Plan, ServerEvent, activated, high_ticks, expected_plans, expected_since, plan_in, planned, plans_in, refill_amount, refill_amounts, refill_time, refill_times, refilled, replenishment_in, used, used_one}
 use Rattle.machine_rules.specs.Budget.{plans_follow}
 use Rattle.machine_moves.proofs.Waiters.Best.{Each}
 
 -- whether an activation is entered
-abbrev pub is_active : List Posting → Bool
+abbrev pub is_active : List ServerEvent → Bool
 is_active [] = false
 is_active (used ∷ rest) = is_active rest
 is_active (activated time ∷ rest) = true
@@ -21,44 +21,44 @@ is_active (refilled time amount ∷ rest) = is_active rest
 
 -- ---- the ticks since the last activation, and its time
 
-abbrev pub count_after : ℕ → List Posting → ℕ
+abbrev pub count_after : ℕ → List ServerEvent → ℕ
 count_after count [] = count
 count_after count (used ∷ rest) = count_after (count + 1) rest
 count_after count (activated time ∷ rest) = count_after 0 rest
 count_after count (planned time r ∷ rest) = count_after count rest
 count_after count (refilled time amount ∷ rest) = count_after count rest
 
-abbrev pub since_after : ℕ → List Posting → ℕ
+abbrev pub since_after : ℕ → List ServerEvent → ℕ
 since_after since [] = since
 since_after since (used ∷ rest) = since_after since rest
 since_after since (activated time ∷ rest) = since_after time rest
 since_after since (planned time r ∷ rest) = since_after since rest
 since_after since (refilled time amount ∷ rest) = since_after since rest
 
--- what one more posting adds
-owed_last : (period count since : ℕ) (acc : List Posting) (x : Posting) →
-    owed_since period count since (acc ++ x ∷ []) ≡ owed_since period count since acc ++ owed_since period (count_after count acc) (since_after since acc) (x ∷ [])
-owed_last period count since [] x = refl
-owed_last period count since (used ∷ acc) x = owed_last period (count + 1) since acc x
-owed_last period count since (activated time ∷ acc) x = owed_last period 0 time acc x
-owed_last period count since (planned time r ∷ acc) x = ap (λ rs. record { amount = count; due = since + period } ∷ rs) (owed_last period count since acc x)
-owed_last period count since (refilled time amount ∷ acc) x = owed_last period count since acc x
+-- what one more entry adds
+expected_last : (period count since : ℕ) (acc : List ServerEvent) (x : ServerEvent) →
+    expected_since period count since (acc ++ x ∷ []) ≡ expected_since period count since acc ++ expected_since period (count_after count acc) (since_after since acc) (x ∷ [])
+expected_last period count since [] x = refl
+expected_last period count since (used ∷ acc) x = expected_last period (count + 1) since acc x
+expected_last period count since (activated time ∷ acc) x = expected_last period 0 time acc x
+expected_last period count since (planned time r ∷ acc) x = ap (λ rs. record { amount = count; due = since + period } ∷ rs) (expected_last period count since acc x)
+expected_last period count since (refilled time amount ∷ acc) x = expected_last period count since acc x
 
-pub count_last : (count : ℕ) (acc : List Posting) (x : Posting) → count_after count (acc ++ x ∷ []) ≡ count_after (count_after count acc) (x ∷ [])
+pub count_last : (count : ℕ) (acc : List ServerEvent) (x : ServerEvent) → count_after count (acc ++ x ∷ []) ≡ count_after (count_after count acc) (x ∷ [])
 count_last count [] x = refl
 count_last count (used ∷ acc) x = count_last (count + 1) acc x
 count_last count (activated time ∷ acc) x = count_last 0 acc x
 count_last count (planned time r ∷ acc) x = count_last count acc x
 count_last count (refilled time amount ∷ acc) x = count_last count acc x
 
-pub since_last : (since : ℕ) (acc : List Posting) (x : Posting) → since_after since (acc ++ x ∷ []) ≡ since_after (since_after since acc) (x ∷ [])
+pub since_last : (since : ℕ) (acc : List ServerEvent) (x : ServerEvent) → since_after since (acc ++ x ∷ []) ≡ since_after (since_after since acc) (x ∷ [])
 since_last since [] x = refl
 since_last since (used ∷ acc) x = since_last since acc x
 since_last since (activated time ∷ acc) x = since_last time acc x
 since_last since (planned time r ∷ acc) x = since_last since acc x
 since_last since (refilled time amount ∷ acc) x = since_last since acc x
 
-active_last : (acc : List Posting) (x : Posting) → is_active (acc ++ x ∷ []) ≡ (is_active acc || is_active (x ∷ []))
+active_last : (acc : List ServerEvent) (x : ServerEvent) → is_active (acc ++ x ∷ []) ≡ (is_active acc || is_active (x ∷ []))
 active_last [] x = refl
 active_last (used ∷ acc) x = active_last acc x
 active_last (activated time ∷ acc) x = refl
@@ -66,13 +66,13 @@ active_last (planned time r ∷ acc) x = active_last acc x
 active_last (refilled time amount ∷ acc) x = active_last acc x
 
 -- an activation that is entered stays so
-pub stays_active : (acc : List Posting) (x : Posting) → is_active acc ≡ true → is_active (acc ++ x ∷ []) ≡ true
+pub stays_active : (acc : List ServerEvent) (x : ServerEvent) → is_active acc ≡ true → is_active (acc ++ x ∷ []) ≡ true
 stays_active acc x e = active_last acc x ∙ ap (λ (b : Bool). b || is_active (x ∷ [])) e
 
 either_way : (a b c : Bool) → ((a && b) && c) ≡ (a && (b && c))
 either_way a b c = grind arith
 
-follow_last : (b : Bool) (acc : List Posting) (x : Posting) → plans_follow b (acc ++ x ∷ []) ≡ (plans_follow b acc && plans_follow (b || is_active acc) (x ∷ []))
+follow_last : (b : Bool) (acc : List ServerEvent) (x : ServerEvent) → plans_follow b (acc ++ x ∷ []) ≡ (plans_follow b acc && plans_follow (b || is_active acc) (x ∷ []))
 follow_last true [] x = refl
 follow_last false [] x = refl
 follow_last b (used ∷ acc) x = follow_last b acc x
@@ -82,11 +82,11 @@ follow_last b (planned time r ∷ acc) x = ap (λ (c : Bool). b && c) (follow_la
 follow_last b (refilled time amount ∷ acc) x = follow_last b acc x
 
 -- what is no plan may be entered at any time
-follows_on : (acc : List Posting) (x : Posting) → ((b : Bool) → plans_follow b (x ∷ []) ≡ true) → plans_follow false acc ≡ true → plans_follow false (acc ++ x ∷ []) ≡ true
+follows_on : (acc : List ServerEvent) (x : ServerEvent) → ((b : Bool) → plans_follow b (x ∷ []) ≡ true) → plans_follow false acc ≡ true → plans_follow false (acc ++ x ∷ []) ≡ true
 follows_on acc x h e = follow_last false acc x ∙ ap (λ (b : Bool). b && plans_follow (is_active acc) (x ∷ [])) e ∙ h (is_active acc)
 
 -- a plan may where an activation is entered
-plan_follows : (acc : List Posting) (time : ℕ) (r : Replenish) → is_active acc ≡ true → plans_follow false acc ≡ true → plans_follow false (acc ++ planned time r ∷ []) ≡ true
+plan_follows : (acc : List ServerEvent) (time : ℕ) (r : Replenish) → is_active acc ≡ true → plans_follow false acc ≡ true → plans_follow false (acc ++ planned time r ∷ []) ≡ true
 plan_follows acc time r a e = follow_last false acc (planned time r) ∙ ap (λ (b : Bool). b && plans_follow (is_active acc) (planned time r ∷ [])) e ∙ ap (λ (b : Bool). plans_follow b (planned time r ∷ [])) a
 
 -- ---- lists that grow at their end
@@ -121,7 +121,7 @@ abbrev pub Open : ℕ → Plan → Type 0
 Open now p = (now ≤ p.from) × (p.due ≤ p.from) × (p.from ≤ max p.due now)
 
 -- The plans are those that were carried out, and behind them those that are pending.
-pub record Books (now : ℕ) (s : ServerState) (acc : List Posting) : Type 0 where
+pub record Books (now : ℕ) (s : ServerState) (acc : List ServerEvent) : Type 0 where
   pub done : List Plan
   pub ahead : List Plan
   pub plans : plans_in acc ≡ done ++ ahead
@@ -133,12 +133,12 @@ pub record Books (now : ℕ) (s : ServerState) (acc : List Posting) : Type 0 whe
   pub high_total : s.high_total ≡ high_ticks acc
   pub refilled_total : s.refilled_total ≡ sum (refill_amounts acc)
   pub budget : s.capacity + pending_total s + s.consumed ≡ s.params.budget
-  pub as_owed : map replenishment_in (plans_in acc) ≡ owed s.params.period acc
+  pub as_expected : map replenishment_in (plans_in acc) ≡ expected_plans s.params.period acc
   pub some : Each (λ (p : Plan). 1 ≤ p.amount) (plans_in acc)
   pub follows : plans_follow false acc ≡ true
 
 -- what was consumed is what was used since the activation: so it is where a tick may be charged
-pub record InStep (s : ServerState) (acc : List Posting) : Type 0 where
+pub record InStep (s : ServerState) (acc : List ServerEvent) : Type 0 where
   pub count : count_after 0 acc ≡ s.consumed
   pub since : since_after 0 acc ≡ s.activation
   pub active : is_active acc ≡ true
@@ -158,7 +158,7 @@ amounts_of : (ps : List Plan) → map (λ (r : Replenish). r.amount) (map replen
 amounts_of [] = refl
 amounts_of (p ∷ ps) = ap (λ ns. p.amount ∷ ns) (amounts_of ps)
 
-pub keeps_account : (now : ℕ) (s : ServerState) (acc : List Posting) → Books now s acc → KeepsAccount s acc
+pub keeps_account : (now : ℕ) (s : ServerState) (acc : List ServerEvent) → Books now s acc → KeepsAccount s acc
 keeps_account now s acc b = record {
   high = b.high;
   high_total = b.high_total;
@@ -167,7 +167,7 @@ keeps_account now s acc b = record {
   in_order = rw (b.amounts, b.pending, b.plans) (ap (λ ns. map (λ (p : Plan). p.amount) b.done ++ ns) (amounts_of b.ahead) ∙ sym (map_last (λ (p : Plan). p.amount) b.done b.ahead));
   on_time = rw (b.times, b.plans) (sym (take_first (map (λ (p : Plan). p.from) b.done) (map (λ (p : Plan). p.from) b.ahead)) ∙ on_all b.done b.ahead);
   follows = b.follows;
-  as_owed = b.as_owed;
+  as_expected = b.as_expected;
   not_empty = each_all (λ (p : Plan). 1 ≤ p.amount) (plans_in acc) b.some;
 }
   where
@@ -189,13 +189,13 @@ new_books p now = record {
   high_total = refl;
   refilled_total = refl;
   budget = omega arith;
-  as_owed = refl;
+  as_expected = refl;
   some = tt;
   follows = refl;
 }
 
 -- another high priority
-pub priced_books : (p now : ℕ) (s : ServerState) (acc : List Posting) → Books now s acc → Books now (set_high p s) acc
+pub priced_books : (p now : ℕ) (s : ServerState) (acc : List ServerEvent) → Books now s acc → Books now (set_high p s) acc
 priced_books p now s acc b = record {
   done = b.done;
   ahead = b.ahead;
@@ -208,26 +208,26 @@ priced_books p now s acc b = record {
   high_total = b.high_total;
   refilled_total = b.refilled_total;
   budget = b.budget;
-  as_owed = b.as_owed;
+  as_expected = b.as_expected;
   some = b.some;
   follows = b.follows;
 }
 
 -- ---- an activation
 
-ticks_last : (acc : List Posting) (x : Posting) → high_ticks (acc ++ x ∷ []) ≡ high_ticks acc + used_one x
+ticks_last : (acc : List ServerEvent) (x : ServerEvent) → high_ticks (acc ++ x ∷ []) ≡ high_ticks acc + used_one x
 ticks_last acc x = ap sum (map_last used_one acc (x ∷ [])) ∙ sum_last (map used_one acc) (used_one x)
 
-plans_stay : (acc : List Posting) (x : Posting) → plan_in x ≡ None → plans_in (acc ++ x ∷ []) ≡ plans_in acc
+plans_stay : (acc : List ServerEvent) (x : ServerEvent) → plan_in x ≡ None → plans_in (acc ++ x ∷ []) ≡ plans_in acc
 plans_stay acc x e = filter_map_last plan_in acc x ∙ rw e (none_more (plans_in acc))
 
-amounts_stay : (acc : List Posting) (x : Posting) → refill_amount x ≡ None → refill_amounts (acc ++ x ∷ []) ≡ refill_amounts acc
+amounts_stay : (acc : List ServerEvent) (x : ServerEvent) → refill_amount x ≡ None → refill_amounts (acc ++ x ∷ []) ≡ refill_amounts acc
 amounts_stay acc x e = filter_map_last refill_amount acc x ∙ rw e (none_more (refill_amounts acc))
 
-times_stay : (acc : List Posting) (x : Posting) → refill_time x ≡ None → refill_times (acc ++ x ∷ []) ≡ refill_times acc
+times_stay : (acc : List ServerEvent) (x : ServerEvent) → refill_time x ≡ None → refill_times (acc ++ x ∷ []) ≡ refill_times acc
 times_stay acc x e = filter_map_last refill_time acc x ∙ rw e (none_more (refill_times acc))
 
-pub activated_books : (time now : ℕ) (s : ServerState) (acc : List Posting) → Books now s acc → Books now (activate time s) (acc ++ activated time ∷ [])
+pub activated_books : (time now : ℕ) (s : ServerState) (acc : List ServerEvent) → Books now s acc → Books now (activate time s) (acc ++ activated time ∷ [])
 activated_books time now s acc b =
     let x = activated time in
     let plans' = plans_stay acc x refl in
@@ -245,7 +245,7 @@ activated_books time now s acc b =
       high_total = let h = b.high_total in omega arith;
       refilled_total = rw amounts' b.refilled_total;
       budget = b.budget;
-      as_owed = rw plans' (b.as_owed ∙ sym (owed_last s.params.period 0 0 acc x ∙ none_more (owed s.params.period acc)));
+      as_expected = rw plans' (b.as_expected ∙ sym (expected_last s.params.period 0 0 acc x ∙ none_more (expected_plans s.params.period acc)));
       some = rw plans' b.some;
       follows = follows_on acc x (λ c. refl) b.follows;
     }
@@ -254,12 +254,12 @@ always : (b : Bool) → (b || true) ≡ true
 always b = grind arith
 
 -- from then on the ticks are counted anew
-pub activated_in_step : (time : ℕ) (s : ServerState) (acc : List Posting) → s.consumed ≡ 0 → InStep (activate time s) (acc ++ activated time ∷ [])
+pub activated_in_step : (time : ℕ) (s : ServerState) (acc : List ServerEvent) → s.consumed ≡ 0 → InStep (activate time s) (acc ++ activated time ∷ [])
 activated_in_step time s acc e = record { count = count_last 0 acc (activated time) ∙ sym e; since = since_last 0 acc (activated time); active = active_last acc (activated time) ∙ always (is_active acc) }
 
 -- ---- a tick at the high priority
 
-pub used_books : (now : ℕ) (s : ServerState) (acc : List Posting) → 1 ≤ s.capacity → Books now s acc → Books now (charge s) (acc ++ used ∷ [])
+pub used_books : (now : ℕ) (s : ServerState) (acc : List ServerEvent) → 1 ≤ s.capacity → Books now s acc → Books now (charge s) (acc ++ used ∷ [])
 used_books now s acc some b =
     let plans' = plans_stay acc used refl in
     let amounts' = amounts_stay acc used refl in
@@ -276,12 +276,12 @@ used_books now s acc some b =
       high_total = let h = b.high_total in omega arith;
       refilled_total = rw amounts' b.refilled_total;
       budget = let h = b.budget in omega arith;
-      as_owed = rw plans' (b.as_owed ∙ sym (owed_last s.params.period 0 0 acc used ∙ none_more (owed s.params.period acc)));
+      as_expected = rw plans' (b.as_expected ∙ sym (expected_last s.params.period 0 0 acc used ∙ none_more (expected_plans s.params.period acc)));
       some = rw plans' b.some;
       follows = follows_on acc used (λ c. refl) b.follows;
     }
 
-pub used_in_step : (s : ServerState) (acc : List Posting) → InStep s acc → InStep (charge s) (acc ++ used ∷ [])
+pub used_in_step : (s : ServerState) (acc : List ServerEvent) → InStep s acc → InStep (charge s) (acc ++ used ∷ [])
 used_in_step s acc h = record { count = count_last 0 acc used ∙ ap (λ (n : ℕ). n + 1) h.count; since = since_last 0 acc used ∙ h.since; active = stays_active acc used h.active }
 
 -- ---- a plan
@@ -289,7 +289,7 @@ used_in_step s acc h = record { count = count_last 0 acc used ∙ ap (λ (n : �
 pending_last : (rs : List Replenish) (r : Replenish) → sum_by (λ (x : Replenish). x.amount) (rs ++ r ∷ []) ≡ sum_by (λ (x : Replenish). x.amount) rs + r.amount
 pending_last rs r = let both = sum_by-append (λ (x : Replenish). x.amount) rs (r ∷ []) in omega arith
 
-pub planned_books : (now : ℕ) (s : ServerState) (acc : List Posting) → 1 ≤ s.consumed → InStep s acc → Books now s acc → Books now (plan s) (acc ++ planned now (replenishment s) ∷ [])
+pub planned_books : (now : ℕ) (s : ServerState) (acc : List ServerEvent) → 1 ≤ s.consumed → InStep s acc → Books now s acc → Books now (plan s) (acc ++ planned now (replenishment s) ∷ [])
 planned_books now s acc some step b =
     let x = planned now (replenishment s) in
     let made : Plan = record { amount = s.consumed; due = s.activation + s.params.period; from = max (s.activation + s.params.period) now } in
@@ -308,25 +308,25 @@ planned_books now s acc some step b =
       high_total = let h = b.high_total in omega arith;
       refilled_total = rw amounts' b.refilled_total;
       budget = let h = b.budget in let more = pending_last s.pending (replenishment s) in omega arith;
-      as_owed = rw plans' (map_last replenishment_in (plans_in acc) (made ∷ []) ∙ ap (λ rs. rs ++ replenishment s ∷ []) b.as_owed
-          ∙ owed_is s acc step ∙ sym (owed_last s.params.period 0 0 acc x));
+      as_expected = rw plans' (map_last replenishment_in (plans_in acc) (made ∷ []) ∙ ap (λ rs. rs ++ replenishment s ∷ []) b.as_expected
+          ∙ expected_is s acc step ∙ sym (expected_last s.params.period 0 0 acc x));
       some = rw plans' (each_more (λ (p : Plan). 1 ≤ p.amount) (plans_in acc) made b.some some);
       follows = plan_follows acc now (replenishment s) step.active b.follows;
     }
   where
-    owed_is : (s : ServerState) (acc : List Posting) → InStep s acc → owed s.params.period acc ++ replenishment s ∷ [] ≡
-        owed s.params.period acc ++ record { amount = count_after 0 acc; due = since_after 0 acc + s.params.period } ∷ []
-    owed_is s acc step = rw (step.count, step.since) refl
+    expected_is : (s : ServerState) (acc : List ServerEvent) → InStep s acc → expected_plans s.params.period acc ++ replenishment s ∷ [] ≡
+        expected_plans s.params.period acc ++ record { amount = count_after 0 acc; due = since_after 0 acc + s.params.period } ∷ []
+    expected_is s acc step = rw (step.count, step.since) refl
 
 -- ---- a refill
 
 first_pending : (r : Replenish) (rs : List Replenish) → sum_by (λ (x : Replenish). x.amount) (r ∷ rs) ≡ r.amount + sum_by (λ (x : Replenish). x.amount) rs
 first_pending r rs = let both = sum_by-append (λ (x : Replenish). x.amount) (r ∷ []) rs in omega arith
 
-amounts_last : (acc : List Posting) (now amount : ℕ) → refill_amounts (acc ++ refilled now amount ∷ []) ≡ refill_amounts acc ++ amount ∷ []
+amounts_last : (acc : List ServerEvent) (now amount : ℕ) → refill_amounts (acc ++ refilled now amount ∷ []) ≡ refill_amounts acc ++ amount ∷ []
 amounts_last acc now amount = filter_map_last refill_amount acc (refilled now amount)
 
-carried_out : (now : ℕ) (s : ServerState) (acc : List Posting) (b : Books now s acc) (oldest : Replenish) (later : List Replenish) → s.pending ≡ oldest ∷ later → oldest.due ≤ now → (p : Plan) (ps : List Plan) →
+carried_out : (now : ℕ) (s : ServerState) (acc : List ServerEvent) (b : Books now s acc) (oldest : Replenish) (later : List Replenish) → s.pending ≡ oldest ∷ later → oldest.due ≤ now → (p : Plan) (ps : List Plan) →
     b.ahead ≡ p ∷ ps → replenishment_in p ≡ oldest → map replenishment_in ps ≡ later → Books now (refill_from (oldest ∷ later) s) (acc ++ refilled now oldest.amount ∷ [])
 carried_out now s acc b oldest later e due p ps ahead first rest =
     let x = refilled now oldest.amount in
@@ -352,12 +352,12 @@ carried_out now s acc b oldest later e due p ps ahead first rest =
       high_total = let h = b.high_total in omega arith;
       refilled_total = rw amounts' (let h = b.refilled_total in omega arith);
       budget = let g = b.budget in omega arith;
-      as_owed = rw plans' (b.as_owed ∙ sym (owed_last s.params.period 0 0 acc x ∙ none_more (owed s.params.period acc)));
+      as_expected = rw plans' (b.as_expected ∙ sym (expected_last s.params.period 0 0 acc x ∙ none_more (expected_plans s.params.period acc)));
       some = rw plans' b.some;
       follows = follows_on acc x (λ c. refl) b.follows;
     }
 
-pub refilled_books : (now : ℕ) (s : ServerState) (acc : List Posting) (oldest : Replenish) (later : List Replenish) → s.pending ≡ oldest ∷ later → oldest.due ≤ now →
+pub refilled_books : (now : ℕ) (s : ServerState) (acc : List ServerEvent) (oldest : Replenish) (later : List Replenish) → s.pending ≡ oldest ∷ later → oldest.due ≤ now →
     Books now s acc → Books now (refill s) (acc ++ refilled now oldest.amount ∷ [])
 refilled_books now s acc oldest later e due b =
     subst (λ (rs : List Replenish). Books now (refill_from rs s) (acc ++ refilled now oldest.amount ∷ [])) (sym e) (of_ahead b.ahead refl (sym b.pending ∙ e))
@@ -377,7 +377,7 @@ refilled_books now s acc oldest later e due b =
 -- ---- an instant later
 
 -- where nothing that is pending is due any more
-pub later_books : (now : ℕ) (s : ServerState) (acc : List Posting) → Each (λ (r : Replenish). now < r.due) s.pending → Books now s acc → Books (now + 1) s acc
+pub later_books : (now : ℕ) (s : ServerState) (acc : List ServerEvent) → Each (λ (r : Replenish). now < r.due) s.pending → Books now s acc → Books (now + 1) s acc
 later_books now s acc none b = record {
   done = b.done;
   ahead = b.ahead;
@@ -390,7 +390,7 @@ later_books now s acc none b = record {
   high_total = b.high_total;
   refilled_total = b.refilled_total;
   budget = b.budget;
-  as_owed = b.as_owed;
+  as_expected = b.as_expected;
   some = b.some;
   follows = b.follows;
 }

@@ -12,7 +12,7 @@ use Rattle.pse52_trace.specs.Text.{Entry}
 use Rattle.sporadic_server.specs.Server.{ServerState}
 use Rattle.machine_rules.specs.Throughout.{after_items, turn_after}
 use Rattle.machine_laws.proofs.Items.{servers_throughout}
-use Rattle.machine_rules.specs.Budget.{KeepsBudgets, KeepsServer, Posting, account, account_after, all_posted, posted_if, posted_tick, renews, ticked_account, used}
+use Rattle.machine_rules.specs.Budget.{KeepsBudgets, KeepsServer, ServerEvent, account, account_after, all_recorded, recorded_if, recorded_tick, renews, ticked_account, used}
 use Rattle.machine_rules.specs.Bodies.{Bodies}
 use Rattle.machine_rules.specs.State.{Machine, Status, Thread}
 use Rattle.machine_rules.specs.Threads.{can_run, is_live, lives, thread_at, top_left}
@@ -41,7 +41,7 @@ use Rattle.machine_laws.proofs.Parts.Opening.{opening_listed}
 use Rattle.machine_laws.proofs.Servers.Kept.{opened_server, opening_served}
 use Rattle.machine_laws.proofs.Budgets.Units.{Book, BookDone, BooksOf, NotDue, book_round, booked_later, booked_ticked, ends_booked, not_due, one_tick, renewing_unit, renews_booked, unit_booked}
 use Rattle.machine_laws.proofs.Budgets.Accounts.{keeps_account}
-use Rattle.machine_laws.proofs.Budgets.Moves.{Booked, Posted}
+use Rattle.machine_laws.proofs.Budgets.Moves.{Booked, Recorded}
 
 -- ---- a tick
 
@@ -55,23 +55,23 @@ module _ {P : Type 0} (bodies : Bodies P) (known : BodiesFit bodies) (t : ℕ) w
     abbrev takes : Unit
     takes = (in_unit bodies (thread_at s.machine u)).unit
 
-    charged_books : (acc : List Posting) → BooksOf s.machine.now (thread_at s.machine t) acc →
-        BooksOf (s.machine.now + 1) (thread_at (charged_turn bodies u s).machine t) (posted_if (u == t && has_high (thread_at s.machine t).server) used acc)
+    charged_books : (acc : List ServerEvent) → BooksOf s.machine.now (thread_at s.machine t) acc →
+        BooksOf (s.machine.now + 1) (thread_at (charged_turn bodies u s).machine t) (recorded_if (u == t && has_high (thread_at s.machine t).server) used acc)
     charged_books acc h = by_eq (u == t) refl
       where
         f : Thread P → Thread P
         f x = tick_charged (in_unit bodies (thread_at s.machine u)).thread
 
-        mine : u ≡ t → BooksOf (s.machine.now + 1) (thread_at (charged_turn bodies u s).machine t) (posted_if (has_high (thread_at s.machine t).server) used acc)
+        mine : u ≡ t → BooksOf (s.machine.now + 1) (thread_at (charged_turn bodies u s).machine t) (recorded_if (has_high (thread_at s.machine t).server) used acc)
         mine it =
             let runs' : can_run s.machine t ≡ true = subst (λ (i : ℕ). can_run s.machine i ≡ true) it can in
-            subst (λ (i : ℕ). BooksOf (s.machine.now + 1) (thread_at (charged_turn bodies u s).machine i) (posted_if (has_high (thread_at s.machine t).server) used acc)) it
-            (subst (λ (th : Thread P). BooksOf (s.machine.now + 1) th (posted_if (has_high (thread_at s.machine t).server) used acc)) (sym (thread-same s.machine u (λ th. tick_charged (in_unit bodies (thread_at s.machine u)).thread) (running_within s.machine.threads u can)))
-            (subst (λ (x : Status × Option ServerState). (y : ServerState) → option_map charged x.1 ≡ Some y → Booked (s.machine.now + 1) x.0 y (posted_if (has_high (thread_at s.machine t).server) used acc))
+            subst (λ (i : ℕ). BooksOf (s.machine.now + 1) (thread_at (charged_turn bodies u s).machine i) (recorded_if (has_high (thread_at s.machine t).server) used acc)) it
+            (subst (λ (th : Thread P). BooksOf (s.machine.now + 1) th (recorded_if (has_high (thread_at s.machine t).server) used acc)) (sym (thread-same s.machine u (λ th. tick_charged (in_unit bodies (thread_at s.machine u)).thread) (running_within s.machine.threads u can)))
+            (subst (λ (x : Status × Option ServerState). (y : ServerState) → option_map charged x.1 ≡ Some y → Booked (s.machine.now + 1) x.0 y (recorded_if (has_high (thread_at s.machine t).server) used acc))
             (ap (λ (i : ℕ). ((thread_at s.machine i).status, (thread_at s.machine i).server)) (sym it) ∙ sym (kept_in_unit bodies (λ (x : Thread P). (x.status, x.server)) (λ fs x. refl) (λ x. refl) (thread_at s.machine u)))
             (booked_ticked s.machine.now (thread_at s.machine t).status (thread_at s.machine t).server acc runs' none h)))
 
-        by_eq : (b : Bool) → (u == t) ≡ b → BooksOf (s.machine.now + 1) (thread_at (charged_turn bodies u s).machine t) (posted_if (b && has_high (thread_at s.machine t).server) used acc)
+        by_eq : (b : Bool) → (u == t) ≡ b → BooksOf (s.machine.now + 1) (thread_at (charged_turn bodies u s).machine t) (recorded_if (b && has_high (thread_at s.machine t).server) used acc)
         by_eq true e = mine (grind arith)
         by_eq false e = subst (λ (th : Thread P). BooksOf (s.machine.now + 1) th acc) (sym (thread-other s.machine u t (λ th. tick_charged (in_unit bodies (thread_at s.machine u)).thread) e))
             (λ x k. booked_later s.machine.now (thread_at s.machine t).status x acc (none x k) (h x k))
@@ -96,8 +96,8 @@ module _ {P : Type 0} (bodies : Bodies P) (known : BodiesFit bodies) (t : ℕ) w
     abbrev tolled : Bool
     tolled = has_high (thread_at s.machine u).server
 
-    abbrev Opens : List Posting → Turn P → Type 0
-    Opens acc x = Book bodies t s.events (posted_tick bodies t (Some u) s.machine acc) x
+    abbrev Opens : List ServerEvent → Turn P → Type 0
+    Opens acc x = Book bodies t s.events (recorded_tick bodies t (Some u) s.machine acc) x
 
     dead_none : (x : Turn P) (y : ServerState) → Threads bodies (Some u) x → lives x.machine t ≡ false → (thread_at x.machine t).server ≡ Some y → ⊥
     dead_none x y all dead e = both (lives x.machine t) (is_sporadic (thread_at x.machine t).policy) dead (sym (all t).having ∙ ap is_some e)
@@ -105,12 +105,12 @@ module _ {P : Type 0} (bodies : Bodies P) (known : BodiesFit bodies) (t : ℕ) w
         both : (a b : Bool) → a ≡ false → (a && b) ≡ true → ⊥
         both a b p q = grind arith
 
-    module _ (acc : List Posting) (h : BooksOf s.machine.now (thread_at s.machine t) acc) (mid : ServedMid bodies tolled u (charged_turn bodies u s)) where
-      abbrev after_if : Bool → List Posting
-      after_if b = if b then (if lives s.machine t then [] else acc) else posted_if (u == t && has_high (thread_at s.machine t).server) used acc
+    module _ (acc : List ServerEvent) (h : BooksOf s.machine.now (thread_at s.machine t) acc) (mid : ServedMid bodies tolled u (charged_turn bodies u s)) where
+      abbrev after_if : Bool → List ServerEvent
+      after_if b = if b then (if lives s.machine t then [] else acc) else recorded_if (u == t && has_high (thread_at s.machine t).server) used acc
 
-      plain_completes : (left : ℕ) → renews t takes ≡ false → BookDone bodies t s.events (posted_if (u == t && has_high (thread_at s.machine t).server) used acc) tolled u (completes_at bodies left u takes (charged_turn bodies u s))
-      plain_completes zero e = unit_booked bodies t s.events (posted_if (u == t && has_high (thread_at s.machine t).server) used acc) tolled u takes (charged_turn bodies u s) (in_unit_fits bodies known (thread_at s.machine u)) (charged_runs bodies u s can) e (mid, ([], sym (none_more s.events), charged_books acc h))
+      plain_completes : (left : ℕ) → renews t takes ≡ false → BookDone bodies t s.events (recorded_if (u == t && has_high (thread_at s.machine t).server) used acc) tolled u (completes_at bodies left u takes (charged_turn bodies u s))
+      plain_completes zero e = unit_booked bodies t s.events (recorded_if (u == t && has_high (thread_at s.machine t).server) used acc) tolled u takes (charged_turn bodies u s) (in_unit_fits bodies known (thread_at s.machine u)) (charged_runs bodies u s can) e (mid, ([], sym (none_more s.events), charged_books acc h))
       plain_completes (suc left) e = ((served_stop bodies tolled u).done (charged_turn bodies u s) mid, ([], sym (none_more s.events), charged_books acc h))
 
       none_if_lives : (b : Bool) → b ≡ true → (if b then [] else acc) ≡ []
@@ -118,10 +118,10 @@ module _ {P : Type 0} (bodies : Bodies P) (known : BodiesFit bodies) (t : ℕ) w
       none_if_lives false e = absurd (grind arith)
 
       renewing_completes : (left : ℕ) → left ≡ 0 → (new : Policy) → takes ≡ unit.Make (call.Setsched t new) →
-          Posted bodies t s.events (if lives s.machine t then [] else acc) (completes_at bodies left u takes (charged_turn bodies u s))
+          Recorded bodies t s.events (if lives s.machine t then [] else acc) (completes_at bodies left u takes (charged_turn bodies u s))
       renewing_completes left none new e =
-          subst (λ (n : ℕ). Posted bodies t s.events (if lives s.machine t then [] else acc) (completes_at bodies n u takes (charged_turn bodies u s))) (sym none)
-          (subst (λ (w : Unit). Posted bodies t s.events (if lives s.machine t then [] else acc) (unit_effect bodies u w (charged_turn bodies u s))) (sym e)
+          subst (λ (n : ℕ). Recorded bodies t s.events (if lives s.machine t then [] else acc) (completes_at bodies n u takes (charged_turn bodies u s))) (sym none)
+          (subst (λ (w : Unit). Recorded bodies t s.events (if lives s.machine t then [] else acc) (unit_effect bodies u w (charged_turn bodies u s))) (sym e)
           (renews_booked bodies t s.events (if lives s.machine t then [] else acc) u new (charged_turn bodies u s) (λ live. (sym (none_more s.events), none_if_lives (lives s.machine t) (sym lives_on ∙ live)))
           (λ dead. ([], sym (none_more s.events), λ x k. absurd (dead_none (charged_turn bodies u s) x mid.1 dead k)))))
 
@@ -136,7 +136,7 @@ module _ {P : Type 0} (bodies : Bodies P) (known : BodiesFit bodies) (t : ℕ) w
       pub runs_booked : Opens acc (runs bodies (Some u) s)
       runs_booked =
           let served = served_tick bodies in
-          let acc' = posted_tick bodies t (Some u) s.machine acc in
+          let acc' = recorded_tick bodies t (Some u) s.machine acc in
           let charged' = charged_turn bodies u s in
           let completed = completes_at bodies (top_left (thread_at charged'.machine u).frames) u takes charged' in
           let ticked = settles_since s.machine completed in
@@ -150,19 +150,19 @@ module _ {P : Type 0} (bodies : Bodies P) (known : BodiesFit bodies) (t : ℕ) w
   -- ---- a whole tick
 
   -- what is posted of all the events so far
-  all_told : (acc : List Posting) (s : Turn P) → Posted bodies t [] acc s → BooksOf s.machine.now (thread_at s.machine t) (all_posted t s.events acc)
-  all_told acc s q = subst (λ (es : List Entry). BooksOf s.machine.now (thread_at s.machine t) (all_posted t es acc)) (sym q.1) q.2
+  all_told : (acc : List ServerEvent) (s : Turn P) → Recorded bodies t [] acc s → BooksOf s.machine.now (thread_at s.machine t) (all_recorded t s.events acc)
+  all_told acc s q = subst (λ (es : List Entry). BooksOf s.machine.now (thread_at s.machine t) (all_recorded t es acc)) (sym q.1) q.2
 
   -- a dispatch is not posted
-  dispatch_unposted : (o : Option ℕ) (m : Machine P) (es : List Entry) (acc : List Posting) → all_posted t ((dispatches o (turn_of m)).events ++ es) acc ≡ all_posted t es acc
+  dispatch_unposted : (o : Option ℕ) (m : Machine P) (es : List Entry) (acc : List ServerEvent) → all_recorded t ((dispatches o (turn_of m)).events ++ es) acc ≡ all_recorded t es acc
   dispatch_unposted o m es acc = unless (is_same m.last o) o
     where
-      unless : (b : Bool) (to : Option ℕ) → all_posted t ((tells_unless b (dispatch_event m to) (turn_of m)).events ++ es) acc ≡ all_posted t es acc
+      unless : (b : Bool) (to : Option ℕ) → all_recorded t ((tells_unless b (dispatch_event m to) (turn_of m)).events ++ es) acc ≡ all_recorded t es acc
       unless true to = refl
       unless false None = refl
       unless false (Some u) = refl
 
-  module _ (ready : Machine P) (before : List Posting) (ends : next_item ready ≡ None) (right : ServedRight bodies (turn_of ready)) (listed : AllRun ready ready.lists) (h : BooksOf ready.now (thread_at ready t) before) where
+  module _ (ready : Machine P) (before : List ServerEvent) (ends : next_item ready ≡ None) (right : ServedRight bodies (turn_of ready)) (listed : AllRun ready ready.lists) (h : BooksOf ready.now (thread_at ready t) before) where
     abbrev begun : Option ℕ → Turn P
     begun o = dispatches o (turn_of ready)
 
@@ -179,9 +179,9 @@ module _ {P : Type 0} (bodies : Bodies P) (known : BodiesFit bodies) (t : ℕ) w
       begun_books : (o : Option ℕ) → BooksOf (begun o).machine.now (thread_at (begun o).machine t) before
       begun_books o = subst (λ (m : Machine P). BooksOf m.now (thread_at m t) before) (sym (dispatched o (turn_of ready))) h
 
-      headed : (o : Option ℕ) → head ready ≡ o → BooksOf (ran_to o).machine.now (thread_at (ran_to o).machine t) (all_posted t (ran_to o).events (posted_tick bodies t o ready before))
+      headed : (o : Option ℕ) → head ready ≡ o → BooksOf (ran_to o).machine.now (thread_at (ran_to o).machine t) (all_recorded t (ran_to o).events (recorded_tick bodies t o ready before))
       headed None e =
-          subst (λ (acc : List Posting). BooksOf ((begun None).machine.now + 1) (thread_at (begun None).machine t) acc) (sym (dispatch_unposted None ready [] before) ∙ ap (λ (es : List Entry). all_posted t es before) (none_more (begun None).events))
+          subst (λ (acc : List ServerEvent). BooksOf ((begun None).machine.now + 1) (thread_at (begun None).machine t) acc) (sym (dispatch_unposted None ready [] before) ∙ ap (λ (es : List Entry). all_recorded t es before) (none_more (begun None).events))
           (λ x k. booked_later (begun None).machine.now (thread_at (begun None).machine t).status x before (begun_due None x k) (begun_books None x k))
       headed (Some u) e =
           let to = begun (Some u) in
@@ -189,23 +189,23 @@ module _ {P : Type 0} (bodies : Bodies P) (known : BodiesFit bodies) (t : ℕ) w
           let can' : can_run to.machine u ≡ true = ap (λ (m : Machine P). can_run m u) (dispatched (Some u) (turn_of ready)) ∙ head_can_run ready u listed e in
           let mid = (served_tick bodies).charges u (turn_of ready) ends (head_can_run ready u listed e) right in
           let q = (runs_booked u to can' (dispatched_threads bodies (Some u) (turn_of ready) right.1) (begun_due (Some u)) before (begun_books (Some u)) mid).1 in
-          let entered = posted_tick bodies t (Some u) ready before in
-          subst (λ (acc : List Posting). BooksOf ran.machine.now (thread_at ran.machine t) acc)
-          (ap (λ (m : Machine P). all_posted t q.0 (posted_tick bodies t (Some u) m before)) (dispatched (Some u) (turn_of ready))
-          ∙ sym (dispatch_unposted (Some u) ready q.0 entered) ∙ ap (λ (es : List Entry). all_posted t es entered) (sym q.1)) q.2
+          let entered = recorded_tick bodies t (Some u) ready before in
+          subst (λ (acc : List ServerEvent). BooksOf ran.machine.now (thread_at ran.machine t) acc)
+          (ap (λ (m : Machine P). all_recorded t q.0 (recorded_tick bodies t (Some u) m before)) (dispatched (Some u) (turn_of ready))
+          ∙ sym (dispatch_unposted (Some u) ready q.0 entered) ∙ ap (λ (es : List Entry). all_recorded t es entered) (sym q.1)) q.2
 
     -- what finishes the tick, unless the process has ended
     finished : (k : Option ℕ) → ready.killed ≡ k → let s = unless_killed k (runs_head bodies) (turn_of ready) in
-        BooksOf s.machine.now (thread_at s.machine t) (all_posted t s.events (posted_tick bodies t (if is_some k then None else head ready) ready before))
+        BooksOf s.machine.now (thread_at s.machine t) (all_recorded t s.events (recorded_tick bodies t (if is_some k then None else head ready) ready before))
     finished (Some signal) e = h
     finished None e = headed e (head ready) refl
 
-  tick_booked : (m : Machine P) (acc : List Posting) → ServedRight bodies (turn_of m) → AllRun m m.lists → BooksOf m.now (thread_at m t) acc → BooksOf (tick_of bodies m).machine.now (thread_at (tick_of bodies m).machine t) (ticked_account bodies t m acc)
+  tick_booked : (m : Machine P) (acc : List ServerEvent) → ServedRight bodies (turn_of m) → AllRun m m.lists → BooksOf m.now (thread_at m t) acc → BooksOf (tick_of bodies m).machine.now (thread_at (tick_of bodies m).machine t) (ticked_account bodies t m acc)
   tick_booked m acc right listed h =
       let ready = instant bodies (turn_of m) in
       let rests : Rests bodies (Book bodies t [] acc) ready = instant_keep bodies (Book bodies t [] acc) (book_round bodies t [] acc) (turn_of m) ((right, ([], refl, h)), listed) in
       subst (λ (n : Machine P). BooksOf n.now (thread_at n t) (ticked_account bodies t m acc)) (sym (ap (λ (x : Ran P). x.machine) (tick_in_parts bodies m)))
-      (finished ready.machine (all_posted t ready.events acc) (instant_ends bodies (turn_of m)) rests.0.0 rests.1 (all_told acc ready rests.0.1) ready.machine.killed refl)
+      (finished ready.machine (all_recorded t ready.events acc) (instant_ends bodies (turn_of m)) rests.0.0 rests.1 (all_told acc ready rests.0.1) ready.machine.killed refl)
 
   -- ---- a run
 
@@ -217,14 +217,14 @@ module _ {P : Type 0} (bodies : Bodies P) (known : BodiesFit bodies) (t : ℕ) w
       tick_booked (ticks bodies n start).machine (account bodies t start n) so.0 so.1 (run_booked n start right listed h)
 
   -- and the items of an instant
-  pub items_booked : (k : ℕ) (m : Machine P) (acc : List Posting) → ServedRight bodies (turn_of m) → AllRun m m.lists → BooksOf m.now (thread_at m t) acc →
-      let s : Turn P = items_done bodies k (turn_of m) in BooksOf s.machine.now (thread_at s.machine t) (all_posted t s.events acc)
+  pub items_booked : (k : ℕ) (m : Machine P) (acc : List ServerEvent) → ServedRight bodies (turn_of m) → AllRun m m.lists → BooksOf m.now (thread_at m t) acc →
+      let s : Turn P = items_done bodies k (turn_of m) in BooksOf s.machine.now (thread_at s.machine t) (all_recorded t s.events acc)
   items_booked k m acc right listed h =
       all_told acc (items_done bodies k (turn_of m)) (items_keep bodies (Book bodies t [] acc) (book_round bodies t [] acc) k (turn_of m) ((right, ([], refl, h)), listed)).0.1
 
 -- ---- the run of every script that is well formed
 
-keeps_server : {P : Type 0} (now : ℕ) (th : Thread P) (acc : List Posting) (o : Option ServerState) → th.server ≡ o → is_some o ≡ true → BooksOf now th acc → KeepsServer o acc
+keeps_server : {P : Type 0} (now : ℕ) (th : Thread P) (acc : List ServerEvent) (o : Option ServerState) → th.server ≡ o → is_some o ≡ true → BooksOf now th acc → KeepsServer o acc
 keeps_server now th acc None e having h = absurd (grind arith)
 keeps_server now th acc (Some x) e having h = keeps_account now x acc (h x e).books
 

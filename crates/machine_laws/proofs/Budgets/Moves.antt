@@ -11,13 +11,13 @@ use Rattle.pse52_trace.specs.declared.event.Event.TheVariants as event
 use Rattle.pse52_trace.specs.Text.{Entry}
 use Rattle.sporadic_server.specs.declared.Replenish.{Replenish}
 use Rattle.sporadic_server.specs.Server.{ServerState, activate, is_high, new_server, next_due, oldest_pending, refill, refill_from, set_high}
-use Rattle.machine_rules.specs.Budget.{Posting, activated, all_posted, posted, posted_if, refilled}
+use Rattle.machine_rules.specs.Budget.{ServerEvent, activated, all_recorded, recorded, recorded_if, refilled}
 use Rattle.machine_rules.specs.Lists.{changed_at}
 use Rattle.machine_rules.specs.Bodies.{Bodies}
 use Rattle.machine_rules.specs.State.{Joiner, Status, Thread, Waiting, for_mutex_again}
 use Rattle.machine_rules.specs.Threads.{can_run, is_blocked, is_dormant, is_runnable, no_thread, thread_at, thread_in}
 use Rattle.machine_rules.specs.Turns.{Turn, changes, moves, tells}
-use Rattle.machine_rules.specs.Servers.{activates_if, activates_server, amount_of, high_server, refills_for, regains_high, server_of, with_server}
+use Rattle.machine_rules.specs.Servers.{activates_if, activates_server, amount_of, high_server, refills_server, regains_high, server_of, with_server}
 use Rattle.machine_rules.specs.Waking.{ending_with, on_top, put_to_wait, started, wakes_telling, woken}
 use Rattle.machine_rules.specs.Lives.{with_joiner, without_life, without_top}
 use Rattle.machine_rules.specs.Cancellation.{without_cleanup}
@@ -35,19 +35,19 @@ use Rattle.machine_laws.proofs.Budgets.Accounts.{Books, InStep, activated_books,
 -- ---- what holds of a server and an account
 
 -- Where something is consumed, or a tick may be charged, what was consumed is what was used since the activation.
-pub record Booked (now : ℕ) (status : Status) (x : ServerState) (acc : List Posting) : Type 0 where
+pub record Booked (now : ℕ) (status : Status) (x : ServerState) (acc : List ServerEvent) : Type 0 where
   pub books : Books now x acc
   pub consumed : 1 ≤ x.consumed → InStep x acc
   pub ready : is_runnable status ≡ true → is_high x ≡ true → InStep x acc
 
 -- nothing is consumed, and the thread may be activated
-abbrev pub Still : ℕ → Status → ServerState → List Posting → Type 0
+abbrev pub Still : ℕ → Status → ServerState → List ServerEvent → Type 0
 Still now status x acc = Books now x acc × (x.consumed ≡ 0)
 
-abbrev IsNew : ℕ → Status → ServerState → List Posting → Type 0
+abbrev IsNew : ℕ → Status → ServerState → List ServerEvent → Type 0
 IsNew now status x acc = (p : Parameters) × (x ≡ new_server p now)
 
-abbrev IsActive : ℕ → Status → ServerState → List Posting → Type 0
+abbrev IsActive : ℕ → Status → ServerState → List ServerEvent → Type 0
 IsActive now status x acc = (y : ServerState) × (x ≡ activate now y) × Still now status y acc
 
 -- ---- on one server
@@ -55,7 +55,7 @@ IsActive now status x acc = (y : ServerState) × (x ≡ activate now y) × Still
 contra : {b : Bool} → b ≡ true → b ≡ false → ⊥
 contra p q = grind arith
 
-active_booked : (now : ℕ) (status : Status) (x : ServerState) (acc : List Posting) → IsActive now status x acc → Booked now status x (acc ++ activated now ∷ [])
+active_booked : (now : ℕ) (status : Status) (x : ServerState) (acc : List ServerEvent) → IsActive now status x acc → Booked now status x (acc ++ activated now ∷ [])
 active_booked now status x acc h =
     subst (λ (z : ServerState). Booked now status z (acc ++ activated now ∷ [])) (sym h.1) (record {
       books = activated_books now now h.0 acc h.2.0;
@@ -63,10 +63,10 @@ active_booked now status x acc h =
       ready = λ runs high. activated_in_step now h.0 acc h.2.1;
     })
 
-low_booked : (now : ℕ) (status : Status) (x : ServerState) (acc : List Posting) → (is_runnable status ≡ true → is_high x ≡ true → ⊥) → Still now status x acc → Booked now status x acc
+low_booked : (now : ℕ) (status : Status) (x : ServerState) (acc : List ServerEvent) → (is_runnable status ≡ true → is_high x ≡ true → ⊥) → Still now status x acc → Booked now status x acc
 low_booked now status x acc low h = record { books = h.0; consumed = λ some. let none = h.1 in absurd (omega arith); ready = λ runs high. absurd (low runs high) }
 
-priced_booked : (p now : ℕ) (status : Status) (x : ServerState) (acc : List Posting) → Booked now status x acc → Booked now status (set_high p x) acc
+priced_booked : (p now : ℕ) (status : Status) (x : ServerState) (acc : List ServerEvent) → Booked now status x acc → Booked now status (set_high p x) acc
 priced_booked p now status x acc h = record {
   books = priced_books p now x acc h.books;
   consumed = λ some. let g = h.consumed some in record { count = g.count; since = g.since; active = g.active };
@@ -76,7 +76,7 @@ priced_booked p now status x acc h = record {
 new_still : (now : ℕ) (status : Status) (x : ServerState) → (p : Parameters) × (x ≡ new_server p now) → Still now status x []
 new_still now status x h = subst (λ (z : ServerState). Still now status z []) (sym h.1) (new_books h.0 now, refl)
 
-other_status : (now : ℕ) (status status' : Status) (x : ServerState) (acc : List Posting) → (is_runnable status' ≡ true → is_runnable status ≡ true) → Booked now status x acc → Booked now status' x acc
+other_status : (now : ℕ) (status status' : Status) (x : ServerState) (acc : List ServerEvent) → (is_runnable status' ≡ true → is_runnable status ≡ true) → Booked now status x acc → Booked now status' x acc
 other_status now status status' x acc same h = record { books = h.books; consumed = h.consumed; ready = λ runs high. h.ready (same runs) high }
 
 -- ---- a refill
@@ -88,14 +88,14 @@ refill_same x = by_pending x.pending
     by_pending [] = (refl, refl)
     by_pending (r ∷ rs) = (refl, refl)
 
-refilled_step : (now amount : ℕ) (x : ServerState) (acc : List Posting) → InStep x acc → InStep (refill x) (acc ++ refilled now amount ∷ [])
+refilled_step : (now amount : ℕ) (x : ServerState) (acc : List ServerEvent) → InStep x acc → InStep (refill x) (acc ++ refilled now amount ∷ [])
 refilled_step now amount x acc h = record {
   count = count_last 0 acc (refilled now amount) ∙ h.count ∙ sym (refill_same x).0;
   since = since_last 0 acc (refilled now amount) ∙ h.since ∙ sym (refill_same x).1;
   active = stays_active acc (refilled now amount) h.active;
 }
 
-refill_booked : (now : ℕ) (x : ServerState) (acc : List Posting) → has_come (next_due x) now ≡ true → Books now x acc → Books now (refill x) (acc ++ refilled now (amount_of (oldest_pending x)) ∷ [])
+refill_booked : (now : ℕ) (x : ServerState) (acc : List ServerEvent) → has_come (next_due x) now ≡ true → Books now x acc → Books now (refill x) (acc ++ refilled now (amount_of (oldest_pending x)) ∷ [])
 refill_booked now x acc come b = by_pending x.pending refl come
   where
     amount : (rs : List Replenish) → Option Replenish
@@ -107,7 +107,7 @@ refill_booked now x acc come b = by_pending x.pending refl come
         subst (λ (qs : List Replenish). Books now (refill x) (acc ++ refilled now (amount_of (slice_get qs 0)) ∷ [])) (sym e) (refilled_books now x acc r rs e (grind arith) b)
 
 -- what a refill that does not give the high priority back leaves
-refill_stays : (now : ℕ) (status : Status) (x : ServerState) (acc : List Posting) → has_come (next_due x) now ≡ true → (regains_high x && is_runnable status) ≡ false → Booked now status x acc →
+refill_stays : (now : ℕ) (status : Status) (x : ServerState) (acc : List ServerEvent) → has_come (next_due x) now ≡ true → (regains_high x && is_runnable status) ≡ false → Booked now status x acc →
     Booked now status (refill x) (acc ++ refilled now (amount_of (oldest_pending x)) ∷ [])
 refill_stays now status x acc come low h = record {
   books = refill_booked now x acc come h.books;
@@ -120,65 +120,65 @@ refill_stays now status x acc come low h = record {
 
 -- ---- what is posted
 
-posted_last : (t : ℕ) (news : List Entry) (e : Entry) (acc : List Posting) → all_posted t (news ++ e ∷ []) acc ≡ posted t e.time e.event (all_posted t news acc)
+posted_last : (t : ℕ) (news : List Entry) (e : Entry) (acc : List ServerEvent) → all_recorded t (news ++ e ∷ []) acc ≡ recorded t e.time e.event (all_recorded t news acc)
 posted_last t [] e acc = refl
-posted_last t (x ∷ news) e acc = posted_last t news e (posted t x.time x.event acc)
+posted_last t (x ∷ news) e acc = posted_last t news e (recorded t x.time x.event acc)
 
-plain_posted : (t time : ℕ) (e : Event) (acc : List Posting) → is_plain e ≡ true → posted t time e acc ≡ acc
+plain_posted : (t time : ℕ) (e : Event) (acc : List ServerEvent) → is_plain e ≡ true → recorded t time e acc ≡ acc
 plain_posted t time (event.Start u) acc h = absurd (grind arith)
 plain_posted t time (event.Activate u capacity) acc h = absurd (grind arith)
 plain_posted t time (event.Plan u amount due) acc h = absurd (grind arith)
 plain_posted t time (event.Refill u amount capacity) acc h = absurd (grind arith)
 plain_posted t time e acc h = refl
 
-pub posted_not : (b : Bool) (p : Posting) (acc : List Posting) → b ≡ false → posted_if b p acc ≡ acc
+pub posted_not : (b : Bool) (p : ServerEvent) (acc : List ServerEvent) → b ≡ false → recorded_if b p acc ≡ acc
 posted_not true p acc e = absurd (grind arith)
 posted_not false p acc e = refl
 
-pub posted_so : (b : Bool) (p : Posting) (acc : List Posting) → b ≡ true → posted_if b p acc ≡ acc ++ p ∷ []
+pub posted_so : (b : Bool) (p : ServerEvent) (acc : List ServerEvent) → b ≡ true → recorded_if b p acc ≡ acc ++ p ∷ []
 posted_so true p acc e = refl
 posted_so false p acc e = absurd (grind arith)
 
 -- ---- in a turn
 
-module _ {P : Type 0} (bodies : Bodies P) (t : ℕ) (pre : List Entry) (acc : List Posting) where
-  abbrev On : (ℕ → Status → ServerState → List Posting → Type 0) → ℕ → Thread P → List Posting → Type 0
+module _ {P : Type 0} (bodies : Bodies P) (t : ℕ) (pre : List Entry) (acc : List ServerEvent) where
+  abbrev On : (ℕ → Status → ServerState → List ServerEvent → Type 0) → ℕ → Thread P → List ServerEvent → Type 0
   On Q now th a = (x : ServerState) → th.server ≡ Some x → Q now th.status x a
 
   -- the events that are new since, and what holds of the server and the account with them
-  abbrev pub Has : (ℕ → Status → ServerState → List Posting → Type 0) → Turn P → Type 0
-  Has Q s = (news : List Entry) × (s.events ≡ pre ++ news) × On Q s.machine.now (thread_at s.machine t) (all_posted t news acc)
+  abbrev pub Has : (ℕ → Status → ServerState → List ServerEvent → Type 0) → Turn P → Type 0
+  Has Q s = (news : List Entry) × (s.events ≡ pre ++ news) × On Q s.machine.now (thread_at s.machine t) (all_recorded t news acc)
 
-  abbrev pub Posted : Turn P → Type 0
-  Posted s = Has Booked s
+  abbrev pub Recorded : Turn P → Type 0
+  Recorded s = Has Booked s
 
-  one : (Q : ℕ → Status → ServerState → List Posting → Type 0) (v : ℕ) (f : Thread P → Thread P) (s : Turn P) →
-      ((a : List Posting) → On Q s.machine.now (thread_at s.machine v) a → On Q s.machine.now (f (thread_at s.machine v)) a) → Has Q s → Has Q (changes v f s)
+  one : (Q : ℕ → Status → ServerState → List ServerEvent → Type 0) (v : ℕ) (f : Thread P → Thread P) (s : Turn P) →
+      ((a : List ServerEvent) → On Q s.machine.now (thread_at s.machine v) a → On Q s.machine.now (f (thread_at s.machine v)) a) → Has Q s → Has Q (changes v f s)
   one Q v f s h q = (q.0, q.1, of_two (changed_is no_thread v t f s.machine.threads))
     where
       of_two : ((v ≡ t) × (thread_in (changed_at no_thread v f s.machine.threads) t ≡ f (thread_at s.machine v))) ⊎ (thread_in (changed_at no_thread v f s.machine.threads) t ≡ thread_at s.machine t) →
-          On Q s.machine.now (thread_at (changes v f s).machine t) (all_posted t q.0 acc)
-      of_two (inl e) = subst (λ (th : Thread P). On Q s.machine.now th (all_posted t q.0 acc)) (sym e.1)
-          (h (all_posted t q.0 acc) (subst (λ (i : ℕ). On Q s.machine.now (thread_at s.machine i) (all_posted t q.0 acc)) (sym e.0) q.2))
-      of_two (inr e) = subst (λ (th : Thread P). On Q s.machine.now th (all_posted t q.0 acc)) (sym e) q.2
+          On Q s.machine.now (thread_at (changes v f s).machine t) (all_recorded t q.0 acc)
+      of_two (inl e) = subst (λ (th : Thread P). On Q s.machine.now th (all_recorded t q.0 acc)) (sym e.1)
+          (h (all_recorded t q.0 acc) (subst (λ (i : ℕ). On Q s.machine.now (thread_at s.machine i) (all_recorded t q.0 acc)) (sym e.0) q.2))
+      of_two (inr e) = subst (λ (th : Thread P). On Q s.machine.now th (all_recorded t q.0 acc)) (sym e) q.2
 
-  pub own : (Q R : ℕ → Status → ServerState → List Posting → Type 0) (f : Thread P → Thread P) (s : Turn P) → t < length s.machine.threads →
-      ((a : List Posting) → On Q s.machine.now (thread_at s.machine t) a → On R s.machine.now (f (thread_at s.machine t)) a) → Has Q s → Has R (changes t f s)
-  own Q R f s within h q = (q.0, q.1, subst (λ (th : Thread P). On R s.machine.now th (all_posted t q.0 acc)) (sym (thread-same s.machine t f within)) (h (all_posted t q.0 acc) q.2))
+  pub own : (Q R : ℕ → Status → ServerState → List ServerEvent → Type 0) (f : Thread P → Thread P) (s : Turn P) → t < length s.machine.threads →
+      ((a : List ServerEvent) → On Q s.machine.now (thread_at s.machine t) a → On R s.machine.now (f (thread_at s.machine t)) a) → Has Q s → Has R (changes t f s)
+  own Q R f s within h q = (q.0, q.1, subst (λ (th : Thread P). On R s.machine.now th (all_recorded t q.0 acc)) (sym (thread-same s.machine t f within)) (h (all_recorded t q.0 acc) q.2))
 
-  pub other : (Q : ℕ → Status → ServerState → List Posting → Type 0) (v : ℕ) (f : Thread P → Thread P) (s : Turn P) → (v == t) ≡ false → Has Q s → Has Q (changes v f s)
-  other Q v f s e q = (q.0, q.1, subst (λ (th : Thread P). On Q s.machine.now th (all_posted t q.0 acc)) (sym (thread-other s.machine v t f e)) q.2)
+  pub other : (Q : ℕ → Status → ServerState → List ServerEvent → Type 0) (v : ℕ) (f : Thread P → Thread P) (s : Turn P) → (v == t) ≡ false → Has Q s → Has Q (changes v f s)
+  other Q v f s e q = (q.0, q.1, subst (λ (th : Thread P). On Q s.machine.now th (all_recorded t q.0 acc)) (sym (thread-other s.machine v t f e)) q.2)
 
-  pub told : (Q R : ℕ → Status → ServerState → List Posting → Type 0) (e : Event) (s : Turn P) →
-      ((x : ServerState) (a : List Posting) → (thread_at s.machine t).server ≡ Some x → Q s.machine.now (thread_at s.machine t).status x a → R s.machine.now (thread_at s.machine t).status x (posted t s.machine.now e a)) → Has Q s → Has R (tells e s)
+  pub told : (Q R : ℕ → Status → ServerState → List ServerEvent → Type 0) (e : Event) (s : Turn P) →
+      ((x : ServerState) (a : List ServerEvent) → (thread_at s.machine t).server ≡ Some x → Q s.machine.now (thread_at s.machine t).status x a → R s.machine.now (thread_at s.machine t).status x (recorded t s.machine.now e a)) → Has Q s → Has R (tells e s)
   told Q R e s h q =
       let entry : Entry = record { time = s.machine.now; event = e } in (
         q.0 ++ entry ∷ [],
         ap (λ (es : List Entry). es ++ entry ∷ []) q.1 ∙ append_assoc pre q.0 (entry ∷ []),
-        λ x k. subst (R s.machine.now (thread_at s.machine t).status x) (sym (posted_last t q.0 entry acc)) (h x (all_posted t q.0 acc) k (q.2 x k)),
+        λ x k. subst (R s.machine.now (thread_at s.machine t).status x) (sym (posted_last t q.0 entry acc)) (h x (all_recorded t q.0 acc) k (q.2 x k)),
       )
 
-  pub told_plainly : (Q : ℕ → Status → ServerState → List Posting → Type 0) (e : Event) (s : Turn P) → is_plain e ≡ true → Has Q s → Has Q (tells e s)
+  pub told_plainly : (Q : ℕ → Status → ServerState → List ServerEvent → Type 0) (e : Event) (s : Turn P) → is_plain e ≡ true → Has Q s → Has Q (tells e s)
   told_plainly Q e s h q = told Q Q e s (λ x a k g. subst (Q s.machine.now (thread_at s.machine t).status x) (sym (plain_posted t s.machine.now e a h)) g) q
 
   itself : (t == t) ≡ true
@@ -186,29 +186,29 @@ module _ {P : Type 0} (bodies : Bodies P) (t : ℕ) (pre : List Entry) (acc : Li
 
   -- ---- an activation
 
-  pub activates_other : (v : ℕ) (o : Option ServerState) (s : Turn P) → (v == t) ≡ false → Posted s → Posted (activates_server v o s)
+  pub activates_other : (v : ℕ) (o : Option ServerState) (s : Turn P) → (v == t) ≡ false → Recorded s → Recorded (activates_server v o s)
   activates_other v None s e q = q
   activates_other v (Some server) s e q =
       told Booked Booked (event.Activate v server.capacity) (changes v (with_server (activate s.machine.now)) s) (λ x a k g. subst (Booked s.machine.now _ x) (sym (posted_not (v == t) (activated s.machine.now) a e)) g)
       (other Booked v (with_server (activate s.machine.now)) s e q)
 
-  activated_map : (now : ℕ) (status : Status) (o : Option ServerState) (a : List Posting) → ((x : ServerState) → o ≡ Some x → Still now status x a) → (x : ServerState) → option_map (activate now) o ≡ Some x → IsActive now status x a
+  activated_map : (now : ℕ) (status : Status) (o : Option ServerState) (a : List ServerEvent) → ((x : ServerState) → o ≡ Some x → Still now status x a) → (x : ServerState) → option_map (activate now) o ≡ Some x → IsActive now status x a
   activated_map now status None a h x e = absurd (grind arith)
   activated_map now status (Some y) a h x e = (y, sym (only e), h y refl)
 
-  activates_some : (server : ServerState) (s : Turn P) → t < length s.machine.threads → Has Still s → Posted (activates_server t (Some server) s)
+  activates_some : (server : ServerState) (s : Turn P) → t < length s.machine.threads → Has Still s → Recorded (activates_server t (Some server) s)
   activates_some server s within q =
       told IsActive Booked (event.Activate t server.capacity) (changes t (with_server (activate s.machine.now)) s)
       (λ x a k g. subst (Booked s.machine.now _ x) (sym (posted_so (t == t) (activated s.machine.now) a itself)) (active_booked s.machine.now _ x a g))
       (own Still IsActive (with_server (activate s.machine.now)) s within (λ a h. activated_map s.machine.now (thread_at s.machine t).status (thread_at s.machine t).server a h) q)
 
-  activates_own : (o : Option ServerState) (s : Turn P) → (thread_at s.machine t).server ≡ o → t < length s.machine.threads → Has Still s → Posted (activates_server t o s)
+  activates_own : (o : Option ServerState) (s : Turn P) → (thread_at s.machine t).server ≡ o → t < length s.machine.threads → Has Still s → Recorded (activates_server t o s)
   activates_own None s e within q = (q.0, q.1, λ x k. absurd (grind arith))
   activates_own (Some server) s e within q = activates_some server s within q
 
   -- where the priority is high
-  activates_high : (o : Option ServerState) (s : Turn P) → high_server (thread_at s.machine t).server ≡ o → t < length s.machine.threads → Has Still s → Posted (activates_server t o s)
-  activates_high None s e within q = (q.0, q.1, λ x k. low_booked s.machine.now (thread_at s.machine t).status x (all_posted t q.0 acc) (λ runs high. not_low x (is_high x) high (ap high_server (sym k) ∙ e)) (q.2 x k))
+  activates_high : (o : Option ServerState) (s : Turn P) → high_server (thread_at s.machine t).server ≡ o → t < length s.machine.threads → Has Still s → Recorded (activates_server t o s)
+  activates_high None s e within q = (q.0, q.1, λ x k. low_booked s.machine.now (thread_at s.machine t).status x (all_recorded t q.0 acc) (λ runs high. not_low x (is_high x) high (ap high_server (sym k) ∙ e)) (q.2 x k))
     where
       not_low : (x : ServerState) (b : Bool) → b ≡ true → (if b then Some x else None) ≡ None → ⊥
       not_low x true h k = absurd (grind arith)
@@ -217,13 +217,13 @@ module _ {P : Type 0} (bodies : Bodies P) (t : ℕ) (pre : List Entry) (acc : Li
 
   -- ---- a waking
 
-  wakes_posted : (v : ℕ) (e : Event) (r : Res) (n : ℕ) (s : Turn P) → is_blocked (thread_at s.machine v).status ≡ true → is_plain e ≡ true → ((x : ServerState) → (thread_at s.machine v).server ≡ Some x → x.consumed ≡ 0) → Posted s → Posted (wakes_telling e v r n s)
+  wakes_posted : (v : ℕ) (e : Event) (r : Res) (n : ℕ) (s : Turn P) → is_blocked (thread_at s.machine v).status ≡ true → is_plain e ≡ true → ((x : ServerState) → (thread_at s.machine v).server ≡ Some x → x.consumed ≡ 0) → Recorded s → Recorded (wakes_telling e v r n s)
   wakes_posted v e r n s b plain none q = by_eq (v == t) refl
     where
-      by_eq : (c : Bool) → (v == t) ≡ c → Posted (wakes_telling e v r n s)
-      by_eq true k = let it : t ≡ v = grind arith in subst (λ (i : ℕ). Posted (wakes_telling e i r n s)) it (mine (subst (λ (i : ℕ). is_blocked (thread_at s.machine i).status ≡ true) (sym it) b) (subst (λ (i : ℕ). (x : ServerState) → (thread_at s.machine i).server ≡ Some x → x.consumed ≡ 0) (sym it) none))
+      by_eq : (c : Bool) → (v == t) ≡ c → Recorded (wakes_telling e v r n s)
+      by_eq true k = let it : t ≡ v = grind arith in subst (λ (i : ℕ). Recorded (wakes_telling e i r n s)) it (mine (subst (λ (i : ℕ). is_blocked (thread_at s.machine i).status ≡ true) (sym it) b) (subst (λ (i : ℕ). (x : ServerState) → (thread_at s.machine i).server ≡ Some x → x.consumed ≡ 0) (sym it) none))
         where
-          mine : is_blocked (thread_at s.machine t).status ≡ true → ((x : ServerState) → (thread_at s.machine t).server ≡ Some x → x.consumed ≡ 0) → Posted (wakes_telling e t r n s)
+          mine : is_blocked (thread_at s.machine t).status ≡ true → ((x : ServerState) → (thread_at s.machine t).server ≡ Some x → x.consumed ≡ 0) → Recorded (wakes_telling e t r n s)
           mine b none =
               let within : t < length s.machine.threads = blocked_within s.machine.threads t b in
               let up = tells e (moves t (changes t (woken r n) s)) in
@@ -240,21 +240,21 @@ module _ {P : Type 0} (bodies : Bodies P) (t : ℕ) (pre : List Entry) (acc : Li
   new_of (policy.Rr p) now x e = absurd (grind arith)
   new_of (policy.Sporadic params) now x e = (params, sym (only e))
 
-  reset : (b : Bool) → b ≡ true → (a : List Posting) → (if b then [] else a) ≡ []
+  reset : (b : Bool) → b ≡ true → (a : List ServerEvent) → (if b then [] else a) ≡ []
   reset true e a = refl
   reset false e a = absurd (grind arith)
 
-  unset : (b : Bool) → b ≡ false → (a : List Posting) → (if b then [] else a) ≡ a
+  unset : (b : Bool) → b ≡ false → (a : List ServerEvent) → (if b then [] else a) ≡ a
   unset true e a = absurd (grind arith)
   unset false e a = refl
 
-  begins_posted : (v mask : ℕ) (s : Turn P) → is_dormant (thread_at s.machine v).status ≡ true → Posted s → Posted (does bodies (begins v mask) s)
+  begins_posted : (v mask : ℕ) (s : Turn P) → is_dormant (thread_at s.machine v).status ≡ true → Recorded s → Recorded (does bodies (begins v mask) s)
   begins_posted v mask s d q = by_eq (v == t) refl
     where
-      by_eq : (c : Bool) → (v == t) ≡ c → Posted (does bodies (begins v mask) s)
-      by_eq true k = let it : t ≡ v = grind arith in subst (λ (i : ℕ). Posted (does bodies (begins i mask) s)) it (mine (subst (λ (i : ℕ). is_dormant (thread_at s.machine i).status ≡ true) (sym it) d))
+      by_eq : (c : Bool) → (v == t) ≡ c → Recorded (does bodies (begins v mask) s)
+      by_eq true k = let it : t ≡ v = grind arith in subst (λ (i : ℕ). Recorded (does bodies (begins i mask) s)) it (mine (subst (λ (i : ℕ). is_dormant (thread_at s.machine i).status ≡ true) (sym it) d))
         where
-          mine : is_dormant (thread_at s.machine t).status ≡ true → Posted (does bodies (begins t mask) s)
+          mine : is_dormant (thread_at s.machine t).status ≡ true → Recorded (does bodies (begins t mask) s)
           mine d =
               let within : t < length s.machine.threads = here bodies None is_dormant refl s.machine.threads t d in
               let f = started bodies t mask s.machine.now in
@@ -269,8 +269,8 @@ module _ {P : Type 0} (bodies : Bodies P) (t : ℕ) (pre : List Entry) (acc : Li
           (told Booked Booked (event.Start v) (moves v (changes v f s)) (λ x a j g. subst (Booked s.machine.now _ x) (sym (unset (v == t) k a)) g) (other Booked v f s k q))
 
   -- a thread that has a new policy, where nothing is posted yet
-  pub renewed_posted : (active : Bool) (new : Policy) (s : Turn P) → t < length s.machine.threads → active ≡ can_run s.machine t → (news : List Entry) → s.events ≡ pre ++ news → all_posted t news acc ≡ [] →
-      Posted (activates_if active t (changes t (with_policy new s.machine.now) s))
+  pub renewed_posted : (active : Bool) (new : Policy) (s : Turn P) → t < length s.machine.threads → active ≡ can_run s.machine t → (news : List Entry) → s.events ≡ pre ++ news → all_recorded t news acc ≡ [] →
+      Recorded (activates_if active t (changes t (with_policy new s.machine.now) s))
   renewed_posted active new s within runs news since blank = by_active active runs
     where
       f : Thread P → Thread P
@@ -287,23 +287,23 @@ module _ {P : Type 0} (bodies : Bodies P) (t : ℕ) (pre : List Entry) (acc : Li
       not_running : false ≡ can_run s.machine t → is_runnable (thread_at (changes t (with_policy new s.machine.now) s).machine t).status ≡ true → ⊥
       not_running e k = contra k (ap (λ (th : Thread P). is_runnable th.status) (thread-same s.machine t (with_policy new s.machine.now) within) ∙ sym e)
 
-      by_active : (active : Bool) → active ≡ can_run s.machine t → Posted (activates_if active t (changes t (with_policy new s.machine.now) s))
+      by_active : (active : Bool) → active ≡ can_run s.machine t → Recorded (activates_if active t (changes t (with_policy new s.machine.now) s))
       by_active true e =
           activates_own (thread_at (changes t (with_policy new s.machine.now) s).machine t).server (changes t (with_policy new s.machine.now) s) refl
           (subst (λ (k : ℕ). t < k) (sym (changed-length no_thread t (with_policy new s.machine.now) s.machine.threads)) within) still
-      by_active false e = (still.0, still.1, λ x k. low_booked s.machine.now (thread_at (changes t (with_policy new s.machine.now) s).machine t).status x (all_posted t still.0 acc) (λ runs high. not_running e runs) (still.2 x k))
+      by_active false e = (still.0, still.1, λ x k. low_booked s.machine.now (thread_at (changes t (with_policy new s.machine.now) s).machine t).status x (all_recorded t still.0 acc) (λ runs high. not_running e runs) (still.2 x k))
 
-  pub renewed_other : (active : Bool) (v : ℕ) (new : Policy) (s : Turn P) → (v == t) ≡ false → Posted s → Posted (activates_if active v (changes v (with_policy new s.machine.now) s))
+  pub renewed_other : (active : Bool) (v : ℕ) (new : Policy) (s : Turn P) → (v == t) ≡ false → Recorded s → Recorded (activates_if active v (changes v (with_policy new s.machine.now) s))
   renewed_other true v new s e q = activates_other v (thread_at (changes v (with_policy new s.machine.now) s).machine v).server (changes v (with_policy new s.machine.now) s) e (other Booked v (with_policy new s.machine.now) s e q)
   renewed_other false v new s e q = other Booked v (with_policy new s.machine.now) s e q
 
   -- ---- a refill
 
-  activates_if_other : (b : Bool) (v : ℕ) (s : Turn P) → (v == t) ≡ false → Posted s → Posted (activates_if b v s)
+  activates_if_other : (b : Bool) (v : ℕ) (s : Turn P) → (v == t) ≡ false → Recorded s → Recorded (activates_if b v s)
   activates_if_other true v s e q = activates_other v (thread_at s.machine v).server s e q
   activates_if_other false v s e q = q
 
-  refills_other : (v : ℕ) (o : Option ServerState) (s : Turn P) → (v == t) ≡ false → Posted s → Posted (refills_for v o s)
+  refills_other : (v : ℕ) (o : Option ServerState) (s : Turn P) → (v == t) ≡ false → Recorded s → Recorded (refills_server v o s)
   refills_other v None s e q = q
   refills_other v (Some server) s e q =
       let up = changes v (with_server refill) s in
@@ -313,14 +313,14 @@ module _ {P : Type 0} (bodies : Bodies P) (t : ℕ) (pre : List Entry) (acc : Li
       (other Booked v (with_server refill) s e q))
 
   -- what a refill makes of the thread's server, before it is told
-  abbrev IsRefilled : ServerState → ℕ → Status → ServerState → List Posting → Type 0
+  abbrev IsRefilled : ServerState → ℕ → Status → ServerState → List ServerEvent → Type 0
   IsRefilled old now status x a = (x ≡ refill old) × Booked now status old a
 
-  refilled_map : (now : ℕ) (status : Status) (server : ServerState) (o : Option ServerState) (a : List Posting) → o ≡ Some server → ((x : ServerState) → o ≡ Some x → Booked now status x a) → (x : ServerState) → option_map refill o ≡ Some x → IsRefilled server now status x a
+  refilled_map : (now : ℕ) (status : Status) (server : ServerState) (o : Option ServerState) (a : List ServerEvent) → o ≡ Some server → ((x : ServerState) → o ≡ Some x → Booked now status x a) → (x : ServerState) → option_map refill o ≡ Some x → IsRefilled server now status x a
   refilled_map now status server None a e h x k = absurd (grind arith)
   refilled_map now status server (Some y) a e h x k = let it : y ≡ server = only e in (sym (only k) ∙ ap refill it, h server e)
 
-  refills_mine : (server : ServerState) (s : Turn P) → (thread_at s.machine t).server ≡ Some server → has_come (next_due server) s.machine.now ≡ true → (is_high server ≡ false → server.consumed ≡ 0) → Posted s → Posted (refills_for t (Some server) s)
+  refills_mine : (server : ServerState) (s : Turn P) → (thread_at s.machine t).server ≡ Some server → has_come (next_due server) s.machine.now ≡ true → (is_high server ≡ false → server.consumed ≡ 0) → Recorded s → Recorded (refills_server t (Some server) s)
   refills_mine server s e come idle q = by_regain (regains_high server && can_run s.machine t) refl
     where
       amount : ℕ
@@ -344,21 +344,21 @@ module _ {P : Type 0} (bodies : Bodies P) (t : ℕ) (pre : List Entry) (acc : Li
       low_of : (a b c : Bool) → ((not a && b) && c) ≡ true → a ≡ false
       low_of a b c e = grind arith
 
-      stays : (regains_high server && can_run s.machine t) ≡ false → (x : ServerState) (a : List Posting) → IsRefilled server s.machine.now (thread_at (changes t (with_server refill) s).machine t).status x a →
-          Booked s.machine.now (thread_at (changes t (with_server refill) s).machine t).status x (posted_if (t == t) (refilled s.machine.now (amount_of (oldest_pending server))) a)
+      stays : (regains_high server && can_run s.machine t) ≡ false → (x : ServerState) (a : List ServerEvent) → IsRefilled server s.machine.now (thread_at (changes t (with_server refill) s).machine t).status x a →
+          Booked s.machine.now (thread_at (changes t (with_server refill) s).machine t).status x (recorded_if (t == t) (refilled s.machine.now (amount_of (oldest_pending server))) a)
       stays k x a g =
           subst (Booked s.machine.now (thread_at (changes t (with_server refill) s).machine t).status x) (sym (posted_so (t == t) (refilled s.machine.now (amount_of (oldest_pending server))) a itself))
           (subst (λ (z : ServerState). Booked s.machine.now (thread_at (changes t (with_server refill) s).machine t).status z (a ++ refilled s.machine.now (amount_of (oldest_pending server)) ∷ [])) (sym g.0)
           (refill_stays s.machine.now (thread_at (changes t (with_server refill) s).machine t).status server a come (ap (λ (b : Bool). regains_high server && b) status ∙ k) g.1))
 
-      regains : (regains_high server && can_run s.machine t) ≡ true → (x : ServerState) (a : List Posting) → IsRefilled server s.machine.now (thread_at (changes t (with_server refill) s).machine t).status x a →
-          Still s.machine.now (thread_at (changes t (with_server refill) s).machine t).status x (posted_if (t == t) (refilled s.machine.now (amount_of (oldest_pending server))) a)
+      regains : (regains_high server && can_run s.machine t) ≡ true → (x : ServerState) (a : List ServerEvent) → IsRefilled server s.machine.now (thread_at (changes t (with_server refill) s).machine t).status x a →
+          Still s.machine.now (thread_at (changes t (with_server refill) s).machine t).status x (recorded_if (t == t) (refilled s.machine.now (amount_of (oldest_pending server))) a)
       regains k x a g =
           subst (Still s.machine.now (thread_at (changes t (with_server refill) s).machine t).status x) (sym (posted_so (t == t) (refilled s.machine.now (amount_of (oldest_pending server))) a itself))
           (subst (λ (z : ServerState). Still s.machine.now (thread_at (changes t (with_server refill) s).machine t).status z (a ++ refilled s.machine.now (amount_of (oldest_pending server)) ∷ [])) (sym g.0)
           (refill_booked s.machine.now server a come g.1.books, (refill_same server).0 ∙ idle (low_of (is_high server) (is_high (refill server)) (can_run s.machine t) k)))
 
-      by_regain : (b : Bool) → (regains_high server && can_run s.machine t) ≡ b → Posted (activates_if b t (tells (event.Refill t (amount_of (oldest_pending server)) (refill server).capacity) (changes t (with_server refill) s)))
+      by_regain : (b : Bool) → (regains_high server && can_run s.machine t) ≡ b → Recorded (activates_if b t (tells (event.Refill t (amount_of (oldest_pending server)) (refill server).capacity) (changes t (with_server refill) s)))
       by_regain false k = told (IsRefilled server) Booked (event.Refill t (amount_of (oldest_pending server)) (refill server).capacity) (changes t (with_server refill) s) (λ x a j g. stays k x a g) done
       by_regain true k =
           let there = tells (event.Refill t (amount_of (oldest_pending server)) (refill server).capacity) (changes t (with_server refill) s) in
@@ -376,36 +376,36 @@ module _ {P : Type 0} (bodies : Bodies P) (t : ℕ) (pre : List Entry) (acc : Li
 
   -- a change that leaves the server, and makes nothing runnable
   pub same_server : (v : ℕ) (f : Thread P → Thread P) (s : Turn P) → (f (thread_at s.machine v)).server ≡ (thread_at s.machine v).server →
-      (is_runnable (f (thread_at s.machine v)).status ≡ true → is_runnable (thread_at s.machine v).status ≡ true) → Posted s → Posted (changes v f s)
+      (is_runnable (f (thread_at s.machine v)).status ≡ true → is_runnable (thread_at s.machine v).status ≡ true) → Recorded s → Recorded (changes v f s)
   same_server v f s same runs q =
       one Booked v f s (λ a h x k. other_status s.machine.now (thread_at s.machine v).status (f (thread_at s.machine v)).status x a runs (h x (sym same ∙ k))) q
 
-  priced_map : (p now : ℕ) (status : Status) (o : Option ServerState) (a : List Posting) → ((x : ServerState) → o ≡ Some x → Booked now status x a) → (x : ServerState) → option_map (set_high p) o ≡ Some x → Booked now status x a
+  priced_map : (p now : ℕ) (status : Status) (o : Option ServerState) (a : List ServerEvent) → ((x : ServerState) → o ≡ Some x → Booked now status x a) → (x : ServerState) → option_map (set_high p) o ≡ Some x → Booked now status x a
   priced_map p now status None a h x e = absurd (grind arith)
   priced_map p now status (Some y) a h x e = subst (λ (z : ServerState). Booked now status z a) (only e) (priced_booked p now status y a (h y refl))
 
-  pub sleeps_posted : (v : ℕ) (w : Waiting) (s : Turn P) → Posted s → Posted (changes v (put_to_wait w) s)
+  pub sleeps_posted : (v : ℕ) (w : Waiting) (s : Turn P) → Recorded s → Recorded (changes v (put_to_wait w) s)
   sleeps_posted v w s q = same_server v (put_to_wait w) s refl (λ runs. absurd (grind arith)) q
 
-  pub joined_posted : (v : ℕ) (j : Joiner) (s : Turn P) → Posted s → Posted (changes v (with_joiner j) s)
+  pub joined_posted : (v : ℕ) (j : Joiner) (s : Turn P) → Recorded s → Recorded (changes v (with_joiner j) s)
   joined_posted v j s q = same_server v (with_joiner j) s refl (λ runs. runs) q
 
-  refills_posted : (v : ℕ) (o : Option ServerState) (s : Turn P) → (thread_at s.machine v).server ≡ o → has_come (option_and_then next_due o) s.machine.now ≡ true → Threads bodies None s → Posted s → Posted (refills_for v o s)
+  refills_posted : (v : ℕ) (o : Option ServerState) (s : Turn P) → (thread_at s.machine v).server ≡ o → has_come (option_and_then next_due o) s.machine.now ≡ true → Threads bodies None s → Recorded s → Recorded (refills_server v o s)
   refills_posted v None s e come all q = q
   refills_posted v (Some server) s e come all q = by_eq (v == t) refl
     where
-      by_eq : (c : Bool) → (v == t) ≡ c → Posted (refills_for v (Some server) s)
+      by_eq : (c : Bool) → (v == t) ≡ c → Recorded (refills_server v (Some server) s)
       by_eq true k =
           let it : t ≡ v = grind arith in
           let e' : (thread_at s.machine t).server ≡ Some server = subst (λ (i : ℕ). (thread_at s.machine i).server ≡ Some server) (sym it) e in
-          subst (λ (i : ℕ). Posted (refills_for i (Some server) s)) it (refills_mine server s e' come (idle_low s.machine.now (thread_at s.machine t) server e' (all t)) q)
+          subst (λ (i : ℕ). Recorded (refills_server i (Some server) s)) it (refills_mine server s e' come (idle_low s.machine.now (thread_at s.machine t) server e' (all t)) q)
       by_eq false k = refills_other v (Some server) s k q
 
   none_blocked : (who : Option ℕ) (v : ℕ) (s : Turn P) → is_blocked (thread_at s.machine v).status ≡ true → Awake bodies who s → Threads bodies who s → (x : ServerState) → (thread_at s.machine v).server ≡ Some x → x.consumed ≡ 0
   none_blocked who v s b awake all x e =
       none_consumed s.machine.now (thread_at s.machine v).status x b (subst (λ (mine : Bool). ServerIn mine s.machine.now (thread_at s.machine v).status x) (sleeper bodies who v s awake b) ((all v).each x e))
 
-  pub posted_keep : (who : Option ℕ) (move : Move P) (s : Turn P) → MayAwake who move s → Awake bodies who s → Threads bodies who s → Posted s → Posted (does bodies move s)
+  pub posted_keep : (who : Option ℕ) (move : Move P) (s : Turn P) → MayAwake who move s → Awake bodies who s → Threads bodies who s → Recorded s → Recorded (does bodies move s)
   posted_keep who (alters v f) s may awake all q =
       same_server v f s (ap (λ (c : Core P). c.server) (may (thread_at s.machine v))) (λ runs. ap (λ (c : Core P). is_runnable c.status) (sym (may (thread_at s.machine v))) ∙ runs) q
   posted_keep who (tells_of e) s may awake all q = told_plainly Booked e s may q

@@ -17,13 +17,13 @@ use Rattle.pse52_trace.specs.declared.event.Event.TheVariants as event
 use Rattle.pse52_trace.specs.Text.{Entry}
 use Rattle.sporadic_server.specs.declared.Replenish.{Replenish}
 use Rattle.sporadic_server.specs.Server.{ServerState, charge, is_high, next_due, plan, replenishment}
-use Rattle.machine_rules.specs.Budget.{Posting, planned, posted_if, renews, used}
+use Rattle.machine_rules.specs.Budget.{ServerEvent, planned, recorded_if, renews, used}
 use Rattle.machine_rules.specs.Bodies.{Bodies}
 use Rattle.machine_rules.specs.State.{Frame, Machine, Status, Thread, blocked, dormant, ended, runnable, waits_to_join}
 use Rattle.machine_rules.specs.Threads.{can_run, is_blocked, is_live, is_runnable, lives, no_thread, thread_at, thread_numbers, top_left}
-use Rattle.machine_rules.specs.Turns.{By, Turn, answered, changes, moves_if, returns, tells}
+use Rattle.machine_rules.specs.Turns.{Caller, Turn, answered, changes, moves_if, returns, tells}
 use Rattle.machine_rules.specs.CallNames.{name_of}
-use Rattle.machine_rules.specs.Servers.{activates_if, charged, has_high, plans_for, with_server}
+use Rattle.machine_rules.specs.Servers.{activates_if, charged, has_high, plans_server, with_server}
 use Rattle.machine_rules.specs.Mutexes.{owns_boosting}
 use Rattle.machine_rules.specs.Lives.{with_joiner}
 use Rattle.machine_rules.specs.Scheduling.{with_policy}
@@ -42,7 +42,7 @@ use Rattle.machine_laws.proofs.Servers.Right.{Rising, only}
 use Rattle.machine_laws.proofs.Servers.Moves.{here}
 use Rattle.machine_laws.proofs.Servers.Ticks.{ServedDone, ServedMid, ServedRight, awake_of, end_by, has_server, nobody_awake, served_renew, served_stop, served_tick}
 use Rattle.machine_laws.proofs.Budgets.Accounts.{later_books, planned_books, used_books, used_in_step}
-use Rattle.machine_laws.proofs.Budgets.Moves.{Booked, Posted, joined_posted, other, own, posted_keep, posted_not, posted_so, renewed_other, renewed_posted, same_server, sleeps_posted, told, told_plainly}
+use Rattle.machine_laws.proofs.Budgets.Moves.{Booked, Recorded, joined_posted, other, own, posted_keep, posted_not, posted_so, renewed_other, renewed_posted, same_server, sleeps_posted, told, told_plainly}
 
 -- ---- nothing that is pending is due
 
@@ -100,16 +100,16 @@ module _ {P : Type 0} (m : Machine P) where
 
 -- ---- an instant later
 
-abbrev pub BooksOf : {P : Type 0} → ℕ → Thread P → List Posting → Type 0
+abbrev pub BooksOf : {P : Type 0} → ℕ → Thread P → List ServerEvent → Type 0
 BooksOf now th acc = (x : ServerState) → th.server ≡ Some x → Booked now th.status x acc
 
 abbrev pub NotDue : ℕ → ServerState → Type 0
 NotDue now x = Each (λ (r : Replenish). now < r.due) x.pending
 
-pub booked_later : (now : ℕ) (status : Status) (x : ServerState) (acc : List Posting) → NotDue now x → Booked now status x acc → Booked (now + 1) status x acc
+pub booked_later : (now : ℕ) (status : Status) (x : ServerState) (acc : List ServerEvent) → NotDue now x → Booked now status x acc → Booked (now + 1) status x acc
 booked_later now status x acc none h = record { books = later_books now x acc none h.books; consumed = h.consumed; ready = h.ready }
 
-booked_charged : (now : ℕ) (status : Status) (x : ServerState) (acc : List Posting) → NotDue now x → is_runnable status ≡ true → is_high x ≡ true → Booked now status x acc → Booked (now + 1) status (charge x) (acc ++ used ∷ [])
+booked_charged : (now : ℕ) (status : Status) (x : ServerState) (acc : List ServerEvent) → NotDue now x → is_runnable status ≡ true → is_high x ≡ true → Booked now status x acc → Booked (now + 1) status (charge x) (acc ++ used ∷ [])
 booked_charged now status x acc none runs high h = let step = used_in_step x acc (h.ready runs high) in record {
   books = later_books now (charge x) (acc ++ used ∷ []) none (used_books now x acc (some high) h.books);
   consumed = λ some. step;
@@ -120,12 +120,12 @@ booked_charged now status x acc none runs high h = let step = used_in_step x acc
     some e = grind arith
 
 -- a tick of the thread
-pub booked_ticked : (now : ℕ) (status : Status) (o : Option ServerState) (acc : List Posting) → is_runnable status ≡ true → ((x : ServerState) → o ≡ Some x → NotDue now x) → ((x : ServerState) → o ≡ Some x → Booked now status x acc) →
-    (x : ServerState) → option_map charged o ≡ Some x → Booked (now + 1) status x (posted_if (has_high o) used acc)
+pub booked_ticked : (now : ℕ) (status : Status) (o : Option ServerState) (acc : List ServerEvent) → is_runnable status ≡ true → ((x : ServerState) → o ≡ Some x → NotDue now x) → ((x : ServerState) → o ≡ Some x → Booked now status x acc) →
+    (x : ServerState) → option_map charged o ≡ Some x → Booked (now + 1) status x (recorded_if (has_high o) used acc)
 booked_ticked now status None acc runs none h x e = absurd (grind arith)
 booked_ticked now status (Some y) acc runs none h x e = by_high (is_high y) refl e
   where
-    by_high : (b : Bool) → is_high y ≡ b → Some (if b then charge y else y) ≡ Some x → Booked (now + 1) status x (posted_if (is_some (if b then Some y else None)) used acc)
+    by_high : (b : Bool) → is_high y ≡ b → Some (if b then charge y else y) ≡ Some x → Booked (now + 1) status x (recorded_if (is_some (if b then Some y else None)) used acc)
     by_high true k e = subst (λ (z : ServerState). Booked (now + 1) status z (acc ++ used ∷ [])) (only e) (booked_charged now status y acc (none y refl) runs k (h y refl))
     by_high false k e = subst (λ (z : ServerState). Booked (now + 1) status z acc) (only e) (booked_later now status y acc (none y refl) (h y refl))
 
@@ -162,15 +162,15 @@ module _ {P : Type 0} (bodies : Bodies P) (c : Call) where
 
 -- ---- a unit
 
-module _ {P : Type 0} (bodies : Bodies P) (t : ℕ) (pre : List Entry) (acc : List Posting) where
+module _ {P : Type 0} (bodies : Bodies P) (t : ℕ) (pre : List Entry) (acc : List ServerEvent) where
   abbrev pub Book : Turn P → Type 0
-  Book s = ServedRight bodies s × Posted bodies t pre acc s
+  Book s = ServedRight bodies s × Recorded bodies t pre acc s
 
   abbrev pub BookMid : Bool → ℕ → Turn P → Type 0
-  BookMid tolled u s = ServedMid bodies tolled u s × Posted bodies t pre acc s
+  BookMid tolled u s = ServedMid bodies tolled u s × Recorded bodies t pre acc s
 
   abbrev pub BookDone : Bool → ℕ → Turn P → Type 0
-  BookDone tolled u s = ServedDone bodies tolled u s × Posted bodies t pre acc s
+  BookDone tolled u s = ServedDone bodies tolled u s × Recorded bodies t pre acc s
 
   pub book_round : RoundKeeps bodies Book
   book_round = let served = served_tick bodies in record {
@@ -209,24 +209,24 @@ module _ {P : Type 0} (bodies : Bodies P) (t : ℕ) (pre : List Entry) (acc : Li
           by_eq true k = let it : v ≡ t = grind arith in absurd (contra (subst (λ (i : ℕ). renews i what ≡ true) it e) plain)
           by_eq false k = refl
 
-  moved : (b : Bool) (v : ℕ) (s : Turn P) → Posted bodies t pre acc s → Posted bodies t pre acc (moves_if b v s)
+  moved : (b : Bool) (v : ℕ) (s : Turn P) → Recorded bodies t pre acc s → Recorded bodies t pre acc (moves_if b v s)
   moved true v s q = q
   moved false v s q = q
 
-  returns_posted : (by : By) (r : Res) (n : ℕ) (s : Turn P) → Posted bodies t pre acc s → Posted bodies t pre acc (returns by r n s)
+  returns_posted : (by : Caller) (r : Res) (n : ℕ) (s : Turn P) → Recorded bodies t pre acc s → Recorded bodies t pre acc (returns by r n s)
   returns_posted by r n s q = told_plainly bodies t pre acc Booked (event.Return by.thread (name_of by.call) r n) (changes by.thread (answered r n) s) refl (same_server bodies t pre acc by.thread (answered r n) s refl (λ runs. runs) q)
 
   -- the thread of the account has a new policy
-  pub renews_booked : (u : ℕ) (new : Policy) (s : Turn P) → (lives s.machine t ≡ true → (s.events ≡ pre ++ []) × (acc ≡ [])) → (lives s.machine t ≡ false → Posted bodies t pre acc s) →
-      Posted bodies t pre acc (unit_effect bodies u (unit.Make (call.Setsched t new)) s)
+  pub renews_booked : (u : ℕ) (new : Policy) (s : Turn P) → (lives s.machine t ≡ true → (s.events ≡ pre ++ []) × (acc ≡ [])) → (lives s.machine t ≡ false → Recorded bodies t pre acc s) →
+      Recorded bodies t pre acc (unit_effect bodies u (unit.Make (call.Setsched t new)) s)
   renews_booked u new s live dead = by_life (lives s.machine t) refl
     where
-      by_life : (b : Bool) → lives s.machine t ≡ b → Posted bodies t pre acc (if b then
+      by_life : (b : Bool) → lives s.machine t ≡ b → Recorded bodies t pre acc (if b then
           moves_if (not (owns_boosting (activates_if (can_run s.machine t) t (changes t (with_policy new s.machine.now) (returns (record { thread = u; call = call.Setsched t new }) res.Zero 0 s))).machine t)) t
           (activates_if (can_run s.machine t) t (changes t (with_policy new s.machine.now) (returns (record { thread = u; call = call.Setsched t new }) res.Zero 0 s)))
           else returns (record { thread = u; call = call.Setsched t new }) res.Srch 0 s)
       by_life true e =
-          let who : By = record { thread = u; call = call.Setsched t new } in
+          let who : Caller = record { thread = u; call = call.Setsched t new } in
           let entry : Entry = record { time = s.machine.now; event = event.Return u (name_of (call.Setsched t new)) res.Zero 0 } in
           let told = returns who res.Zero 0 s in
           let within : t < length s.machine.threads = here bodies None is_live refl s.machine.threads t e in
@@ -237,29 +237,29 @@ module _ {P : Type 0} (bodies : Bodies P) (t : ℕ) (pre : List Entry) (acc : Li
 
   -- ---- the tick's end
 
-  plans_other : (v : ℕ) (o : Option ServerState) (s : Turn P) → (v == t) ≡ false → Posted bodies t pre acc s → Posted bodies t pre acc (plans_for v o s)
+  plans_other : (v : ℕ) (o : Option ServerState) (s : Turn P) → (v == t) ≡ false → Recorded bodies t pre acc s → Recorded bodies t pre acc (plans_server v o s)
   plans_other v None s e q = q
   plans_other v (Some x) s e q =
       let up = changes v (with_server plan) s in
       told bodies t pre acc Booked Booked (event.Plan v (replenishment x).amount (replenishment x).due) up
       (λ y a k g. subst (Booked s.machine.now (thread_at up.machine t).status y) (sym (posted_not (v == t) (planned s.machine.now (replenishment x)) a e)) g) (other bodies t pre acc Booked v (with_server plan) s e q)
 
-  ends_other : (e : TickEnd) (v : ℕ) (s : Turn P) → (v == t) ≡ false → Posted bodies t pre acc s → Posted bodies t pre acc (ends_tick e v s)
+  ends_other : (e : TickEnd) (v : ℕ) (s : Turn P) → (v == t) ≡ false → Recorded bodies t pre acc s → Recorded bodies t pre acc (ends_tick e v s)
   ends_other planning v s e q = plans_other v (thread_at s.machine v).server s e q
   ends_other exhausting v s e q =
-      moved _ v (plans_for v (thread_at s.machine v).server (tells (event.Exhaust v) s)) (plans_other v (thread_at s.machine v).server (tells (event.Exhaust v) s) e (told_plainly bodies t pre acc Booked (event.Exhaust v) s refl q))
+      moved _ v (plans_server v (thread_at s.machine v).server (tells (event.Exhaust v) s)) (plans_other v (thread_at s.machine v).server (tells (event.Exhaust v) s) e (told_plainly bodies t pre acc Booked (event.Exhaust v) s refl q))
   ends_other slicing v s e q = moved (can_run s.machine v) v (changes v without_slice s) (other bodies t pre acc Booked v without_slice s e q)
   ends_other nothing v s e q = q
 
   -- what a plan makes of the thread's server, before it is told
-  abbrev IsPlanned : ServerState → ℕ → Status → ServerState → List Posting → Type 0
+  abbrev IsPlanned : ServerState → ℕ → Status → ServerState → List ServerEvent → Type 0
   IsPlanned old now status x a = (x ≡ plan old) × Booked now status old a
 
-  planned_map : (now : ℕ) (status : Status) (server : ServerState) (o : Option ServerState) (a : List Posting) → o ≡ Some server → ((x : ServerState) → o ≡ Some x → Booked now status x a) → (x : ServerState) → option_map plan o ≡ Some x → IsPlanned server now status x a
+  planned_map : (now : ℕ) (status : Status) (server : ServerState) (o : Option ServerState) (a : List ServerEvent) → o ≡ Some server → ((x : ServerState) → o ≡ Some x → Booked now status x a) → (x : ServerState) → option_map plan o ≡ Some x → IsPlanned server now status x a
   planned_map now status server None a e h x k = absurd (grind arith)
   planned_map now status server (Some y) a e h x k = let it : y ≡ server = only e in (sym (only k) ∙ ap plan it, h server e)
 
-  planned_booked : (now : ℕ) (status : Status) (x : ServerState) (a : List Posting) → 1 ≤ x.consumed → (is_runnable status ≡ true → x.capacity ≡ 0) → Booked now status x a → Booked now status (plan x) (a ++ planned now (replenishment x) ∷ [])
+  planned_booked : (now : ℕ) (status : Status) (x : ServerState) (a : List ServerEvent) → 1 ≤ x.consumed → (is_runnable status ≡ true → x.capacity ≡ 0) → Booked now status x a → Booked now status (plan x) (a ++ planned now (replenishment x) ∷ [])
   planned_booked now status x a some low h = record {
     books = planned_books now x a some (h.consumed some) h.books;
     consumed = λ more. absurd (omega arith);
@@ -269,7 +269,7 @@ module _ {P : Type 0} (bodies : Bodies P) (t : ℕ) (pre : List Entry) (acc : Li
       not_high : x.capacity ≡ 0 → is_high (plan x) ≡ true → ⊥
       not_high e k = grind arith
 
-  plans_mine : (o : Option ServerState) (s : Turn P) → (thread_at s.machine t).server ≡ o → 1 ≤ consumed_in o → (can_run s.machine t ≡ true → capacity_in o ≡ 0) → Posted bodies t pre acc s → Posted bodies t pre acc (plans_for t o s)
+  plans_mine : (o : Option ServerState) (s : Turn P) → (thread_at s.machine t).server ≡ o → 1 ≤ consumed_in o → (can_run s.machine t ≡ true → capacity_in o ≡ 0) → Recorded bodies t pre acc s → Recorded bodies t pre acc (plans_server t o s)
   plans_mine None s e some low q = absurd (omega arith)
   plans_mine (Some x) s e some low q =
       let up = changes t (with_server plan) s in
@@ -290,22 +290,22 @@ module _ {P : Type 0} (bodies : Bodies P) (t : ℕ) (pre : List Entry) (acc : Li
   not_both (blocked w) p q = absurd (grind arith)
   not_both ended p q = absurd (grind arith)
 
-  ends_mine : (tolled : Bool) (quantum : ℕ) (s : Turn P) → Posted bodies t pre acc s → Posted bodies t pre acc (ends_tick (tick_end tolled quantum (thread_at s.machine t)) t s)
+  ends_mine : (tolled : Bool) (quantum : ℕ) (s : Turn P) → Recorded bodies t pre acc s → Recorded bodies t pre acc (ends_tick (tick_end tolled quantum (thread_at s.machine t)) t s)
   ends_mine tolled quantum s q =
       by_all tolled (nat_lt 0 (consumed_in (thread_at s.machine t).server)) refl (is_blocked (thread_at s.machine t).status) refl (is_runnable (thread_at s.machine t).status) refl (capacity_in (thread_at s.machine t).server == 0) refl
       (slice_is_used (thread_at s.machine t).policy (thread_at s.machine t).slice quantum)
     where
-      no_plan : (full : Bool) → Posted bodies t pre acc (ends_tick (if full then slicing else nothing) t s)
+      no_plan : (full : Bool) → Recorded bodies t pre acc (ends_tick (if full then slicing else nothing) t s)
       no_plan true = moved (can_run s.machine t) t (changes t without_slice s) (same_server bodies t pre acc t without_slice s refl (λ runs. runs) q)
       no_plan false = q
 
-      exhausts : 1 ≤ consumed_in (thread_at s.machine t).server → capacity_in (thread_at s.machine t).server ≡ 0 → Posted bodies t pre acc (ends_tick exhausting t s)
+      exhausts : 1 ≤ consumed_in (thread_at s.machine t).server → capacity_in (thread_at s.machine t).server ≡ 0 → Recorded bodies t pre acc (ends_tick exhausting t s)
       exhausts some empty =
-          moved _ t (plans_for t (thread_at s.machine t).server (tells (event.Exhaust t) s))
+          moved _ t (plans_server t (thread_at s.machine t).server (tells (event.Exhaust t) s))
           (plans_mine (thread_at s.machine t).server (tells (event.Exhaust t) s) refl some (λ runs. empty) (told_plainly bodies t pre acc Booked (event.Exhaust t) s refl q))
 
       by_all : (a b : Bool) → nat_lt 0 (consumed_in (thread_at s.machine t).server) ≡ b → (c : Bool) → is_blocked (thread_at s.machine t).status ≡ c → (d : Bool) → is_runnable (thread_at s.machine t).status ≡ d →
-          (z : Bool) → (capacity_in (thread_at s.machine t).server == 0) ≡ z → (full : Bool) → Posted bodies t pre acc (ends_tick (end_by a b c d z full) t s)
+          (z : Bool) → (capacity_in (thread_at s.machine t).server == 0) ≡ z → (full : Bool) → Recorded bodies t pre acc (ends_tick (end_by a b c d z full) t s)
       by_all false b p c r d k z e full = no_plan full
       by_all true false p c r d k z e full = no_plan full
       by_all true true p true r d k z e full = plans_mine (thread_at s.machine t).server s refl (grind arith) (λ runs. absurd (not_both (thread_at s.machine t).status r runs)) q
@@ -313,9 +313,9 @@ module _ {P : Type 0} (bodies : Bodies P) (t : ℕ) (pre : List Entry) (acc : Li
       by_all true true p false r true k true e full = exhausts (grind arith) (grind arith)
       by_all true true p false r true k false e full = no_plan full
 
-  pub ends_booked : (tolled : Bool) (u : ℕ) (s : Turn P) → Posted bodies t pre acc s → Posted bodies t pre acc (ends_tick (tick_end tolled s.machine.quantum (thread_at s.machine u)) u s)
+  pub ends_booked : (tolled : Bool) (u : ℕ) (s : Turn P) → Recorded bodies t pre acc s → Recorded bodies t pre acc (ends_tick (tick_end tolled s.machine.quantum (thread_at s.machine u)) u s)
   ends_booked tolled u s q = by_eq (u == t) refl
     where
-      by_eq : (b : Bool) → (u == t) ≡ b → Posted bodies t pre acc (ends_tick (tick_end tolled s.machine.quantum (thread_at s.machine u)) u s)
-      by_eq true e = let it : t ≡ u = grind arith in subst (λ (v : ℕ). Posted bodies t pre acc (ends_tick (tick_end tolled s.machine.quantum (thread_at s.machine v)) v s)) it (ends_mine tolled s.machine.quantum s q)
+      by_eq : (b : Bool) → (u == t) ≡ b → Recorded bodies t pre acc (ends_tick (tick_end tolled s.machine.quantum (thread_at s.machine u)) u s)
+      by_eq true e = let it : t ≡ u = grind arith in subst (λ (v : ℕ). Recorded bodies t pre acc (ends_tick (tick_end tolled s.machine.quantum (thread_at s.machine v)) v s)) it (ends_mine tolled s.machine.quantum s q)
       by_eq false e = ends_other (tick_end tolled s.machine.quantum (thread_at s.machine u)) u s e q

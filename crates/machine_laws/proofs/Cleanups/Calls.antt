@@ -18,20 +18,20 @@ use Rattle.machine_rules.specs.Bodies.{Bodies}
 use Rattle.machine_rules.specs.State.{Joiner, Message, Registration, SignalRecord, Status, Thread, Wait, Waiting, blocked, dormant, ended, for_condition, for_end, for_message, for_mutex, for_mutex_again, for_room, for_semaphore, for_signal, for_time, has_joined, nobody, runnable, waits_to_join}
 use Rattle.machine_rules.specs.Threads.{can_run, is_dormant, lives, mutex_at, number_of, queue_at, semaphore_at, thread_at, timer_at, waiting_of}
 use Rattle.machine_rules.specs.Waiters.{Waiter, best_waiter, somebody_waits, waiters}
-use Rattle.machine_rules.specs.Turns.{By, Turn, changes, changes_pending, changes_queue, changes_timer, has_passed, is_late, moves, moves_if, returns, tells}
-use Rattle.machine_rules.specs.Servers.{activates_if, amount_of, plans_for, refills_for, regains_high, with_server}
+use Rattle.machine_rules.specs.Turns.{Caller, Turn, changes, changes_pending, changes_queue, changes_timer, has_passed, is_late, moves, moves_if, returns, tells}
+use Rattle.machine_rules.specs.Servers.{activates_if, amount_of, plans_server, refills_server, regains_high, with_server}
 use Rattle.machine_rules.specs.Waking.{blocks, cancelled_value, ending_with, started, starts, wakes}
-use Rattle.machine_rules.specs.Mutexes.{LockAnswer, counts, lock_answer, locks_on, must_wait, owned_by, owns, owns_boosting, refused, takes, trylock_answer, unlocks}
-use Rattle.machine_rules.specs.Conditions.{signals_best_of, waits, waits_on_condition, waits_with_other_mutex}
-use Rattle.machine_rules.specs.Semaphores.{blocks_unless_late, posts_to, semaphore_limit, tries_semaphore, waits_on_semaphore, waits_semaphore}
-use Rattle.machine_rules.specs.Signals.{delivers, generates, goes_to, has_no_room, record_of_kill, record_of_sigqueue, selected, sends_signal, sets_mask, waits_signal_on, waits_ticks, with_signals, without_record, without_signals}
+use Rattle.machine_rules.specs.Mutexes.{LockAnswer, counts, lock_answer, carries_out_lock, must_wait, owned_by, owns, owns_boosting, refused, takes, trylock_answer, unlocks}
+use Rattle.machine_rules.specs.Conditions.{signals_best_times, waits, waits_on_condition, waits_with_other_mutex}
+use Rattle.machine_rules.specs.Semaphores.{blocks_unless_late, wakes_waiter_or_raises_value, semaphore_limit, tries_semaphore, waits_on_semaphore, waits_semaphore}
+use Rattle.machine_rules.specs.Signals.{delivers, generates, may_go_to, has_no_room, record_of_kill, record_of_sigqueue, selected, sends_signal, sets_mask, takes_signal_or_waits, blocks_for_signal, with_signals, without_record, without_signals}
 use Rattle.machine_rules.specs.Timers.{armed, expires, first_expiry, is_pending_from, overrun_once_more, record_of_timer, sleeps_until, ticks_to}
-use Rattle.machine_rules.specs.Queues.{asks_notification, blocks_unless_nonblock, enters, fired_by_message, has_room, is_notifying, message_of, next_message, notifies, receives_on, record_of_notification, registered, sends_message, sends_to, takes_over, value_at, waits_to_receive, waits_to_send, with_message, without_message}
+use Rattle.machine_rules.specs.Queues.{asks_notification, blocks_unless_nonblock, enters, fired_by_message, has_room, is_notifying, message_of, next_message, notifies, takes_message_or_blocks, record_of_notification, registered, sends_message, reaches_receiver_or_queue, takes_over, value_at, waits_to_receive, waits_to_send, with_message, without_message}
 use Rattle.machine_rules.specs.Lives.{creates, inherited_mask, is_nobody, joins, wakes_joiner, with_joiner}
 use Rattle.machine_rules.specs.Cancellation.{cancels, is_cancellation_point, leaves, leaves_wait, request_acts, requested}
 use Rattle.machine_rules.specs.Scheduling.{sets_policy, sets_priority, takes_priority, with_policy, with_priority}
 use Rattle.machine_rules.specs.Calls.{call_effect, makes_call}
-use Rattle.machine_rules.specs.DueItems.{handles, has_come, start_due, start_in, times_out, times_out_of}
+use Rattle.machine_rules.specs.DueItems.{handles, has_come, start_due, start_in, times_out, wait_times_out}
 use Rattle.machine_rules.specs.Ticks.{TickEnd, ends_tick, exhausting, nothing, planning, slicing, without_slice}
 use Rattle.machine_rules.proofs.ItemsEnd.{is_due}
 use Rattle.machine_moves.proofs.Calls.Objects.{answered_status}
@@ -53,56 +53,56 @@ module _ {P : Type 0} (bodies : Bodies P) (guards : BodyOf → P → List ℕ) (
 
   -- ---- mutexes, conditions, semaphores
 
-  lock_same : (a : LockAnswer) (by : By) (k : ℕ) (due : Option ℕ) (s : Turn P) → Same s (locks_on a by k due s)
+  lock_same : (a : LockAnswer) (by : Caller) (k : ℕ) (due : Option ℕ) (s : Turn P) → Same s (carries_out_lock a by k due s)
   lock_same (refused r) by k due s = returned guards by r 0 s
   lock_same counts by k due s = returned guards by res.Zero 0 s
   lock_same takes by k due s = returned guards by res.Zero 0 s
   lock_same must_wait by k due s = sleep_same guards by (for_mutex k) due s
 
-  unlock_same : (by : By) (k : ℕ) (s : Turn P) → Same s (unlocks by k s)
+  unlock_same : (by : Caller) (k : ℕ) (s : Turn P) → Same s (unlocks by k s)
   unlock_same by k s =
       let back = returns by res.Zero 0 s in
       if_same guards (not (owns s.machine by.thread k)) s _ _ (λ e. returned guards by res.Perm 0 s)
       (λ e. if_same guards (nat_lt 1 (mutex_at s.machine k).count) s _ _ (λ e. returned guards by res.Zero 0 s) (λ e i q. release_same guards k back i (returned guards by res.Zero 0 s i q)))
 
-  condition_same : (by : By) (c k : ℕ) (due : Option ℕ) (s : Turn P) → Same s (waits by c k due s)
+  condition_same : (by : Caller) (c k : ℕ) (due : Option ℕ) (s : Turn P) → Same s (waits by c k due s)
   condition_same by c k due s =
       if_same guards (not (owns s.machine by.thread k)) s _ _ (λ e. (returned guards by res.Perm 0 s))
       (λ e. if_same guards (nat_lt 1 (mutex_at s.machine k).count || somebody_waits s.machine (waits_with_other_mutex c k)) s _ _ (λ e. (returned guards by res.Inval 0 s))
       (λ e. if_same guards (nat_lt 1 (length (owned_by s.machine by.thread))) s _ _ (λ e. (returned guards by res.Deadlk 0 s))
       (λ e. (λ i q. (release_same guards k (blocks by (for_condition c k) due s)) i ((sleep_same guards by (for_condition c k) due s) i q)))))
 
-  unless_late_same : (by : By) (wait : Wait) (due : Option ℕ) (s : Turn P) → Same s (blocks_unless_late by wait due s)
+  unless_late_same : (by : Caller) (wait : Wait) (due : Option ℕ) (s : Turn P) → Same s (blocks_unless_late by wait due s)
   unless_late_same by wait due s = if_same guards (is_late due s.machine) s _ _ (λ e. (returned guards by res.Timedout 0 s)) (λ e. sleep_same guards by wait due s)
 
-  semaphore_same : (by : By) (k : ℕ) (due : Option ℕ) (s : Turn P) → Same s (waits_semaphore by k due s)
+  semaphore_same : (by : Caller) (k : ℕ) (due : Option ℕ) (s : Turn P) → Same s (waits_semaphore by k due s)
   semaphore_same by k due s = if_same guards (nat_lt 0 (semaphore_at s.machine k)) s _ _ (λ e. (returned guards by res.Zero 0 s)) (λ e. unless_late_same by (for_semaphore k) due s)
 
-  try_same : (by : By) (k : ℕ) (s : Turn P) → Same s (tries_semaphore by k s)
+  try_same : (by : Caller) (k : ℕ) (s : Turn P) → Same s (tries_semaphore by k s)
   try_same by k s = if_same guards (semaphore_at s.machine k == 0) s _ _ (λ e. (returned guards by res.Again 0 s)) (λ e. (returned guards by res.Zero 0 s))
 
-  post_same : (o : Option Waiter) (by : By) (k : ℕ) (s : Turn P) → Same s (posts_to o by k s)
+  post_same : (o : Option Waiter) (by : Caller) (k : ℕ) (s : Turn P) → Same s (wakes_waiter_or_raises_value o by k s)
   post_same (Some w) by k s = λ i q. (wakes_same guards w.thread res.Zero 0 (returns by res.Zero 0 s)) i ((returned guards by res.Zero 0 s) i q)
   post_same None by k s = if_same guards (semaphore_at s.machine k == semaphore_limit) s _ _ (λ e. (returned guards by res.Overflow 0 s)) (λ e. (returned guards by res.Zero 0 s))
 
   -- ---- signals and time
 
-  send_same : (by : By) (r : SignalRecord) (s : Turn P) → Same s (sends_signal by r s)
+  send_same : (by : Caller) (r : SignalRecord) (s : Turn P) → Same s (sends_signal by r s)
   send_same by r s =
       if_same guards (has_no_room s.machine r) s _ _ (λ e. (returned guards by res.Again 0 s))
       (λ e. (λ i q. (generate_same guards r (returns by res.Zero 0 s)) i ((returned guards by res.Zero 0 s) i q)))
 
-  ticks_same : (n : Option ℕ) (by : By) (set : ℕ) (s : Turn P) → Same s (waits_ticks n by set s)
+  ticks_same : (n : Option ℕ) (by : Caller) (set : ℕ) (s : Turn P) → Same s (blocks_for_signal n by set s)
   ticks_same None by set s = sleep_same guards by (for_signal set) None s
   ticks_same (Some zero) by set s = returned guards by res.Again 0 s
   ticks_same (Some (suc n)) by set s = sleep_same guards by (for_signal set) (Some (s.machine.now + suc n)) s
 
-  accept_same : (o : Option SignalRecord) (n : Option ℕ) (by : By) (set : ℕ) (s : Turn P) → Same s (waits_signal_on o n by set s)
+  accept_same : (o : Option SignalRecord) (n : Option ℕ) (by : Caller) (set : ℕ) (s : Turn P) → Same s (takes_signal_or_waits o n by set s)
   accept_same (Some r) n by set s =
       let out = changes_pending (without_record r) s in λ i q. (returned guards by res.Zero r.signal (delivers by.thread r out)) i ((deliver_same guards by.thread r out) i q)
   accept_same None n by set s = ticks_same n by set s
 
-  nap_same : (by : By) (at : ℕ) (s : Turn P) → Same s (sleeps_until by at s)
+  nap_same : (by : Caller) (at : ℕ) (s : Turn P) → Same s (sleeps_until by at s)
   nap_same by at s =
       if_same guards (has_passed at s.machine) s _ _ (λ e. (returned guards by res.Zero 0 s))
       (λ e. (doze_same guards (record { wait = for_time; serial = 0; due = Some at; call = by.call }) by.thread s))
@@ -120,26 +120,26 @@ module _ {P : Type 0} (bodies : Bodies P) (guards : BodyOf → P → List ℕ) (
   over_same None q s = λ i q. q
   over_same (Some w) q s = enter_same q (message_of w.waiting.wait) (wakes w.thread res.Zero 0) s (wakes_same guards w.thread res.Zero 0)
 
-  nonblock_same : (by : By) (q : ℕ) (wait : Wait) (due : Option ℕ) (s : Turn P) → Same s (blocks_unless_nonblock by q wait due s)
+  nonblock_same : (by : Caller) (q : ℕ) (wait : Wait) (due : Option ℕ) (s : Turn P) → Same s (blocks_unless_nonblock by q wait due s)
   nonblock_same by q wait due s = if_same guards (queue_at s.machine q).is_nonblock s _ _ (λ e. (returned guards by res.Again 0 s)) (λ e. unless_late_same by wait due s)
 
-  send_to_same : (o : Option Waiter) (by : By) (q : ℕ) (x : Message) (due : Option ℕ) (s : Turn P) → Same s (sends_to o by q x due s)
+  send_to_same : (o : Option Waiter) (by : Caller) (q : ℕ) (x : Message) (due : Option ℕ) (s : Turn P) → Same s (reaches_receiver_or_queue o by q x due s)
   send_to_same (Some w) by q x due s = λ i q. (wakes_same guards w.thread res.Zero x.value (returns by res.Zero 0 s)) i ((returned guards by res.Zero 0 s) i q)
   send_to_same None by q x due s =
       if_same guards (has_room (queue_at s.machine q)) s _ _ (λ e. (enter_same q x (returns by res.Zero 0) s (returned guards by res.Zero 0))) (λ e. nonblock_same by q (for_room q x) due s)
 
-  message_same : (by : By) (q len : ℕ) (x : Message) (due : Option ℕ) (s : Turn P) → Same s (sends_message by q len x due s)
+  message_same : (by : Caller) (q len : ℕ) (x : Message) (due : Option ℕ) (s : Turn P) → Same s (sends_message by q len x due s)
   message_same by q len x due s =
       if_same guards (nat_lt (queue_at s.machine q).longest len) s _ _ (λ e. (returned guards by res.Msgsize 0 s)) (λ e. send_to_same (best_waiter s.machine (waits_to_receive q)) by q x due s)
 
-  receive_same : (n : Option ℕ) (by : By) (q : ℕ) (due : Option ℕ) (s : Turn P) → Same s (receives_on n by q due s)
+  receive_same : (n : Option ℕ) (by : Caller) (q : ℕ) (due : Option ℕ) (s : Turn P) → Same s (takes_message_or_blocks n by q due s)
   receive_same (Some n) by q due s =
       let out = changes_queue q (without_message n) s in
       let back = returns by res.Zero (value_at (queue_at s.machine q).messages n) out in
       λ i c. over_same (best_waiter s.machine (waits_to_send q)) q back i (returned guards by res.Zero (value_at (queue_at s.machine q).messages n) out i c)
   receive_same None by q due s = nonblock_same by q (for_message q) due s
 
-  ask_same : (by : By) (q : ℕ) (r : Registration) (s : Turn P) → Same s (asks_notification by q r s)
+  ask_same : (by : Caller) (q : ℕ) (r : Registration) (s : Turn P) → Same s (asks_notification by q r s)
   ask_same by q r s = if_same guards (is_notifying s.machine q) s _ _ (λ e. (returned guards by res.Busy 0 s)) (λ e. (returned guards by res.Zero 0 s))
 
   -- ---- threads
@@ -157,7 +157,7 @@ module _ {P : Type 0} (bodies : Bodies P) (guards : BodyOf → P → List ℕ) (
       begun i (inl k) q = subst (λ (th : Thread P). Clean guards th) (sym k.1) (started_clean t mask s.machine.now (thread_at s.machine t) e (subst (λ (j : ℕ). Clean guards (thread_at s.machine j)) (sym k.0) q))
       begun i (inr k) q = subst (λ (th : Thread P). Clean guards th) (sym k) q
 
-  create_same : (by : By) (u : ℕ) (s : Turn P) → Same s (creates bodies by u s)
+  create_same : (by : Caller) (u : ℕ) (s : Turn P) → Same s (creates bodies by u s)
   create_same by u s =
       let back = returns by res.Zero 0 s in
       if_same guards (is_dormant (thread_at s.machine u).status) s _ _
@@ -167,7 +167,7 @@ module _ {P : Type 0} (bodies : Bodies P) (guards : BodyOf → P → List ℕ) (
   joiner_same : (t : ℕ) (j : Joiner) (s : Turn P) → Same s (changes t (with_joiner j) s)
   joiner_same t j s = change guards t (with_joiner j) s (λ th q. q)
 
-  join_same : (by : By) (u : ℕ) (s : Turn P) → Same s (joins by u s)
+  join_same : (by : Caller) (u : ℕ) (s : Turn P) → Same s (joins by u s)
   join_same by u s =
       if_same guards (u == by.thread) s _ _ (λ e. (returned guards by res.Deadlk 0 s))
       (λ e. if_same guards (is_dormant (thread_at s.machine u).status) s _ _ (λ e. (returned guards by res.Srch 0 s))
@@ -187,14 +187,14 @@ module _ {P : Type 0} (bodies : Bodies P) (guards : BodyOf → P → List ℕ) (
   leave_wait_same None u s = λ i q. q
   leave_wait_same (Some w) u s = leave_same w.wait u s
 
-  cancel_same : (by : By) (u : ℕ) (s : Turn P) → Same s (cancels by u s)
+  cancel_same : (by : Caller) (u : ℕ) (s : Turn P) → Same s (cancels by u s)
   cancel_same by u s =
       let back = returns by res.Zero 0 s in let asked = changes u requested back in
       if_same guards (lives s.machine u) s _ _
       (λ e. (λ i q. (if_same guards (request_acts (thread_at asked.machine u)) asked (leaves_wait (waiting_of asked.machine u) u asked) asked (λ e. leave_wait_same (waiting_of asked.machine u) u asked) (λ e i q. q)) i ((change guards u requested back (λ th q. q)) i ((returned guards by res.Zero 0 s) i q))))
       (λ e. (returned guards by res.Srch 0 s))
 
-  price_same : (by : By) (u p : ℕ) (s : Turn P) → Same s (sets_priority by u p s)
+  price_same : (by : Caller) (u p : ℕ) (s : Turn P) → Same s (sets_priority by u p s)
   price_same by u p s =
       let new = changes u (with_priority p) s in
       if_same guards (lives s.machine u) s _ _
@@ -202,7 +202,7 @@ module _ {P : Type 0} (bodies : Bodies P) (guards : BodyOf → P → List ℕ) (
       (λ e i q. returned guards by res.Zero 0 new i (change guards u (with_priority p) s (λ th q. q) i q)) (λ e. returned guards by res.Inval 0 s))
       (λ e. returned guards by res.Srch 0 s)
 
-  policy_same : (by : By) (u : ℕ) (new : Policy) (s : Turn P) → Same s (sets_policy by u new s)
+  policy_same : (by : Caller) (u : ℕ) (new : Policy) (s : Turn P) → Same s (sets_policy by u new s)
   policy_same by u new s =
       let back = returns by res.Zero 0 s in let renewed = changes u (with_policy new s.machine.now) back in
       let live = activates_if (can_run s.machine u) u renewed in
@@ -210,28 +210,28 @@ module _ {P : Type 0} (bodies : Bodies P) (guards : BodyOf → P → List ℕ) (
       (λ e. (λ i q. (moved (not (owns_boosting live.machine u)) u live) i ((activated_if guards (can_run s.machine u) u renewed) i ((change guards u (with_policy new s.machine.now) back (λ th q. q)) i ((returned guards by res.Zero 0 s) i q)))))
       (λ e. (returned guards by res.Srch 0 s))
 
-  mask_same : (by : By) (f : ℕ → ℕ) (s : Turn P) → Same s (sets_mask by f s)
+  mask_same : (by : Caller) (f : ℕ → ℕ) (s : Turn P) → Same s (sets_mask by f s)
   mask_same by f s =
       let here = changes by.thread (λ th. record th { mask = f th.mask }) s in
       λ i q. returned guards by res.Zero 0 here i (change guards by.thread (λ th. record th { mask = f th.mask }) s (λ th q. q) i q)
 
-  enabled_same : (by : By) (b : Bool) (s : Turn P) → Same s (returns by res.Zero 0 (changes by.thread (λ th. record th { is_enabled = b }) s))
+  enabled_same : (by : Caller) (b : Bool) (s : Turn P) → Same s (returns by res.Zero 0 (changes by.thread (λ th. record th { is_enabled = b }) s))
   enabled_same by b s =
       let here = changes by.thread (λ th. record th { is_enabled = b }) s in
       λ i q. returned guards by res.Zero 0 here i (change guards by.thread (λ th. record th { is_enabled = b }) s (λ th q. q) i q)
 
-  reply_same : (by : By) (r : Res) (v : ℕ) (s : Turn P) → Same s (returns by r v s)
+  reply_same : (by : Caller) (r : Res) (v : ℕ) (s : Turn P) → Same s (returns by r v s)
   reply_same by r v s = returned guards by r v s
 
   ending_same : (t v : ℕ) (s : Turn P) → Same s (changes t (ending_with v) s)
   ending_same t v s = change guards t (ending_with v) s (ending_clean guards v)
 
-  signalled_same : (by : By) (n c : ℕ) (s : Turn P) → Same s (signals_best_of n c (returns by res.Zero 0 s))
+  signalled_same : (by : Caller) (n c : ℕ) (s : Turn P) → Same s (signals_best_times n c (returns by res.Zero 0 s))
   signalled_same by n c s = λ i q. (signals_same guards n c (returns by res.Zero 0 s)) i ((returned guards by res.Zero 0 s) i q)
 
   -- ---- the table
 
-  call_same : (by : By) (c : Call) (s : Turn P) → is_guarding c ≡ false → Same s (call_effect bodies by c s)
+  call_same : (by : Caller) (c : Call) (s : Turn P) → is_guarding c ≡ false → Same s (call_effect bodies by c s)
   call_same by call.Yield s plain = reply_same by res.Zero 0 (moves by.thread s)
   call_same by (call.Create u) s plain = create_same by u s
   call_same by (call.Join u) s plain = join_same by u s
@@ -271,15 +271,15 @@ module _ {P : Type 0} (bodies : Bodies P) (guards : BodyOf → P → List ℕ) (
   call_same by (call.SigmaskBlock set) s plain = mask_same by (with_signals set) s
   call_same by (call.SigmaskUnblock set) s plain = mask_same by (without_signals set) s
   call_same by (call.SigmaskSet set) s plain = mask_same by (λ (mask : ℕ). set) s
-  call_same by (call.Sigwaitinfo set) s plain = accept_same (selected s.machine (λ (r : SignalRecord). has_signal set r.signal && goes_to by.thread r.target)) None by set s
-  call_same by (call.Sigtimedwait set n) s plain = accept_same (selected s.machine (λ (r : SignalRecord). has_signal set r.signal && goes_to by.thread r.target)) (Some n) by set s
+  call_same by (call.Sigwaitinfo set) s plain = accept_same (selected s.machine (λ (r : SignalRecord). has_signal set r.signal && may_go_to by.thread r.target)) None by set s
+  call_same by (call.Sigtimedwait set n) s plain = accept_same (selected s.machine (λ (r : SignalRecord). has_signal set r.signal && may_go_to by.thread r.target)) (Some n) by set s
   call_same by (call.MqSend q len p v) s plain = message_same by q len (record { priority = p; value = number_of s.machine by.thread v }) None s
   call_same by (call.MqTimedsend q len p v at) s plain = message_same by q len (record { priority = p; value = number_of s.machine by.thread v }) (Some (number_of s.machine by.thread at)) s
   call_same by (call.MqReceive q) s plain = receive_same (next_message (queue_at s.machine q).messages) by q None s
   call_same by (call.MqTimedreceive q at) s plain = receive_same (next_message (queue_at s.machine q).messages) by q (Some (number_of s.machine by.thread at)) s
   call_same by (call.MqNotify q signal v) s plain = ask_same by q (record { signal = signal; value = number_of s.machine by.thread v }) s
 
-  pub made_same : (by : By) (s : Turn P) → is_guarding by.call ≡ false → Same s (makes_call bodies by s)
+  pub made_same : (by : Caller) (s : Turn P) → is_guarding by.call ≡ false → Same s (makes_call bodies by s)
   made_same by s plain =
       if_same guards (is_cancellation_point by.call && request_acts (thread_at s.machine by.thread)) s _ _ (λ e. ending_same by.thread cancelled_value (tells (event.Cancel by.thread) s)) (λ e. call_same by by.call s plain)
 
@@ -292,12 +292,12 @@ module _ {P : Type 0} (bodies : Bodies P) (guards : BodyOf → P → List ℕ) (
 
   -- ---- items
 
-  refill_same : (t : ℕ) (o : Option ServerState) (s : Turn P) → Same s (refills_for t o s)
+  refill_same : (t : ℕ) (o : Option ServerState) (s : Turn P) → Same s (refills_server t o s)
   refill_same t None s = λ i q. q
   refill_same t (Some server) s =
       let fed = tells (event.Refill t (amount_of (oldest_pending server)) (refill server).capacity) (changes t (with_server refill) s) in λ i q. (activated_if guards (regains_high server && can_run s.machine t) t fed) i ((change guards t (with_server refill) s (λ th q. q)) i q)
 
-  time_same : (wait : Wait) (t : ℕ) (s : Turn P) → Same s (times_out_of wait t s)
+  time_same : (wait : Wait) (t : ℕ) (s : Turn P) → Same s (wait_times_out wait t s)
   time_same (for_condition c k) t s = contend_same guards t cond_end.Timedout s
   time_same for_time t s = wakes_same guards t res.Zero 0 s
   time_same (for_signal set) t s = wakes_same guards t res.Again 0 s
@@ -328,13 +328,13 @@ module _ {P : Type 0} (bodies : Bodies P) (guards : BodyOf → P → List ℕ) (
 
   -- ---- the tick's end
 
-  plan_same : (t : ℕ) (o : Option ServerState) (s : Turn P) → Same s (plans_for t o s)
+  plan_same : (t : ℕ) (o : Option ServerState) (s : Turn P) → Same s (plans_server t o s)
   plan_same t None s = λ i q. q
   plan_same t (Some server) s = change guards t (with_server plan) s (λ th q. q)
 
   pub end_same : (e : TickEnd) (t : ℕ) (s : Turn P) → Same s (ends_tick e t s)
   end_same planning t s = plan_same t (thread_at s.machine t).server s
   end_same exhausting t s =
-      let told = tells (event.Exhaust t) s in let done = plans_for t (thread_at s.machine t).server told in λ i q. (moved (not (owns_boosting done.machine t)) t done) i ((plan_same t (thread_at s.machine t).server told) i q)
+      let told = tells (event.Exhaust t) s in let done = plans_server t (thread_at s.machine t).server told in λ i q. (moved (not (owns_boosting done.machine t)) t done) i ((plan_same t (thread_at s.machine t).server told) i q)
   end_same slicing t s = λ i q. (moved (can_run s.machine t) t (changes t without_slice s)) i ((change guards t without_slice s (λ th q. q)) i q)
   end_same nothing t s = λ i q. q

@@ -13,12 +13,12 @@ use Rattle.machine_rules.specs.State.{Frame, SignalRecord, Thread, Wait, Waiting
 use Rattle.machine_rules.specs.Threads.{action_of, is_dormant, is_main, no_thread, thread_at, thread_in, waiting_of}
 use Rattle.machine_rules.specs.Waiters.{Waiter, best_waiter}
 use Rattle.machine_rules.specs.CallNames.{name_of}
-use Rattle.machine_rules.specs.Turns.{By, Turn, answered, changes, changes_mutex, frames_answered, moves, returns, tells}
+use Rattle.machine_rules.specs.Turns.{Caller, Turn, answered, changes, changes_mutex, frames_answered, moves, returns, tells}
 use Rattle.machine_rules.specs.Servers.{activates_if, activates_server, high_server, with_server}
 use Rattle.machine_rules.specs.Waking.{blocks, call_in, cancelled_value, ending_with, put_to_wait, wakes, wakes_cancelled, wakes_telling, woken}
 use Rattle.machine_rules.specs.Mutexes.{hands_over, is_free, releases, returns_from_wait, taken_by, waits_for_mutex, wakes_owner}
-use Rattle.machine_rules.specs.Conditions.{contends, contends_for, released_mutex, signals_best_of, signals_waiter, waits_on_condition}
-use Rattle.machine_rules.specs.Signals.{acceptor, becomes_pending, delivers, generates, generates_for, is_ignore, tells_overrun}
+use Rattle.machine_rules.specs.Conditions.{contends, reacquires_or_waits, released_mutex, signals_best_times, signals_waiter, waits_on_condition}
+use Rattle.machine_rules.specs.Signals.{acceptor, becomes_pending, delivers, generates, is_accepted_or_pends, is_ignore, tells_overrun}
 use Rattle.machine_rules.specs.declared.frame.BodyOf.{BodyOf}
 use Rattle.machine_rules.specs.declared.frame.BodyOf.TheVariants as body_of
 use Rattle.machine_rules.specs.Lists.{changed_at}
@@ -77,7 +77,7 @@ module _ {P : Type 0} (guards : BodyOf → P → List ℕ) where
   pub ending_clean : (n : ℕ) (th : Thread P) → Clean guards th → Clean guards (ending_with n th)
   ending_clean n th q = (λ e. absurd (grind arith), q.1, q.2)
 
-  pub returned : (by : By) (r : Res) (v : ℕ) (s : Turn P) → Same s (returns by r v s)
+  pub returned : (by : Caller) (r : Res) (v : ℕ) (s : Turn P) → Same s (returns by r v s)
   returned by r v s = change by.thread (answered r v) s (answered_clean r v)
 
   pub activated : (t : ℕ) (o : Option ServerState) (s : Turn P) → Same s (activates_server t o s)
@@ -115,13 +115,13 @@ module _ {P : Type 0} (guards : BodyOf → P → List ℕ) where
   pub release_same : (k : ℕ) (s : Turn P) → Same s (releases k s)
   release_same k s = handed_same (best_waiter s.machine (waits_for_mutex k)) k s
 
-  pub sleep_same : (by : By) (wait : Wait) (due : Option ℕ) (s : Turn P) → Same s (blocks by wait due s)
+  pub sleep_same : (by : Caller) (wait : Wait) (due : Option ℕ) (s : Turn P) → Same s (blocks by wait due s)
   sleep_same by wait due s = change by.thread (put_to_wait (record { wait = wait; serial = s.machine.next_serial; due = due; call = by.call })) s (blocked_clean (record { wait = wait; serial = s.machine.next_serial; due = due; call = by.call }))
 
   pub doze_same : (w : Waiting) (t : ℕ) (s : Turn P) → Same s (changes t (put_to_wait w) s)
   doze_same w t s = change t (put_to_wait w) s (blocked_clean w)
 
-  contends_for_same : (o : Option ℕ) (t : ℕ) (how : CondEnd) (s : Turn P) → Same s (contends_for o t how s)
+  contends_for_same : (o : Option ℕ) (t : ℕ) (how : CondEnd) (s : Turn P) → Same s (reacquires_or_waits o t how s)
   contends_for_same None t how s = λ i q. q
   contends_for_same (Some k) t how s =
       if_same (is_free s.machine k) s (returns_from_wait how t (changes_mutex k (taken_by t) s)) (blocks (record { thread = t; call = call_in (waiting_of s.machine t) }) (for_mutex_again k how) None s)
@@ -134,9 +134,9 @@ module _ {P : Type 0} (guards : BodyOf → P → List ℕ) where
   signal_same None s = λ i q. q
   signal_same (Some w) s = contend_same w.thread cond_end.Signalled s
 
-  pub signals_same : (n c : ℕ) (s : Turn P) → Same s (signals_best_of n c s)
+  pub signals_same : (n c : ℕ) (s : Turn P) → Same s (signals_best_times n c s)
   signals_same zero c s = λ i q. q
-  signals_same (suc n) c s = let before = signals_best_of n c s in λ i q. (signal_same (best_waiter before.machine (waits_on_condition c)) before) i ((signals_same n c s) i q)
+  signals_same (suc n) c s = let before = signals_best_times n c s in λ i q. (signal_same (best_waiter before.machine (waits_on_condition c)) before) i ((signals_same n c s) i q)
 
   pub overrun_same : (o : Option ℕ) (s : Turn P) → Same s (tells_overrun o s)
   overrun_same None s = λ i q. q
@@ -148,6 +148,6 @@ module _ {P : Type 0} (guards : BodyOf → P → List ℕ) where
   pub generate_same : (r : SignalRecord) (s : Turn P) → Same s (generates r s)
   generate_same r s = by_acceptor (acceptor s.machine r)
     where
-      by_acceptor : (o : Option Waiter) → Same s (generates_for o r s)
+      by_acceptor : (o : Option Waiter) → Same s (is_accepted_or_pends o r s)
       by_acceptor (Some w) = λ i q. wakes_same w.thread res.Zero r.signal (delivers w.thread r s) i (deliver_same w.thread r s i q)
       by_acceptor None = if_same (is_ignore (action_of s.machine r.signal)) s s (becomes_pending r s) (λ e i q. q) (λ e i q. q)

@@ -18,10 +18,10 @@ use Rattle.machine_rules.specs.declared.signal.SigAction.TheVariants as action
 use Rattle.machine_rules.specs.Bodies.{Bodies, seen_by}
 use Rattle.machine_rules.specs.State.{Frame, Machine, SignalRecord, Thread, Waiting}
 use Rattle.machine_rules.specs.Threads.{action_of, can_run, is_dormant, is_main, thread_at, top_kind, top_left, waiting_of}
-use Rattle.machine_rules.specs.Turns.{By, Turn, changes, changes_pending, returns, tells}
+use Rattle.machine_rules.specs.Turns.{Caller, Turn, changes, changes_pending, returns, tells}
 use Rattle.machine_rules.specs.Waking.{new_frame, on_top}
 use Rattle.machine_rules.specs.Signals.{delivers, without_record}
-use Rattle.machine_rules.specs.Lives.{finishes_in, without_life, without_target, without_top}
+use Rattle.machine_rules.specs.Lives.{ends_frame, without_life, without_target, without_top}
 use Rattle.machine_rules.specs.Cancellation.{runs_cleanup_if, without_cleanup}
 use Rattle.machine_rules.specs.Calls.{makes_call, unit_effect}
 use Rattle.machine_rules.specs.Delivery.{acts, catches, interrupts, sweeps_all, sweeps_thread, taken_by_sweep, takes_record, ticks_left}
@@ -262,7 +262,7 @@ module _ {P : Type 0} (bodies : Bodies P) (guards : BodyOf → P → List ℕ) (
     lt : t < length s.machine.threads
     lt = running_within s.machine.threads t runs
 
-    finished : (kind : FrameKind) → top_kind (thread_at s.machine t).frames ≡ kind → Before guards unit.Finish (thread_at s.machine t) → (v : ℕ) → Clean guards (thread_at (finishes_in kind t s).machine v)
+    finished : (kind : FrameKind) → top_kind (thread_at s.machine t).frames ≡ kind → Before guards unit.Finish (thread_at s.machine t) → (v : ℕ) → Clean guards (thread_at (ends_frame kind t s).machine v)
     finished frame.Main e b v =
         joined_same bodies guards guarded (thread_at s.machine t).joiner t (changes_pending (without_target t) (tells (event.Exit t) (changes t without_life s))) v
         (at_change t without_life s lt others (λ k. gone_in (is_main (top_kind (thread_at s.machine t).frames)) (thread_at s.machine t).cleanups (main_guards guards (thread_at s.machine t).frames) (ap is_main e) (b.pushed k), λ k. absurd (grind arith), tt) v)
@@ -279,12 +279,12 @@ module _ {P : Type 0} (bodies : Bodies P) (guards : BodyOf → P → List ℕ) (
 
     made : (c : Call) → Before guards (unit.Make c) (thread_at s.machine t) → (v : ℕ) → Clean guards (thread_at (makes_call bodies (record { thread = t; call = c }) s).machine v)
     made (call.Push u) b v =
-        let by : By = record { thread = t; call = call.Push u } in
+        let by : Caller = record { thread = t; call = call.Push u } in
         returned guards by res.Zero 0 (changes t (λ th. record th { cleanups = u ∷ th.cleanups }) s) v
         (at_change t (λ th. record th { cleanups = u ∷ th.cleanups }) s lt others
         (λ k. pushed_in (is_main (top_kind (thread_at s.machine t).frames)) u (thread_at s.machine t).cleanups (main_guards guards (thread_at s.machine t).frames) b.aside (b.pushed k), λ k. absurd (contra k b.awake), b.placed) v)
     made (call.Pop runs') b v =
-        let by : By = record { thread = t; call = call.Pop runs' } in
+        let by : Caller = record { thread = t; call = call.Pop runs' } in
         let out = changes t without_cleanup s in
         change guards t (runs_cleanup_if runs' bodies (thread_at s.machine t).cleanups) (returns by res.Zero 0 out) (cleaned runs' (thread_at s.machine t).cleanups) v
         (returned guards by res.Zero 0 out v

@@ -10,7 +10,7 @@ use Rattle.machine_rules.specs.Bodies.{Bodies}
 use Rattle.machine_rules.specs.State.{Machine, Thread, for_end, waits_to_join}
 use Rattle.machine_rules.specs.Threads.{can_run, is_runnable, no_thread, thread_at, thread_in}
 use Rattle.machine_rules.specs.Turns.{Turn, changes, moves, moves_if, tells}
-use Rattle.machine_rules.specs.Servers.{activates_if, activates_server, amount_of, high_server, plans_for, refills_for, regains_high, with_server}
+use Rattle.machine_rules.specs.Servers.{activates_if, activates_server, amount_of, high_server, plans_server, refills_server, regains_high, with_server}
 use Rattle.machine_rules.specs.Waking.{ending_with, on_top, put_to_wait, started, woken}
 use Rattle.machine_rules.specs.Lives.{with_joiner, without_life, without_top}
 use Rattle.machine_rules.specs.Cancellation.{without_cleanup}
@@ -81,13 +81,13 @@ module _ {P : Type 0} (before : Machine P) where
   activated_if_come true t s q = activated_come t (thread_at s.machine t).server s q
   activated_if_come false t s q = q
 
-  refilled_come : (t : ℕ) (o : Option ServerState) (s : Turn P) → Come before s → Come before (refills_for t o s)
+  refilled_come : (t : ℕ) (o : Option ServerState) (s : Turn P) → Come before s → Come before (refills_server t o s)
   refilled_come t None s q = q
   refilled_come t (Some server) s q =
       let k = kept_come t (with_server refill) s (λ th. refl) q in
       activated_if_come (regains_high server && can_run s.machine t) t (tells (event.Refill t (amount_of (oldest_pending server)) (refill server).capacity) (changes t (with_server refill) s)) (record { lists = k.lists; each = k.each })
 
-  planned_come : (t : ℕ) (o : Option ServerState) (s : Turn P) → Come before s → Come before (plans_for t o s)
+  planned_come : (t : ℕ) (o : Option ServerState) (s : Turn P) → Come before s → Come before (plans_server t o s)
   planned_come t None s q = q
   planned_come t (Some server) s q = let k = kept_come t (with_server plan) s (λ th. refl) q in record { lists = k.lists; each = k.each }
 

@@ -17,7 +17,7 @@ use Rattle.machine_rules.specs.State.{Frame, Machine, Thread, for_end, waits_to_
 use Rattle.machine_rules.specs.Threads.{can_run, is_runnable, no_thread, thread_at, thread_in}
 use Rattle.machine_rules.specs.Declarations.{ThreadDecl, mutex_kind, named, threads_of}
 use Rattle.machine_rules.specs.Turns.{Turn, changes, moves_if, tells}
-use Rattle.machine_rules.specs.Servers.{plans_for, with_server}
+use Rattle.machine_rules.specs.Servers.{plans_server, with_server}
 use Rattle.machine_rules.specs.Waking.{put_to_wait}
 use Rattle.machine_rules.specs.Lives.{with_joiner}
 use Rattle.machine_rules.specs.Settling.{settled}
@@ -156,7 +156,7 @@ module _ {P : Type 0} (bodies : Bodies P) where
 
   -- ---- the tick's end
 
-  planned : (t : ℕ) (o : Option ServerState) (s : Turn P) → AllFit s.machine → AllFit (plans_for t o s).machine
+  planned : (t : ℕ) (o : Option ServerState) (s : Turn P) → AllFit s.machine → AllFit (plans_server t o s).machine
   planned t None s q = q
   planned t (Some server) s q = let fit = one bodies None t (with_server plan) s planned_fits q in record { threads = fit.threads; mutexes = fit.mutexes }
 

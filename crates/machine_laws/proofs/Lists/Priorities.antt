@@ -14,9 +14,9 @@ use Rattle.machine_rules.specs.Lists.{changed_at, greatest, is}
 use Rattle.machine_rules.specs.Bodies.{Bodies}
 use Rattle.machine_rules.specs.State.{Machine, Mutex, Thread}
 use Rattle.machine_rules.specs.Threads.{can_run, no_mutex, no_thread, thread_at}
-use Rattle.machine_rules.specs.Priorities.{Claim, assigned_in, assigned_under, base_in, ceiling_for, ceiling_under, claims, exec_in, exec_within, lenders_in}
+use Rattle.machine_rules.specs.Priorities.{Claim, assigned_in, assigned_under, base_in, owner_ceiling, ceiling_under, claims, exec_in, exec_within, inherit_waiters_in}
 use Rattle.machine_rules.specs.Turns.{Turn, changes, changes_mutex, moves, tells}
-use Rattle.machine_rules.specs.Servers.{activates_if, activates_server, amount_of, charged, high_server, refills_for, regains_high, server_of, with_server}
+use Rattle.machine_rules.specs.Servers.{activates_if, activates_server, amount_of, charged, high_server, refills_server, regains_high, server_of, with_server}
 use Rattle.machine_rules.specs.Waking.{ending_with, on_top, put_to_wait, started, woken}
 use Rattle.machine_rules.specs.Mutexes.{counted_down, counted_up, freed, taken_by}
 use Rattle.machine_rules.specs.Lives.{with_joiner, without_life, without_top}
@@ -76,7 +76,7 @@ max_small a b h k = grind arith
 max_left : (a b : ℕ) → 1 ≤ a → 1 ≤ max a b
 max_left a b h = grind arith
 
-ceiling_small : (t : ℕ) (k : Mutex) → MutexFits k → ceiling_for t k ≤ 255
+ceiling_small : (t : ℕ) (k : Mutex) → MutexFits k → owner_ceiling t k ≤ 255
 ceiling_small t k h = by_case (is k.owner t)
   where
     under : (p : Protocol) → ProtocolFits p → ceiling_under p ≤ 255
@@ -88,9 +88,9 @@ ceiling_small t k h = by_case (is k.owner t)
     by_case true = under k.protocol h
     by_case false = omega arith
 
-ceilings_small : (t : ℕ) (ks : List Mutex) → Each MutexFits ks → greatest (map (ceiling_for t) ks) ≤ 255
+ceilings_small : (t : ℕ) (ks : List Mutex) → Each MutexFits ks → greatest (map (owner_ceiling t) ks) ≤ 255
 ceilings_small t [] each = omega arith
-ceilings_small t (k ∷ ks) each = max_small (ceiling_for t k) (greatest (map (ceiling_for t) ks)) (ceiling_small t k each.0) (ceilings_small t ks each.1)
+ceilings_small t (k ∷ ks) each = max_small (owner_ceiling t k) (greatest (map (owner_ceiling t) ks)) (ceiling_small t k each.0) (ceilings_small t ks each.1)
 
 greatest_small : (f : ℕ → ℕ) (ns : List ℕ) → ((n : ℕ) → f n ≤ 255) → greatest (map f ns) ≤ 255
 greatest_small f [] h = omega arith
@@ -98,19 +98,19 @@ greatest_small f (n ∷ ns) h = max_small (f n) (greatest (map f ns)) (h n) (gre
 
 module _ {P : Type 0} (m : Machine P) (fits : AllFit m) where
   base_small : (t : ℕ) → base_in (claims m.threads) m.mutexes t ≤ 255
-  base_small t = max_small (assigned_in (claims m.threads) m.mutexes t) (greatest (map (ceiling_for t) m.mutexes)) (claimed_small m.threads t fits.threads) (ceilings_small t m.mutexes fits.mutexes)
+  base_small t = max_small (assigned_in (claims m.threads) m.mutexes t) (greatest (map (owner_ceiling t) m.mutexes)) (claimed_small m.threads t fits.threads) (ceilings_small t m.mutexes fits.mutexes)
 
   within_small : (steps t : ℕ) → exec_within (claims m.threads) m.mutexes steps t ≤ 255
   within_small zero t = base_small t
   within_small (suc steps) t =
-      max_small (base_in (claims m.threads) m.mutexes t) (greatest (map (exec_within (claims m.threads) m.mutexes steps) (lenders_in (claims m.threads) m.mutexes t))) (base_small t)
-      (greatest_small (exec_within (claims m.threads) m.mutexes steps) (lenders_in (claims m.threads) m.mutexes t) (within_small steps))
+      max_small (base_in (claims m.threads) m.mutexes t) (greatest (map (exec_within (claims m.threads) m.mutexes steps) (inherit_waiters_in (claims m.threads) m.mutexes t))) (base_small t)
+      (greatest_small (exec_within (claims m.threads) m.mutexes steps) (inherit_waiters_in (claims m.threads) m.mutexes t) (within_small steps))
 
   within_positive : (steps t : ℕ) → t < length m.threads → 1 ≤ exec_within (claims m.threads) m.mutexes steps t
-  within_positive zero t lt = max_left (assigned_in (claims m.threads) m.mutexes t) (greatest (map (ceiling_for t) m.mutexes)) (claimed_positive m.threads t lt fits.threads)
+  within_positive zero t lt = max_left (assigned_in (claims m.threads) m.mutexes t) (greatest (map (owner_ceiling t) m.mutexes)) (claimed_positive m.threads t lt fits.threads)
   within_positive (suc steps) t lt =
-      max_left (base_in (claims m.threads) m.mutexes t) (greatest (map (exec_within (claims m.threads) m.mutexes steps) (lenders_in (claims m.threads) m.mutexes t)))
-      (max_left (assigned_in (claims m.threads) m.mutexes t) (greatest (map (ceiling_for t) m.mutexes)) (claimed_positive m.threads t lt fits.threads))
+      max_left (base_in (claims m.threads) m.mutexes t) (greatest (map (exec_within (claims m.threads) m.mutexes steps) (inherit_waiters_in (claims m.threads) m.mutexes t)))
+      (max_left (assigned_in (claims m.threads) m.mutexes t) (greatest (map (owner_ceiling t) m.mutexes)) (claimed_positive m.threads t lt fits.threads))
 
   pub priorities : HavePriorities m
   unfolding exec_in
@@ -177,7 +177,7 @@ module _ {P : Type 0} (bodies : Bodies P) (who : Option ℕ) where
   activated_if true t s q = activated t (thread_at s.machine t).server s q
   activated_if false t s q = q
 
-  refilled : (t : ℕ) (o : Option ServerState) (s : Turn P) → Law s → Law (refills_for t o s)
+  refilled : (t : ℕ) (o : Option ServerState) (s : Turn P) → Law s → Law (refills_server t o s)
   refilled t None s q = q
   refilled t (Some server) s q =
       let fit = one t (with_server refill) s (λ th h. (h.0, same_parameters refill refilled_parameters th.policy th.server h.1)) q in

@@ -11,8 +11,8 @@ use Rattle.machine_rules.specs.State.{Machine, Mutex, Status, Thread, Wait, Wait
 use Rattle.machine_rules.specs.Threads.{can_run, is_runnable, mutex_at, no_mutex, no_thread, thread_at, waiting_in, waiting_of}
 use Rattle.machine_rules.specs.Priorities.{mutex_awaited_by, mutex_waited}
 use Rattle.machine_rules.specs.Waiters.{somebody_waits, waits_so}
-use Rattle.machine_rules.specs.Turns.{By, Turn, changes, changes_mutex, moves, tells}
-use Rattle.machine_rules.specs.Servers.{activates_if, activates_server, amount_of, high_server, refills_for, regains_high, with_server}
+use Rattle.machine_rules.specs.Turns.{Caller, Turn, changes, changes_mutex, moves, tells}
+use Rattle.machine_rules.specs.Servers.{activates_if, activates_server, amount_of, high_server, refills_server, regains_high, with_server}
 use Rattle.machine_rules.specs.Waking.{ending_with, on_top, put_to_wait, started, woken}
 use Rattle.machine_rules.specs.Lives.{with_joiner, without_life, without_top}
 use Rattle.machine_rules.specs.Cancellation.{without_cleanup}
@@ -77,7 +77,7 @@ module _ {P : Type 0} where
   activated_if_many true t s = activated_many t (thread_at s.machine t).server s
   activated_if_many false t s = refl
 
-  refilled_many : (t : ℕ) (o : Option ServerState) (s : Turn P) → length (refills_for t o s).machine.threads ≡ length s.machine.threads
+  refilled_many : (t : ℕ) (o : Option ServerState) (s : Turn P) → length (refills_server t o s).machine.threads ≡ length s.machine.threads
   refilled_many t None s = refl
   refilled_many t (Some server) s =
       let ev = event.Refill t (amount_of (oldest_pending server)) (refill server).capacity in
@@ -223,10 +223,10 @@ module _ {P : Type 0} (bodies : Bodies P) (who : Option ℕ) where
     safe : (k : ℕ) → mutex_waited wait ≡ Some k → (n : ℕ) → leads (own_of m) (aw_of m) n (Some k) t ≡ false
     owns_none : is_in_condition_wait wait ≡ true → owned_by m t ≡ []
 
-  abbrev blocks_move : By → Wait → Option ℕ → Move P
+  abbrev blocks_move : Caller → Wait → Option ℕ → Move P
   blocks_move by wait due = blocks_for by wait due
 
-  blocking : (by : By) (wait : Wait) (due : Option ℕ) (s : Turn P) → May who (blocks_for by wait due) s → MayBlock s.machine by.thread wait → Law s → Law (does bodies (blocks_for by wait due) s)
+  blocking : (by : Caller) (wait : Wait) (due : Option ℕ) (s : Turn P) → May who (blocks_for by wait due) s → MayBlock s.machine by.thread wait → Law s → Law (does bodies (blocks_for by wait due) s)
   blocking by wait due s may h q =
       let move = blocks_for by wait due in
       let n = (does bodies move s).machine in

@@ -8,8 +8,8 @@ use Rattle.machine_rules.specs.declared.dispatch.LastDispatch.{LastDispatch}
 use Rattle.machine_rules.specs.Bodies.{Bodies}
 use Rattle.machine_rules.specs.State.{Frame, Joiner, Machine, Thread, Waiting, for_end, for_mutex_again, nobody, waits_to_join}
 use Rattle.machine_rules.specs.Threads.{can_run, is_runnable, no_thread, thread_at, waiting_in, waiting_of}
-use Rattle.machine_rules.specs.Turns.{By, Turn, changes, moves_if, tells, turn_of}
-use Rattle.machine_rules.specs.Servers.{plans_for, with_server}
+use Rattle.machine_rules.specs.Turns.{Caller, Turn, changes, moves_if, tells, turn_of}
+use Rattle.machine_rules.specs.Servers.{plans_server, with_server}
 use Rattle.machine_rules.specs.Waking.{put_to_wait}
 use Rattle.machine_rules.specs.Lives.{with_joiner}
 use Rattle.machine_rules.specs.Settling.{settled}
@@ -83,10 +83,10 @@ module _ {P : Type 0} (bodies : Bodies P) (who : Option ℕ) where
       Law s → Law (changes t f s)
   recast t f s h j q = by_status (recasts t f) s h (changed_joiners bodies who t f s (λ u e. sym j ∙ e) (λ w v e g x. ap waiting_in h ∙ e) q.joiners) q
 
-  asleep : (by : By) (w : Waiting) (s : Turn P) → Runs who s.machine by.thread → JoinersWait s → JoinersWait (changes by.thread (put_to_wait w) s)
+  asleep : (by : Caller) (w : Waiting) (s : Turn P) → Runs who s.machine by.thread → JoinersWait s → JoinersWait (changes by.thread (put_to_wait w) s)
   asleep by w s runs j = idle bodies who by.thread (put_to_wait w) s (λ th. refl) (running_idle bodies who (thread_at s.machine by.thread).status runs.0) j
 
-  plans_keep : (t : ℕ) (o : Option ServerState) (s : Turn P) → Law s → Law (plans_for t o s)
+  plans_keep : (t : ℕ) (o : Option ServerState) (s : Turn P) → Law s → Law (plans_server t o s)
   plans_keep t None s q = q
   plans_keep t (Some server) s q = recast t (with_server plan) s refl refl q
 
@@ -102,10 +102,10 @@ module _ {P : Type 0} (bodies : Bodies P) (who : Option ℕ) where
 
   -- ---- a join
 
-  abbrev told : By → ℕ → Turn P → Turn P
+  abbrev told : Caller → ℕ → Turn P → Turn P
   told by u s = changes u (with_joiner (waits_to_join by.thread)) s
 
-  abbrev for_it : By → ℕ → Waiting
+  abbrev for_it : Caller → ℕ → Waiting
   for_it by u = record { wait = for_end u; serial = 0; due = None; call = by.call }
 
   joiner_of : {a b : ℕ} → waits_to_join a ≡ waits_to_join b → a ≡ b
@@ -115,10 +115,10 @@ module _ {P : Type 0} (bodies : Bodies P) (who : Option ℕ) where
       of_joiner (waits_to_join t) = t
       of_joiner j = a
 
-  told_runs : (by : By) (u : ℕ) (s : Turn P) → Runs who s.machine by.thread → Runs who (told by u s).machine by.thread
+  told_runs : (by : Caller) (u : ℕ) (s : Turn P) → Runs who s.machine by.thread → Runs who (told by u s).machine by.thread
   told_runs by u s runs = (ap is_runnable (status_kept u by.thread (with_joiner (waits_to_join by.thread)) (λ th. refl) s) ∙ runs.0, runs.1)
 
-  joins_so : (by : By) (u : ℕ) (s : Turn P) → Runs who s.machine by.thread → JoinersWait s → JoinersWait (changes by.thread (put_to_wait (for_it by u)) (told by u s))
+  joins_so : (by : Caller) (u : ℕ) (s : Turn P) → Runs who s.machine by.thread → JoinersWait s → JoinersWait (changes by.thread (put_to_wait (for_it by u)) (told by u s))
   joins_so by u s runs joined v x e = by_eq (u == v) refl
     where
       in_told : (thread_at (told by u s).machine v).joiner ≡ waits_to_join x

@@ -15,12 +15,12 @@ use Rattle.machine_rules.specs.State.{Frame, Machine, SignalRecord, Status, Thre
 use Rattle.machine_rules.specs.Threads.{action_of, is_live, is_signal, no_thread, thread_at, thread_in, top_kind, waiting_in, waiting_of}
 use Rattle.machine_rules.specs.Waiters.{Waiter, best_waiter}
 use Rattle.machine_rules.specs.CallNames.{name_of}
-use Rattle.machine_rules.specs.Turns.{By, Turn, answered, changes, changes_mutex, changes_pending, frames_answered, moves, returns, tells}
+use Rattle.machine_rules.specs.Turns.{Caller, Turn, answered, changes, changes_mutex, changes_pending, frames_answered, moves, returns, tells}
 use Rattle.machine_rules.specs.Servers.{activates_if, activates_server, high_server, with_server}
 use Rattle.machine_rules.specs.Waking.{blocks, call_in, cancelled_value, ending_with, put_to_wait, wakes, wakes_cancelled, wakes_telling, woken}
 use Rattle.machine_rules.specs.Mutexes.{hands_over, is_free, releases, returns_from_wait, taken_by, waits_for_mutex, wakes_owner}
-use Rattle.machine_rules.specs.Conditions.{contends, contends_for, released_mutex, signals_best_of, signals_waiter, waits_on_condition}
-use Rattle.machine_rules.specs.Signals.{acceptor, becomes_pending, delivers, generates, generates_for, is_ignore, tells_overrun, without_record}
+use Rattle.machine_rules.specs.Conditions.{contends, reacquires_or_waits, released_mutex, signals_best_times, signals_waiter, waits_on_condition}
+use Rattle.machine_rules.specs.Signals.{acceptor, becomes_pending, delivers, generates, is_accepted_or_pends, is_ignore, tells_overrun, without_record}
 use Rattle.machine_rules.specs.Lives.{without_target}
 use Rattle.machine_rules.specs.GoodState.{waits_on_any_condition}
 use Rattle.machine_rules.specs.Lists.{is}
@@ -161,7 +161,7 @@ module _ {P : Type 0} where
   answered_top r v [] = refl
   answered_top r v (f ∷ fs) = refl
 
-  pub returned : (by : By) (r : Res) (v : ℕ) (s : Turn P) → Costs 0 s (returns by r v s)
+  pub returned : (by : Caller) (r : Res) (v : ℕ) (s : Turn P) → Costs 0 s (returns by r v s)
   returned by r v s = same by.thread (answered r v) s (λ th. refl) (λ th. answered_top r v th.frames)
 
   pub activated : (t : ℕ) (o : Option ServerState) (s : Turn P) → Costs 0 s (activates_server t o s)
@@ -213,7 +213,7 @@ module _ {P : Type 0} where
       more false true = omega arith
       more false false = omega arith
 
-  pub sleep_cost : (by : By) (wait : Wait) (due : Option ℕ) (s : Turn P) → Costs 2 s (blocks by wait due s)
+  pub sleep_cost : (by : Caller) (wait : Wait) (due : Option ℕ) (s : Turn P) → Costs 2 s (blocks by wait due s)
   sleep_cost by wait due s =
       let w : Waiting = record { wait = wait; serial = s.machine.next_serial; due = due; call = by.call } in
       let k = cost_changed by.thread (sleeping (blocked w)) (put_to_wait w) s.machine.threads (asleep_of w (thread_at s.machine by.thread)) in
@@ -224,7 +224,7 @@ module _ {P : Type 0} where
   doze_cost w t s h = let k = change (sleeping (blocked w)) t (put_to_wait w) s (asleep_of w (thread_at s.machine t)) in let none = ap one_if h in omega arith
 
   -- who contends for the mutex of its condition wait pays with that wait
-  contends_for_cost : (o : Option ℕ) (t : ℕ) (how : CondEnd) (s : Turn P) → option_and_then (λ (w : Waiting). released_mutex w.wait) (waiting_of s.machine t) ≡ o → Costs 0 s (contends_for o t how s)
+  contends_for_cost : (o : Option ℕ) (t : ℕ) (how : CondEnd) (s : Turn P) → option_and_then (λ (w : Waiting). released_mutex w.wait) (waiting_of s.machine t) ≡ o → Costs 0 s (reacquires_or_waits o t how s)
   contends_for_cost None t how s e = omega arith
   contends_for_cost (Some k) t how s e = by_free (is_free s.machine k)
     where
@@ -258,10 +258,10 @@ module _ {P : Type 0} where
   signal_cost None s = omega arith
   signal_cost (Some w) s = contend_cost w.thread cond_end.Signalled s
 
-  pub signals_cost : (n c : ℕ) (s : Turn P) → Costs 0 s (signals_best_of n c s)
+  pub signals_cost : (n c : ℕ) (s : Turn P) → Costs 0 s (signals_best_times n c s)
   signals_cost zero c s = omega arith
   signals_cost (suc n) c s =
-      let before = signals_best_of n c s in
+      let before = signals_best_times n c s in
       let a = signals_cost n c s in let b = signal_cost (best_waiter before.machine (waits_on_condition c)) before in omega arith
 
   -- ---- signals
@@ -281,7 +281,7 @@ module _ {P : Type 0} where
       by_ignore true = omega arith
       by_ignore false = let last = sources_last s.machine.pending (record r { serial = s.machine.next_serial }) in omega arith
 
-      by_acceptor : (o : Option Waiter) → Costs c s (generates_for o r s)
+      by_acceptor : (o : Option Waiter) → Costs c s (is_accepted_or_pends o r s)
       by_acceptor (Some w) = let a = deliver_cost w.thread r s in let b = wakes_cost w.thread res.Zero r.signal (delivers w.thread r s) in omega arith
       by_acceptor None = by_ignore (is_ignore (action_of s.machine r.signal))
 

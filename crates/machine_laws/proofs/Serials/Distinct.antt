@@ -10,8 +10,8 @@ use Rattle.machine_rules.specs.Lists.{changed_at, is}
 use Rattle.machine_rules.specs.Bodies.{Bodies}
 use Rattle.machine_rules.specs.State.{Machine, SignalRecord, Status, Thread, Wait, Waiting, for_end, for_time, waits_to_join}
 use Rattle.machine_rules.specs.Threads.{can_run, no_thread, thread_at, thread_in, waiting_in}
-use Rattle.machine_rules.specs.Turns.{By, Turn, changes, changes_pending, moves, moves_if, tells}
-use Rattle.machine_rules.specs.Servers.{activates_if, activates_server, amount_of, high_server, plans_for, refills_for, regains_high, with_server}
+use Rattle.machine_rules.specs.Turns.{Caller, Turn, changes, changes_pending, moves, moves_if, tells}
+use Rattle.machine_rules.specs.Servers.{activates_if, activates_server, amount_of, high_server, plans_server, refills_server, regains_high, with_server}
 use Rattle.machine_rules.specs.Waking.{ending_with, on_top, put_to_wait, started, woken}
 use Rattle.machine_rules.specs.Queues.{record_of_notification}
 use Rattle.machine_rules.specs.Lives.{with_joiner, without_life, without_top}
@@ -91,13 +91,13 @@ module _ {P : Type 0} (bodies : Bodies P) (who : Option ℕ) where
       by_ordered true = omega arith
       by_ordered false = omega arith
 
-  pub slept : (by : By) (wait : Wait) (due : Option ℕ) (s : Turn P) → Serials s.machine → Serials (does bodies (blocks_for by wait due) s).machine
+  pub slept : (by : Caller) (wait : Wait) (due : Option ℕ) (s : Turn P) → Serials s.machine → Serials (does bodies (blocks_for by wait due) s).machine
   slept by wait due s q n =
       let w : Waiting = record { wait = wait; serial = s.machine.next_serial; due = due; call = by.call } in
       let more = waits_changed n by.thread (one_if (s.machine.next_serial == n)) (put_to_wait w) s.machine.threads (let k = serial_small w n in omega arith) in
       let before = q n in let room = room_more n s.machine.next_serial in omega arith
 
-  pub dozed : (by : By) (wait : Wait) (due : Option ℕ) (s : Turn P) → is_ordered wait ≡ false → Serials s.machine → Serials (does bodies (blocks_plainly by wait due) s).machine
+  pub dozed : (by : Caller) (wait : Wait) (due : Option ℕ) (s : Turn P) → is_ordered wait ≡ false → Serials s.machine → Serials (does bodies (blocks_plainly by wait due) s).machine
   dozed by wait due s h = one by.thread (put_to_wait (record { wait = wait; serial = 0; due = due; call = by.call })) s (λ n. (let e = ap (λ (b : Bool). one_if (is (if b then Some 0 else None) n)) h in omega arith))
 
   pended : (r : SignalRecord) (s : Turn P) → r.serial ≡ s.machine.next_serial → Serials s.machine → (n : ℕ) → waits n s.machine.threads + pends n (s.machine.pending ++ r ∷ []) ≤ one_if (nat_lt n (s.machine.next_serial + 1))
@@ -111,7 +111,7 @@ module _ {P : Type 0} (bodies : Bodies P) (who : Option ℕ) where
   activated_if true t s q = activated t (thread_at s.machine t).server s q
   activated_if false t s q = q
 
-  refilled : (t : ℕ) (o : Option ServerState) (s : Turn P) → Serials s.machine → Serials (refills_for t o s).machine
+  refilled : (t : ℕ) (o : Option ServerState) (s : Turn P) → Serials s.machine → Serials (refills_server t o s).machine
   refilled t None s q = q
   refilled t (Some server) s q =
       activated_if (regains_high server && can_run s.machine t) t (tells (event.Refill t (amount_of (oldest_pending server)) (refill server).capacity) (changes t (with_server refill) s)) (same t (with_server refill) s (λ th. refl) q)
@@ -215,7 +215,7 @@ at_most_one false = omega arith
 -- ---- every run
 
 module _ {P : Type 0} (bodies : Bodies P) where
-  planned : (t : ℕ) (o : Option ServerState) (s : Turn P) → Serials s.machine → Serials (plans_for t o s).machine
+  planned : (t : ℕ) (o : Option ServerState) (s : Turn P) → Serials s.machine → Serials (plans_server t o s).machine
   planned t None s q = q
   planned t (Some server) s q = same bodies None t (with_server plan) s (λ th. refl) q
 

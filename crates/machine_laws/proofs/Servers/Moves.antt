@@ -14,7 +14,7 @@ use Rattle.machine_rules.specs.Bodies.{Bodies}
 use Rattle.machine_rules.specs.State.{Status, Thread, Waiting, blocked, dormant, ended, for_mutex_again, runnable}
 use Rattle.machine_rules.specs.Threads.{can_run, is_blocked, is_dormant, is_live, no_thread, thread_at, thread_in, waiting_in}
 use Rattle.machine_rules.specs.Turns.{Turn, changes, moves, tells}
-use Rattle.machine_rules.specs.Servers.{activates_if, activates_server, amount_of, high_server, refills_for, regains_high, server_of, with_server}
+use Rattle.machine_rules.specs.Servers.{activates_if, activates_server, amount_of, high_server, refills_server, regains_high, server_of, with_server}
 use Rattle.machine_rules.specs.Waking.{ending_with, on_top, put_to_wait, started, wakes_telling, woken}
 use Rattle.machine_rules.specs.Lives.{with_joiner, without_life, without_top}
 use Rattle.machine_rules.specs.Cancellation.{without_cleanup}
@@ -133,7 +133,7 @@ module _ {P : Type 0} (bodies : Bodies P) (who : Option ℕ) where
 
   -- ---- a refill
 
-  refills_right : (t : ℕ) (o : Option ServerState) (s : Turn P) → (thread_at s.machine t).server ≡ o → is who t ≡ false → Threads s → Threads (refills_for t o s)
+  refills_right : (t : ℕ) (o : Option ServerState) (s : Turn P) → (thread_at s.machine t).server ≡ o → is who t ≡ false → Threads s → Threads (refills_server t o s)
   refills_right t None s e mine all = all
   refills_right t (Some server) s e mine all = by_regain (regains_high server && can_run s.machine t) refl
     where

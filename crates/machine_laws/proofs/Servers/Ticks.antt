@@ -13,7 +13,7 @@ use Rattle.machine_rules.specs.Bodies.{Bodies}
 use Rattle.machine_rules.specs.State.{Frame, Machine, Status, Thread, Waiting, blocked, dormant, ended, for_end, for_mutex_again, runnable, waits_to_join}
 use Rattle.machine_rules.specs.Threads.{can_run, is_blocked, is_live, is_runnable, no_thread, thread_at, thread_in, waiting_in}
 use Rattle.machine_rules.specs.Turns.{Turn, changes, moves, moves_if, tells}
-use Rattle.machine_rules.specs.Servers.{activates_if, activates_server, charged, has_high, high_server, plans_for, server_of, with_server}
+use Rattle.machine_rules.specs.Servers.{activates_if, activates_server, charged, has_high, high_server, plans_server, server_of, with_server}
 use Rattle.machine_rules.specs.Waking.{ending_with, on_top, put_to_wait, started, woken}
 use Rattle.machine_rules.specs.Lives.{with_joiner, without_life, without_top}
 use Rattle.machine_rules.specs.Cancellation.{without_cleanup}
@@ -305,7 +305,7 @@ module _ {P : Type 0} (bodies : Bodies P) (t : ℕ) where
       by_eq false e = subst (ThreadRight false s.machine.now) (sym (thread-other s.machine t u f e)) (not_own u s e all)
 
   plans_right : (o : Option ServerState) (s : Turn P) → (thread_at s.machine t).server ≡ o → Threads bodies (Some t) s →
-      ThreadIn false s.machine.now (thread_at s.machine t).status (thread_at s.machine t).policy (option_map plan (thread_at s.machine t).server) → Threads bodies None (plans_for t o s)
+      ThreadIn false s.machine.now (thread_at s.machine t).status (thread_at s.machine t).policy (option_map plan (thread_at s.machine t).server) → Threads bodies None (plans_server t o s)
   plans_right None s e all h = same_own s (none_planned (thread_at s.machine t).server e h) all
     where
       none_planned : (o : Option ServerState) → o ≡ None → ThreadIn false s.machine.now (thread_at s.machine t).status (thread_at s.machine t).policy (option_map plan o) → ThreadIn false s.machine.now (thread_at s.machine t).status (thread_at s.machine t).policy o
@@ -324,7 +324,7 @@ module _ {P : Type 0} (bodies : Bodies P) (t : ℕ) where
   ended_right : (e : TickEnd) (s : Turn P) → Threads bodies (Some t) s →
       ThreadIn false s.machine.now (thread_at s.machine t).status (thread_at s.machine t).policy (option_map (ended_server e) (thread_at s.machine t).server) → Threads bodies None (ends_tick e t s)
   ended_right planning s all h = plans_right (thread_at s.machine t).server s refl all h
-  ended_right exhausting s all h = moved_right _ (plans_for t (thread_at s.machine t).server (tells (event.Exhaust t) s)) (plans_right (thread_at s.machine t).server (tells (event.Exhaust t) s) refl all h)
+  ended_right exhausting s all h = moved_right _ (plans_server t (thread_at s.machine t).server (tells (event.Exhaust t) s)) (plans_right (thread_at s.machine t).server (tells (event.Exhaust t) s) refl all h)
   ended_right slicing s all h =
       moved_right (can_run s.machine t) (changes t without_slice s)
       (same_own (changes t without_slice s) (subst (RightAs false s.machine.now) (sym (changed-keeps no_thread t t without_slice served (λ th. refl) s.machine.threads)) kept) (one bodies (Some t) t without_slice s (λ g. g) all))

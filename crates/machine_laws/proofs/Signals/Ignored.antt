@@ -8,7 +8,7 @@ use Rattle.machine_rules.specs.Bodies.{Bodies}
 use Rattle.machine_rules.specs.State.{Machine, SignalRecord}
 use Rattle.machine_rules.specs.Threads.{action_of, can_run, thread_at}
 use Rattle.machine_rules.specs.Turns.{Turn, changes, moves_if, tells}
-use Rattle.machine_rules.specs.Servers.{plans_for}
+use Rattle.machine_rules.specs.Servers.{plans_server}
 use Rattle.machine_rules.specs.Signals.{is_ignore}
 use Rattle.machine_rules.specs.Queues.{record_of_notification}
 use Rattle.machine_rules.specs.Dispatch.{dispatches}
@@ -61,7 +61,7 @@ module _ {P : Type 0} (bodies : Bodies P) (who : Option ℕ) where
   heard_keep move s may q = q
 
 module _ {P : Type 0} (bodies : Bodies P) where
-  planned : (t : ℕ) (o : Option ServerState) (s : Turn P) → Heard s.machine → Heard (plans_for t o s).machine
+  planned : (t : ℕ) (o : Option ServerState) (s : Turn P) → Heard s.machine → Heard (plans_server t o s).machine
   planned t None s q = q
   planned t (Some server) s q = q
 

@@ -8,7 +8,7 @@ use Rattle.machine_rules.specs.Bodies.{Bodies}
 use Rattle.machine_rules.specs.State.{Machine, SignalRecord}
 use Rattle.machine_rules.specs.Threads.{can_run, thread_at}
 use Rattle.machine_rules.specs.Turns.{Turn, changes, moves_if, tells}
-use Rattle.machine_rules.specs.Servers.{plans_for}
+use Rattle.machine_rules.specs.Servers.{plans_server}
 use Rattle.machine_rules.specs.Queues.{record_of_notification}
 use Rattle.machine_rules.specs.Ticks.{TickEnd, ends_tick, exhausting, nothing, planning, slicing, without_slice}
 use Rattle.machine_moves.specs.Moves.{MayRenewing, Move, begins, blocks_plainly, does, fires, recasts, record_in, record_out, records_of_ended, refills_one, renews_with, wakes_with}
@@ -48,7 +48,7 @@ module _ {P : Type 0} (bodies : Bodies P) where
   plain_keep who (recasts t f) s may q = absurd may
   plain_keep who move s may q = q
 
-  planned : (t : ℕ) (o : Option ServerState) (s : Turn P) → Plain s.machine → Plain (plans_for t o s).machine
+  planned : (t : ℕ) (o : Option ServerState) (s : Turn P) → Plain s.machine → Plain (plans_server t o s).machine
   planned t None s q = q
   planned t (Some server) s q = q
 

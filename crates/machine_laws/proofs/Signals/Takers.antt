@@ -8,7 +8,7 @@ use Rattle.machine_rules.specs.declared.frame.FrameKind.{FrameKind}
 use Rattle.machine_rules.specs.declared.frame.FrameKind.TheVariants as frame
 use Rattle.machine_rules.specs.declared.signal.SigAction.TheVariants as action
 use Rattle.tick_num.specs.Signals.{has_signal}
-use Rattle.machine_rules.specs.Signals.{goes_to, is_kill, is_selected_before}
+use Rattle.machine_rules.specs.Signals.{may_go_to, is_kill, is_selected_before}
 use Rattle.machine_rules.specs.Lists.{first_by}
 use Rattle.machine_rules.specs.Bodies.{Bodies}
 use Rattle.machine_rules.specs.State.{Frame, SignalRecord, Status, Thread, Waiting}
@@ -28,7 +28,7 @@ abbrev pub taker_of : {P : Type 0} → Thread P → Taker
 taker_of th = record { status = th.status; mask = th.mask; catches = catches_signal th }
 
 abbrev pub takes_by : Taker → ℕ → Sent → SignalRecord → Bool
-takes_by k t p r = goes_to t r.target && not (has_signal k.mask r.signal) && (is_kill (slice_index_or p.actions r.signal action.Kill) || not (option_map_or (λ (w : Waiting). defers_handlers w.wait) (waiting_in k.status) false))
+takes_by k t p r = may_go_to t r.target && not (has_signal k.mask r.signal) && (is_kill (slice_index_or p.actions r.signal action.Kill) || not (option_map_or (λ (w : Waiting). defers_handlers w.wait) (waiting_in k.status) false))
 
 abbrev pub taken_by : Taker → ℕ → Sent → Option SignalRecord
 taken_by k t p = if is_live k.status && not k.catches then first_by is_selected_before (filter (takes_by k t p) p.pending) else None

@@ -23,7 +23,7 @@ use Rattle.machine_rules.specs.Threads.{action_of, no_thread, thread_at, thread_
 use Rattle.machine_rules.specs.Turns.{Turn, changes, changes_pending, moves, tells, turn_of}
 use Rattle.machine_rules.specs.Servers.{activates_server, high_server, with_server}
 use Rattle.machine_rules.specs.Waking.{new_frame, on_top, wakes_telling, woken}
-use Rattle.machine_rules.specs.Signals.{delivers, goes_to, is_ignore, is_kill, is_selected_before, selected, tells_overrun, without_record}
+use Rattle.machine_rules.specs.Signals.{delivers, may_go_to, is_ignore, is_kill, is_selected_before, selected, tells_overrun, without_record}
 use Rattle.machine_rules.specs.Delivery.{acts, can_take, catches, defers_handlers, interrupts, may_be_interrupted, sweeps, sweeps_all, sweeps_thread, taken_by_sweep, takes_record, ticks_left}
 use Rattle.machine_rules.specs.Settling.{settled}
 use Rattle.machine_rules.specs.GoodState.{IsSwept}
@@ -97,7 +97,7 @@ module _ {P : Type 0} (bodies : Bodies P) where
 
   -- what a thread would take, by its own state, the actions and the pending records
   abbrev pub takes_of : Thread P → ℕ → Sent → SignalRecord → Bool
-  takes_of th t p r = goes_to t r.target && not (has_signal th.mask r.signal) && (is_kill (slice_index_or p.actions r.signal action.Kill) || not (option_map_or (λ (w : Waiting). defers_handlers w.wait) (waiting_in th.status) false))
+  takes_of th t p r = may_go_to t r.target && not (has_signal th.mask r.signal) && (is_kill (slice_index_or p.actions r.signal action.Kill) || not (option_map_or (λ (w : Waiting). defers_handlers w.wait) (waiting_in th.status) false))
 
   abbrev pub taken_of : Thread P → ℕ → Sent → Option SignalRecord
   taken_of th t p = if may_be_interrupted th then first_by is_selected_before (filter (takes_of th t p) p.pending) else None

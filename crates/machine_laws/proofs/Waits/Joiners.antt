@@ -11,7 +11,7 @@ use Rattle.machine_rules.specs.Bodies.{Bodies}
 use Rattle.machine_rules.specs.State.{Status, Thread, Waiting, blocked, dormant, ended, for_end, for_mutex_again, runnable, waits_to_join}
 use Rattle.machine_rules.specs.Threads.{can_run, is_dormant, is_runnable, no_thread, thread_at, thread_in, waiting_in, waiting_of}
 use Rattle.machine_rules.specs.Turns.{Turn, changes, moves, tells}
-use Rattle.machine_rules.specs.Servers.{activates_if, activates_server, amount_of, high_server, refills_for, regains_high, with_server}
+use Rattle.machine_rules.specs.Servers.{activates_if, activates_server, amount_of, high_server, refills_server, regains_high, with_server}
 use Rattle.machine_rules.specs.Waking.{ending_with, on_top, put_to_wait, started, woken}
 use Rattle.machine_rules.specs.Lives.{with_joiner, without_life, without_top}
 use Rattle.machine_rules.specs.Cancellation.{without_cleanup}
@@ -60,7 +60,7 @@ module _ {P : Type 0} (bodies : Bodies P) (who : Option ℕ) where
   activated_if_keep true t s j = activated_keep t (thread_at s.machine t).server s j
   activated_if_keep false t s j = j
 
-  refilled_keep : (t : ℕ) (o : Option ServerState) (s : Turn P) → JoinersWait s → JoinersWait (refills_for t o s)
+  refilled_keep : (t : ℕ) (o : Option ServerState) (s : Turn P) → JoinersWait s → JoinersWait (refills_server t o s)
   refilled_keep t None s j = j
   refilled_keep t (Some server) s j =
       activated_if_keep (regains_high server && can_run s.machine t) t (tells (event.Refill t (amount_of (oldest_pending server)) (refill server).capacity) (changes t (with_server refill) s))

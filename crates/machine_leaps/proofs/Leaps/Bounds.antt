@@ -15,7 +15,7 @@ use Rattle.machine_rules.specs.State.{Frame, Machine, Thread, Waiting}
 use Rattle.machine_rules.specs.Threads.{no_thread, thread_at, thread_in, thread_numbers, top_left, waiting_in}
 use Rattle.machine_rules.specs.Servers.{has_high}
 use Rattle.machine_rules.specs.Dispatch.{head}
-use Rattle.machine_rules.specs.DueItems.{due_of, first_item, has_come, next_item, refill_due, start_due, start_in, timeout_due, timer_due}
+use Rattle.machine_rules.specs.DueItems.{due_of_kind, first_item, has_come, next_item, refill_due, start_due, start_in, timeout_due, timer_due}
 use Rattle.machine_rules.specs.Ticks.{capacity_in, slice_is_used}
 use Rattle.machine_rules.specs.Eventful.{has_item, head_matters, tick_matters, unless_ended}
 use Rattle.machine_rules.proofs.Reading.{changed-length, thread-same}
@@ -138,7 +138,7 @@ module _ {P : Type 0} (bodies : Bodies P) where
       of_two (inl k) = ap view k.1 ∙ e ∙ ap (λ (v : ℕ). view (thread_in ths v)) k.0
       of_two (inr k) = ap view k
 
-  due_same : (kind : ℕ → Item) (due : Machine P → ℕ → Option ℕ) (ns : List ℕ) (m n : Machine P) → m.now ≡ n.now → ((u : ℕ) → due m u ≡ due n u) → due_of kind due ns m ≡ due_of kind due ns n
+  due_same : (kind : ℕ → Item) (due : Machine P → ℕ → Option ℕ) (ns : List ℕ) (m n : Machine P) → m.now ≡ n.now → ((u : ℕ) → due m u ≡ due n u) → due_of_kind kind due ns m ≡ due_of_kind kind due ns n
   due_same kind due ns m n e h =
       ap (map kind) (filter_same (λ (u : ℕ). has_come (due m u) m.now) (λ (u : ℕ). has_come (due n u) n.now) (λ u. ap (λ (o : Option ℕ). has_come o m.now) (h u) ∙ ap (has_come (due n u)) e) ns)
 
@@ -154,10 +154,10 @@ module _ {P : Type 0} (bodies : Bodies P) where
       let timeout : (u : ℕ) → timeout_due n u ≡ timeout_due l u =
       with_view (λ (x : Thread P). option_and_then (λ (w : Waiting). w.due) (waiting_in x.status)) t th m.threads (ap (λ s. option_and_then (λ (w : Waiting). w.due) (waiting_in s)) (in_unit_status bodies (thread_at m t))) in
       let numbers' : thread_numbers n ≡ thread_numbers l = ap (range_with_len 0) (changed-length no_thread t (λ x. th) m.threads) in
-      ap (λ (ns : List ℕ). first_item m.killed (due_of item.Refill refill_due ns n ++ due_of item.Start start_due ns n ++ due_of item.Timeout timeout_due ns n ++ due_of item.Timer timer_due (range_with_len 0 (length m.timers)) n)) numbers'
-      ∙ ap (λ (is : List Item). first_item m.killed (is ++ due_of item.Start start_due (thread_numbers l) n ++ due_of item.Timeout timeout_due (thread_numbers l) n ++ due_of item.Timer timer_due (range_with_len 0 (length m.timers)) n)) (due_same item.Refill refill_due (thread_numbers l) n l refl refill)
-      ∙ ap (λ (is : List Item). first_item m.killed (due_of item.Refill refill_due (thread_numbers l) l ++ is ++ due_of item.Timeout timeout_due (thread_numbers l) n ++ due_of item.Timer timer_due (range_with_len 0 (length m.timers)) n)) (due_same item.Start start_due (thread_numbers l) n l refl start)
-      ∙ ap (λ (is : List Item). first_item m.killed (due_of item.Refill refill_due (thread_numbers l) l ++ due_of item.Start start_due (thread_numbers l) l ++ is ++ due_of item.Timer timer_due (range_with_len 0 (length m.timers)) n)) (due_same item.Timeout timeout_due (thread_numbers l) n l refl timeout)
+      ap (λ (ns : List ℕ). first_item m.killed (due_of_kind item.Refill refill_due ns n ++ due_of_kind item.Start start_due ns n ++ due_of_kind item.Timeout timeout_due ns n ++ due_of_kind item.Timer timer_due (range_with_len 0 (length m.timers)) n)) numbers'
+      ∙ ap (λ (is : List Item). first_item m.killed (is ++ due_of_kind item.Start start_due (thread_numbers l) n ++ due_of_kind item.Timeout timeout_due (thread_numbers l) n ++ due_of_kind item.Timer timer_due (range_with_len 0 (length m.timers)) n)) (due_same item.Refill refill_due (thread_numbers l) n l refl refill)
+      ∙ ap (λ (is : List Item). first_item m.killed (due_of_kind item.Refill refill_due (thread_numbers l) l ++ is ++ due_of_kind item.Timeout timeout_due (thread_numbers l) n ++ due_of_kind item.Timer timer_due (range_with_len 0 (length m.timers)) n)) (due_same item.Start start_due (thread_numbers l) n l refl start)
+      ∙ ap (λ (is : List Item). first_item m.killed (due_of_kind item.Refill refill_due (thread_numbers l) l ++ due_of_kind item.Start start_due (thread_numbers l) l ++ is ++ due_of_kind item.Timer timer_due (range_with_len 0 (length m.timers)) n)) (due_same item.Timeout timeout_due (thread_numbers l) n l refl timeout)
 
   -- ---- calm, tick by tick
 

@@ -23,7 +23,7 @@ use Rattle.machine_laws.proofs.Sweeps.Visits.{Quiet}
 use Rattle.machine_leaps.proofs.Quiet.Ticks.{idle_items}
 use Rattle.leap_rules.specs.Quiet.{after_quiet}
 use Rattle.machine_leaps.proofs.Quiet.Charges.{QuietTick, charged_can_run, charged_exec, charged_quiet, goes_on_quiet}
-use Rattle.leap_rules.specs.Quiet.{charged_head, charged_unless, one_charge, told_from}
+use Rattle.leap_rules.specs.Quiet.{charged_head, charged_unless_killed, one_charge, told_with_dispatch}
 use Rattle.machine_leaps.proofs.Quiet.Runs.{charges}
 use Rattle.machine_leaps.proofs.Quiet.Events.{nothing_more, silent}
 
@@ -78,7 +78,7 @@ module _ {P : Type 0} (bodies : Bodies P) where
       by_head None alive e = record { listed = h.listed; stand = record { every = h.stand.every; runs = h.stand.runs; others = h.stand.others }; swept = λ k. h.swept alive }
       by_head (Some t) alive e = head_stays t m h alive e
 
-      by_killed : (k : Option ℕ) → m.killed ≡ k → unless_ended bodies k m ≡ false → Stays m (charged_unless bodies k m)
+      by_killed : (k : Option ℕ) → m.killed ≡ k → unless_ended bodies k m ≡ false → Stays m (charged_unless_killed bodies k m)
       by_killed None alive e = by_head (head m) alive e
       by_killed (Some signal) dead e = record { listed = h.listed; stand = h.stand; swept = h.swept }
 
@@ -103,15 +103,15 @@ module _ {P : Type 0} (bodies : Bodies P) where
   -- j + 1 ticks that do not matter, from a machine whose items are not handled yet; at their end something may fall due
   pub calm_ticks : (j : ℕ) (m : Machine P) → let s = instant bodies (turn_of m) in s.direct ≡ [] → Handled s.machine → Calm j s.machine →
       unless_ended bodies (charges bodies j s.machine).killed (charges bodies j s.machine) ≡ false →
-      ticks bodies (suc j) m ≡ record { machine = charges bodies (suc j) s.machine; events = told_from s.machine.killed s }
+      ticks bodies (suc j) m ≡ record { machine = charges bodies (suc j) s.machine; events = told_with_dispatch s.machine.killed s }
   calm_ticks zero m none h c e =
       let s = instant bodies (turn_of m) in
       let q = quiet_of s none h e in
-      same_ran (ticks bodies 1 m) (record { machine = charges bodies 1 s.machine; events = told_from s.machine.killed s }) q.machine q.events
+      same_ran (ticks bodies 1 m) (record { machine = charges bodies 1 s.machine; events = told_with_dispatch s.machine.killed s }) q.machine q.events
   calm_ticks (suc j) m none h c e =
       let s = instant bodies (turn_of m) in
       let at = charges bodies (suc j) s.machine in
-      let told = told_from s.machine.killed s in
+      let told = told_with_dispatch s.machine.killed s in
       let there : Handled at = charges_handled (suc j) s.machine h c in
       let q = quiet_of (turn_of at) refl there e in
       ap (λ (r : Ran P). follow r (tick_of bodies)) (calm_ticks j m none h (fewer_calm j s.machine c) (c.quiet j (omega arith)))
@@ -123,7 +123,7 @@ module _ {P : Type 0} (bodies : Bodies P) where
   -- So many of them, and one ordinary tick.
   pub calm_then_tick : (j : ℕ) (m : Machine P) → let s = instant bodies (turn_of m) in s.direct ≡ [] → Handled s.machine → Calm (suc j) s.machine →
       let last = tick_of bodies (charges bodies (suc j) s.machine) in
-      ticks bodies (suc (suc j)) m ≡ record { machine = last.machine; events = told_from s.machine.killed s ++ last.events }
+      ticks bodies (suc (suc j)) m ≡ record { machine = last.machine; events = told_with_dispatch s.machine.killed s ++ last.events }
   calm_then_tick j m none h c =
       ap (λ (r : Ran P). follow r (tick_of bodies)) (calm_ticks j m none h (fewer_calm j (instant bodies (turn_of m)).machine c) (c.quiet j (omega arith)))
 

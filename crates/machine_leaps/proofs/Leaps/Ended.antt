@@ -7,14 +7,14 @@ use Rattle.machine_rules.specs.Turns.{turn_of}
 use Rattle.machine_rules.specs.DueItems.{instant, next_item}
 use Rattle.machine_rules.specs.Runs.{ran, ticks}
 use Rattle.machine_rules.specs.Eventful.{unless_ended}
-use Rattle.leap_rules.specs.Quiet.{charged_unless, one_charge, told_from}
+use Rattle.leap_rules.specs.Quiet.{charged_unless_killed, one_charge, told_with_dispatch}
 use Rattle.machine_leaps.proofs.Quiet.Runs.{charges}
 use Rattle.machine_leaps.proofs.Leaps.Calm.{Calm, Handled, calm_ticks}
 
 module _ {P : Type 0} (bodies : Bodies P) where
   pub ended_stays : (k : ℕ) (m : Machine P) (signal : ℕ) → m.killed ≡ Some signal → charges bodies k m ≡ m
   ended_stays zero m signal e = refl
-  ended_stays (suc k) m signal e = ap (one_charge bodies) (ended_stays k m signal e) ∙ ap (λ (o : Option ℕ). charged_unless bodies o m) e
+  ended_stays (suc k) m signal e = ap (one_charge bodies) (ended_stays k m signal e) ∙ ap (λ (o : Option ℕ). charged_unless_killed bodies o m) e
 
   ended_quiet : (i : ℕ) (m : Machine P) (signal : ℕ) → m.killed ≡ Some signal → unless_ended bodies (charges bodies i m).killed (charges bodies i m) ≡ false
   ended_quiet i m signal e = ap (λ (x : Machine P). unless_ended bodies x.killed x) (ended_stays i m signal e) ∙ ap (λ (o : Option ℕ). unless_ended bodies o m) e
@@ -27,5 +27,5 @@ module _ {P : Type 0} (bodies : Bodies P) where
   ended_ticks j m signal none h e =
       let s = instant bodies (turn_of m) in
       calm_ticks bodies j m none h (ended_calm j s.machine signal h e) (ended_quiet j s.machine signal e)
-      ∙ ap (λ (x : Machine P). record { machine = x; events = told_from s.machine.killed s }) (ended_stays (suc j) s.machine signal e)
-      ∙ ap (λ (o : Option ℕ). record { machine = s.machine; events = told_from o s }) e
+      ∙ ap (λ (x : Machine P). record { machine = x; events = told_with_dispatch s.machine.killed s }) (ended_stays (suc j) s.machine signal e)
+      ∙ ap (λ (o : Option ℕ). record { machine = s.machine; events = told_with_dispatch o s }) e

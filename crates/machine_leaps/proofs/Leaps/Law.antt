@@ -24,7 +24,7 @@ use Rattle.machine_moves.proofs.Waiters.Best.{running_within}
 use Rattle.machine_moves.proofs.Runs.Listed.{head_can_run}
 use Rattle.machine_moves.proofs.Runs.Ticks.{dispatched}
 use Rattle.machine_moves.proofs.Runs.Since.{dispatched_direct}
-use Rattle.leap_rules.specs.Quiet.{told_from}
+use Rattle.leap_rules.specs.Quiet.{told_with_dispatch}
 use Rattle.machine_leaps.proofs.Quiet.Runs.{charges}
 use Rattle.machine_leaps.proofs.Quiet.Once.{StaysHigh, charged_is, idle_once}
 use Rattle.machine_leaps.proofs.Quiet.Events.{nothing_more}
@@ -114,5 +114,5 @@ module _ {P : Type 0} (bodies : Bodies P) where
       ap ran (leap_alive (suc (suc j)) s alive)
       ∙ leap_told (suc (suc j)) to s none
       ∙ sym (calm_then_tick bodies j m none h c
-      ∙ ap (λ (r : Ran P). record { machine = r.machine; events = told_from s.machine.killed s ++ r.events }) (last_by to j s.machine alive refl h c)
-      ∙ ap (λ (o : Option ℕ). (let l = ran (leap_runs bodies (suc (suc j)) to (turn_of (given to s.machine))) in record { machine = l.machine; events = told_from o s ++ l.events })) alive)
+      ∙ ap (λ (r : Ran P). record { machine = r.machine; events = told_with_dispatch s.machine.killed s ++ r.events }) (last_by to j s.machine alive refl h c)
+      ∙ ap (λ (o : Option ℕ). (let l = ran (leap_runs bodies (suc (suc j)) to (turn_of (given to s.machine))) in record { machine = l.machine; events = told_with_dispatch o s ++ l.events })) alive)

@@ -18,7 +18,7 @@ use Rattle.machine_rules.proofs.Standing.{one_if, stands}
 use Rattle.machine_moves.proofs.Waiters.Best.{Each, running_within}
 use Rattle.machine_moves.proofs.Runs.Listed.{head_can_run}
 use Rattle.machine_laws.proofs.Lists.Places.{Stand}
-use Rattle.leap_rules.specs.Quiet.{AreCharges, IsHandled, IsQuiet, at_once, one_charge, ticks_of_head, ticks_unless, told_from}
+use Rattle.leap_rules.specs.Quiet.{AreCharges, IsHandled, IsQuiet, at_once, one_charge, ticks_of_head, ticks_unless_killed, told_with_dispatch}
 use Rattle.machine_leaps.proofs.Quiet.Ticks.{idle_items}
 use Rattle.machine_leaps.proofs.Quiet.Runs.{charges, first_of, nothing_due, second_of}
 use Rattle.machine_leaps.proofs.Quiet.Once.{charges_once, idle_once}
@@ -88,7 +88,7 @@ module _ {P : Type 0} (bodies : Bodies P) where
       by_head None alive e = idle_once bodies j m alive e
       by_head (Some t) alive e = charges_once bodies j t m (record { alive = alive; first = e; here = running_within m.threads t (head_can_run m t h.listed e) }) quiet
 
-      by_killed : (o : Option ℕ) → m.killed ≡ o → charges bodies (suc j) m ≡ ticks_unless bodies (suc j) o m
+      by_killed : (o : Option ℕ) → m.killed ≡ o → charges bodies (suc j) m ≡ ticks_unless_killed bodies (suc j) o m
       by_killed None alive = by_head (head m) alive refl
       by_killed (Some signal) dead = ended_stays bodies (suc j) m signal dead
 
@@ -117,14 +117,14 @@ module _ {P : Type 0} (bodies : Bodies P) where
     quiet_calm zero q = no_calm bodies ready
     quiet_calm (suc k) q = next_calm k (quiet_calm k (λ i low high. q i low (omega arith))) (q (suc k) (omega arith) (omega arith))
 
-    each_charge : (k : ℕ) → IsQuiet bodies k m → (j : ℕ) → 1 ≤ j → j ≤ k → ticks bodies j m ≡ record { machine = at_once bodies j m; events = told_from m.killed (turn_of m) }
+    each_charge : (k : ℕ) → IsQuiet bodies k m → (j : ℕ) → 1 ≤ j → j ≤ k → ticks bodies j m ≡ record { machine = at_once bodies j m; events = told_with_dispatch m.killed (turn_of m) }
     each_charge k q zero low high = absurd (omega arith)
     each_charge k q (suc j) low high =
         let c = quiet_calm k q in
         let before : Calm bodies j ready = record { quiet = λ i small. c.quiet i (omega arith); idle = λ i small. c.idle i (omega arith) } in
         calm_ticks bodies j m direct handled' before (c.quiet j (omega arith))
-        ∙ ap (λ (x : Machine P). record { machine = x; events = told_from ready.killed (instant bodies (turn_of m)) }) (charged_at_once j ready handled' before.quiet)
-        ∙ ap (λ (s : Turn P). record { machine = at_once bodies (suc j) s.machine; events = told_from s.machine.killed s }) same
+        ∙ ap (λ (x : Machine P). record { machine = x; events = told_with_dispatch ready.killed (instant bodies (turn_of m)) }) (charged_at_once j ready handled' before.quiet)
+        ∙ ap (λ (s : Turn P). record { machine = at_once bodies (suc j) s.machine; events = told_with_dispatch s.machine.killed s }) same
 
     last_charge : (k : ℕ) → IsQuiet bodies k m → one_charge bodies (ticks bodies k m).machine ≡ at_once bodies (k + 1) m
     last_charge zero q = charged_at_once 0 m h (λ i small. absurd (omega arith))

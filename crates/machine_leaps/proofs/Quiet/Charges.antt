@@ -30,7 +30,7 @@ use Rattle.machine_laws.proofs.Lists.Kept.{Plans, in_unit_plans}
 use Rattle.machine_laws.proofs.Signals.Ignored.{sent}
 use Rattle.machine_laws.proofs.Sweeps.Visits.{Quiet, sweeps_nothing}
 use Rattle.machine_leaps.proofs.Quiet.Ticks.{left_over, quiet_end}
-use Rattle.leap_rules.specs.Quiet.{charged_head, charged_unless, one_charge, told_from}
+use Rattle.leap_rules.specs.Quiet.{charged_head, charged_unless_killed, one_charge, told_with_dispatch}
 use Rattle.machine_laws.proofs.Signals.Takers.{Taker, charge_of, charged_taker, taken_by, taker_of}
 
 module _ {P : Type 0} (bodies : Bodies P) where
@@ -193,16 +193,16 @@ module _ {P : Type 0} (bodies : Bodies P) where
 
   pub record QuietTick (s : Turn P) : Type 0 where
     pub machine : (goes_on bodies s).machine ≡ one_charge bodies s.machine
-    pub events : (goes_on bodies s).events ≡ told_from s.machine.killed s
+    pub events : (goes_on bodies s).events ≡ told_with_dispatch s.machine.killed s
 
   -- one quiet tick, from where nothing is due any more
   pub goes_on_quiet : (s : Turn P) → s.direct ≡ [] → AllRun s.machine s.machine.lists → Stand s.machine → (s.machine.killed ≡ None → (u : ℕ) → Quiet bodies s.machine u) → unless_ended bodies s.machine.killed s.machine ≡ false → QuietTick s
   goes_on_quiet s none listed stand q matters = record { machine = by_killed s.machine.killed refl matters; events = told s.machine.killed refl matters }
     where
-      by_killed : (k : Option ℕ) → s.machine.killed ≡ k → unless_ended bodies k s.machine ≡ false → (unless_killed k (runs_head bodies) s).machine ≡ charged_unless bodies k s.machine
+      by_killed : (k : Option ℕ) → s.machine.killed ≡ k → unless_ended bodies k s.machine ≡ false → (unless_killed k (runs_head bodies) s).machine ≡ charged_unless_killed bodies k s.machine
       by_killed None alive matters = (runs_head_quiet (head s.machine) s refl none listed stand (q alive) matters).machine
       by_killed (Some signal) dead matters = refl
 
-      told : (k : Option ℕ) → s.machine.killed ≡ k → unless_ended bodies k s.machine ≡ false → (unless_killed k (runs_head bodies) s).events ≡ told_from k s
+      told : (k : Option ℕ) → s.machine.killed ≡ k → unless_ended bodies k s.machine ≡ false → (unless_killed k (runs_head bodies) s).events ≡ told_with_dispatch k s
       told None alive matters = (runs_head_quiet (head s.machine) s refl none listed stand (q alive) matters).events
       told (Some signal) dead matters = refl

@@ -12,8 +12,8 @@ use Rattle.machine_rules.specs.Runs.{opening}
 use Rattle.machine_rules.specs.Machine.{bodies_of, events, machine}
 use Rattle.machine_rules.specs.Eventful.{has_item, is_eventful, next_tick_matters}
 use Rattle.machine_rules.specs.WellFormed.{IsWellFormed}
-use Rattle.leap_rules.specs.Quiet.{IsQuietBetween, told_from}
-use Rattle.leap_rules.specs.Quiet.{charged_head, charged_unless, one_charge, told_from}
+use Rattle.leap_rules.specs.Quiet.{IsQuietBetween, told_with_dispatch}
+use Rattle.leap_rules.specs.Quiet.{charged_head, charged_unless_killed, one_charge, told_with_dispatch}
 use Rattle.machine_leaps.proofs.Quiet.Runs.{first_of, handled, handled_nothing, later_by, later_is, tick_charges, tick_quiet}
 
 pub nothing_more : {X : Type 0} (xs : List X) → xs ++ [] ≡ xs
@@ -26,7 +26,7 @@ same_again (Some t) = grind arith
 
 module _ {P : Type 0} (bodies : Bodies P) where
   abbrev pub told : Turn P → List Entry
-  told s = told_from s.machine.killed s
+  told s = told_with_dispatch s.machine.killed s
 
   -- a dispatch of the same is not told
   dispatched_silent : (m : Machine P) (o : Option ℕ) → m.last ≡ dispatch_of o → (dispatches o (turn_of m)).events ≡ []
@@ -39,14 +39,14 @@ module _ {P : Type 0} (bodies : Bodies P) where
       by_head : (o : Option ℕ) → head m ≡ o → m.killed ≡ None → told (turn_of (charged_head bodies o m)) ≡ []
       by_head None first alive =
           let n = charged_head bodies None m in
-          ap (λ (k : Option ℕ). told_from k (turn_of n)) alive ∙ ap (λ (o : Option ℕ). (dispatches o (turn_of n)).events) first ∙ dispatched_silent n None refl
+          ap (λ (k : Option ℕ). told_with_dispatch k (turn_of n)) alive ∙ ap (λ (o : Option ℕ). (dispatches o (turn_of n)).events) first ∙ dispatched_silent n None refl
       by_head (Some t) first alive =
           let n = charged_head bodies (Some t) m in
-          ap (λ (k : Option ℕ). told_from k (turn_of n)) alive ∙ ap (λ (o : Option ℕ). (dispatches o (turn_of n)).events) first ∙ dispatched_silent n (Some t) refl
+          ap (λ (k : Option ℕ). told_with_dispatch k (turn_of n)) alive ∙ ap (λ (o : Option ℕ). (dispatches o (turn_of n)).events) first ∙ dispatched_silent n (Some t) refl
 
-      by_killed : (k : Option ℕ) → m.killed ≡ k → told (turn_of (charged_unless bodies k m)) ≡ []
+      by_killed : (k : Option ℕ) → m.killed ≡ k → told (turn_of (charged_unless_killed bodies k m)) ≡ []
       by_killed None alive = by_head (head m) refl alive
-      by_killed (Some signal) dead = ap (λ (k : Option ℕ). told_from k (turn_of m)) dead
+      by_killed (Some signal) dead = ap (λ (k : Option ℕ). told_with_dispatch k (turn_of m)) dead
 
 module _ (script : Script) (fits : IsWellFormed script) where
   events_on : (a j : ℕ) → ((i : ℕ) → i ≤ j → is_eventful (bodies_of script) (opening script) (suc (later_by a i)) ≡ false) → events script (suc (later_by a j)) ≡ events script a ++ told (bodies_of script) (handled script fits a)

@@ -21,7 +21,7 @@ use Rattle.leap_rules.specs.Quiet.{after_ticks, frames_after, head_after, server
 use Rattle.machine_laws.proofs.Lists.Kept.{Plans, in_unit_plans}
 use Rattle.machine_leaps.proofs.Quiet.Ticks.{left_over}
 use Rattle.leap_rules.specs.Quiet.{after_quiet}
-use Rattle.leap_rules.specs.Quiet.{charged_head, charged_unless, one_charge}
+use Rattle.leap_rules.specs.Quiet.{charged_head, charged_unless_killed, one_charge}
 use Rattle.machine_laws.proofs.Signals.Takers.{charge_of}
 use Rattle.machine_leaps.proofs.Quiet.Runs.{charges}
 
@@ -110,7 +110,7 @@ module _ {P : Type 0} (bodies : Bodies P) where
 
   -- what a machine with that head and that process is charged to
   pub one_is : (t : ℕ) (m : Machine P) → m.killed ≡ None → head m ≡ Some t → one_charge bodies m ≡ after_quiet bodies t m
-  one_is t m alive first = ap (λ (k : Option ℕ). charged_unless bodies k m) alive ∙ ap (λ (o : Option ℕ). charged_head bodies o m) first
+  one_is t m alive first = ap (λ (k : Option ℕ). charged_unless_killed bodies k m) alive ∙ ap (λ (o : Option ℕ). charged_head bodies o m) first
 
   first_of : (a b c : Bool) → (a || b || c) ≡ false → a ≡ false
   first_of a b c e = grind arith
@@ -233,10 +233,10 @@ module _ {P : Type 0} (bodies : Bodies P) where
   idle_once zero m alive none = idle_is m alive none
     where
       idle_is : (m : Machine P) → m.killed ≡ None → head m ≡ None → one_charge bodies m ≡ record m { now = m.now + 1; last = last.Idle }
-      idle_is m alive none = ap (λ (k : Option ℕ). charged_unless bodies k m) alive ∙ ap (λ (o : Option ℕ). charged_head bodies o m) none
+      idle_is m alive none = ap (λ (k : Option ℕ). charged_unless_killed bodies k m) alive ∙ ap (λ (o : Option ℕ). charged_head bodies o m) none
   idle_once (suc k) m alive none =
       let on : Machine P = record m { now = m.now + suc k; last = last.Idle } in
       let more : m.now + suc k + 1 ≡ m.now + suc (suc k) = omega arith in
       ap (one_charge bodies) (idle_once k m alive none)
-      ∙ (ap (λ (k : Option ℕ). charged_unless bodies k on) alive ∙ ap (λ (o : Option ℕ). charged_head bodies o on) none)
+      ∙ (ap (λ (k : Option ℕ). charged_unless_killed bodies k on) alive ∙ ap (λ (o : Option ℕ). charged_head bodies o on) none)
       ∙ ap (λ (n : ℕ). record m { now = n; last = last.Idle }) more

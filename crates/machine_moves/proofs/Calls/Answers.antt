@@ -12,7 +12,7 @@ use Rattle.machine_rules.specs.Waiters.{Waiter, is_served_before, waiter_of, wai
 use Rattle.machine_rules.specs.Turns.{is_late, with_thread}
 use Rattle.machine_rules.specs.Mutexes.{LockAnswer, closes_cycle, counts, is_above_ceiling, is_free, lock_answer, locked_again, must_wait, owns, recursion_limit, refused, takes, trylock_answer}
 use Rattle.machine_rules.specs.Conditions.{released_mutex}
-use Rattle.machine_rules.specs.Signals.{acceptor, accepts, goes_to}
+use Rattle.machine_rules.specs.Signals.{acceptor, accepts, may_go_to}
 use Rattle.machine_rules.specs.GoodState.{is_in_condition_wait}
 use Rattle.machine_rules.proofs.ExecSame.{exec_same}
 use Rattle.machine_rules.proofs.Reading.{changed-keeps}
@@ -92,8 +92,8 @@ each_kept {X} Law passes (x ∷ xs) each = split (passes x) refl (each_kept Law 
 
 pub acceptor_waits : {P : Type 0} (m : Machine P) (r : SignalRecord) (w : Waiter) → acceptor m r ≡ Some w → WaitsSo m (accepts r) w.thread w.waiting
 acceptor_waits m r w e =
-    first_one (λ (w : Waiter). WaitsSo m (accepts r) w.thread w.waiting) is_served_before (filter (λ (w : Waiter). goes_to w.thread r.target) (waiters m (accepts r))) w
-    (each_kept (λ (w : Waiter). WaitsSo m (accepts r) w.thread w.waiting) (λ (w : Waiter). goes_to w.thread r.target) (waiters m (accepts r))
+    first_one (λ (w : Waiter). WaitsSo m (accepts r) w.thread w.waiting) is_served_before (filter (λ (w : Waiter). may_go_to w.thread r.target) (waiters m (accepts r))) w
+    (each_kept (λ (w : Waiter). WaitsSo m (accepts r) w.thread w.waiting) (λ (w : Waiter). may_go_to w.thread r.target) (waiters m (accepts r))
     (each_waiter m (accepts r) (numbers_from 0 (waits_so (accepts r)) m.threads) (all_pass m (accepts r)))) e
 
 pub waits_blocked : {P : Type 0} (m : Machine P) (t : ℕ) (w : Waiting) → waiting_of m t ≡ Some w → is_blocked (thread_at m t).status ≡ true
@@ -121,4 +121,4 @@ waiters_kept m t f passes h k =
 
 pub acceptor_kept : {P : Type 0} (m : Machine P) (t : ℕ) (f : Thread P → Thread P) (r : SignalRecord) → ((th : Thread P) → claim_of (f th) ≡ claim_of th) →
     ((th : Thread P) → (f th).status ≡ th.status) → acceptor (with_thread t f m) r ≡ acceptor m r
-acceptor_kept m t f r h k = ap (λ (ws : List Waiter). first_by is_served_before (filter (λ (w : Waiter). goes_to w.thread r.target) ws)) (waiters_kept m t f (accepts r) h k)
+acceptor_kept m t f r h k = ap (λ (ws : List Waiter). first_by is_served_before (filter (λ (w : Waiter). may_go_to w.thread r.target) ws)) (waiters_kept m t f (accepts r) h k)

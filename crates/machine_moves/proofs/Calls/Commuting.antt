@@ -13,7 +13,7 @@ use Rattle.machine_rules.specs.Lists.{changed_at}
 use Rattle.machine_rules.specs.State.{Frame, Machine, Mutex, Thread, Wait, for_mutex_again}
 use Rattle.machine_rules.specs.Threads.{can_run, is_blocked, is_runnable, no_thread, thread_at, waiting_in, waiting_of}
 use Rattle.machine_rules.specs.CallNames.{name_of}
-use Rattle.machine_rules.specs.Turns.{By, Turn, answered, changes, changes_mutex, frames_answered, moves, tells}
+use Rattle.machine_rules.specs.Turns.{Caller, Turn, answered, changes, changes_mutex, frames_answered, moves, tells}
 use Rattle.machine_rules.specs.Servers.{activates_if_high, activates_server, high_server, with_server}
 use Rattle.machine_rules.specs.Waking.{blocks, call_in, cancelled_value, ending_with, put_to_wait, wakes, wakes_telling, woken}
 use Rattle.machine_rules.specs.Mutexes.{returns_from_wait, wakes_owner}
@@ -88,7 +88,7 @@ changed_swap none zero (suc k) f g (x ∷ xs) h = refl
 changed_swap none (suc n) zero f g (x ∷ xs) h = refl
 changed_swap none (suc n) (suc k) f g (x ∷ xs) h = ap (λ ys. x ∷ ys) (changed_swap none n k f g xs (grind arith))
 
-module _ {P : Type 0} (by : By) (wait : Wait) (due : Option ℕ) (t : ℕ) (h : (t == by.thread) ≡ false) where
+module _ {P : Type 0} (by : Caller) (wait : Wait) (due : Option ℕ) (t : ℕ) (h : (t == by.thread) ≡ false) where
   abbrev blocking : Turn P → Turn P
   blocking s = blocks by wait due s
 

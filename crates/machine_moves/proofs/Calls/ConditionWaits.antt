@@ -9,7 +9,7 @@ use Rattle.machine_rules.specs.Bodies.{Bodies}
 use Rattle.machine_rules.specs.State.{Machine, Mutex, Status, Thread, Wait, Waiting, blocked, dormant, ended, for_condition, runnable}
 use Rattle.machine_rules.specs.Threads.{can_run, is_runnable, mutex_at, mutex_in, no_mutex, no_thread, thread_at, waiting_in, waiting_of}
 use Rattle.machine_rules.specs.Waiters.{Waiter, best_waiter, somebody_waits, waits_so}
-use Rattle.machine_rules.specs.Turns.{By, Turn, changes_mutex}
+use Rattle.machine_rules.specs.Turns.{Caller, Turn, changes_mutex}
 use Rattle.machine_rules.specs.Waking.{blocks, put_to_wait}
 use Rattle.machine_rules.specs.Mutexes.{freed, hands_over, owned_by, owns, taken_by, waits_for_mutex}
 use Rattle.machine_rules.specs.Conditions.{waits, waits_with_other_mutex}
@@ -35,7 +35,7 @@ none_left : (xs : List Mutex) (n : ℕ) → suc (length xs) ≡ n → n ≤ 1 �
 none_left [] n e h = refl
 none_left (x ∷ xs) n e h = absurd (omega arith)
 
-module _ {P : Type 0} (bodies : Bodies P) (who : Option ℕ) (Law Done : Turn P → Type 0) (keeps : KeepsAwake bodies who Law) (stops : Stops who Law Done) (by : By) (c k : ℕ) (due : Option ℕ) (s : Turn P) (runs : Runs who s.machine by.thread) where
+module _ {P : Type 0} (bodies : Bodies P) (who : Option ℕ) (Law Done : Turn P → Type 0) (keeps : KeepsAwake bodies who Law) (stops : Stops who Law Done) (by : Caller) (c k : ℕ) (due : Option ℕ) (s : Turn P) (runs : Runs who s.machine by.thread) where
   abbrev asleep : Turn P
   asleep = blocks by (for_condition c k) due s
 

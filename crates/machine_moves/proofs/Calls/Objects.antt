@@ -13,11 +13,11 @@ use Rattle.machine_rules.specs.State.{Machine, Status, Wait, Waiting, for_mutex,
 use Rattle.machine_rules.specs.Threads.{can_run, is_blocked, is_runnable, mutex_at, semaphore_at, thread_at, waiting_in, waiting_of}
 use Rattle.machine_rules.specs.Waiters.{Waiter, best_waiter, somebody_waits}
 use Rattle.machine_rules.specs.CallNames.{name_of}
-use Rattle.machine_rules.specs.Turns.{By, Turn, answered, changes, is_late, returns}
+use Rattle.machine_rules.specs.Turns.{Caller, Turn, answered, changes, is_late, returns}
 use Rattle.machine_rules.specs.Waking.{call_in, cancelled_value, ending_with, wakes, wakes_cancelled, wakes_telling}
-use Rattle.machine_rules.specs.Mutexes.{LockAnswer, counts, hands_over, is_free, lock_answer, locks, locks_on, must_wait, owns, refused, releases, returns_from_wait, taken_by, takes, tries_lock, trylock_answer, unlocks, waits_for_mutex, wakes_owner}
-use Rattle.machine_rules.specs.Conditions.{contends, contends_for, released_mutex, signals_best_of, signals_waiter, waits_on_condition}
-use Rattle.machine_rules.specs.Semaphores.{blocks_unless_late, posts, posts_to, semaphore_limit, tries_semaphore, waits_on_semaphore, waits_semaphore}
+use Rattle.machine_rules.specs.Mutexes.{LockAnswer, counts, hands_over, is_free, lock_answer, locks, carries_out_lock, must_wait, owns, refused, releases, returns_from_wait, taken_by, takes, tries_lock, trylock_answer, unlocks, waits_for_mutex, wakes_owner}
+use Rattle.machine_rules.specs.Conditions.{contends, reacquires_or_waits, released_mutex, signals_best_times, signals_waiter, waits_on_condition}
+use Rattle.machine_rules.specs.Semaphores.{blocks_unless_late, posts, wakes_waiter_or_raises_value, semaphore_limit, tries_semaphore, waits_on_semaphore, waits_semaphore}
 use Rattle.machine_rules.specs.GoodState.{is_in_condition_wait}
 use Rattle.machine_moves.specs.Moves.{KeepsAwake, MayWake, Stops, is_for_end, Runs, MayWait, alters, blocks_for, counts_down, counts_up, ends_with, frees, sem_down, sem_up, takes_for, tells_of, wakes_with}
 use Rattle.machine_moves.proofs.Waiters.Best.{best_waits, nobody_waits}
@@ -29,7 +29,7 @@ use Rattle.machine_moves.proofs.Calls.Answers.{InCondition, MayLock, lock_may, r
 abbrev pub status_in : {P : Type 0} → Turn P → ℕ → Status
 status_in s t = (thread_at s.machine t).status
 
-pub answered_status : {P : Type 0} (by : By) (r : Res) (v : ℕ) (s : Turn P) (u : ℕ) → status_in (returns by r v s) u ≡ status_in s u
+pub answered_status : {P : Type 0} (by : Caller) (r : Res) (v : ℕ) (s : Turn P) (u : ℕ) → status_in (returns by r v s) u ≡ status_in s u
 answered_status by r v s u = status_kept by.thread u (answered r v) (λ th. refl) s
 
 pub still_blocked : (a b : Status) → a ≡ b → is_blocked b ≡ true → is_blocked a ≡ true
@@ -56,7 +56,7 @@ pub best_may : {P : Type 0} (passes : Wait → Bool) → ((wait : Wait) → pass
 best_may passes h m w e = let best = best_waits m passes w e in wait_may m w.thread w.waiting best.0 (h w.waiting.wait best.1)
 
 -- the same after an answer
-pub answered_may : {P : Type 0} (by : By) (r : Res) (v : ℕ) (passes : Wait → Bool) → ((wait : Wait) → passes wait ≡ true → is_for_end wait ≡ false) → (s : Turn P) (w : Waiter) → best_waiter s.machine passes ≡ Some w →
+pub answered_may : {P : Type 0} (by : Caller) (r : Res) (v : ℕ) (passes : Wait → Bool) → ((wait : Wait) → passes wait ≡ true → is_for_end wait ≡ false) → (s : Turn P) (w : Waiter) → best_waiter s.machine passes ≡ Some w →
     MayWake (returns by r v s).machine w.thread
 answered_may by r v passes h s w e =
     let best = best_waits s.machine passes w e in wait_may (returns by r v s).machine w.thread w.waiting (ap waiting_in (answered_status by r v s w.thread) ∙ best.0) (h w.waiting.wait best.1)
@@ -81,7 +81,7 @@ module _ {P : Type 0} (bodies : Bodies P) (who : Option ℕ) (Law Done : Turn P 
 
   -- ---- answers, wakings
 
-  pub returns_keep : (by : By) (r : Res) (v : ℕ) (s : Turn P) → Law s → Law (returns by r v s)
+  pub returns_keep : (by : Caller) (r : Res) (v : ℕ) (s : Turn P) → Law s → Law (returns by r v s)
   returns_keep by r v s q =
       keeps (tells_of (event.Return by.thread (name_of by.call) r v)) (changes by.thread (answered r v) s) refl
       (keeps (alters by.thread (answered r v)) s (answered_core r v) q)
@@ -93,21 +93,21 @@ module _ {P : Type 0} (bodies : Bodies P) (who : Option ℕ) (Law Done : Turn P 
   wakes_cancelled_keep t s b q =
       keeps (ends_with t cancelled_value) (wakes_telling (event.Cancel t) t res.Zero 0 s) tt (keeps (wakes_with t (event.Cancel t) res.Zero 0) s (b.0, refl, b.1) q)
 
-  pub answers_done : (by : By) (r : Res) (v : ℕ) (s : Turn P) → Law s → Done (returns by r v s)
+  pub answers_done : (by : Caller) (r : Res) (v : ℕ) (s : Turn P) → Law s → Done (returns by r v s)
   answers_done by r v s q = stops.done (returns by r v s) (returns_keep by r v s q)
 
   -- ---- mutexes
 
-  locks_on_keep : (a : LockAnswer) (by : By) (k : ℕ) (due : Option ℕ) (s : Turn P) → Runs who s.machine by.thread → MayLock s.machine by.thread k a → Law s → Done (locks_on a by k due s)
+  locks_on_keep : (a : LockAnswer) (by : Caller) (k : ℕ) (due : Option ℕ) (s : Turn P) → Runs who s.machine by.thread → MayLock s.machine by.thread k a → Law s → Done (carries_out_lock a by k due s)
   locks_on_keep (refused r) by k due s runs may q = answers_done by r 0 s q
   locks_on_keep counts by k due s runs may q = answers_done by res.Zero 0 _ (keeps (counts_up k) s may q)
   locks_on_keep takes by k due s runs may q = answers_done by res.Zero 0 _ (keeps (takes_for by.thread k) s runs.0 q)
   locks_on_keep must_wait by k due s runs may q = stops.sleeps by (for_mutex k) due s runs (runs, may.0, may.1) q
 
-  pub locks_keep : (by : By) (k : ℕ) (due : Option ℕ) (s : Turn P) → Runs who s.machine by.thread → Law s → Done (locks by k due s)
+  pub locks_keep : (by : Caller) (k : ℕ) (due : Option ℕ) (s : Turn P) → Runs who s.machine by.thread → Law s → Done (locks by k due s)
   locks_keep by k due s runs q = locks_on_keep (lock_answer s.machine by.thread k due) by k due s runs (lock_may s.machine by.thread k due) q
 
-  pub tries_lock_keep : (by : By) (k : ℕ) (s : Turn P) → Runs who s.machine by.thread → Law s → Done (tries_lock by k s)
+  pub tries_lock_keep : (by : Caller) (k : ℕ) (s : Turn P) → Runs who s.machine by.thread → Law s → Done (tries_lock by k s)
   tries_lock_keep by k s runs q = locks_on_keep (trylock_answer s.machine by.thread k) by k None s runs (trylock_may s.machine by.thread k) q
 
   returns_from_wait_keep : (how : CondEnd) (t : ℕ) (s : Turn P) → MayWake s.machine t → Law s → Law (returns_from_wait how t s)
@@ -148,7 +148,7 @@ module _ {P : Type 0} (bodies : Bodies P) (who : Option ℕ) (Law Done : Turn P 
   releases_keep : (k : ℕ) (s : Turn P) → Law s → Law (releases k s)
   releases_keep k s q = let o = best_waiter s.machine (waits_for_mutex k) in hands_over_keep o k s (may_hand k s o refl) q
 
-  pub unlocks_keep : (by : By) (k : ℕ) (s : Turn P) → Law s → Law (unlocks by k s)
+  pub unlocks_keep : (by : Caller) (k : ℕ) (s : Turn P) → Law s → Law (unlocks by k s)
   unlocks_keep by k s q =
       either (not (owns s.machine by.thread k)) _ _ (λ e. returns_keep by res.Perm 0 s q)
       (λ e. either (nat_lt 1 (mutex_at s.machine k).count) _ _ (λ more. keeps (counts_down k) (returns by res.Zero 0 s) more (returns_keep by res.Zero 0 s q))
@@ -156,7 +156,7 @@ module _ {P : Type 0} (bodies : Bodies P) (who : Option ℕ) (Law Done : Turn P 
 
   -- ---- conditions
 
-  contends_for_keep : (o : Option ℕ) (t : ℕ) (how : CondEnd) (s : Turn P) → ((k : ℕ) → o ≡ Some k → InCondition (status_in s t)) → Law s → Law (contends_for o t how s)
+  contends_for_keep : (o : Option ℕ) (t : ℕ) (how : CondEnd) (s : Turn P) → ((k : ℕ) → o ≡ Some k → InCondition (status_in s t)) → Law s → Law (reacquires_or_waits o t how s)
   contends_for_keep None t how s waits q = q
   contends_for_keep (Some k) t how s waits q =
       either (is_free s.machine k) _ _
@@ -172,14 +172,14 @@ module _ {P : Type 0} (bodies : Bodies P) (who : Option ℕ) (Law Done : Turn P 
   signals_waiter_keep None s q = q
   signals_waiter_keep (Some w) s q = contends_keep w.thread cond_end.Signalled s q
 
-  pub signals_best_of_keep : (n c : ℕ) (s : Turn P) → Law s → Law (signals_best_of n c s)
+  pub signals_best_of_keep : (n c : ℕ) (s : Turn P) → Law s → Law (signals_best_times n c s)
   signals_best_of_keep zero c s q = q
   signals_best_of_keep (suc n) c s q =
-      signals_waiter_keep (best_waiter (signals_best_of n c s).machine (waits_on_condition c)) (signals_best_of n c s) (signals_best_of_keep n c s q)
+      signals_waiter_keep (best_waiter (signals_best_times n c s).machine (waits_on_condition c)) (signals_best_times n c s) (signals_best_of_keep n c s q)
 
   -- ---- semaphores
 
-  pub blocks_unless_late_keep : (by : By) (wait : Wait) (due : Option ℕ) (s : Turn P) → Runs who s.machine by.thread → MayWait who s.machine by.thread wait → Law s → Done (blocks_unless_late by wait due s)
+  pub blocks_unless_late_keep : (by : Caller) (wait : Wait) (due : Option ℕ) (s : Turn P) → Runs who s.machine by.thread → MayWait who s.machine by.thread wait → Law s → Done (blocks_unless_late by wait due s)
   blocks_unless_late_keep by wait due s runs may q =
       branch (is_late due s.machine) _ _ (λ late. answers_done by res.Timedout 0 s q) (λ early. stops.sleeps by wait due s runs may q)
 
@@ -187,16 +187,16 @@ module _ {P : Type 0} (bodies : Bodies P) (who : Option ℕ) (Law Done : Turn P 
   not_more zero e = refl
   not_more (suc v) e = absurd (grind arith)
 
-  pub waits_semaphore_keep : (by : By) (k : ℕ) (due : Option ℕ) (s : Turn P) → Runs who s.machine by.thread → Law s → Done (waits_semaphore by k due s)
+  pub waits_semaphore_keep : (by : Caller) (k : ℕ) (due : Option ℕ) (s : Turn P) → Runs who s.machine by.thread → Law s → Done (waits_semaphore by k due s)
   waits_semaphore_keep by k due s runs q =
       branch (nat_lt 0 (semaphore_at s.machine k)) _ _ (λ some. answers_done by res.Zero 0 _ (keeps (sem_down k) s tt q))
       (λ none. blocks_unless_late_keep by (for_semaphore k) due s runs (runs, not_more (semaphore_at s.machine k) none) q)
 
-  pub tries_semaphore_keep : (by : By) (k : ℕ) (s : Turn P) → Law s → Law (tries_semaphore by k s)
+  pub tries_semaphore_keep : (by : Caller) (k : ℕ) (s : Turn P) → Law s → Law (tries_semaphore by k s)
   tries_semaphore_keep by k s q =
       either (semaphore_at s.machine k == 0) _ _ (λ none. returns_keep by res.Again 0 s q) (λ some. returns_keep by res.Zero 0 _ (keeps (sem_down k) s tt q))
 
-  posts_to_keep : (o : Option Waiter) (by : By) (k : ℕ) (s : Turn P) → best_waiter s.machine (waits_on_semaphore k) ≡ o → Law s → Law (posts_to o by k s)
+  posts_to_keep : (o : Option Waiter) (by : Caller) (k : ℕ) (s : Turn P) → best_waiter s.machine (waits_on_semaphore k) ≡ o → Law s → Law (wakes_waiter_or_raises_value o by k s)
   posts_to_keep (Some w) by k s e q =
       wakes_keep w.thread res.Zero 0 (returns by res.Zero 0 s)
       (answered_may by res.Zero 0 (waits_on_semaphore k) (semaphore_not_end k) s w e) (returns_keep by res.Zero 0 s q)
@@ -204,5 +204,5 @@ module _ {P : Type 0} (bodies : Bodies P) (who : Option ℕ) (Law Done : Turn P 
       either (semaphore_at s.machine k == semaphore_limit) _ _ (λ full. returns_keep by res.Overflow 0 s q)
       (λ room. returns_keep by res.Zero 0 _ (keeps (sem_up k) s (nobody_waits s.machine (waits_on_semaphore k) e) q))
 
-  pub posts_keep : (by : By) (k : ℕ) (s : Turn P) → Law s → Law (posts by k s)
+  pub posts_keep : (by : Caller) (k : ℕ) (s : Turn P) → Law s → Law (posts by k s)
   posts_keep by k s q = posts_to_keep (best_waiter s.machine (waits_on_semaphore k)) by k s refl q

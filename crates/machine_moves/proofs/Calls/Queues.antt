@@ -10,10 +10,10 @@ use Rattle.machine_rules.specs.Bodies.{Bodies}
 use Rattle.machine_rules.specs.State.{Machine, Message, Queue, Registration, SignalRecord, Wait, for_end, for_message, for_room}
 use Rattle.machine_rules.specs.Threads.{action_of, no_queue, queue_at}
 use Rattle.machine_rules.specs.Waiters.{Waiter, best_waiter, somebody_waits}
-use Rattle.machine_rules.specs.Turns.{By, Turn, changes_queue, returns}
+use Rattle.machine_rules.specs.Turns.{Caller, Turn, changes_queue, returns}
 use Rattle.machine_rules.specs.Waking.{wakes}
-use Rattle.machine_rules.specs.Signals.{acceptor, generates_for, is_ignore}
-use Rattle.machine_rules.specs.Queues.{asks_notification, blocks_unless_nonblock, fired_by_message, has_room, highest_priority, is_notifying, message_of, next_message, notifies, receives_message, receives_on, record_of_notification, registered, sends_message, sends_to, takes_over, value_at, waits_to_receive, waits_to_send, with_message, without_message}
+use Rattle.machine_rules.specs.Signals.{acceptor, is_accepted_or_pends, is_ignore}
+use Rattle.machine_rules.specs.Queues.{asks_notification, blocks_unless_nonblock, fired_by_message, has_room, highest_priority, is_notifying, message_of, next_message, notifies, receives_message, takes_message_or_blocks, record_of_notification, registered, sends_message, reaches_receiver_or_queue, takes_over, value_at, waits_to_receive, waits_to_send, with_message, without_message}
 use Rattle.machine_rules.proofs.Reading.{changed-keeps}
 use Rattle.machine_moves.specs.Moves.{KeepsAwake, Stops, is_for_end, Runs, May, MayWait, fires, message_in, message_out, message_through, registers}
 use Rattle.machine_moves.proofs.Waiters.Best.{nobody_waits}
@@ -75,13 +75,13 @@ module _ {P : Type 0} (bodies : Bodies P) (who : Option ℕ) (Law Done : Turn P 
   either' : (b : Bool) (x y : Turn P) → (b ≡ true → Law x) → (b ≡ false → Law y) → Law (if b then x else y)
   either' = either bodies who Law Done keeps stops
 
-  answer : (by : By) (r : Res) (v : ℕ) (s : Turn P) → Law s → Law (returns by r v s)
+  answer : (by : Caller) (r : Res) (v : ℕ) (s : Turn P) → Law s → Law (returns by r v s)
   answer = returns_keep bodies who Law Done keeps stops
 
   branch' : (b : Bool) (x y : Turn P) → (b ≡ true → Done x) → (b ≡ false → Done y) → Done (if b then x else y)
   branch' = branch bodies who Law Done keeps stops
 
-  reply : (by : By) (r : Res) (v : ℕ) (s : Turn P) → Law s → Done (returns by r v s)
+  reply : (by : Caller) (r : Res) (v : ℕ) (s : Turn P) → Law s → Done (returns by r v s)
   reply = answers_done bodies who Law Done keeps stops
 
   -- ---- notifications
@@ -96,14 +96,14 @@ module _ {P : Type 0} (bodies : Bodies P) (who : Option ℕ) (Law Done : Turn P 
       none_new : May who (registers q None) s
       none_new r e = absurd (grind arith)
 
-      by_acceptor : (o : Option Waiter) → acceptor cleared.machine (record_of_notification q r) ≡ o → Law (generates_for o (record_of_notification q r) cleared)
+      by_acceptor : (o : Option Waiter) → acceptor cleared.machine (record_of_notification q r) ≡ o → Law (is_accepted_or_pends o (record_of_notification q r) cleared)
       by_acceptor (Some w) e =
           accepted_keep bodies who Law Done keeps stops w (record_of_notification q r) cleared (acceptor_waits cleared.machine (record_of_notification q r) w e)
           (keeps (registers q None) s none_new k)
       by_acceptor None e =
           either' (is_ignore (action_of cleared.machine r.signal)) _ _ (λ ignored. keeps (registers q None) s none_new k) (λ taken. keeps (fires q r) s (stands r refl, taken) k)
 
-  pub asks_notification_keep : (by : By) (q : ℕ) (r : Registration) (s : Turn P) → Law s → Law (asks_notification by q r s)
+  pub asks_notification_keep : (by : Caller) (q : ℕ) (r : Registration) (s : Turn P) → Law s → Law (asks_notification by q r s)
   asks_notification_keep by q r s k =
       either' (is_notifying s.machine q) _ _ (λ busy. answer by res.Busy 0 s k) (λ idle. answer by res.Zero 0 _ (keeps (registers q (Some r)) s (λ r' e. idle_none (is_some (queue_at s.machine q).registration) (list_any (λ (x : SignalRecord). is x.queue q) s.machine.pending) idle) k))
     where
@@ -112,12 +112,12 @@ module _ {P : Type 0} (bodies : Bodies P) (who : Option ℕ) (Law Done : Turn P 
 
   -- ---- sending
 
-  pub blocks_unless_nonblock_keep : (by : By) (q : ℕ) (wait : Wait) (due : Option ℕ) (s : Turn P) → Runs who s.machine by.thread → MayWait who s.machine by.thread wait → Law s → Done (blocks_unless_nonblock by q wait due s)
+  pub blocks_unless_nonblock_keep : (by : Caller) (q : ℕ) (wait : Wait) (due : Option ℕ) (s : Turn P) → Runs who s.machine by.thread → MayWait who s.machine by.thread wait → Law s → Done (blocks_unless_nonblock by q wait due s)
   blocks_unless_nonblock_keep by q wait due s runs may k =
       branch' (queue_at s.machine q).is_nonblock _ _ (λ nonblock. reply by res.Again 0 s k) (λ b. blocks_unless_late_keep bodies who Law Done keeps stops by wait due s runs may k)
 
-  sends_to_keep : (o : Option Waiter) (by : By) (q : ℕ) (x : Message) (due : Option ℕ) (s : Turn P) → Runs who s.machine by.thread → best_waiter s.machine (waits_to_receive q) ≡ o →
-      Law s → Done (sends_to o by q x due s)
+  sends_to_keep : (o : Option Waiter) (by : Caller) (q : ℕ) (x : Message) (due : Option ℕ) (s : Turn P) → Runs who s.machine by.thread → best_waiter s.machine (waits_to_receive q) ≡ o →
+      Law s → Done (reaches_receiver_or_queue o by q x due s)
   sends_to_keep (Some w) by q x due s runs e k =
       stops.done _ (wakes_keep bodies who Law Done keeps stops w.thread res.Zero x.value (returns by res.Zero 0 s)
       (answered_may by res.Zero 0 (waits_to_receive q) (receive_not_end q) s w e) (answer by res.Zero 0 s k))
@@ -128,7 +128,7 @@ module _ {P : Type 0} (bodies : Bodies P) (who : Option ℕ) (Law Done : Turn P 
       (answer by res.Zero 0 _ (keeps (message_in q x) s (nobody_waits s.machine (waits_to_receive q) e, room) k))))
       (λ full. blocks_unless_nonblock_keep by q (for_room q x) due s runs (runs, full) k)
 
-  pub sends_message_keep : (by : By) (q len : ℕ) (x : Message) (due : Option ℕ) (s : Turn P) → Runs who s.machine by.thread → Law s → Done (sends_message by q len x due s)
+  pub sends_message_keep : (by : Caller) (q len : ℕ) (x : Message) (due : Option ℕ) (s : Turn P) → Runs who s.machine by.thread → Law s → Done (sends_message by q len x due s)
   sends_message_keep by q len x due s runs k =
       branch' (nat_lt (queue_at s.machine q).longest len) _ _ (λ long. reply by res.Msgsize 0 s k)
       (λ short. sends_to_keep (best_waiter s.machine (waits_to_receive q)) by q x due s runs refl k)
@@ -136,10 +136,10 @@ module _ {P : Type 0} (bodies : Bodies P) (who : Option ℕ) (Law Done : Turn P 
   -- ---- receiving
 
   -- a message is out, and the call has its answer
-  abbrev taken : By → ℕ → ℕ → Turn P → Turn P
+  abbrev taken : Caller → ℕ → ℕ → Turn P → Turn P
   taken by q n s = returns by res.Zero (value_at (queue_at s.machine q).messages n) (changes_queue q (without_message n) s)
 
-  takes_over_keep : (o : Option Waiter) (by : By) (q n : ℕ) (s : Turn P) → next_message (queue_at s.machine q).messages ≡ Some n → best_waiter s.machine (waits_to_send q) ≡ o →
+  takes_over_keep : (o : Option Waiter) (by : Caller) (q n : ℕ) (s : Turn P) → next_message (queue_at s.machine q).messages ≡ Some n → best_waiter s.machine (waits_to_send q) ≡ o →
       Law s → Law (takes_over o q (taken by q n s))
   takes_over_keep None by q n s next e k =
       answer by res.Zero (value_at (queue_at s.machine q).messages n) _ (keeps (message_out q n) s (next, nobody_waits s.machine (waits_to_send q) e) k)
@@ -155,9 +155,9 @@ module _ {P : Type 0} (bodies : Bodies P) (who : Option ℕ) (Law Done : Turn P 
       (wakes_keep bodies who Law Done keeps stops w.thread res.Zero 0 through (answered_may by res.Zero v (waits_to_send q) (send_not_end q) s w e)
       (answer by res.Zero v _ (keeps (message_through q n x) s next k)))
 
-  receives_on_keep : (o : Option ℕ) (by : By) (q : ℕ) (due : Option ℕ) (s : Turn P) → next_message (queue_at s.machine q).messages ≡ o → Runs who s.machine by.thread → Law s → Done (receives_on o by q due s)
+  receives_on_keep : (o : Option ℕ) (by : Caller) (q : ℕ) (due : Option ℕ) (s : Turn P) → next_message (queue_at s.machine q).messages ≡ o → Runs who s.machine by.thread → Law s → Done (takes_message_or_blocks o by q due s)
   receives_on_keep (Some n) by q due s e runs k = stops.done _ (takes_over_keep (best_waiter s.machine (waits_to_send q)) by q n s e refl k)
   receives_on_keep None by q due s e runs k = blocks_unless_nonblock_keep by q (for_message q) due s runs (runs, no_next (queue_at s.machine q).messages e) k
 
-  pub receives_message_keep : (by : By) (q : ℕ) (due : Option ℕ) (s : Turn P) → Runs who s.machine by.thread → Law s → Done (receives_message by q due s)
+  pub receives_message_keep : (by : Caller) (q : ℕ) (due : Option ℕ) (s : Turn P) → Runs who s.machine by.thread → Law s → Done (receives_message by q due s)
   receives_message_keep by q due s runs k = receives_on_keep (next_message (queue_at s.machine q).messages) by q due s refl runs k

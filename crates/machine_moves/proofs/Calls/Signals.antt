@@ -11,8 +11,8 @@ use Rattle.machine_rules.specs.Bodies.{Bodies}
 use Rattle.machine_rules.specs.State.{Machine, SignalRecord, Timer, Wait, for_end, for_signal, for_time}
 use Rattle.machine_rules.specs.Threads.{action_of, thread_in, timer_at, waiting_in}
 use Rattle.machine_rules.specs.Waiters.{Waiter}
-use Rattle.machine_rules.specs.Turns.{By, Turn, answered, has_passed, returns, tells}
-use Rattle.machine_rules.specs.Signals.{acceptor, accepts, delivers, generates, generates_for, goes_to, has_no_room, is_full, is_ignore, selected, sends_signal, tells_overrun, waits_signal, waits_signal_on, waits_ticks, with_overrun_told}
+use Rattle.machine_rules.specs.Turns.{Caller, Turn, answered, has_passed, returns, tells}
+use Rattle.machine_rules.specs.Signals.{acceptor, accepts, delivers, generates, is_accepted_or_pends, may_go_to, has_no_room, is_full, is_ignore, selected, sends_signal, tells_overrun, waits_signal, takes_signal_or_waits, blocks_for_signal, with_overrun_told}
 use Rattle.machine_rules.specs.DueItems.{has_come, timer_due}
 use Rattle.machine_rules.specs.Timers.{armed_again, expires, is_pending_from, overrun_once_more, record_of_timer, signals_expiry, sleeps_until}
 use Rattle.machine_moves.specs.Moves.{KeepsAwake, Stops, is_for_end, Runs, MayPend, record_in, record_out, sets_timer_by, tells_of}
@@ -39,13 +39,13 @@ module _ {P : Type 0} (bodies : Bodies P) (who : Option ℕ) (Law Done : Turn P 
   either' : (b : Bool) (x y : Turn P) → (b ≡ true → Law x) → (b ≡ false → Law y) → Law (if b then x else y)
   either' = either bodies who Law Done keeps stops
 
-  answer : (by : By) (r : Res) (v : ℕ) (s : Turn P) → Law s → Law (returns by r v s)
+  answer : (by : Caller) (r : Res) (v : ℕ) (s : Turn P) → Law s → Law (returns by r v s)
   answer = returns_keep bodies who Law Done keeps stops
 
   branch' : (b : Bool) (x y : Turn P) → (b ≡ true → Done x) → (b ≡ false → Done y) → Done (if b then x else y)
   branch' = branch bodies who Law Done keeps stops
 
-  reply : (by : By) (r : Res) (v : ℕ) (s : Turn P) → Law s → Done (returns by r v s)
+  reply : (by : Caller) (r : Res) (v : ℕ) (s : Turn P) → Law s → Done (returns by r v s)
   reply = answers_done bodies who Law Done keeps stops
 
   -- ---- signals
@@ -59,11 +59,11 @@ module _ {P : Type 0} (bodies : Bodies P) (who : Option ℕ) (Law Done : Turn P 
       let e = event.Deliver t r.signal r.code r.value in
       overrun_keep r.timer (tells e s) (keeps (tells_of e) s refl q)
 
-  pub accepted_keep : (w : Waiter) (r : SignalRecord) (s : Turn P) → WaitsSo s.machine (accepts r) w.thread w.waiting → Law s → Law (generates_for (Some w) r s)
+  pub accepted_keep : (w : Waiter) (r : SignalRecord) (s : Turn P) → WaitsSo s.machine (accepts r) w.thread w.waiting → Law s → Law (is_accepted_or_pends (Some w) r s)
   accepted_keep w r s b q =
       wakes_keep bodies who Law Done keeps stops w.thread res.Zero r.signal (delivers w.thread r s) (wait_may (delivers w.thread r s).machine w.thread w.waiting (ap waiting_in (delivered_status w.thread r s w.thread) ∙ b.0) (accepts_not_end r w.waiting.wait b.1)) (delivers_keep w.thread r s q)
 
-  generates_for_keep : (o : Option Waiter) (r : SignalRecord) (s : Turn P) → acceptor s.machine r ≡ o → MayGenerate s.machine r → Law s → Law (generates_for o r s)
+  generates_for_keep : (o : Option Waiter) (r : SignalRecord) (s : Turn P) → acceptor s.machine r ≡ o → MayGenerate s.machine r → Law s → Law (is_accepted_or_pends o r s)
   generates_for_keep (Some w) r s e may q = accepted_keep w r s (acceptor_waits s.machine r w e) q
   generates_for_keep None r s e may q =
       either' (is_ignore (action_of s.machine r.signal)) _ _ (λ ignored. q) (λ taken. keeps (record_in r) s (may e taken, taken) q)
@@ -76,7 +76,7 @@ module _ {P : Type 0} (bodies : Bodies P) (who : Option ℕ) (Law Done : Turn P 
     pub timer : r.timer ≡ None
     pub queue : r.queue ≡ None
 
-  sent_may : (by : By) (r : SignalRecord) (s : Turn P) → Sent r → has_no_room s.machine r ≡ false → MayGenerate (returns by res.Zero 0 s).machine r
+  sent_may : (by : Caller) (r : SignalRecord) (s : Turn P) → Sent r → has_no_room s.machine r ≡ false → MayGenerate (returns by res.Zero 0 s).machine r
   sent_may by r s sent room none taken = record {
     few = λ counted. full (acceptor s.machine r) (is_ignore (action_of s.machine r.signal)) (is_full s.machine) (sym (acceptor_kept s.machine by.thread (answered res.Zero 0) r (λ th. refl) (λ th. refl)) ∙ none) taken room;
     timer = λ k h. absurd (of_none k h);
@@ -93,25 +93,25 @@ module _ {P : Type 0} (bodies : Bodies P) (who : Option ℕ) (Law Done : Turn P 
       full None false full' e f g = grind arith
       full (Some w) ignored full' e f g = absurd (grind arith)
 
-  pub sends_signal_keep : (by : By) (r : SignalRecord) (s : Turn P) → Sent r → Law s → Law (sends_signal by r s)
+  pub sends_signal_keep : (by : Caller) (r : SignalRecord) (s : Turn P) → Sent r → Law s → Law (sends_signal by r s)
   sends_signal_keep by r s sent q =
       either' (has_no_room s.machine r) _ _ (λ none. answer by res.Again 0 s q) (λ room. generates_keep r (returns by res.Zero 0 s) (sent_may by r s sent room) (answer by res.Zero 0 s q))
 
-  waits_ticks_keep : (n : Option ℕ) (by : By) (set : ℕ) (s : Turn P) → Runs who s.machine by.thread → Law s → Done (waits_ticks n by set s)
+  waits_ticks_keep : (n : Option ℕ) (by : Caller) (set : ℕ) (s : Turn P) → Runs who s.machine by.thread → Law s → Done (blocks_for_signal n by set s)
   waits_ticks_keep None by set s runs q = stops.sleeps by (for_signal set) None s runs runs q
   waits_ticks_keep (Some zero) by set s runs q = reply by res.Again 0 s q
   waits_ticks_keep (Some (suc n)) by set s runs q = stops.sleeps by (for_signal set) (Some (s.machine.now + suc n)) s runs runs q
 
-  waits_signal_on_keep : (o : Option SignalRecord) (n : Option ℕ) (by : By) (set : ℕ) (s : Turn P) → Runs who s.machine by.thread → Law s → Done (waits_signal_on o n by set s)
+  waits_signal_on_keep : (o : Option SignalRecord) (n : Option ℕ) (by : Caller) (set : ℕ) (s : Turn P) → Runs who s.machine by.thread → Law s → Done (takes_signal_or_waits o n by set s)
   waits_signal_on_keep (Some r) n by set s runs q = reply by res.Zero r.signal _ (delivers_keep by.thread r _ (keeps (record_out r) s tt q))
   waits_signal_on_keep None n by set s runs q = waits_ticks_keep n by set s runs q
 
-  pub waits_signal_keep : (n : Option ℕ) (by : By) (set : ℕ) (s : Turn P) → Runs who s.machine by.thread → Law s → Done (waits_signal n by set s)
-  waits_signal_keep n by set s runs q = waits_signal_on_keep (selected s.machine (λ (r : SignalRecord). has_signal set r.signal && goes_to by.thread r.target)) n by set s runs q
+  pub waits_signal_keep : (n : Option ℕ) (by : Caller) (set : ℕ) (s : Turn P) → Runs who s.machine by.thread → Law s → Done (waits_signal n by set s)
+  waits_signal_keep n by set s runs q = waits_signal_on_keep (selected s.machine (λ (r : SignalRecord). has_signal set r.signal && may_go_to by.thread r.target)) n by set s runs q
 
   -- ---- time
 
-  pub sleeps_until_keep : (by : By) (at : ℕ) (s : Turn P) → Runs who s.machine by.thread → Law s → Done (sleeps_until by at s)
+  pub sleeps_until_keep : (by : Caller) (at : ℕ) (s : Turn P) → Runs who s.machine by.thread → Law s → Done (sleeps_until by at s)
   sleeps_until_keep by at s runs q =
       branch' (has_passed at s.machine) _ _ (λ passed. reply by res.Zero 0 s q) (λ later. stops.dozes by for_time (Some at) s runs runs refl q)
 

@@ -24,19 +24,19 @@ use Rattle.machine_rules.specs.Bodies.{Bodies}
 use Rattle.machine_rules.specs.State.{Joiner, Machine, SignalRecord, Thread, Wait, Waiting, for_condition, for_end, for_mutex, for_mutex_again, for_signal, for_time, has_joined, nobody, waits_to_join}
 use Rattle.machine_rules.specs.Threads.{action_of, can_run, is_dormant, is_live, is_runnable, lives, no_thread, number_of, thread_at, thread_in, top_kind, waiting_of}
 use Rattle.machine_rules.specs.Waiters.{waiters}
-use Rattle.machine_rules.specs.Turns.{By, Turn, changes, changes_pending, moves_if, returns, tells}
+use Rattle.machine_rules.specs.Turns.{Caller, Turn, changes, changes_pending, moves_if, returns, tells}
 use Rattle.machine_rules.specs.Waking.{cancelled_value, new_frame}
 use Rattle.machine_rules.specs.Mutexes.{owns_boosting}
 use Rattle.machine_rules.specs.Conditions.{waits_on_condition}
-use Rattle.machine_rules.specs.Signals.{goes_to, is_kill, is_selected_before, selected, record_of_kill, record_of_sigqueue, sets_mask, with_signals, without_record, without_signals}
+use Rattle.machine_rules.specs.Signals.{may_go_to, is_kill, is_selected_before, selected, record_of_kill, record_of_sigqueue, sets_mask, with_signals, without_record, without_signals}
 use Rattle.machine_rules.specs.Timers.{armed, first_expiry}
-use Rattle.machine_rules.specs.Lives.{creates, ends, finishes_in, inherited_mask, is_nobody, joins, wakes_joiner, with_joiner, without_life, without_target}
+use Rattle.machine_rules.specs.Lives.{creates, ends, ends_frame, inherited_mask, is_nobody, joins, wakes_joiner, with_joiner, without_life, without_target}
 use Rattle.machine_rules.specs.Cancellation.{cancels, is_cancellation_point, leaves, leaves_wait, request_acts, requested, runs_cleanup_if}
 use Rattle.machine_rules.specs.Budget.{renews}
 use Rattle.machine_rules.specs.Scheduling.{sets_policy, sets_priority, takes_priority}
 use Rattle.machine_rules.specs.Calls.{call_effect, makes_call, unit_effect}
 use Rattle.machine_rules.specs.Delivery.{can_take, defers_handlers, may_be_interrupted, may_run_handler, acts, interrupts, sweeps_all, sweeps_thread, taken_by_sweep, takes_record, ticks_left}
-use Rattle.machine_rules.specs.DueItems.{has_come, times_out, times_out_of}
+use Rattle.machine_rules.specs.DueItems.{has_come, times_out, wait_times_out}
 use Rattle.machine_rules.proofs.Reading.{changed-keeps, thread-other}
 use Rattle.machine_moves.specs.Moves.{KeepsAwake, Stops, is_for_end, rejoins, Runs, alters, begins, core_of, directs, does, drops, ends_process, ends_with, enters_frame, leaves_frame, lives_no_more, prices, pushes, record_out, records_of_ended, renews_with, sets_timer_by, tells_of}
 use Rattle.machine_rules.specs.WellFormed.{CallFits, IsPriority, PolicyFits}
@@ -122,7 +122,7 @@ abbrev MayInterrupt : {P : Type 0} → Machine P → ℕ → SigAction → Type 
 MayInterrupt m t a = is_kill a ≡ false → may_run_handler m t ≡ true
 
 take_may : {P : Type 0} (m : Machine P) (t : ℕ) (r : SignalRecord) → can_take m t r ≡ true → MayInterrupt m t (action_of m r.signal)
-take_may m t r e k = last_of (goes_to t r.target && not (has_signal (thread_at m t).mask r.signal)) (is_kill (action_of m r.signal)) (may_run_handler m t) e k
+take_may m t r e k = last_of (may_go_to t r.target && not (has_signal (thread_at m t).mask r.signal)) (is_kill (action_of m r.signal)) (may_run_handler m t) e k
   where
     last_of : (a b c : Bool) → (a && (b || c)) ≡ true → b ≡ false → c ≡ true
     last_of a b c e k = grind arith
@@ -131,7 +131,7 @@ module _ {P : Type 0} (bodies : Bodies P) (who : Option ℕ) (Law Done : Turn P 
   either' : (b : Bool) (x y : Turn P) → (b ≡ true → Law x) → (b ≡ false → Law y) → Law (if b then x else y)
   either' = either bodies who Law Done keeps stops
 
-  answer : (by : By) (r : Res) (v : ℕ) (s : Turn P) → Law s → Law (returns by r v s)
+  answer : (by : Caller) (r : Res) (v : ℕ) (s : Turn P) → Law s → Law (returns by r v s)
   answer = returns_keep bodies who Law Done keeps stops
 
   -- a thread changes in nothing that others go by
@@ -139,7 +139,7 @@ module _ {P : Type 0} (bodies : Bodies P) (who : Option ℕ) (Law Done : Turn P 
   same t f h s q = keeps (alters t f) s h q
 
   -- an effect on a thread that lives
-  live_keep : (by : By) (u : ℕ) (x s : Turn P) → (lives s.machine u ≡ true → Law x) → Law s → Law (if lives s.machine u then x else returns by res.Srch 0 s)
+  live_keep : (by : Caller) (u : ℕ) (x s : Turn P) → (lives s.machine u ≡ true → Law x) → Law s → Law (if lives s.machine u then x else returns by res.Srch 0 s)
   live_keep by u x s h q = either' (lives s.machine u) x _ h (λ dead. answer by res.Srch 0 s q)
 
   moves_if_keep : (b : Bool) (t : ℕ) (s : Turn P) → Law s → Law (moves_if b t s)
@@ -149,12 +149,12 @@ module _ {P : Type 0} (bodies : Bodies P) (who : Option ℕ) (Law Done : Turn P 
   branch' : (b : Bool) (x y : Turn P) → (b ≡ true → Done x) → (b ≡ false → Done y) → Done (if b then x else y)
   branch' = branch bodies who Law Done keeps stops
 
-  reply : (by : By) (r : Res) (v : ℕ) (s : Turn P) → Law s → Done (returns by r v s)
+  reply : (by : Caller) (r : Res) (v : ℕ) (s : Turn P) → Law s → Done (returns by r v s)
   reply = answers_done bodies who Law Done keeps stops
 
   -- ---- lives
 
-  creates_keep : (by : By) (u : ℕ) (s : Turn P) → Law s → Law (creates bodies by u s)
+  creates_keep : (by : Caller) (u : ℕ) (s : Turn P) → Law s → Law (creates bodies by u s)
   creates_keep by u s q =
       either' (is_dormant (thread_at s.machine u).status) _ _
       (λ dormant. keeps (begins u (inherited_mask (thread_at s.machine by.thread))) (returns by res.Zero 0 s) (ap is_dormant (answered_status by res.Zero 0 s u) ∙ dormant) (answer by res.Zero 0 s q))
@@ -163,7 +163,7 @@ module _ {P : Type 0} (bodies : Bodies P) (who : Option ℕ) (Law Done : Turn P 
   free_of : {b : Bool} → not b ≡ false → b ≡ true
   free_of {b} e = grind arith
 
-  joins_keep : (by : By) (u : ℕ) (s : Turn P) → Runs who s.machine by.thread → Law s → Done (joins by u s)
+  joins_keep : (by : Caller) (u : ℕ) (s : Turn P) → Runs who s.machine by.thread → Law s → Done (joins by u s)
   joins_keep by u s runs q =
       branch' (u == by.thread) _ _ (λ e. reply by res.Deadlk 0 s q)
       (λ other. branch' (is_dormant (thread_at s.machine u).status) _ _ (λ e. reply by res.Srch 0 s q)
@@ -189,7 +189,7 @@ module _ {P : Type 0} (bodies : Bodies P) (who : Option ℕ) (Law Done : Turn P 
   ends_keep t s runs q = let left : Law (gone t s) = keeps (records_of_ended t) _ tt (keeps (lives_no_more t) s runs q) in
       wakes_joiner_keep (thread_at s.machine t).joiner t (gone t s) (changed-keeps no_thread t t without_life (λ (th : Thread P). th.joiner) (λ th. refl) s.machine.threads) left
 
-  finishes_in_keep : (kind : FrameKind) (t : ℕ) (s : Turn P) → Runs who s.machine t → Law s → Law (finishes_in kind t s)
+  finishes_in_keep : (kind : FrameKind) (t : ℕ) (s : Turn P) → Runs who s.machine t → Law s → Law (ends_frame kind t s)
   finishes_in_keep frame.Main t s runs q = ends_keep t s runs q
   finishes_in_keep frame.Cleanup t s runs q = keeps (leaves_frame t) s tt q
   finishes_in_keep frame.Signal t s runs q = keeps (leaves_frame t) s tt q
@@ -210,7 +210,7 @@ module _ {P : Type 0} (bodies : Bodies P) (who : Option ℕ) (Law Done : Turn P 
   leaves_wait_keep None u s e q = q
   leaves_wait_keep (Some w) u s e q = leaves_keep w.wait u s w e refl q
 
-  cancels_keep : (by : By) (u : ℕ) (s : Turn P) → Law s → Law (cancels by u s)
+  cancels_keep : (by : Caller) (u : ℕ) (s : Turn P) → Law s → Law (cancels by u s)
   cancels_keep by u s q = live_keep by u _ s (λ live. let asked = changes u requested (returns by res.Zero 0 s) in
       let k : Law asked = same u requested (λ th. refl) (returns by res.Zero 0 s) (answer by res.Zero 0 s q) in
       either' (request_acts (thread_at asked.machine u)) _ _ (λ acts. leaves_wait_keep (waiting_of asked.machine u) u asked refl k) (λ e. k)) q
@@ -222,20 +222,20 @@ module _ {P : Type 0} (bodies : Bodies P) (who : Option ℕ) (Law Done : Turn P 
 
   -- ---- scheduling
 
-  sets_priority_keep : (by : By) (u p : ℕ) (s : Turn P) → IsPriority p → Law s → Law (sets_priority by u p s)
+  sets_priority_keep : (by : Caller) (u p : ℕ) (s : Turn P) → IsPriority p → Law s → Law (sets_priority by u p s)
   sets_priority_keep by u p s small q = live_keep by u _ s (λ live.
       either' (takes_priority (thread_at s.machine u).policy p) _ _ (λ fits. answer by res.Zero 0 _ (keeps (prices u p) s (live, fits, small) q)) (λ e. answer by res.Inval 0 s q)) q
 
   abbrev renewing : Bool → ℕ → Policy → Turn P → Turn P
   renewing active u new s = does bodies (renews_with active u new) s
 
-  sets_policy_keep : (by : By) (u : ℕ) (new : Policy) (s : Turn P) → PolicyFits new → stops.renewable u ≡ true → Law s → Law (sets_policy by u new s)
+  sets_policy_keep : (by : Caller) (u : ℕ) (new : Policy) (s : Turn P) → PolicyFits new → stops.renewable u ≡ true → Law s → Law (sets_policy by u new s)
   sets_policy_keep by u new s known fits q = live_keep by u _ s (λ live.
       let told = returns by res.Zero 0 s in
       let renewed = stops.renewing (can_run s.machine u) u new told fits (ap is_live (answered_status by res.Zero 0 s u) ∙ live) (sym (ap is_runnable (answered_status by res.Zero 0 s u))) known (answer by res.Zero 0 s q) in
       moves_if_keep (not (owns_boosting (renewing (can_run s.machine u) u new told).machine u)) u (renewing (can_run s.machine u) u new told) renewed) q
 
-  sets_mask_keep : (by : By) (change : ℕ → ℕ) (s : Turn P) → Law s → Law (sets_mask by change s)
+  sets_mask_keep : (by : Caller) (change : ℕ → ℕ) (s : Turn P) → Law s → Law (sets_mask by change s)
   sets_mask_keep by change s q = answer by res.Zero 0 _ (same by.thread (λ th. record th { mask = change th.mask }) (λ th. refl) s q)
 
   -- ---- the table
@@ -247,7 +247,7 @@ module _ {P : Type 0} (bodies : Bodies P) (who : Option ℕ) (Law Done : Turn P 
   abbrev pub Fits : Unit → Type 0
   Fits u = (v : ℕ) → renews v u ≡ true → stops.renewable v ≡ true
 
-  call_keep : (by : By) (c : Call) (s : Turn P) → CallFits c → Runs who s.machine by.thread → Fits (unit.Make c) → Law s → Done (call_effect bodies by c s)
+  call_keep : (by : Caller) (c : Call) (s : Turn P) → CallFits c → Runs who s.machine by.thread → Fits (unit.Make c) → Law s → Done (call_effect bodies by c s)
   call_keep by call.Yield s known runs fits q = stops.done _ (answer by res.Zero 0 _ (keeps (directs by.thread) s tt q))
   call_keep by (call.Create u) s known runs fits q = stops.done _ (creates_keep by u s q)
   call_keep by (call.Join u) s known runs fits q = joins_keep by u s runs q
@@ -296,7 +296,7 @@ module _ {P : Type 0} (bodies : Bodies P) (who : Option ℕ) (Law Done : Turn P 
   call_keep by (call.MqTimedreceive q' at) s known runs fits q = receives_message_keep bodies who Law Done keeps stops by q' (Some (number_of s.machine by.thread at)) s runs q
   call_keep by (call.MqNotify q' signal v) s known runs fits q = stops.done _ (asks_notification_keep bodies who Law Done keeps stops by q' _ s q)
 
-  makes_call_keep : (by : By) (s : Turn P) → CallFits by.call → Runs who s.machine by.thread → Fits (unit.Make by.call) → Law s → Done (makes_call bodies by s)
+  makes_call_keep : (by : Caller) (s : Turn P) → CallFits by.call → Runs who s.machine by.thread → Fits (unit.Make by.call) → Law s → Done (makes_call bodies by s)
   makes_call_keep by s known runs fits q =
       branch' (is_cancellation_point by.call && request_acts (thread_at s.machine by.thread)) _ _
       (λ acts. stops.done _ (keeps (ends_with by.thread cancelled_value) _ tt (keeps (tells_of (event.Cancel by.thread)) s refl q))) (λ e. call_keep by by.call s known runs fits q)
@@ -309,7 +309,7 @@ module _ {P : Type 0} (bodies : Bodies P) (who : Option ℕ) (Law Done : Turn P 
 
   -- ---- due items
 
-  times_out_of_keep : (wait : Wait) (t : ℕ) (s : Turn P) (w : Waiting) → waiting_of s.machine t ≡ Some w → w.wait ≡ wait → has_come w.due s.machine.now ≡ true → Law s → Law (times_out_of wait t s)
+  times_out_of_keep : (wait : Wait) (t : ℕ) (s : Turn P) (w : Waiting) → waiting_of s.machine t ≡ Some w → w.wait ≡ wait → has_come w.due s.machine.now ≡ true → Law s → Law (wait_times_out wait t s)
   times_out_of_keep (for_condition c k) t s w e h d q = contends_keep bodies who Law Done keeps stops t cond_end.Timedout s q
   times_out_of_keep for_time t s w e h d q = wakes_keep bodies who Law Done keeps stops t res.Zero 0 s (wait_may s.machine t w e (ap is_for_end h)) q
   times_out_of_keep (for_signal set) t s w e h d q = wakes_keep bodies who Law Done keeps stops t res.Again 0 s (wait_may s.machine t w e (ap is_for_end h)) q

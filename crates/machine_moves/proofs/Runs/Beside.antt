@@ -5,7 +5,7 @@ use Rattle.machine_rules.specs.Bodies.{Bodies}
 use Rattle.machine_rules.specs.State.{Machine, Wait, for_end, waits_to_join}
 use Rattle.machine_rules.specs.Threads.{can_run, thread_at}
 use Rattle.machine_rules.specs.Settling.{settled}
-use Rattle.machine_rules.specs.Turns.{By, Turn, becomes, changes}
+use Rattle.machine_rules.specs.Turns.{Caller, Turn, becomes, changes}
 use Rattle.machine_rules.specs.Servers.{has_high}
 use Rattle.machine_rules.specs.Waking.{blocks, blocks_unordered}
 use Rattle.machine_rules.specs.Lives.{is_nobody, with_joiner}
@@ -21,10 +21,10 @@ module _ {P : Type 0} (bodies : Bodies P) (Rest : Machine P → Type 0) (Law : M
   -- the unit's own thread blocks last
   pub record StopsBeside (b : Bool) (t : ℕ) (before : Machine P) : Type 0 where
     pub done : (s : Turn P) → Mid b t before s → Mid' b t before s → Done' b t before s
-    pub sleeps : (by : By) (wait : Wait) (due : Option ℕ) (s : Turn P) → Runs (Some t) s.machine by.thread → MayWait (Some t) s.machine by.thread wait → Mid b t before s → Mid' b t before s → Done' b t before (blocks by wait due s)
-    pub dozes : (by : By) (wait : Wait) (due : Option ℕ) (s : Turn P) → Runs (Some t) s.machine by.thread → MayWaitPlainly (Some t) s.machine by.thread wait → is_for_end wait ≡ false → Mid b t before s → Mid' b t before s →
+    pub sleeps : (by : Caller) (wait : Wait) (due : Option ℕ) (s : Turn P) → Runs (Some t) s.machine by.thread → MayWait (Some t) s.machine by.thread wait → Mid b t before s → Mid' b t before s → Done' b t before (blocks by wait due s)
+    pub dozes : (by : Caller) (wait : Wait) (due : Option ℕ) (s : Turn P) → Runs (Some t) s.machine by.thread → MayWaitPlainly (Some t) s.machine by.thread wait → is_for_end wait ≡ false → Mid b t before s → Mid' b t before s →
         Done' b t before (blocks_unordered by wait due s)
-    pub joins : (by : By) (u : ℕ) (s : Turn P) → Runs (Some t) s.machine by.thread → (u == by.thread) ≡ false → is_nobody (thread_at s.machine u).joiner ≡ true → Mid b t before s → Mid' b t before s →
+    pub joins : (by : Caller) (u : ℕ) (s : Turn P) → Runs (Some t) s.machine by.thread → (u == by.thread) ≡ false → is_nobody (thread_at s.machine u).joiner ≡ true → Mid b t before s → Mid' b t before s →
         Done' b t before (blocks_unordered by (for_end u) None (changes u (with_joiner (waits_to_join by.thread)) s))
 
   pub record TickBeside : Type 0 where

@@ -6,7 +6,7 @@ use Rattle.machine_rules.specs.Bodies.{Bodies}
 use Rattle.machine_rules.specs.State.{Machine, Wait, for_end, waits_to_join}
 use Rattle.machine_rules.specs.Threads.{can_run, thread_at}
 use Rattle.machine_rules.specs.Settling.{settled}
-use Rattle.machine_rules.specs.Turns.{By, Turn, changes}
+use Rattle.machine_rules.specs.Turns.{Caller, Turn, changes}
 use Rattle.machine_rules.specs.Waking.{blocks, blocks_unordered}
 use Rattle.machine_rules.specs.Lives.{with_joiner}
 use Rattle.machine_rules.specs.Dispatch.{dispatch_of, dispatches}
@@ -19,9 +19,9 @@ use Rattle.machine_moves.proofs.Runs.Beside.{TickBeside}
 module _ {P : Type 0} (bodies : Bodies P) where
   pub record MachineLaw (Q : Machine P → Type 0) : Type 0 where
     pub moves : (who : Option ℕ) (move : Move P) (s : Turn P) → MayRenewing who move s → Q s.machine → Q (does bodies move s).machine
-    pub sleeps : (by : By) (wait : Wait) (due : Option ℕ) (s : Turn P) → can_run s.machine by.thread ≡ true → Q s.machine → Q (blocks by wait due s).machine
-    pub dozes : (who : Option ℕ) (by : By) (wait : Wait) (due : Option ℕ) (s : Turn P) → MayWaitPlainly who s.machine by.thread wait → Q s.machine → Q (blocks_unordered by wait due s).machine
-    pub joins : (by : By) (u : ℕ) (s : Turn P) → can_run s.machine by.thread ≡ true → Q s.machine → Q (blocks_unordered by (for_end u) None (changes u (with_joiner (waits_to_join by.thread)) s)).machine
+    pub sleeps : (by : Caller) (wait : Wait) (due : Option ℕ) (s : Turn P) → can_run s.machine by.thread ≡ true → Q s.machine → Q (blocks by wait due s).machine
+    pub dozes : (who : Option ℕ) (by : Caller) (wait : Wait) (due : Option ℕ) (s : Turn P) → MayWaitPlainly who s.machine by.thread wait → Q s.machine → Q (blocks_unordered by wait due s).machine
+    pub joins : (by : Caller) (u : ℕ) (s : Turn P) → can_run s.machine by.thread ≡ true → Q s.machine → Q (blocks_unordered by (for_end u) None (changes u (with_joiner (waits_to_join by.thread)) s)).machine
     -- other lists, another instant and another last dispatch
     pub elsewhere : (m : Machine P) (now : ℕ) (last : LastDispatch) (lists : List (List ℕ)) → Q m → Q (record m { now = now; last = last; lists = lists })
     pub charged : (t : ℕ) (s : Turn P) → can_run s.machine t ≡ true → Q s.machine → Q (changes t (λ th. tick_charged (in_unit bodies (thread_at s.machine t)).thread) s).machine

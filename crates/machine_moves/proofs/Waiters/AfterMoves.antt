@@ -11,7 +11,7 @@ use Rattle.machine_rules.specs.State.{Machine, Status, Thread, Wait, Waiting}
 use Rattle.machine_rules.specs.Threads.{can_run, no_thread, thread_at, waiting_in}
 use Rattle.machine_rules.specs.Waiters.{somebody_waits, waits_so}
 use Rattle.machine_rules.specs.Turns.{Turn, changes, moves, tells}
-use Rattle.machine_rules.specs.Servers.{activates_if, activates_server, amount_of, high_server, refills_for, regains_high, with_server}
+use Rattle.machine_rules.specs.Servers.{activates_if, activates_server, amount_of, high_server, refills_server, regains_high, with_server}
 use Rattle.machine_rules.specs.Waking.{ending_with, on_top, put_to_wait, started, woken}
 use Rattle.machine_rules.specs.Lives.{with_joiner, without_life, without_top}
 use Rattle.machine_rules.specs.Cancellation.{without_cleanup}
@@ -43,7 +43,7 @@ module _ {P : Type 0} (passes : Wait → Bool) where
   activated_if_same true t s = activated_same t (thread_at s.machine t).server s
   activated_if_same false t s = refl
 
-  refilled_same : (t : ℕ) (o : Option ServerState) (s : Turn P) → somebody (refills_for t o s) ≡ somebody s
+  refilled_same : (t : ℕ) (o : Option ServerState) (s : Turn P) → somebody (refills_server t o s) ≡ somebody s
   refilled_same t None s = refl
   refilled_same t (Some server) s =
       let e = event.Refill t (amount_of (oldest_pending server)) (refill server).capacity in
@@ -86,7 +86,7 @@ module _ {P : Type 0} {X : Type 0} (part : Machine P → X) (h : OfNoThread part
   part_activated true t s = activates_part part h t (thread_at s.machine t).server s
   part_activated false t s = refl
 
-  part_refilled : (t : ℕ) (o : Option ServerState) (s : Turn P) → part (refills_for t o s).machine ≡ part s.machine
+  part_refilled : (t : ℕ) (o : Option ServerState) (s : Turn P) → part (refills_server t o s).machine ≡ part s.machine
   part_refilled t None s = refl
   part_refilled t (Some server) s =
       let e = event.Refill t (amount_of (oldest_pending server)) (refill server).capacity in

@@ -8,8 +8,8 @@ use Rattle.machine_rules.specs.Lists.{changed_at}
 use Rattle.machine_rules.specs.Bodies.{Bodies}
 use Rattle.machine_rules.specs.State.{Thread, Wait, Waiting}
 use Rattle.machine_rules.specs.Threads.{can_run, no_thread, thread_at, thread_in, waiting_in, waiting_of}
-use Rattle.machine_rules.specs.Turns.{By, Turn, changes, moves, tells}
-use Rattle.machine_rules.specs.Servers.{activates_if, activates_server, amount_of, high_server, refills_for, regains_high, with_server}
+use Rattle.machine_rules.specs.Turns.{Caller, Turn, changes, moves, tells}
+use Rattle.machine_rules.specs.Servers.{activates_if, activates_server, amount_of, high_server, refills_server, regains_high, with_server}
 use Rattle.machine_rules.specs.Waking.{ending_with, on_top, put_to_wait, started, woken}
 use Rattle.machine_rules.specs.Lives.{with_joiner, without_life, without_top}
 use Rattle.machine_rules.specs.Cancellation.{without_cleanup}
@@ -58,7 +58,7 @@ module _ {P : Type 0} (u : ℕ) (w : Waiting) where
       of_two (inl k) = let none : waiting_of (changes t f s).machine u ≡ None = ap (λ (th : Thread P). waiting_in th.status) k.1 ∙ h (thread_at s.machine t) in absurd (grind arith)
       of_two (inr k) = sym (ap (λ (th : Thread P). waiting_in th.status) k) ∙ e
 
-  begun_by : (by : By) (v : Waiting) (s : Turn P) → Waits (changes by.thread (put_to_wait v) s) → (Waits s) ⊎ ((by.thread ≡ u) × (w.wait ≡ v.wait))
+  begun_by : (by : Caller) (v : Waiting) (s : Turn P) → Waits (changes by.thread (put_to_wait v) s) → (Waits s) ⊎ ((by.thread ≡ u) × (w.wait ≡ v.wait))
   begun_by by v s e = of_two (changed_is no_thread by.thread u (put_to_wait v) s.machine.threads)
     where
       of_two : ((by.thread ≡ u) × (thread_in (changed_at no_thread by.thread (put_to_wait v) s.machine.threads) u ≡ put_to_wait v (thread_at s.machine by.thread))) ⊎
@@ -78,7 +78,7 @@ module _ {P : Type 0} (u : ℕ) (w : Waiting) where
   activated_if true t s e = activated t (thread_at s.machine t).server s e
   activated_if false t s e = e
 
-  refilled : (t : ℕ) (o : Option ServerState) (s : Turn P) → Waits (refills_for t o s) → Waits s
+  refilled : (t : ℕ) (o : Option ServerState) (s : Turn P) → Waits (refills_server t o s) → Waits s
   refilled t None s e = e
   refilled t (Some server) s e =
       let ev = event.Refill t (amount_of (oldest_pending server)) (refill server).capacity in

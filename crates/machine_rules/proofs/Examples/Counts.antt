@@ -14,7 +14,7 @@ use Rattle.machine_rules.specs.Runs.{opening}
 use Rattle.machine_rules.specs.Machine.{machine, bodies_of}
 use Rattle.machine_rules.specs.Promises.{busy_between}
 use Rattle.machine_rules.specs.Agenda.{agenda, coming_at}
-use Rattle.machine_rules.specs.Budget.{KeepsAccount, Posting, account, account_after, activated, planned, refilled, used}
+use Rattle.machine_rules.specs.Budget.{KeepsAccount, ServerEvent, account, account_after, activated, planned, refilled, used}
 use Rattle.machine_rules.proofs.Examples.Servers.{six_high_ticks_in_one_period_script}
 
 abbrev two_sleepers_and_a_runner : Script
@@ -58,7 +58,7 @@ two_sleeps_are_to_come = refl
 abbrev spent : ServerState
 spent = record { params = record { high = 2; low = 1; period = 5; budget = 1; max = 1 }; capacity = 0; activation = 0; consumed = 0; pending = record { amount = 1; due = 5 } ∷ []; high_total = 1; refilled_total = 0 }
 
-abbrev planned_from_nowhere : List Posting
+abbrev planned_from_nowhere : List ServerEvent
 planned_from_nowhere = used ∷ planned 1 (record { amount = 1; due = 5 }) ∷ []
 
 pub a_plan_follows_an_activation : KeepsAccount spent planned_from_nowhere → ⊥

@@ -6,12 +6,12 @@ ghost use Rattle.script_text.specs.Words.{operand_word};
 ghost use Rattle.script_tree.specs.declared.name_kind.NameKind.TheVariants as name_kind;
 
 use crate::line::Word::{Keyword, Name, Value};
-use crate::line::{Line, line_of};
+use crate::line::{LineText, line_of};
 use crate::names::object;
 use script_tree::{Decl, NameKind, Operand};
 use tick_num::ObjId;
 
-pub(super) fn wait(decls: &[Decl], cond: ObjId, mutex: ObjId) -> Line
+pub(super) fn wait(decls: &[Decl], cond: ObjId, mutex: ObjId) -> LineText
     ensures { result.items ≡ line_text (codes "wait" ∷ name_of decls.now name_kind.Cond cond
         ∷ name_of decls.now name_kind.Mutex mutex ∷ []) }
 {
@@ -23,7 +23,7 @@ pub(super) fn wait(decls: &[Decl], cond: ObjId, mutex: ObjId) -> Line
     ])
 }
 
-pub(super) fn timedwait(decls: &[Decl], cond: ObjId, mutex: ObjId, at: Operand) -> Line
+pub(super) fn timedwait(decls: &[Decl], cond: ObjId, mutex: ObjId, at: Operand) -> LineText
     ensures { result.items ≡ line_text (codes "timedwait" ∷ name_of decls.now name_kind.Cond cond
         ∷ name_of decls.now name_kind.Mutex mutex ∷ operand_word at ∷ []) }
 {

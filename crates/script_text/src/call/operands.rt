@@ -6,19 +6,19 @@ ghost use Rattle.script_text.specs.Words.{operand_word};
 ghost use Rattle.script_tree.specs.declared.name_kind.NameKind.TheVariants as name_kind;
 
 use crate::line::Word::{Keyword, Name, Number, Value};
-use crate::line::{Line, line_of};
+use crate::line::{LineText, line_of};
 use crate::names::{object, thread};
 use script_tree::{Decl, NameKind, Operand};
 use tick_num::{ObjId, Tid};
 
-pub(super) fn bare(word: &[u8]) -> Line
+pub(super) fn bare(word: &[u8]) -> LineText
     requires { length word.now ≤ 16 }
     ensures { result.items ≡ line_text (word.now ∷ []) }
 {
     line_of(&[Keyword(word)])
 }
 
-pub(super) fn two_keywords(first: &[u8], second: &[u8]) -> Line
+pub(super) fn two_keywords(first: &[u8], second: &[u8]) -> LineText
     requires first { length first.now ≤ 16 }
     requires second { length second.now ≤ 16 }
     ensures { result.items ≡ line_text (first.now ∷ second.now ∷ []) }
@@ -26,28 +26,28 @@ pub(super) fn two_keywords(first: &[u8], second: &[u8]) -> Line
     line_of(&[Keyword(first), Keyword(second)])
 }
 
-pub(super) fn with_number(word: &[u8], n: u64) -> Line
+pub(super) fn with_number(word: &[u8], n: u64) -> LineText
     requires { length word.now ≤ 16 }
     ensures { result.items ≡ line_text (word.now ∷ decimal n ∷ []) }
 {
     line_of(&[Keyword(word), Number(n)])
 }
 
-pub(super) fn with_operand(word: &[u8], operand: Operand) -> Line
+pub(super) fn with_operand(word: &[u8], operand: Operand) -> LineText
     requires { length word.now ≤ 16 }
     ensures { result.items ≡ line_text (word.now ∷ operand_word operand ∷ []) }
 {
     line_of(&[Keyword(word), Value(operand)])
 }
 
-pub(super) fn on_thread(decls: &[Decl], word: &[u8], t: Tid) -> Line
+pub(super) fn on_thread(decls: &[Decl], word: &[u8], t: Tid) -> LineText
     requires { length word.now ≤ 16 }
     ensures { result.items ≡ line_text (word.now ∷ name_of decls.now name_kind.Thread t ∷ []) }
 {
     line_of(&[Keyword(word), Name(thread(decls, t))])
 }
 
-pub(super) fn on_object(decls: &[Decl], word: &[u8], of: NameKind, k: ObjId) -> Line
+pub(super) fn on_object(decls: &[Decl], word: &[u8], of: NameKind, k: ObjId) -> LineText
     requires { length word.now ≤ 16 }
     ensures { result.items ≡ line_text (word.now ∷ name_of decls.now of k ∷ []) }
 {
@@ -60,7 +60,7 @@ pub(super) fn on_object_with<'a>(
     of: NameKind,
     k: ObjId,
     operand: Operand,
-) -> Line
+) -> LineText
     requires { length word.now ≤ 16 }
     ensures { result.items ≡ line_text (word.now ∷ name_of decls.now of k ∷ operand_word operand ∷ []) }
 {

@@ -6,12 +6,12 @@ ghost use Rattle.script_text.specs.Words.{operand_word, signal_word};
 ghost use Rattle.script_tree.specs.declared.name_kind.NameKind.TheVariants as name_kind;
 
 use crate::line::Word::{Keyword, Name, Number, Signal, Value};
-use crate::line::{Line, line_of};
+use crate::line::{LineText, line_of};
 use crate::names::object;
 use script_tree::{Decl, NameKind, Operand};
 use tick_num::ObjId;
 
-pub(super) fn mq_send(decls: &[Decl], queue: ObjId, len: u32, prio: u8, value: Operand) -> Line
+pub(super) fn mq_send(decls: &[Decl], queue: ObjId, len: u32, prio: u8, value: Operand) -> LineText
     ensures { result.items ≡ line_text (codes "mq_send" ∷ name_of decls.now name_kind.Queue queue
         ∷ decimal len ∷ decimal prio ∷ operand_word value ∷ []) }
 {
@@ -31,7 +31,7 @@ pub(super) fn mq_timedsend(
     prio: u8,
     value: Operand,
     at: Operand,
-) -> Line
+) -> LineText
     ensures { result.items ≡ line_text (codes "mq_timedsend" ∷ name_of decls.now name_kind.Queue queue
         ∷ decimal len ∷ decimal prio ∷ operand_word value ∷ operand_word at ∷ []) }
 {
@@ -45,7 +45,7 @@ pub(super) fn mq_timedsend(
     ])
 }
 
-pub(super) fn mq_notify(decls: &[Decl], queue: ObjId, sig: u8, value: Operand) -> Line
+pub(super) fn mq_notify(decls: &[Decl], queue: ObjId, sig: u8, value: Operand) -> LineText
     ensures { result.items ≡ line_text (codes "mq_notify" ∷ name_of decls.now name_kind.Queue queue
         ∷ signal_word sig ∷ operand_word value ∷ []) }
 {

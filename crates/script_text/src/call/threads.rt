@@ -6,12 +6,12 @@ ghost use Rattle.script_text.specs.Canon.{policy_words};
 ghost use Rattle.script_tree.specs.declared.name_kind.NameKind.TheVariants as name_kind;
 
 use crate::line::Word::{Keyword, Name, Number};
-use crate::line::{Line, line_of};
+use crate::line::{LineText, line_of};
 use crate::names::thread;
 use script_tree::{Decl, Policy};
 use tick_num::{Prio, Tid};
 
-pub(super) fn setprio(decls: &[Decl], t: Tid, prio: Prio) -> Line
+pub(super) fn setprio(decls: &[Decl], t: Tid, prio: Prio) -> LineText
     ensures { result.items ≡ line_text (codes "setprio" ∷ name_of decls.now name_kind.Thread t ∷ decimal prio ∷ []) }
 {
     let level = Number(u64::from(prio.get()));
@@ -19,7 +19,7 @@ pub(super) fn setprio(decls: &[Decl], t: Tid, prio: Prio) -> Line
 }
 
 // `setsched` with the parameters of its policy.
-pub(super) fn setsched(decls: &[Decl], t: Tid, policy: Policy) -> Line
+pub(super) fn setsched(decls: &[Decl], t: Tid, policy: Policy) -> LineText
     ensures { result.items ≡ line_text (codes "setsched" ∷ name_of decls.now name_kind.Thread t ∷ policy_words policy) }
 {
     let word = Keyword(b"setsched");

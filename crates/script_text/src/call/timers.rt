@@ -6,13 +6,13 @@ ghost use Rattle.script_text.specs.Words.{operand_word};
 ghost use Rattle.script_tree.specs.declared.name_kind.NameKind.TheVariants as name_kind;
 
 use crate::line::Word::{Keyword, Name, Number, Value};
-use crate::line::{Line, line_of};
+use crate::line::{LineText, line_of};
 use crate::names::object;
 use script_tree::{Decl, NameKind, Operand};
 use tick_num::ObjId;
 
 // With a first expiry after so many ticks.
-pub(super) fn settime_rel(decls: &[Decl], timer: ObjId, first: u64, interval: u64) -> Line
+pub(super) fn settime_rel(decls: &[Decl], timer: ObjId, first: u64, interval: u64) -> LineText
     ensures { result.items ≡ line_text (codes "timer_settime" ∷ name_of decls.now name_kind.Timer timer
         ∷ codes "rel" ∷ decimal first ∷ decimal interval ∷ []) }
 {
@@ -26,7 +26,7 @@ pub(super) fn settime_rel(decls: &[Decl], timer: ObjId, first: u64, interval: u6
 }
 
 // With a first expiry at a time.
-pub(super) fn settime_abs(decls: &[Decl], timer: ObjId, at: Operand, interval: u64) -> Line
+pub(super) fn settime_abs(decls: &[Decl], timer: ObjId, at: Operand, interval: u64) -> LineText
     ensures { result.items ≡ line_text (codes "timer_settime" ∷ name_of decls.now name_kind.Timer timer
         ∷ codes "abs" ∷ operand_word at ∷ decimal interval ∷ []) }
 {

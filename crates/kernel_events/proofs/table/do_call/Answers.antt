@@ -10,29 +10,29 @@ use Rattle.kernel_events.proofs.table.do_call.Goals as goal
 pub returns-in-Wait-clause-state : goal.returns-in-Wait-clause-state
 returns-in-Wait-clause-state g c =
     let p = c.args.p.now in
-    subst (λ (x : Call). c.wait_on.new.p ≡ after (call_effect (flat_bodies p.code) (by c.args.t c.args.call.now) x) p) (sym c.in-Wait.is) c.wait_on.ensures.state
+    subst (λ (x : Call). c.cond_wait.new.p ≡ after (call_effect (flat_bodies p.code) (by c.args.t c.args.call.now) x) p) (sym c.in-Wait.is) c.cond_wait.ensures.state
 
 pub returns-in-Wait-clause-told : goal.returns-in-Wait-clause-told
 returns-in-Wait-clause-told g c =
     let p = c.args.p.now in
-    subst (λ (x : Call). Tells g.K.Sink.text g.K.Sink.faults p.names c.args.out.now c.wait_on.new.out (told (call_effect (flat_bodies p.code) (by c.args.t c.args.call.now) x) p))
-    (sym c.in-Wait.is) c.wait_on.ensures.told
+    subst (λ (x : Call). Tells g.K.Sink.text g.K.Sink.faults p.names c.args.out.now c.cond_wait.new.out (told (call_effect (flat_bodies p.code) (by c.args.t c.args.call.now) x) p))
+    (sym c.in-Wait.is) c.cond_wait.ensures.told
 
 pub returns-in-Timedwait-clause-state : goal.returns-in-Timedwait-clause-state
 returns-in-Timedwait-clause-state g c =
     let p = c.args.p.now in
-    let end = c.wait_on-in-Timedwait.new.p in
+    let end = c.cond_wait-in-Timedwait.new.p in
     let waits_until = λ (at : ℕ). waits (by c.args.t c.args.call.now) c.in-Timedwait.cond c.in-Timedwait.mutex (Some at) in
     subst (λ (x : Call). end ≡ after (call_effect (flat_bodies p.code) (by c.args.t c.args.call.now) x) p) (sym c.in-Timedwait.is)
-    (subst (λ (at : ℕ). end ≡ after (waits_until at) p) c.moment-in-Timedwait.ensures c.wait_on-in-Timedwait.ensures.state)
+    (subst (λ (at : ℕ). end ≡ after (waits_until at) p) c.moment-in-Timedwait.ensures c.cond_wait-in-Timedwait.ensures.state)
 
 pub returns-in-Timedwait-clause-told : goal.returns-in-Timedwait-clause-told
 returns-in-Timedwait-clause-told g c =
     let p = c.args.p.now in
-    let end = c.wait_on-in-Timedwait.new.out in
+    let end = c.cond_wait-in-Timedwait.new.out in
     let waits_until = λ (at : ℕ). waits (by c.args.t c.args.call.now) c.in-Timedwait.cond c.in-Timedwait.mutex (Some at) in
     subst (λ (x : Call). Tells g.K.Sink.text g.K.Sink.faults p.names c.args.out.now end (told (call_effect (flat_bodies p.code) (by c.args.t c.args.call.now) x) p)) (sym c.in-Timedwait.is)
-    (subst (λ (at : ℕ). Tells g.K.Sink.text g.K.Sink.faults p.names c.args.out.now end (told (waits_until at) p)) c.moment-in-Timedwait.ensures c.wait_on-in-Timedwait.ensures.told)
+    (subst (λ (at : ℕ). Tells g.K.Sink.text g.K.Sink.faults p.names c.args.out.now end (told (waits_until at) p)) c.moment-in-Timedwait.ensures c.cond_wait-in-Timedwait.ensures.told)
 
 pub returns-in-Tkill-clause-state : goal.returns-in-Tkill-clause-state
 returns-in-Tkill-clause-state g c =

@@ -1,7 +1,7 @@
 use Rattle.std.proofs.Common.{◌≡◌, ℕ, subst, sym}
 use Rattle.tick_num.specs.declared.res.Res.TheVariants as res
 use Rattle.pse52_trace.specs.Tells.{Tells}
-use Rattle.machine_rules.specs.Conditions.{signals_best_of}
+use Rattle.machine_rules.specs.Conditions.{signals_best_times}
 use Rattle.machine_rules.specs.Turns.{Turn, returns}
 use Rattle.machine_rules.proofs.BehindCalls.{signals_best_of_behind}
 use Rattle.script_flat.specs.declared.cursor.Cursor.{Cursor}
@@ -14,14 +14,14 @@ use Rattle.kernel_sync.proofs.conditions.broadcast.Goals as goal
 pub returns-clause-state : goal.returns-clause-state
 returns-clause-state g c =
     let first = returns (by c.args.t c.args.call.now) res.Zero 0 in
-    subst (λ (n : ℕ). c.signal_all.new.p ≡ after (λ (s : Turn Cursor). signals_best_of n c.args.c (first s)) c.args.p.now) c.waiting_count-count.ensures.value
-    (then_state first (signals_best_of c.waiting_count-count.result c.args.c) _ _ _ (signals_best_of_behind c.waiting_count-count.result c.args.c) c.returns.ensures.state c.signal_all.ensures.state)
+    subst (λ (n : ℕ). c.signal_all.new.p ≡ after (λ (s : Turn Cursor). signals_best_times n c.args.c (first s)) c.args.p.now) c.waiting_count-count.ensures.value
+    (then_state first (signals_best_times c.waiting_count-count.result c.args.c) _ _ _ (signals_best_of_behind c.waiting_count-count.result c.args.c) c.returns.ensures.state c.signal_all.ensures.state)
 
 pub returns-clause-told : goal.returns-clause-told
 returns-clause-told g c =
     let first = returns (by c.args.t c.args.call.now) res.Zero 0 in
-    subst (λ (n : ℕ). Tells g.K.Sink.text g.K.Sink.faults c.args.p.now.names c.args.out.now c.signal_all.new.out (told (λ (s : Turn Cursor). signals_best_of n c.args.c (first s)) c.args.p.now)) c.waiting_count-count.ensures.value
-    (then_told _ _ first (signals_best_of c.waiting_count-count.result c.args.c) _ _ _ _ _ (signals_best_of_behind c.waiting_count-count.result c.args.c) c.returns.ensures.state c.returns.ensures.told c.signal_all.ensures.told)
+    subst (λ (n : ℕ). Tells g.K.Sink.text g.K.Sink.faults c.args.p.now.names c.args.out.now c.signal_all.new.out (told (λ (s : Turn Cursor). signals_best_times n c.args.c (first s)) c.args.p.now)) c.waiting_count-count.ensures.value
+    (then_told _ _ first (signals_best_times c.waiting_count-count.result c.args.c) _ _ _ _ _ (signals_best_of_behind c.waiting_count-count.result c.args.c) c.returns.ensures.state c.returns.ensures.told c.signal_all.ensures.told)
 
 pub signal_all-requires-clause-fits : goal.signal_all-requires-clause-fits
 signal_all-requires-clause-fits g c =

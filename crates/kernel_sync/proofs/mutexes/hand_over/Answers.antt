@@ -5,7 +5,7 @@ use Rattle.script_flat.specs.declared.cursor.Cursor.{Cursor}
 use Rattle.machine_rules.specs.Turns.{Turn}
 use Rattle.kernel_state.specs.Kernel.{turn}
 use Rattle.kernel_sync.proofs.Released.{handed_cancelled, handed_over}
-use Rattle.kernel_sync.proofs.mutexes.hand_to.Goals as goal
+use Rattle.kernel_sync.proofs.mutexes.hand_over.Goals as goal
 
 pub returns-then-is_cancelled_waiter-clause-state : goal.returns-then-is_cancelled_waiter-clause-state
 returns-then-is_cancelled_waiter-clause-state g c =

@@ -4,7 +4,7 @@ use Rattle.machine_rules.specs.Waking.{wakes}
 use Rattle.machine_rules.proofs.Behind.{wakes_behind}
 use Rattle.kernel_state.specs.Kernel.{by}
 use Rattle.kernel_state.proofs.Turns.{then_told}
-use Rattle.kernel_messages.proofs.sending.send_to.Goals as goal
+use Rattle.kernel_messages.proofs.sending.hand_to_receiver.Goals as goal
 
 pub returns-clause-told : goal.returns-clause-told
 returns-clause-told g c =

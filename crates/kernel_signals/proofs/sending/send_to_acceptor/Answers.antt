@@ -7,7 +7,7 @@ use Rattle.machine_rules.proofs.Behind.{then_behind, wakes_behind}
 use Rattle.machine_rules.proofs.BehindCalls.{delivers_behind}
 use Rattle.kernel_state.specs.Kernel.{by}
 use Rattle.kernel_state.proofs.Turns.{then_state, then_told}
-use Rattle.kernel_signals.proofs.sending.send_to.Goals as goal
+use Rattle.kernel_signals.proofs.sending.send_to_acceptor.Goals as goal
 
 pub returns-clause-state : goal.returns-clause-state
 returns-clause-state g c =

@@ -3,7 +3,7 @@ use Rattle.pse52_trace.proofs.Prints.{prints_both, prints_stopped}
 use Rattle.machine_rules.specs.Machine.{closing}
 use Rattle.machine_rules.specs.Runs.{ticks}
 use Rattle.machine_flat.specs.FlatBodies.{flat_bodies}
-use Rattle.pse52_tool.proofs.runs.run_kernel.Goals as goal
+use Rattle.pse52_tool.proofs.runs.run_and_report.Goals as goal
 
 pub returns-then-failed-clause-printed : goal.returns-then-failed-clause-printed
 returns-then-failed-clause-printed g c =
