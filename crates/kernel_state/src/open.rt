@@ -12,7 +12,7 @@ use crate::parts::Parts;
 use arrayvec::ArrayVec;
 use machine_rules::LastDispatch;
 use message_queues::Queues;
-use pse52_trace::ThreadNames;
+use pse52_trace::Names;
 use ready_lists::Ready;
 use rt_signals::{Actions, Pending};
 use script_flat::Code;
@@ -33,7 +33,7 @@ fn tid_of(place: usize) -> Tid
 }
 
 // A thread that is declared there has the next name; the number of the name after it.
-fn add_name(names: &mut ThreadNames, t: usize, decl: &Decl) -> usize
+fn add_name(names: &mut Names, t: usize, decl: &Decl) -> usize
     requires room { t + length (option_to_list (declared_thread decl.now)) ≤ length names.old }
     requires few { length names.old ≤ 64 }
     ensures names { names.new ≡ with_name names.old t (declared_thread decl.now) }
@@ -49,12 +49,12 @@ fn add_name(names: &mut ThreadNames, t: usize, decl: &Decl) -> usize
 }
 
 /// The names of a script's threads, which are that many.
-fn open_names(alloc: Global, script: &Script, threads: u16) -> Result<ThreadNames, AllocError>
+fn open_names(alloc: Global, script: &Script, threads: u16) -> Result<Names, AllocError>
     requires all { threads ≡ length (threads_of script.now) }
     requires few { threads ≤ 64 }
     ensures { IfOk result (λ names. names ≡ names_of script.now) }
 {
-    let mut names = ThreadNames::open(alloc, threads)?;
+    let mut names = Names::open(alloc, threads)?;
     let mut t = 0;
     for decl in script.decls.items() {
         t = add_name(&mut names, t, decl);

@@ -11,7 +11,7 @@ use crate::named::Named;
 use arrayvec::ArrayVec;
 use machine_rules::LastDispatch;
 use message_queues::Queues;
-use pse52_trace::{Event, ThreadNames, Tracer};
+use pse52_trace::{Event, Names, Tracer};
 use ready_lists::Ready;
 use rt_io::Sink;
 use rt_signals::{Actions, Pending};
@@ -25,7 +25,7 @@ use tick_num::{Tick, Tid};
 #[derive(Drop)]
 pub struct Parts {
     pub(crate) code: Code,
-    pub(crate) names: ThreadNames,
+    pub(crate) names: Names,
     pub(crate) table: Table,
     pub(crate) ready: Ready,
     pub(crate) semaphores: Semaphores,
