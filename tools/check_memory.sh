@@ -64,8 +64,10 @@ refuse_each() {
     [ -e "$room/due" ] || "$program" "$@" <"$input" >"$room/due" 2>/dev/null
     run 0 "$@"
     is_whole || wrong "with no refusal: $(told)"
-    local all=$taken number=1
-    while [ "$number" -le $((all + 1)) ]; do
+    last=$taken
+    [ "$last" != unknown ] && [ "$last" != 0 ] || { wrong "$last allocations were counted"; rm -f "$room/due"; return; }
+    local number=1
+    while [ "$number" -le $((last + 1)) ]; do
         run "$number.." "$@"
         [ "$refusals" = 0 ] || is_refused || wrong "allocation $number and all after it refused: $(told)"
         run "$number" "$@"
@@ -74,16 +76,16 @@ refuse_each() {
         number=$((number + 1))
     done
     [ "$refusals" = 0 ] && is_whole || wrong "past its last allocation: $(told)"
-    [ "$number" = $((all + 1)) ] || wrong "it came to $((number - 1)) allocations when they were refused, and to $all before"
+    [ "$number" = $((last + 1)) ] || wrong "it came to $((number - 1)) allocations when they were refused, and to $last before"
     refused=$((refused + number - 1))
-    echo "$name: allocations 1 to $all refused in turn: status 6, nothing written"
+    echo "$name: allocations 1 to $last refused in turn: status 6, nothing written"
     rm -f "$room/due"
-    last=$all
 }
 
-# The same command to a horizon further off comes to the same number of allocations: its words.
+# The same command to a horizon further off ends as well and comes to the same number of allocations: its words.
 comes_to_no_more() {
     run 0 "$@"
+    [ "$status" = "$wanted" ] && [ "$kept" = 0 ] || wrong "$*: $(told)"
     [ "$taken" = "$last" ] || wrong "$*: $taken allocations, in place of $last"
     echo "$name: $* comes to $taken allocations too"
 }
