@@ -14,6 +14,7 @@ from pathlib import Path
 
 WORKER = Path(__file__).with_name("worker.py")
 MOST_A_JOB = 1000
+MOST_TRIES = 3
 
 
 class NoEngine(Exception):
@@ -64,10 +65,10 @@ def results(work: Work, engine: str | None = None) -> Iterator[str]:
 
 
 def _by_parallel(work: Work, parallel: str, folder: Path) -> subprocess.Popen[str]:
-    """The engine gives each job the numbers of its runs."""
+    """The engine gives each job the numbers of its runs. A job that fails on one machine is tried on others."""
     words = [parallel, "--pipe", "-N", str(work.runs_a_job), "--line-buffer", "--jobs", str(work.jobs), "--will-cite"]
     if work.sshlogin:
-        words += ["--sshlogin", work.sshlogin]
+        words += ["--sshlogin", work.sshlogin, "--retries", str(MOST_TRIES)]
     return _start([*words, shlex.join(work.command)], _written(folder / "numbers", work.numbers))
 
 
