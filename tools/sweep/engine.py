@@ -14,6 +14,7 @@ from pathlib import Path
 
 WORKER = Path(__file__).with_name("worker.py")
 MOST_A_JOB = 1000
+MOST_TRIES = 3
 
 
 class NoEngine(Exception):
@@ -38,8 +39,11 @@ class Work:
 
     @property
     def command(self) -> list[str]:
-        """The words that start a job. Another machine has a Python of its own, so it is asked for by its plain name."""
-        return ["python3" if self.sshlogin else sys.executable, str(WORKER), str(self.toml), *self.program, "--"]
+        """The words that start a job. Another machine has a Python of its own, so it is asked for by its plain name.
+
+        A job needs the standard library alone, so Python starts without looking for other modules (-S).
+        """
+        return ["python3" if self.sshlogin else sys.executable, "-S", str(WORKER), str(self.toml), *self.program, "--"]
 
 
 def gnu_parallel() -> str | None:
@@ -64,10 +68,12 @@ def results(work: Work, engine: str | None = None) -> Iterator[str]:
 
 
 def _by_parallel(work: Work, parallel: str, folder: Path) -> subprocess.Popen[str]:
-    """The engine gives each job the numbers of its runs."""
-    words = [parallel, "--pipe", "-N", str(work.runs_a_job), "--line-buffer", "--jobs", str(work.jobs), "--will-cite"]
-    if work.sshlogin:
-        words += ["--sshlogin", work.sshlogin]
+    """The engine gives each job the numbers of its runs. A job that fails on one machine is tried on others.
+
+    Here a job writes each line at once, so the engine need not look at them; ssh may hand on a part of one.
+    """
+    words = [parallel, "--pipe", "-N", str(work.runs_a_job), "--jobs", str(work.jobs), "--will-cite"]
+    words += ["--line-buffer", "--sshlogin", work.sshlogin, "--retries", str(MOST_TRIES)] if work.sshlogin else ["--ungroup"]
     return _start([*words, shlex.join(work.command)], _written(folder / "numbers", work.numbers))
 
 

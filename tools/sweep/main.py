@@ -68,7 +68,7 @@ class Progress:
     """How many runs are done and about how long is left, on standard error: often on a terminal, else at each tenth."""
 
     def __init__(self, done: int, count: int) -> None:
-        self._first, self._done, self._count = done, done, count
+        self._first, self._count = done, count
         self._began = time.monotonic()
         self._shown = 0.0
         self._tenth = 10 * done // max(1, count)
@@ -76,19 +76,19 @@ class Progress:
         if done:
             print(f"{done} of {count} runs were done before", file=sys.stderr)
 
-    def one(self) -> None:
-        self._done += 1
-        now, tenth = time.monotonic(), 10 * self._done // self._count
-        if self._terminal and (now - self._shown > 0.2 or self._done == self._count):
-            self._shown = now
-            print(f"\r\033[K{self._told(now)}", end="\n" if self._done == self._count else "", file=sys.stderr, flush=True)
+    def now(self, done: int) -> None:
+        """So many runs are done by now."""
+        time_now, tenth, last = time.monotonic(), 10 * done // self._count, done == self._count
+        if self._terminal and (time_now - self._shown > 0.2 or last):
+            self._shown = time_now
+            print(f"\r\033[K{self._told(done, time_now)}", end="\n" if last else "", file=sys.stderr, flush=True)
         elif not self._terminal and tenth > self._tenth:
-            print(self._told(now), file=sys.stderr, flush=True)
+            print(self._told(done, time_now), file=sys.stderr, flush=True)
         self._tenth = tenth
 
-    def _told(self, now: float) -> str:
-        left = (now - self._began) / (self._done - self._first) * (self._count - self._done)
-        return f"{self._done} of {self._count} runs, about {_span(left)} left"
+    def _told(self, done: int, now: float) -> str:
+        left = (now - self._began) / max(1, done - self._first) * (self._count - done)
+        return f"{done} of {self._count} runs, about {_span(left)} left"
 
 
 def _span(seconds: float) -> str:
@@ -109,7 +109,7 @@ def carry_out(sweep: Sweep, said: argparse.Namespace) -> Path:
         if left:
             for line in results(Work(said.sweep.resolve(), program, left, said.jobs, said.sshlogin), said.engine):
                 kept.add(line)
-                progress.one()
+                progress.now(len(kept.rows))
     if len(kept.rows) != sweep.count:
         raise NoEngine(f"the engine ended with {len(kept.rows)} of {sweep.count} runs done; start the sweep again to go on")
     path = sweep.file(".csv")
@@ -121,10 +121,12 @@ def carry_out(sweep: Sweep, said: argparse.Namespace) -> Path:
 
 
 def over_of(sweep: Sweep, said: str | None) -> list[str]:
-    """The names that are drawn over: those that are asked for, or the first two that have more than one value."""
-    names = said.split(",") if said else [name for name, values in sweep.values.items() if len(values) > 1][:2]
-    if not names:
-        names = sweep.names[:1]
+    """The names that are drawn over: those that are asked for, or the first two that have more than one value, the one with more first."""
+    if said:
+        names = said.split(",")
+    else:
+        several = [name for name in sweep.names if len(sweep.values[name]) > 1][:2] or sweep.names[:1]
+        names = sorted(several, key=lambda name: len(sweep.values[name]), reverse=True)
     if len(names) > 2 or any(name not in sweep.values for name in names):
         raise WrongSweep(f"--over is one or two of {', '.join(sweep.names)}")
     return names

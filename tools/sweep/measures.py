@@ -5,17 +5,22 @@ Each measure has one column or more. A column without a figure, as the greatest 
 from __future__ import annotations
 
 import re
-from collections import deque
+from collections import defaultdict, deque
 from collections.abc import Callable
 from dataclasses import dataclass
 from fractions import Fraction
 from functools import cached_property
+from itertools import takewhile
 
-from view.lines import Activate, Closing, Dispatch, Exhaust, Exit, Idle, Refill, Return, Trace
+from view.lines import (
+    Activate, Cancel, Closing, Deliver, Dispatch, End, Event, Exhaust, Exit, Idle, Killed, Plan, Refill, Return, Start, Trace)
 from view.timeline import timeline_of
 
 Figure = int | Fraction | None
 LOCKS = frozenset(("lock", "timedlock"))
+# The events by the word of their line.
+EVENTS = {kind.__name__.lower(): kind for kind in (
+    Dispatch, Idle, Start, Exit, Return, Cancel, Deliver, Killed, Activate, Exhaust, Plan, Refill, End)}
 
 
 class WrongMeasure(Exception):
@@ -52,7 +57,8 @@ class Seen:
     @cached_property
     def closing(self) -> dict[str, Closing]:
         """The closing lines by the names of their threads."""
-        return {event.name: event for event in self.trace.events if isinstance(event, Closing)}
+        behind = takewhile(lambda event: isinstance(event, Closing), reversed(self.trace.events))
+        return {event.name: event for event in behind}
 
     @cached_property
     def end(self) -> int:
@@ -72,11 +78,23 @@ class Seen:
                 runs = event.name if kind is Dispatch else ""
         return returned
 
+    @cached_property
+    def places(self) -> dict[tuple[type, object], list[int]]:
+        """The numbers of the lines of each kind of event of each thread."""
+        places: dict[tuple[type, object], list[int]] = defaultdict(list)
+        for line, event in enumerate(self.trace.events):
+            places[type(event), event[1] if len(event) > 1 else ""].append(line)
+        return places
+
+    def of(self, name: str, *kinds: type) -> list[Event]:
+        """The events of these kinds of a thread, in their order."""
+        return [self.trace.events[line] for line in sorted(line for kind in kinds for line in self.places.get((kind, name), ()))]
+
     def lines(self, words: list[str]) -> list[tuple[int, int]]:
         """The events, as (line, time), whose words behind their time begin with these; `*` stands for any word."""
-        pattern = r"\d+ " + " ".join(r"\S+" if word == "*" else re.escape(word) for word in words) + r"(?: |$)"
-        found = re.compile(pattern).match
-        return [(number, self.trace.events[number][0]) for number, line in enumerate(self.trace.lines) if found(line)]
+        found = re.compile(r"\d+ " + " ".join(r"\S+" if word == "*" else re.escape(word) for word in words) + r"(?: |$)").match
+        numbers = range(len(self.trace.lines)) if "*" in words[:2] else self.places.get((EVENTS.get(words[0]), *words[1:2]), ())
+        return [(number, self.trace.events[number][0]) for number in numbers if found(self.trace.lines[number])]
 
 
 def shown(figure: Figure) -> str:
@@ -175,7 +193,7 @@ def read_share(seen: Seen, table: dict[str, object]) -> list[Figure]:
 
 def read_exhausted(seen: Seen, table: dict[str, object]) -> list[Figure]:
     name = str(table["thread"])
-    return [len(seen.lines(["exhaust", name])) if name in seen.closing else None]
+    return [len(seen.of(name, Exhaust)) if name in seen.closing else None]
 
 
 def read_refill_wait(seen: Seen, table: dict[str, object]) -> list[Figure]:
@@ -187,10 +205,10 @@ def read_refill_wait(seen: Seen, table: dict[str, object]) -> list[Figure]:
     if name not in seen.closing:
         return [None, None]
     since, waits = None, []
-    for event in seen.trace.events:
-        if isinstance(event, Exhaust) and event.name == name:
+    for event in seen.of(name, Exhaust, Refill, Activate, Exit):
+        if isinstance(event, Exhaust):
             since = event.time
-        elif since is not None and isinstance(event, Refill | Activate | Exit) and event.name == name:
+        elif since is not None:
             waits.append(event.time - since)
             since = None
     if since is not None:

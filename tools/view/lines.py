@@ -231,6 +231,11 @@ def _closing_of(words: list[str], of: _Words) -> Closing:
     return Closing(name, ticks, Budget(*(_number(word, GREATEST_VALUE, "number of ticks") for word in words[5::2])))
 
 
+# Lines that were read, without their times: the kind of their event and what else it has. A trace says most of them many times.
+_KNOWN: dict[str, tuple[type[Event], tuple[object, ...]]] = {}
+MOST_KNOWN = 10_000
+
+
 class _Reader:
     """Reads lines one after another, and knows what may come next."""
 
@@ -242,6 +247,17 @@ class _Reader:
         self._closed: set[str] = set()
 
     def event(self, text: str) -> Event:
+        word, _, rest = text.partition(" ")
+        known = _KNOWN.get(rest)
+        if known is not None and not (self._ended or self._killed):
+            time = self._of.time(word)
+            if time >= self._time:
+                self._time = time
+                return tuple.__new__(known[0], (time, *known[1]))
+        return self._first(text, rest)
+
+    def _first(self, text: str, rest: str) -> Event:
+        """Reads a line that is not known yet, or that may not come here."""
         if len(text) > LONGEST_LINE:
             raise _Wrong(f"it has more than {LONGEST_LINE} bytes")
         words = text.split(" ")
@@ -258,6 +274,8 @@ class _Reader:
         self._time = time
         self._ended = isinstance(event, End)
         self._killed = isinstance(event, Killed)
+        if not (self._ended or self._killed) and len(_KNOWN) < MOST_KNOWN:
+            _KNOWN[rest] = type(event), event[1:]
         return event
 
     def _closing(self, words: list[str]) -> Closing:

@@ -26,6 +26,13 @@ shift
 cd / && exec env -i PATH="$PATH" HOME="$HOME" SHELL=/bin/sh sh -c "$*"
 """
 
+# Stands in for an ssh to a host that is not there.
+NO_HOST = """\
+#!/bin/sh
+echo "$1" >>"$(dirname "$0")/hosts"
+exit 255
+"""
+
 # Runs the script by the reference, and notes where.
 NOTING = """\
 #!/bin/sh
@@ -71,12 +78,9 @@ class Machines(Folder):
 
     def test_a_stand_in_for_ssh(self) -> None:
         self.write()
-        folder = self.folder / "bin"
-        folder.mkdir()
-        executable(folder / "ssh", STAND_IN)
-        ended = self.sweep("--sshlogin", "node1,2/node2", "--jobs", "1", path=f"{folder}{os.pathsep}{os.environ['PATH']}")
+        ended = self.sweep("--sshlogin", "node1,2/node2", "--jobs", "1", path=self.ssh(STAND_IN))
         self.assertEqual((ended.returncode, self.table()), (0, TABLE), ended.stderr)
-        self.assertEqual(set((folder / "hosts").read_text().split()), {"node1", "node2"})
+        self.assertEqual(set((self.folder / "hosts").read_text().split()), {"node1", "node2"})
 
     def test_ssh_to_this_machine(self) -> None:
         client = self.server()
@@ -89,16 +93,19 @@ class Machines(Folder):
         self.assertEqual(len(where), 9)
         self.assertEqual({line.split()[0] for line in where}, {"here", "127.0.0.1"})
 
-    def test_a_machine_that_is_missing(self) -> None:
+    def test_machines_that_are_missing(self) -> None:
         self.write()
-        folder = self.folder / "bin"
-        folder.mkdir()
-        executable(folder / "ssh", "#!/bin/sh\necho no such host >&2\nexit 255\n")
-        ended = self.sweep("--sshlogin", "node1", "--jobs", "1", path=f"{folder}{os.pathsep}{os.environ['PATH']}")
+        ended = self.sweep("--sshlogin", "node1", "--jobs", "1", path=self.ssh(NO_HOST))
         self.assertEqual(ended.returncode, 3)
         self.assertIn("the engine ended with 0 of 9 runs done", ended.stderr)
-        again = self.sweep("--jobs", "2")
+        again = self.sweep("--sshlogin", ":,node2", "--jobs", "1", path=self.ssh(NO_HOST))
         self.assertEqual((again.returncode, self.table()), (0, TABLE), again.stderr)
+        self.assertEqual(set((self.folder / "hosts").read_text().split()), {"node1", "node2"})
+
+    def ssh(self, text: str) -> str:
+        """A path whose ssh is this one."""
+        executable(self.folder / "ssh", text)
+        return f"{self.folder}{os.pathsep}{os.environ['PATH']}"
 
     def server(self) -> Path:
         """Starts an ssh server for this test alone, and gives the configuration of a client that reaches it."""
