@@ -1,3 +1,4 @@
 pub mod Ends
 pub mod NameMap
 pub mod Bounds
+pub mod Naming
