@@ -7,3 +7,4 @@ pub mod Whole
 pub mod Bounded
 pub mod NameEntries
 pub mod Unnamed
+pub mod Narrowed

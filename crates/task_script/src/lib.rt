@@ -3,6 +3,7 @@
 
 mod blocks;
 mod build;
+mod by_letter;
 mod calls;
 mod counts;
 mod declared;
