@@ -28,11 +28,15 @@ fn before_comment(line: &[u8]) -> &[u8]
     &line[..comment_start(line)]
 }
 
+// Each byte is looked at, also behind one that is not allowed: without an early end several bytes are tested at once.
 fn are_allowed(line: &[u8]) -> bool
     ensures { result ≡ list_all is_allowed line.now }
 {
-    line.iter()
-        .all(|c| *c == b'\t' || (b' ' <= *c && *c <= b'~'))
+    let mut allowed = true;
+    for c in line {
+        allowed &= *c == b'\t' || (b' ' <= *c && *c <= b'~');
+    }
+    allowed
 }
 
 impl<'a> Line<'a> {

@@ -73,14 +73,12 @@ fn fitting_in(
     ensures { option_map (λ p. row_of p.now) result
         ≡ fitting_row (map row_of patterns.now) (first.now ∷ words.now.words) }
 {
-    match patterns {
-        [] => None,
-        [pattern, rest @ ..] => if fits_first(pattern.places, first, words) {
-            Some(pattern)
-        } else {
-            fitting_in(rest, first, words)
-        },
+    for pattern in patterns {
+        if fits_first(pattern.places, first, words) {
+            return Some(pattern);
+        }
     }
+    None
 }
 
 fn fitting_pattern(table: &Table, first: &[u8], words: &Words<'_>) -> Option<&'static Pattern>

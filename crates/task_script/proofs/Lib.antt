@@ -6,3 +6,5 @@ pub mod Phases
 pub mod Whole
 pub mod Bounded
 pub mod NameEntries
+pub mod Unnamed
+pub mod Narrowed

@@ -1,5 +1,6 @@
 // Phase 1: what each line is, and the bodies and blocks that it stands in.
 pub(crate) mod blocks;
+mod by_letter;
 mod line;
 pub(crate) mod lines;
 pub(crate) mod statement;

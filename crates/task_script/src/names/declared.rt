@@ -1,5 +1,6 @@
 // What lines declare, and the least fault of phase 2.
 ghost use Rattle.std.specs.Prelude.{ℕ, ◌≡◌, ◌≤◌, ◌∷◌, ◌++◌, [], map, None, Some, IfOk, MatchResult, MatchOption, length};
+ghost use Rattle.std.specs.List.{list_any};
 ghost use Rattle.std.specs.Option.{option_map};
 ghost use Rattle.script_table.specs.Faults.{least, least_kind};
 ghost use Rattle.script_table.specs.Patterns.{spot_of};
@@ -7,6 +8,7 @@ ghost use Rattle.script_table.specs.LineFaults.{place_faults};
 ghost use Rattle.script_table.specs.Structure.{IsRising};
 ghost use Rattle.script_table.specs.Names.{nothing_declared, with_declaration, declared_at, declared, name_fault, name_faults, phase_two};
 ghost use Rattle.task_script.specs.Ends.{answered};
+ghost use Rattle.task_script.specs.Naming.{declares, is_named};
 
 use crate::ScriptEnd;
 use crate::names::Names;
@@ -15,6 +17,46 @@ use script_lex::Words;
 use script_table::{FaultKind, NameKind, Place, lesser_first};
 use std::alloc::Global;
 use std::marker::Model;
+
+fn declares(place: &Place) -> bool
+    ensures { result ≡ declares (spot_of place.now) }
+{
+    match place {
+        Place::Declares(_) | Place::Acts => true,
+        _ => false,
+    }
+}
+
+fn any_declares(places: &[Place]) -> bool
+    ensures { result ≡ list_any declares (map spot_of places.now) }
+{
+    for place in places {
+        if declares(place) {
+            return true;
+        }
+    }
+    false
+}
+
+fn is_named(place: &Place) -> bool
+    ensures { result ≡ is_named (spot_of place.now) }
+{
+    match place {
+        Place::Declares(_) | Place::Uses(_) | Place::Acts => true,
+        _ => false,
+    }
+}
+
+fn any_is_named(places: &[Place]) -> bool
+    ensures { result ≡ list_any is_named (map spot_of places.now) }
+{
+    for place in places {
+        if is_named(place) {
+            return true;
+        }
+    }
+    false
+}
 
 /// All names, and the signals that have an action.
 #[derive(Drop)]
@@ -113,6 +155,28 @@ impl<'a> Declared<'a> {
             },
         }
     }
+
+    // Most lines declare nothing, and their words are not read here.
+    fn declare_line(&mut self, s: &Statement<'a>) -> Result<(), ScriptEnd>
+        ensures { MatchResult result
+            (λ _. self.new ≡ declared_at self.old s.now.line s.now.row.places s.now.words)
+            (λ e. e ≡ ScriptEnd.OutOfMemory) }
+    {
+        if !any_declares(s.places()) {
+            return Ok(());
+        }
+        self.declare(s.line(), s.places(), s.words())
+    }
+
+    // Most lines name nothing, and their words are not read here.
+    fn line_fault(&self, s: &Statement<'_>) -> Option<FaultKind>
+        ensures { result ≡ least_kind (name_faults self.now s.now) }
+    {
+        if !any_is_named(s.places()) {
+            return None;
+        }
+        self.place_fault(s.line(), s.places(), s.words())
+    }
 }
 
 /// All that the lines declare.
@@ -124,7 +188,7 @@ pub(crate) fn declarations<'a>(
 {
     let mut all = Declared::new(alloc);
     for s in statements {
-        all.declare(s.line(), s.places(), s.words())?;
+        all.declare_line(s)?;
     }
     Ok(all)
 }
@@ -136,7 +200,7 @@ pub(crate) fn check_names(all: &Declared<'_>, statements: &[Statement<'_>]) -> R
         (λ e. option_map answered (least (phase_two all.now statements.now)) ≡ Some e) }
 {
     for s in statements {
-        if let Some(kind) = all.place_fault(s.line(), s.places(), s.words()) {
+        if let Some(kind) = all.line_fault(s) {
             return Err(ScriptEnd::Fault(s.line(), kind));
         }
     }

@@ -9,28 +9,29 @@ ghost use Rattle.task_script.specs.Ends.{EndsBy};
 
 use crate::ScriptEnd;
 use crate::structure::blocks::Blocks;
+use crate::structure::by_letter::ByLetter;
 use crate::structure::line::line_fault;
 use crate::structure::statement::Statement;
 use script_lex::{Line, Lines};
-use script_table::{FaultKind, Table, pattern_of};
+use script_table::{FaultKind, Table};
 use std::alloc::Global;
 
 // What a line says, where it has no fault of phase 1.
 fn read_line<'a>(
-    table: &Table,
+    patterns: &ByLetter,
     line: Line<'a>,
     blocks: &mut Blocks,
 ) -> Result<Option<Statement<'a>>, ScriptEnd>
     ensures { MatchResult result
-        (λ s. (line_faults (rows_of table.now) (Some blocks.old) line.entry.bytes.now ≡ []) ×
-        (option_to_list s ≡ said_line (rows_of table.now) line.entry.number line.entry.bytes.now) ×
-        (Some blocks.new ≡ behind_line (rows_of table.now) (Some blocks.old) line.entry.bytes.now))
+        (λ s. (line_faults patterns.now (Some blocks.old) line.entry.bytes.now ≡ []) ×
+        (option_to_list s ≡ said_line patterns.now line.entry.number line.entry.bytes.now) ×
+        (Some blocks.new ≡ behind_line patterns.now (Some blocks.old) line.entry.bytes.now))
         (λ e. EndsBy e (option_map (fault 1 line.entry.number)
-        (least_kind (line_faults (rows_of table.now) (Some blocks.old) line.entry.bytes.now)))) }
+        (least_kind (line_faults patterns.now (Some blocks.old) line.entry.bytes.now)))) }
 {
     let words = line.words();
-    let pattern = pattern_of(table, &words);
-    if let Some(kind) = line_fault(table, &line, pattern, blocks) {
+    let pattern = patterns.pattern_of(&words);
+    if let Some(kind) = line_fault(patterns.table(), &line, pattern, blocks) {
         return Err(ScriptEnd::Fault(line.number, kind));
     }
     match pattern {
@@ -49,6 +50,36 @@ pub(crate) struct Reading<'a> {
     pub last: u32,
 }
 
+// What the lines of a text say by these patterns, where none has a fault of phase 1.
+fn statements_by<'a>(
+    alloc: Global,
+    patterns: &ByLetter,
+    text: &'a [u8],
+) -> Result<Reading<'a>, ScriptEnd>
+    requires { length text.now ≤ 67_108_864 }
+    ensures { MatchResult result
+        (λ v. (least (phase_one patterns.now 1 (Some []) (lines_of text.now)) ≡ None) ×
+        (v.statements.items ≡ said_from patterns.now 1 (lines_of text.now)) ×
+        (v.last ≡ 1 + length (lines_of text.now)))
+        (λ e. EndsBy e (least (phase_one patterns.now 1 (Some []) (lines_of text.now)))) }
+{
+    let mut statements = Vec::new(alloc);
+    let mut blocks = Blocks::new(alloc);
+    let mut lines = Lines::new(text);
+    while let Some(line) = lines.next_line() {
+        if let Some(statement) = read_line(patterns, line, &mut blocks)? {
+            statements.push(statement)?;
+        }
+    }
+    if !blocks.is_empty() {
+        return Err(ScriptEnd::Fault(lines.next_number(), FaultKind::Unclosed));
+    }
+    Ok(Reading {
+        statements,
+        last: lines.next_number(),
+    })
+}
+
 /// What the lines of a text say, where none has a fault of phase 1.
 pub(crate) fn statements<'a>(
     alloc: Global,
@@ -62,19 +93,6 @@ pub(crate) fn statements<'a>(
         (v.last ≡ 1 + length (lines_of text.now)))
         (λ e. EndsBy e (least (phase_one (rows_of table.now) 1 (Some []) (lines_of text.now)))) }
 {
-    let mut statements = Vec::new(alloc);
-    let mut blocks = Blocks::new(alloc);
-    let mut lines = Lines::new(text);
-    while let Some(line) = lines.next_line() {
-        if let Some(statement) = read_line(table, line, &mut blocks)? {
-            statements.push(statement)?;
-        }
-    }
-    if !blocks.is_empty() {
-        return Err(ScriptEnd::Fault(lines.next_number(), FaultKind::Unclosed));
-    }
-    Ok(Reading {
-        statements,
-        last: lines.next_number(),
-    })
+    let patterns = ByLetter::new(alloc, table)?;
+    statements_by(alloc, &patterns, text)
 }

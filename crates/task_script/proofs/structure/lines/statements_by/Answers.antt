@@ -2,7 +2,7 @@ use Rattle.std.proofs.Common.{sym, ◌∙◌, ap, append-nil}
 use Rattle.std.proofs.lemmas.Result.{err_from_is_err_and}
 use Rattle.script_lex.specs.Lines.{Ahead}
 use Rattle.task_script.proofs.LineReads.{goes_on, line_ends, says_on, says_all, ends_closed, ends_open, counted, counted_all}
-use Rattle.task_script.proofs.structure.lines.statements.Goals as goal
+use Rattle.task_script.proofs.structure.lines.statements_by.Goals as goal
 
 pub returns-in_err-statement : goal.returns-in_err-statement
 returns-in_err-statement c =

@@ -1,14 +1,13 @@
 use Rattle.std.proofs.Common.{◌≡◌, ◌+◌, ◌++◌, length, Some, []}
 use Rattle.script_lex.specs.Lines.{lines_of}
 use Rattle.script_table.specs.Faults.{least}
-use Rattle.script_table.specs.Patterns.{rows_of}
 use Rattle.script_table.specs.Structure.{phase_one, said_from}
-use Rattle.task_script.proofs.structure.lines.statements.Given as goal
+use Rattle.task_script.proofs.structure.lines.statements_by.Given as goal
 
 abbrev pub invariant-loop-line : goal.invariant-loop-line
 invariant-loop-line l = record {
-  faults : least (phase_one (rows_of l.table) l.lines.number (Some l.blocks) l.lines.lines) ≡ least (phase_one (rows_of l.table) 1 (Some []) (lines_of l.text));
-  said : l.statements.items ++ said_from (rows_of l.table) l.lines.number l.lines.lines ≡ said_from (rows_of l.table) 1 (lines_of l.text);
+  faults : least (phase_one l.patterns l.lines.number (Some l.blocks) l.lines.lines) ≡ least (phase_one l.patterns 1 (Some []) (lines_of l.text));
+  said : l.statements.items ++ said_from l.patterns l.lines.number l.lines.lines ≡ said_from l.patterns 1 (lines_of l.text);
   last : l.lines.number + length l.lines.lines ≡ 1 + length (lines_of l.text);
 }
 

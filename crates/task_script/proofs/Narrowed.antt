@@ -1,0 +1,43 @@
+-- Tables that serve for the lines that begin with one byte.
+use Rattle.std.proofs.Common.{◌≡◌, ◌<◌, ℕ, zero, suc, ◌+◌, List, [], ◌∷◌, ◌++◌, length, get_or, refl, subst, arith, false}
+use Rattle.script_table.specs.declared.pattern.Table.{Table}
+use Rattle.script_table.specs.Patterns.{Spot, Keyword, Answer, Number, Operand, Declares, Uses, Signal, Acts, Signals, Row}
+use Rattle.script_table.specs.LineFaults.{fits, fitting_row}
+use Rattle.script_table.proofs.ThreeParts.{fitting_parts}
+use Rattle.task_script.specs.Narrowed.{may_begin, Serves, ServeFrom}
+
+pub fits_not : (b : ℕ) (spots : List Spot) (cs : List ℕ) (ws : List (List ℕ)) → may_begin b spots ≡ false → fits spots ((b ∷ cs) ∷ ws) ≡ false
+fits_not b [] cs ws e = cc
+fits_not b (Keyword [] ∷ ss) cs ws e = refl
+fits_not b (Keyword (c ∷ k) ∷ ss) cs ws e = rw e refl
+fits_not b (Answer ∷ ss) cs ws e = cc
+fits_not b (Number low high ∷ ss) cs ws e = cc
+fits_not b (Operand ∷ ss) cs ws e = cc
+fits_not b (Declares kind ∷ ss) cs ws e = cc
+fits_not b (Uses kind ∷ ss) cs ws e = cc
+fits_not b (Signal ∷ ss) cs ws e = cc
+fits_not b (Acts ∷ ss) cs ws e = cc
+fits_not b (Signals ∷ ss) cs ws e = cc
+
+-- the same pattern for each line that begins with this byte
+abbrev pub Same : ℕ → List Row → List Row → Type 0
+Same b xs ys = (cs : List ℕ) (ws : List (List ℕ)) → fitting_row xs ((b ∷ cs) ∷ ws) ≡ fitting_row ys ((b ∷ cs) ∷ ws)
+
+pub past : (b : ℕ) (row : Row) (rows found : List Row) → may_begin b row.places ≡ false → Same b found rows → Same b found (row ∷ rows)
+past b row rows found e same cs ws = rw (fits_not b row.places cs ws e) (same cs ws)
+
+pub three : (b : ℕ) (xs ys zs xs' ys' zs' : List Row) → Same b xs xs' → Same b ys ys' → Same b zs zs' → Same b (xs ++ (ys ++ zs)) (xs' ++ (ys' ++ zs'))
+three b xs ys zs xs' ys' zs' one two last cs ws =
+    let w = (b ∷ cs) ∷ ws in
+    rw (fitting_parts xs ys zs w, fitting_parts xs' ys' zs' w, one cs ws, two cs ws, last cs ws) refl
+
+pub serves_at : (rows : List Row) (b : ℕ) (ts : List Table) (k : ℕ) (t : Table) → k < length ts → ServeFrom rows b ts → Serves rows (b + k) (get_or ts k t)
+serves_at rows b [] k t lt s = absurd (omega arith)
+serves_at rows b (u ∷ ts) zero t lt s = let e : b ≡ b + 0 = omega arith in subst (λ n. Serves rows n u) e s.0
+serves_at rows b (u ∷ ts) (suc k) t lt s =
+    let e : (b + 1) + k ≡ b + suc k = omega arith in
+    subst (λ n. Serves rows n (get_or ts k t)) e (serves_at rows (b + 1) ts k t (omega arith) s.1)
+
+pub serve_more : (rows : List Row) (b n : ℕ) (ts : List Table) (t : Table) → n ≡ b + length ts → ServeFrom rows b ts → Serves rows n t → ServeFrom rows b (ts ++ t ∷ [])
+serve_more rows b n [] t is s h = let e : n ≡ b = omega arith in (subst (λ m. Serves rows m t) e h, tt)
+serve_more rows b n (u ∷ ts) t is s h = let e : n ≡ (b + 1) + length ts = omega arith in (s.0, serve_more rows (b + 1) n ts t e s.1 h)

@@ -1,0 +1,24 @@
+-- Tables that serve for the lines that begin with one byte.
+use Rattle.std.specs.Prelude.{ℕ, ◌≡◌, ◌+◌, ◌==◌, Bool, true, false, List, [], ◌∷◌}
+use Rattle.script_table.specs.declared.pattern.Table.{Table}
+use Rattle.script_table.specs.Patterns.{Spot, Keyword, Row, rows_of}
+use Rattle.script_table.specs.LineFaults.{fitting_row}
+
+abbrev pub begins : ℕ → List ℕ → Bool
+begins b [] = false
+begins b (c ∷ cs) = b == c
+
+-- a line that begins with this byte may have these places
+abbrev pub may_begin : ℕ → List Spot → Bool
+may_begin b [] = true
+may_begin b (Keyword k ∷ spots) = begins b k
+may_begin b (other ∷ spots) = true
+
+-- the table and the rows have the same pattern for each line that begins with this byte
+abbrev pub Serves : List Row → ℕ → Table → Type 0
+Serves rows b t = (cs : List ℕ) (ws : List (List ℕ)) → fitting_row (rows_of t) ((b ∷ cs) ∷ ws) ≡ fitting_row rows ((b ∷ cs) ∷ ws)
+
+-- a table for each byte from b on
+abbrev pub ServeFrom : List Row → ℕ → List Table → Type 0
+ServeFrom rows b [] = Unit {0}
+ServeFrom rows b (t ∷ ts) = Serves rows b t × ServeFrom rows (b + 1) ts

@@ -1,0 +1,131 @@
+// The patterns of a table by the first byte of a line's first word.
+ghost use Rattle.std.specs.Prelude.{ℕ, ◌≡◌, ◌∷◌, List, map, IfOk};
+ghost use Rattle.std.specs.Option.{option_map};
+ghost use Rattle.script_table.specs.Patterns.{spot_of, row_of, rows_of};
+ghost use Rattle.script_table.specs.LineFaults.{fitting_row, fitting_some};
+ghost use Rattle.task_script.specs.Narrowed.{begins, may_begin, Serves};
+
+use script_lex::Words;
+use script_table::{Pattern, Place, Table, pattern_of};
+use std::alloc::{AllocError, Global};
+use std::marker::Model;
+
+fn begins(word: &[u8], byte: u8) -> bool
+    ensures { result ≡ begins byte word.now }
+{
+    match word {
+        [] => false,
+        [first, ..] => byte == *first,
+    }
+}
+
+// Whether a line may begin with this byte and have these places.
+fn may_begin(places: &[Place], byte: u8) -> bool
+    ensures { result ≡ may_begin byte (map spot_of places.now) }
+{
+    match places {
+        [] => true,
+        [place, ..] => match place {
+            Place::Keyword(keyword) => begins(keyword, byte),
+            _ => true,
+        },
+    }
+}
+
+// The patterns from the first one on that a line may have which begins with this byte.
+fn from_first(patterns: &'static [Pattern], byte: u8) -> &'static [Pattern]
+    ensures { (cs : List ℕ) (ws : List (List ℕ))
+        → fitting_row (map row_of result.now) ((byte ∷ cs) ∷ ws) ≡ fitting_row (map row_of patterns.now) ((byte ∷ cs) ∷ ws) }
+{
+    match patterns {
+        [] => patterns,
+        [pattern, rest @ ..] => if may_begin(pattern.places, byte) {
+            patterns
+        } else {
+            from_first(rest, byte)
+        },
+    }
+}
+
+fn narrowed(table: &Table, byte: u8) -> Table
+    ensures { Serves (rows_of table.now) byte result }
+{
+    Table {
+        declarations: from_first(table.declarations, byte),
+        steps: from_first(table.steps, byte),
+        calls: from_first(table.calls, byte),
+    }
+}
+
+/// A table, and a narrower one for each small letter with which a line may begin. Contracts see the rows of the table.
+#[derive(Drop)]
+pub(crate) struct ByLetter {
+    table: Table,
+    narrower: Vec<Table>,
+}
+
+impl Model for ByLetter {
+    ghost use Rattle.std.specs.Prelude.{List};
+    ghost use Rattle.script_table.specs.Patterns.{Row, rows_of};
+    ghost use Rattle.task_script.specs.Narrowed.{ServeFrom};
+
+    ghost Value = { List Row };
+
+    ghost view = { λ p. rows_of p.table };
+
+    ghost invariant = { λ p. ServeFrom (rows_of p.table) 97 p.narrower.items };
+}
+
+impl ByLetter {
+    pub(crate) fn new(alloc: Global, table: &Table) -> Result<ByLetter, AllocError>
+        ensures { IfOk result (λ p. p ≡ rows_of table.now) }
+    {
+        let mut narrower = Vec::new(alloc);
+        for byte in b'a'..=b'z' {
+            narrower.push(narrowed(table, byte))?;
+        }
+        Ok(ByLetter {
+            table: *table,
+            narrower,
+        })
+    }
+
+    /// The whole table.
+    pub(crate) fn table(&self) -> &Table
+        ensures { rows_of result.now ≡ self.now }
+    {
+        &self.table
+    }
+
+    fn of_byte(&self, byte: u8) -> &Table
+        ensures { Serves self.now byte result.now }
+    {
+        if b'a' <= byte {
+            let place = (byte - b'a') as usize;
+            if place < self.narrower.len() {
+                return &self.narrower[place];
+            }
+        }
+        &self.table
+    }
+
+    fn of_line(&self, words: &Words<'_>) -> &Table
+        ensures { fitting_some (rows_of result.now) words.now.words ≡ fitting_some self.now words.now.words }
+    {
+        let mut rest = words.again();
+        let Some(first) = rest.next_word() else {
+            return &self.table;
+        };
+        match first.bytes {
+            [] => &self.table,
+            [byte, ..] => self.of_byte(*byte),
+        }
+    }
+
+    /// The pattern that agrees with a line of these words and has their number; `None` exactly where there is none.
+    pub(crate) fn pattern_of(&self, words: &Words<'_>) -> Option<&'static Pattern>
+        ensures { option_map (λ p. row_of p.now) result ≡ fitting_some self.now words.now.words }
+    {
+        pattern_of(self.of_line(words), words)
+    }
+}
