@@ -4,7 +4,7 @@ ghost use Rattle.pse52_trace.specs.Text.{IsNamed, budget_words, event_words, lin
 ghost use Rattle.pse52_trace.specs.Placed.{Placed, blanks_before, words_behind};
 ghost use Rattle.pse52_trace.specs.ShortLines.{AreWhole};
 
-use crate::place::{place_byte, place_literal, place_number, place_word};
+use crate::place::{place_byte, place_number, place_word};
 use crate::{BudgetView, Event, Names, Report};
 use itoa::{Buffer, write_digits};
 use std::marker::Model;
@@ -124,7 +124,7 @@ fn place_event(text: &mut [u8], e: &Event, names: &Names) -> usize
             let at = place_number(text, at, prio.get() as u64);
             place_byte(text, at, b'\n')
         }
-        Event::Idle => place_literal(text, HEAD, b" idle\n"),
+        Event::Idle => place_word(text, HEAD, b" idle\n"),
         Event::Start(t) => {
             let at = place_of_thread(text, b" start ", names, *t);
             place_byte(text, at, b'\n')
@@ -176,11 +176,11 @@ fn place_event(text: &mut [u8], e: &Event, names: &Names) -> usize
             place_byte(text, at, b'\n')
         }
         Event::Killed(sig) => {
-            let at = place_literal(text, HEAD, b" killed");
+            let at = place_word(text, HEAD, b" killed");
             let at = place_signal(text, at, *sig);
             place_byte(text, at, b'\n')
         }
-        Event::End => place_literal(text, HEAD, b" end\n"),
+        Event::End => place_word(text, HEAD, b" end\n"),
     }
 }
 
@@ -193,7 +193,7 @@ fn place_of_thread(text: &mut [u8], what: &[u8], names: &Names, t: Tid) -> usize
     ensures placed { Placed text.old text.new 20 (what.now ++ name_at names.now t) result }
     ensures within { result ≤ 62 }
 {
-    let at = place_literal(text, HEAD, what);
+    let at = place_word(text, HEAD, what);
     names.name(t).place(text, at)
 }
 
@@ -203,7 +203,7 @@ fn place_signal(text: &mut [u8], at: usize, sig: u8) -> usize
     ensures placed { Placed text.old text.new at (32 ∷ signal_name sig) result }
     ensures within { result ≤ at + 24 }
 {
-    let at = place_literal(text, at, b" rt");
+    let at = place_word(text, at, b" rt");
     place_word(text, at, Buffer::new().format(sig).as_bytes())
 }
 
@@ -215,7 +215,7 @@ fn place_report(text: &mut [u8], t: Tid, report: &Report, names: &Names) -> usiz
     ensures within { result ≤ 256 }
 {
     let at = place_of_thread(text, b"thread ", names, t);
-    let at = place_literal(text, at, b" ticks");
+    let at = place_word(text, at, b" ticks");
     let at = place_number(text, at, report.ticks);
     match &report.budget {
         Some(budget) => {
@@ -232,12 +232,12 @@ fn place_budget(text: &mut [u8], at: usize, budget: &BudgetView) -> usize
     ensures placed { Placed text.old text.new at (blanks_before (budget_words (Some budget.now))) result }
     ensures within { result ≤ at + 112 }
 {
-    let at = place_literal(text, at, b" high");
+    let at = place_word(text, at, b" high");
     let at = place_number(text, at, budget.high);
-    let at = place_literal(text, at, b" init");
+    let at = place_word(text, at, b" init");
     let at = place_number(text, at, budget.init);
-    let at = place_literal(text, at, b" refilled");
+    let at = place_word(text, at, b" refilled");
     let at = place_number(text, at, budget.refilled);
-    let at = place_literal(text, at, b" capacity");
+    let at = place_word(text, at, b" capacity");
     place_number(text, at, budget.capacity)
 }
