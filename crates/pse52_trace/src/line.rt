@@ -61,6 +61,7 @@ impl Line {
     }
 
     // Becomes the line of an event.
+    #[inline(always)]
     pub(crate) fn set_event(&mut self, now: Tick, e: &Event, names: &Names)
         requires { IsNamed names.now e.now }
         ensures value { self.new ≡ line names.now now e.now }
@@ -125,10 +126,7 @@ fn place_event(text: &mut [u8], e: &Event, names: &Names) -> usize
             place_byte(text, at, b'\n')
         }
         Event::Idle => place_word(text, HEAD, b" idle\n"),
-        Event::Start(t) => {
-            let at = place_of_thread(text, b" start ", names, *t);
-            place_byte(text, at, b'\n')
-        }
+        Event::Start(t) => place_alone(text, b" start ", names, *t),
         Event::Return(t, call, res, value) => {
             let at = place_of_thread(text, b" return ", names, *t);
             let at = place_byte(text, at, b' ');
@@ -151,10 +149,7 @@ fn place_event(text: &mut [u8], e: &Event, names: &Names) -> usize
             let at = place_number(text, at, *capacity);
             place_byte(text, at, b'\n')
         }
-        Event::Exhaust(t) => {
-            let at = place_of_thread(text, b" exhaust ", names, *t);
-            place_byte(text, at, b'\n')
-        }
+        Event::Exhaust(t) => place_alone(text, b" exhaust ", names, *t),
         Event::Plan(t, amount, due) => {
             let at = place_of_thread(text, b" plan ", names, *t);
             let at = place_number(text, at, *amount);
@@ -167,14 +162,8 @@ fn place_event(text: &mut [u8], e: &Event, names: &Names) -> usize
             let at = place_number(text, at, *capacity);
             place_byte(text, at, b'\n')
         }
-        Event::Cancel(t) => {
-            let at = place_of_thread(text, b" cancel ", names, *t);
-            place_byte(text, at, b'\n')
-        }
-        Event::Exit(t) => {
-            let at = place_of_thread(text, b" exit ", names, *t);
-            place_byte(text, at, b'\n')
-        }
+        Event::Cancel(t) => place_alone(text, b" cancel ", names, *t),
+        Event::Exit(t) => place_alone(text, b" exit ", names, *t),
         Event::Killed(sig) => {
             let at = place_word(text, HEAD, b" killed");
             let at = place_signal(text, at, *sig);
@@ -182,6 +171,19 @@ fn place_event(text: &mut [u8], e: &Event, names: &Names) -> usize
         }
         Event::End => place_word(text, HEAD, b" end\n"),
     }
+}
+
+// Puts the whole of an event that only has a thread behind the head.
+#[inline(always)]
+fn place_alone(text: &mut [u8], what: &[u8], names: &Names, t: Tid) -> usize
+    requires room { length text.old ≡ 256 }
+    requires short { length what.now ≤ 10 }
+    requires named { t < length names.now }
+    ensures placed { Placed text.old text.new 20 (what.now ++ (name_at names.now t ++ 10 ∷ [])) result }
+    ensures within { result ≤ 63 }
+{
+    let at = place_of_thread(text, what, names, t);
+    place_byte(text, at, b'\n')
 }
 
 // Puts what happens behind the head, and the name of the thread to which it happens.
