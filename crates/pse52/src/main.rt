@@ -13,6 +13,9 @@ use std::sync::ledger::{Blank, Ledger};
 use std::{env, io};
 use step_counter::Steps;
 
+// How many bytes of the output are gathered before they are written.
+const HELD_BACK: usize = 65_536;
+
 // Carries out the command with a counter of its own.
 fn run_counted<S: Source, K: Sink, L: Ledger>(
     alloc: Global,
@@ -48,7 +51,8 @@ fn words(rt: &HostRuntime) -> io::Result<Vec<String>> {
 fn run(rt: &HostRuntime) -> io::Result<Status> {
     let words = words(rt)?;
     let mut source = StdSource::new(BufReader::new(rt.alloc(), rt.reader())?);
-    let mut sink = StdSink::new(BufWriter::new(rt.alloc(), io::writer(rt))?);
+    let writer = BufWriter::with_capacity(rt.alloc(), HELD_BACK, io::writer(rt))?;
+    let mut sink = StdSink::new(writer);
     let status = run_counted::<_, _, Brand>(
         rt.alloc(),
         words.as_slice(),

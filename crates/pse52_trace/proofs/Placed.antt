@@ -49,6 +49,15 @@ placed_ends {a} {b} {c} {i} {j} {k} bytes half within fits covers p q =
     ∙ take-append-drop last bytes in
     record { front = both.front ∙ ap (λ l. take i a ++ l) whole; moved = both.moved ∙ ap (λ l. i + length l) whole; same = both.same }
 
+-- digits that were written from their end
+pub placed_from_end : (a b digits : List ℕ) (i at end : ℕ) → at + length digits ≡ end → at ≡ i → end ≤ length a
+    → take at b ≡ take at a → drop at b ≡ digits ++ drop end a → length b ≡ length a → Placed a b i digits end
+placed_from_end a b digits i at end reached same within before written long =
+    let front : take end b ≡ take at a ++ digits =
+    ap (λ k. take k b) (sym reached) ∙ take-add at (length digits) b
+    ∙ (λ k. before k ++ (ap (take (length digits)) written ∙ take_at digits (drop end a) (length digits) refl) k) in
+    subst (λ k. Placed a b k digits end) same (record { front = front; moved = sym reached; same = long })
+
 -- what is put behind the head leaves it as it is
 pub head_stays : (a b bytes : List ℕ) (start end : ℕ) → 20 ≤ length a → Placed a b 20 bytes end → slice_range b start 20 ≡ slice_range a start 20
 head_stays a b bytes start end long p =

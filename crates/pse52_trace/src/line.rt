@@ -4,7 +4,7 @@ ghost use Rattle.pse52_trace.specs.Text.{IsNamed, budget_words, event_words, lin
 ghost use Rattle.pse52_trace.specs.Placed.{Placed, blanks_before, words_behind};
 ghost use Rattle.pse52_trace.specs.ShortLines.{AreWhole};
 
-use crate::place::{place_byte, place_literal, place_number, place_word};
+use crate::place::{place_byte, place_number, place_word};
 use crate::{BudgetView, Event, Names, Report};
 use itoa::{Buffer, write_digits};
 use std::marker::Model;
@@ -61,6 +61,7 @@ impl Line {
     }
 
     // Becomes the line of an event.
+    #[inline(always)]
     pub(crate) fn set_event(&mut self, now: Tick, e: &Event, names: &Names)
         requires { IsNamed names.now e.now }
         ensures value { self.new ≡ line names.now now e.now }
@@ -124,11 +125,8 @@ fn place_event(text: &mut [u8], e: &Event, names: &Names) -> usize
             let at = place_number(text, at, prio.get() as u64);
             place_byte(text, at, b'\n')
         }
-        Event::Idle => place_literal(text, HEAD, b" idle\n"),
-        Event::Start(t) => {
-            let at = place_of_thread(text, b" start ", names, *t);
-            place_byte(text, at, b'\n')
-        }
+        Event::Idle => place_word(text, HEAD, b" idle\n"),
+        Event::Start(t) => place_alone(text, b" start ", names, *t),
         Event::Return(t, call, res, value) => {
             let at = place_of_thread(text, b" return ", names, *t);
             let at = place_byte(text, at, b' ');
@@ -151,10 +149,7 @@ fn place_event(text: &mut [u8], e: &Event, names: &Names) -> usize
             let at = place_number(text, at, *capacity);
             place_byte(text, at, b'\n')
         }
-        Event::Exhaust(t) => {
-            let at = place_of_thread(text, b" exhaust ", names, *t);
-            place_byte(text, at, b'\n')
-        }
+        Event::Exhaust(t) => place_alone(text, b" exhaust ", names, *t),
         Event::Plan(t, amount, due) => {
             let at = place_of_thread(text, b" plan ", names, *t);
             let at = place_number(text, at, *amount);
@@ -167,21 +162,28 @@ fn place_event(text: &mut [u8], e: &Event, names: &Names) -> usize
             let at = place_number(text, at, *capacity);
             place_byte(text, at, b'\n')
         }
-        Event::Cancel(t) => {
-            let at = place_of_thread(text, b" cancel ", names, *t);
-            place_byte(text, at, b'\n')
-        }
-        Event::Exit(t) => {
-            let at = place_of_thread(text, b" exit ", names, *t);
-            place_byte(text, at, b'\n')
-        }
+        Event::Cancel(t) => place_alone(text, b" cancel ", names, *t),
+        Event::Exit(t) => place_alone(text, b" exit ", names, *t),
         Event::Killed(sig) => {
-            let at = place_literal(text, HEAD, b" killed");
+            let at = place_word(text, HEAD, b" killed");
             let at = place_signal(text, at, *sig);
             place_byte(text, at, b'\n')
         }
-        Event::End => place_literal(text, HEAD, b" end\n"),
+        Event::End => place_word(text, HEAD, b" end\n"),
     }
+}
+
+// Puts the whole of an event that only has a thread behind the head.
+#[inline(always)]
+fn place_alone(text: &mut [u8], what: &[u8], names: &Names, t: Tid) -> usize
+    requires room { length text.old ≡ 256 }
+    requires short { length what.now ≤ 10 }
+    requires named { t < length names.now }
+    ensures placed { Placed text.old text.new 20 (what.now ++ (name_at names.now t ++ 10 ∷ [])) result }
+    ensures within { result ≤ 63 }
+{
+    let at = place_of_thread(text, what, names, t);
+    place_byte(text, at, b'\n')
 }
 
 // Puts what happens behind the head, and the name of the thread to which it happens.
@@ -193,7 +195,7 @@ fn place_of_thread(text: &mut [u8], what: &[u8], names: &Names, t: Tid) -> usize
     ensures placed { Placed text.old text.new 20 (what.now ++ name_at names.now t) result }
     ensures within { result ≤ 62 }
 {
-    let at = place_literal(text, HEAD, what);
+    let at = place_word(text, HEAD, what);
     names.name(t).place(text, at)
 }
 
@@ -203,7 +205,7 @@ fn place_signal(text: &mut [u8], at: usize, sig: u8) -> usize
     ensures placed { Placed text.old text.new at (32 ∷ signal_name sig) result }
     ensures within { result ≤ at + 24 }
 {
-    let at = place_literal(text, at, b" rt");
+    let at = place_word(text, at, b" rt");
     place_word(text, at, Buffer::new().format(sig).as_bytes())
 }
 
@@ -215,7 +217,7 @@ fn place_report(text: &mut [u8], t: Tid, report: &Report, names: &Names) -> usiz
     ensures within { result ≤ 256 }
 {
     let at = place_of_thread(text, b"thread ", names, t);
-    let at = place_literal(text, at, b" ticks");
+    let at = place_word(text, at, b" ticks");
     let at = place_number(text, at, report.ticks);
     match &report.budget {
         Some(budget) => {
@@ -232,12 +234,12 @@ fn place_budget(text: &mut [u8], at: usize, budget: &BudgetView) -> usize
     ensures placed { Placed text.old text.new at (blanks_before (budget_words (Some budget.now))) result }
     ensures within { result ≤ at + 112 }
 {
-    let at = place_literal(text, at, b" high");
+    let at = place_word(text, at, b" high");
     let at = place_number(text, at, budget.high);
-    let at = place_literal(text, at, b" init");
+    let at = place_word(text, at, b" init");
     let at = place_number(text, at, budget.init);
-    let at = place_literal(text, at, b" refilled");
+    let at = place_word(text, at, b" refilled");
     let at = place_number(text, at, budget.refilled);
-    let at = place_literal(text, at, b" capacity");
+    let at = place_word(text, at, b" capacity");
     place_number(text, at, budget.capacity)
 }

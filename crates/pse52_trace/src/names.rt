@@ -3,6 +3,7 @@ ghost use Rattle.std.specs.Prelude.{◌≡◌, ◌≤◌, ◌<◌, ◌+◌, List
 ghost use Rattle.pse52_trace.specs.Placed.{Placed};
 ghost use Rattle.pse52_trace.specs.Text.{name_at};
 
+use crate::place::place_front;
 use std::alloc::{AllocError, Global};
 use std::marker::Model;
 use tick_num::Tid;
@@ -51,7 +52,7 @@ impl Name {
         ensures placed { Placed buf.old buf.new at self.now result }
         ensures within { result ≤ at + 32 }
     {
-        buf[at..at + 32].copy_from_slice(&self.text);
+        place_front::<32>(buf, at, &self.text);
         at + self.len
     }
 }

@@ -2,7 +2,7 @@
 ghost use Rattle.std.specs.Prelude.{◌≡◌, ◌+◌, ◌<◌, ◌≤◌, [], ◌∷◌, length, take, decimal};
 ghost use Rattle.pse52_trace.specs.Placed.{Placed};
 
-use itoa::Buffer;
+use itoa::{Buffer, write_digits};
 use std::simd::Simd;
 
 // One byte.
@@ -15,20 +15,9 @@ pub(crate) fn place_byte(buf: &mut [u8], at: usize, byte: u8) -> usize
     at + 1
 }
 
-// Bytes whose number is known where the program is compiled.
-#[inline(always)]
-pub(crate) fn place_literal(buf: &mut [u8], at: usize, bytes: &[u8]) -> usize
-    requires { at + length bytes.now ≤ length buf.old }
-    ensures { Placed buf.old buf.new at bytes.now result }
-{
-    let end = at + bytes.len();
-    buf[at..end].copy_from_slice(bytes);
-    end
-}
-
 // The first N bytes, by one load and one store.
 #[inline(always)]
-fn place_front<const N: usize>(buf: &mut [u8], at: usize, bytes: &[u8]) -> usize
+pub(crate) fn place_front<const N: usize>(buf: &mut [u8], at: usize, bytes: &[u8]) -> usize
     requires { (N ≤ length bytes.now) × (at + N ≤ length buf.old) }
     ensures { Placed buf.old buf.new at (take N bytes.now) result }
 {
@@ -48,7 +37,7 @@ fn place_ends<const N: usize>(buf: &mut [u8], at: usize, bytes: &[u8]) -> usize
     place_front::<N>(buf, at + last, &bytes[last..])
 }
 
-// At most 32 bytes. A word is too short for a call that copies.
+// At most 32 bytes. A word is too short for a call that copies, and of a literal only its loads and stores are left.
 #[inline(always)]
 pub(crate) fn place_word(buf: &mut [u8], at: usize, word: &[u8]) -> usize
     requires fits { at + length word.now ≤ length buf.old }
@@ -81,9 +70,23 @@ pub(crate) fn place_number(buf: &mut [u8], at: usize, n: u64) -> usize
     let at = place_byte(buf, at, b' ');
     if n < 10 {
         place_byte(buf, at, b'0' + n as u8)
+    } else if n < 100 {
+        place_two_digits(buf, at, n)
     } else {
         place_digits(buf, at, n)
     }
+}
+
+// The digits of a number that has two.
+#[inline(always)]
+fn place_two_digits(buf: &mut [u8], at: usize, n: u64) -> usize
+    requires room { at + 2 ≤ length buf.old }
+    requires two { (10 ≤ n) × (n < 100) }
+    ensures placed { Placed buf.old buf.new at (decimal n) result }
+    ensures within { result ≤ at + 2 }
+{
+    write_digits(n, buf, at + 2);
+    at + 2
 }
 
 // The digits of a number.

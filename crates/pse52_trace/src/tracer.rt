@@ -1,5 +1,5 @@
 // A tracer prints the lines of a run, one write a line.
-ghost use Rattle.std.specs.Prelude.{◌≡◌, ◌<◌, ◌∷◌, [], false, length};
+ghost use Rattle.std.specs.Prelude.{◌≡◌, ◌<◌, ◌∷◌, [], None, IsTrue, false, length};
 ghost use Rattle.pse52_trace.specs.Text.{IsNamed, line, report_line};
 ghost use Rattle.pse52_trace.specs.Prints.{Prints};
 ghost use Rattle.pse52_trace.specs.ShortLines.{AreWhole};
@@ -53,12 +53,23 @@ impl<'a, K: Sink> Tracer<'a, K> {
         }
     }
 
-    /// Prints the line of an event, by one write.
+    // Whether nobody hears what is written.
+    #[inline(always)]
+    fn is_unheard(&self) -> bool
+        ensures { IsTrue result → K.text self.now.sink.now ≡ None }
+    {
+        self.sink.discards()
+    }
+
+    /// Prints the line of an event, by one write. For a sink that discards it no line is made.
     pub fn put(&mut self, now: Tick, e: &Event, names: &Names)
         requires { IsNamed names.now e.now }
         ensures printed { Prints K.text K.faults self.old self.new (line names.now now e.now) }
         ensures told { Tells K.text K.faults names.now self.old self.new (record { time = now; event = e.now } ∷ []) }
     {
+        if self.is_unheard() {
+            return;
+        }
         self.line.set_event(now, e, names);
         self.write_line();
     }

@@ -30,6 +30,12 @@ impl Sink for NullSink {
         let _ = bytes;
         Ok(())
     }
+
+    /// It does.
+    #[inline]
+    fn discards(&self) -> bool {
+        true
+    }
 }
 
 #[cfg(test)]
@@ -41,6 +47,7 @@ mod tests {
     fn a_write_is_taken(rt: HostRuntime) -> Result<(), Fail> {
         let mut sink = NullSink::new();
         assert_eq!(rt; sink.write(b"ab"), Ok(()));
+        assert!(rt; sink.discards());
         Ok(())
     }
 }

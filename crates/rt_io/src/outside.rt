@@ -1,5 +1,5 @@
 // The outside as the project sees it.
-ghost use Rattle.std.specs.Prelude.{◌≡◌, ◌≤◌, List, ℕ, Option, MatchResult};
+ghost use Rattle.std.specs.Prelude.{◌≡◌, ◌≤◌, List, ℕ, Option, None, IsTrue, MatchResult};
 ghost use Rattle.std.specs.Io.{ReadsAtMost};
 ghost use Rattle.std.specs.Io.KnownBytes.{ReadConsumes};
 ghost use Rattle.rt_io.specs.Causes.{GrewBy, HasCause};
@@ -63,4 +63,14 @@ pub trait Sink {
     fn write(&mut self, bytes: &[u8]) -> Result<(), Failed>
         ensures written { WritesAll (text self.old) (text self.new) result bytes.now }
         ensures cause { HasCause (faults self.old) (faults self.new) result };
+
+    /// Whether all that is written is thrown away, so that a caller need not make a text only to write it.
+    ///
+    /// Only a sink that tells no text may say so.
+    #[inline]
+    fn discards(&self) -> bool
+        ensures discards { IsTrue result → text self.now ≡ None }
+    {
+        false
+    }
 }

@@ -1,5 +1,5 @@
-use Rattle.std.proofs.Common.{◌≡◌, ◌≤◌, ◌++◌, ◌∷◌, List, ℕ, length, decimal, slice_range, sym, ◌∙◌, ap, arith}
-use Rattle.pse52_trace.specs.Text.{event_words, line}
+use Rattle.std.proofs.Common.{◌++◌, ◌∷◌, List, ℕ, decimal, sym, ◌∙◌, ap, arith}
+use Rattle.pse52_trace.specs.Text.{event_words}
 use Rattle.pse52_trace.specs.Placed.{words_behind}
 use Rattle.pse52_trace.proofs.Placed.{head_stays, head_and_rest, length_range, line_by_words, line_is_whole}
 use Rattle.pse52_trace.proofs.line.Line.set_event.Goals as goal

@@ -1,4 +1,4 @@
-use Rattle.std.proofs.Common.{◌≡◌, ◌≤◌, length, arith}
+use Rattle.std.proofs.Common.{arith}
 use Rattle.pse52_trace.specs.Text.{report_words}
 use Rattle.pse52_trace.proofs.Placed.{head_and_rest, length_range, line_is_whole}
 use Rattle.pse52_trace.proofs.line.Line.set_report.Goals as goal
