@@ -33,6 +33,7 @@ class Streams:
     def __init__(self) -> None:
         self._files = [TemporaryFile(buffering=0) for _ in range(3)]
         self._actions = [(os.POSIX_SPAWN_DUP2, file.fileno(), number) for number, file in enumerate(self._files)]
+        self._environment = dict(os.environb)
 
     def __enter__(self) -> Streams:
         return self
@@ -49,7 +50,7 @@ class Streams:
         source, told, said = self._files
         source.write(script)
         source.seek(0)
-        process = os.posix_spawnp(words[0], words, os.environ, file_actions=self._actions)
+        process = os.posix_spawnp(words[0], words, self._environment, file_actions=self._actions)
         status = os.waitstatus_to_exitcode(os.waitpid(process, 0)[1])
         return status, _content(told.fileno()), _content(said.fileno())
 
