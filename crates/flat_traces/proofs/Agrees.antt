@@ -51,7 +51,7 @@ outcome_same (Ended r) n body place seen =
     (let k = step_at-step_number body 0 in omega arith)
 
 -- the next unit at a place, by the operations of the body
-next_same : (code : flat_code.Bodies (List Op)) (n : ℕ) (body : Block) (place : Place) (seen : Seen) → ops_of code n ≡ flat 0 body →
+next_same : (code : flat_code.NumberedBodies (List Op)) (n : ℕ) (body : Block) (place : Place) (seen : Seen) → ops_of code n ≡ flat 0 body →
     next_unit (fetched code (cursor_at (at_place n body place) seen)) ≡ unit_at n body (next_in body place seen)
 next_same code n body place seen is =
     let c = cursor_at (at_place n body place) seen in
