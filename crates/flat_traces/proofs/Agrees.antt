@@ -13,6 +13,7 @@ use Rattle.script_flat.specs.Fetch.{fetched, found_in, ops_of}
 use Rattle.script_flat.specs.Stands.{counts_at, op_at, step_at}
 use Rattle.script_flat.proofs.Lands.{landed}
 use Rattle.script_flat.proofs.Places.{drop-flat, ops_from, places_land}
+use Rattle.script_flat.proofs.Relative.{place_same}
 use Rattle.machine_rules.specs.declared.frame.BodyOf.{BodyOf}
 use Rattle.machine_rules.specs.Bodies.{NextUnit, Seen}
 use Rattle.machine_rules.specs.Machine.{block_of, bodies_of, next_in}
@@ -58,7 +59,8 @@ next_same code n body place seen is =
     let lands : fetched code c ≡ landed c 0 body [] (op_number body) [] (from_place seen.result seen.value place body seen.register) =
     ap (λ (ops : List Op). found_in (drop c.pc ops) 0 c) is
     ∙ ap (λ (ops : List Op). found_in ops 0 c) (drop-flat place body ∙ sym (append-nil (ops_from place 0 body)))
-    ∙ places_land place c seen.register body 0 [] (op_number body) [] (omega arith) in
+    ∙ places_land place c seen.register body 0 [] (op_number body) [] (omega arith)
+    ∙ ap (landed c 0 body [] (op_number body) []) (sym (place_same seen.result seen.value place body seen.register)) in
     ap next_unit lands ∙ outcome_same (from_place seen.result seen.value place body seen.register) n body place seen
 
 module _ (script : Script) where

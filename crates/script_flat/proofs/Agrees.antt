@@ -5,7 +5,8 @@ use Rattle.script_tree.specs.Block.{Block, Nothing, Running, Making, Setting, Ad
 use Rattle.script_flat.specs.declared.cursor.Cursor.{Cursor}
 use Rattle.script_flat.specs.declared.op.Op.{Op}
 use Rattle.script_flat.specs.declared.unit.Unit as unit
-use Rattle.script_flat.specs.Next.{Place, At, In, Outcome, Due, Ended, next, or_finish, register_limit, capped, holds, later, later_by, and_then, in_test, in_loop, in_guard, end_of_pass, passes_of, steps_from, step_number, from_head, from_inside, from_place}
+use Rattle.script_flat.specs.Next.{Place, At, In, Outcome, Due, Ended, next, or_finish, register_limit, capped, holds, passes_of, steps_from, step_number}
+use Rattle.script_flat.proofs.Relative.{later, later_by, and_then, in_test, in_loop, in_guard, end_of_pass, from_head, from_inside, from_place, place_same}
 use Rattle.script_flat.specs.Flat.{NumberedBodies, flat, op_number}
 use Rattle.script_flat.specs.Fetch.{found_in, fetched}
 use Rattle.script_flat.specs.Stands.{step_at, op_at, counts_at, IsBody, Stands, IsPlaced, Fetches}
@@ -161,7 +162,7 @@ fetched_agrees code c body place is_body stands =
     let o = from_place c.result c.value place body c.register in
     subst (λ (p : Cursor × unit.Unit). Fetches body place c p.0 p.1) (sym (fetched_lands code c body place is_body stands))
     (landed_fetches (from_place c.result c.value place body c.register) body place c
-    (from_place_in_limit c.result c.value place body c.register stands.register) refl)
+    (from_place_in_limit c.result c.value place body c.register stands.register) (ap (or_finish body) (sym (place_same c.result c.value place body c.register))))
 
 -- so the cursor after it is again one that stands for a place
 pub fetched_placed : (code : NumberedBodies (List Op)) (c : Cursor) → IsPlaced code c → IsPlaced code (fetched code c).0

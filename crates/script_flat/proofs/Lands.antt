@@ -9,7 +9,8 @@ use Rattle.script_flat.specs.declared.op.Op.{Op}
 use Rattle.script_flat.specs.declared.op.Op.TheVariants as op
 use Rattle.script_flat.specs.declared.unit.Unit as unit
 use Rattle.script_flat.specs.declared.unit.Unit.TheVariants.{Make, Jump}
-use Rattle.script_flat.specs.Next.{At, In, Outcome, Due, Ended, capped, holds, later, later_by, and_then, in_test, in_loop, in_guard, end_of_pass, rest_of, steps_from, from_head}
+use Rattle.script_flat.specs.Next.{At, In, Outcome, Due, Ended, capped, holds, rest_of, steps_from}
+use Rattle.script_flat.proofs.Relative.{later, later_by, and_then, in_test, in_loop, in_guard, end_of_pass, from_head}
 use Rattle.script_flat.specs.Flat.{flat, op_number}
 use Rattle.script_flat.specs.Fetch.{moved_on, innermost, outer, after_pass, or_search, found_in}
 use Rattle.script_flat.specs.Stands.{head_ops, step_at, op_at, counts_at}

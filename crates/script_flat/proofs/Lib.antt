@@ -5,3 +5,4 @@ pub mod Safe
 pub mod Flattens
 pub mod Opens
 pub mod Examples
+pub mod Relative

@@ -6,7 +6,8 @@ use Rattle.script_tree.specs.declared.call.Call.TheVariants as call
 use Rattle.script_flat.specs.declared.cursor.Cursor.{Cursor}
 use Rattle.script_flat.specs.declared.op.Op.{Op}
 use Rattle.script_flat.specs.declared.op.Op.TheVariants as op
-use Rattle.script_flat.specs.Next.{Place, At, In, rest_of, steps_from, from_head, from_inside, from_place}
+use Rattle.script_flat.specs.Next.{Place, At, In, rest_of, steps_from}
+use Rattle.script_flat.proofs.Relative.{from_head, from_inside, from_place}
 use Rattle.script_flat.specs.Flat.{flat, op_number}
 use Rattle.script_flat.specs.Fetch.{found_in}
 use Rattle.script_flat.specs.Stands.{head_ops, step_at, number_inside, op_at, counts_inside, counts_at}

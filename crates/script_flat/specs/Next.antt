@@ -74,26 +74,15 @@ step_number (Testing named equal inner rest) = suc (step_number rest)
 step_number (Looping times inner rest) = suc (step_number rest)
 step_number (Guarding cleanup run inner rest) = suc (step_number rest)
 
--- the same, seen from a step earlier
-abbrev pub later : Outcome → Outcome
-later (Due u (At i) r) = Due u (At (suc i)) r
-later (Due u (In i passes place) r) = Due u (In (suc i) passes place) r
-later (Ended r) = Ended r
-
--- the same, seen from so many steps earlier
-abbrev pub later_by : ℕ → Outcome → Outcome
-later_by zero o = o
-later_by (suc i) o = later (later_by i o)
-
--- the end of the first step's block leads on to the steps after it
+-- the end of a step's block leads on to the steps after it
 abbrev pub and_then : Outcome → (ℕ → Outcome) → Outcome
 and_then (Due u place r) after = Due u place r
-and_then (Ended r) after = later (after r)
+and_then (Ended r) after = after r
 
--- the block of an `if` or `unless` at the head has one pass, and its end takes no time
-abbrev pub in_test : Outcome → Outcome
-in_test (Due u place r) = Due u (In 0 1 place) r
-in_test (Ended r) = Ended r
+-- the block of an `if` or `unless` at step i has one pass, and its end takes no time
+abbrev pub in_test : ℕ → Outcome → Outcome
+in_test i (Due u place r) = Due u (In i 1 place) r
+in_test i (Ended r) = Ended r
 
 -- the passes left as a loop begins
 abbrev pub passes_of : Option ℕ → ℕ
@@ -101,50 +90,49 @@ passes_of None = 0
 passes_of (Some n) = n
 
 -- the end of a pass: a loop of N jumps back where more than one pass was left, so N - 1 times
-abbrev pub end_of_pass : ℕ → ℕ → Outcome
-end_of_pass zero r = Ended r
-end_of_pass (suc zero) r = Ended r
-end_of_pass (suc (suc passes)) r = Due Jump (In 0 (suc passes) (At 0)) r
+abbrev pub end_of_pass : ℕ → ℕ → ℕ → Outcome
+end_of_pass i zero r = Ended r
+end_of_pass i (suc zero) r = Ended r
+end_of_pass i (suc (suc passes)) r = Due Jump (In i (suc passes) (At 0)) r
 
--- the block of a loop at the head, in a pass with so many passes left; `forever` jumps back always
-abbrev pub in_loop : Option ℕ → ℕ → Outcome → Outcome
-in_loop times passes (Due u place r) = Due u (In 0 passes place) r
-in_loop None passes (Ended r) = Due Jump (In 0 passes (At 0)) r
-in_loop (Some n) passes (Ended r) = end_of_pass passes r
+-- the block of a loop at step i, in a pass with so many passes left; `forever` jumps back always
+abbrev pub in_loop : ℕ → Option ℕ → ℕ → Outcome → Outcome
+in_loop i times passes (Due u place r) = Due u (In i passes place) r
+in_loop i None passes (Ended r) = Due Jump (In i passes (At 0)) r
+in_loop i (Some n) passes (Ended r) = end_of_pass i passes r
 
--- the block of a `push` at the head, whose end is a `pop`
-abbrev pub in_guard : Bool → Outcome → Outcome
-in_guard run (Due u place r) = Due u (In 0 1 place) r
-in_guard run (Ended r) = Due (Make (Pop run)) (At 1) r
+-- the block of a `push` at step i, whose end is a `pop`
+abbrev pub in_guard : ℕ → Bool → Outcome → Outcome
+in_guard i run (Due u place r) = Due u (In i 1 place) r
+in_guard i run (Ended r) = Due (Make (Pop run)) (At (suc i)) r
 
 -- in a frame whose last call had this result and this value
 module _ (result : Res) (value : ℕ) where
-  -- what a block comes to from its first step on, with that register
-  abbrev pub from_head : Block → ℕ → Outcome
-  from_head Nothing r = Ended r
-  from_head (Running n rest) r = Due (Run n) (At 1) r
-  from_head (Making call rest) r = Due (Make call) (At 1) r
-  from_head (Setting n rest) r = later (from_head rest (capped n))
-  from_head (Adding n rest) r = later (from_head rest (capped (r + n)))
-  from_head (Taking rest) r = later (from_head rest (capped value))
-  from_head (Testing named equal inner rest) r =
-      and_then (if holds named equal result then in_test (from_head inner r) else Ended r) (from_head rest)
-  from_head (Looping times inner rest) r = and_then (in_loop times (passes_of times) (from_head inner r)) (from_head rest)
-  from_head (Guarding cleanup run inner rest) r = Due (Make (Push cleanup)) (In 0 1 (At 0)) r
+  -- what the steps of a block from step i on come to, with that register
+  abbrev pub from_step : ℕ → Block → ℕ → Outcome
+  from_step i Nothing r = Ended r
+  from_step i (Running n rest) r = Due (Run n) (At (suc i)) r
+  from_step i (Making call rest) r = Due (Make call) (At (suc i)) r
+  from_step i (Setting n rest) r = from_step (suc i) rest (capped n)
+  from_step i (Adding n rest) r = from_step (suc i) rest (capped (r + n))
+  from_step i (Taking rest) r = from_step (suc i) rest (capped value)
+  from_step i (Testing named equal inner rest) r =
+      and_then (if holds named equal result then in_test i (from_step 0 inner r) else Ended r) (from_step (suc i) rest)
+  from_step i (Looping times inner rest) r = and_then (in_loop i times (passes_of times) (from_step 0 inner r)) (from_step (suc i) rest)
+  from_step i (Guarding cleanup run inner rest) r = Due (Make (Push cleanup)) (In i 1 (At 0)) r
 
-  -- what a block comes to from a place in the block of its first step on, in a pass with so many left: `inside` goes on in that block.
-  -- A step without a block has no places in it, and the place is then before the step.
-  abbrev pub from_inside : ℕ → (Block → Outcome) → Block → ℕ → Outcome
-  from_inside passes inside (Testing named equal inner rest) r = and_then (in_test (inside inner)) (from_head rest)
-  from_inside passes inside (Looping times inner rest) r = and_then (in_loop times passes (inside inner)) (from_head rest)
-  from_inside passes inside (Guarding cleanup run inner rest) r = in_guard run (inside inner)
-  from_inside passes inside block r = from_head block r
+  -- The same from a place in the block of step i on, in a pass with so many left: `inside` goes on in that block. A step without a block
+  -- has no places in it, and the place is then before the step.
+  abbrev pub from_inside : ℕ → ℕ → (Block → Outcome) → Block → ℕ → Outcome
+  from_inside i passes inside (Testing named equal inner rest) r = and_then (in_test i (inside inner)) (from_step (suc i) rest)
+  from_inside i passes inside (Looping times inner rest) r = and_then (in_loop i times passes (inside inner)) (from_step (suc i) rest)
+  from_inside i passes inside (Guarding cleanup run inner rest) r = in_guard i run (inside inner)
+  from_inside i passes inside steps r = from_step i steps r
 
   -- what a block comes to from a place on
   abbrev pub from_place : Place → Block → ℕ → Outcome
-  from_place (At i) block r = later_by i (from_head (steps_from i block) r)
-  from_place (In i passes place) block r =
-      later_by i (from_inside passes (λ inner. from_place place inner r) (steps_from i block) r)
+  from_place (At i) block r = from_step i (steps_from i block) r
+  from_place (In i passes place) block r = from_inside i passes (λ inner. from_place place inner r) (steps_from i block) r
 
 -- the next unit, and the place and the register after it
 pub record Next : Type 0 where

@@ -12,7 +12,8 @@ use Rattle.script_tree.specs.declared.decl.Kind.TheVariants as kind
 use Rattle.script_tree.specs.declared.decl.Script.{Script}
 use Rattle.script_flat.specs.declared.unit.Unit as units
 use Rattle.script_flat.specs.declared.unit.Unit.TheVariants as unit
-use Rattle.script_flat.specs.Next.{At, Due, Ended, In, Outcome, Place, and_then, capped, from_head, from_inside, from_place, holds, in_guard, in_loop, in_test, later, later_by, or_finish, passes_of, rest_of, steps_from}
+use Rattle.script_flat.specs.Next.{At, Due, Ended, In, Outcome, Place, capped, holds, or_finish, passes_of, rest_of, steps_from}
+use Rattle.script_flat.proofs.Relative.{and_then, from_head, from_inside, from_place, in_guard, in_loop, in_test, later, later_by, place_same}
 use Rattle.machine_rules.specs.declared.frame.BodyOf.{BodyOf}
 use Rattle.machine_rules.specs.declared.frame.BodyOf.TheVariants as body_of
 use Rattle.machine_rules.specs.Declarations.{ThreadDecl, cleanup_kind, declared_thread, handler_kind, named}
@@ -280,7 +281,8 @@ module _ (script : Script) (known : DeclsGuarded script.decls) where
   bodies_guarded = record {
     start = λ body. refl;
     next = λ body place seen.
-        finish_leads (guards_round place (block_of script body)) (block_of script body) (from_place seen.result seen.value place (block_of script body) seen.register)
-        (place_leads seen.result seen.value place (block_of script body) seen.register (block_guarded body).0);
+        let block = block_of script body in
+        subst (λ (o : Outcome). Guards (or_finish block o).unit (guards_round place block) (guards_round (or_finish block o).place block)) (sym (place_same seen.result seen.value place block seen.register))
+        (finish_leads (guards_round place block) block (from_place seen.result seen.value place block seen.register) (place_leads seen.result seen.value place block seen.register (block_guarded body).0));
     few = λ body place. (let a = round_few place (block_of script body) in let b = (block_guarded body).1 in omega arith);
   }

@@ -1,5 +1,5 @@
 -- Every unit of a well formed script is in its ranges.
-use Rattle.std.proofs.Common.{Bool, List, None, Option, Some, [], false, suc, true, zero, ℕ, ◌+◌, ◌∷◌}
+use Rattle.std.proofs.Common.{Bool, List, None, Option, Some, [], false, subst, suc, sym, true, zero, ℕ, ◌+◌, ◌∷◌}
 use Rattle.std.specs.Prelude.{filter_map, if◌then◌else◌, map, slice_index_or}
 use Rattle.tick_num.specs.declared.res.Res.{Res}
 use Rattle.script_tree.specs.Block.{Adding, Block, Guarding, Looping, Making, Nothing, Running, Setting, Taking, Testing}
@@ -7,7 +7,8 @@ use Rattle.script_tree.specs.declared.decl.Decl.{Decl}
 use Rattle.script_tree.specs.declared.decl.Decl.TheVariants as decl
 use Rattle.script_tree.specs.declared.decl.Kind.TheVariants as kind
 use Rattle.script_tree.specs.declared.decl.Script.{Script}
-use Rattle.script_flat.specs.Next.{At, Due, Ended, In, Outcome, Place, and_then, capped, from_head, from_inside, from_place, holds, in_guard, in_loop, in_test, later, later_by, or_finish, passes_of, rest_of, steps_from}
+use Rattle.script_flat.specs.Next.{At, Due, Ended, In, Outcome, Place, capped, holds, or_finish, passes_of, rest_of, steps_from}
+use Rattle.script_flat.proofs.Relative.{and_then, from_head, from_inside, from_place, in_guard, in_loop, in_test, later, later_by, place_same}
 use Rattle.machine_rules.specs.declared.frame.BodyOf.{BodyOf}
 use Rattle.machine_rules.specs.declared.frame.BodyOf.TheVariants as body_of
 use Rattle.machine_rules.specs.Bodies.{Bodies, seen_by}
@@ -169,5 +170,6 @@ module _ (script : Script) (known : DeclsFit script.decls) where
 
   pub bodies_fit : BodiesFit (bodies_of script)
   bodies_fit body place seen =
-      or_fits (block_of script body) (from_place seen.result seen.value place (block_of script body) seen.register)
-      (place_fits seen.result seen.value place (block_of script body) seen.register (block_fits body))
+      let block = block_of script body in
+      subst (λ (o : Outcome). UnitFits (or_finish block o).unit) (sym (place_same seen.result seen.value place block seen.register))
+      (or_fits block (from_place seen.result seen.value place block seen.register) (place_fits seen.result seen.value place block seen.register (block_fits body)))
