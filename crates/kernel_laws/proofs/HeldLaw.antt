@@ -1,7 +1,7 @@
 -- What is known of what threads wait for, of what each signal does and of where records come from lasts through a run whose calls name
 -- what there is.
 use Rattle.std.proofs.Common.{◌≡◌, ◌<◌, ℕ, zero, suc, List, [], ◌∷◌, Bool, true, false, Option, None, Some, length, refl, subst, sym}
-use Rattle.std.specs.Prelude.{filter_map, map, slice_index_or, ◌&&◌, ◌==◌}
+use Rattle.std.specs.Prelude.{filter_map, map, slice_index_or}
 use Rattle.std.proofs.lemmas.List.{length-map}
 use Rattle.script_tree.specs.declared.call.Call.{Call}
 use Rattle.script_tree.specs.declared.call.Call.TheVariants as call
@@ -20,8 +20,8 @@ use Rattle.machine_rules.specs.declared.signal.SigAction.TheVariants as action
 use Rattle.machine_rules.specs.Declarations.{ThreadDecl, handlers_of, named, queue_kind, threads_of, timer_kind}
 use Rattle.machine_rules.specs.Runs.{opening, thread_opened}
 use Rattle.machine_rules.specs.State.{Frame, Machine, Queue, Registration, Status, Thread, Timer, Wait, Waiting, for_room}
-use Rattle.machine_rules.specs.Threads.{action_of, is_main, no_queue, no_thread, no_timer, queue_at, thread_at, timer_at, top_kind, top_left, waiting_in}
-use Rattle.machine_rules.specs.Cancellation.{runs_cleanup, runs_cleanup_if, without_cleanup}
+use Rattle.machine_rules.specs.Threads.{action_of, no_queue, no_thread, no_timer, queue_at, thread_at, timer_at, waiting_in}
+use Rattle.machine_rules.specs.Cancellation.{runs_cleanup_if}
 use Rattle.machine_rules.specs.Ticks.{tick_charged}
 use Rattle.machine_rules.specs.Turns.{turn_of}
 use Rattle.machine_rules.specs.Units.{Following, advances, advancing, begins_finish, cleaning_up, continuing, finishing, following, in_cleanup, in_unit, takes_unit}

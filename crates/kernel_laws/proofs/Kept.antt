@@ -1,11 +1,11 @@
 -- Each state of the run of a script is one that the kernel counts on.
-use Rattle.std.proofs.Common.{◌≡◌, ◌∙◌, ◌≤◌, ◌<◌, ℕ, zero, suc, List, [], ◌∷◌, Bool, true, false, Option, None, Some, ap, arith, length, refl, subst, sym}
+use Rattle.std.proofs.Common.{◌≡◌, ◌∙◌, ◌<◌, ℕ, suc, List, [], ◌∷◌, true, false, Option, None, Some, ap, arith, length, refl, subst, sym}
 use Rattle.script_tree.specs.Block.{Block}
 use Rattle.script_tree.specs.declared.decl.Script.{Script}
 use Rattle.script_flat.specs.declared.cursor.Cursor.{Cursor}
 use Rattle.script_flat.specs.Flat as flat
 use Rattle.sporadic_server.specs.Server.{ServerState, is_high}
-use Rattle.machine_rules.specs.Declarations.{cleanups_of, handlers_of, queues_of, timers_of}
+use Rattle.machine_rules.specs.Declarations.{cleanups_of, handlers_of}
 use Rattle.machine_rules.specs.Runs.{opening}
 use Rattle.machine_rules.specs.Servers.{has_high}
 use Rattle.machine_rules.specs.State.{Machine, Status, blocked, dormant, ended, runnable}

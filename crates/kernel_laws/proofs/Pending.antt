@@ -1,12 +1,12 @@
 -- The records that are pending are few, and there is a place for each that may become pending.
-use Rattle.std.proofs.Common.{◌≡◌, ◌∙◌, ◌≤◌, ◌<◌, ◌+◌, ◌++◌, ℕ, zero, suc, List, [], ◌∷◌, Bool, true, false, Option, None, Some, ap, arith, length, refl, subst, sym}
-use Rattle.std.specs.Prelude.{All, filter_map, is_some, map, nat_le}
+use Rattle.std.proofs.Common.{◌≡◌, ◌≤◌, ◌<◌, ◌+◌, ℕ, suc, true, false, ap, arith, length}
+use Rattle.std.specs.Prelude.{filter_map, is_some, map, nat_le}
 use Rattle.script_flat.specs.declared.cursor.Cursor.{Cursor}
 use Rattle.machine_rules.specs.GoodState.{SerialsAreRight, count_of, serial_of}
 use Rattle.machine_rules.specs.Lists.{is}
-use Rattle.machine_rules.specs.Signals.{is_counted, is_full, record_limit}
-use Rattle.machine_rules.specs.State.{Machine, Registration, SignalRecord, Thread}
-use Rattle.machine_rules.specs.Threads.{catches_signal, queue_at, waiting_in}
+use Rattle.machine_rules.specs.Signals.{is_counted, record_limit}
+use Rattle.machine_rules.specs.State.{Machine, SignalRecord, Thread}
+use Rattle.machine_rules.specs.Threads.{catches_signal, waiting_in}
 use Rattle.machine_moves.proofs.Waiters.Best.{Each}
 use Rattle.machine_laws.proofs.Signals.Records.{RecordsAreRight}
 use Rattle.thread_laws.specs.EachThread.{IsSourced}

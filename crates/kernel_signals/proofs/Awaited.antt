@@ -12,8 +12,7 @@ use Rattle.machine_rules.specs.State.{Machine, SignalRecord, for_signal}
 use Rattle.machine_rules.specs.Turns.{Caller, Turn, changes_pending, returns, ◌▷◌}
 use Rattle.machine_rules.specs.Waking.{blocks}
 use Rattle.machine_rules.proofs.Behind.{returns_behind}
-use Rattle.machine_rules.proofs.BehindCalls.{delivers_behind}
-use Rattle.kernel_state.specs.Kernel.{Kernel, after, told, turn}
+use Rattle.kernel_state.specs.Kernel.{Kernel, after, told}
 use Rattle.kernel_state.proofs.Turns.{then_state, then_told}
 
 -- the pending record that a thread takes which asks for a set

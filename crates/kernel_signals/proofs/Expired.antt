@@ -1,5 +1,5 @@
 -- How the expiry of a timer comes out.
-use Rattle.std.proofs.Common.{◌≡◌, ◌≤◌, ◌<◌, ◌∙◌, ℕ, Bool, true, false, List, None, Option, Some, ap, arith, length, refl, subst, sym}
+use Rattle.std.proofs.Common.{◌≡◌, ◌<◌, ◌∙◌, ℕ, Bool, true, false, List, None, Option, Some, ap, arith, length, refl, subst, sym}
 use Rattle.std.specs.Prelude.{if◌then◌else◌}
 use Rattle.pse52_trace.specs.Tells.{Tells}
 use Rattle.pse52_trace.specs.declared.tracer.Tracer.{Tracer}
@@ -11,10 +11,10 @@ use Rattle.script_flat.specs.declared.cursor.Cursor.{Cursor}
 use Rattle.machine_rules.specs.CallNames.{name_of}
 use Rattle.machine_rules.specs.Servers.{activates_server, high_server}
 use Rattle.machine_rules.specs.Signals.{acceptor, becomes_pending, delivers, generates, is_accepted_or_pends, is_ignore, tells_overrun, with_overrun_told}
-use Rattle.machine_rules.specs.State.{SignalRecord, Timer}
+use Rattle.machine_rules.specs.State.{SignalRecord}
 use Rattle.machine_rules.specs.Threads.{action_of, no_timer, thread_at, timer_at, waiting_of}
 use Rattle.machine_rules.specs.Timers.{armed_again, expires, is_pending_from, overrun_once_more, record_of_timer, signals_expiry}
-use Rattle.machine_rules.specs.Turns.{Turn, changes, changes_timer, moves, tells, ◌▷◌}
+use Rattle.machine_rules.specs.Turns.{Turn, changes, changes_timer, moves, tells}
 use Rattle.machine_rules.specs.Waiters.{Waiter}
 use Rattle.machine_rules.specs.Waking.{call_in, wakes, woken}
 use Rattle.machine_rules.proofs.Kept.{Kept, if_kept, kept}

@@ -1,5 +1,5 @@
 -- Effects that come to the same on a kernel.
-use Rattle.std.proofs.Common.{◌≡◌, ◌∙◌, ℕ, List, Option, ap, refl, subst, sym}
+use Rattle.std.proofs.Common.{◌≡◌, ◌∙◌, ℕ, List, Option, ap, subst, sym}
 use Rattle.pse52_trace.specs.Tells.{Tells}
 use Rattle.pse52_trace.specs.declared.tracer.Tracer.{Tracer}
 use Rattle.pse52_trace.proofs.Tells.{tells_nothing}

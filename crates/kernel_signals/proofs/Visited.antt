@@ -1,6 +1,6 @@
 -- What a visit of the sweep leaves of the other threads, and who comes to run by it.
-use Rattle.std.proofs.Common.{◌≡◌, ◌∙◌, ◌⊎◌, inl, inr, ℕ, Bool, true, false, List, [], ◌∷◌, ◌++◌, None, Option, Some, ap, arith, length, refl, subst, sym}
-use Rattle.std.specs.Prelude.{if◌then◌else◌, ◌==◌}
+use Rattle.std.proofs.Common.{◌≡◌, ◌∙◌, ◌⊎◌, inl, inr, ℕ, true, false, List, [], ◌∷◌, ◌++◌, None, Option, Some, ap, length, refl, sym}
+use Rattle.std.specs.Prelude.{◌==◌}
 use Rattle.tick_num.specs.declared.res.Res.{Res}
 use Rattle.tick_num.specs.declared.res.Res.TheVariants as res
 use Rattle.pse52_trace.specs.declared.event.Event.TheVariants as event
@@ -13,10 +13,10 @@ use Rattle.machine_rules.specs.declared.signal.SigAction.{SigAction}
 use Rattle.machine_rules.specs.declared.signal.SigAction.TheVariants as action
 use Rattle.machine_rules.specs.Bodies.{Bodies}
 use Rattle.machine_rules.specs.CallNames.{name_of}
-use Rattle.machine_rules.specs.Delivery.{acts, catches, interrupts, kills, sweeps_thread, taken_by_sweep, takes_record, ticks_left}
-use Rattle.machine_rules.specs.Servers.{activates_if_high, activates_server, high_server, with_server}
+use Rattle.machine_rules.specs.Delivery.{acts, catches, interrupts, sweeps_thread, taken_by_sweep, takes_record, ticks_left}
+use Rattle.machine_rules.specs.Servers.{activates_server, high_server, with_server}
 use Rattle.machine_rules.specs.Signals.{delivers, tells_overrun, without_record}
-use Rattle.machine_rules.specs.State.{Machine, SignalRecord, Thread, Waiting}
+use Rattle.machine_rules.specs.State.{SignalRecord, Thread, Waiting}
 use Rattle.machine_rules.specs.Threads.{action_of, can_run, is_runnable, no_thread, thread_at, thread_in, waiting_of}
 use Rattle.machine_rules.specs.Turns.{Turn, changes, changes_pending, moves, tells}
 use Rattle.machine_rules.specs.Waking.{call_in, new_frame, on_top, wakes, woken}

@@ -5,7 +5,7 @@ use Rattle.tick_num.specs.declared.res.Res.{Res}
 use Rattle.tick_num.specs.declared.res.Res.TheVariants as res
 use Rattle.machine_rules.specs.State.{Machine}
 use Rattle.machine_rules.specs.Threads.{can_run, mutex_at, thread_at}
-use Rattle.machine_rules.specs.Mutexes.{LockAnswer, closes_cycle, counts, is_above_ceiling, is_free, lock_answer, locked_again, must_wait, owns, recursion_limit, refused, takes, trylock_answer}
+use Rattle.machine_rules.specs.Mutexes.{closes_cycle, counts, is_above_ceiling, is_free, lock_answer, locked_again, must_wait, owns, recursion_limit, refused, takes, trylock_answer}
 use Rattle.machine_rules.specs.Turns.{is_late}
 use Rattle.script_flat.specs.declared.cursor.Cursor.{Cursor}
 use Rattle.machine_rules.specs.Priorities.{mutex_awaited_by}

@@ -1,24 +1,19 @@
 -- A thread that came to run in a tick has a direct move.
-use Rattle.std.proofs.Common.{◌≡◌, ℕ, zero, suc, List, [], ◌∷◌, ap, refl, sym, ◌∙◌}
-use Rattle.std.specs.Prelude.{None, Option, Some, not, slice_index_or}
+use Rattle.std.proofs.Common.{ℕ, zero, suc, ap, sym, ◌∙◌}
+use Rattle.std.specs.Prelude.{None, Option, Some, not}
 use Rattle.sporadic_server.specs.Server.{ServerState, plan}
 use Rattle.script_flat.specs.declared.cursor.Cursor.{Cursor}
 use Rattle.script_flat.specs.declared.unit.Unit as unit_type
 use Rattle.script_flat.specs.declared.unit.Unit.TheVariants as unit
 use Rattle.pse52_trace.specs.declared.event.Event.TheVariants as event
 use Rattle.machine_rules.specs.Bodies.{Bodies}
-use Rattle.machine_rules.specs.State.{Frame, Machine, Thread}
-use Rattle.machine_rules.specs.Lists.{changed_at}
-use Rattle.machine_rules.specs.Threads.{can_run, is_runnable, no_thread, thread_at, top_kind}
-use Rattle.machine_rules.specs.Turns.{Turn, changes, tells, with_thread}
+use Rattle.machine_rules.specs.Threads.{can_run, thread_at, top_kind}
+use Rattle.machine_rules.specs.Turns.{Turn, changes, tells}
 use Rattle.machine_rules.specs.Servers.{plans, plans_server, with_server}
 use Rattle.machine_rules.specs.Mutexes.{owns_boosting}
 use Rattle.machine_rules.specs.Calls.{unit_effect}
 use Rattle.machine_rules.specs.Ticks.{TickEnd, completes_at, ends_tick, exhausting, nothing, planning, slicing, without_slice}
-use Rattle.machine_rules.specs.Units.{in_unit}
-use Rattle.leap_rules.specs.Quiet.{after_ticks}
 use Rattle.machine_flat.specs.KnownCalls.{Objects}
-use Rattle.thread_table.proofs.Statuses.{unit_keeps}
 use Rattle.rt_kernel.specs.Completes.{CanComplete}
 use Rattle.kernel_events.proofs.Coming.Steps.{Comes, Fewer, changes_fewer, fewer_come, moves_if_machine}
 use Rattle.kernel_events.proofs.Coming.Lives.{finishes_come}

@@ -1,11 +1,11 @@
 -- A run whose process has ended: later ticks add nothing to it.
-use Rattle.std.proofs.Common.{◌≡◌, ◌≤◌, ◌+◌, ◌++◌, ◌-◌, ℕ, List, [], Option, Some, ap, append-nil, arith, subst, sym, ◌∙◌}
+use Rattle.std.proofs.Common.{◌≡◌, ◌≤◌, ◌+◌, ◌++◌, ◌-◌, ℕ, List, Option, Some, ap, append-nil, arith, subst, sym, ◌∙◌}
 use Rattle.pse52_trace.specs.declared.tracer.Tracer.{Tracer}
 use Rattle.pse52_trace.specs.Tells.{Tells}
 use Rattle.pse52_trace.proofs.Tells.{tells_nothing}
 use Rattle.script_flat.specs.declared.cursor.Cursor.{Cursor}
 use Rattle.machine_rules.specs.Bodies.{Bodies}
-use Rattle.machine_rules.specs.Runs.{Ran, follow, ticks}
+use Rattle.machine_rules.specs.Runs.{Ran, ticks}
 use Rattle.machine_rules.specs.State.{Machine}
 use Rattle.machine_rules.proofs.Joined.{ticks_add}
 use Rattle.machine_flat.specs.FlatBodies.{flat_bodies}

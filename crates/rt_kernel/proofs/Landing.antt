@@ -1,5 +1,5 @@
 -- A sweep comes to a kernel that it could come to, since what it leaves is so.
-use Rattle.std.proofs.Common.{◌≡◌, ◌∙◌, ◌≤◌, ◌+◌, ℕ, List, [], Bool, true, false, Option, None, Some, ap, length, refl, subst, suc, sym}
+use Rattle.std.proofs.Common.{◌≡◌, ◌∙◌, ◌≤◌, ◌+◌, ℕ, List, [], false, Option, None, Some, ap, refl, subst, suc, sym}
 use Rattle.std.specs.Prelude.{IfSome, is_some, max, min}
 use Rattle.pse52_trace.specs.declared.tracer.Tracer.{Tracer}
 use Rattle.tick_num.specs.declared.item.Item.{Item}
@@ -7,16 +7,15 @@ use Rattle.script_flat.specs.declared.cursor.Cursor.{Cursor}
 use Rattle.machine_rules.specs.Agenda.{agenda}
 use Rattle.machine_rules.specs.Bodies.{Bodies}
 use Rattle.machine_rules.specs.Delivery.{sweeps}
-use Rattle.machine_rules.specs.Dispatch.{dispatch_of, dispatches, head}
+use Rattle.machine_rules.specs.Dispatch.{dispatches, head}
 use Rattle.machine_rules.specs.DueItems.{handles, instant, item_done, items_done, next_item}
-use Rattle.machine_rules.specs.Runs.{Ran, ran, ticks}
+use Rattle.machine_rules.specs.Runs.{Ran, ticks}
 use Rattle.machine_rules.specs.Servers.{has_high}
 use Rattle.machine_rules.specs.State.{Machine}
 use Rattle.machine_rules.specs.Threads.{thread_at, top_left}
 use Rattle.machine_rules.specs.Ticks.{tick_ends, unless_killed}
-use Rattle.machine_rules.specs.Turns.{Turn, becomes, changes, settles_since, turn_of, ◌▷◌}
+use Rattle.machine_rules.specs.Turns.{Turn, becomes, changes, settles_since, ◌▷◌}
 use Rattle.machine_rules.specs.Units.{in_unit}
-use Rattle.machine_rules.proofs.Behind.{AddsBehind}
 use Rattle.machine_rules.proofs.BehindTicks.{item_done_behind, sweeps_behind}
 use Rattle.machine_rules.proofs.Instants.{completes_now, tick_ends_now}
 use Rattle.machine_flat.specs.FlatBodies.{flat_bodies}
@@ -30,7 +29,7 @@ use Rattle.kernel_signals.specs.Sweeping.{CanSweep}
 use Rattle.kernel_events.specs.Calls.{objects_in}
 use Rattle.kernel_laws.specs.Visitable.{CanBeSwept}
 use Rattle.kernel_laws.proofs.Sweeping.{can_visit, swept_back}
-use Rattle.rt_kernel.specs.Fits.{Fits, ItemsFit, StaysFit}
+use Rattle.rt_kernel.specs.Fits.{ItemsFit, StaysFit}
 use Rattle.rt_kernel.specs.Landing.{IsSweepable}
 use Rattle.rt_kernel.specs.Reach.{unit_length}
 use Rattle.rt_kernel.specs.declared.units.Reach.{Reach}

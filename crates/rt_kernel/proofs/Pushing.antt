@@ -1,6 +1,6 @@
 -- Where a cleanup handler is pushed there is room for it: a run over flat code is one over trees, and there at most eight are pushed.
-use Rattle.std.proofs.Common.{◌≡◌, ◌∙◌, ◌<◌, ◌≤◌, ℕ, zero, suc, Bool, true, false, List, [], ◌∷◌, ap, arith, length, refl, subst, sym}
-use Rattle.std.specs.Prelude.{◌&&◌, ◌==◌}
+use Rattle.std.proofs.Common.{◌≡◌, ◌∙◌, ◌<◌, ◌≤◌, ℕ, Bool, true, false, List, [], ◌∷◌, ap, arith, length, refl, subst, sym}
+use Rattle.std.specs.Prelude.{◌&&◌}
 use Rattle.script_tree.specs.declared.call.Call.TheVariants as call
 use Rattle.script_tree.specs.declared.decl.Script.{Script}
 use Rattle.script_flat.specs.declared.cursor.Cursor.{Cursor}
@@ -16,7 +16,7 @@ use Rattle.machine_rules.specs.Machine.{bodies_of}
 use Rattle.machine_rules.specs.Promises.{guards_in}
 use Rattle.machine_rules.specs.Runs.{Ran, opening, ticks}
 use Rattle.machine_rules.specs.State.{Frame, Thread}
-use Rattle.machine_rules.specs.Threads.{is_dormant, is_main, thread_at, top_kind, top_left}
+use Rattle.machine_rules.specs.Threads.{is_dormant, is_main, thread_at, top_kind}
 use Rattle.machine_rules.specs.Throughout.{after_items}
 use Rattle.machine_rules.specs.Ticks.{frames_charged, tick_charged}
 use Rattle.machine_rules.specs.Turns.{Turn, turn_of}

@@ -1,5 +1,5 @@
 -- What the code asks of the states of a run, beside what the parts hold by themselves.
-use Rattle.std.specs.Prelude.{◌≡◌, ◌≤◌, ◌<◌, ◌^◌, ℕ, List, [], Some, length, true}
+use Rattle.std.specs.Prelude.{◌≡◌, ◌<◌, ℕ, List, [], Some, length, true}
 use Rattle.script_flat.specs.declared.cursor.Cursor.{Cursor}
 use Rattle.script_flat.specs.declared.op.Op.{Op}
 use Rattle.script_flat.specs.Flat as flat

@@ -1,15 +1,14 @@
 -- A thread that a call brought to run has a direct move.
-use Rattle.std.proofs.Common.{◌≡◌, ℕ, [], ◌∷◌, ◌++◌, true, false, refl, ◌∙◌}
-use Rattle.std.specs.Prelude.{None, Some, ◌+◌, ◌==◌, ◌&&◌, ◌||◌, length, not, pred, if◌then◌else◌}
+use Rattle.std.proofs.Common.{ℕ, ◌∷◌, refl}
+use Rattle.std.specs.Prelude.{None, Some, ◌+◌, ◌==◌, ◌&&◌, length, not, pred}
 use Rattle.tick_num.specs.declared.res.Res.TheVariants as res
 use Rattle.script_tree.specs.declared.call.Call.{Call}
 use Rattle.script_tree.specs.declared.call.Call.TheVariants as call
 use Rattle.machine_rules.specs.Bodies.{Bodies}
-use Rattle.machine_rules.specs.State.{Wait, nobody}
 use Rattle.machine_rules.specs.Threads.{can_run, is_dormant, lives, number_of, semaphore_at, thread_at, timer_at}
 use Rattle.machine_rules.specs.Turns.{Caller, Turn, changes, changes_semaphore, changes_timer, has_passed, moves, returns}
 use Rattle.machine_rules.specs.Servers.{activates_if}
-use Rattle.machine_rules.specs.Waking.{cancelled_value, ending_with, wakes}
+use Rattle.machine_rules.specs.Waking.{cancelled_value, ending_with}
 use Rattle.machine_rules.specs.Cancellation.{is_cancellation_point, is_cancelled, request_acts}
 use Rattle.machine_rules.specs.Lives.{inherited_mask}
 use Rattle.machine_rules.specs.Scheduling.{takes_priority, with_policy}

@@ -1,12 +1,12 @@
 -- A thread that came to run by a call of a message queue has a direct move.
 use Rattle.std.proofs.Common.{ℕ, None, Option, Some}
-use Rattle.std.specs.Prelude.{◌==◌, ◌&&◌, length, nat_lt, not, if◌then◌else◌}
+use Rattle.std.specs.Prelude.{nat_lt}
 use Rattle.tick_num.specs.declared.res.Res.TheVariants as res
 use Rattle.machine_rules.specs.Queues.{asks_notification, blocks_unless_nonblock, enters, fired_by_message, has_room, is_notifying, message_of, next_message, notifies, receives_message, takes_message_or_blocks, record_of_notification, registered, sends_message, reaches_receiver_or_queue, takes_over, value_at, waits_to_receive, waits_to_send, with_message, without_message}
 use Rattle.machine_rules.specs.State.{Message, Registration, Wait, for_message, for_room}
 use Rattle.machine_rules.specs.Threads.{queue_at}
 use Rattle.machine_rules.specs.Turns.{Caller, Turn, changes_queue, is_late, returns}
-use Rattle.machine_rules.specs.Waiters.{Waiter, best_waiter, somebody_waits}
+use Rattle.machine_rules.specs.Waiters.{Waiter, best_waiter}
 use Rattle.machine_rules.specs.Waking.{wakes}
 use Rattle.kernel_events.proofs.Coming.Steps.{Comes, KeepsMoves, blocks_come, both_come, if_come, nobody_comes, returned_come, returns_come, wakes_come}
 use Rattle.kernel_events.proofs.Coming.Signals.{generates_come, generates_keeps}

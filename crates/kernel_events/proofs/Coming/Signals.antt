@@ -1,18 +1,18 @@
 -- A thread that came to run by a signal or a timer has a direct move.
-use Rattle.std.proofs.Common.{◌≡◌, ℕ, zero, suc, Bool, true, false, List, None, Option, Some, ap, refl, sym, ◌∙◌}
-use Rattle.std.specs.Prelude.{◌+◌, ◌&&◌, if◌then◌else◌}
+use Rattle.std.proofs.Common.{◌≡◌, ℕ, zero, suc, None, Option, Some, ap, refl, sym, ◌∙◌}
+use Rattle.std.specs.Prelude.{◌+◌, ◌&&◌}
 use Rattle.thread_lists.specs.Threads.{stands_in}
 use Rattle.tick_num.specs.Signals.{has_signal}
 use Rattle.tick_num.specs.declared.res.Res.TheVariants as res
 use Rattle.pse52_trace.specs.declared.event.Event.TheVariants as event
 use Rattle.machine_rules.specs.CallNames.{name_of}
-use Rattle.machine_rules.specs.Signals.{acceptor, becomes_pending, delivers, generates, is_accepted_or_pends, may_go_to, has_no_room, is_ignore, selected, sends_signal, sets_mask, tells_overrun, waits_signal, takes_signal_or_waits, blocks_for_signal, with_overrun_told, without_record}
-use Rattle.machine_rules.specs.State.{SignalRecord, Thread, for_signal}
+use Rattle.machine_rules.specs.Signals.{acceptor, becomes_pending, delivers, generates, is_accepted_or_pends, may_go_to, has_no_room, is_ignore, selected, sends_signal, sets_mask, tells_overrun, waits_signal, takes_signal_or_waits, blocks_for_signal, without_record}
+use Rattle.machine_rules.specs.State.{SignalRecord, for_signal}
 use Rattle.machine_rules.specs.Threads.{action_of, can_run, timer_at, waiting_of}
-use Rattle.machine_rules.specs.Timers.{armed_again, expires, is_pending_from, overrun_once_more, record_of_timer, signals_expiry}
+use Rattle.machine_rules.specs.Timers.{expires, is_pending_from, overrun_once_more, record_of_timer, signals_expiry}
 use Rattle.machine_rules.specs.Turns.{Caller, Turn, changes_pending, changes_timer, returns, tells}
 use Rattle.machine_rules.specs.Waiters.{Waiter}
-use Rattle.machine_rules.specs.Waking.{blocks, call_in, wakes}
+use Rattle.machine_rules.specs.Waking.{call_in, wakes}
 use Rattle.kernel_events.proofs.Coming.Steps.{Comes, KeepsMoves, blocks_come, changed_come, come_later, fewer_come, if_come, if_keeps, nobody_comes, returned_come, returns_come, returns_fewer, wakes_come, woken_keeps}
 
 -- ---- delivery

@@ -1,6 +1,6 @@
 -- A thread that came to run has a direct move: the steps of which effects are made.
 use Rattle.std.proofs.Common.{◌≡◌, ℕ, zero, suc, List, [], ◌∷◌, ◌++◌, Bool, true, false, ap, arith, refl, sym, ◌∙◌}
-use Rattle.std.specs.Prelude.{None, Option, Some, ◌==◌, ◌&&◌, ◌||◌, slice_index_or, if◌then◌else◌}
+use Rattle.std.specs.Prelude.{None, Option, Some, ◌==◌, ◌&&◌, slice_index_or, if◌then◌else◌}
 use Rattle.thread_lists.specs.Threads.{stands_in}
 use Rattle.tick_num.specs.declared.res.Res.{Res}
 use Rattle.tick_num.specs.declared.res.Res.TheVariants as res
@@ -8,14 +8,13 @@ use Rattle.sporadic_server.specs.Server.{ServerState, activate, oldest_pending, 
 use Rattle.pse52_trace.specs.declared.event.Event.{Event}
 use Rattle.pse52_trace.specs.declared.event.Event.TheVariants as event
 use Rattle.machine_rules.specs.Bodies.{Bodies}
-use Rattle.machine_rules.specs.State.{Machine, Thread, Wait, Waiting, nobody}
+use Rattle.machine_rules.specs.State.{Machine, Thread, Wait, Waiting}
 use Rattle.machine_rules.specs.Lists.{changed_at}
 use Rattle.machine_rules.specs.Threads.{can_run, is_runnable, no_thread, thread_at, waiting_of}
 use Rattle.machine_rules.specs.Turns.{Caller, Turn, answered, changes, moves, moves_if, returns, tells, with_thread}
 use Rattle.machine_rules.specs.CallNames.{name_of}
 use Rattle.machine_rules.specs.Servers.{activates_if, activates_server, amount_of, high_server, refills_server, regains_high, with_server}
 use Rattle.machine_rules.specs.Waking.{blocks, call_in, put_to_wait, started, starts, wakes, wakes_telling, woken}
-use Rattle.machine_rules.specs.Cancellation.{leaves}
 use Rattle.machine_rules.specs.Scheduling.{with_policy, with_priority}
 use Rattle.machine_rules.proofs.Reading.{changed-keeps, thread-other}
 use Rattle.kernel_state.proofs.StoodAgain.{HaveCome}

@@ -1,6 +1,6 @@
 -- A thread that came to run by a call of a mutex, a condition or a semaphore has a direct move.
-use Rattle.std.proofs.Common.{◌≡◌, ℕ, zero, suc, [], ◌∷◌, ◌++◌, ◌∙◌}
-use Rattle.std.specs.Prelude.{None, Option, Some, ◌==◌, ◌&&◌, ◌||◌, length, nat_lt, not, option_and_then, pred, if◌then◌else◌}
+use Rattle.std.proofs.Common.{ℕ, zero, suc}
+use Rattle.std.specs.Prelude.{None, Option, Some, ◌==◌, ◌||◌, length, nat_lt, not, option_and_then, pred}
 use Rattle.tick_num.specs.declared.res.Res.TheVariants as res
 use Rattle.pse52_trace.specs.declared.event.Event.TheVariants as event
 use Rattle.machine_rules.specs.State.{Wait, Waiting, for_condition, for_end, for_message, for_mutex, for_mutex_again, for_room, for_semaphore, for_signal, for_time}

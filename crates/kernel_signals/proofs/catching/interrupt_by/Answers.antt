@@ -1,4 +1,4 @@
-use Rattle.std.proofs.Common.{◌≡◌, ap, subst, sym}
+use Rattle.std.proofs.Common.{subst}
 use Rattle.pse52_trace.specs.Tells.{Tells}
 use Rattle.script_flat.specs.declared.cursor.Cursor.{Cursor}
 use Rattle.machine_rules.specs.Delivery.{interrupts}
@@ -6,7 +6,7 @@ use Rattle.machine_rules.specs.Signals.{delivers, without_record}
 use Rattle.machine_rules.specs.Threads.{waiting_of}
 use Rattle.machine_rules.specs.Turns.{Turn, changes_pending, ◌▷◌}
 use Rattle.machine_rules.proofs.BehindCalls.{delivers_behind}
-use Rattle.kernel_state.specs.Kernel.{Kernel, after, told}
+use Rattle.kernel_state.specs.Kernel.{Kernel, told}
 use Rattle.kernel_state.proofs.Turns.{then_state, then_told}
 use Rattle.kernel_signals.proofs.Delivered.{taken_then}
 use Rattle.kernel_signals.proofs.catching.interrupt_by.Goals as goal

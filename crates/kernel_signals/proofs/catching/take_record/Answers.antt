@@ -1,4 +1,4 @@
-use Rattle.std.proofs.Common.{◌≡◌, ◌∙◌, ℕ, ap, length, subst, sym}
+use Rattle.std.proofs.Common.{◌≡◌, ◌∙◌, ap, length, subst, sym}
 use Rattle.pse52_trace.specs.Tells.{Tells}
 use Rattle.machine_rules.specs.declared.signal.SigAction.{SigAction}
 use Rattle.machine_rules.specs.Delivery.{acts}

@@ -1,4 +1,4 @@
-use Rattle.std.proofs.Common.{ap, length, subst, sym}
+use Rattle.std.proofs.Common.{length, subst, sym}
 use Rattle.machine_rules.specs.Delivery.{sweeps_all}
 use Rattle.machine_rules.specs.Threads.{thread_numbers}
 use Rattle.machine_flat.specs.FlatBodies.{flat_bodies}

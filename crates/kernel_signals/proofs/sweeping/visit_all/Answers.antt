@@ -1,13 +1,10 @@
-use Rattle.std.proofs.Common.{◌≡◌, ◌<◌, ◌≤◌, ◌∙◌, ℕ, ap, arith, length, subst, sym}
-use Rattle.std.specs.List.{range_with_len}
-use Rattle.script_flat.specs.declared.cursor.Cursor.{Cursor}
+use Rattle.std.proofs.Common.{◌≡◌, ◌<◌, ℕ, arith, length, subst, sym}
 use Rattle.pse52_trace.specs.Tells.{Tells}
 use Rattle.machine_rules.specs.Threads.{thread_at}
 use Rattle.machine_flat.specs.FlatBodies.{flat_bodies}
-use Rattle.kernel_state.specs.Caught.{AreCaught}
-use Rattle.kernel_state.specs.Kernel.{Kernel, after, told, turn}
+use Rattle.kernel_state.specs.Kernel.{after, told}
 use Rattle.kernel_signals.specs.Sweeping.{CanVisit}
-use Rattle.kernel_signals.proofs.Midway.{caught_midway, early_midway, first_visits, midway, one_visit, one_visited, room_midway, thread_midway}
+use Rattle.kernel_signals.proofs.Midway.{caught_midway, early_midway, first_visits, one_visit, one_visited, room_midway, thread_midway}
 use Rattle.kernel_signals.proofs.sweeping.visit_all.Goals as goal
 
 pub loop-number-preserved : goal.loop-number-preserved
