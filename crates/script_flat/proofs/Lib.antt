@@ -6,3 +6,4 @@ pub mod Flattens
 pub mod Opens
 pub mod Examples
 pub mod Relative
+pub mod Told

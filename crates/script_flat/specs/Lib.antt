@@ -1,4 +1,5 @@
 pub mod Fetch
+pub mod Fetched
 pub mod Flat
 pub mod Next
 pub mod Ready

@@ -1,16 +1,17 @@
 // The flat code, and the next unit of a body.
-ghost use Rattle.std.specs.Prelude.{◌≡◌, ℕ, ◌+◌, ◌≤◌, ◌<◌, ◌^◌, [], ◌∷◌, ◌++◌, drop, length, slice_get, slice_index, All, IfOk, OnOk, Some};
+ghost use Rattle.std.specs.Prelude.{◌≡◌, ℕ, ◌+◌, ◌≤◌, ◌<◌, ◌^◌, [], ◌∷◌, ◌++◌, drop, length, option_copied, slice_get, slice_index, All, IfOk, OnOk, Some};
 ghost use Rattle.script_tree.specs.Block.{Block};
 ghost use Rattle.script_tree.specs.Tree.{step_count};
 ghost use Rattle.script_flat.specs.Next.{Place, body_start, register_limit};
 ghost use Rattle.script_flat.specs.Flat.{IsFlattenable, bodies_of, body_list, flat, flat_form, with_decl};
 ghost use Rattle.script_flat.specs.Fetch.{carried_out, after_pass, innermost, found_in, ops_of, started, fetched};
+ghost use Rattle.script_flat.specs.Fetched.{StandsIn, unit_in, unit_of};
 ghost use Rattle.script_flat.specs.Ready.{IsReady};
 ghost use Rattle.script_flat.specs.Stands.{IsBody, Stands, IsPlaced, Fetches};
 
 use crate::flatten::flatten;
 use crate::op::{Effect, capped, holds};
-use crate::{Cursor, Op, Unit};
+use crate::{CallPlace, Cursor, Fetched, Op, Unit};
 use arrayvec::ArrayVec;
 use script_tree::{Body, Decl, Kind, Script};
 use std::alloc::{AllocError, Global};
@@ -150,6 +151,16 @@ impl Code {
         }
     }
 
+    // The operation that stands at a place, if one does.
+    #[inline(always)]
+    pub(crate) fn op_at(&self, place: &CallPlace) -> Option<&Op>
+        ensures { option_copied result ≡ slice_get (ops_of self.now place.now.body) place.now.op }
+    {
+        self.bodies
+            .get(place.body as usize)?
+            .get(place.op as usize)
+    }
+
     // The operations of a body.
     fn ops(&self, body: u16) -> &[Op]
         requires { body < length self.now.all }
@@ -161,13 +172,14 @@ impl Code {
     /// The next unit of the body that the cursor stands in, and the cursor moves behind it: the operations that take no time are
     /// carried out on the way. At a body's end the unit is always `Finish`. No memory is taken. The cursor is one that `start` gave,
     /// and that only `fetch` moved; its result and its value may have been replaced.
-    pub fn fetch(&self, at: &mut Cursor) -> Unit
+    #[inline(always)]
+    pub fn fetch(&self, at: &mut Cursor) -> Fetched
         requires { IsPlaced self.now at.old }
-        ensures fetched { fetched self.now at.old ≡ (at.new, result) }
+        ensures fetched { fetched self.now at.old ≡ (at.new, unit_of self.now result) }
 
         // It is the next unit of the tree, whichever tree the flat form is of.
         ensures next { (tree : Block) → (place : Place) → IsBody self.now at.old.body tree → Stands tree place at.old
-            → Fetches tree place at.old at.new result }
+            → Fetches tree place at.old at.new (unit_of self.now result) }
 
         ensures placed { IsPlaced self.now at.new }
         ensures few { length at.new.counts.items ≤ 15 }
@@ -177,20 +189,24 @@ impl Code {
 }
 
 // The first unit of the operations ahead of a cursor, which moves behind it.
-fn search(ops: &[Op], at: &mut Cursor) -> Unit
+#[inline(always)]
+fn search(ops: &[Op], at: &mut Cursor) -> Fetched
     requires ready { IsReady (drop at.old.pc ops.now) at.old }
     requires within { at.old.pc ≤ length ops.now }
     requires short { length ops.now < 2 ^ 32 }
-    ensures { found_in (drop at.old.pc ops.now) 0 at.old ≡ (at.new, result) }
+    ensures found { found_in (drop at.old.pc ops.now) 0 at.old ≡ (at.new, unit_in ops.now result) }
+    ensures inside { StandsIn at.old.body result }
 {
+    let body = at.body;
     while let Some(op) = ops.get(at.pc as usize) {
+        let number = at.pc;
         at.pc += 1;
         match at.carry_out(op) {
-            Effect::Gives(unit) => return unit,
+            Effect::Gives(unit) => return Fetched::of(&unit, body, number),
             Effect::Skips(skip) => at.pc += skip,
         }
     }
-    Unit::Finish
+    Fetched::Finish
 }
 
 impl Cursor {
@@ -204,6 +220,7 @@ impl Cursor {
     }
 
     // The end of a pass of the innermost counted loop.
+    #[inline(never)]
     fn end_pass(&mut self, first: u32) -> Effect
         requires { length self.old.counts.items ≤ 15 }
         ensures { after_pass first (innermost self.old.counts.items) self.old ≡ (self.new, result) }
@@ -218,6 +235,7 @@ impl Cursor {
     }
 
     // Carries out an operation, behind which the cursor stands.
+    #[inline(always)]
     fn carry_out(&mut self, op: &Op) -> Effect
         requires { length self.old.counts.items ≤ 15 }
         ensures { carried_out op.now self.old ≡ (self.new, result) }

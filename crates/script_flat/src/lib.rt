@@ -3,11 +3,13 @@
 
 mod code;
 mod cursor;
+mod fetched;
 mod flatten;
 mod op;
 mod unit;
 
 pub use code::Code;
 pub use cursor::Cursor;
+pub use fetched::{CallPlace, Fetched};
 pub use op::Op;
 pub use unit::Unit;
