@@ -49,7 +49,8 @@ fn visit_all<K: Sink>(p: &mut Parts, out: &mut Tracer<'_, K>)
     }
 }
 
-// A sweep with its moves.
+// A sweep with its moves. It stands apart, so that the test before it is inlined.
+#[inline(never)]
 fn sweep_pending<K: Sink>(p: &mut Parts, out: &mut Tracer<'_, K>)
     requires quiet { p.old.direct ≡ [] }
     requires stood { StoodRight p.old.machine }
@@ -65,6 +66,7 @@ fn sweep_pending<K: Sink>(p: &mut Parts, out: &mut Tracer<'_, K>)
 }
 
 /// The sweep. Where nothing is pending it is one comparison.
+#[inline(always)]
 #[tactic(auto, using(crate::proofs::Swept::nothing_swept, crate::proofs::Swept::nothing_told_swept))]
 pub fn sweep<K: Sink>(p: &mut Parts, out: &mut Tracer<'_, K>)
     requires quiet { p.old.direct ≡ [] }

@@ -10,6 +10,7 @@ ghost use Rattle.machine_rules.specs.Scheduling.{takes_priority, with_policy, wi
 ghost use Rattle.machine_rules.specs.Waking.{new_frame, started};
 ghost use Rattle.machine_rules.specs.Ticks.{without_slice};
 ghost use Rattle.machine_rules.specs.Units.{in_unit};
+ghost use Rattle.script_flat.specs.Fetched.{unit_of};
 ghost use Rattle.machine_flat.specs.Placed.{ArePlaced};
 ghost use Rattle.machine_flat.specs.FlatBodies.{flat_bodies};
 ghost use Rattle.machine_rules.specs.Turns.{answered, changes};
@@ -25,7 +26,7 @@ ghost use Rattle.thread_blocks.specs.Ends.{refilled_of};
 
 use crate::parts::Parts;
 use machine_rules::{BodyOf, FrameKind};
-use script_flat::Unit;
+use script_flat::{Fetched, Unit};
 use script_tree::Policy;
 use sporadic_server::Replenish;
 use thread_blocks::{Frame, Refilled, Waiting};
@@ -111,15 +112,24 @@ impl Parts {
     }
 
     /// The unit that a thread is in, or takes next.
-    pub fn take_unit(&mut self, t: Tid) -> Unit
+    #[inline(always)]
+    pub fn take_unit(&mut self, t: Tid) -> Fetched
         requires known { t < length self.old.names }
         requires placed { ArePlaced self.old.code (thread_at self.old.machine t).frames }
         requires ends { (thread_at self.old.machine t).is_ending ≡ true → CanEnd (length self.old.code.cleanups) (thread_at self.old.machine t) }
-        ensures unit { result ≡ (in_unit (flat_bodies self.old.code) (thread_at self.old.machine t)).unit }
+        ensures unit { unit_of self.old.code result ≡ (in_unit (flat_bodies self.old.code) (thread_at self.old.machine t)).unit }
         ensures state { self.new ≡ after (changes t (λ th. (in_unit (flat_bodies self.old.code) (thread_at self.old.machine t)).thread)) self.old }
         ensures thread { thread_at self.new.machine t ≡ (in_unit (flat_bodies self.old.code) (thread_at self.old.machine t)).thread }
     {
         self.table.take_unit(t, &self.code)
+    }
+
+    /// The unit that was fetched.
+    #[inline(always)]
+    pub fn unit(&self, fetched: &Fetched) -> Unit
+        ensures { result ≡ unit_of self.now.code fetched.now }
+    {
+        self.code.unit(fetched)
     }
 
     pub fn clear_slice(&mut self, t: Tid)

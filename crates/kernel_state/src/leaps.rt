@@ -15,6 +15,7 @@ use tick_num::Tid;
 
 impl Parts {
     /// How many ticks a thread, which has taken its unit, runs by itself, at most so many.
+    #[inline(always)]
     pub fn lasts(&self, t: Tid, most: u64) -> u64
         requires { t < length self.now.names }
         ensures { result ≡ thread_lasts most self.now.machine.quantum (thread_at self.now.machine t) }
@@ -22,6 +23,7 @@ impl Parts {
         self.table.thread(t).lasts(most, self.quantum)
     }
 
+    #[inline(always)]
     fn charge_thread(&mut self, t: Tid, k: u64)
         requires known { t < length self.old.names }
         requires room { HasRoom k (thread_at self.old.machine t) }
@@ -44,6 +46,7 @@ impl Parts {
 
     /// So many ticks of that thread, which has taken its unit, or so many idle ticks. It is one step, and nothing else changes the
     /// instant.
+    #[inline(always)]
     pub fn leap<L: Ledger>(&mut self, to: &Option<Tid>, k: u64, steps: &mut Steps<L>)
         requires known { IfSome to.now (λ t. t < length self.old.names) }
         requires room { IfSome to.now (λ t. HasRoom k (thread_at self.old.machine t)) }

@@ -14,6 +14,7 @@ use pse52_trace::Tracer;
 use rt_io::Sink;
 
 /// All items of the instant.
+#[inline(always)]
 pub(crate) fn do_instant<K: Sink>(p: &mut Parts, out: &mut Tracer<'_, K>)
     requires quiet { p.old.direct ≡ [] }
     requires stood { StoodRight p.old.machine }

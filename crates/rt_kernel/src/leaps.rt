@@ -30,6 +30,7 @@ use step_counter::Steps;
 use tick_num::Tid;
 
 // So many ticks of a thread's unit and the rule of the tick's end, each with its moves.
+#[inline(always)]
 fn leap_to_end<K: Sink, L: Ledger>(
     p: &mut Parts,
     t: Tid,
@@ -56,6 +57,7 @@ fn leap_to_end<K: Sink, L: Ledger>(
 }
 
 // So many ticks of a thread.
+#[inline(always)]
 fn leap_thread<K: Sink, L: Ledger>(
     p: &mut Parts,
     t: Tid,
@@ -83,6 +85,7 @@ fn leap_thread<K: Sink, L: Ledger>(
 }
 
 // So many idle ticks.
+#[inline(always)]
 fn leap_idle<L: Ledger>(p: &mut Parts, reach: Reach, steps: &mut Steps<L>) -> u64
     requires quiet { p.old.direct ≡ [] }
     requires stood { StoodRight p.old.machine }
@@ -100,6 +103,7 @@ fn leap_idle<L: Ledger>(p: &mut Parts, reach: Reach, steps: &mut Steps<L>) -> u6
 }
 
 // So many ticks of a thread, or idle ones.
+#[inline(always)]
 fn leap_runs<K: Sink, L: Ledger>(
     p: &mut Parts,
     to: &Option<Tid>,
@@ -128,6 +132,7 @@ fn leap_runs<K: Sink, L: Ledger>(
 }
 
 // The dispatch, and so many ticks of the head.
+#[inline(always)]
 fn leap_head<K: Sink, L: Ledger>(
     p: &mut Parts,
     most: u64,
@@ -153,6 +158,7 @@ fn leap_head<K: Sink, L: Ledger>(
 }
 
 // The rest of a leap, which goes as far as it may where the process has ended.
+#[inline(always)]
 fn leap_goes_on<K: Sink, L: Ledger>(
     p: &mut Parts,
     most: u64,
@@ -181,6 +187,7 @@ fn leap_goes_on<K: Sink, L: Ledger>(
 
 /// One leap, of at most so many ticks: to where something falls due, or a unit, an interval or a capacity ends. The answer is how many
 /// ticks it was.
+#[inline(always)]
 pub(crate) fn leap<K: Sink, L: Ledger>(
     p: &mut Parts,
     most: u64,

@@ -15,6 +15,7 @@ use thread_blocks::TickEnd;
 use tick_num::Tid;
 
 // The round robin interval is used up: the thread goes to the tail.
+#[inline(never)]
 fn use_slice(p: &mut Parts, t: Tid)
     requires known { t < length p.old.names }
     requires quiet { p.old.direct ≡ [] }
@@ -28,6 +29,7 @@ fn use_slice(p: &mut Parts, t: Tid)
 }
 
 // What was consumed becomes a pending replenishment.
+#[inline(never)]
 fn plan<K: Sink>(p: &mut Parts, t: Tid, out: &mut Tracer<'_, K>)
     requires known { t < length p.old.names }
     requires used { 1 ≤ consumed_in (thread_at p.old.machine t).server }
@@ -39,6 +41,7 @@ fn plan<K: Sink>(p: &mut Parts, t: Tid, out: &mut Tracer<'_, K>)
 }
 
 // The capacity is used up.
+#[inline(never)]
 fn exhaust<K: Sink>(p: &mut Parts, t: Tid, out: &mut Tracer<'_, K>)
     requires known { t < length p.old.names }
     requires quiet { p.old.direct ≡ [] }
@@ -52,6 +55,7 @@ fn exhaust<K: Sink>(p: &mut Parts, t: Tid, out: &mut Tracer<'_, K>)
 }
 
 // The rule of the tick's end, before its moves.
+#[inline(always)]
 fn end_by_rule<K: Sink>(p: &mut Parts, was_high: bool, t: Tid, out: &mut Tracer<'_, K>)
     requires known { t < length p.old.names }
     requires quiet { p.old.direct ≡ [] }
@@ -67,6 +71,7 @@ fn end_by_rule<K: Sink>(p: &mut Parts, was_high: bool, t: Tid, out: &mut Tracer<
 }
 
 /// The rule of the tick's end, with its moves.
+#[inline(always)]
 pub(crate) fn end_tick<K: Sink>(p: &mut Parts, was_high: bool, t: Tid, out: &mut Tracer<'_, K>)
     requires known { t < length p.old.names }
     requires quiet { p.old.direct ≡ [] }

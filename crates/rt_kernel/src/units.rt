@@ -1,6 +1,7 @@
 // So many ticks of a thread's unit.
 ghost use Rattle.std.specs.Prelude.{◌≡◌, ◌≤◌, ◌<◌, ◌+◌, ◌^◌, [], length, max, min, true};
 ghost use Rattle.pse52_trace.specs.Tells.{Tells};
+ghost use Rattle.script_flat.specs.Fetched.{unit_of};
 ghost use Rattle.machine_rules.specs.Calls.{unit_effect};
 ghost use Rattle.machine_rules.specs.Threads.{thread_at};
 ghost use Rattle.machine_rules.specs.Ticks.{completes};
@@ -24,7 +25,7 @@ use kernel_lives::finish;
 use kernel_state::Parts;
 use pse52_trace::Tracer;
 use rt_io::Sink;
-use script_flat::Unit;
+use script_flat::{Fetched, Unit};
 use std::sync::ledger::Ledger;
 use step_counter::Steps;
 use tick_num::Tid;
@@ -37,14 +38,15 @@ pub(crate) struct Reach {
 }
 
 // The unit that a thread is in, with as many ticks of it charged as it runs by itself; and how many these are.
-fn charge_unit<L: Ledger>(p: &mut Parts, t: Tid, reach: Reach, steps: &mut Steps<L>) -> (Unit, u64)
+#[inline(always)]
+fn charge_unit<L: Ledger>(p: &mut Parts, t: Tid, reach: Reach, steps: &mut Steps<L>) -> (Fetched, u64)
     requires known { t < length p.old.names }
     requires placed { ArePlaced p.old.code (thread_at p.old.machine t).frames }
     requires ends { (thread_at p.old.machine t).is_ending ≡ true → CanEnd (length p.old.code.cleanups) (thread_at p.old.machine t) }
     requires within { IsWithin p.old.machine.now (thread_at p.old.machine t) }
     requires some { 1 ≤ reach.most }
     requires early { p.old.machine.now + reach.most ≤ 10 ^ 18 }
-    ensures unit { result.0 ≡ (in_unit (flat_bodies p.old.code) (thread_at p.old.machine t)).unit }
+    ensures unit { unit_of p.old.code result.0 ≡ (in_unit (flat_bodies p.old.code) (thread_at p.old.machine t)).unit }
     ensures length { result.1 ≡ unit_length reach p.old.machine.quantum (in_unit (flat_bodies p.old.code) (thread_at p.old.machine t)).thread }
     ensures state { p.new ≡ after (λ s. s ▷ changes t (λ th. after_ticks result.1 (in_unit (flat_bodies p.old.code) (thread_at p.old.machine t)).thread) ▷ becomes (later_by result.1)) p.old }
     ensures thread { thread_at p.new.machine t ≡ after_ticks result.1 (in_unit (flat_bodies p.old.code) (thread_at p.old.machine t)).thread }
@@ -60,33 +62,53 @@ fn charge_unit<L: Ledger>(p: &mut Parts, t: Tid, reach: Reach, steps: &mut Steps
     (unit, k)
 }
 
-// What a unit does once it is complete.
-fn complete<K: Sink>(p: &mut Parts, t: Tid, unit: &Unit, out: &mut Tracer<'_, K>)
+// What a unit does once it is complete. It stands apart from the loop of leaps, since most units are no calls.
+#[inline(never)]
+fn act<K: Sink>(p: &mut Parts, t: Tid, unit: &Fetched, out: &mut Tracer<'_, K>)
     requires known { t < length p.old.names }
-    requires can { CanComplete (objects_in p.old) (thread_at p.old.machine t) unit.now }
+    requires can { CanComplete (objects_in p.old) (thread_at p.old.machine t) (unit_of p.old.code unit.now) }
     requires acts { CanAct p.old t }
     requires room { length p.old.direct < 128 }
     requires early { p.old.machine.now ≤ 10 ^ 18 }
-    ensures state { p.new ≡ after (unit_effect (flat_bodies p.old.code) t unit.now) p.old }
-    ensures told { Tells K.text K.faults p.old.names out.old out.new (told (unit_effect (flat_bodies p.old.code) t unit.now) p.old) }
+    ensures state { p.new ≡ after (unit_effect (flat_bodies p.old.code) t (unit_of p.old.code unit.now)) p.old }
+    ensures told { Tells K.text K.faults p.old.names out.old out.new (told (unit_effect (flat_bodies p.old.code) t (unit_of p.old.code unit.now)) p.old) }
 {
-    match unit {
+    match p.unit(unit) {
         Unit::Run(_) => return,
-        Unit::Make(call) => make_call(p, t, call, out),
+        Unit::Make(call) => make_call(p, t, &call, out),
         Unit::Jump => return,
         Unit::Finish => finish(p, t, out),
     }
 }
 
-// The effect of the unit, where no tick of it is left.
-fn complete_at_end<K: Sink>(p: &mut Parts, t: Tid, unit: &Unit, out: &mut Tracer<'_, K>)
+// What a unit does once it is complete: nothing, where it only took time.
+#[inline(always)]
+fn complete<K: Sink>(p: &mut Parts, t: Tid, unit: &Fetched, out: &mut Tracer<'_, K>)
     requires known { t < length p.old.names }
-    requires can { CanComplete (objects_in p.old) (thread_at p.old.machine t) unit.now }
+    requires can { CanComplete (objects_in p.old) (thread_at p.old.machine t) (unit_of p.old.code unit.now) }
     requires acts { CanAct p.old t }
     requires room { length p.old.direct < 128 }
     requires early { p.old.machine.now ≤ 10 ^ 18 }
-    ensures state { p.new ≡ after (completes (flat_bodies p.old.code) t unit.now) p.old }
-    ensures told { Tells K.text K.faults p.old.names out.old out.new (told (completes (flat_bodies p.old.code) t unit.now) p.old) }
+    ensures state { p.new ≡ after (unit_effect (flat_bodies p.old.code) t (unit_of p.old.code unit.now)) p.old }
+    ensures told { Tells K.text K.faults p.old.names out.old out.new (told (unit_effect (flat_bodies p.old.code) t (unit_of p.old.code unit.now)) p.old) }
+{
+    match unit {
+        Fetched::Run(_) => return,
+        Fetched::Jump => return,
+        _ => act(p, t, unit, out),
+    }
+}
+
+// The effect of the unit, where no tick of it is left.
+#[inline(always)]
+fn complete_at_end<K: Sink>(p: &mut Parts, t: Tid, unit: &Fetched, out: &mut Tracer<'_, K>)
+    requires known { t < length p.old.names }
+    requires can { CanComplete (objects_in p.old) (thread_at p.old.machine t) (unit_of p.old.code unit.now) }
+    requires acts { CanAct p.old t }
+    requires room { length p.old.direct < 128 }
+    requires early { p.old.machine.now ≤ 10 ^ 18 }
+    ensures state { p.new ≡ after (completes (flat_bodies p.old.code) t (unit_of p.old.code unit.now)) p.old }
+    ensures told { Tells K.text K.faults p.old.names out.old out.new (told (completes (flat_bodies p.old.code) t (unit_of p.old.code unit.now)) p.old) }
 {
     if p.left(t) == 0 {
         complete(p, t, unit, out);
@@ -94,6 +116,7 @@ fn complete_at_end<K: Sink>(p: &mut Parts, t: Tid, unit: &Unit, out: &mut Tracer
 }
 
 /// So many ticks of a thread's unit: the charge, the effect, and the moves of both. The answer is how many these are.
+#[inline(always)]
 pub(crate) fn leap_unit<K: Sink, L: Ledger>(
     p: &mut Parts,
     t: Tid,

@@ -1,6 +1,7 @@
 // The frames of a thread.
 ghost use Rattle.std.specs.Prelude.{◌≡◌, ◌-◌, ◌≤◌};
 ghost use Rattle.machine_rules.specs.Threads.{is_signal};
+ghost use Rattle.script_flat.specs.Fetched.{unit_of};
 ghost use Rattle.script_flat.specs.Next.{register_limit, ticks_of};
 ghost use Rattle.script_flat.specs.Stands.{IsPlaced};
 ghost use Rattle.machine_rules.specs.Units.{frame_begins, next_of};
@@ -10,7 +11,7 @@ ghost use Rattle.machine_flat.specs.FlatBodies.{place_of};
 
 use arrayvec::ArrayVec;
 use machine_rules::{BodyOf, FrameKind};
-use script_flat::{Code, Cursor, Unit};
+use script_flat::{Code, Cursor, Fetched};
 use std::marker::Model;
 use tick_num::{Res, Tid};
 
@@ -124,25 +125,28 @@ impl Frame {
     }
 
     /// It begins the next unit of its body.
-    pub fn begin(&mut self, code: &Code) -> Unit
+    #[inline(always)]
+    pub fn begin(&mut self, code: &Code) -> Fetched
         requires { IsPlaced code.now (cursor_of self.old) }
-        ensures unit { result ≡ (next_of (flat_bodies code.now) self.old).unit }
+        ensures unit { unit_of code.now result ≡ (next_of (flat_bodies code.now) self.old).unit }
         ensures moved { self.new ≡ frame_begins (next_of (flat_bodies code.now) self.old) self.old }
     {
         let unit = code.fetch(&mut self.at);
-        self.left = ticks_of(&unit);
+        self.left = ticks_of(code, &unit);
         unit
     }
 }
 
 // How many ticks a unit takes.
-fn ticks_of(unit: &Unit) -> u64
-    ensures { result ≡ ticks_of unit.now }
+#[inline(always)]
+fn ticks_of(code: &Code, unit: &Fetched) -> u64
+    ensures { result ≡ ticks_of (unit_of code.now unit.now) }
 {
+    let _ = code;
     match unit {
-        Unit::Run(n) => *n,
-        Unit::Make(_) => 1,
-        Unit::Jump => 1,
-        Unit::Finish => 1,
+        Fetched::Run(n) => *n,
+        Fetched::Make(_) => 1,
+        Fetched::Jump => 1,
+        Fetched::Finish => 1,
     }
 }

@@ -1,5 +1,8 @@
 // Joining, cancellation and the end of a thread.
-ghost use Rattle.std.specs.Prelude.{◌≡◌, ◌≤◌, ◌<◌, ◌==◌, ◌&&◌, ◌∷◌, length, slice_get, true};
+ghost use Rattle.std.specs.Prelude.{◌≡◌, ◌≤◌, ◌<◌, ◌==◌, ◌&&◌, ◌∷◌, List, length, slice_get, true};
+ghost use Rattle.script_flat.specs.declared.op.Op.{Op};
+ghost use Rattle.script_flat.specs.Fetched.{unit_of};
+ghost use Rattle.script_flat.specs.Flat.{NumberedBodies};
 ghost use Rattle.machine_rules.specs.declared.frame.FrameKind.TheVariants as frame_kind;
 ghost use Rattle.machine_rules.specs.declared.frame.BodyOf.TheVariants as body_of;
 ghost use Rattle.machine_rules.specs.Cancellation.{request_acts, requested, without_cleanup};
@@ -16,7 +19,7 @@ use crate::frame::Frame;
 use crate::status::{Joiner, Status};
 use crate::thread::Thread;
 use machine_rules::{BodyOf, FrameKind};
-use script_flat::{Code, Unit};
+use script_flat::{Code, Fetched};
 use tick_num::ObjId;
 
 // The frame of a cleanup handler, at its beginning.
@@ -149,34 +152,35 @@ impl Thread {
     }
 
     // The next unit of its present body.
-    fn advance(&mut self, code: &Code) -> Unit
+    #[inline(always)]
+    fn advance(&mut self, code: &Code) -> Fetched
         requires placed { ArePlaced code.now self.old.frames }
-        ensures unit { result ≡ (advances (flat_bodies code.now) self.old.frames self.old).unit }
+        ensures unit { unit_of code.now result ≡ (advances (flat_bodies code.now) self.old.frames self.old).unit }
         ensures thread { self.new ≡ (advances (flat_bodies code.now) self.old.frames self.old).thread }
     {
         match self.frames.get_mut(0) {
-            None => Unit::Finish,
+            None => Fetched::Finish,
             Some(frame) => frame.begin(code),
         }
     }
 
     // With no cleanup handler left it ends its main body.
-    fn begin_finish(&mut self) -> Unit
-        ensures unit { result ≡ (begins_finish self.old.frames self.old).unit }
+    fn begin_finish(&mut self) -> Fetched
+        ensures unit { (code : NumberedBodies (List Op)) → unit_of code result ≡ (begins_finish self.old.frames self.old).unit }
         ensures thread { self.new ≡ (begins_finish self.old.frames self.old).thread }
     {
         if let Some(frame) = self.frames.get_mut(0) {
             frame.begin_finish();
         }
-        Unit::Finish
+        Fetched::Finish
     }
 
     // The cleanup handler that was pushed last begins its first unit in a frame of its own.
-    fn begin_cleanup(&mut self, code: &Code, u: ObjId) -> Unit
+    fn begin_cleanup(&mut self, code: &Code, u: ObjId) -> Fetched
         requires known { u < length code.now.cleanups }
         requires begins { HandlersBegin code.now }
         requires room { length self.old.frames ≤ 2 }
-        ensures unit { result ≡ (begins_cleanup (flat_bodies code.now) u self.old).unit }
+        ensures unit { unit_of code.now result ≡ (begins_cleanup (flat_bodies code.now) u self.old).unit }
         ensures thread { self.new ≡ (begins_cleanup (flat_bodies code.now) u self.old).thread }
     {
         self.drop_cleanup();
@@ -187,12 +191,13 @@ impl Thread {
     }
 
     // It begins its next cleanup handler, or else its finish.
+    #[inline(never)]
     #[tactic(auto, using(crate::proofs::Endings::begun_none, crate::proofs::Endings::begun_some, crate::proofs::Endings::first_known))]
-    fn begin_ending(&mut self, code: &Code) -> Unit
+    fn begin_ending(&mut self, code: &Code) -> Fetched
         requires room { length self.old.frames ≤ 2 }
         requires begins { HandlersBegin code.now }
         requires handlers { AreHandlers (length code.now.cleanups) self.old.cleanups }
-        ensures unit { result ≡ (takes_unit (flat_bodies code.now) (choice 0 true self.old.cleanups) self.old).unit }
+        ensures unit { unit_of code.now result ≡ (takes_unit (flat_bodies code.now) (choice 0 true self.old.cleanups) self.old).unit }
         ensures thread { self.new ≡ (takes_unit (flat_bodies code.now) (choice 0 true self.old.cleanups) self.old).thread }
     {
         match self.last_cleanup() {
@@ -202,16 +207,17 @@ impl Thread {
     }
 
     /// The unit that it is in, or takes next.
-    pub fn take(&mut self, code: &Code) -> Unit
+    #[inline(always)]
+    pub fn take(&mut self, code: &Code) -> Fetched
         requires placed { ArePlaced code.now self.old.frames }
         requires begins { HandlersBegin code.now }
         requires ends { self.old.is_ending ≡ true → CanEnd (length code.now.cleanups) self.old }
-        ensures unit { result ≡ (in_unit (flat_bodies code.now) self.old).unit }
+        ensures unit { unit_of code.now result ≡ (in_unit (flat_bodies code.now) self.old).unit }
         ensures thread { self.new ≡ (in_unit (flat_bodies code.now) self.old).thread }
     {
         let left = self.left();
         if left > 0 {
-            return Unit::Run(left);
+            return Fetched::Run(left);
         }
         if self.is_at_end() {
             self.begin_ending(code)

@@ -8,6 +8,7 @@ ghost use Rattle.machine_rules.specs.Ticks.{consumed_in, without_slice};
 ghost use Rattle.leap_rules.specs.Quiet.{after_ticks};
 ghost use Rattle.machine_rules.specs.Turns.{answered};
 ghost use Rattle.machine_rules.specs.Units.{in_unit};
+ghost use Rattle.script_flat.specs.Fetched.{unit_of};
 ghost use Rattle.machine_rules.specs.Waking.{woken};
 ghost use Rattle.machine_flat.specs.FlatBodies.{flat_bodies};
 ghost use Rattle.machine_flat.specs.Placed.{ArePlaced};
@@ -22,7 +23,7 @@ ghost use Rattle.thread_table.specs.Movers.{KeepsExec, TellsMoved};
 use crate::links::{reassign, stop_waiting, thread_of};
 use crate::table::Table;
 use crate::times::retime;
-use script_flat::{Code, Unit};
+use script_flat::{Code, Fetched};
 use script_tree::Policy;
 use sporadic_server::Replenish;
 use thread_blocks::Refilled;
@@ -132,12 +133,13 @@ impl Table {
     }
 
     /// The unit that it is in, or takes next. No execution priority changes.
-    pub fn take_unit(&mut self, t: Tid, code: &Code) -> Unit
+    #[inline(always)]
+    pub fn take_unit(&mut self, t: Tid, code: &Code) -> Fetched
         requires known { t < length self.old.threads }
         requires placed { ArePlaced code.now (thread_in self.old.threads t).frames }
         requires begins { HandlersBegin code.now }
         requires ends { (thread_in self.old.threads t).is_ending ≡ true → CanEnd (length code.now.cleanups) (thread_in self.old.threads t) }
-        ensures unit { result ≡ (in_unit (flat_bodies code.now) (thread_in self.old.threads t)).unit }
+        ensures unit { unit_of code.now result ≡ (in_unit (flat_bodies code.now) (thread_in self.old.threads t)).unit }
         ensures table { self.new ≡ with_thread t (λ th. (in_unit (flat_bodies code.now) th).thread) self.old }
         ensures thread { thread_in self.new.threads t ≡ (in_unit (flat_bodies code.now) (thread_in self.old.threads t)).thread }
         ensures same { KeepsExec self.old self.new }
@@ -147,6 +149,7 @@ impl Table {
 
     /// So many ticks at once, of the unit that it has taken. The answer is the one thread that stands among no waiters and whose
     /// execution priority changed; `None` exactly where there is none.
+    #[inline(always)]
     #[tactic(auto, using(crate::proofs::Ties::placed))]
     pub fn charge(&mut self, t: Tid, k: u64) -> Option<Tid>
         requires known { t < length self.old.threads }

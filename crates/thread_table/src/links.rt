@@ -16,6 +16,7 @@ use tick_num::{ObjId, Tid};
 use wait_lists::{WaitObj, Waits};
 
 /// The chain takes the assigned priority of the thread, where it is another.
+#[inline(always)]
 pub(crate) fn reassign(
     threads: &Threads,
     chain: &mut Chain,

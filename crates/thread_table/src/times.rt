@@ -49,6 +49,7 @@ pub(crate) fn time_all(threads: &Threads, wheel: &mut Wheel)
 impl Table {
     /// The item of least number that is due at or before now; `None` exactly where none is. Where nothing is due before now that is one
     /// comparison.
+    #[inline(always)]
     pub fn first_due(&mut self, now: Tick) -> Option<Item>
         ensures item { result ≡ next_item (machine_at now self.old) }
         ensures same { self.new ≡ self.old }
@@ -59,6 +60,7 @@ impl Table {
     }
 
     /// The least tick at which something falls due; `None` exactly where nothing does, or only after the last instant.
+    #[inline(always)]
     pub fn next_due(&self) -> Option<Tick>
         ensures { result ≡ in_time (least_due (agenda (machine_with self.now.threads self.now.mutexes self.now.timers))) }
     {
