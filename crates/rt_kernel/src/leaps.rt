@@ -84,24 +84,6 @@ fn leap_thread<K: Sink, L: Ledger>(
     k
 }
 
-// So many idle ticks.
-#[inline(always)]
-fn leap_idle<L: Ledger>(p: &mut Parts, reach: Reach, steps: &mut Steps<L>) -> u64
-    requires quiet { p.old.direct ≡ [] }
-    requires stood { StoodRight p.old.machine }
-    requires some { 1 ≤ reach.most }
-    requires early { p.old.machine.now + reach.most ≤ 10 ^ 18 }
-    ensures length { result ≡ max 1 (min reach.most (min reach.near reach.most)) }
-    ensures state { p.new ≡ after (leap_runs (flat_bodies p.old.code) result None) p.old }
-    ensures stood { StoodRight p.new.machine }
-    ensures quiet { p.new.direct ≡ [] }
-    ensures step { steps.new ≡ steps.old + 1 }
-{
-    let k = reach.most.min(reach.near.min(reach.most)).max(1);
-    p.leap(&None, k, steps);
-    k
-}
-
 // So many ticks of a thread, or idle ones.
 #[inline(always)]
 fn leap_runs<K: Sink, L: Ledger>(
@@ -126,7 +108,11 @@ fn leap_runs<K: Sink, L: Ledger>(
     ensures step { steps.new ≡ steps.old + 1 }
 {
     match to {
-        None => leap_idle(p, reach, steps),
+        None => {
+            let k = reach.most.min(reach.near).max(1);
+            p.leap(&None, k, steps);
+            k
+        }
         Some(t) => leap_thread(p, *t, reach, out, steps),
     }
 }

@@ -3,6 +3,7 @@ use Rattle.pse52_trace.specs.Tells.{Tells}
 use Rattle.pse52_trace.proofs.Tells.{tells_nothing}
 use Rattle.script_flat.specs.declared.cursor.Cursor.{Cursor}
 use Rattle.script_flat.specs.declared.unit.Unit as unit
+use Rattle.script_flat.specs.Fetched.{unit_of}
 use Rattle.machine_rules.specs.Bodies.{Bodies}
 use Rattle.machine_rules.specs.Threads.{thread_at, top_left}
 use Rattle.machine_rules.specs.Ticks.{completes_at}
@@ -22,4 +23,4 @@ returns-else-left-eq0-clause-told g c =
     let left = top_left (thread_at p.machine c.args.t).frames in
     let later = λ (e : left ≡ 0). c.if-left-eq0.false (c.left.ensures ∙ e) in
     subst (λ (s : Turn Cursor). Tells g.K.Sink.text g.K.Sink.faults p.names c.args.out.now c.args.out.now s.events)
-    (later_nothing (flat_bodies p.code) left c.args.t c.args.unit.now (turn p) later) (tells_nothing _ _ _ _)
+    (later_nothing (flat_bodies p.code) left c.args.t (unit_of p.code c.args.unit.now) (turn p) later) (tells_nothing _ _ _ _)

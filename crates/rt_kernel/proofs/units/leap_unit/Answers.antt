@@ -12,6 +12,7 @@ use Rattle.script_flat.specs.declared.cursor.Cursor.{Cursor}
 use Rattle.script_flat.specs.declared.unit.Unit as unit
 use Rattle.script_flat.specs.declared.op.Op.{Op}
 use Rattle.script_flat.specs.Flat as flat
+use Rattle.script_flat.specs.Fetched.{unit_of}
 use Rattle.machine_rules.specs.Bodies.{Bodies}
 use Rattle.machine_rules.specs.Threads.{thread_at, top_left}
 use Rattle.machine_rules.specs.Ticks.{completes, completes_at}
@@ -53,8 +54,8 @@ returns-clause-state g c =
     let code = ap (λ (k : Kernel). k.code) c.charge_unit-unit.ensures.state in
     let l = c.charge_unit-unit.new.p in
     let m = c.complete_at_end.new.p in
-    let at_unit = subst (λ (u : unit.Unit). m ≡ after (completes (flat_bodies l.code) t u) l) c.charge_unit-unit.ensures.unit c.complete_at_end.ensures.state in
-    let second = subst (λ (x : flat.NumberedBodies (List Op)). m ≡ after (completes (flat_bodies x) t taken.unit) l) code at_unit in
+    let at_code = subst (λ (x : flat.NumberedBodies (List Op)). m ≡ after (completes (flat_bodies x) t (unit_of x c.charge_unit-unit.result.0)) l) code c.complete_at_end.ensures.state in
+    let second = subst (λ (u : unit.Unit). m ≡ after (completes bodies t u) l) c.charge_unit-unit.ensures.unit at_code in
     let both = then_state charged (completes bodies t taken.unit) p _ _ (λ told s. completes_behind bodies (top_left (thread_at s.machine t).frames) t taken.unit told s) c.charge_unit-unit.ensures.state second in
     settles_after p.machine (λ (s : Turn Cursor). completes bodies t taken.unit (charged s)) p _ _ c.requires.stood
     (ap (λ (x : Kept). x.lists) (completes_kept bodies (top_left (thread_at (charged (turn p)).machine t).frames) t taken.unit (charged (turn p))))
@@ -71,8 +72,8 @@ returns-clause-stood g c =
     let code = ap (λ (k : Kernel). k.code) c.charge_unit-unit.ensures.state in
     let l = c.charge_unit-unit.new.p in
     let m = c.complete_at_end.new.p in
-    let at_unit = subst (λ (u : unit.Unit). m ≡ after (completes (flat_bodies l.code) t u) l) c.charge_unit-unit.ensures.unit c.complete_at_end.ensures.state in
-    let second = subst (λ (x : flat.NumberedBodies (List Op)). m ≡ after (completes (flat_bodies x) t taken.unit) l) code at_unit in
+    let at_code = subst (λ (x : flat.NumberedBodies (List Op)). m ≡ after (completes (flat_bodies x) t (unit_of x c.charge_unit-unit.result.0)) l) code c.complete_at_end.ensures.state in
+    let second = subst (λ (u : unit.Unit). m ≡ after (completes bodies t u) l) c.charge_unit-unit.ensures.unit at_code in
     let both = then_state charged (completes bodies t taken.unit) p _ _ (λ told s. completes_behind bodies (top_left (thread_at s.machine t).frames) t taken.unit told s) c.charge_unit-unit.ensures.state second in
     let before = charged (turn p) in
     let left = top_left (thread_at before.machine t).frames in
