@@ -10,7 +10,7 @@ ghost use Rattle.machine_rules.specs.Scheduling.{takes_priority, with_policy, wi
 ghost use Rattle.machine_rules.specs.Waking.{new_frame, started};
 ghost use Rattle.machine_rules.specs.Ticks.{without_slice};
 ghost use Rattle.machine_rules.specs.Units.{in_unit};
-ghost use Rattle.script_flat.specs.Fetched.{unit_of};
+ghost use Rattle.script_flat.specs.Fetched.{call_of, unit_of};
 ghost use Rattle.machine_flat.specs.Placed.{ArePlaced};
 ghost use Rattle.machine_flat.specs.FlatBodies.{flat_bodies};
 ghost use Rattle.machine_rules.specs.Turns.{answered, changes};
@@ -26,8 +26,8 @@ ghost use Rattle.thread_blocks.specs.Ends.{refilled_of};
 
 use crate::parts::Parts;
 use machine_rules::{BodyOf, FrameKind};
-use script_flat::{Fetched, Unit};
-use script_tree::Policy;
+use script_flat::{CallPlace, Fetched};
+use script_tree::{Call, Policy};
 use sporadic_server::Replenish;
 use thread_blocks::{Frame, Refilled, Waiting};
 use tick_num::{Prio, Res, SigSet, Tid};
@@ -124,12 +124,12 @@ impl Parts {
         self.table.take_unit(t, &self.code)
     }
 
-    /// The unit that was fetched.
+    /// The call that stands at a place of the code.
     #[inline(always)]
-    pub fn unit(&self, fetched: &Fetched) -> Unit
-        ensures { result ≡ unit_of self.now.code fetched.now }
+    pub fn call(&self, place: &CallPlace) -> Call
+        ensures { result ≡ call_of self.now.code place.now }
     {
-        self.code.unit(fetched)
+        self.code.call(place)
     }
 
     pub fn clear_slice(&mut self, t: Tid)

@@ -1,8 +1,8 @@
 // So many ticks of a thread's unit.
 ghost use Rattle.std.specs.Prelude.{◌≡◌, ◌≤◌, ◌<◌, ◌+◌, ◌^◌, [], length, max, min, true};
 ghost use Rattle.pse52_trace.specs.Tells.{Tells};
-ghost use Rattle.script_flat.specs.Fetched.{unit_of};
-ghost use Rattle.machine_rules.specs.Calls.{unit_effect};
+ghost use Rattle.script_flat.specs.Fetched.{call_of, unit_of};
+ghost use Rattle.machine_rules.specs.Calls.{makes_call, unit_effect};
 ghost use Rattle.machine_rules.specs.Threads.{thread_at};
 ghost use Rattle.machine_rules.specs.Ticks.{completes};
 ghost use Rattle.machine_rules.specs.Turns.{becomes, changes, ◌▷◌};
@@ -14,10 +14,10 @@ ghost use Rattle.machine_flat.specs.Placed.{ArePlaced};
 ghost use Rattle.thread_blocks.specs.Handlers.{CanEnd};
 ghost use Rattle.thread_laws.specs.Within.{IsWithin};
 ghost use Rattle.kernel_events.specs.Calls.{objects_in};
-ghost use Rattle.rt_kernel.specs.Completes.{CanAct, CanComplete};
+ghost use Rattle.rt_kernel.specs.Completes.{CanAct, CanComplete, CanMake};
 ghost use Rattle.rt_kernel.specs.Fits.{FitsLeap};
 ghost use Rattle.rt_kernel.specs.Reach.{unit_length};
-ghost use Rattle.kernel_state.specs.Kernel.{Kernel, after, told};
+ghost use Rattle.kernel_state.specs.Kernel.{Kernel, after, by, told};
 ghost use Rattle.kernel_state.specs.Stood.{StoodRight};
 
 use kernel_events::make_call;
@@ -25,7 +25,7 @@ use kernel_lives::finish;
 use kernel_state::Parts;
 use pse52_trace::Tracer;
 use rt_io::Sink;
-use script_flat::{Fetched, Unit};
+use script_flat::{CallPlace, Fetched};
 use std::sync::ledger::Ledger;
 use step_counter::Steps;
 use tick_num::Tid;
@@ -62,26 +62,22 @@ fn charge_unit<L: Ledger>(p: &mut Parts, t: Tid, reach: Reach, steps: &mut Steps
     (unit, k)
 }
 
-// What a unit does once it is complete. It stands apart from the loop of leaps, since most units are no calls.
+// What a call does. It stands apart from the loop of leaps, since most units are no calls.
 #[inline(never)]
-fn act<K: Sink>(p: &mut Parts, t: Tid, unit: &Fetched, out: &mut Tracer<'_, K>)
+fn make<K: Sink>(p: &mut Parts, t: Tid, place: &CallPlace, out: &mut Tracer<'_, K>)
     requires known { t < length p.old.names }
-    requires can { CanComplete (objects_in p.old) (thread_at p.old.machine t) (unit_of p.old.code unit.now) }
+    requires can { CanMake (objects_in p.old) (thread_at p.old.machine t) (call_of p.old.code place.now) }
     requires acts { CanAct p.old t }
     requires room { length p.old.direct < 128 }
     requires early { p.old.machine.now ≤ 10 ^ 18 }
-    ensures state { p.new ≡ after (unit_effect (flat_bodies p.old.code) t (unit_of p.old.code unit.now)) p.old }
-    ensures told { Tells K.text K.faults p.old.names out.old out.new (told (unit_effect (flat_bodies p.old.code) t (unit_of p.old.code unit.now)) p.old) }
+    ensures state { p.new ≡ after (makes_call (flat_bodies p.old.code) (by t (call_of p.old.code place.now))) p.old }
+    ensures told { Tells K.text K.faults p.old.names out.old out.new (told (makes_call (flat_bodies p.old.code) (by t (call_of p.old.code place.now))) p.old) }
 {
-    match p.unit(unit) {
-        Unit::Run(_) => return,
-        Unit::Make(call) => make_call(p, t, &call, out),
-        Unit::Jump => return,
-        Unit::Finish => finish(p, t, out),
-    }
+    let call = p.call(place);
+    make_call(p, t, &call, out);
 }
 
-// What a unit does once it is complete: nothing, where it only took time.
+// What a unit does once it is complete.
 #[inline(always)]
 fn complete<K: Sink>(p: &mut Parts, t: Tid, unit: &Fetched, out: &mut Tracer<'_, K>)
     requires known { t < length p.old.names }
@@ -94,8 +90,9 @@ fn complete<K: Sink>(p: &mut Parts, t: Tid, unit: &Fetched, out: &mut Tracer<'_,
 {
     match unit {
         Fetched::Run(_) => return,
+        Fetched::Make(place) => make(p, t, place, out),
         Fetched::Jump => return,
-        _ => act(p, t, unit, out),
+        Fetched::Finish => finish(p, t, out),
     }
 }
 

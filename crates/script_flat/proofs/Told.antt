@@ -1,6 +1,8 @@
 -- A unit that is told by where its call stands is the unit that was found.
 use Rattle.std.proofs.Common.{◌≡◌, ℕ, zero, suc, ◌<◌, Option, None, Some, List, length, refl, ap, sym, ◌∙◌, get_or, slice_get, drop}
 use Rattle.std.proofs.lemmas.Option.{slice_get_read}
+use Rattle.script_tree.specs.declared.call.Call.{Call}
+use Rattle.script_tree.specs.declared.call.Call.TheVariants.{Yield}
 use Rattle.script_flat.specs.declared.cursor.Cursor.{Cursor}
 use Rattle.script_flat.specs.declared.op.Op.{Op}
 use Rattle.script_flat.specs.declared.op.Op.TheVariants as op
@@ -11,22 +13,22 @@ use Rattle.script_flat.specs.declared.unit.Unit.TheVariants.{Run, Make, Jump, Fi
 use Rattle.script_flat.specs.declared.fetched.Fetched.{Fetched}
 use Rattle.script_flat.specs.declared.fetched.Fetched.TheVariants as a
 use Rattle.script_flat.specs.Fetch.{moved_on, innermost, after_pass, carried_out, fetched, found_in, ops_of}
-use Rattle.script_flat.specs.Fetched.{StandsIn, fetched_at, unit_at, unit_in, unit_of}
+use Rattle.script_flat.specs.Fetched.{StandsIn, call_at, fetched_at, unit_in, unit_of}
 use Rattle.script_flat.specs.Flat.{NumberedBodies}
 use Rattle.script_flat.proofs.Safe.{SearchesOn, search_finds}
 
--- the unit that makes the call which an effect gives
-abbrev made : Cursor × Effect → unit.Unit
-made (c, Gives (Make call)) = Make call
-made effect = Finish
+-- the call that an effect gives
+abbrev made : Cursor × Effect → Call
+made (c, Gives (Make call)) = call
+made effect = Yield
 
-made_after_pass : (first : ℕ) (passes : Option ℕ) (c : Cursor) → made (after_pass first passes c) ≡ Finish
+made_after_pass : (first : ℕ) (passes : Option ℕ) (c : Cursor) → made (after_pass first passes c) ≡ Yield
 made_after_pass first None c = refl
 made_after_pass first (Some zero) c = refl
 made_after_pass first (Some (suc zero)) c = refl
 made_after_pass first (Some (suc (suc passes))) c = refl
 
-made_by : (o : Op) (c : Cursor) → made (carried_out o c) ≡ unit_at (Some o)
+made_by : (o : Op) (c : Cursor) → made (carried_out o c) ≡ call_at (Some o)
 made_by (op.Run n) c = refl
 made_by (op.Make call) c = refl
 made_by (op.Set n) c = refl
@@ -41,7 +43,7 @@ made_by (op.Again first) c = refl
 told : (ops : List Op) (o : Op) (n body : ℕ) (c new : Cursor) (u : unit.Unit) → slice_get ops n ≡ Some o
     → carried_out o c ≡ (new, Gives u) → u ≡ unit_in ops (fetched_at body n u)
 told ops o n body c new (Run k) at e = refl
-told ops o n body c new (Make call) at e = sym (ap unit_at at ∙ (sym (made_by o c) ∙ ap made e))
+told ops o n body c new (Make call) at e = ap Make (sym (ap call_at at ∙ (sym (made_by o c) ∙ ap made e)))
 told ops o n body c new Jump at e = refl
 told ops o n body c new Finish at e = refl
 
@@ -55,7 +57,7 @@ search_finds_told ops from now new o body u h past at e =
 -- what was found in a body is what was found in the code
 pub found_in_code : (code : NumberedBodies (List Op)) (body : ℕ) (f : Fetched) → StandsIn body f → unit_in (ops_of code body) f ≡ unit_of code f
 found_in_code code body (a.Run n) h = refl
-found_in_code code body (a.Make place) h = ap (λ b. unit_at (slice_get (ops_of code b) place.op)) (sym h)
+found_in_code code body (a.Make place) h = ap (λ b. Make (call_at (slice_get (ops_of code b) place.op))) (sym h)
 found_in_code code body a.Jump h = refl
 found_in_code code body a.Finish h = refl
 

@@ -1,30 +1,37 @@
 -- Units as they are fetched, a call by where it stands. This project's own.
 use Rattle.std.specs.Prelude.{◌≡◌, ℕ, Option, Some, List, slice_get}
+use Rattle.script_tree.specs.declared.call.Call.{Call}
+use Rattle.script_tree.specs.declared.call.Call.TheVariants.{Yield}
 use Rattle.script_flat.specs.declared.op.Op.{Op}
 use Rattle.script_flat.specs.declared.op.Op.TheVariants as op
 use Rattle.script_flat.specs.declared.unit.Unit as unit
 use Rattle.script_flat.specs.declared.unit.Unit.TheVariants as a
+use Rattle.script_flat.specs.declared.fetched.CallPlace.{CallPlace}
 use Rattle.script_flat.specs.declared.fetched.Fetched.{Fetched}
 use Rattle.script_flat.specs.declared.fetched.Fetched.TheVariants.{Run, Make, Jump, Finish}
 use Rattle.script_flat.specs.Fetch.{ops_of}
 use Rattle.script_flat.specs.Flat.{NumberedBodies}
 
--- the unit that makes the call of an operation, and the end of a body where it makes none
-abbrev pub unit_at : Option Op → unit.Unit
-unit_at (Some (op.Make call)) = a.Make call
-unit_at operation = a.Finish
+-- the call that an operation makes; `yield` where it makes none
+abbrev pub call_at : Option Op → Call
+call_at (Some (op.Make call)) = call
+call_at operation = Yield
+
+-- the call that stands at a place of the code
+abbrev pub call_of : NumberedBodies (List Op) → CallPlace → Call
+call_of code place = call_at (slice_get (ops_of code place.body) place.op)
 
 -- the unit that was fetched from a body of those operations
 abbrev pub unit_in : List Op → Fetched → unit.Unit
 unit_in ops (Run n) = a.Run n
-unit_in ops (Make place) = unit_at (slice_get ops place.op)
+unit_in ops (Make place) = a.Make (call_at (slice_get ops place.op))
 unit_in ops Jump = a.Jump
 unit_in ops Finish = a.Finish
 
 -- the unit that was fetched from some body of the code
 abbrev pub unit_of : NumberedBodies (List Op) → Fetched → unit.Unit
 unit_of code (Run n) = a.Run n
-unit_of code (Make place) = unit_at (slice_get (ops_of code place.body) place.op)
+unit_of code (Make place) = a.Make (call_of code place)
 unit_of code Jump = a.Jump
 unit_of code Finish = a.Finish
 

@@ -1,9 +1,9 @@
 // Units as they are fetched.
-ghost use Rattle.std.specs.Prelude.{◌≡◌, slice_get};
-ghost use Rattle.script_flat.specs.Fetch.{ops_of};
-ghost use Rattle.script_flat.specs.Fetched.{fetched_at, unit_at, unit_of};
+ghost use Rattle.std.specs.Prelude.{◌≡◌};
+ghost use Rattle.script_flat.specs.Fetched.{call_of, fetched_at};
 
 use crate::{Code, Op, Unit};
+use script_tree::Call;
 
 /// A unit as it is fetched. A call is told by where it stands, since it is large and is looked at only when its tick is over.
 #[derive(Clone, Copy)]
@@ -43,27 +43,14 @@ impl Fetched {
 }
 
 impl Code {
-    /// The unit that was fetched.
+    /// The call that stands at a place, which a fetched unit told; `yield` where none does.
     #[inline(always)]
-    pub fn unit(&self, fetched: &Fetched) -> Unit
-        ensures { result ≡ unit_of self.now fetched.now }
-    {
-        match fetched {
-            Fetched::Run(n) => Unit::Run(*n),
-            Fetched::Make(place) => self.unit_at(place),
-            Fetched::Jump => Unit::Jump,
-            Fetched::Finish => Unit::Finish,
-        }
-    }
-
-    // The unit that makes the call of a place; the end of a body where none stands there.
-    #[inline(always)]
-    fn unit_at(&self, place: &CallPlace) -> Unit
-        ensures { result ≡ unit_at (slice_get (ops_of self.now place.now.body) place.now.op) }
+    pub fn call(&self, place: &CallPlace) -> Call
+        ensures { result ≡ call_of self.now place.now }
     {
         match self.op_at(place) {
-            Some(Op::Make(call)) => Unit::Make(*call),
-            _ => Unit::Finish,
+            Some(Op::Make(call)) => *call,
+            _ => Call::Yield,
         }
     }
 }
