@@ -1,53 +1,13 @@
--- Writes at places of one buffer, one after another.
-use Rattle.std.proofs.Common.{◌≡◌, ℕ, ◌+◌, ◌-◌, ◌≤◌, List, [], ◌∷◌, ◌++◌, length, take, drop, refl, ap, sym, ◌∙◌, arith, append_assoc, length-append, length-take-le, length-drop, take-add, take-take, take_at, drop_at, take_all, take-append-drop, subst}
-use Rattle.std.proofs.lemmas.Slice.{take-put_mid, between_is}
-use borrow.Rule.Slice.PartMut.{put_mid, same_len_mid}
+-- Lines that are put together by writes at places of one buffer.
+use Rattle.std.proofs.Common.{◌≡◌, ℕ, ◌+◌, ◌-◌, ◌≤◌, List, [], ◌∷◌, ◌++◌, length, take, drop, refl, ap, sym, ◌∙◌, arith, append_assoc, length-append, length-take-le, length-drop, take-add, take-take, take_at, subst}
+use Rattle.std.proofs.lemmas.Slice.{between_is}
 use Rattle.std.specs.List.{join_with_byte, slice_range}
-use Rattle.std.proofs.lemmas.List.{drop-append-le}
-use Rattle.pse52_trace.specs.Placed.{Placed, words_behind}
+use Rattle.rt_io.specs.Placed.{Placed}
+use Rattle.rt_io.proofs.Placed.{range_grows}
+use Rattle.pse52_trace.specs.Placed.{words_behind}
 use Rattle.pse52_trace.specs.Text.{line_of_words}
 use Rattle.pse52_trace.specs.ShortLines.{AreWhole}
 use Rattle.pse52_trace.proofs.ShortLines.{ended_is_whole}
-
--- a second write begins where the first ended
-pub placed_then : {a b c xs ys : List ℕ} {i j k : ℕ} → Placed a b i xs j → Placed b c j ys k → Placed a c i (xs ++ ys) k
-placed_then {a} {b} {c} {xs} {ys} {i} p q = record {
-  front = q.front ∙ ap (λ l. l ++ ys) p.front ∙ append_assoc (take i a) xs ys;
-  moved = omega (arith, p.moved, q.moved, length-append xs ys);
-  same = q.same ∙ p.same;
-}
-
--- only the first n bytes of a write count
-pub placed_less : {a b xs : List ℕ} {i j : ℕ} (n : ℕ) → i ≤ length a → n ≤ length xs → Placed a b i xs j → Placed a b i (take n xs) (i + n)
-placed_less {a} {b} {xs} {i} {j} n within few p =
-    let front = length-take-le i a within in
-    record {
-      front = sym (take-take (i + n) j b (omega (arith, p.moved))) ∙ ap (take (i + n)) p.front ∙ take-add i n (take i a ++ xs)
-          ∙ (λ k. take_at (take i a) xs i front k ++ take n (drop_at (take i a) xs i front k));
-      moved = omega (arith, length-take-le n xs few);
-      same = p.same;
-    }
-
--- a part of the buffer was written, and its first n bytes count
-pub placed_part : (a ys : List ℕ) (i k n : ℕ) → i + k ≤ length a → length ys ≡ k → n ≤ k → Placed a (put_mid i k a ys) i (take n ys) (i + n)
-placed_part a ys i k n fits long few =
-    placed_less n (omega arith) (omega arith) (record {
-      front = take-put_mid i k a ys (i + k) (omega arith) (omega arith);
-      moved = omega arith;
-      same = same_len_mid i k a ys (omega (arith, length-take-le k (drop i a) (omega (arith, length-drop i a))));
-    })
-
--- the first and the last `half` bytes, laid over each other, are all
-pub placed_ends : {a b c : List ℕ} {i j k : ℕ} (bytes : List ℕ) (half : ℕ) → i ≤ length a → half ≤ length bytes → length bytes ≤ half + half
-    → Placed a b i (take half bytes) j → Placed b c (i + (length bytes - half)) (take half (drop (length bytes - half) bytes)) k
-    → Placed a c i bytes k
-placed_ends {a} {b} {c} {i} {j} {k} bytes half within fits covers p q =
-    let last = length bytes - half in
-    let both = placed_then (placed_less last within (omega (arith, length-take-le half bytes fits)) p) q in
-    let whole : take last (take half bytes) ++ take half (drop last bytes) ≡ bytes =
-    (λ x. take-take last half bytes (omega arith) x ++ take_all half (drop last bytes) (omega (arith, length-drop last bytes)) x)
-    ∙ take-append-drop last bytes in
-    record { front = both.front ∙ ap (λ l. take i a ++ l) whole; moved = both.moved ∙ ap (λ l. i + length l) whole; same = both.same }
 
 -- digits that were written from their end
 pub placed_from_end : (a b digits : List ℕ) (i at end : ℕ) → at + length digits ≡ end → at ≡ i → end ≤ length a
@@ -69,9 +29,7 @@ head_stays a b bytes start end long p =
 -- a line is its head and what is put behind that
 pub head_and_rest : (a b bytes : List ℕ) (start end : ℕ) → start ≤ 20 → 20 ≤ length a → Placed a b 20 bytes end
     → slice_range b start end ≡ slice_range a start 20 ++ bytes
-head_and_rest a b bytes start end within long p =
-    between_is b start end ∙ ap (drop start) p.front ∙ drop-append-le start (take 20 a) bytes (omega (arith, length-take-le 20 a long))
-    ∙ ap (λ t. t ++ bytes) (sym (between_is a start 20))
+head_and_rest a b bytes start end within long p = range_grows a b bytes start 20 end within long p
 
 -- how long a line is
 pub length_range : (text : List ℕ) (start end : ℕ) → end ≤ length text → length (slice_range text start end) ≡ end - start

@@ -1,12 +1,14 @@
 // Lines: words with one blank between them, and a line end.
 ghost use Rattle.std.specs.Prelude.{◌≡◌, ◌≤◌, ◌<◌, ◌+◌, ◌++◌, ◌∷◌, [], length, decimal, slice_range, Some, IfSome};
 ghost use Rattle.pse52_trace.specs.Text.{IsNamed, budget_words, event_words, line, name_at, report_line, report_words, signal_name};
-ghost use Rattle.pse52_trace.specs.Placed.{Placed, blanks_before, words_behind};
+ghost use Rattle.rt_io.specs.Placed.{Placed};
+ghost use Rattle.pse52_trace.specs.Placed.{blanks_before, words_behind};
 ghost use Rattle.pse52_trace.specs.ShortLines.{AreWhole};
 
-use crate::place::{place_byte, place_number, place_word};
+use crate::place::{place_byte, place_number};
 use crate::{BudgetView, Event, Names, Report};
 use itoa::{Buffer, write_digits};
+use rt_io::place_word;
 use std::marker::Model;
 use tick_num::{Tick, Tid};
 
