@@ -115,6 +115,7 @@ fn place_time(text: &mut [u8], stands: Option<u64>, start: usize, now: u64) -> u
 }
 
 // Puts the words of an event and the line end behind the head.
+#[inline(always)]
 fn place_event(text: &mut [u8], e: &Event, names: &Names) -> usize
     requires room { length text.old ≡ 256 }
     requires named { IsNamed names.now e.now }
@@ -123,9 +124,7 @@ fn place_event(text: &mut [u8], e: &Event, names: &Names) -> usize
 {
     match e {
         Event::Dispatch(t, prio) => {
-            let at = place_of_thread(text, b" dispatch ", names, *t);
-            let at = place_number(text, at, prio.get() as u64);
-            place_byte(text, at, b'\n')
+            place_with_number(text, b" dispatch ", names, *t, prio.get() as u64)
         }
         Event::Idle => place_word(text, HEAD, b" idle\n"),
         Event::Start(t) => place_alone(text, b" start ", names, *t),
@@ -147,22 +146,14 @@ fn place_event(text: &mut [u8], e: &Event, names: &Names) -> usize
             place_byte(text, at, b'\n')
         }
         Event::Activate(t, capacity) => {
-            let at = place_of_thread(text, b" activate ", names, *t);
-            let at = place_number(text, at, *capacity);
-            place_byte(text, at, b'\n')
+            place_with_number(text, b" activate ", names, *t, *capacity)
         }
         Event::Exhaust(t) => place_alone(text, b" exhaust ", names, *t),
         Event::Plan(t, amount, due) => {
-            let at = place_of_thread(text, b" plan ", names, *t);
-            let at = place_number(text, at, *amount);
-            let at = place_number(text, at, due.get());
-            place_byte(text, at, b'\n')
+            place_with_numbers(text, b" plan ", names, *t, *amount, due.get())
         }
         Event::Refill(t, amount, capacity) => {
-            let at = place_of_thread(text, b" refill ", names, *t);
-            let at = place_number(text, at, *amount);
-            let at = place_number(text, at, *capacity);
-            place_byte(text, at, b'\n')
+            place_with_numbers(text, b" refill ", names, *t, *amount, *capacity)
         }
         Event::Cancel(t) => place_alone(text, b" cancel ", names, *t),
         Event::Exit(t) => place_alone(text, b" exit ", names, *t),
@@ -188,6 +179,43 @@ fn place_alone(text: &mut [u8], what: &[u8], names: &Names, t: Tid) -> usize
     place_byte(text, at, b'\n')
 }
 
+// Puts the whole of an event that has a thread and a number behind the head.
+#[inline(always)]
+fn place_with_number(text: &mut [u8], what: &[u8], names: &Names, t: Tid, n: u64) -> usize
+    requires room { length text.old ≡ 256 }
+    requires short { length what.now ≤ 10 }
+    requires named { t < length names.now }
+    ensures placed { Placed text.old text.new 20
+        (what.now ++ (name_at names.now t ++ 32 ∷ decimal n ++ 10 ∷ [])) result }
+    ensures within { result ≤ 84 }
+{
+    let at = place_of_thread(text, what, names, t);
+    let at = place_number(text, at, n);
+    place_byte(text, at, b'\n')
+}
+
+// Puts the whole of an event that has a thread and two numbers behind the head.
+fn place_with_numbers(
+    text: &mut [u8],
+    what: &[u8],
+    names: &Names,
+    t: Tid,
+    first: u64,
+    second: u64,
+) -> usize
+    requires room { length text.old ≡ 256 }
+    requires short { length what.now ≤ 10 }
+    requires named { t < length names.now }
+    ensures placed { Placed text.old text.new 20
+        (what.now ++ (name_at names.now t ++ 32 ∷ decimal first ++ 32 ∷ decimal second ++ 10 ∷ [])) result }
+    ensures within { result ≤ 105 }
+{
+    let at = place_of_thread(text, what, names, t);
+    let at = place_number(text, at, first);
+    let at = place_number(text, at, second);
+    place_byte(text, at, b'\n')
+}
+
 // Puts what happens behind the head, and the name of the thread to which it happens.
 #[inline(always)]
 fn place_of_thread(text: &mut [u8], what: &[u8], names: &Names, t: Tid) -> usize
@@ -202,6 +230,7 @@ fn place_of_thread(text: &mut [u8], what: &[u8], names: &Names, t: Tid) -> usize
 }
 
 // Puts a blank and a signal.
+#[inline(never)]
 fn place_signal(text: &mut [u8], at: usize, sig: u8) -> usize
     requires { at + 24 ≤ length text.old }
     ensures placed { Placed text.old text.new at (32 ∷ signal_name sig) result }

@@ -45,6 +45,7 @@ fn place_two_digits(buf: &mut [u8], at: usize, n: u64) -> usize
 }
 
 // The digits of a number.
+#[inline(never)]
 fn place_digits(buf: &mut [u8], at: usize, n: u64) -> usize
     requires { at + 20 ≤ length buf.old }
     ensures placed { Placed buf.old buf.new at (decimal n) result }
