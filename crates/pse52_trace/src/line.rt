@@ -1,5 +1,5 @@
 // Lines: words with one blank between them, and a line end.
-ghost use Rattle.std.specs.Prelude.{◌≡◌, ◌≤◌, ◌<◌, ◌+◌, ◌++◌, ◌∷◌, [], length, decimal, slice_range, Some, IfSome};
+ghost use Rattle.std.specs.Prelude.{◌≡◌, ◌≤◌, ◌<◌, ◌+◌, ◌++◌, ◌∷◌, [], length, ◌/◌, ◌*◌, ◌^◌, decimal, slice_range, Some};
 ghost use Rattle.pse52_trace.specs.Text.{IsNamed, budget_words, event_words, line, name_at, report_line, report_words, signal_name};
 ghost use Rattle.rt_io.specs.Placed.{Placed};
 ghost use Rattle.pse52_trace.specs.Placed.{blanks_before, words_behind};
@@ -35,19 +35,19 @@ pub struct Line {
     text: [u8; ROOM],
     start: usize,
     end: usize,
-    // whose digits stand from `start` to the head, so that the lines of one instant share them
-    time: Option<u64>,
+    // a tenth of the time, whose digits stand from `start` to the last one, so that instants that are near share them
+    tens: u64,
 }
 
 impl Model for Line {
-    ghost use Rattle.std.specs.Prelude.{List, ℕ, ◌≡◌, ◌≤◌, IfSome, decimal, slice_range};
+    ghost use Rattle.std.specs.Prelude.{List, ℕ, ◌≡◌, ◌≤◌, decimal, slice_range};
 
     ghost Value = { List ℕ };
 
     ghost view = { λ l. slice_range l.text l.start l.end };
 
     ghost invariant = { λ l. (l.start ≤ 20) × (20 ≤ l.end) × (l.end ≤ 256)
-        × IfSome l.time (λ n. slice_range l.text l.start 20 ≡ decimal n) };
+        × (1 ≤ l.tens → (l.start ≤ 19) × (slice_range l.text l.start 19 ≡ decimal l.tens)) };
 }
 
 impl Line {
@@ -58,7 +58,7 @@ impl Line {
             text: [0; ROOM],
             start: HEAD,
             end: HEAD,
-            time: None,
+            tens: 0,
         }
     }
 
@@ -70,8 +70,8 @@ impl Line {
         ensures whole { AreWhole self.new }
     {
         let time = now.get();
-        self.start = place_time(&mut self.text, self.time, self.start, time);
-        self.time = Some(time);
+        self.start = place_time(&mut self.text, self.tens, self.start, time);
+        self.tens = time / 10;
         self.end = place_event(&mut self.text, e, names);
     }
 
@@ -82,7 +82,7 @@ impl Line {
         ensures whole { AreWhole self.new }
     {
         self.start = HEAD;
-        self.time = None;
+        self.tens = 0;
         self.end = place_report(&mut self.text, t, report, names);
     }
 
@@ -100,18 +100,37 @@ impl Line {
     }
 }
 
-// Puts the digits of a time before the head, unless they stand there, and answers where they begin.
-fn place_time(text: &mut [u8], stands: Option<u64>, start: usize, now: u64) -> usize
+// Puts the digits of a time before the head, and answers where they begin. All but the last may stand there.
+#[inline(always)]
+fn place_time(text: &mut [u8], stands: u64, start: usize, now: u64) -> usize
     requires room { length text.old ≡ 256 }
-    requires head { start ≤ 20 }
-    requires stands { IfSome stands (λ n. slice_range text.old start 20 ≡ decimal n) }
+    requires stands { 1 ≤ stands → (start ≤ 19) × (slice_range text.old start 19 ≡ decimal stands) }
     ensures digits { slice_range text.new result 20 ≡ decimal now }
-    ensures head { result ≤ 20 }
+    ensures tens { 1 ≤ now / 10 → slice_range text.new result 19 ≡ decimal (now / 10) }
+    ensures head { result ≤ 19 }
 {
-    if stands == Some(now) {
+    let start = place_tens(text, stands, start, now / 10);
+    place_byte(text, HEAD - 1, b'0' + (now % 10) as u8);
+    start
+}
+
+// Puts the digits of a tenth of a time before the last digit, unless they stand there, and answers where they begin.
+#[inline(always)]
+fn place_tens(text: &mut [u8], stands: u64, start: usize, tens: u64) -> usize
+    requires room { length text.old ≡ 256 }
+    requires fits { 10 * tens < 2 ^ 64 }
+    requires stands { 1 ≤ stands → (start ≤ 19) × (slice_range text.old start 19 ≡ decimal stands) }
+    ensures digits { 1 ≤ tens → slice_range text.new result 19 ≡ decimal tens }
+    ensures none { tens ≡ 0 → result ≡ 19 }
+    ensures head { result ≤ 19 }
+{
+    if tens == 0 {
+        return HEAD - 1;
+    }
+    if tens == stands {
         return start;
     }
-    write_digits(now, text, HEAD)
+    write_digits(tens, text, HEAD - 1)
 }
 
 // Puts the words of an event and the line end behind the head.
