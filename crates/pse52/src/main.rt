@@ -6,7 +6,7 @@ ghost use Rattle.std.specs.Prelude.{◌≡◌};
 use pse52_tool::{Status, run_tool};
 use rt_io::{Sink, Source, StdSink, StdSource};
 use std::alloc::Global;
-use std::io::{BufReader, BufWriter, ErrorKind};
+use std::io::{BufReader, ErrorKind};
 use std::marker::Brand;
 use std::process::ExitCode;
 use std::sync::ledger::{Blank, Ledger};
@@ -51,8 +51,7 @@ fn words(rt: &HostRuntime) -> io::Result<Vec<String>> {
 fn run(rt: &HostRuntime) -> io::Result<Status> {
     let words = words(rt)?;
     let mut source = StdSource::new(BufReader::new(rt.alloc(), rt.reader())?);
-    let writer = BufWriter::with_capacity(rt.alloc(), HELD_BACK, io::writer(rt))?;
-    let mut sink = StdSink::new(writer);
+    let mut sink = StdSink::open(rt.alloc(), HELD_BACK, io::writer(rt))?;
     let status = run_counted::<_, _, Brand>(
         rt.alloc(),
         words.as_slice(),

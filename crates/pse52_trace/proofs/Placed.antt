@@ -1,53 +1,14 @@
--- Writes at places of one buffer, one after another.
-use Rattle.std.proofs.Common.{◌≡◌, ℕ, ◌+◌, ◌-◌, ◌≤◌, List, [], ◌∷◌, ◌++◌, length, take, drop, refl, ap, sym, ◌∙◌, arith, append_assoc, length-append, length-take-le, length-drop, take-add, take-take, take_at, drop_at, take_all, take-append-drop, subst}
-use Rattle.std.proofs.lemmas.Slice.{take-put_mid, between_is}
-use borrow.Rule.Slice.PartMut.{put_mid, same_len_mid}
+-- Lines that are put together by writes at places of one buffer.
+use Rattle.std.proofs.Common.{◌<◌, ◌/◌, ◌%◌, ◌^◌, decimal, inl, inr, eq-zero-or-pos, ◌≡◌, ℕ, ◌+◌, ◌-◌, ◌≤◌, List, [], ◌∷◌, ◌++◌, length, take, drop, refl, ap, sym, ◌∙◌, arith, append_assoc, length-append, length-take-le, length-drop, take-add, take-take, take_at, subst}
+use Rattle.std.proofs.lemmas.Fmt.{decimal_digit, decimal_step}
+use Rattle.std.proofs.lemmas.Slice.{between_is}
 use Rattle.std.specs.List.{join_with_byte, slice_range}
-use Rattle.std.proofs.lemmas.List.{drop-append-le}
-use Rattle.pse52_trace.specs.Placed.{Placed, words_behind}
+use Rattle.rt_io.specs.Placed.{Placed}
+use Rattle.rt_io.proofs.Placed.{range_grows}
+use Rattle.pse52_trace.specs.Placed.{words_behind}
 use Rattle.pse52_trace.specs.Text.{line_of_words}
 use Rattle.pse52_trace.specs.ShortLines.{AreWhole}
 use Rattle.pse52_trace.proofs.ShortLines.{ended_is_whole}
-
--- a second write begins where the first ended
-pub placed_then : {a b c xs ys : List ℕ} {i j k : ℕ} → Placed a b i xs j → Placed b c j ys k → Placed a c i (xs ++ ys) k
-placed_then {a} {b} {c} {xs} {ys} {i} p q = record {
-  front = q.front ∙ ap (λ l. l ++ ys) p.front ∙ append_assoc (take i a) xs ys;
-  moved = omega (arith, p.moved, q.moved, length-append xs ys);
-  same = q.same ∙ p.same;
-}
-
--- only the first n bytes of a write count
-pub placed_less : {a b xs : List ℕ} {i j : ℕ} (n : ℕ) → i ≤ length a → n ≤ length xs → Placed a b i xs j → Placed a b i (take n xs) (i + n)
-placed_less {a} {b} {xs} {i} {j} n within few p =
-    let front = length-take-le i a within in
-    record {
-      front = sym (take-take (i + n) j b (omega (arith, p.moved))) ∙ ap (take (i + n)) p.front ∙ take-add i n (take i a ++ xs)
-          ∙ (λ k. take_at (take i a) xs i front k ++ take n (drop_at (take i a) xs i front k));
-      moved = omega (arith, length-take-le n xs few);
-      same = p.same;
-    }
-
--- a part of the buffer was written, and its first n bytes count
-pub placed_part : (a ys : List ℕ) (i k n : ℕ) → i + k ≤ length a → length ys ≡ k → n ≤ k → Placed a (put_mid i k a ys) i (take n ys) (i + n)
-placed_part a ys i k n fits long few =
-    placed_less n (omega arith) (omega arith) (record {
-      front = take-put_mid i k a ys (i + k) (omega arith) (omega arith);
-      moved = omega arith;
-      same = same_len_mid i k a ys (omega (arith, length-take-le k (drop i a) (omega (arith, length-drop i a))));
-    })
-
--- the first and the last `half` bytes, laid over each other, are all
-pub placed_ends : {a b c : List ℕ} {i j k : ℕ} (bytes : List ℕ) (half : ℕ) → i ≤ length a → half ≤ length bytes → length bytes ≤ half + half
-    → Placed a b i (take half bytes) j → Placed b c (i + (length bytes - half)) (take half (drop (length bytes - half) bytes)) k
-    → Placed a c i bytes k
-placed_ends {a} {b} {c} {i} {j} {k} bytes half within fits covers p q =
-    let last = length bytes - half in
-    let both = placed_then (placed_less last within (omega (arith, length-take-le half bytes fits)) p) q in
-    let whole : take last (take half bytes) ++ take half (drop last bytes) ≡ bytes =
-    (λ x. take-take last half bytes (omega arith) x ++ take_all half (drop last bytes) (omega (arith, length-drop last bytes)) x)
-    ∙ take-append-drop last bytes in
-    record { front = both.front ∙ ap (λ l. take i a ++ l) whole; moved = both.moved ∙ ap (λ l. i + length l) whole; same = both.same }
 
 -- digits that were written from their end
 pub placed_from_end : (a b digits : List ℕ) (i at end : ℕ) → at + length digits ≡ end → at ≡ i → end ≤ length a
@@ -59,19 +20,43 @@ placed_from_end a b digits i at end reached same within before written long =
     subst (λ k. Placed a b k digits end) same (record { front = front; moved = sym reached; same = long })
 
 -- what is put behind the head leaves it as it is
-pub head_stays : (a b bytes : List ℕ) (start end : ℕ) → 20 ≤ length a → Placed a b 20 bytes end → slice_range b start 20 ≡ slice_range a start 20
-head_stays a b bytes start end long p =
+pub head_stays : (a b bytes : List ℕ) (start stop end : ℕ) → stop ≤ 20 → 20 ≤ length a → Placed a b 20 bytes end
+    → slice_range b start stop ≡ slice_range a start stop
+head_stays a b bytes start stop end within long p =
     let front = length-take-le 20 a long in
-    let same : take 20 b ≡ take 20 a =
+    let head : take 20 b ≡ take 20 a =
     sym (take-take 20 end b (omega (arith, p.moved))) ∙ ap (take 20) p.front ∙ take_at (take 20 a) bytes 20 front in
-    between_is b start 20 ∙ ap (drop start) same ∙ sym (between_is a start 20)
+    let same : take stop b ≡ take stop a = sym (take-take stop 20 b within) ∙ ap (take stop) head ∙ take-take stop 20 a within in
+    between_is b start stop ∙ ap (drop start) same ∙ sym (between_is a start stop)
+
+-- the last digit of a time behind the digits of its tenth
+pub time_by_digit : (a b : List ℕ) (start now end : ℕ) → now < 2 ^ 64 → start ≤ 19 → 19 ≤ length a
+    → Placed a b 19 ((48 + now % 10) ∷ []) end
+    → (1 ≤ now / 10 → slice_range a start 19 ≡ decimal (now / 10)) → (now / 10 ≡ 0 → start ≡ 19) → slice_range b start 20 ≡ decimal now
+time_by_digit a b start now end fits within long p tens none =
+    let digit : List ℕ = (48 + now % 10) ∷ [] in
+    let grown = ap (λ (i : ℕ). slice_range b start i) (sym p.moved) ∙ range_grows a b digit start 19 end within long p in
+    elim (eq-zero-or-pos (now / 10)) [
+      | inl z ↦
+          let low : now < 10 = omega arith in
+          let last : now % 10 ≡ now = omega arith in
+          let nothing : slice_range a start 19 ≡ [] = ap (λ (i : ℕ). slice_range a i 19) (none z) in
+          grown ∙ ap (λ (t : List ℕ). t ++ digit) nothing ∙ ap (λ (d : ℕ). (48 + d) ∷ []) last ∙ sym (decimal_digit now low)
+      | inr g ↦ grown ∙ ap (λ (t : List ℕ). t ++ digit) (tens (omega arith)) ∙ sym (decimal_step now (omega arith) fits)
+    ]
+
+-- the last digit leaves those before it as they are
+pub tens_stay : (a b bytes : List ℕ) (start end : ℕ) → 19 ≤ length a → Placed a b 19 bytes end → slice_range b start 19 ≡ slice_range a start 19
+tens_stay a b bytes start end long p =
+    let front = length-take-le 19 a long in
+    let same : take 19 b ≡ take 19 a =
+    sym (take-take 19 end b (omega (arith, p.moved))) ∙ ap (take 19) p.front ∙ take_at (take 19 a) bytes 19 front in
+    between_is b start 19 ∙ ap (drop start) same ∙ sym (between_is a start 19)
 
 -- a line is its head and what is put behind that
 pub head_and_rest : (a b bytes : List ℕ) (start end : ℕ) → start ≤ 20 → 20 ≤ length a → Placed a b 20 bytes end
     → slice_range b start end ≡ slice_range a start 20 ++ bytes
-head_and_rest a b bytes start end within long p =
-    between_is b start end ∙ ap (drop start) p.front ∙ drop-append-le start (take 20 a) bytes (omega (arith, length-take-le 20 a long))
-    ∙ ap (λ t. t ++ bytes) (sym (between_is a start 20))
+head_and_rest a b bytes start end within long p = range_grows a b bytes start 20 end within long p
 
 -- how long a line is
 pub length_range : (text : List ℕ) (start end : ℕ) → end ≤ length text → length (slice_range text start end) ≡ end - start

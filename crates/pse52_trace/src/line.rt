@@ -1,12 +1,14 @@
 // Lines: words with one blank between them, and a line end.
-ghost use Rattle.std.specs.Prelude.{◌≡◌, ◌≤◌, ◌<◌, ◌+◌, ◌++◌, ◌∷◌, [], length, decimal, slice_range, Some, IfSome};
+ghost use Rattle.std.specs.Prelude.{◌≡◌, ◌≤◌, ◌<◌, ◌+◌, ◌++◌, ◌∷◌, [], length, ◌/◌, ◌*◌, ◌^◌, decimal, slice_range, Some};
 ghost use Rattle.pse52_trace.specs.Text.{IsNamed, budget_words, event_words, line, name_at, report_line, report_words, signal_name};
-ghost use Rattle.pse52_trace.specs.Placed.{Placed, blanks_before, words_behind};
+ghost use Rattle.rt_io.specs.Placed.{Placed};
+ghost use Rattle.pse52_trace.specs.Placed.{blanks_before, words_behind};
 ghost use Rattle.pse52_trace.specs.ShortLines.{AreWhole};
 
-use crate::place::{place_byte, place_number, place_word};
+use crate::place::{place_byte, place_number};
 use crate::{BudgetView, Event, Names, Report};
 use itoa::{Buffer, write_digits};
+use rt_io::place_word;
 use std::marker::Model;
 use tick_num::{Tick, Tid};
 
@@ -33,19 +35,19 @@ pub struct Line {
     text: [u8; ROOM],
     start: usize,
     end: usize,
-    // whose digits stand from `start` to the head, so that the lines of one instant share them
-    time: Option<u64>,
+    // a tenth of the time, whose digits stand from `start` to the last one, so that instants that are near share them
+    tens: u64,
 }
 
 impl Model for Line {
-    ghost use Rattle.std.specs.Prelude.{List, ℕ, ◌≡◌, ◌≤◌, IfSome, decimal, slice_range};
+    ghost use Rattle.std.specs.Prelude.{List, ℕ, ◌≡◌, ◌≤◌, decimal, slice_range};
 
     ghost Value = { List ℕ };
 
     ghost view = { λ l. slice_range l.text l.start l.end };
 
     ghost invariant = { λ l. (l.start ≤ 20) × (20 ≤ l.end) × (l.end ≤ 256)
-        × IfSome l.time (λ n. slice_range l.text l.start 20 ≡ decimal n) };
+        × (1 ≤ l.tens → (l.start ≤ 19) × (slice_range l.text l.start 19 ≡ decimal l.tens)) };
 }
 
 impl Line {
@@ -56,7 +58,7 @@ impl Line {
             text: [0; ROOM],
             start: HEAD,
             end: HEAD,
-            time: None,
+            tens: 0,
         }
     }
 
@@ -68,8 +70,8 @@ impl Line {
         ensures whole { AreWhole self.new }
     {
         let time = now.get();
-        self.start = place_time(&mut self.text, self.time, self.start, time);
-        self.time = Some(time);
+        self.start = place_time(&mut self.text, self.tens, self.start, time);
+        self.tens = time / 10;
         self.end = place_event(&mut self.text, e, names);
     }
 
@@ -80,7 +82,7 @@ impl Line {
         ensures whole { AreWhole self.new }
     {
         self.start = HEAD;
-        self.time = None;
+        self.tens = 0;
         self.end = place_report(&mut self.text, t, report, names);
     }
 
@@ -98,21 +100,41 @@ impl Line {
     }
 }
 
-// Puts the digits of a time before the head, unless they stand there, and answers where they begin.
-fn place_time(text: &mut [u8], stands: Option<u64>, start: usize, now: u64) -> usize
+// Puts the digits of a time before the head, and answers where they begin. All but the last may stand there.
+#[inline(always)]
+fn place_time(text: &mut [u8], stands: u64, start: usize, now: u64) -> usize
     requires room { length text.old ≡ 256 }
-    requires head { start ≤ 20 }
-    requires stands { IfSome stands (λ n. slice_range text.old start 20 ≡ decimal n) }
+    requires stands { 1 ≤ stands → (start ≤ 19) × (slice_range text.old start 19 ≡ decimal stands) }
     ensures digits { slice_range text.new result 20 ≡ decimal now }
-    ensures head { result ≤ 20 }
+    ensures tens { 1 ≤ now / 10 → slice_range text.new result 19 ≡ decimal (now / 10) }
+    ensures head { result ≤ 19 }
 {
-    if stands == Some(now) {
+    let start = place_tens(text, stands, start, now / 10);
+    place_byte(text, HEAD - 1, b'0' + (now % 10) as u8);
+    start
+}
+
+// Puts the digits of a tenth of a time before the last digit, unless they stand there, and answers where they begin.
+#[inline(always)]
+fn place_tens(text: &mut [u8], stands: u64, start: usize, tens: u64) -> usize
+    requires room { length text.old ≡ 256 }
+    requires fits { 10 * tens < 2 ^ 64 }
+    requires stands { 1 ≤ stands → (start ≤ 19) × (slice_range text.old start 19 ≡ decimal stands) }
+    ensures digits { 1 ≤ tens → slice_range text.new result 19 ≡ decimal tens }
+    ensures none { tens ≡ 0 → result ≡ 19 }
+    ensures head { result ≤ 19 }
+{
+    if tens == 0 {
+        return HEAD - 1;
+    }
+    if tens == stands {
         return start;
     }
-    write_digits(now, text, HEAD)
+    write_digits(tens, text, HEAD - 1)
 }
 
 // Puts the words of an event and the line end behind the head.
+#[inline(always)]
 fn place_event(text: &mut [u8], e: &Event, names: &Names) -> usize
     requires room { length text.old ≡ 256 }
     requires named { IsNamed names.now e.now }
@@ -121,9 +143,7 @@ fn place_event(text: &mut [u8], e: &Event, names: &Names) -> usize
 {
     match e {
         Event::Dispatch(t, prio) => {
-            let at = place_of_thread(text, b" dispatch ", names, *t);
-            let at = place_number(text, at, prio.get() as u64);
-            place_byte(text, at, b'\n')
+            place_with_number(text, b" dispatch ", names, *t, prio.get() as u64)
         }
         Event::Idle => place_word(text, HEAD, b" idle\n"),
         Event::Start(t) => place_alone(text, b" start ", names, *t),
@@ -145,22 +165,14 @@ fn place_event(text: &mut [u8], e: &Event, names: &Names) -> usize
             place_byte(text, at, b'\n')
         }
         Event::Activate(t, capacity) => {
-            let at = place_of_thread(text, b" activate ", names, *t);
-            let at = place_number(text, at, *capacity);
-            place_byte(text, at, b'\n')
+            place_with_number(text, b" activate ", names, *t, *capacity)
         }
         Event::Exhaust(t) => place_alone(text, b" exhaust ", names, *t),
         Event::Plan(t, amount, due) => {
-            let at = place_of_thread(text, b" plan ", names, *t);
-            let at = place_number(text, at, *amount);
-            let at = place_number(text, at, due.get());
-            place_byte(text, at, b'\n')
+            place_with_numbers(text, b" plan ", names, *t, *amount, due.get())
         }
         Event::Refill(t, amount, capacity) => {
-            let at = place_of_thread(text, b" refill ", names, *t);
-            let at = place_number(text, at, *amount);
-            let at = place_number(text, at, *capacity);
-            place_byte(text, at, b'\n')
+            place_with_numbers(text, b" refill ", names, *t, *amount, *capacity)
         }
         Event::Cancel(t) => place_alone(text, b" cancel ", names, *t),
         Event::Exit(t) => place_alone(text, b" exit ", names, *t),
@@ -186,6 +198,43 @@ fn place_alone(text: &mut [u8], what: &[u8], names: &Names, t: Tid) -> usize
     place_byte(text, at, b'\n')
 }
 
+// Puts the whole of an event that has a thread and a number behind the head.
+#[inline(always)]
+fn place_with_number(text: &mut [u8], what: &[u8], names: &Names, t: Tid, n: u64) -> usize
+    requires room { length text.old ≡ 256 }
+    requires short { length what.now ≤ 10 }
+    requires named { t < length names.now }
+    ensures placed { Placed text.old text.new 20
+        (what.now ++ (name_at names.now t ++ 32 ∷ decimal n ++ 10 ∷ [])) result }
+    ensures within { result ≤ 84 }
+{
+    let at = place_of_thread(text, what, names, t);
+    let at = place_number(text, at, n);
+    place_byte(text, at, b'\n')
+}
+
+// Puts the whole of an event that has a thread and two numbers behind the head.
+fn place_with_numbers(
+    text: &mut [u8],
+    what: &[u8],
+    names: &Names,
+    t: Tid,
+    first: u64,
+    second: u64,
+) -> usize
+    requires room { length text.old ≡ 256 }
+    requires short { length what.now ≤ 10 }
+    requires named { t < length names.now }
+    ensures placed { Placed text.old text.new 20
+        (what.now ++ (name_at names.now t ++ 32 ∷ decimal first ++ 32 ∷ decimal second ++ 10 ∷ [])) result }
+    ensures within { result ≤ 105 }
+{
+    let at = place_of_thread(text, what, names, t);
+    let at = place_number(text, at, first);
+    let at = place_number(text, at, second);
+    place_byte(text, at, b'\n')
+}
+
 // Puts what happens behind the head, and the name of the thread to which it happens.
 #[inline(always)]
 fn place_of_thread(text: &mut [u8], what: &[u8], names: &Names, t: Tid) -> usize
@@ -200,6 +249,7 @@ fn place_of_thread(text: &mut [u8], what: &[u8], names: &Names, t: Tid) -> usize
 }
 
 // Puts a blank and a signal.
+#[inline(never)]
 fn place_signal(text: &mut [u8], at: usize, sig: u8) -> usize
     requires { at + 24 ≤ length text.old }
     ensures placed { Placed text.old text.new at (32 ∷ signal_name sig) result }

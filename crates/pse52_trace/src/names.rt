@@ -1,9 +1,9 @@
 // The names of the threads.
 ghost use Rattle.std.specs.Prelude.{◌≡◌, ◌≤◌, ◌<◌, ◌+◌, List, ℕ, [], length, replicate, slice_set, IfOk};
-ghost use Rattle.pse52_trace.specs.Placed.{Placed};
+ghost use Rattle.rt_io.specs.Placed.{Placed};
 ghost use Rattle.pse52_trace.specs.Text.{name_at};
 
-use crate::place::place_front;
+use rt_io::place_front;
 use std::alloc::{AllocError, Global};
 use std::marker::Model;
 use tick_num::Tid;

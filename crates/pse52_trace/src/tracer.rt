@@ -40,6 +40,7 @@ impl<'a, K: Sink> Tracer<'a, K> {
     }
 
     // Writes the line at once, unless a write has failed.
+    #[inline(always)]
     fn write_line(&mut self)
         requires { AreWhole self.old.line }
         ensures { Prints K.text K.faults self.old self.new self.old.line }

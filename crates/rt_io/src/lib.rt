@@ -2,13 +2,15 @@
 //!
 //! [`Source`] and [`Sink`] are the outside as the rest of the project sees it. A source and a sink in memory tell every
 //! byte, so that whole runs can be stated over them. The adapters over the readers and writers of std tell nothing of
-//! content and count their faults.
+//! content and count their faults; the one over a writer has a buffer of its own, so that a short write is a copy.
 #![tactic(auto)]
 
+mod held;
 mod mem_sink;
 mod mem_source;
 mod null_sink;
 mod outside;
+mod place;
 mod std_edge;
 mod whole;
 
@@ -16,5 +18,6 @@ pub use mem_sink::MemSink;
 pub use mem_source::{MemSource, SureSource};
 pub use null_sink::NullSink;
 pub use outside::{Failed, Sink, Source};
+pub use place::{place_bytes, place_front, place_word};
 pub use std_edge::{StdSink, StdSource};
 pub use whole::{ReadEnd, read_whole};

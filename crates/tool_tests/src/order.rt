@@ -68,11 +68,12 @@ fn reads_of_run(
         width,
         reads: Rc::clone(&reads)?,
     });
-    let mut sink = StdSink::new(NotingWriter {
+    let writer = NotingWriter {
         fails,
         reads: Rc::clone(&reads)?,
         reads_before: Rc::clone(&reads_before)?,
-    });
+    };
+    let mut sink = StdSink::open(alloc, 0, writer)?;
     let status = run_from(alloc, &["run", "10"], &mut source, &mut sink)?;
     Ok((status, reads_before.get(), reads.get()))
 }

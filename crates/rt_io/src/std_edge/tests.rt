@@ -71,13 +71,39 @@ fn a_reader_fails_in_mid_stream(rt: HostRuntime) -> Result<(), Fail> {
 }
 
 #[test]
-fn a_writer_fails_in_mid_stream(rt: HostRuntime) {
+fn a_writer_fails_in_mid_stream(rt: HostRuntime) -> Result<(), Fail> {
     for fails in [false, true] {
-        let mut sink = StdSink::new(Narrow { room: 5, fails });
+        let mut sink = StdSink::open(rt.alloc(), 0, Narrow { room: 5, fails })?;
         assert_eq!(rt; sink.write(b"abc"), Ok(()));
         assert_eq!(rt; sink.write(b"def"), Err(Failed), "two of three bytes fit");
         assert_eq!(rt; sink.inner.room, 0);
         assert_eq!(rt; sink.write(b""), Ok(()));
         assert_eq!(rt; sink.flush().is_err(), fails);
     }
+    Ok(())
+}
+
+#[test]
+fn what_a_writer_does_not_take_stays_held(rt: HostRuntime) -> Result<(), Fail> {
+    let narrow = Narrow {
+        room: 5,
+        fails: false,
+    };
+    let mut sink = StdSink::open(rt.alloc(), 4, narrow)?;
+    assert_eq!(rt; sink.write(b"abc"), Ok(()));
+    assert_eq!(rt; sink.inner.room, 5, "three bytes are held");
+    assert_eq!(rt; sink.write(b"def"), Ok(()));
+    assert_eq!(rt;
+        sink.inner.room,
+        2,
+        "they were sent, and three more are held"
+    );
+    assert_eq!(rt; sink.flush(), Err(Failed));
+    assert_eq!(rt; sink.held.bytes(), b"f".as_slice());
+    assert_eq!(rt; sink.write(b"ghijk"), Err(Failed));
+    sink.inner.room = 6;
+    assert_eq!(rt; sink.write(b"lmnop"), Ok(()));
+    assert_eq!(rt; sink.inner.room, 0, "what was held and the long text");
+    assert_eq!(rt; sink.flush(), Ok(()));
+    Ok(())
 }

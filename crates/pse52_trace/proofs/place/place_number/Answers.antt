@@ -1,5 +1,5 @@
 use Rattle.std.proofs.lemmas.Fmt.{decimal_digit}
-use Rattle.pse52_trace.proofs.Placed.{placed_then}
+use Rattle.rt_io.proofs.Placed.{placed_then}
 use Rattle.pse52_trace.proofs.place.place_number.Goals as goal
 
 pub returns-then-n-lt10-clause-placed : goal.returns-then-n-lt10-clause-placed

@@ -6,17 +6,21 @@ use Rattle.pse52_trace.proofs.line.Line.set_event.Goals as goal
 
 pub invariant_of-self : goal.invariant_of-self
 invariant_of-self c =
+    let time = c.place_time-self-inside in
     let p = c.place_event-self-inside.ensures.placed in (
-      c.place_time-self-inside.ensures.head,
+      omega (arith, time.ensures.head),
       omega (arith, p.moved),
       c.place_event-self-inside.ensures.within,
-      head_stays _ _ _ c.place_time-self-inside.result _ (omega arith) p ∙ c.place_time-self-inside.ensures.digits,
+      λ some. (
+        time.ensures.head,
+        head_stays _ _ _ time.result 19 _ (omega arith) (omega arith) p ∙ time.ensures.tens some,
+      ),
     )
 
 pub returns-clause-value : goal.returns-clause-value
 returns-clause-value c =
     let words = event_words c.args.names.now c.args.e.now in
-    head_and_rest _ _ _ c.place_time-self-inside.result c.place_event-self-inside.result c.place_time-self-inside.ensures.head (omega arith)
+    head_and_rest _ _ _ c.place_time-self-inside.result c.place_event-self-inside.result (omega (arith, c.place_time-self-inside.ensures.head)) (omega arith)
     c.place_event-self-inside.ensures.placed
     ∙ ap (λ (t : List ℕ). t ++ words_behind words) (c.place_time-self-inside.ensures.digits ∙ ap decimal c.get-time.ensures.value)
     ∙ sym (line_by_words (decimal c.args.now) words)

@@ -1,6 +1,6 @@
 use Rattle.std.proofs.Common.{◌+◌, ◌∙◌, List, ℕ, length-take-le, take-take, subst, arith}
-use Rattle.pse52_trace.specs.Placed.{Placed}
-use Rattle.pse52_trace.proofs.Placed.{placed_less}
+use Rattle.rt_io.specs.Placed.{Placed}
+use Rattle.rt_io.proofs.Placed.{placed_less}
 use Rattle.pse52_trace.proofs.names.Name.place.Goals as goal
 
 pub returns-clause-placed : goal.returns-clause-placed
