@@ -1,3 +1,4 @@
+mod Deeper
 mod Filing
 mod Holding
 mod Moving
