@@ -4,4 +4,5 @@ mod Holding
 mod Moving
 mod Order
 mod Stands
+mod Used
 mod Walking
