@@ -210,7 +210,7 @@ impl Wheel {
         ensures last { self.new.last ≡ max self.old.last now }
     {
         self.last = self.last.max(now.get());
-        if now.get() <= self.early {
+        if now.get() < self.early {
             return None;
         }
         self.search_due(now)
