@@ -1,6 +1,8 @@
+mod Deeper
 mod Filing
 mod Holding
 mod Moving
 mod Order
 mod Stands
+mod Used
 mod Walking

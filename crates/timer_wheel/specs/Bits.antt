@@ -1,5 +1,5 @@
 -- Words of 64 bits as a set of small numbers (this project's own).
-use Rattle.std.specs.Prelude.{◌≡◌, ◌≢◌, ℕ, ◌<◌, ◌/◌, ◌%◌, Bool, false, true, ◌==◌, List, slice_index}
+use Rattle.std.specs.Prelude.{◌≡◌, ◌≢◌, ℕ, ◌<◌, ◌≤◌, ◌/◌, ◌%◌, Bool, false, true, ◌==◌, List, length, nat_lt, slice_index, if◌then◌else◌}
 use Rattle.std.specs.Int.{bit_at}
 
 -- whether the bit is set, from the lowest bit of the first word on
@@ -19,3 +19,8 @@ pub record IsLowestSet (words : List ℕ) (i : ℕ) : Type 0 where
 -- no bit is set
 abbrev pub NoneIsSet : List ℕ → Type 0
 NoneIsSet words = (k : ℕ) → is_set k words ≡ false
+
+-- of up to 16 words those that are not 0 are marked by their bits
+pub record AreUsed (used : ℕ) (words : List ℕ) : Type 0 where
+  pub few : length words ≤ 16
+  pub marked : (i : ℕ) → i < 64 → bit_at used i ≡ (if nat_lt 0 (slice_index words i) then 1 else 0)

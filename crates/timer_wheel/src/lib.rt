@@ -159,13 +159,21 @@ impl Wheel {
     }
 
     /// The item falls due then; it is not armed afterwards where that is `None`.
+    #[inline(always)]
     pub fn set_due(&mut self, id: ItemId, due: Option<Tick>)
         requires { id.number < length self.old.dues }
         ensures { self.new ≡ record self.old { dues = slice_set self.old.dues id.number due } }
     {
-        if self.due_of(id) == due {
-            return;
+        if self.due_of(id) != due {
+            self.change_due(id, due);
         }
+    }
+
+    #[inline(never)]
+    fn change_due(&mut self, id: ItemId, due: Option<Tick>)
+        requires { id.number < length self.old.dues }
+        ensures { self.new ≡ record self.old { dues = slice_set self.old.dues id.number due } }
+    {
         self.disarm(id);
         if let Some(tick) = due {
             self.arm(id, tick);
@@ -195,17 +203,28 @@ impl Wheel {
 
     /// The item with the least number that is due at or before now. None exactly where none is. It stays armed. The instants need not
     /// rise: one before the last is answered by a search.
+    #[inline(always)]
     pub fn first_due(&mut self, now: Tick) -> Option<ItemId>
         ensures item { MatchOption result (NoneIsDue now self.old.dues) (λ id. IsFirstDue now self.old.dues id.number) }
         ensures same { self.new.dues ≡ self.old.dues }
         ensures last { self.new.last ≡ max self.old.last now }
     {
-        let is_earlier = now.get() < self.last;
         self.last = self.last.max(now.get());
         if now.get() < self.early {
             return None;
         }
-        if is_earlier {
+        self.search_due(now)
+    }
+
+    // The first item that is due, where one may be.
+    #[inline(never)]
+    fn search_due(&mut self, now: Tick) -> Option<ItemId>
+        requires { now ≤ self.old.last }
+        ensures item { MatchOption result (NoneIsDue now self.old.dues) (λ id. IsFirstDue now self.old.dues id.number) }
+        ensures same { self.new.dues ≡ self.old.dues }
+        ensures last { self.new.last ≡ self.old.last }
+    {
+        if now.get() < self.last {
             return first_of(self.slots.dues(), now);
         }
         self.least = caught_up(&mut self.slots, self.least, now.get());

@@ -11,11 +11,11 @@ use tick_num::Tick;
 
 /// Takes the node out of its list.
 pub(crate) fn take(links: &mut Links, occupied: &mut Bits, node: u32)
-    requires sized { IsSized links.old occupied.old.words.items }
-    requires marked { AreMarked links.old.lists occupied.old.words.items }
+    requires sized { IsSized links.old occupied.old }
+    requires marked { AreMarked links.old.lists occupied.old }
     requires node { (node < 1024) × (on_a_list node links.old.lists ≡ true) }
-    ensures sized { IsSized links.new occupied.new.words.items }
-    ensures marked { AreMarked links.new.lists occupied.new.words.items }
+    ensures sized { IsSized links.new occupied.new }
+    ensures marked { AreMarked links.new.lists occupied.new }
     ensures taken { IsTaken node links.old.lists links.new.lists }
 {
     links.stand_once();
@@ -29,11 +29,11 @@ pub(crate) fn take(links: &mut Links, occupied: &mut Bits, node: u32)
 
 /// Makes the node the last of a list.
 fn put(links: &mut Links, occupied: &mut Bits, list: u32, node: u32)
-    requires sized { IsSized links.old occupied.old.words.items }
-    requires marked { AreMarked links.old.lists occupied.old.words.items }
+    requires sized { IsSized links.old occupied.old }
+    requires marked { AreMarked links.old.lists occupied.old }
     requires node { (node < 1024) × (list < 704) × (on_a_list node links.old.lists ≡ false) }
-    ensures sized { IsSized links.new occupied.new.words.items }
-    ensures marked { AreMarked links.new.lists occupied.new.words.items }
+    ensures sized { IsSized links.new occupied.new }
+    ensures marked { AreMarked links.new.lists occupied.new }
     ensures put { links.new.lists ≡ with_last list node links.old.lists }
 {
     links.push_back(list, node);
@@ -49,12 +49,12 @@ pub(crate) fn file(
     node: u32,
     due: u64,
 )
-    requires sized { IsSized links.old occupied.old.words.items × (length passed.old.words.items ≡ 16) }
-    requires marked { AreMarked links.old.lists occupied.old.words.items }
+    requires sized { IsSized links.old occupied.old × (length passed.old ≡ 16) }
+    requires marked { AreMarked links.old.lists occupied.old }
     requires node { (node < 1024) × (due ≤ 2 * 10 ^ 18) × (on_a_list node links.old.lists ≡ false) }
-    ensures sized { IsSized links.new occupied.new.words.items × (length passed.new.words.items ≡ 16) }
-    ensures marked { AreMarked links.new.lists occupied.new.words.items }
-    ensures filed { IsFiled base node due links.old.lists links.new.lists passed.old.words.items passed.new.words.items }
+    ensures sized { IsSized links.new occupied.new × (length passed.new ≡ 16) }
+    ensures marked { AreMarked links.new.lists occupied.new }
+    ensures filed { IsFiled base node due links.old.lists links.new.lists passed.old passed.new }
 {
     if due <= base {
         passed.set(node, true);
@@ -66,8 +66,8 @@ pub(crate) fn file(
 
 /// The head of the lowest list that is not empty, if that is below the target.
 fn first_below(links: &Links, occupied: &Bits, target: u32) -> Option<u32>
-    requires sized { IsSized links.now occupied.now.words.items }
-    requires marked { AreMarked links.now.lists occupied.now.words.items }
+    requires sized { IsSized links.now occupied.now }
+    requires marked { AreMarked links.now.lists occupied.now }
     ensures node { MatchOption result (AreEmptyBelow target links.now.lists) (λ node. (node < 1024) × StandsBelow target links.now.lists node) }
     ensures on { IfSome result (λ node. on_a_list node links.now.lists ≡ true) }
 {
@@ -82,12 +82,12 @@ fn first_below(links: &Links, occupied: &Bits, target: u32) -> Option<u32>
 
 /// Moves the nodes of the lists below the target into the set of passed items.
 pub(crate) fn drain(links: &mut Links, occupied: &mut Bits, passed: &mut Bits, target: u32)
-    requires sized { IsSized links.old occupied.old.words.items × (length passed.old.words.items ≡ 16) }
-    requires marked { AreMarked links.old.lists occupied.old.words.items }
-    ensures sized { IsSized links.new occupied.new.words.items × (length passed.new.words.items ≡ 16) }
-    ensures marked { AreMarked links.new.lists occupied.new.words.items }
+    requires sized { IsSized links.old occupied.old × (length passed.old ≡ 16) }
+    requires marked { AreMarked links.old.lists occupied.old }
+    ensures sized { IsSized links.new occupied.new × (length passed.new ≡ 16) }
+    ensures marked { AreMarked links.new.lists occupied.new }
     ensures empty { AreEmptyBelow target links.new.lists }
-    ensures drained { AreDraining target links.old.lists links.new.lists passed.old.words.items passed.new.words.items }
+    ensures drained { AreDraining target links.old.lists links.new.lists passed.old passed.new }
 {
     let mut first = first_below(links, occupied, target);
     while let Some(node) = first {
@@ -106,12 +106,12 @@ fn refile_one(
     to: u64,
     node: u32,
 )
-    requires sized { IsSized links.old occupied.old.words.items × (length passed.old.words.items ≡ 16) }
-    requires marked { AreMarked links.old.lists occupied.old.words.items }
+    requires sized { IsSized links.old occupied.old × (length passed.old ≡ 16) }
+    requires marked { AreMarked links.old.lists occupied.old }
     requires node { (node < 1024) × (on_a_list node links.old.lists ≡ true) × (node < length dues.now) × AreSmall dues.now }
-    ensures sized { IsSized links.new occupied.new.words.items × (length passed.new.words.items ≡ 16) }
-    ensures marked { AreMarked links.new.lists occupied.new.words.items }
-    ensures moved { (d : ℕ) → IsDue dues.now node d → IsMoved to node d links.old.lists links.new.lists passed.old.words.items passed.new.words.items }
+    ensures sized { IsSized links.new occupied.new × (length passed.new ≡ 16) }
+    ensures marked { AreMarked links.new.lists occupied.new }
+    ensures moved { (d : ℕ) → IsDue dues.now node d → IsMoved to node d links.old.lists links.new.lists passed.old passed.new }
 {
     take(links, occupied, node);
     if let Some(due) = dues[node as usize] {
@@ -128,13 +128,13 @@ pub(crate) fn refile(
     target: u32,
     to: u64,
 )
-    requires sized { IsSized links.old occupied.old.words.items × (length passed.old.words.items ≡ 16) × (target < 704) }
-    requires marked { AreMarked links.old.lists occupied.old.words.items }
+    requires sized { IsSized links.old occupied.old × (length passed.old ≡ 16) × (target < 704) }
+    requires marked { AreMarked links.old.lists occupied.old }
     requires nodes { AreToRefile target to dues.now links.old.lists × AreSmall dues.now }
-    ensures sized { IsSized links.new occupied.new.words.items × (length passed.new.words.items ≡ 16) }
-    ensures marked { AreMarked links.new.lists occupied.new.words.items }
+    ensures sized { IsSized links.new occupied.new × (length passed.new ≡ 16) }
+    ensures marked { AreMarked links.new.lists occupied.new }
     ensures empty { list_at links.new.lists target ≡ [] }
-    ensures refiled { AreRefiling target to dues.now links.old.lists links.new.lists passed.old.words.items passed.new.words.items }
+    ensures refiled { AreRefiling target to dues.now links.old.lists links.new.lists passed.old passed.new }
 {
     let mut first = links.front(target);
     while let Some(node) = first {

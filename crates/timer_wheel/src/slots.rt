@@ -33,7 +33,7 @@ impl Model for Slots {
 
     ghost view = { λ s. record { dues = s.dues.items; base = s.base } };
 
-    ghost invariant = { λ s. AreHeld s.base s.dues.items s.links s.occupied.words.items s.passed.words.items };
+    ghost invariant = { λ s. AreHeld s.base s.dues.items s.links s.occupied s.passed };
 }
 
 /// The least due tick of the items in one list, the last number where none is.

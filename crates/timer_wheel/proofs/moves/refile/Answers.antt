@@ -18,7 +18,7 @@ loop-first-smaller c =
     let i = c.loop-first.invariant in let n = c.in-Some.node in let lists = c.loop-first.links.lists in
     let h = head_in n (list_at lists c.args.target) (sym c.in-Some.is ∙ i.4) in
     let due = c.requires.nodes.0 n (i.3.within n h) in
-    refiling_less c.args.target c.args.to n due.0 lists c.refile_one.new.links.lists c.loop-first.passed.words.items c.refile_one.new.passed.words.items h due.2
+    refiling_less c.args.target c.args.to n due.0 lists c.refile_one.new.links.lists c.loop-first.passed c.refile_one.new.passed h due.2
     (c.refile_one.ensures.moved due.0 due.1)
 
 pub loop-first-preserved : goal.loop-first-preserved
@@ -26,8 +26,8 @@ loop-first-preserved c =
     let i = c.loop-first.invariant in let n = c.in-Some.node in let lists = c.loop-first.links.lists in
     let h = head_in n (list_at lists c.args.target) (sym c.in-Some.is ∙ i.4) in
     let due = c.requires.nodes.0 n (i.3.within n h) in let new = c.refile_one.new.links in
-    let step = refiling_step c.args.target c.args.to n due.0 c.args.dues.now c.args.links.now.lists lists new.lists c.args.passed.now.words.items c.loop-first.passed.words.items
-    c.refile_one.new.passed.words.items i.3 h due.1 due.2
+    let step = refiling_step c.args.target c.args.to n due.0 c.args.dues.now c.args.links.now.lists lists new.lists c.args.passed.now c.loop-first.passed
+    c.refile_one.new.passed i.3 h due.1 due.2
     (λ lt. let s = list_small c.args.to due.0 lt (c.requires.nodes.1 n due.0 due.1) in omega (arith, s, i.0.lists)) (c.refile_one.ensures.moved due.0 due.1) in (
       c.refile_one.ensures.sized.0,
       c.refile_one.ensures.sized.1,

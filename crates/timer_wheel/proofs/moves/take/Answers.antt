@@ -8,5 +8,5 @@ returns-clause-taken c = record { gone = c.unlink.ensures.gone; lists = ap (λ (
 
 pub returns-clause-marked : goal.returns-clause-marked
 returns-clause-marked c =
-    taken_marks c.args.node c.in-Some.list c.args.links.now.lists c.unlink.new.self.lists c.args.occupied.now.words.items c.set.new.self.words.items _ (returns-clause-taken c)
+    taken_marks c.args.node c.in-Some.list c.args.links.now.lists c.unlink.new.self.lists c.args.occupied.now c.set.new.self _ (returns-clause-taken c)
     c.in-Some.ensures.1 c.requires.marked c.set.ensures.bit (c.is_some-left.ensures ∙ ap is_some c.front.ensures.head ∙ first_bit (list_at c.unlink.new.self.lists c.in-Some.list))

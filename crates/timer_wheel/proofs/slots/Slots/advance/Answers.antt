@@ -24,7 +24,7 @@ refile-requires-clause-nodes c =
     let t = target_is s.base to c.place_in-level.result c.place_in-level.ensures.place in
     let target = c.place_in-level.result.0 * 64 + c.place_in-level.result.1 in
     subst (λ (ds : List (Option ℕ)). AreToRefile target to ds c.drain.new.links.lists × AreSmall ds) (sym c.deref.ensures.value) (
-      nodes_to_refile s.base to target s.dues.items s.links.lists c.drain.new.links.lists c.drain.new.links.lists s.passed.words.items c.drain.new.passed.words.items c.drain.new.passed.words.items
+      nodes_to_refile s.base to target s.dues.items s.links.lists c.drain.new.links.lists c.drain.new.links.lists s.passed c.drain.new.passed c.drain.new.passed
           t asked.0 c.self.invariant.small c.self.invariant.filed c.drain.ensures.drained c.drain.ensures.empty,
       c.self.invariant.small,
     )
@@ -35,14 +35,14 @@ invariant_of-self c =
     let asked = subst (λ (p : Placed). (p.base < to) × (to ≤ 2 * 10 ^ 18)) (sym c.self.view_is) c.requires in
     let t = target_is s.base to c.place_in-level.result c.place_in-level.ensures.place in
     let target = c.place_in-level.result.0 * 64 + c.place_in-level.result.1 in
-    let done = subst (λ (ds : List (Option ℕ)). AreRefiling target to ds c.drain.new.links.lists c.refile.new.links.lists c.drain.new.passed.words.items c.refile.new.passed.words.items)
+    let done = subst (λ (ds : List (Option ℕ)). AreRefiling target to ds c.drain.new.links.lists c.refile.new.links.lists c.drain.new.passed c.refile.new.passed)
     c.deref.ensures.value c.refile.ensures.refiled in
     record {
       sized = c.refile.ensures.sized.0;
       set = c.refile.ensures.sized.1;
       few = c.self.invariant.few;
       marked = c.refile.ensures.marked;
-      filed = went_on s.base to target s.dues.items s.links.lists c.drain.new.links.lists c.refile.new.links.lists s.passed.words.items c.drain.new.passed.words.items c.refile.new.passed.words.items
+      filed = went_on s.base to target s.dues.items s.links.lists c.drain.new.links.lists c.refile.new.links.lists s.passed c.drain.new.passed c.refile.new.passed
           t asked.0 c.self.invariant.small c.self.invariant.filed c.drain.ensures.drained c.drain.ensures.empty done c.refile.ensures.empty;
       small = c.self.invariant.small;
     }

@@ -1,6 +1,6 @@
 use Rattle.std.proofs.Common.{◌≡◌, None, Some, refl}
 use Rattle.timer_wheel.proofs.Holding.{set_twice}
-use Rattle.timer_wheel.proofs.Wheel.set_due.Goals as goal
+use Rattle.timer_wheel.proofs.Wheel.change_due.Goals as goal
 
 pub returns-in-Some : goal.returns-in-Some
 returns-in-Some c =
