@@ -151,18 +151,12 @@ fn place_event(text: &mut [u8], e: &Event, names: &Names) -> usize
             let at = place_of_thread(text, b" return ", names, *t);
             let at = place_byte(text, at, b' ');
             let at = place_word(text, at, call.word().as_bytes());
-            let at = place_byte(text, at, b' ');
-            let at = place_word(text, at, res.text().as_bytes());
-            let at = place_number(text, at, *value);
-            place_byte(text, at, b'\n')
+            place_outcome(text, at, res.text(), *value)
         }
         Event::Deliver(t, sig, code, value) => {
             let at = place_of_thread(text, b" deliver ", names, *t);
             let at = place_signal(text, at, *sig);
-            let at = place_byte(text, at, b' ');
-            let at = place_word(text, at, code.text().as_bytes());
-            let at = place_number(text, at, *value);
-            place_byte(text, at, b'\n')
+            place_outcome(text, at, code.text(), *value)
         }
         Event::Activate(t, capacity) => {
             place_with_number(text, b" activate ", names, *t, *capacity)
@@ -232,6 +226,20 @@ fn place_with_numbers(
     let at = place_of_thread(text, what, names, t);
     let at = place_number(text, at, first);
     let at = place_number(text, at, second);
+    place_byte(text, at, b'\n')
+}
+
+// Puts the last two words of a line, of which the second is a number, and the line end.
+#[inline(always)]
+fn place_outcome(text: &mut [u8], at: usize, word: &str, value: u64) -> usize
+    requires room { at + 55 ≤ length text.old }
+    requires short { length word.now ≤ 32 }
+    ensures placed { Placed text.old text.new at (32 ∷ word.now ++ 32 ∷ decimal value ++ 10 ∷ []) result }
+    ensures within { result ≤ at + 55 }
+{
+    let at = place_byte(text, at, b' ');
+    let at = place_word(text, at, word.as_bytes());
+    let at = place_number(text, at, value);
     place_byte(text, at, b'\n')
 }
 
