@@ -1,5 +1,5 @@
 // Lines: words with one blank between them, and a line end.
-ghost use Rattle.std.specs.Prelude.{◌≡◌, ◌≤◌, ◌<◌, ◌+◌, ◌++◌, ◌∷◌, [], length, ◌/◌, ◌*◌, ◌^◌, decimal, slice_range, Some};
+ghost use Rattle.std.specs.Prelude.{◌≡◌, ◌≤◌, ◌<◌, ◌+◌, ◌++◌, ◌∷◌, [], length, ◌/◌, ◌*◌, ◌^◌, codes, decimal, slice_range, Some};
 ghost use Rattle.pse52_trace.specs.Text.{IsNamed, budget_words, event_words, line, name_at, report_line, report_words, signal_name};
 ghost use Rattle.rt_io.specs.Placed.{Placed};
 ghost use Rattle.pse52_trace.specs.Placed.{blanks_before, words_behind};
@@ -151,18 +151,12 @@ fn place_event(text: &mut [u8], e: &Event, names: &Names) -> usize
             let at = place_of_thread(text, b" return ", names, *t);
             let at = place_byte(text, at, b' ');
             let at = place_word(text, at, call.word().as_bytes());
-            let at = place_byte(text, at, b' ');
-            let at = place_word(text, at, res.text().as_bytes());
-            let at = place_number(text, at, *value);
-            place_byte(text, at, b'\n')
+            place_outcome(text, at, res.text(), *value)
         }
         Event::Deliver(t, sig, code, value) => {
             let at = place_of_thread(text, b" deliver ", names, *t);
             let at = place_signal(text, at, *sig);
-            let at = place_byte(text, at, b' ');
-            let at = place_word(text, at, code.text().as_bytes());
-            let at = place_number(text, at, *value);
-            place_byte(text, at, b'\n')
+            place_outcome(text, at, code.text(), *value)
         }
         Event::Activate(t, capacity) => {
             place_with_number(text, b" activate ", names, *t, *capacity)
@@ -176,11 +170,7 @@ fn place_event(text: &mut [u8], e: &Event, names: &Names) -> usize
         }
         Event::Cancel(t) => place_alone(text, b" cancel ", names, *t),
         Event::Exit(t) => place_alone(text, b" exit ", names, *t),
-        Event::Killed(sig) => {
-            let at = place_word(text, HEAD, b" killed");
-            let at = place_signal(text, at, *sig);
-            place_byte(text, at, b'\n')
-        }
+        Event::Killed(sig) => place_killed(text, *sig),
         Event::End => place_word(text, HEAD, b" end\n"),
     }
 }
@@ -235,6 +225,20 @@ fn place_with_numbers(
     place_byte(text, at, b'\n')
 }
 
+// Puts the last two words of a line, of which the second is a number, and the line end.
+#[inline(always)]
+fn place_outcome(text: &mut [u8], at: usize, word: &str, value: u64) -> usize
+    requires room { at + 55 ≤ length text.old }
+    requires short { length word.now ≤ 32 }
+    ensures placed { Placed text.old text.new at (32 ∷ word.now ++ 32 ∷ decimal value ++ 10 ∷ []) result }
+    ensures within { result ≤ at + 55 }
+{
+    let at = place_byte(text, at, b' ');
+    let at = place_word(text, at, word.as_bytes());
+    let at = place_number(text, at, value);
+    place_byte(text, at, b'\n')
+}
+
 // Puts what happens behind the head, and the name of the thread to which it happens.
 #[inline(always)]
 fn place_of_thread(text: &mut [u8], what: &[u8], names: &Names, t: Tid) -> usize
@@ -246,6 +250,18 @@ fn place_of_thread(text: &mut [u8], what: &[u8], names: &Names, t: Tid) -> usize
 {
     let at = place_word(text, HEAD, what);
     names.name(t).place(text, at)
+}
+
+// Puts the whole of the event that a signal ended the process behind the head.
+#[inline(never)]
+fn place_killed(text: &mut [u8], sig: u8) -> usize
+    requires { length text.old ≡ 256 }
+    ensures placed { Placed text.old text.new 20 (words_behind (codes "killed" ∷ signal_name sig ∷ [])) result }
+    ensures within { result ≤ 256 }
+{
+    let at = place_word(text, HEAD, b" killed");
+    let at = place_signal(text, at, sig);
+    place_byte(text, at, b'\n')
 }
 
 // Puts a blank and a signal.
