@@ -39,7 +39,12 @@ pub(crate) struct Reach {
 
 // The unit that a thread is in, with as many ticks of it charged as it runs by itself; and how many these are.
 #[inline(always)]
-fn charge_unit<L: Ledger>(p: &mut Parts, t: Tid, reach: Reach, steps: &mut Steps<L>) -> (Fetched, u64)
+fn charge_unit<L: Ledger>(
+    p: &mut Parts,
+    t: Tid,
+    reach: Reach,
+    steps: &mut Steps<L>,
+) -> (Fetched, u64)
     requires known { t < length p.old.names }
     requires placed { ArePlaced p.old.code (thread_at p.old.machine t).frames }
     requires ends { (thread_at p.old.machine t).is_ending ≡ true → CanEnd (length p.old.code.cleanups) (thread_at p.old.machine t) }

@@ -156,9 +156,7 @@ impl Code {
     pub(crate) fn op_at(&self, place: &CallPlace) -> Option<&Op>
         ensures { option_copied result ≡ slice_get (ops_of self.now place.now.body) place.now.op }
     {
-        self.bodies
-            .get(place.body as usize)?
-            .get(place.op as usize)
+        self.bodies.get(place.body as usize)?.get(place.op as usize)
     }
 
     // The operations of a body.
