@@ -1,5 +1,5 @@
 -- A run over other places is as busy as the script's run.
-use Rattle.std.proofs.Common.{Bool, List, None, Option, Some, ap, length, refl, suc, sym, zero, ℕ, ◌+◌, ◌-◌, ◌≡◌}
+use Rattle.std.proofs.Common.{Bool, None, Option, Some, ap, length, refl, suc, sym, zero, ℕ, ◌+◌, ◌-◌, ◌≡◌}
 use Rattle.std.specs.Prelude.{filter, is_some, ◌==◌, ◌&&◌, ◌||◌}
 use Rattle.std.specs.List.{range_with_len}
 use mathlib.Core.Path.{◌∙◌}

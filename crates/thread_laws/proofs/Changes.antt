@@ -1,5 +1,5 @@
 -- One thread changes, and each keeps its law.
-use Rattle.std.proofs.Common.{Bool, List, None, Option, Some, [], arith, false, length, refl, suc, true, zero, ℕ, ◌<◌, ◌∙◌, ◌∷◌, ◌≡◌}
+use Rattle.std.proofs.Common.{Bool, List, Some, [], arith, false, length, refl, suc, true, zero, ℕ, ◌<◌, ◌∙◌, ◌∷◌, ◌≡◌}
 use Rattle.std.specs.Prelude.{if◌then◌else◌, slice_index_or, ◌==◌}
 use Rattle.machine_rules.specs.declared.signal.SigAction.{SigAction}
 use Rattle.machine_rules.specs.declared.signal.SigAction.TheVariants as action

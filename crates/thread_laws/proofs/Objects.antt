@@ -1,6 +1,5 @@
 -- What is known of timers, of registrations and of pending records.
-use Rattle.std.proofs.Common.{List, None, Option, Some, [], arith, suc, zero, ℕ, ◌∷◌, ◌++◌, ◌≡◌}
-use Rattle.std.specs.Prelude.{slice_set}
+use Rattle.std.proofs.Common.{List, None, Some, [], arith, suc, zero, ℕ, ◌∷◌, ◌++◌, ◌≡◌}
 use Rattle.machine_rules.specs.Lists.{changed_at}
 use Rattle.machine_rules.specs.State.{Queue, Registration, SignalRecord, Timer}
 use Rattle.machine_rules.specs.Queues.{registered}
