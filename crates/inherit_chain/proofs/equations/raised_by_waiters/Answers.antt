@@ -2,7 +2,7 @@ use Rattle.std.proofs.Common.{None, Some, arith, get_or, ◌≡◌}
 use Rattle.inherit_chain.specs.Chains.{prio_in}
 use Rattle.std.proofs.lemmas.Grind.{get_or_default_zero}
 use Rattle.inherit_chain.proofs.FirstServed.{lent_first}
-use Rattle.inherit_chain.proofs.claims.raised_by_waiters.Goals as goal
+use Rattle.inherit_chain.proofs.equations.raised_by_waiters.Goals as goal
 
 pub bounds-exec-get : goal.bounds-exec-get
 bounds-exec-get c =

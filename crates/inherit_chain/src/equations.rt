@@ -1,0 +1,131 @@
+// What the equations of the execution priorities ask for.
+ghost use Rattle.std.specs.Prelude.{◌≡◌, ◌<◌, length, map, max, if◌then◌else◌};
+ghost use Rattle.machine_rules.specs.Lists.{greatest, is};
+ghost use Rattle.machine_rules.specs.Priorities.{base_in, is_inherit_mutex_of};
+ghost use Rattle.inherit_chain.specs.Chains.{asked_in, prio_in, waiters_in};
+ghost use Rattle.inherit_chain.specs.Moves.{StandsAt, WaitersStand};
+
+use crate::claims::{MutexState, ThreadClaim};
+use tick_num::{ObjId, Prio, Tid};
+use wait_lists::{WaitObj, Waits};
+
+// The greater of a priority and a number.
+fn larger(p: Prio, n: u8) -> Prio
+    ensures { result ≡ max p n }
+{
+    let Some(q) = Prio::try_new(n) else {
+        return p;
+    };
+    if p < q { q } else { p }
+}
+
+// The base of a thread: the greatest of its assigned priority and the ceilings of the mutexes that it owns.
+#[tactic(auto, using(crate::proofs::Asked::base_more))]
+fn base(claims: &[ThreadClaim], mutexes: &[MutexState], t: Tid) -> Prio
+    requires { t < length claims.now }
+    ensures { result ≡ base_in claims.now mutexes.now t }
+{
+    let mut best = claims[t.get() as usize].assigned();
+    for m in mutexes {
+        best = larger(best, m.owner_ceiling(t));
+    }
+    best
+}
+
+// The greater of a priority and that of a thread, if it waits for the mutex.
+fn raised_by_waiter(c: &ThreadClaim, k: usize, lent: Prio, best: Prio) -> Prio
+    ensures { result ≡ (if is c.now.awaited k then max best lent else best) }
+{
+    if c.awaits(k) {
+        larger(best, lent.get())
+    } else {
+        best
+    }
+}
+
+// The greatest of a priority and those of the threads that wait for a mutex, found one by one.
+#[inline(never)]
+#[tactic(auto, using(crate::proofs::Asked::lent_more))]
+fn raised_by_all(claims: &[ThreadClaim], exec: &[Prio], k: usize, start: Prio) -> Prio
+    requires { length exec.now ≡ length claims.now }
+    ensures { result ≡ max start (greatest (map (prio_in exec.now) (waiters_in claims.now k))) }
+{
+    let mut best = start;
+    for (u, c) in claims.iter().enumerate() {
+        best = raised_by_waiter(c, k, exec[u], best);
+    }
+    best
+}
+
+// The greatest of a priority and those of the threads that wait for a mutex: none waits with a greater one than the first served.
+fn raised_by_waiters(
+    claims: &[ThreadClaim],
+    exec: &[Prio],
+    w: &Waits,
+    k: usize,
+    start: Prio,
+) -> Prio
+    requires each { length exec.now ≡ length claims.now }
+    requires counted { length w.now ≡ length claims.now }
+    requires stand { StandsAt (prio_in exec.now) w.now }
+    requires waiters { WaitersStand claims.now w.now }
+    ensures { result ≡ max start (greatest (map (prio_in exec.now) (waiters_in claims.now k))) }
+{
+    if k >= 256 {
+        return raised_by_all(claims, exec, k, start);
+    }
+    let Some(mutex) = ObjId::try_new(k as u16) else {
+        return start;
+    };
+    match w.best(WaitObj::Mutex(mutex)) {
+        Some(first) => larger(start, exec[first.get() as usize].get()),
+        None => start,
+    }
+}
+
+// The greatest of a priority and those of the threads that lend to the thread through one mutex.
+fn raised_through(
+    claims: &[ThreadClaim],
+    exec: &[Prio],
+    w: &Waits,
+    m: &MutexState,
+    k: usize,
+    t: Tid,
+    best: Prio,
+) -> Prio
+    requires each { length exec.now ≡ length claims.now }
+    requires counted { length w.now ≡ length claims.now }
+    requires stand { StandsAt (prio_in exec.now) w.now }
+    requires waiters { WaitersStand claims.now w.now }
+    ensures { result
+        ≡ (if is_inherit_mutex_of t m.now then max best (greatest (map (prio_in exec.now) (waiters_in claims.now k))) else best) }
+{
+    if m.is_inherit_mutex_of(t) {
+        raised_by_waiters(claims, exec, w, k, best)
+    } else {
+        best
+    }
+}
+
+/// What the equation of a thread asks for.
+#[tactic(auto, using(crate::proofs::Asked::asked_more))]
+pub(crate) fn asked(
+    claims: &[ThreadClaim],
+    mutexes: &[MutexState],
+    exec: &[Prio],
+    w: &Waits,
+    t: Tid,
+) -> Prio
+    requires known { t < length claims.now }
+    requires each { length exec.now ≡ length claims.now }
+    requires counted { length w.now ≡ length claims.now }
+    requires stand { StandsAt (prio_in exec.now) w.now }
+    requires waiters { WaitersStand claims.now w.now }
+    ensures { result ≡ asked_in claims.now mutexes.now (prio_in exec.now) t }
+{
+    let mut best = base(claims, mutexes, t);
+    for (k, m) in mutexes.iter().enumerate() {
+        best = raised_through(claims, exec, w, m, k, t, best);
+    }
+    best
+}
