@@ -1,6 +1,6 @@
 -- A sweep comes to a kernel that it could come to, since what it leaves is so.
 use Rattle.std.proofs.Common.{◌≡◌, ◌∙◌, ◌≤◌, ◌+◌, ℕ, List, [], false, Option, None, Some, ap, refl, subst, suc, sym}
-use Rattle.std.specs.Prelude.{IfSome, is_some, max, min}
+use Rattle.std.specs.Prelude.{IfSome, is_some}
 use Rattle.pse52_trace.specs.declared.tracer.Tracer.{Tracer}
 use Rattle.tick_num.specs.declared.item.Item.{Item}
 use Rattle.script_flat.specs.declared.cursor.Cursor.{Cursor}
@@ -20,7 +20,7 @@ use Rattle.machine_rules.proofs.BehindTicks.{item_done_behind, sweeps_behind}
 use Rattle.machine_rules.proofs.Instants.{completes_now, tick_ends_now}
 use Rattle.machine_flat.specs.FlatBodies.{flat_bodies}
 use Rattle.leap_rules.specs.Quiet.{after_ticks}
-use Rattle.leap_rules.specs.Leap.{head_lasts, later_by, leap, leap_goes_on, leap_head, leap_length, leap_runs, length_from, thread_lasts, ticks_to_next, unit_leapt}
+use Rattle.leap_rules.specs.Leap.{later_by, leap, leap_goes_on, leap_head, leap_length, leap_runs, length_from, ticks_to_next, unit_leapt}
 use Rattle.machine_leaps.proofs.Leaps.Law.{leap_runs_behind}
 use Rattle.machine_moves.proofs.Runs.Ticks.{dispatched}
 use Rattle.kernel_state.specs.Kernel.{Kernel, after, turn}
@@ -31,11 +31,11 @@ use Rattle.kernel_laws.specs.Visitable.{CanBeSwept}
 use Rattle.kernel_laws.proofs.Sweeping.{can_visit, swept_back}
 use Rattle.rt_kernel.specs.Fits.{ItemsFit, StaysFit}
 use Rattle.rt_kernel.specs.Landing.{IsSweepable}
-use Rattle.rt_kernel.specs.Reach.{unit_length}
-use Rattle.rt_kernel.specs.declared.units.Reach.{Reach}
+use Rattle.rt_kernel.specs.Reach.{run_length, unit_length}
 use Rattle.rt_kernel.proofs.Halfway.{Halfway}
 use Rattle.rt_kernel.proofs.ItemsLaw.{items_more}
 use Rattle.rt_kernel.proofs.LeapParts.{leap_goes_on_behind}
+use Rattle.rt_kernel.proofs.Nearer.{length_near}
 use Rattle.rt_kernel.proofs.Running.{is_leap_of, turn_is}
 
 pub can_sweep : (k : Kernel) → IsSweepable k → CanSweep k
@@ -86,37 +86,45 @@ unit_now p l t k state =
     let was_high = has_high (thread_at s.machine t).server in
     ap (λ (x : Kernel). x.machine.now) state ∙ tick_ends_now was_high t (unit_leapt bodies k s.machine t taken s) ∙ completes_now bodies (top_left (thread_at charged.machine t).frames) t taken.unit charged
 
+-- as long as the head may run is as long as what the dispatch gave the processor to runs after it
+pub head_long : (p l : Kernel) (most near : ℕ) (to : Option ℕ) → to ≡ head p.machine → l ≡ after (dispatches (head p.machine)) p → near ≡ ticks_to_next most p.machine.now (agenda p.machine) →
+    run_length (flat_bodies l.code) near to l.machine ≡ length_from (flat_bodies p.code) None most p.machine
+head_long p l most near to top state is_near =
+    let h = head p.machine in
+    let long = λ (o : Option ℕ) (n : ℕ) (x : Kernel). run_length (flat_bodies x.code) n o x.machine in
+    ap (λ (o : Option ℕ). long o near l) top
+    ∙ ap (long h near) state
+    ∙ ap (λ (m : Machine Cursor). long h near (record p { machine = m })) (dispatched h (turn p))
+    ∙ ap (λ (n : ℕ). long h n p) is_near
+    ∙ sym (length_near (flat_bodies p.code) most p.machine)
+
+-- the dispatch leaves the instant
+pub head_now : (p l : Kernel) → l ≡ after (dispatches (head p.machine)) p → l.machine.now ≡ p.machine.now
+head_now p l state = ap (λ (x : Kernel). x.machine.now) state ∙ ap (λ (m : Machine Cursor). m.now) (dispatched (head p.machine) (turn p))
+
 -- after the dispatch
-pub head_lands : (p l : Kernel) (reach : Reach) (to : Option ℕ) → to ≡ head p.machine → l ≡ after (dispatches (head p.machine)) p → reach.near ≡ ticks_to_next reach.most p.machine.now (agenda p.machine) →
-    IsSweepable (after (leap_head (flat_bodies p.code) (length_from (flat_bodies p.code) None reach.most p.machine)) p) →
-    IfSome to (λ t. IsSweepable (after (leap_runs (flat_bodies l.code) (unit_length reach l.machine.quantum (in_unit (flat_bodies l.code) (thread_at l.machine t)).thread) (Some t)) l))
-head_lands p l reach to top state near lands =
-    subst (λ (o : Option ℕ). IfSome o (λ t. IsSweepable (after (leap_runs (flat_bodies l.code) (unit_length reach l.machine.quantum (in_unit (flat_bodies l.code) (thread_at l.machine t)).thread) (Some t)) l))) (sym top) (by_head (head p.machine) refl)
+pub head_lands : (p l : Kernel) (most near : ℕ) (to : Option ℕ) → to ≡ head p.machine → l ≡ after (dispatches (head p.machine)) p → near ≡ ticks_to_next most p.machine.now (agenda p.machine) →
+    IsSweepable (after (leap_head (flat_bodies p.code) (length_from (flat_bodies p.code) None most p.machine)) p) →
+    IfSome to (λ t. IsSweepable (after (leap_runs (flat_bodies l.code) (unit_length near l.machine.quantum (in_unit (flat_bodies l.code) (thread_at l.machine t)).thread) (Some t)) l))
+head_lands p l most near to top state is_near lands =
+    subst (λ (o : Option ℕ). IfSome o (λ t. IsSweepable (after (leap_runs (flat_bodies l.code) (unit_length near l.machine.quantum (in_unit (flat_bodies l.code) (thread_at l.machine t)).thread) (Some t)) l))) (sym top) (by_head (head p.machine) refl)
   where
     h : Option ℕ
     h = head p.machine
 
     k : ℕ
-    k = length_from (flat_bodies p.code) None reach.most p.machine
+    k = length_from (flat_bodies p.code) None most p.machine
 
     there : IsSweepable (after (leap_runs (flat_bodies l.code) k h) l)
     there =
         let both = then_state_in (λ b. dispatches h) (λ b. leap_runs b k h) p l (after (leap_runs (flat_bodies l.code) k h) l) (λ b. leap_runs_behind b k h) state refl in
         subst IsSweepable (sym both) lands
 
-    -- as long as the thread runs by itself
-    long : ℕ → Kernel → ℕ
-    long t x = unit_length reach x.machine.quantum (in_unit (flat_bodies x.code) (thread_at x.machine t)).thread
-
-    as_long : (t : ℕ) → h ≡ Some t → k ≡ long t l
+    as_long : (t : ℕ) → h ≡ Some t → k ≡ run_length (flat_bodies l.code) near (Some t) l.machine
     as_long t e =
-        let lasts = thread_lasts reach.most p.machine.quantum (in_unit (flat_bodies p.code) (thread_at p.machine t)).thread in
-        ap (λ (o : Option ℕ). max 1 (min reach.most (min (ticks_to_next reach.most p.machine.now (agenda p.machine)) (head_lasts (flat_bodies p.code) reach.most o p.machine)))) e
-        ∙ ap (λ (n : ℕ). max 1 (min reach.most (min n lasts))) (sym near)
-        ∙ sym (ap (λ (m : Machine Cursor). long t (record p { machine = m })) (dispatched h (turn p)))
-        ∙ sym (ap (long t) state)
+        sym (head_long p l most near h refl state is_near) ∙ ap (λ (o : Option ℕ). run_length (flat_bodies l.code) near o l.machine) e
 
-    by_head : (o : Option ℕ) → head p.machine ≡ o → IfSome o (λ t. IsSweepable (after (leap_runs (flat_bodies l.code) (unit_length reach l.machine.quantum (in_unit (flat_bodies l.code) (thread_at l.machine t)).thread) (Some t)) l))
+    by_head : (o : Option ℕ) → head p.machine ≡ o → IfSome o (λ t. IsSweepable (after (leap_runs (flat_bodies l.code) (unit_length near l.machine.quantum (in_unit (flat_bodies l.code) (thread_at l.machine t)).thread) (Some t)) l))
     by_head None e = tt
     by_head (Some t) e =
         subst (λ (n : ℕ). IsSweepable (after (leap_runs (flat_bodies l.code) n (Some t)) l)) (as_long t e)

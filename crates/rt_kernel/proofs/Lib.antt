@@ -8,6 +8,7 @@ pub mod WholeTrace
 pub mod Opened
 pub mod Charged
 pub mod Lengths
+pub mod Nearer
 pub mod Taken
 pub mod LeapParts
 pub mod LeapCounts

@@ -20,7 +20,7 @@ ghost use Rattle.kernel_state.specs.Stood.{StoodRight};
 
 use crate::instant::do_instant;
 use crate::tick_ends::end_tick;
-use crate::units::{Reach, leap_unit};
+use crate::units::leap_unit;
 use kernel_signals::sweep;
 use kernel_state::Parts;
 use pse52_trace::Tracer;
@@ -34,7 +34,7 @@ use tick_num::Tid;
 fn leap_to_end<K: Sink, L: Ledger>(
     p: &mut Parts,
     t: Tid,
-    reach: Reach,
+    near: u64,
     out: &mut Tracer<'_, K>,
     steps: &mut Steps<L>,
 ) -> u64
@@ -42,26 +42,25 @@ fn leap_to_end<K: Sink, L: Ledger>(
     requires quiet { p.old.direct ≡ [] }
     requires stood { StoodRight p.old.machine }
     requires fits { FitsLeap (objects_in p.old) p.old.code p.old.machine t }
-    requires some { 1 ≤ reach.most }
-    requires early { p.old.machine.now + reach.most ≤ 10 ^ 18 }
-    ensures length { result ≡ unit_length reach p.old.machine.quantum (in_unit (flat_bodies p.old.code) (thread_at p.old.machine t)).thread }
+    requires early { p.old.machine.now + max 1 near ≤ 10 ^ 18 }
+    ensures length { result ≡ unit_length near p.old.machine.quantum (in_unit (flat_bodies p.old.code) (thread_at p.old.machine t)).thread }
     ensures state { p.new ≡ after (λ s. s ▷ unit_leapt (flat_bodies p.old.code) result s.machine t (in_unit (flat_bodies p.old.code) (thread_at s.machine t)) ▷ tick_ends (has_high (thread_at s.machine t).server) t) p.old }
     ensures told { Tells K.text K.faults p.old.names out.old out.new (told (λ s. s ▷ unit_leapt (flat_bodies p.old.code) result s.machine t (in_unit (flat_bodies p.old.code) (thread_at s.machine t)) ▷ tick_ends (has_high (thread_at s.machine t).server) t) p.old) }
     ensures stood { StoodRight p.new.machine }
     ensures step { steps.new ≡ steps.old + 1 }
 {
     let was_high = p.has_high(t);
-    let k = leap_unit(p, t, reach, out, steps);
+    let k = leap_unit(p, t, near, out, steps);
     end_tick(p, was_high, t, out);
     k
 }
 
-// So many ticks of a thread.
+// So many ticks of a thread, to the nearest due tick at most.
 #[inline(always)]
 fn leap_thread<K: Sink, L: Ledger>(
     p: &mut Parts,
     t: Tid,
-    reach: Reach,
+    near: u64,
     out: &mut Tracer<'_, K>,
     steps: &mut Steps<L>,
 ) -> u64
@@ -69,17 +68,16 @@ fn leap_thread<K: Sink, L: Ledger>(
     requires quiet { p.old.direct ≡ [] }
     requires stood { StoodRight p.old.machine }
     requires fits { FitsLeap (objects_in p.old) p.old.code p.old.machine t }
-    requires lands { IsSweepable (after (leap_runs (flat_bodies p.old.code) (unit_length reach p.old.machine.quantum (in_unit (flat_bodies p.old.code) (thread_at p.old.machine t)).thread) (Some t)) p.old) }
-    requires some { 1 ≤ reach.most }
-    requires early { p.old.machine.now + reach.most ≤ 10 ^ 18 }
-    ensures length { result ≡ unit_length reach p.old.machine.quantum (in_unit (flat_bodies p.old.code) (thread_at p.old.machine t)).thread }
+    requires lands { IsSweepable (after (leap_runs (flat_bodies p.old.code) (unit_length near p.old.machine.quantum (in_unit (flat_bodies p.old.code) (thread_at p.old.machine t)).thread) (Some t)) p.old) }
+    requires early { p.old.machine.now + max 1 near ≤ 10 ^ 18 }
+    ensures length { result ≡ unit_length near p.old.machine.quantum (in_unit (flat_bodies p.old.code) (thread_at p.old.machine t)).thread }
     ensures state { p.new ≡ after (leap_runs (flat_bodies p.old.code) result (Some t)) p.old }
     ensures told { Tells K.text K.faults p.old.names out.old out.new (told (leap_runs (flat_bodies p.old.code) result (Some t)) p.old) }
     ensures stood { StoodRight p.new.machine }
     ensures quiet { p.new.direct ≡ [] }
     ensures step { steps.new ≡ steps.old + 1 }
 {
-    let k = leap_to_end(p, t, reach, out, steps);
+    let k = leap_to_end(p, t, near, out, steps);
     sweep(p, out);
     k
 }
@@ -89,7 +87,7 @@ fn leap_thread<K: Sink, L: Ledger>(
 fn leap_runs<K: Sink, L: Ledger>(
     p: &mut Parts,
     to: &Option<Tid>,
-    reach: Reach,
+    near: u64,
     out: &mut Tracer<'_, K>,
     steps: &mut Steps<L>,
 ) -> u64
@@ -97,10 +95,9 @@ fn leap_runs<K: Sink, L: Ledger>(
     requires quiet { p.old.direct ≡ [] }
     requires stood { StoodRight p.old.machine }
     requires fits { IfSome to.now (λ t. FitsLeap (objects_in p.old) p.old.code p.old.machine t) }
-    requires lands { IfSome to.now (λ t. IsSweepable (after (leap_runs (flat_bodies p.old.code) (unit_length reach p.old.machine.quantum (in_unit (flat_bodies p.old.code) (thread_at p.old.machine t)).thread) (Some t)) p.old)) }
-    requires some { 1 ≤ reach.most }
-    requires early { p.old.machine.now + reach.most ≤ 10 ^ 18 }
-    ensures length { result ≡ run_length (flat_bodies p.old.code) reach to.now p.old.machine }
+    requires lands { IfSome to.now (λ t. IsSweepable (after (leap_runs (flat_bodies p.old.code) (unit_length near p.old.machine.quantum (in_unit (flat_bodies p.old.code) (thread_at p.old.machine t)).thread) (Some t)) p.old)) }
+    requires early { p.old.machine.now + max 1 near ≤ 10 ^ 18 }
+    ensures length { result ≡ run_length (flat_bodies p.old.code) near to.now p.old.machine }
     ensures state { p.new ≡ after (leap_runs (flat_bodies p.old.code) result to.now) p.old }
     ensures told { Tells K.text K.faults p.old.names out.old out.new (told (leap_runs (flat_bodies p.old.code) result to.now) p.old) }
     ensures stood { StoodRight p.new.machine }
@@ -109,11 +106,11 @@ fn leap_runs<K: Sink, L: Ledger>(
 {
     match to {
         None => {
-            let k = reach.most.min(reach.near).max(1);
+            let k = near.max(1);
             p.leap(&None, k, steps);
             k
         }
-        Some(t) => leap_thread(p, *t, reach, out, steps),
+        Some(t) => leap_thread(p, *t, near, out, steps),
     }
 }
 
@@ -140,7 +137,7 @@ fn leap_head<K: Sink, L: Ledger>(
 {
     let near = p.ticks_to_next(most);
     let to = p.dispatch(out);
-    leap_runs(p, &to, Reach { most, near }, out, steps)
+    leap_runs(p, &to, near, out, steps)
 }
 
 // The rest of a leap, which goes as far as it may where the process has ended.

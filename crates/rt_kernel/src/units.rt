@@ -30,39 +30,24 @@ use std::sync::ledger::Ledger;
 use step_counter::Steps;
 use tick_num::Tid;
 
-// How far a leap may go: to the horizon, and to the nearest due tick.
-#[derive(Clone, Copy)]
-pub(crate) struct Reach {
-    pub(crate) most: u64,
-    pub(crate) near: u64,
-}
-
-// The unit that a thread is in, with as many ticks of it charged as it runs by itself; and how many these are.
+// The unit that a thread is in, with as many ticks of it charged as it runs by itself, at most so many but one at least; and how many
+// these are.
 #[inline(always)]
-fn charge_unit<L: Ledger>(
-    p: &mut Parts,
-    t: Tid,
-    reach: Reach,
-    steps: &mut Steps<L>,
-) -> (Fetched, u64)
+fn charge_unit<L: Ledger>(p: &mut Parts, t: Tid, near: u64, steps: &mut Steps<L>) -> (Fetched, u64)
     requires known { t < length p.old.names }
     requires placed { ArePlaced p.old.code (thread_at p.old.machine t).frames }
     requires ends { (thread_at p.old.machine t).is_ending ≡ true → CanEnd (length p.old.code.cleanups) (thread_at p.old.machine t) }
     requires within { IsWithin p.old.machine.now (thread_at p.old.machine t) }
-    requires some { 1 ≤ reach.most }
-    requires early { p.old.machine.now + reach.most ≤ 10 ^ 18 }
+    requires early { p.old.machine.now + max 1 near ≤ 10 ^ 18 }
     ensures unit { unit_of p.old.code result.0 ≡ (in_unit (flat_bodies p.old.code) (thread_at p.old.machine t)).unit }
-    ensures length { result.1 ≡ unit_length reach p.old.machine.quantum (in_unit (flat_bodies p.old.code) (thread_at p.old.machine t)).thread }
+    ensures length { result.1 ≡ unit_length near p.old.machine.quantum (in_unit (flat_bodies p.old.code) (thread_at p.old.machine t)).thread }
     ensures state { p.new ≡ after (λ s. s ▷ changes t (λ th. after_ticks result.1 (in_unit (flat_bodies p.old.code) (thread_at p.old.machine t)).thread) ▷ becomes (later_by result.1)) p.old }
     ensures thread { thread_at p.new.machine t ≡ after_ticks result.1 (in_unit (flat_bodies p.old.code) (thread_at p.old.machine t)).thread }
-    ensures few { result.1 ≤ reach.most }
+    ensures few { result.1 ≤ max 1 near }
     ensures step { steps.new ≡ steps.old + 1 }
 {
     let unit = p.take_unit(t);
-    let k = reach
-        .most
-        .min(reach.near.min(p.lasts(t, reach.most)))
-        .max(1);
+    let k = near.min(p.lasts(t, near)).max(1);
     p.leap(&Some(t), k, steps);
     (unit, k)
 }
@@ -122,7 +107,7 @@ fn complete_at_end<K: Sink>(p: &mut Parts, t: Tid, unit: &Fetched, out: &mut Tra
 pub(crate) fn leap_unit<K: Sink, L: Ledger>(
     p: &mut Parts,
     t: Tid,
-    reach: Reach,
+    near: u64,
     out: &mut Tracer<'_, K>,
     steps: &mut Steps<L>,
 ) -> u64
@@ -130,15 +115,14 @@ pub(crate) fn leap_unit<K: Sink, L: Ledger>(
     requires quiet { p.old.direct ≡ [] }
     requires stood { StoodRight p.old.machine }
     requires fits { FitsLeap (objects_in p.old) p.old.code p.old.machine t }
-    requires some { 1 ≤ reach.most }
-    requires early { p.old.machine.now + reach.most ≤ 10 ^ 18 }
-    ensures length { result ≡ unit_length reach p.old.machine.quantum (in_unit (flat_bodies p.old.code) (thread_at p.old.machine t)).thread }
+    requires early { p.old.machine.now + max 1 near ≤ 10 ^ 18 }
+    ensures length { result ≡ unit_length near p.old.machine.quantum (in_unit (flat_bodies p.old.code) (thread_at p.old.machine t)).thread }
     ensures state { p.new ≡ after (λ s. s ▷ unit_leapt (flat_bodies p.old.code) result s.machine t (in_unit (flat_bodies p.old.code) (thread_at s.machine t))) p.old }
     ensures told { Tells K.text K.faults p.old.names out.old out.new (told (λ s. s ▷ unit_leapt (flat_bodies p.old.code) result s.machine t (in_unit (flat_bodies p.old.code) (thread_at s.machine t))) p.old) }
     ensures stood { StoodRight p.new.machine }
     ensures step { steps.new ≡ steps.old + 1 }
 {
-    let (unit, k) = charge_unit(p, t, reach, steps);
+    let (unit, k) = charge_unit(p, t, near, steps);
     complete_at_end(p, t, &unit, out);
     p.settle();
     k

@@ -22,7 +22,7 @@ pub sweep-requires-clause-early : goal.sweep-requires-clause-early
 sweep-requires-clause-early g c =
     let p = c.args.p.now in
     let now = unit_now p c.leap_to_end-k.new.p c.args.t c.leap_to_end-k.result c.leap_to_end-k.ensures.state in
-    let few = length_few p.machine.now c.args.reach c.requires.some c.requires.early p.machine.quantum (in_unit (flat_bodies p.code) (thread_at p.machine c.args.t)).thread in
+    let few = length_few p.machine.now c.args.near c.requires.early p.machine.quantum (in_unit (flat_bodies p.code) (thread_at p.machine c.args.t)).thread in
     let is = c.leap_to_end-k.ensures.length in
     let early = c.requires.early in
     omega (arith, now, few, is, early)

@@ -16,10 +16,10 @@ leap-requires-clause-room g c =
     let p = c.args.p.now in
     let before = thread_at p.machine c.args.t in
     let th = (in_unit (flat_bodies p.code) before).thread in
-    let is : c.max-k.result ≡ unit_length c.args.reach p.machine.quantum th = search rules in
+    let is : c.max-k.result ≡ unit_length c.args.near p.machine.quantum th = search rules in
     let within = within_unit (flat_bodies p.code) p.machine.now before c.requires.within in
     subst (λ (x : Thread Cursor). HasRoom c.max-k.result x) (sym c.take_unit-unit.ensures.thread)
-    (subst (λ (n : ℕ). HasRoom n th) (sym is) (room_for p.machine.now c.args.reach c.requires.some c.requires.early p.machine.quantum th within))
+    (subst (λ (n : ℕ). HasRoom n th) (sym is) (room_for p.machine.now c.args.near c.requires.early p.machine.quantum th within))
 
 pub returns-clause-state : goal.returns-clause-state
 returns-clause-state g c =
