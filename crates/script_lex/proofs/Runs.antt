@@ -57,8 +57,8 @@ one_more q xs n k so_far here room passed =
     elim (cases_lt k (prefix_len q xs)) [
       | inl more ↦ omega (arith, first)
       | inr none ↦
-        let is : prefix_len q xs ≡ k = omega (arith, first) in
-        absurd (clash (q (get_or xs k 0)) passed (ap (λ j. q (get_or xs j 0)) (sym is) ∙ prefix_len_stops q xs 0 (omega arith)))
+          let is : prefix_len q xs ≡ k = omega (arith, first) in
+          absurd (clash (q (get_or xs k 0)) passed (ap (λ j. q (get_or xs j 0)) (sym is) ∙ prefix_len_stops q xs 0 (omega arith)))
     ]
 
 pub ends_here : (q : ℕ → Bool) (xs : List ℕ) (n k : ℕ) → k ≤ prefix_len q (take n xs) → k < n → q (get_or xs k 0) ≡ false → k ≡ prefix_len q (take n xs)
