@@ -6,6 +6,7 @@
 
 mod line;
 mod lines;
+mod run;
 mod words;
 
 pub use line::Line;

@@ -1,28 +1,32 @@
 // The lines of a text, each with its number.
-ghost use Rattle.std.specs.Prelude.{◌≡◌, ◌≤◌, ◌<◌, ◌+◌, ◌∷◌, [], ◌==◌, not, length, MatchOption};
+ghost use Rattle.std.specs.Prelude.{◌≡◌, ◌≤◌, ◌<◌, ◌+◌, ◌∷◌, [], ◌==◌, not, length, take, MatchOption};
 ghost use Rattle.std.specs.List.{prefix_len};
 ghost use Rattle.script_lex.specs.Lines.{lines_of};
 
 use crate::Line;
+use crate::run::{Stop, run_len};
 use std::marker::Model;
 
 /// The greatest length of a text, in bytes.
 pub const MAX_TEXT: usize = 67_108_864;
 
 // How many bytes stand before the first line end.
+#[inline(always)]
 fn line_len(text: &[u8]) -> usize
     ensures len { result ≡ prefix_len (λ c. not (c == 10)) text.now }
     ensures bound { result ≤ length text.now }
 {
-    text.iter().take_while(|c| **c != b'\n').count()
+    run_len(Stop::LineEnd, text, text.len())
 }
 
 // The first line without its end, and what follows that end.
+#[inline(always)]
 fn first_line(text: &[u8]) -> (&[u8], &[u8])
     requires { 0 < length text.now }
     ensures lines { lines_of text.now ≡ result.0.now ∷ lines_of result.1.now }
     ensures shorter { length result.1.now < length text.now }
     ensures bound { length result.0.now ≤ length text.now }
+    ensures slice { result.0.now ≡ take (length result.0.now) text.now }
 {
     let len = line_len(text);
     if len < text.len() {
@@ -79,10 +83,15 @@ impl<'a> Lines<'a> {
         if self.rest.is_empty() {
             return None;
         }
-        let (bytes, rest) = first_line(self.rest);
+        let ahead = self.rest;
+        let (bytes, rest) = first_line(ahead);
         let number = self.number;
         self.rest = rest;
         self.number = number + 1;
-        Some(Line { number, bytes })
+        Some(Line {
+            number,
+            bytes,
+            ahead,
+        })
     }
 }

@@ -1,8 +1,9 @@
 // The words of a line, each with its place.
-ghost use Rattle.std.specs.Prelude.{◌≡◌, ◌≤◌, ◌+◌, ◌∷◌, [], ◌==◌, not, length, MatchOption, IfSome};
+ghost use Rattle.std.specs.Prelude.{◌≡◌, ◌≤◌, ◌+◌, ◌-◌, ◌∷◌, [], length, take, drop, MatchOption, IfSome};
 ghost use Rattle.std.specs.List.{prefix_len};
 ghost use Rattle.script_lex.specs.Words.{words_of, places_of, is_blank};
 
+use crate::run::{Stop, run_len};
 use std::marker::Model;
 
 /// A word of a line, and its place: the word is the slice of the line that begins at byte `at`. The
@@ -13,85 +14,98 @@ pub struct Word<'a> {
     pub at: u32,
 }
 
-// How many blanks stand first.
-fn blanks(line: &[u8]) -> usize
-    ensures len { result ≡ prefix_len is_blank line.now }
-    ensures bound { result ≤ length line.now }
+#[inline(always)]
+fn is_blank(byte: u8) -> bool
+    ensures { result ≡ is_blank byte }
 {
-    line.iter()
-        .take_while(|c| **c == b'\t' || **c == b' ')
-        .count()
+    byte == b'\t' || byte == b' '
 }
 
-// How many bytes that are no blanks stand first.
-fn word_len(line: &[u8]) -> usize
-    ensures len { result ≡ prefix_len (λ c. not (is_blank c)) line.now }
-    ensures bound { result ≤ length line.now }
+// How many of the first `len` bytes are blanks before any other.
+#[inline(always)]
+fn blanks(ahead: &[u8], len: usize) -> usize
+    requires { len ≤ length ahead.now }
+    ensures len { result ≡ prefix_len is_blank (take len ahead.now) }
+    ensures bound { result ≤ len }
 {
-    line.iter()
-        .take_while(|c| !(**c == b'\t' || **c == b' '))
-        .count()
+    let mut at = 0;
+    while at < len && is_blank(ahead[at]) {
+        at += 1;
+    }
+    at
 }
 
-// The first word of what stands at `at`, and what follows the word.
-fn first_word(line: &[u8], at: u32) -> Option<(Word<'_>, &[u8])>
-    requires { at + length line.now ≤ 67_108_864 }
-    ensures words { MatchOption result (words_of line.now ≡ [])
-        (λ r. words_of line.now ≡ r.0.bytes.now ∷ words_of r.1.now) }
+// The first word among the first `len` bytes, which stand at `at`, and how many bytes are passed with it.
+#[inline(always)]
+fn first_word(ahead: &[u8], len: usize, at: u32) -> Option<(Word<'_>, usize)>
+    requires room { len ≤ length ahead.now }
+    requires place { at + len ≤ 67_108_864 }
+    ensures words { MatchOption result (words_of (take len ahead.now) ≡ [])
+        (λ r. words_of (take len ahead.now) ≡ r.0.bytes.now ∷ words_of (take (len - r.1) (drop r.1 ahead.now))) }
     ensures places { IfSome result
-        (λ r. places_of at line.now ≡ r.0.at ∷ places_of (r.0.at + length r.0.bytes.now) r.1.now) }
-    ensures bound { IfSome result (λ r. r.0.at + length r.0.bytes.now + length r.1.now ≡ at + length line.now) }
+        (λ r. places_of at (take len ahead.now) ≡ r.0.at ∷ places_of (at + r.1) (take (len - r.1) (drop r.1 ahead.now))) }
+    ensures bound { IfSome result (λ r. r.1 ≤ len) }
 {
-    let start = blanks(line);
-    if start == line.len() {
+    let start = blanks(ahead, len);
+    if start == len {
         return None;
     }
-    let rest = &line[start..];
-    let len = word_len(rest);
+    let rest = &ahead[start..];
+    let count = run_len(Stop::Blank, rest, len - start);
     let word = Word {
-        bytes: &rest[..len],
+        bytes: &rest[..count],
         at: at + start as u32,
     };
-    Some((word, &rest[len..]))
+    Some((word, start + count))
 }
 
 /// The words of a line that are still ahead. Contracts see the list of them, and beside it the list
 /// of their places.
 #[derive(Drop)]
 pub struct Words<'a> {
-    rest: &'a [u8],
+    ahead: &'a [u8],
+    // How many of those bytes the words are of.
+    len: u32,
     at: u32,
 }
 
 impl<'a> Model for Words<'a> {
-    ghost use Rattle.std.specs.Prelude.{◌≤◌, ◌+◌, length};
+    ghost use Rattle.std.specs.Prelude.{◌≤◌, ◌+◌, length, take};
     ghost use Rattle.script_lex.specs.Words.{WordsAhead, words_of, places_of};
 
     ghost Value = { WordsAhead };
 
-    ghost view = { λ l. record { words = words_of l.rest.now; places = places_of l.at l.rest.now } };
+    ghost view = { λ l. record { words = words_of (take l.len l.ahead.now); places = places_of l.at (take l.len l.ahead.now) } };
 
-    ghost invariant = { λ l. l.at + length l.rest.now ≤ 67_108_864 };
+    ghost invariant = { λ l. (l.len ≤ length l.ahead.now) × (l.at + l.len ≤ 67_108_864) };
 }
 
 impl<'a> Words<'a> {
-    pub(crate) fn of(line: &'a [u8]) -> Words<'a>
-        requires { length line.now ≤ 67_108_864 }
-        ensures { result ≡ record { words = words_of line.now; places = places_of 0 line.now } }
+    // The words of the first `len` bytes.
+    #[inline(always)]
+    pub(crate) fn of(ahead: &'a [u8], len: usize) -> Words<'a>
+        requires { (len ≤ length ahead.now) × (len ≤ 67_108_864) }
+        ensures { result ≡ record { words = words_of (take len ahead.now); places = places_of 0 (take len ahead.now) } }
     {
-        Words { rest: line, at: 0 }
+        Words {
+            ahead,
+            len: len as u32,
+            at: 0,
+        }
     }
 
     /// The next word; `None` exactly after the last one, and then nothing changes.
+    #[inline(always)]
     pub fn next_word(&mut self) -> Option<Word<'a>>
         ensures word { MatchOption result (self.old.words ≡ []) (λ w. self.old.words ≡ w.bytes.now ∷ self.new.words) }
         ensures place { MatchOption result (self.new ≡ self.old) (λ w. self.old.places ≡ w.at ∷ self.new.places) }
     {
-        match first_word(self.rest, self.at) {
+        match first_word(self.ahead, self.len as usize, self.at) {
             None => None,
-            Some((word, rest)) => {
-                self.rest = rest;
-                self.at = word.at + word.bytes.len() as u32;
+            Some((word, passed)) => {
+                self.ahead = &self.ahead[passed..];
+                self.len -= passed as u32;
+                self.at += passed as u32;
                 Some(word)
             }
         }
@@ -102,7 +116,8 @@ impl<'a> Words<'a> {
         ensures { result ≡ self.now }
     {
         Words {
-            rest: self.rest,
+            ahead: self.ahead,
+            len: self.len,
             at: self.at,
         }
     }

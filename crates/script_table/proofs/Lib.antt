@@ -1,3 +1,4 @@
 pub mod Parts
 pub mod ThreeParts
 pub mod Rows
+pub mod KindOrder

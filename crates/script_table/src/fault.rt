@@ -99,6 +99,7 @@ impl fmt::Display for FaultKind {
 }
 
 // The lesser of two kinds.
+#[inline(never)]
 fn lesser(a: FaultKind, b: FaultKind) -> FaultKind
     ensures { result ≡ lesser a b }
 {
@@ -106,6 +107,7 @@ fn lesser(a: FaultKind, b: FaultKind) -> FaultKind
 }
 
 /// The least of a kind that may be there and of what follows it.
+#[inline(always)]
 pub fn lesser_first(first: Option<FaultKind>, rest: Option<FaultKind>) -> Option<FaultKind>
     ensures { result ≡ lesser_first first rest }
 {

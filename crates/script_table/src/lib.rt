@@ -13,7 +13,7 @@ pub use form::{
     ActionForm, BlockForm, BodyForm, CallForm, CloseForm, Form, MessageCall, MutexCall, ObjectForm,
     SemCall, SignalCall, StepForm, ThreadCall, TimeCall,
 };
-pub use line::{any_agrees, pattern_of, spelling_fault};
+pub use line::{any_agrees, fitting_pattern, pattern_of, spelling_fault};
 pub use pattern::{Bar, Closer, Opening, Pattern, Place, Table};
 pub use script_tree::NameKind;
 pub use table::patterns;

@@ -1,5 +1,6 @@
 // The pattern of a line.
 ghost use Rattle.std.specs.Prelude.{◌≡◌, ◌∷◌, [], map};
+ghost use Rattle.std.specs.Str.{bytes_eq};
 ghost use Rattle.std.specs.Option.{option_map};
 ghost use Rattle.script_table.specs.Faults.{least_kind};
 ghost use Rattle.script_table.specs.Patterns.{spot_of, row_of, rows_of};
@@ -12,11 +13,20 @@ use crate::{FaultKind, Pattern, Place, Table};
 use script_lex::Words;
 use script_tree::Name;
 
+// Most keywords have another length, and then no byte is looked at.
+#[inline(always)]
+fn is_keyword(word: &[u8], keyword: &[u8]) -> bool
+    ensures { result ≡ bytes_eq word.now keyword.now }
+{
+    word.len() == keyword.len() && word == keyword
+}
+
+#[inline(always)]
 fn stands(place: &Place, word: &[u8]) -> bool
     ensures { result ≡ stands (spot_of place.now) word.now }
 {
     match place {
-        Place::Keyword(keyword) => word == *keyword,
+        Place::Keyword(keyword) => is_keyword(word, keyword),
         Place::Answer => answer_of(word).is_some(),
         _ => true,
     }
@@ -37,16 +47,19 @@ fn agrees(places: &[Place], mut words: Words<'_>) -> bool
 fn fits(places: &[Place], mut words: Words<'_>) -> bool
     ensures { result ≡ fits (map spot_of places.now) words.entry.words }
 {
-    match places {
-        [] => words.next_word().is_none(),
-        [place, rest @ ..] => match words.next_word() {
-            None => false,
-            Some(word) => stands(place, word.bytes) && fits(rest, words),
-        },
+    for place in places {
+        let Some(word) = words.next_word() else {
+            return false;
+        };
+        if !stands(place, word.bytes) {
+            return false;
+        }
     }
+    words.next_word().is_none()
 }
 
 // The same, where the first word is known.
+#[inline(always)]
 fn fits_first(places: &[Place], first: &[u8], words: &Words<'_>) -> bool
     ensures { result ≡ fits (map spot_of places.now) (first.now ∷ words.now.words) }
 {
@@ -65,6 +78,7 @@ fn any_agrees_in(patterns: &[Pattern], words: &Words<'_>) -> bool
     }
 }
 
+#[inline(always)]
 fn fitting_in(
     patterns: &'static [Pattern],
     first: &[u8],
@@ -81,7 +95,8 @@ fn fitting_in(
     None
 }
 
-fn fitting_pattern(table: &Table, first: &[u8], words: &Words<'_>) -> Option<&'static Pattern>
+/// The same, where the first word is known, and `words` are those that follow it.
+pub fn fitting_pattern(table: &Table, first: &[u8], words: &Words<'_>) -> Option<&'static Pattern>
     ensures { option_map (λ p. row_of p.now) result ≡ fitting_row (rows_of table.now) (first.now ∷ words.now.words) }
 {
     if let Some(pattern) = fitting_in(table.declarations, first, words) {
@@ -145,14 +160,12 @@ fn spelling(place: &Place, word: &[u8]) -> Option<FaultKind>
 pub fn spelling_fault(places: &[Place], mut words: Words<'_>) -> Option<FaultKind>
     ensures { result ≡ least_kind (place_faults spelling (map spot_of places.now) words.entry.words) }
 {
-    match places {
-        [] => None,
-        [place, rest @ ..] => match words.next_word() {
-            None => None,
-            Some(word) => {
-                let here = spelling(place, word.bytes);
-                lesser_first(here, spelling_fault(rest, words))
-            }
-        },
+    let mut found = None;
+    for place in places {
+        let Some(word) = words.next_word() else {
+            return found;
+        };
+        found = lesser_first(found, spelling(place, word.bytes));
     }
+    found
 }

@@ -5,7 +5,7 @@ ghost use Rattle.std.specs.Option.{option_map};
 ghost use Rattle.script_tree.specs.Names.{is_digit};
 ghost use Rattle.script_table.specs.Words.{is_number, value_of, signal_number, signal_of, with_parts, parts_of, parts_ahead, set_of, answer_of, is_register};
 
-use tick_num::{Res, SigSet};
+use tick_num::{GREATEST_NUMBER, Res, SigSet};
 
 fn is_digit(byte: u8) -> bool
     ensures { result ≡ is_digit byte }
@@ -26,8 +26,34 @@ pub fn is_number(word: &[u8]) -> bool
     !word.is_empty() && are_digits(word)
 }
 
+// In 64 bits, for which a cap of the language's greatest number leaves room for one more digit.
+#[inline(always)]
+fn small_value(word: &[u8], high: u64) -> u64
+    requires { high ≤ 1_000_000_000_000_000_000 }
+    ensures { result ≡ min (high + 1) (value_of word.now) }
+{
+    let mut value = 0u64;
+    for c in word {
+        value = (value * 10 + c.saturating_sub(b'0') as u64).min(high + 1);
+    }
+    value
+}
+
 /// The value of digits, of which there may be any number, or `high + 1` where it is above `high`.
+#[inline(always)]
 pub fn capped_value(word: &[u8], high: u64) -> u128
+    ensures { result ≡ min (high + 1) (value_of word.now) }
+{
+    if high <= GREATEST_NUMBER {
+        small_value(word, high) as u128
+    } else {
+        wide_value(word, high)
+    }
+}
+
+// The same for any cap.
+#[inline(never)]
+fn wide_value(word: &[u8], high: u64) -> u128
     ensures { result ≡ min (high + 1) (value_of word.now) }
 {
     let mut value = 0u128;

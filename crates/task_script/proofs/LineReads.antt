@@ -14,7 +14,8 @@ use Rattle.script_table.specs.LineFaults.{faults_by, fitting_some}
 use Rattle.script_table.specs.Structure.{Open, Said, phase_one, line_faults, behind_line, behind, opened, opened_by, row_of_line, said_line, said_from, place_of_row, is_nil}
 use Rattle.task_script.specs.Ends.{EndsBy, answered}
 use Rattle.task_script.proofs.Least.{or_else}
-use Rattle.task_script.proofs.KindOrder.{least_kind-append, no_kind}
+use Rattle.script_table.proofs.KindOrder.{least_kind-append}
+use Rattle.task_script.proofs.KindOrder.{no_kind}
 use Rattle.task_script.proofs.PhaseOne.{least_from, least_end, said_end, said_more}
 
 pub clean_line : (rows : List Row) (blocks : Open) (line : List ℕ) (o : Option Row) (a b r : Option FaultKind) →

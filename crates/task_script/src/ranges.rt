@@ -41,16 +41,14 @@ fn range_fault(place: &Place, word: &[u8]) -> Option<FaultKind>
 fn place_fault(places: &[Place], mut words: Words<'_>) -> Option<FaultKind>
     ensures { result ≡ least_kind (place_faults range_fault (map spot_of places.now) words.entry.words) }
 {
-    match places {
-        [] => None,
-        [place, rest @ ..] => match words.next_word() {
-            None => None,
-            Some(word) => {
-                let here = range_fault(place, word.bytes);
-                lesser_first(here, place_fault(rest, words))
-            }
-        },
+    let mut found = None;
+    for place in places {
+        let Some(word) = words.next_word() else {
+            return found;
+        };
+        found = lesser_first(found, range_fault(place, word.bytes));
     }
+    found
 }
 
 fn sets_server(form: Form) -> bool

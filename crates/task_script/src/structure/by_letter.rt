@@ -6,7 +6,7 @@ ghost use Rattle.script_table.specs.LineFaults.{fitting_row, fitting_some};
 ghost use Rattle.task_script.specs.Narrowed.{begins, may_begin, Serves};
 
 use script_lex::Words;
-use script_table::{Pattern, Place, Table, pattern_of};
+use script_table::{Pattern, Place, Table, fitting_pattern};
 use std::alloc::{AllocError, Global};
 use std::marker::Model;
 
@@ -109,14 +109,12 @@ impl ByLetter {
         &self.table
     }
 
-    fn of_line(&self, words: &Words<'_>) -> &Table
-        ensures { fitting_some (rows_of result.now) words.now.words ≡ fitting_some self.now words.now.words }
+    // The table for a line that begins with this word.
+    #[inline(always)]
+    fn of_word(&self, word: &[u8]) -> &Table
+        ensures { (ws : List (List ℕ)) → fitting_row (rows_of result.now) (word.now ∷ ws) ≡ fitting_row self.now (word.now ∷ ws) }
     {
-        let mut rest = words.again();
-        let Some(first) = rest.next_word() else {
-            return &self.table;
-        };
-        match first.bytes {
+        match word {
             [] => &self.table,
             [byte, ..] => self.of_byte(*byte),
         }
@@ -126,6 +124,10 @@ impl ByLetter {
     pub(crate) fn pattern_of(&self, words: &Words<'_>) -> Option<&'static Pattern>
         ensures { option_map (λ p. row_of p.now) result ≡ fitting_some self.now words.now.words }
     {
-        pattern_of(self.of_line(words), words)
+        let mut rest = words.again();
+        match rest.next_word() {
+            None => None,
+            Some(first) => fitting_pattern(self.of_word(first.bytes), first.bytes, &rest),
+        }
     }
 }

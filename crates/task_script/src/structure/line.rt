@@ -48,23 +48,24 @@ fn here_fault(blocks: &Blocks, pattern: Option<&'static Pattern>) -> Option<Faul
     }
 }
 
-/// The least fault of phase 1 of a line whose pattern is known.
+/// The least fault of phase 1 of a line whose words and pattern are known.
 pub(crate) fn line_fault(
     table: &Table,
     line: &Line<'_>,
+    words: &Words<'_>,
     pattern: Option<&'static Pattern>,
     blocks: &Blocks,
 ) -> Option<FaultKind>
-    requires { option_map (λ p. row_of p.now) pattern
+    requires words { words.now.words ≡ line_words line.now.bytes.now }
+    requires pattern { option_map (λ p. row_of p.now) pattern
         ≡ fitting_some (rows_of table.now) (line_words line.now.bytes.now) }
     ensures { result ≡ least_kind (line_faults (rows_of table.now) (Some blocks.now) line.now.bytes.now) }
 {
     if line.has_bad_byte() {
         return Some(FaultKind::BadByte);
     }
-    let words = line.words();
     lesser_first(
-        words_fault(table, &words, pattern),
+        words_fault(table, words, pattern),
         here_fault(blocks, pattern),
     )
 }

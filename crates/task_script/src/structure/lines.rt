@@ -31,7 +31,7 @@ fn read_line<'a>(
 {
     let words = line.words();
     let pattern = patterns.pattern_of(&words);
-    if let Some(kind) = line_fault(patterns.table(), &line, pattern, blocks) {
+    if let Some(kind) = line_fault(patterns.table(), &line, &words, pattern, blocks) {
         return Err(ScriptEnd::Fault(line.number, kind));
     }
     match pattern {

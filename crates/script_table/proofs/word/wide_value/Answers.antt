@@ -1,6 +1,6 @@
 use Rattle.std.proofs.Common.{◌≡◌, ◌+◌, ◌*◌, ◌-◌, ℕ, min, arith}
 use Rattle.std.proofs.lemmas.List.Sums.{fold_more}
-use Rattle.script_table.proofs.word.capped_value.Goals as goal
+use Rattle.script_table.proofs.word.wide_value.Goals as goal
 
 step : (h v w d : ℕ) → w ≡ min (h + 1) v → min (w * 10 + d) (h + 1) ≡ min (h + 1) (v * 10 + d)
 step h v w d is = omega arith
