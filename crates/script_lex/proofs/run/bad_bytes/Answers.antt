@@ -1,4 +1,4 @@
-use Rattle.std.proofs.Common.{arith, refl, sym, ap, ◌∙◌}
+use Rattle.std.proofs.Common.{arith, refl}
 use Rattle.std.proofs.lemmas.Simd.{zip2_splat, zip2_splat_left}
 use lib.Bits.{bit_or, bit_and}
 use Rattle.script_lex.specs.Stops.{stops}

@@ -1,4 +1,4 @@
-use Rattle.std.proofs.Common.{◌≡◌, ◌-◌, ◌≤◌, not, take}
+use Rattle.std.proofs.Common.{◌-◌, ◌≤◌, not, take}
 use Rattle.std.specs.List.{prefix_len}
 use Rattle.script_lex.specs.Stops.{stops}
 use Rattle.script_lex.proofs.run.last_run.Given as goal

@@ -1,4 +1,4 @@
-use Rattle.std.proofs.Common.{◌≡◌, ◌-◌, ◌≤◌, take}
+use Rattle.std.proofs.Common.{◌-◌, ◌≤◌, take}
 use Rattle.std.specs.List.{prefix_len}
 use Rattle.script_lex.specs.Words.{is_blank}
 use Rattle.script_lex.proofs.words.blanks.Given as goal

@@ -1,4 +1,4 @@
-use Rattle.std.proofs.Common.{not, take, length, sym, ap, ◌∙◌, arith, ◌==◌}
+use Rattle.std.proofs.Common.{not, take, length, sym, ap, ◌∙◌, ◌==◌}
 use Rattle.std.specs.List.{prefix_len}
 use Rattle.std.proofs.lemmas.List.{take-take}
 use Rattle.script_lex.proofs.line.Line.comment_start.Goals as goal

@@ -1,4 +1,4 @@
-use Rattle.std.proofs.Common.{not, take, length, sym, ap, ◌∙◌}
+use Rattle.std.proofs.Common.{not, length, sym, ap, ◌∙◌}
 use Rattle.std.specs.Prelude.{nat_lt}
 use Rattle.std.specs.List.{prefix_len}
 use Rattle.script_lex.specs.Words.{is_allowed}
