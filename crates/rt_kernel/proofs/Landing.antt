@@ -7,7 +7,7 @@ use Rattle.script_flat.specs.declared.cursor.Cursor.{Cursor}
 use Rattle.machine_rules.specs.Agenda.{agenda}
 use Rattle.machine_rules.specs.Bodies.{Bodies}
 use Rattle.machine_rules.specs.Delivery.{sweeps}
-use Rattle.machine_rules.specs.Dispatch.{dispatches, head}
+use Rattle.machine_rules.specs.Dispatch.{dispatch_of, dispatches, head}
 use Rattle.machine_rules.specs.DueItems.{handles, instant, item_done, items_done, next_item}
 use Rattle.machine_rules.specs.Runs.{Ran, ticks}
 use Rattle.machine_rules.specs.Servers.{has_high}
@@ -86,6 +86,11 @@ unit_now p l t k state =
     let was_high = has_high (thread_at s.machine t).server in
     ap (λ (x : Kernel). x.machine.now) state ∙ tick_ends_now was_high t (unit_leapt bodies k s.machine t taken s) ∙ completes_now bodies (top_left (thread_at charged.machine t).frames) t taken.unit charged
 
+-- the dispatch leaves how long it runs
+last_aside : (p : Kernel) (near : ℕ) (o to : Option ℕ) → run_length (flat_bodies p.code) near o (record p.machine { last = dispatch_of to }) ≡ run_length (flat_bodies p.code) near o p.machine
+last_aside p near None to = refl
+last_aside p near (Some t) to = refl
+
 -- as long as the head may run is as long as what the dispatch gave the processor to runs after it
 pub head_long : (p l : Kernel) (most near : ℕ) (to : Option ℕ) → to ≡ head p.machine → l ≡ after (dispatches (head p.machine)) p → near ≡ ticks_to_next most p.machine.now (agenda p.machine) →
     run_length (flat_bodies l.code) near to l.machine ≡ length_from (flat_bodies p.code) None most p.machine
@@ -95,6 +100,7 @@ head_long p l most near to top state is_near =
     ap (λ (o : Option ℕ). long o near l) top
     ∙ ap (long h near) state
     ∙ ap (λ (m : Machine Cursor). long h near (record p { machine = m })) (dispatched h (turn p))
+    ∙ last_aside p near h h
     ∙ ap (λ (n : ℕ). long h n p) is_near
     ∙ sym (length_near (flat_bodies p.code) most p.machine)
 

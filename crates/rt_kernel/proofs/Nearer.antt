@@ -1,5 +1,5 @@
 -- A leap that may go to the nearest due tick is as long as one that may go to the horizon: no due tick is further than that.
-use Rattle.std.proofs.Common.{◌≡◌, ◌≤◌, ℕ, Bool, true, false, Option, None, Some, List, [], ◌∷◌, arith, ap, refl}
+use Rattle.std.proofs.Common.{◌≡◌, ◌≤◌, ℕ, Bool, true, false, Option, None, Some, List, [], ◌∷◌, arith, ap, refl, sym, ◌∙◌}
 use Rattle.std.specs.Prelude.{max, min, if◌then◌else◌}
 use Rattle.script_tree.specs.declared.policy.Policy.{Policy}
 use Rattle.script_tree.specs.declared.policy.Policy.TheVariants as policy
@@ -18,6 +18,16 @@ pub nearest : (most now : ℕ) (comings : List Coming) → ticks_to_next most no
 nearest most now [] = omega arith
 nearest most now (c ∷ comings) = let rest = nearest most now comings in omega (arith, rest)
 
+-- the least of three numbers, none of them above a fourth
+min_swap : (n l x : ℕ) → min n (min l x) ≡ min l (min n x)
+min_swap n l x = omega arith
+
+min_both : (n a c : ℕ) → min n (min a c) ≡ min (min n a) (min n c)
+min_both n a c = omega arith
+
+least_of_near : (n l a c : ℕ) → min n (min l (min a c)) ≡ min l (min (min n a) (min n c))
+least_of_near n l a c = min_swap n l (min a c) ∙ ap (min l) (min_both n a c)
+
 module _ (most near : ℕ) (within : near ≤ most) where
   at_most : min near most ≡ min near near
   at_most = omega (arith, within)
@@ -35,9 +45,17 @@ module _ (most near : ℕ) (within : near ≤ most) where
       by_high true = refl
       by_high false = at_most
 
+  within_both : (x : ℕ) → min most (min near x) ≡ min near x
+  within_both x = omega (arith, within)
+
   least_near : (left a b c d : ℕ) → min near a ≡ min near b → min near c ≡ min near d →
       min most (min near (min left (min a c))) ≡ min near (min left (min b d))
-  least_near left a b c d one other = omega (arith, within, one, other)
+  least_near left a b c d one other =
+      within_both (min left (min a c))
+      ∙ least_of_near near left a c
+      ∙ ap (λ (x : ℕ). min left (min x (min near c))) one
+      ∙ ap (λ (x : ℕ). min left (min (min near b) x)) other
+      ∙ sym (least_of_near near left b d)
 
   lasts_near : (quantum : ℕ) (th : Thread Cursor) → min most (min near (thread_lasts most quantum th)) ≡ min near (thread_lasts near quantum th)
   lasts_near quantum th =
