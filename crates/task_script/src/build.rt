@@ -10,7 +10,7 @@ ghost use Rattle.script_table.specs.Operands.{number_in};
 ghost use Rattle.script_table.specs.Calls.{call_of};
 ghost use Rattle.script_table.specs.Build.{Opened, Built, put_step, with_decl, with_step, close_one, closed, opens, after_form, after, nothing_built, built_from, script_of_built, script_of};
 
-use crate::names::Names;
+use crate::names::NameIndex;
 use crate::operands::number_in;
 use crate::structure::statement::Statement;
 use crate::{Body, Decl, Decls, Script, Step};
@@ -128,7 +128,7 @@ impl<'a> Builder<'a> {
 
     fn close_one(
         &mut self,
-        names: &Names<'_>,
+        names: &NameIndex<'_>,
         run: bool,
         form: Form,
         words: &Words<'_>,
@@ -143,7 +143,7 @@ impl<'a> Builder<'a> {
         }
     }
 
-    fn close(&mut self, names: &Names<'_>, run: bool) -> Result<(), AllocError>
+    fn close(&mut self, names: &NameIndex<'_>, run: bool) -> Result<(), AllocError>
         ensures { IfOk result (λ _. self.new ≡ closed names.now self.old run self.old.blocks) }
     {
         match self.pop() {
@@ -167,7 +167,7 @@ impl<'a> Builder<'a> {
 
     fn make(
         &mut self,
-        names: &Names<'_>,
+        names: &NameIndex<'_>,
         form: CallForm,
         words: &Words<'_>,
     ) -> Result<(), AllocError>
@@ -183,7 +183,7 @@ impl<'a> Builder<'a> {
     fn take(
         &mut self,
         alloc: Global,
-        names: &Names<'_>,
+        names: &NameIndex<'_>,
         s: &Statement<'a>,
     ) -> Result<(), AllocError>
         ensures { IfOk result (λ _. self.new ≡ after names.now self.old s.now) }
@@ -208,7 +208,7 @@ impl<'a> Builder<'a> {
 /// The script that the statements say.
 pub(crate) fn script_of(
     alloc: Global,
-    names: &Names<'_>,
+    names: &NameIndex<'_>,
     statements: &[Statement<'_>],
 ) -> Result<Script, AllocError>
     ensures { IfOk result (λ s. s ≡ script_of names.now statements.now) }

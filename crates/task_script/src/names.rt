@@ -24,12 +24,12 @@ pub(crate) struct Declaration {
 
 /// The names that lines declare, in order of declaration. Contracts see the list of them.
 #[derive(Drop)]
-pub(crate) struct Names<'a> {
+pub(crate) struct NameIndex<'a> {
     index: IndexMap<&'a [u8], Declaration>,
     counts: Counts,
 }
 
-impl<'a> Model for Names<'a> {
+impl<'a> Model for NameIndex<'a> {
     ghost use Rattle.std.specs.Prelude.{◌≡◌, List, map};
     ghost use Rattle.script_table.specs.Names.{Entry, counts_from, no_counts};
     ghost use Rattle.task_script.specs.NameMap.{entry_of_pair};
@@ -41,11 +41,11 @@ impl<'a> Model for Names<'a> {
     ghost invariant = { λ n. n.counts ≡ counts_from no_counts (map entry_of_pair n.index.entries) };
 }
 
-impl<'a> Names<'a> {
-    pub(crate) fn new(alloc: Global) -> Names<'a>
+impl<'a> NameIndex<'a> {
+    pub(crate) fn new(alloc: Global) -> NameIndex<'a>
         ensures { result ≡ [] }
     {
-        Names {
+        NameIndex {
             index: IndexMap::new(alloc),
             counts: Counts::new(),
         }

@@ -4,7 +4,7 @@ ghost use Rattle.script_table.specs.Ranges.{word, capped_number_at, is_within};
 ghost use Rattle.script_table.specs.Operands.{number_in, amount_at, priority_at, operand_at, signal_at, signals_at, answer_at, name_at, named_at, server_of, server_at, fifo_at, rr_at, sporadic_at};
 ghost use Rattle.script_tree.specs.declared.name_kind.NameKind.TheVariants as kind;
 
-use crate::names::Names;
+use crate::names::NameIndex;
 use crate::{Name, Operand, Policy};
 use script_lex::Words;
 use script_table::{NameKind, answer_of, capped_value, is_register, set_of, signal_of};
@@ -102,7 +102,7 @@ pub(crate) fn name(k: usize, words: &Words<'_>) -> Option<Name>
     Name::try_new(word(k, words))
 }
 
-pub(crate) fn thread(names: &Names<'_>, k: usize, words: &Words<'_>) -> Option<Tid>
+pub(crate) fn thread(names: &NameIndex<'_>, k: usize, words: &Words<'_>) -> Option<Tid>
     ensures { result ≡ named_at kind.Thread names.now k words.now.words }
 {
     match names.number_of(NameKind::Thread, word(k, words)) {
@@ -113,7 +113,7 @@ pub(crate) fn thread(names: &Names<'_>, k: usize, words: &Words<'_>) -> Option<T
 
 pub(crate) fn object(
     kind: NameKind,
-    names: &Names<'_>,
+    names: &NameIndex<'_>,
     k: usize,
     words: &Words<'_>,
 ) -> Option<ObjId>

@@ -3,7 +3,7 @@ ghost use Rattle.std.specs.Prelude.{◌≡◌};
 ghost use Rattle.script_table.specs.Calls.{thread_call, mutex_call, sem_call, time_call, signal_call, message_call, call_of};
 
 use crate::Call;
-use crate::names::Names;
+use crate::names::NameIndex;
 use crate::operands::{
     amount, fifo, number_in, object, operand, priority, rr, signal, signals, sporadic, thread,
 };
@@ -12,7 +12,7 @@ use script_table::{
     CallForm, MessageCall, MutexCall, NameKind, SemCall, SignalCall, ThreadCall, TimeCall,
 };
 
-fn thread_call(names: &Names<'_>, form: ThreadCall, words: &Words<'_>) -> Option<Call>
+fn thread_call(names: &NameIndex<'_>, form: ThreadCall, words: &Words<'_>) -> Option<Call>
     ensures { result ≡ thread_call names.now form words.now.words }
 {
     Some(match form {
@@ -31,7 +31,7 @@ fn thread_call(names: &Names<'_>, form: ThreadCall, words: &Words<'_>) -> Option
     })
 }
 
-fn mutex_call(names: &Names<'_>, form: MutexCall, words: &Words<'_>) -> Option<Call>
+fn mutex_call(names: &NameIndex<'_>, form: MutexCall, words: &Words<'_>) -> Option<Call>
     ensures { result ≡ mutex_call names.now form words.now.words }
 {
     Some(match form {
@@ -56,7 +56,7 @@ fn mutex_call(names: &Names<'_>, form: MutexCall, words: &Words<'_>) -> Option<C
     })
 }
 
-fn sem_call(names: &Names<'_>, form: SemCall, words: &Words<'_>) -> Option<Call>
+fn sem_call(names: &NameIndex<'_>, form: SemCall, words: &Words<'_>) -> Option<Call>
     ensures { result ≡ sem_call names.now form words.now.words }
 {
     let sem = object(NameKind::Sem, names, 1, words)?;
@@ -72,7 +72,7 @@ fn sem_call(names: &Names<'_>, form: SemCall, words: &Words<'_>) -> Option<Call>
     })
 }
 
-fn time_call(names: &Names<'_>, form: TimeCall, words: &Words<'_>) -> Option<Call>
+fn time_call(names: &NameIndex<'_>, form: TimeCall, words: &Words<'_>) -> Option<Call>
     ensures { result ≡ time_call names.now form words.now.words }
 {
     Some(match form {
@@ -101,7 +101,7 @@ fn time_call(names: &Names<'_>, form: TimeCall, words: &Words<'_>) -> Option<Cal
     })
 }
 
-fn signal_call(names: &Names<'_>, form: SignalCall, words: &Words<'_>) -> Option<Call>
+fn signal_call(names: &NameIndex<'_>, form: SignalCall, words: &Words<'_>) -> Option<Call>
     ensures { result ≡ signal_call names.now form words.now.words }
 {
     Some(match form {
@@ -116,7 +116,7 @@ fn signal_call(names: &Names<'_>, form: SignalCall, words: &Words<'_>) -> Option
     })
 }
 
-fn message_call(names: &Names<'_>, form: MessageCall, words: &Words<'_>) -> Option<Call>
+fn message_call(names: &NameIndex<'_>, form: MessageCall, words: &Words<'_>) -> Option<Call>
     ensures { result ≡ message_call names.now form words.now.words }
 {
     let queue = object(NameKind::Queue, names, 1, words)?;
@@ -144,7 +144,7 @@ fn message_call(names: &Names<'_>, form: MessageCall, words: &Words<'_>) -> Opti
 }
 
 /// The call that a line of this form makes.
-pub(crate) fn call_of(names: &Names<'_>, form: CallForm, words: &Words<'_>) -> Option<Call>
+pub(crate) fn call_of(names: &NameIndex<'_>, form: CallForm, words: &Words<'_>) -> Option<Call>
     ensures { result ≡ call_of names.now form words.now.words }
 {
     match form {

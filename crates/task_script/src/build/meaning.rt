@@ -2,7 +2,7 @@
 ghost use Rattle.std.specs.Prelude.{◌≡◌};
 ghost use Rattle.script_table.specs.Meaning.{kind_of_object, object_decl, action_decl, kind_of_body, body_decl, plain_step, runs_cleanup, block_step};
 
-use crate::names::Names;
+use crate::names::NameIndex;
 use crate::operands::{
     amount, answer, fifo, name, number_in, object, priority, rr, signal, sporadic,
 };
@@ -67,7 +67,11 @@ pub(crate) fn object_decl(form: ObjectForm, words: &Words<'_>) -> Option<Decl>
     Some(Decl::Named(name, kind_of_object(form, words)?))
 }
 
-pub(crate) fn action_decl(names: &Names<'_>, form: ActionForm, words: &Words<'_>) -> Option<Decl>
+pub(crate) fn action_decl(
+    names: &NameIndex<'_>,
+    form: ActionForm,
+    words: &Words<'_>,
+) -> Option<Decl>
     ensures { result ≡ action_decl names.now form words.now.words }
 {
     let sig = signal(1, words)?;
@@ -125,7 +129,7 @@ pub(crate) fn runs_cleanup(form: CloseForm) -> bool
 }
 
 pub(crate) fn block_step(
-    names: &Names<'_>,
+    names: &NameIndex<'_>,
     form: BlockForm,
     words: &Words<'_>,
     run: bool,

@@ -11,7 +11,7 @@ ghost use Rattle.task_script.specs.Ends.{answered};
 ghost use Rattle.task_script.specs.Naming.{declares, is_named};
 
 use crate::ScriptEnd;
-use crate::names::Names;
+use crate::names::NameIndex;
 use crate::structure::statement::Statement;
 use script_lex::Words;
 use script_table::{FaultKind, NameKind, Place, lesser_first};
@@ -61,8 +61,8 @@ fn any_is_named(places: &[Place]) -> bool
 /// All names, and the signals that have an action.
 #[derive(Drop)]
 pub(crate) struct Declared<'a> {
-    names: Names<'a>,
-    actions: Names<'a>,
+    names: NameIndex<'a>,
+    actions: NameIndex<'a>,
 }
 
 impl<'a> Model for Declared<'a> {
@@ -78,12 +78,12 @@ impl<'a> Declared<'a> {
         ensures { result ≡ nothing_declared }
     {
         Declared {
-            names: Names::new(alloc),
-            actions: Names::new(alloc),
+            names: NameIndex::new(alloc),
+            actions: NameIndex::new(alloc),
         }
     }
 
-    pub(crate) fn names(&self) -> &Names<'a>
+    pub(crate) fn names(&self) -> &NameIndex<'a>
         ensures { result.now ≡ self.now.names }
     {
         &self.names

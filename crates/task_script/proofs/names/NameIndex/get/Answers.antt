@@ -3,7 +3,7 @@ use Rattle.std.specs.Option.{option_map}
 use Rattle.script_table.specs.Names.{entry_of}
 use Rattle.task_script.specs.NameMap.{entry_named}
 use Rattle.task_script.proofs.NameEntries.{found}
-use Rattle.task_script.proofs.names.Names.get.Goals as goal
+use Rattle.task_script.proofs.names.NameIndex.get.Goals as goal
 
 pub returns : goal.returns
 returns c =

@@ -8,8 +8,8 @@ use Rattle.task_script.specs.declared.names.Declaration.{Declaration}
 use Rattle.task_script.specs.NameMap.{entry_named, entry_of_pair}
 use Rattle.task_script.proofs.Bounded.{count_fits}
 use Rattle.task_script.proofs.NameEntries.{absent, added, taken_in, counts_more}
-use Rattle.task_script.proofs.names.Names.add.Goals as goal
-use Rattle.task_script.proofs.names.Names.add.Goals.{In_ok-insert}
+use Rattle.task_script.proofs.names.NameIndex.add.Goals as goal
+use Rattle.task_script.proofs.names.NameIndex.add.Goals.{In_ok-insert}
 
 pub add-requires : goal.add-requires
 add-requires c =
