@@ -5,7 +5,7 @@ ghost use Rattle.script_tree.specs.Tree.{step_count};
 ghost use Rattle.script_flat.specs.Flat.{nesting};
 ghost use Rattle.script_flat.specs.Stands.{IsBody, IsPlaced};
 
-use script_flat::{Code, Cursor, Unit};
+use script_flat::{Code, Cursor, Fetched};
 use script_tree::{Body, Call, Decl, Decls, Kind, Name, Policy, Script, Step};
 use std::alloc::Global;
 use std::test::Fail;
@@ -43,15 +43,21 @@ fn code_of(alloc: Global, thread: Body, handler: Body, cleanup: Body) -> Result<
 }
 
 // What a unit is: its word, and the ticks that it runs or whether it runs a cleanup handler.
-fn said(unit: &Unit) -> (&'static str, u64) {
+fn said(code: &Code, unit: &Fetched) -> (&'static str, u64) {
     match unit {
-        Unit::Run(ticks) => ("run", *ticks),
-        Unit::Make(Call::Yield) => ("yield", 0),
-        Unit::Make(Call::Push(_)) => ("push", 0),
-        Unit::Make(Call::Pop(run)) => ("pop", u64::from(*run)),
-        Unit::Make(_) => ("another call", 0),
-        Unit::Jump => ("jump", 0),
-        Unit::Finish => ("finish", 0),
+        Fetched::Run(ticks) => ("run", *ticks),
+        Fetched::Make(place) => said_of_call(&code.call(place)),
+        Fetched::Jump => ("jump", 0),
+        Fetched::Finish => ("finish", 0),
+    }
+}
+
+fn said_of_call(call: &Call) -> (&'static str, u64) {
+    match call {
+        Call::Yield => ("yield", 0),
+        Call::Push(_) => ("push", 0),
+        Call::Pop(run) => ("pop", u64::from(*run)),
+        _ => ("another call", 0),
     }
 }
 
@@ -70,7 +76,7 @@ fn units(
     let mut units = Vec::new(alloc);
     for _ in 0..count {
         let unit = code.fetch(&mut cursor);
-        units.push(said(&unit))?;
+        units.push(said(code, &unit))?;
         cursor.result = answer;
         cursor.value = value;
     }
