@@ -72,6 +72,16 @@ print(f"0 idle\\n{sys.argv[-1]} end\\nthread a ticks {zlib.crc32(text) % 1000}")
 """
 
 
+# The same, but it goes on only when `long` is at most what the file `limit` beside it says, so that a sweep is not over before it is killed.
+LIMITED = SLOW.replace("import sys, time, zlib", "import pathlib, re, sys, time, zlib").replace(
+    "time.sleep(zlib", """\
+limit = pathlib.Path(__file__).parent / "limit"
+while int(re.search(rb"run (\\d+)", text)[1]) > int(limit.read_text()):
+    time.sleep(0.02)
+time.sleep(zlib"""
+)
+
+
 # Prints the idle trace. The first to come kills what WHOM says: itself, or the job that started it.
 KILLER = """\
 import os, pathlib, signal, sys
@@ -154,9 +164,10 @@ class Sweeps(Folder):
 
     def test_a_sweep_that_is_killed_goes_on(self) -> None:
         self.write(TOML.replace("[2, 5, 0]", "{ from = 1, to = 20 }"))
-        program = self.program(SLOW)
+        program = self.program(LIMITED)
         words = self.words("--jobs", "2", program=program)
-        for how in (signal.SIGKILL, signal.SIGINT, signal.SIGTERM):
+        for round, how in enumerate((signal.SIGKILL, signal.SIGINT, signal.SIGTERM), 1):
+            (self.folder / "limit").write_text(str(4 * round))
             started = subprocess.Popen(words, stdout=subprocess.DEVNULL, stderr=subprocess.DEVNULL)
             rows = self.folder / "two.rows"
             before = rows.read_text().count("\n") if rows.exists() else 1
@@ -168,6 +179,7 @@ class Sweeps(Folder):
             self.assertEqual(started.wait(), -how if how == signal.SIGKILL else 130)
             self.assertGreater(rows.read_text().count("\n"), before + 4)
             time.sleep(0.3)
+        (self.folder / "limit").write_text("20")
         with rows.open("a") as file:
             file.write('[3, ["half a li')
         ended = self.sweep("--jobs", "2", program=program)
