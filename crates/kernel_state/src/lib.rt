@@ -3,6 +3,7 @@
 
 mod changes;
 mod conditions;
+mod direct;
 mod dispatch;
 mod due;
 mod leaps;

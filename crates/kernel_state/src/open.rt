@@ -9,7 +9,7 @@ ghost use Rattle.kernel_state.specs.Settled.{HavePriorities};
 
 use crate::named::Named;
 use crate::parts::Parts;
-use arrayvec::ArrayVec;
+use crate::direct::Direct;
 use machine_rules::LastDispatch;
 use message_queues::Queues;
 use pse52_trace::Names;
@@ -89,7 +89,7 @@ impl Parts {
             last: LastDispatch::NoTick,
             next_serial: 0,
             killed: None,
-            direct: ArrayVec::new(),
+            direct: Direct::none(),
             named: Named::none(),
         })
     }

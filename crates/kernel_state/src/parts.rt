@@ -8,7 +8,7 @@ ghost use Rattle.kernel_state.specs.Kernel.{after, ran, told};
 ghost use Rattle.std.specs.Prelude.{Some, is_some};
 
 use crate::named::Named;
-use arrayvec::ArrayVec;
+use crate::direct::Direct;
 use machine_rules::LastDispatch;
 use message_queues::Queues;
 use pse52_trace::{Event, Names, Tracer};
@@ -38,7 +38,8 @@ pub struct Parts {
     pub(crate) last: LastDispatch,
     pub(crate) next_serial: u64,
     pub(crate) killed: Option<u8>,
-    pub(crate) direct: ArrayVec<Tid, 256>,
+    // those that become the tail of their list at the next settling, in order
+    pub(crate) direct: Direct,
     // those that may not stand where they are to stand; the others do
     pub(crate) named: Named,
 }
@@ -105,7 +106,7 @@ impl Parts {
         ensures value { result ≡ slice_index self.now.direct i }
         ensures known { result < length self.now.names }
     {
-        self.direct[i]
+        self.direct.get(i)
     }
 
     pub fn clear_direct(&mut self)

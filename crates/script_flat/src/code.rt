@@ -199,9 +199,17 @@ fn search(ops: &[Op], at: &mut Cursor) -> Fetched
     while let Some(op) = ops.get(at.pc as usize) {
         let number = at.pc;
         at.pc += 1;
-        match at.carry_out(op) {
-            Effect::Gives(unit) => return Fetched::of(&unit, body, number),
-            Effect::Skips(skip) => at.pc += skip,
+        match op {
+            Op::Run(n) => return Fetched::Run(*n),
+            Op::Make(_) => return Fetched::Make(CallPlace { body, op: number }),
+            Op::Again { first } => {
+                at.pc = *first;
+                return Fetched::Jump;
+            }
+            _ => match at.carry_out(op) {
+                Effect::Gives(unit) => return Fetched::of(&unit, body, number),
+                Effect::Skips(skip) => at.pc += skip,
+            },
         }
     }
     Fetched::Finish

@@ -158,7 +158,11 @@ impl Table {
         ensures thread { thread_in self.new.threads t ≡ after_ticks k (thread_in self.old.threads t) }
         ensures moved { TellsMoved self.old self.new result }
     {
+        let was_high = self.threads.get(t).has_high();
         self.threads.get_mut(t).charge(k);
+        if !was_high {
+            return None;
+        }
         thread_of(reassign(&self.threads, &mut self.chain, &mut self.waits, t))
     }
 }

@@ -13,7 +13,7 @@ invariant_of-self c =
     let f : Thread Cursor → Thread Cursor = put_to_wait (waiting_of c.args.waiting) in
     let known = rw (← c.self.view_is) at c.requires.known in
     record {
-      tied = tied_again s.names s.code s.ready.threads s.table.threads w.new.self.threads s.direct.items (as_many s.table w.new.self c.args.t f w.ensures.table) c.self.invariant.tied;
+      tied = tied_again s.names s.code s.ready.threads s.table.threads w.new.self.threads s.direct (as_many s.table w.new.self c.args.t f w.ensures.table) c.self.invariant.tied;
       stand = self_thread s.table w.new.self s.ready.lists s.named.bits c.args.t f w.ensures.table c.self.invariant.stand c.add.new.self.bits c.take_in.new.self.bits w.result
           (omega (arith, known, c.self.invariant.tied.named)) c.add.ensures c.take_in.ensures (told_there s.table w.new.self w.result w.ensures.moved) (told_keeps c.args.t s.table w.new.self w.result w.ensures.moved);
     }

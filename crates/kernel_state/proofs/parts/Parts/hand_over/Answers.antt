@@ -13,7 +13,7 @@ invariant_of-self c =
     let f : Thread Cursor → Thread Cursor = woken c.args.res 0 in
     let known = rw (← c.self.view_is) at c.requires.known in
     record {
-      tied = tied_again s.names s.code s.ready.threads s.table.threads w.new.self.threads s.direct.items (handed_many s.table w.new.self c.args.k c.args.t (taken_by c.args.t) f w.ensures.table) c.self.invariant.tied;
+      tied = tied_again s.names s.code s.ready.threads s.table.threads w.new.self.threads s.direct (handed_many s.table w.new.self c.args.k c.args.t (taken_by c.args.t) f w.ensures.table) c.self.invariant.tied;
       stand = handed_named s.table w.new.self c.args.k c.args.t (taken_by c.args.t) f w.ensures.table s.ready.lists s.named.bits c.add.new.self.bits c.take_in.new.self.bits c.take_in-2.new.self.bits
           w.result.0 w.result.1 c.self.invariant.stand (omega (arith, known, c.self.invariant.tied.named)) c.add.ensures c.take_in.ensures c.take_in-2.ensures
           (released_there s.table w.new.self c.args.k c.args.t (taken_by c.args.t) f w.ensures.table freed w.result.0 w.ensures.released)

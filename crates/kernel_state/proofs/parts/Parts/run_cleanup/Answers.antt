@@ -13,6 +13,6 @@ invariant_of-self c =
     let w = c.run_cleanup in
     let f : Thread Cursor → Thread Cursor = on_top (new_frame (flat_bodies s.code) kind.Cleanup (body_of.Cleanup c.args.u) 0) in
     record {
-      tied = tied_again s.names s.code s.ready.threads s.table.threads w.new.self.threads s.direct.items (as_many s.table w.new.self c.args.t f w.ensures.table) c.self.invariant.tied;
+      tied = tied_again s.names s.code s.ready.threads s.table.threads w.new.self.threads s.direct (as_many s.table w.new.self c.args.t f w.ensures.table) c.self.invariant.tied;
       stand = none_thread s.table w.new.self s.ready.lists s.named.bits c.args.t f w.ensures.table c.self.invariant.stand (λ th h. h) w.ensures.same;
     }

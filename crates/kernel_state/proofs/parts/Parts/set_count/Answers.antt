@@ -9,6 +9,6 @@ invariant_of-self c =
     let s = c.self.inside in
     let w = c.set_count in
     record {
-      tied = tied_again s.names s.code s.ready.threads s.table.threads w.new.self.threads s.direct.items (ap (λ (x : Table). length x.threads) w.ensures.table) c.self.invariant.tied;
+      tied = tied_again s.names s.code s.ready.threads s.table.threads w.new.self.threads s.direct (ap (λ (x : Table). length x.threads) w.ensures.table) c.self.invariant.tied;
       stand = none_mutex s.table w.new.self s.ready.lists s.named.bits c.args.k (counted c.args.n) w.ensures.table w.ensures.same c.self.invariant.stand;
     }

@@ -11,6 +11,6 @@ invariant_of-self c =
     let w = c.set_joiner in
     let f : Thread Cursor → Thread Cursor = with_joiner (joiner_of c.args.joiner) in
     record {
-      tied = tied_again s.names s.code s.ready.threads s.table.threads w.new.self.threads s.direct.items (as_many s.table w.new.self c.args.t f w.ensures.table) c.self.invariant.tied;
+      tied = tied_again s.names s.code s.ready.threads s.table.threads w.new.self.threads s.direct (as_many s.table w.new.self c.args.t f w.ensures.table) c.self.invariant.tied;
       stand = none_thread s.table w.new.self s.ready.lists s.named.bits c.args.t f w.ensures.table c.self.invariant.stand (λ th h. h) w.ensures.same;
     }

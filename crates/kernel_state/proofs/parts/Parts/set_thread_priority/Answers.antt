@@ -10,7 +10,7 @@ invariant_of-self c =
     let w = c.set_priority-moved in
     let f : Thread Cursor → Thread Cursor = with_priority c.args.p in
     record {
-      tied = tied_again s.names s.code s.ready.threads s.table.threads w.new.self.threads s.direct.items (as_many s.table w.new.self c.args.t f w.ensures.table) c.self.invariant.tied;
+      tied = tied_again s.names s.code s.ready.threads s.table.threads w.new.self.threads s.direct (as_many s.table w.new.self c.args.t f w.ensures.table) c.self.invariant.tied;
       stand = told_thread s.table w.new.self s.ready.lists s.named.bits c.args.t f w.ensures.table c.self.invariant.stand c.take_in.new.self.bits w.result (λ th h. h) c.take_in.ensures w.ensures.moved;
     }
 

@@ -11,7 +11,7 @@ invariant_of-self c =
     let w = c.take-moved in
     let f : Mutex → Mutex = taken_by c.args.t in
     record {
-      tied = tied_again s.names s.code s.ready.threads s.table.threads w.new.self.threads s.direct.items (ap (λ (x : Table). length x.threads) w.ensures.table) c.self.invariant.tied;
+      tied = tied_again s.names s.code s.ready.threads s.table.threads w.new.self.threads s.direct (ap (λ (x : Table). length x.threads) w.ensures.table) c.self.invariant.tied;
       stand = told_mutex s.table w.new.self s.ready.lists s.named.bits c.take_in.new.self.bits c.args.k f w.result w.ensures.table c.take_in.ensures w.ensures.moved c.self.invariant.stand;
     }
 

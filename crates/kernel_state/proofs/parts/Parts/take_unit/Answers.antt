@@ -14,6 +14,6 @@ invariant_of-self c =
     let w = c.take_unit in
     let f : Thread Cursor → Thread Cursor = λ th. (in_unit (flat_bodies s.code) th).thread in
     record {
-      tied = tied_again s.names s.code s.ready.threads s.table.threads w.new.self.threads s.direct.items (as_many s.table w.new.self c.args.t f w.ensures.table) c.self.invariant.tied;
+      tied = tied_again s.names s.code s.ready.threads s.table.threads w.new.self.threads s.direct (as_many s.table w.new.self c.args.t f w.ensures.table) c.self.invariant.tied;
       stand = none_thread s.table w.new.self s.ready.lists s.named.bits c.args.t f w.ensures.table c.self.invariant.stand (λ th h. unit_keeps (flat_bodies s.code) (λ (x : Thread Cursor). is_runnable x.status) (λ x fs us. refl) th ∙ h) w.ensures.same;
     }
