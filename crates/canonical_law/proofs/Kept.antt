@@ -3,8 +3,8 @@ use Rattle.std.proofs.Common.{◌≡◌, ◌≤◌, ◌<◌, ◌^◌, ℕ, zero,
 use Rattle.std.specs.Prelude.{◌&&◌, ◌||◌, nat_le, is_some, decimal, unwrap_or, option_to_list, if◌then◌else◌}
 use Rattle.std.specs.List.{list_all}
 use Rattle.script_lex.proofs.Rejoined.{both}
-use Rattle.script_table.specs.declared.fault.FaultKind.{FaultKind}
-use Rattle.script_table.specs.declared.fault.FaultKind.TheVariants.{NumberRange, BadName}
+use Rattle.script_table.specs.declared.faults.FaultKind.{FaultKind}
+use Rattle.script_table.specs.declared.faults.FaultKind.TheVariants.{NumberRange, BadName}
 use Rattle.script_table.specs.Patterns.{Spot, Keyword, Answer, Number, Operand, Declares, Uses, Signal, Acts, Signals, Row, greatest}
 use Rattle.script_table.specs.Words.{value_of, is_register, set_of}
 use Rattle.script_table.specs.LineFaults.{stands, fits, place_faults, unless, spelling}

@@ -4,7 +4,7 @@ use Rattle.std.specs.Prelude.{nat_lt, is_some}
 use Rattle.std.specs.Str.{bytes_eq}
 use Rattle.script_lex.proofs.Rejoined.{both}
 use Rattle.script_tree.specs.declared.decl.Decl.{Decl}
-use Rattle.script_table.specs.declared.fault.FaultKind.TheVariants.{DuplicateName, TooMany}
+use Rattle.script_table.specs.declared.faults.FaultKind.TheVariants.{DuplicateName, TooMany}
 use Rattle.script_table.specs.declared.form.Form.{Form}
 use Rattle.script_table.specs.declared.form.Form.TheVariants as form
 use Rattle.script_table.specs.declared.pattern.Closer.{Closer}

@@ -2,8 +2,8 @@
 use Rattle.std.proofs.Common.{◌≡◌, ℕ, ◌+◌, List, [], ◌∷◌, ◌++◌, refl, sym, ◌∙◌, ap, subst, Option, None, Some}
 use Rattle.std.specs.Prelude.{◌==◌}
 use Rattle.script_lex.specs.Words.{line_words}
-use Rattle.script_table.specs.declared.fault.FaultKind.{FaultKind}
-use Rattle.script_table.specs.declared.fault.FaultKind.TheVariants.{TooMany, NoThread}
+use Rattle.script_table.specs.declared.faults.FaultKind.{FaultKind}
+use Rattle.script_table.specs.declared.faults.FaultKind.TheVariants.{TooMany, NoThread}
 use Rattle.script_table.specs.Faults.{when, faults_at, fault}
 use Rattle.script_table.specs.Patterns.{Row}
 use Rattle.script_table.specs.LineFaults.{place_faults}

@@ -2,7 +2,7 @@
 use Rattle.std.proofs.Common.{◌≡◌, ◌≤◌, ℕ, ◌+◌, List, [], ◌∷◌, ◌++◌, refl, sym, ◌∙◌, ap, subst, Bool, true, false, None, Some, arith}
 use Rattle.std.specs.Prelude.{map, unwrap_or, ◌&&◌, nat_le, if◌then◌else◌}
 use Rattle.script_tree.specs.declared.body.Step.{Step}
-use Rattle.script_table.specs.declared.fault.FaultKind.TheVariants.{TooMany}
+use Rattle.script_table.specs.declared.faults.FaultKind.TheVariants.{TooMany}
 use Rattle.script_table.specs.declared.form.Form.{Form}
 use Rattle.script_table.specs.declared.form.Form.TheVariants as form
 use Rattle.script_table.specs.declared.pattern.Closer.{Closer}

@@ -2,8 +2,8 @@
 use Rattle.std.proofs.Common.{◌≡◌, ℕ, List, [], ◌∷◌, ◌++◌, refl, sym, ◌∙◌, ap, Bool, true, false, Option, None, Some}
 use Rattle.std.specs.Prelude.{nat_lt, ◌&&◌, if◌then◌else◌}
 use Rattle.std.specs.Str.{bytes_eq}
-use Rattle.script_table.specs.declared.fault.FaultKind.{FaultKind}
-use Rattle.script_table.specs.declared.fault.FaultKind.TheVariants.{DuplicateName}
+use Rattle.script_table.specs.declared.faults.FaultKind.{FaultKind}
+use Rattle.script_table.specs.declared.faults.FaultKind.TheVariants.{DuplicateName}
 use Rattle.script_tree.specs.declared.name_kind.NameKind.{NameKind}
 use Rattle.script_tree.specs.declared.name_kind.NameKind.TheVariants as kind
 use Rattle.script_table.specs.Faults.{faults_at, fault}

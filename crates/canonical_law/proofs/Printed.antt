@@ -7,7 +7,7 @@ use Rattle.script_tree.specs.declared.body.Step.{Step}
 use Rattle.script_tree.specs.declared.body.Step.TheVariants as steps
 use Rattle.script_tree.specs.declared.call.Call.{Call}
 use Rattle.script_tree.specs.declared.decl.Decl.{Decl}
-use Rattle.script_table.specs.declared.fault.FaultKind.TheVariants.{StrayClose}
+use Rattle.script_table.specs.declared.faults.FaultKind.TheVariants.{StrayClose}
 use Rattle.script_table.specs.declared.form.Form.{Form}
 use Rattle.script_table.specs.declared.form.Form.TheVariants as form
 use Rattle.script_table.specs.declared.form.BlockForm.{BlockForm}

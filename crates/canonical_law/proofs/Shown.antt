@@ -50,7 +50,7 @@ use Rattle.script_tree.specs.declared.body.Step.{Step}
 use Rattle.script_tree.specs.declared.decl.Decl.{Decl}
 use Rattle.script_tree.specs.declared.call.Call.{Call}
 use Rattle.script_tree.specs.declared.call.Operand as operands
-use Rattle.script_table.specs.declared.fault.FaultKind.TheVariants.{ServerRange}
+use Rattle.script_table.specs.declared.faults.FaultKind.TheVariants.{ServerRange}
 use Rattle.script_tree.specs.declared.name_kind.NameKind.{NameKind}
 use Rattle.script_tree.specs.declared.name_kind.NameKind.TheVariants as kind
 use Rattle.script_table.specs.Faults.{when}

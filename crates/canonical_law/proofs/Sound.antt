@@ -4,7 +4,7 @@ use Rattle.std.specs.Prelude.{decimal, is_some, ◌||◌, if◌then◌else◌, u
 use Rattle.std.specs.List.{list_all}
 use Rattle.script_lex.proofs.Rejoined.{both}
 use Rattle.script_tree.specs.declared.call.Operand.TheVariants.{Num}
-use Rattle.script_table.specs.declared.fault.FaultKind.TheVariants.{NumberRange, BadName}
+use Rattle.script_table.specs.declared.faults.FaultKind.TheVariants.{NumberRange, BadName}
 use Rattle.script_table.specs.declared.form.Form.{Form}
 use Rattle.script_tree.specs.declared.name_kind.NameKind.{NameKind}
 use Rattle.script_table.specs.Patterns.{Spot, Keyword, Answer, Number, Operand, Declares, Uses, Signal, Acts, Signals, greatest}

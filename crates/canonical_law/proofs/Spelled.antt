@@ -14,7 +14,7 @@ use Rattle.tick_num.specs.Words.{res_text}
 use Rattle.script_tree.specs.Names.{is_digit, is_name}
 use Rattle.script_tree.specs.declared.decl.Decl.{Decl}
 use Rattle.script_tree.specs.declared.call.Operand.TheVariants.{Num, Reg}
-use Rattle.script_table.specs.declared.fault.FaultKind.TheVariants.{NumberRange, BadName, UnknownName, WrongKind}
+use Rattle.script_table.specs.declared.faults.FaultKind.TheVariants.{NumberRange, BadName, UnknownName, WrongKind}
 use Rattle.script_tree.specs.declared.name_kind.NameKind.{NameKind}
 use Rattle.script_tree.specs.Kinds.{same_kind}
 use Rattle.script_table.specs.Patterns.{Spot, Keyword, Answer, Number, Operand, Declares, Uses, Signal, Acts, Signals, greatest}

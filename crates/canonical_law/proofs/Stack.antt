@@ -5,7 +5,7 @@ use Rattle.script_tree.specs.Tree.{block_of}
 use Rattle.script_tree.specs.declared.body.Step.TheVariants.{Make}
 use Rattle.script_table.specs.Calls.{call_of}
 use Rattle.script_tree.specs.declared.body.Step.{Step}
-use Rattle.script_table.specs.declared.fault.FaultKind.TheVariants.{NotHere, StrayClose, Unclosed}
+use Rattle.script_table.specs.declared.faults.FaultKind.TheVariants.{NotHere, StrayClose, Unclosed}
 use Rattle.script_table.specs.declared.form.Form.{Form}
 use Rattle.script_table.specs.declared.form.Form.TheVariants as form
 use Rattle.script_table.specs.declared.pattern.Bar.{Bar}

@@ -8,7 +8,7 @@ use Rattle.script_lex.specs.Joined.{joined_lines}
 use Rattle.script_lex.proofs.Split.{no_lines}
 use Rattle.script_lex.proofs.Rejoined.{both}
 use Rattle.script_table.specs.declared.pattern.Opening.{Opening}
-use Rattle.script_table.specs.declared.fault.FaultKind.TheVariants.{NoThread}
+use Rattle.script_table.specs.declared.faults.FaultKind.TheVariants.{NoThread}
 use Rattle.script_table.specs.Faults.{faults_at, when}
 use Rattle.script_table.specs.Names.{declared, phase_two}
 use Rattle.script_table.specs.Ranges.{Tally, tallied, range_faults, phase_three, no_tally}

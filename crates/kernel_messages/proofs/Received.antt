@@ -20,7 +20,7 @@ use Rattle.machine_moves.proofs.Waiters.Best.{best_waits}
 use Rattle.message_queues.specs.Queues.{next_value, without_next, without_one}
 use Rattle.kernel_state.specs.Kernel.{Kernel, after, told, turn}
 use Rattle.kernel_state.specs.Pending.{SignalsFit}
-use Rattle.kernel_state.specs.Waits.{waiting_message}
+use Rattle.kernel_state.specs.Messages.{waiting_message}
 use Rattle.kernel_signals.proofs.Same.{same_after, same_told}
 use Rattle.kernel_signals.proofs.Sent.{returned_blocked}
 use Rattle.kernel_messages.specs.Entering.{hands_out, takes_over_from}

@@ -4,7 +4,7 @@ use Rattle.tick_num.specs.declared.res.Res.TheVariants as res
 use Rattle.machine_rules.specs.Queues.{enters}
 use Rattle.machine_rules.specs.Turns.{Caller, Turn, returns, ◌▷◌}
 use Rattle.machine_rules.specs.Waking.{wakes}
-use Rattle.kernel_state.specs.Waits.{waiting_message}
+use Rattle.kernel_state.specs.Messages.{waiting_message}
 
 -- the message of the sender enters
 abbrev pub takes_over_from : {P : Type 0} → Option ℕ → ℕ → Turn P → Turn P

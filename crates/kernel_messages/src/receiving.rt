@@ -5,7 +5,7 @@ ghost use Rattle.machine_rules.specs.Queues.{has_room, receives_message};
 ghost use Rattle.machine_rules.specs.Threads.{can_run, is_blocked, queue_at, thread_at};
 ghost use Rattle.kernel_state.specs.Kernel.{after, by, told};
 ghost use Rattle.kernel_state.specs.Pending.{PendingFits, SignalsFit};
-ghost use Rattle.kernel_state.specs.Waits.{waiting_message};
+ghost use Rattle.kernel_state.specs.Messages.{waiting_message};
 ghost use Rattle.kernel_sync.specs.Waits.{WaitsFit};
 ghost use Rattle.kernel_messages.specs.Entering.{hands_out, takes_over_from};
 ghost use Rattle.kernel_messages.specs.Notifying.{CanNotify};

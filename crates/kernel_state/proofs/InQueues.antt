@@ -8,7 +8,7 @@ use Rattle.machine_rules.specs.State.{Machine, Message, Waiting, for_time}
 use Rattle.machine_rules.specs.Threads.{waiting_of}
 use Rattle.thread_blocks.specs.Plain.{wait_of}
 use Rattle.thread_blocks.specs.declared.status.Wait as plain
-use Rattle.kernel_state.specs.Waits.{waiting_message}
+use Rattle.kernel_state.specs.Messages.{waiting_message}
 
 abbrev in_wait : Option Waiting → Message
 in_wait o = option_map_or (λ (w : Waiting). message_of w.wait) o (message_of for_time)

@@ -8,5 +8,6 @@ pub mod Stood
 pub mod Due
 pub mod Leaps
 pub mod Waits
+pub mod Messages
 pub mod Caught
 pub mod Pending

@@ -10,7 +10,7 @@ ghost use Rattle.machine_rules.specs.Waiters.{Waiter, best_waiter};
 ghost use Rattle.message_queues.specs.Queues.{next_value, without_next};
 ghost use Rattle.thread_blocks.specs.Plain.{message_of, wait_of};
 ghost use Rattle.kernel_state.specs.Kernel.{after};
-ghost use Rattle.kernel_state.specs.Waits.{waiting_message};
+ghost use Rattle.kernel_state.specs.Messages.{waiting_message};
 
 use crate::parts::Parts;
 use message_queues::Registration;

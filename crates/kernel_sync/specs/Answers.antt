@@ -6,8 +6,8 @@ use Rattle.machine_rules.specs.declared.thread.CondEnd.TheVariants as cond_end
 use Rattle.machine_rules.specs.State.{Machine, Wait, for_mutex_again}
 use Rattle.machine_rules.specs.Threads.{mutex_at}
 use Rattle.machine_rules.specs.Mutexes.{LockAnswer, closes_cycle, counts, must_wait, recursion_limit, refused, takes}
-use Rattle.kernel_sync.specs.declared.answer.LockAnswer as declared
-use Rattle.kernel_sync.specs.declared.answer.LockAnswer.TheVariants as answer
+use Rattle.kernel_sync.specs.declared.answers.LockAnswer as declared
+use Rattle.kernel_sync.specs.declared.answers.LockAnswer.TheVariants as answer
 
 abbrev pub answer_of : declared.LockAnswer → LockAnswer
 answer_of (answer.Refused result) = refused result

@@ -7,7 +7,7 @@ ghost use Rattle.machine_rules.specs.Threads.{can_run};
 ghost use Rattle.thread_blocks.specs.Plain.{wait_of};
 ghost use Rattle.kernel_state.specs.Kernel.{after, by, told};
 
-use crate::answer::is_late;
+use crate::answers::is_late;
 use kernel_state::Parts;
 use pse52_trace::Tracer;
 use rt_io::Sink;

@@ -1,7 +1,7 @@
 //! The calls of mutexes, conditions and semaphores: each is a step of a turn of the machine.
 #![tactic(auto)]
 
-mod answer;
+mod answers;
 mod blocking;
 mod conditions;
 mod counting;

@@ -10,7 +10,7 @@ ghost use Rattle.kernel_state.specs.Kernel.{after, by, told};
 ghost use Rattle.kernel_sync.specs.Answers.{CanAct, answer_of};
 ghost use Rattle.kernel_sync.specs.Waits.{BlockedRest, MutexWaitersRest};
 
-use crate::answer::{
+use crate::answers::{
     LockAnswer, answer_as_owner, is_cancelled_waiter, lock_answer, trylock_answer,
 };
 use kernel_state::Parts;

@@ -2,13 +2,15 @@
 //! docs/MACHINE.md explains them. Code and definitions share the plain words of this crate.
 #![tactic(auto)]
 
-mod call;
+mod call_names;
+mod cancellation;
 mod dispatch;
 mod frame;
 mod signal;
 mod thread;
 
-pub use call::{call_name, is_cancellation_point};
+pub use call_names::call_name;
+pub use cancellation::is_cancellation_point;
 pub use dispatch::LastDispatch;
 pub use frame::{BodyOf, FrameKind};
 pub use signal::SigAction;

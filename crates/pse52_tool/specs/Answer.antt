@@ -1,5 +1,5 @@
 -- What the tool answers to the words of the command line and the bytes of the source.
-use Rattle.std.specs.Prelude.{ℕ, ◌≡◌, ◌&&◌, nat_lt, if◌then◌else◌, List, ◌++◌, length, codes, decimal, Option, None, Some, Result, Ok, Err}
+use Rattle.std.specs.Prelude.{ℕ, ◌≡◌, ◌&&◌, nat_lt, if◌then◌else◌, List, length, codes, Option, None, Some, Result, Ok, Err}
 use Rattle.std.specs.Io.KnownBytes.{Appends, Keeps}
 use Rattle.rt_io.specs.Causes.{Rose}
 use Rattle.rt_io.specs.Bytes.{AppendsPart}
@@ -15,6 +15,7 @@ use Rattle.pse52_tool.specs.declared.status.Status.TheVariants.{Done, Usage, Ref
 use Rattle.pse52_tool.specs.declared.command.Command.{Command}
 use Rattle.pse52_tool.specs.declared.command.Command.TheVariants.{Run, Check, ResponseTimes, Gen, Soak}
 use Rattle.pse52_tool.specs.Command.{command, limit_of, reads}
+use Rattle.pse52_tool.specs.Message.{refused_line}
 use Rattle.trace_check.specs.Divided.{Divided, divided}
 use Rattle.trace_check.specs.Comparison.{comparison}
 use Rattle.rta_core.specs.declared.task.Task.{Task}
@@ -35,10 +36,6 @@ too_long_line = codes "too long\n"
 
 abbrev pub no_trace_line : List ℕ
 no_trace_line = codes "no trace\n"
-
--- the line of a fault: where it is, and its number and its name
-abbrev pub refused_line : ℕ → ℕ → List ℕ → List ℕ
-refused_line line number name = codes "refused " ++ decimal line ++ codes " " ++ decimal number ++ codes " " ++ name ++ codes "\n"
 
 abbrev pub fault_line : Fault → List ℕ
 fault_line f = refused_line f.line (number_of f.kind) (name_of f.kind)

@@ -1,5 +1,6 @@
 pub mod Statuses
 pub mod Command
+pub mod Message
 pub mod Answer
 pub mod Taken
 pub mod Few

@@ -2,7 +2,7 @@
 ghost use Rattle.std.specs.Prelude.{◌≡◌, ◌≤◌, ◌+◌, ◌++◌, [], length, decimal, codes};
 ghost use Rattle.script_table.specs.Faults as faults;
 ghost use Rattle.rta_core.specs.Faults as task_faults;
-ghost use Rattle.pse52_tool.specs.Answer.{refused_line};
+ghost use Rattle.pse52_tool.specs.Message.{refused_line};
 
 use arrayvec::ArrayVec;
 use fixed_text::{add, add_number};

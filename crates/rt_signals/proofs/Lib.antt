@@ -1,4 +1,4 @@
-pub mod Ages
+pub mod ByAge
 pub mod Keeping
 pub mod Selecting
 pub mod Walking

@@ -10,9 +10,8 @@ use Rattle.machine_rules.specs.Lists.{first_by, first_of}
 use Rattle.machine_rules.specs.State.{SignalRecord}
 use Rattle.machine_rules.specs.Signals.{may_go_to, is_selected_before}
 use Rattle.ranked_arrivals.specs.Arrivals.{Arrival, IsArrival}
-use Rattle.rt_signals.specs.Choice.{IsLowest, NoneBelow, is_in_set, may_take, selected_in}
+use Rattle.rt_signals.specs.Choice.{IsLowest, NoneBelow, is_in_set, may_take, selected_in, first_wanted, is_wanted}
 use Rattle.rt_signals.specs.Kept.{AreRanked, AreRising, record_at, record_of, records_of}
-use Rattle.rt_signals.specs.Walks.{first_wanted, is_wanted}
 use Rattle.rt_signals.specs.declared.choice.Wanted.{Wanted}
 use Rattle.rt_signals.specs.declared.choice.Wanted.TheVariants.{ForThread, WithSerial}
 

@@ -6,7 +6,8 @@ use Rattle.machine_rules.specs.State.{SignalRecord}
 use Rattle.ranked_arrivals.specs.Arrivals.{Arrival, AreDistinct, IsArrival, first_of_rank, has_come, next_in_order, next_of_rank, oldest}
 use Rattle.rt_signals.specs.Ages.{before, before_node}
 use Rattle.rt_signals.specs.Kept.{record_at, record_of}
-use Rattle.rt_signals.specs.Walks.{first_wanted, is_wanted, rank_of, rest_of, since}
+use Rattle.rt_signals.specs.Choice.{first_wanted, is_wanted}
+use Rattle.rt_signals.specs.Walks.{rank_of, rest_of, since}
 use Rattle.rt_signals.specs.declared.choice.Wanted.{Wanted}
 
 other_node : (a : Arrival) (n : ℕ) (order : List Arrival) → has_come a.node order ≡ false → has_come n order ≡ true → (a.node == n) ≡ false

@@ -4,8 +4,8 @@ use Rattle.machine_rules.specs.Lists.{is}
 use Rattle.machine_rules.specs.State.{SignalRecord}
 use Rattle.ranked_arrivals.specs.Arrivals.{Arrival}
 use Rattle.rt_signals.specs.Kept.{record_of}
-use Rattle.rt_signals.specs.declared.by_age.Source.{Source}
-use Rattle.rt_signals.specs.declared.by_age.Source.TheVariants.{Queue, Timer}
+use Rattle.rt_signals.specs.declared.ages.Source.{Source}
+use Rattle.rt_signals.specs.declared.ages.Source.TheVariants.{Queue, Timer}
 
 -- whether a record is from a timer or a queue
 abbrev pub is_from : Source → SignalRecord → Bool

@@ -1,12 +1,24 @@
 -- Which pending record is selected.
-use Rattle.std.specs.Prelude.{◌≡◌, ◌<◌, ◌&&◌, ◌||◌, Bool, List, None, Option, Some, filter, not, true, ℕ}
+use Rattle.std.specs.Prelude.{◌≡◌, ◌<◌, ◌==◌, ◌&&◌, ◌||◌, if◌then◌else◌, Bool, List, [], ◌∷◌, None, Option, Some, filter, not, true, ℕ}
 use Rattle.tick_num.specs.Signals.{has_signal}
 use Rattle.machine_rules.specs.Lists.{first_by}
 use Rattle.machine_rules.specs.Signals.{may_go_to, is_selected_before, without_record}
 use Rattle.machine_rules.specs.State.{SignalRecord}
 use Rattle.ranked_arrivals.specs.Arrivals.{Arrival}
-use Rattle.rt_signals.specs.Walks.{first_wanted}
-use Rattle.rt_signals.specs.declared.choice.Wanted.TheVariants.{ForThread}
+use Rattle.rt_signals.specs.Kept.{record_of}
+use Rattle.rt_signals.specs.declared.choice.Wanted.{Wanted}
+use Rattle.rt_signals.specs.declared.choice.Wanted.TheVariants.{ForThread, WithSerial}
+
+-- whether a record is the one
+abbrev pub is_wanted : Wanted → SignalRecord → Bool
+is_wanted (ForThread t) r = may_go_to t r.target
+is_wanted (WithSerial n) r = r.serial == n
+
+-- the oldest of a signal that is wanted
+abbrev pub first_wanted : Wanted → ℕ → List SignalRecord → List Arrival → Option ℕ
+first_wanted wanted signal records [] = None
+first_wanted wanted signal records (a ∷ order) =
+    if a.rank == signal && is_wanted wanted (record_of records a) then Some a.node else first_wanted wanted signal records order
 
 -- the record that is selected among those that pass: `selected` of the machine with these records
 abbrev pub selected_in : List SignalRecord → (SignalRecord → Bool) → Option SignalRecord

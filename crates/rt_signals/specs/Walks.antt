@@ -1,22 +1,6 @@
 -- A walk along the nodes of one rank.
-use Rattle.std.specs.Prelude.{◌==◌, ◌&&◌, if◌then◌else◌, Bool, List, [], ◌∷◌, None, Option, Some, ℕ}
-use Rattle.machine_rules.specs.State.{SignalRecord}
-use Rattle.machine_rules.specs.Signals.{may_go_to}
+use Rattle.std.specs.Prelude.{◌==◌, if◌then◌else◌, List, [], ◌∷◌, None, Option, Some, ℕ}
 use Rattle.ranked_arrivals.specs.Arrivals.{Arrival}
-use Rattle.rt_signals.specs.Kept.{record_of}
-use Rattle.rt_signals.specs.declared.choice.Wanted.{Wanted}
-use Rattle.rt_signals.specs.declared.choice.Wanted.TheVariants.{ForThread, WithSerial}
-
--- whether a record is the one
-abbrev pub is_wanted : Wanted → SignalRecord → Bool
-is_wanted (ForThread t) r = may_go_to t r.target
-is_wanted (WithSerial n) r = r.serial == n
-
--- the oldest of a signal that is wanted
-abbrev pub first_wanted : Wanted → ℕ → List SignalRecord → List Arrival → Option ℕ
-first_wanted wanted signal records [] = None
-first_wanted wanted signal records (a ∷ order) =
-    if a.rank == signal && is_wanted wanted (record_of records a) then Some a.node else first_wanted wanted signal records order
 
 -- the order from the node on
 abbrev pub since : ℕ → List Arrival → List Arrival

@@ -2,8 +2,7 @@
 ghost use Rattle.std.specs.Prelude.{◌≡◌, ◌≤◌, ◌<◌, true, length, IfSome, MatchOption};
 ghost use Rattle.machine_rules.specs.Signals.{may_go_to};
 ghost use Rattle.ranked_arrivals.specs.Arrivals.{AreArrivals, has_come};
-ghost use Rattle.rt_signals.specs.Choice.{IsLowest, NoneBelow};
-ghost use Rattle.rt_signals.specs.Walks.{first_wanted, is_wanted};
+ghost use Rattle.rt_signals.specs.Choice.{IsLowest, NoneBelow, first_wanted, is_wanted};
 
 use crate::record::SignalRecord;
 use ranked_arrivals::Arrivals;

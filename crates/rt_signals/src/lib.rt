@@ -6,7 +6,7 @@
 #![tactic(auto)]
 
 mod actions;
-mod by_age;
+mod ages;
 mod choice;
 mod pending;
 mod record;

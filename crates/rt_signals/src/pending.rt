@@ -9,7 +9,7 @@ ghost use Rattle.machine_rules.specs.State as machine;
 ghost use Rattle.rt_signals.specs.Choice.{is_in_set, may_take, selected_in, without_one};
 ghost use Rattle.rt_signals.specs.Kept.{counted_in, no_record, room};
 
-use crate::by_age::{Source, drop_for, is_any_from, weight};
+use crate::ages::{Source, drop_for, is_any_from, weight};
 use crate::choice::{Wanted, first_wanted, lowest};
 use crate::record::SignalRecord;
 use ranked_arrivals::Arrivals;

@@ -13,8 +13,8 @@ use Rattle.script_tree.specs.declared.decl.Decl.{Decl}
 use Rattle.script_tree.specs.declared.decl.Script.{Script}
 use Rattle.script_flat.specs.Flat.{nesting, bodies_of, IsFlattenable}
 use Rattle.machine_rules.specs.Declarations.{threads_of}
-use Rattle.script_table.specs.declared.fault.FaultKind.{FaultKind}
-use Rattle.script_table.specs.declared.fault.FaultKind.TheVariants.{TooMany}
+use Rattle.script_table.specs.declared.faults.FaultKind.{FaultKind}
+use Rattle.script_table.specs.declared.faults.FaultKind.TheVariants.{TooMany}
 use Rattle.script_table.specs.declared.form.Form.{Form}
 use Rattle.script_table.specs.declared.form.Form.TheVariants as form
 use Rattle.script_table.specs.declared.form.ObjectForm.{ObjectForm}

@@ -10,7 +10,8 @@ ghost use Rattle.script_flat.specs.Ready.{IsReady};
 ghost use Rattle.script_flat.specs.Stands.{IsBody, Stands, IsPlaced, Fetches};
 
 use crate::flatten::flatten;
-use crate::op::{Effect, capped, holds};
+use crate::next::{capped, holds};
+use crate::op::Effect;
 use crate::{CallPlace, Cursor, Fetched, Op, Unit};
 use arrayvec::ArrayVec;
 use script_tree::{Body, Decl, Kind, Script};

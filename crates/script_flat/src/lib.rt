@@ -5,6 +5,7 @@ mod code;
 mod cursor;
 mod fetched;
 mod flatten;
+mod next;
 mod op;
 mod unit;
 

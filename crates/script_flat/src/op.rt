@@ -1,10 +1,7 @@
 // Operations of the flat code.
-ghost use Rattle.std.specs.Prelude.{◌≡◌};
-ghost use Rattle.script_flat.specs.Next.{capped, holds};
-
 use crate::Unit;
 use script_tree::Call;
-use tick_num::{Res, Tick};
+use tick_num::Res;
 
 /// An operation of the flat code. A body's operations are numbered from 0.
 #[derive(Clone, Copy)]
@@ -36,18 +33,4 @@ pub(crate) enum Effect {
     Gives(Unit),
     /// No time: so many of the operations that follow are passed over.
     Skips(u32),
-}
-
-/// The value of a register that is to be n.
-pub(crate) fn capped(n: u64) -> u64
-    ensures { result ≡ capped n }
-{
-    n.min(Tick::LAST)
-}
-
-/// Whether a test holds after a call with this result.
-pub(crate) fn holds(named: Res, equal: bool, last: Res) -> bool
-    ensures { result ≡ holds named equal last }
-{
-    (last == named) == equal
 }

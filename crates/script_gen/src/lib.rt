@@ -2,7 +2,6 @@
 #![tactic(auto)]
 
 mod draws;
-mod script;
-mod thread;
+mod generated;
 
-pub use script::make;
+pub use generated::make;

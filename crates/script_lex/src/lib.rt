@@ -6,7 +6,7 @@
 
 mod line;
 mod lines;
-mod run;
+mod stops;
 mod words;
 
 pub use line::Line;

@@ -2,7 +2,7 @@
 ghost use Rattle.std.specs.Prelude.{◌≡◌, ◌≤◌, length, take};
 
 use crate::Words;
-use crate::run::{Stop, run_len};
+use crate::stops::{Stop, run_len};
 
 /// A line without its end, and its number in the text, from 1.
 #[derive(Clone, Copy)]

@@ -4,7 +4,7 @@ ghost use Rattle.std.specs.List.{prefix_len};
 ghost use Rattle.script_lex.specs.Lines.{lines_of};
 
 use crate::Line;
-use crate::run::{Stop, run_len};
+use crate::stops::{Stop, run_len};
 use std::marker::Model;
 
 /// The greatest length of a text, in bytes.

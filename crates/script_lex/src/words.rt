@@ -3,7 +3,7 @@ ghost use Rattle.std.specs.Prelude.{◌≡◌, ◌≤◌, ◌+◌, ◌-◌, ◌�
 ghost use Rattle.std.specs.List.{prefix_len};
 ghost use Rattle.script_lex.specs.Words.{words_of, places_of, is_blank};
 
-use crate::run::{Stop, run_len};
+use crate::stops::{Stop, run_len};
 use std::marker::Model;
 
 /// A word of a line, and its place: the word is the slice of the line that begins at byte `at`. The

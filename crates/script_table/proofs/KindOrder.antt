@@ -2,7 +2,7 @@
 use Rattle.std.proofs.Common.{◌≡◌, ℕ, List, [], ◌∷◌, ◌++◌, ◌+◌, ◌<◌, length, drop, map, get_or, drop-cons, add-one, refl, ap, Bool, true, false, Option, None, Some, sym, ◌∙◌, arith}
 use Rattle.std.specs.Prelude.{nat_lt, cond, option_to_list}
 use Rattle.std.proofs.lemmas.Bool.Decides.{nat_tests}
-use Rattle.script_table.specs.declared.fault.FaultKind.{FaultKind}
+use Rattle.script_table.specs.declared.faults.FaultKind.{FaultKind}
 use Rattle.script_table.specs.Faults.{number_of, lesser, lesser_first, least_kind}
 use Rattle.script_table.specs.declared.pattern.Place.{Place}
 use Rattle.script_table.specs.Patterns.{Spot, spot_of}

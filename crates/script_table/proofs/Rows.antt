@@ -8,7 +8,7 @@ use Rattle.script_tree.specs.declared.decl.Decl.TheVariants.{Named, Action}
 use Rattle.script_tree.specs.declared.decl.Kind.TheVariants.{Thread, Mutex, Queue, Handler}
 use Rattle.script_tree.specs.declared.policy.Policy.TheVariants.{Fifo}
 use Rattle.script_tree.specs.declared.policy.Protocol.TheVariants.{Plain, Inherit}
-use Rattle.script_table.specs.declared.fault.FaultKind.TheVariants.{DuplicateName, NumberRange, BadName, UnknownName, UnknownWord, NoThread, Unclosed, WrongKind, ServerRange, StrayClose, NotHere}
+use Rattle.script_table.specs.declared.faults.FaultKind.TheVariants.{DuplicateName, NumberRange, BadName, UnknownName, UnknownWord, NoThread, Unclosed, WrongKind, ServerRange, StrayClose, NotHere}
 use Rattle.script_table.specs.Faults.{fault}
 use Rattle.script_table.specs.Table.{patterns, declaration_patterns, step_patterns, call_patterns}
 use Rattle.script_table.specs.Structure.{said_from, phase_one}

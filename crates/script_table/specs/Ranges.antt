@@ -1,8 +1,8 @@
 -- Ranges and limits: the faults of phase 3. The parameters of a server are those of IEEE 1003.1-2017, XSH 2.8.4; the limits are this project's own.
 use Rattle.std.specs.Prelude.{ℕ, ◌+◌, ◌-◌, ◌==◌, ◌&&◌, ◌||◌, nat_lt, nat_le, min, not, Bool, true, false, List, [], ◌∷◌, ◌++◌, Option, None}
 use Rattle.std.specs.List.{slice_index_or}
-use Rattle.script_table.specs.declared.fault.FaultKind.{FaultKind}
-use Rattle.script_table.specs.declared.fault.FaultKind.TheVariants.{NumberRange, TooMany, NoThread, ServerRange}
+use Rattle.script_table.specs.declared.faults.FaultKind.{FaultKind}
+use Rattle.script_table.specs.declared.faults.FaultKind.TheVariants.{NumberRange, TooMany, NoThread, ServerRange}
 use Rattle.script_table.specs.declared.form.Form.{Form}
 use Rattle.script_table.specs.declared.form.Form.TheVariants as form
 use Rattle.script_table.specs.declared.form.ObjectForm.{ObjectForm}

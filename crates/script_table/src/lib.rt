@@ -1,20 +1,20 @@
 //! The patterns of a script's lines, what single words say, and the kinds of faults.
 #![tactic(auto)]
 
-mod fault;
+mod faults;
 mod form;
-mod line;
+mod line_faults;
 mod pattern;
 mod table;
-mod word;
+mod words;
 
-pub use fault::{FaultKind, lesser_first};
+pub use faults::{FaultKind, lesser_first};
 pub use form::{
     ActionForm, BlockForm, BodyForm, CallForm, CloseForm, Form, MessageCall, MutexCall, ObjectForm,
     SemCall, SignalCall, StepForm, ThreadCall, TimeCall,
 };
-pub use line::{any_agrees, fitting_pattern, pattern_of, spelling_fault};
+pub use line_faults::{any_agrees, fitting_pattern, pattern_of, spelling_fault};
 pub use pattern::{Bar, Closer, Opening, Pattern, Place, Table};
 pub use script_tree::NameKind;
 pub use table::patterns;
-pub use word::{answer_of, capped_value, is_number, is_register, set_of, signal_of};
+pub use words::{answer_of, capped_value, is_number, is_register, set_of, signal_of};

@@ -4,13 +4,13 @@
 mod body;
 mod call;
 mod decl;
-mod name;
 mod name_kind;
+mod names;
 mod policy;
 
 pub use body::{Body, Step};
 pub use call::{Call, Operand};
 pub use decl::{Decl, Decls, Kind, Script};
-pub use name::Name;
 pub use name_kind::NameKind;
+pub use names::Name;
 pub use policy::{Policy, Protocol};

@@ -1,7 +1,7 @@
 -- The kind that is below all others.
 use Rattle.std.proofs.Common.{◌≡◌, List, [], ◌∷◌, refl, ap, Option, None, Some}
-use Rattle.script_table.specs.declared.fault.FaultKind.{FaultKind}
-use Rattle.script_table.specs.declared.fault.FaultKind.TheVariants.{BadByte, UnknownWord, WordCount, BadNumber, NumberRange, BadName, DuplicateName, UnknownName, WrongKind, NotHere, StrayClose, Unclosed, TooMany, NoThread, ServerRange}
+use Rattle.script_table.specs.declared.faults.FaultKind.{FaultKind}
+use Rattle.script_table.specs.declared.faults.FaultKind.TheVariants.{BadByte, UnknownWord, WordCount, BadNumber, NumberRange, BadName, DuplicateName, UnknownName, WrongKind, NotHere, StrayClose, Unclosed, TooMany, NoThread, ServerRange}
 use Rattle.script_table.specs.Faults.{lesser, lesser_first, least_kind}
 
 -- no kind is below BadByte

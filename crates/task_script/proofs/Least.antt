@@ -3,7 +3,7 @@ use Rattle.std.proofs.Common.{◌≡◌, ℕ, List, [], ◌∷◌, ◌++◌, ref
 use Rattle.std.specs.Prelude.{nat_lt, cond}
 use Rattle.std.specs.Option.{option_map}
 use Rattle.std.proofs.lemmas.Bool.Decides.{nat_tests}
-use Rattle.script_table.specs.declared.fault.FaultKind.{FaultKind}
+use Rattle.script_table.specs.declared.faults.FaultKind.{FaultKind}
 use Rattle.script_table.specs.Faults.{Fault, is_before, earlier, least, number_of, lesser_first, least_kind, faults_at, fault}
 
 abbrev pub Each : (Fault → Type 0) → List Fault → Type 0

@@ -3,8 +3,8 @@ use Rattle.std.proofs.Common.{◌≡◌, ℕ, ◌+◌, List, [], ◌∷◌, ◌+
 use Rattle.std.specs.Prelude.{option_to_list}
 use Rattle.std.specs.Option.{option_map}
 use Rattle.script_lex.specs.Words.{has_bad_byte, line_words}
-use Rattle.script_table.specs.declared.fault.FaultKind.{FaultKind}
-use Rattle.script_table.specs.declared.fault.FaultKind.TheVariants.{BadByte, Unclosed}
+use Rattle.script_table.specs.declared.faults.FaultKind.{FaultKind}
+use Rattle.script_table.specs.declared.faults.FaultKind.TheVariants.{BadByte, Unclosed}
 use Rattle.script_table.specs.declared.pattern.Opening.{Opening}
 use Rattle.task_script.specs.declared.end.ScriptEnd.{ScriptEnd}
 use Rattle.task_script.specs.declared.end.ScriptEnd.TheVariants as end

@@ -4,7 +4,7 @@ use Rattle.script_table.specs.declared.pattern.Table.{Table}
 use Rattle.script_table.specs.Patterns.{Spot, Keyword, Answer, Number, Operand, Declares, Uses, Signal, Acts, Signals, Row}
 use Rattle.script_table.specs.LineFaults.{fits, fitting_row}
 use Rattle.script_table.proofs.ThreeParts.{fitting_parts}
-use Rattle.task_script.specs.Narrowed.{may_begin, Serves, ServeFrom}
+use Rattle.task_script.specs.ByLetter.{may_begin, Serves, ServeFrom}
 
 pub fits_not : (b : ℕ) (spots : List Spot) (cs : List ℕ) (ws : List (List ℕ)) → may_begin b spots ≡ false → fits spots ((b ∷ cs) ∷ ws) ≡ false
 fits_not b [] cs ws e = cc

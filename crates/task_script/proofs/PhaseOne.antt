@@ -2,7 +2,7 @@
 use Rattle.std.proofs.Common.{◌≡◌, ◌≤◌, ℕ, ◌+◌, List, [], ◌∷◌, ◌++◌, refl, ap, false, ◌∙◌, arith}
 use Rattle.std.specs.Option.{option_map}
 use Rattle.std.proofs.lemmas.Bool.Decides.{nat_tests}
-use Rattle.script_table.specs.declared.fault.FaultKind.{FaultKind}
+use Rattle.script_table.specs.declared.faults.FaultKind.{FaultKind}
 use Rattle.script_table.specs.Faults.{Fault, is_before, least, least_kind, faults_at, fault}
 use Rattle.script_table.specs.Patterns.{Row}
 use Rattle.script_table.specs.Structure.{Open, phase_one, line_faults, behind_line, unclosed, said_from, said_line}

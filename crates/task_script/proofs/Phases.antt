@@ -2,8 +2,8 @@
 use Rattle.std.proofs.Common.{◌≡◌, ◌≤◌, ◌<◌, ℕ, suc, ◌+◌, List, [], ◌∷◌, ◌++◌, ap, true, false, Option, None, Some, sym, ◌∙◌, arith, subst, drop, length, get_or, drop-cons, add-one}
 use Rattle.std.specs.Prelude.{option_to_list, ◌==◌}
 use Rattle.std.specs.Option.{option_map}
-use Rattle.script_table.specs.declared.fault.FaultKind.{FaultKind}
-use Rattle.script_table.specs.declared.fault.FaultKind.TheVariants.{NoThread}
+use Rattle.script_table.specs.declared.faults.FaultKind.{FaultKind}
+use Rattle.script_table.specs.declared.faults.FaultKind.TheVariants.{NoThread}
 use Rattle.script_table.specs.Faults.{Fault, least, least_kind, faults_at, fault, when}
 use Rattle.script_table.specs.Patterns.{Row}
 use Rattle.script_table.specs.Structure.{Said, Follows, IsRising, said_from, row_of_line}

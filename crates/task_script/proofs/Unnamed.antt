@@ -6,7 +6,7 @@ use Rattle.script_table.specs.Faults.{least_kind}
 use Rattle.script_table.specs.Patterns.{Spot, Keyword, Answer, Number, Operand, Declares, Uses, Signal, Acts, Signals}
 use Rattle.script_table.specs.LineFaults.{place_faults}
 use Rattle.script_table.specs.Names.{Declared, declared_at, name_fault}
-use Rattle.task_script.specs.Naming.{declares, is_named}
+use Rattle.task_script.specs.Declarations.{declares, is_named}
 
 pub none_declared : (spots : List Spot) (words : List (List ℕ)) (d : Declared) (n : ℕ) → list_any declares spots ≡ false → declared_at d n spots words ≡ d
 none_declared [] words d n e = refl

@@ -1,5 +1,5 @@
 pub mod Ends
 pub mod NameMap
 pub mod Bounds
-pub mod Naming
-pub mod Narrowed
+pub mod Declarations
+pub mod ByLetter

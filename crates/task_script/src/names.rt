@@ -1,6 +1,6 @@
 // Phase 2: names in order of declaration.
 pub(crate) mod counts;
-pub(crate) mod declared;
+pub(crate) mod declarations;
 
 ghost use Rattle.std.specs.Prelude.{◌≡◌, ◌==◌, [], IfOk};
 ghost use Rattle.std.specs.Option.{option_map};

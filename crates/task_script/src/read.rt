@@ -6,7 +6,7 @@ ghost use Rattle.script_table.specs.Read.{read};
 ghost use Rattle.task_script.specs.Ends.{IsRefusal};
 
 use crate::build::script_of;
-use crate::names::declared::{check_names, declarations};
+use crate::names::declarations::{check_names, declarations};
 use crate::ranges::check_ranges;
 use crate::structure::lines::statements;
 use crate::{Script, ScriptEnd};

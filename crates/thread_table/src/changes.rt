@@ -20,7 +20,8 @@ ghost use Rattle.thread_table.specs.Table as table;
 ghost use Rattle.thread_table.specs.Table.{with_thread};
 ghost use Rattle.thread_table.specs.Movers.{KeepsExec, TellsMoved};
 
-use crate::links::{reassign, stop_waiting, thread_of};
+use crate::links::{reassign, stop_waiting};
+use crate::movers::thread_of;
 use crate::table::Table;
 use crate::times::retime;
 use script_flat::{Code, Fetched};

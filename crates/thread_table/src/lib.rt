@@ -8,6 +8,7 @@ mod changes;
 mod endings;
 mod links;
 mod lives;
+mod movers;
 mod mutexes;
 mod open;
 mod reads;

@@ -1,14 +1,12 @@
 // The chain and the waiters, together.
-ghost use Rattle.std.specs.Prelude.{◌≡◌, ◌<◌, IfSome, None, Some, length, option_map, slice_set};
+ghost use Rattle.std.specs.Prelude.{◌≡◌, ◌<◌, IfSome, None, Some, length, slice_set};
 ghost use Rattle.machine_rules.specs.Priorities.{assigned_of, mutex_waited};
 ghost use Rattle.machine_rules.specs.Threads.{thread_in};
 ghost use Rattle.wait_lists.specs.Places.{place_in};
 ghost use Rattle.thread_blocks.specs.Plain.{wait_of, waiting_of};
 ghost use Rattle.inherit_chain.specs.Chains.{assigned_to, awaited_in, exec_of, waiting_for, with_claim};
 ghost use Rattle.inherit_chain.specs.Moves.{IsPlaced, TellsMoved, entered, left, mutex_named};
-ghost use Rattle.inherit_chain.specs.declared.walk.Moved.{Moved};
 ghost use Rattle.thread_table.specs.Moves.{ArePriced, MayAwait, begun};
-ghost use Rattle.thread_table.specs.Movers.{beside};
 
 use inherit_chain::{Chain, Moved};
 use thread_blocks::{Threads, Wait, Waiting};
@@ -116,21 +114,4 @@ fn stand_at(chain: &Chain, waits: &mut Waits, t: Tid, object: WaitObj, serial: u
 {
     waits.enter(object, t, chain.exec(t), serial);
     None
-}
-
-/// The thread of a change of priority.
-pub(crate) fn thread_of(moved: Option<Moved>) -> Option<Tid>
-    ensures { result ≡ option_map (λ (m : Moved). m.thread) moved }
-{
-    moved.map(|m| m.thread)
-}
-
-/// The thread, where it is another than t.
-pub(crate) fn beside(t: Tid, moved: Option<Tid>) -> Option<Tid>
-    ensures { result ≡ beside t moved }
-{
-    match moved {
-        Some(u) if u.get() != t.get() => Some(u),
-        _ => None,
-    }
 }

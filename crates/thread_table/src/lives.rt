@@ -10,7 +10,8 @@ ghost use Rattle.thread_table.specs.Table as table;
 ghost use Rattle.thread_table.specs.Table.{CanAwait, with_thread};
 ghost use Rattle.thread_table.specs.Movers.{TellsMoved, TellsMovedBeside};
 
-use crate::links::{begin_waiting, beside, reassign, stop_waiting, thread_of};
+use crate::links::{begin_waiting, reassign, stop_waiting};
+use crate::movers::{beside, thread_of};
 use crate::table::Table;
 use crate::times::retime;
 use thread_blocks::{Frame, Status, Waiting};

@@ -11,7 +11,8 @@ ghost use Rattle.thread_table.specs.Table as table;
 ghost use Rattle.thread_table.specs.Table.{best_in, with_mutex, with_thread};
 ghost use Rattle.thread_table.specs.Movers.{KeepsExec, KeepsOthers, TellsMoved};
 
-use crate::links::{stop_waiting, thread_of};
+use crate::links::stop_waiting;
+use crate::movers::thread_of;
 use crate::table::Table;
 use crate::times::retime;
 use tick_num::{ObjId, Res, Tid};

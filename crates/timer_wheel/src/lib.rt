@@ -8,14 +8,16 @@
 #![tactic(auto)]
 
 ghost use Rattle.std.specs.Prelude.{◌≡◌, ◌≢◌, ◌≤◌, ◌<◌, ◌*◌, ◌^◌, ℕ, None, Some, true, false, length, max, replicate, slice_set, IfOk, MatchOption};
-ghost use Rattle.timer_wheel.specs.Dues.{due_of, NoneIsArmed, IsLeastDue, NoneIsDue, IsFirstDue, earlier};
+ghost use Rattle.timer_wheel.specs.Dues.{due_of, NoneIsArmed, IsLeastDue, NoneIsDue, IsFirstDue};
 ghost use Rattle.timer_wheel.specs.Slots.{IsLeastLater};
 
 mod bits;
+mod dues;
 mod moves;
 mod places;
 mod slots;
 
+use dues::{due_of, first_of, is_due_at, least_of};
 use slots::Slots;
 use std::alloc::{AllocError, Global};
 use std::marker::Model;
@@ -41,66 +43,6 @@ impl Model for Wheel {
     ghost view = { λ w. record { dues = w.slots.dues; last = w.last } };
 
     ghost invariant = { λ w. IsCached w.slots w.least w.early w.last };
-}
-
-/// Whether that is the due tick.
-fn is_due_at(due: Option<Tick>, tick: u64) -> bool
-    ensures { result ≡ false → due ≢ Some tick }
-{
-    match due {
-        Some(d) => d.get() == tick,
-        None => false,
-    }
-}
-
-/// The least due tick of all. None exactly where nothing is armed.
-fn least_of(dues: &[Option<Tick>]) -> Option<Tick>
-    ensures { MatchOption result (NoneIsArmed dues.now) (λ tick. IsLeastDue dues.now tick) }
-{
-    let mut least = None;
-    let mut at = 0;
-    while at < dues.len() {
-        least = earlier(least, dues[at]);
-        at += 1;
-    }
-    least
-}
-
-/// The earlier of the two.
-fn earlier(one: Option<Tick>, other: Option<Tick>) -> Option<Tick>
-    ensures { result ≡ earlier one other }
-{
-    let Some(a) = one else {
-        return other;
-    };
-    let Some(b) = other else {
-        return one;
-    };
-    if b < a { other } else { one }
-}
-
-/// Whether that is now or has passed.
-fn has_come(due: Option<Tick>, now: Tick) -> bool
-    ensures come { result ≡ true → (d : ℕ) × (due ≡ Some d) × (d ≤ now) }
-    ensures to_come { result ≡ false → (d : ℕ) → due ≡ Some d → now < d }
-{
-    match due {
-        Some(d) => d <= now,
-        None => false,
-    }
-}
-
-/// The item with the least number that is due at or before now. None exactly where none is.
-fn first_of(dues: &[Option<Tick>], now: Tick) -> Option<ItemId>
-    requires { length dues.now ≤ 1024 }
-    ensures { MatchOption result (NoneIsDue now dues.now) (λ id. IsFirstDue now dues.now id.number) }
-{
-    for at in 0..dues.len() {
-        if has_come(dues[at], now) {
-            return Some(ItemId { number: at as u32 });
-        }
-    }
-    None
 }
 
 /// Where an item is due by now, the slots go on to now. The answer is the least due tick after theirs.
@@ -151,7 +93,7 @@ impl Wheel {
         requires { id.number < length self.old.dues }
         ensures { self.new ≡ record self.old { dues = slice_set self.old.dues id.number None } }
     {
-        let due = self.slots.due_of(id.number);
+        let due = due_of(self.slots.dues(), id.number);
         self.slots.disarm(id.number);
         if is_due_at(due, self.least) {
             self.least = self.slots.least_later();
@@ -185,7 +127,7 @@ impl Wheel {
         requires { id.number < length self.now.dues }
         ensures { result ≡ due_of id.number self.now.dues }
     {
-        self.slots.due_of(id.number)
+        due_of(self.slots.dues(), id.number)
     }
 
     /// The least due tick. None exactly where nothing is armed.

@@ -98,13 +98,6 @@ impl Slots {
         self.dues.as_slice()
     }
 
-    pub(crate) fn due_of(&self, id: u32) -> Option<Tick>
-        requires { id < length self.now.dues }
-        ensures { result ≡ due_of id self.now.dues }
-    {
-        self.dues[id as usize]
-    }
-
     pub(crate) fn arm(&mut self, id: u32, due: Tick)
         requires { (id < length self.old.dues) × (due_of id self.old.dues ≡ None) }
         ensures { self.new ≡ record self.old { dues = slice_set self.old.dues id (Some due) } }

@@ -2,7 +2,8 @@
 use Rattle.std.specs.Prelude.{ℕ, ◌-◌, List, ◌++◌, Option, None, Some, codes, decimal, slice_get}
 use Rattle.script_lex.specs.Lines.{lines_of}
 use Rattle.trace_check.specs.Difference.{difference}
-use Rattle.trace_check.specs.Lines.{Reading, form_word, reading}
+use Rattle.trace_check.specs.Form.{form_word}
+use Rattle.trace_check.specs.Lines.{Reading, reading}
 
 -- the line of this number, from 1
 abbrev pub line_at : List ℕ → ℕ → Option (List ℕ)

@@ -1,5 +1,5 @@
 -- The lines of a trace as they are read, without their line ends. The trace format is this project's own.
-use Rattle.std.specs.Prelude.{ℕ, ◌+◌, Bool, if◌then◌else◌, List, [], ◌∷◌, ◌++◌, Option, None, Some, codes, find, is_some}
+use Rattle.std.specs.Prelude.{ℕ, Bool, if◌then◌else◌, List, [], ◌∷◌, ◌++◌, Option, None, Some, codes, find, is_some}
 use Rattle.std.specs.Str.{bytes_eq}
 use Rattle.script_tree.specs.Names.{is_name}
 use Rattle.script_table.specs.Words.{signal_of, answer_of}
@@ -7,26 +7,9 @@ use Rattle.trace_check.specs.declared.form.Form.{Form}
 use Rattle.trace_check.specs.declared.form.Form.TheVariants as form
 use Rattle.trace_check.specs.declared.form.Part.{Part}
 use Rattle.trace_check.specs.declared.form.Part.TheVariants as part
-use Rattle.trace_check.specs.declared.line.TraceLine.{TraceLine}
+use Rattle.trace_check.specs.declared.lines.TraceLine.{TraceLine}
+use Rattle.trace_check.specs.Form.{form_word, parts}
 use Rattle.trace_check.specs.Words.{trace_words, number_of, is_call, is_code}
-
--- the word that says the form of a line
-abbrev pub form_word : Form → List ℕ
-form_word form.Dispatch = codes "dispatch"
-form_word form.Idle = codes "idle"
-form_word form.Start = codes "start"
-form_word form.Return = codes "return"
-form_word form.Deliver = codes "deliver"
-form_word form.Activate = codes "activate"
-form_word form.Exhaust = codes "exhaust"
-form_word form.Plan = codes "plan"
-form_word form.Refill = codes "refill"
-form_word form.Cancel = codes "cancel"
-form_word form.Exit = codes "exit"
-form_word form.Killed = codes "killed"
-form_word form.End = codes "end"
-form_word form.Thread = codes "thread"
-form_word form.Budget = codes "thread"
 
 -- the forms of lines that begin with a time
 abbrev pub timed_forms : List Form
@@ -37,25 +20,6 @@ timed_forms =
 -- the form whose word it is
 abbrev pub timed_form : List ℕ → Option Form
 timed_form word = find (λ f. bytes_eq word (form_word f)) timed_forms
-
--- what stands behind the word of the form
-abbrev pub parts : Form → List Part
-parts form.Dispatch = part.Name ∷ part.Number ∷ []
-parts form.Idle = []
-parts form.Start = part.Name ∷ []
-parts form.Return = part.Name ∷ part.Call ∷ part.Answer ∷ part.Number ∷ []
-parts form.Deliver = part.Name ∷ part.Signal ∷ part.Code ∷ part.Number ∷ []
-parts form.Activate = part.Name ∷ part.Number ∷ []
-parts form.Exhaust = part.Name ∷ []
-parts form.Plan = part.Name ∷ part.Number ∷ part.Number ∷ []
-parts form.Refill = part.Name ∷ part.Number ∷ part.Number ∷ []
-parts form.Cancel = part.Name ∷ []
-parts form.Exit = part.Name ∷ []
-parts form.Killed = part.Signal ∷ []
-parts form.End = []
-parts form.Thread = part.Name ∷ part.Ticks ∷ part.Number ∷ []
-parts form.Budget =
-    part.Name ∷ part.Ticks ∷ part.Number ∷ part.High ∷ part.Number ∷ part.Init ∷ part.Number ∷ part.Refilled ∷ part.Number ∷ part.Capacity ∷ part.Number ∷ []
 
 -- what is read of a line
 pub record Reading : Type 0 where
@@ -132,10 +96,3 @@ words_reading (w ∷ ws) = if bytes_eq w (codes "thread") then closing_reading w
 -- what is read of a line; none where it is no line of a trace
 abbrev pub reading : List ℕ → Option Reading
 reading line = words_reading (trace_words line)
-
--- how many numbers stand in these places
-abbrev pub numbers_in : List Part → ℕ
-numbers_in [] = 0
-numbers_in (part.Number ∷ ps) = 1 + numbers_in ps
-numbers_in (part.Signal ∷ ps) = 1 + numbers_in ps
-numbers_in (p ∷ ps) = numbers_in ps

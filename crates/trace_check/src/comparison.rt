@@ -6,7 +6,7 @@ ghost use Rattle.pse52_trace.specs.ShortLines.{column_after};
 ghost use Rattle.trace_check.specs.Lines.{reading};
 ghost use Rattle.trace_check.specs.Comparison.{line_or_nothing, word_of_reading, word_or_nothing, difference_text, comparison};
 
-use crate::lines::line_behind;
+use crate::divided::line_behind;
 use crate::{Form, first_difference, read_line};
 use arrayvec::ArrayVec;
 use fixed_text::{add, add_number};

@@ -1,6 +1,6 @@
 // The forms of a trace's lines.
 ghost use Rattle.std.specs.Prelude.{◌≡◌, ◌≤◌};
-ghost use Rattle.trace_check.specs.Lines.{form_word, parts, numbers_in};
+ghost use Rattle.trace_check.specs.Form.{form_word, parts, numbers_in};
 
 /// The form of a line of a trace.
 #[derive(Clone, Copy, Debug, PartialEq, Eq)]

@@ -7,20 +7,20 @@
 
 mod comparison;
 mod difference;
+mod divided;
 mod form;
 mod known_room;
 mod limited;
-mod line;
 mod lines;
 mod words;
 
 pub use comparison::{Difference, compare};
 pub use difference::first_difference;
+pub use divided::divide;
 pub use form::Form;
 pub use known_room::{KnownRoom, Room};
 pub use limited::Limited;
-pub use line::{TraceLine, read_line};
-pub use lines::divide;
+pub use lines::{TraceLine, read_line};
 
 #[cfg(test)]
 mod tests;

@@ -8,8 +8,8 @@ use Rattle.script_lex.specs.Words.{has_bad_byte, line_words}
 use Rattle.script_tree.specs.declared.body.Step.TheVariants.{Make}
 use Rattle.script_tree.specs.declared.decl.Script.{Script}
 use Rattle.machine_rules.specs.WellFormed.{IsWellFormed}
-use Rattle.script_table.specs.declared.fault.FaultKind.{FaultKind}
-use Rattle.script_table.specs.declared.fault.FaultKind.TheVariants.{BadByte, NotHere, StrayClose, TooMany}
+use Rattle.script_table.specs.declared.faults.FaultKind.{FaultKind}
+use Rattle.script_table.specs.declared.faults.FaultKind.TheVariants.{BadByte, NotHere, StrayClose, TooMany}
 use Rattle.script_table.specs.declared.form.Form.{Form}
 use Rattle.script_table.specs.declared.form.Form.TheVariants as form
 use Rattle.script_table.specs.declared.form.BlockForm.{BlockForm}

@@ -3,7 +3,7 @@ ghost use Rattle.std.specs.Prelude.{ℕ, ◌≡◌, ◌∷◌, List, map, IfOk};
 ghost use Rattle.std.specs.Option.{option_map};
 ghost use Rattle.script_table.specs.Patterns.{spot_of, row_of, rows_of};
 ghost use Rattle.script_table.specs.LineFaults.{fitting_row, fitting_some};
-ghost use Rattle.task_script.specs.Narrowed.{begins, may_begin, Serves};
+ghost use Rattle.task_script.specs.ByLetter.{begins, may_begin, Serves};
 
 use script_lex::Words;
 use script_table::{Pattern, Place, Table, fitting_pattern};
@@ -67,7 +67,7 @@ pub(crate) struct ByLetter {
 impl Model for ByLetter {
     ghost use Rattle.std.specs.Prelude.{List};
     ghost use Rattle.script_table.specs.Patterns.{Row, rows_of};
-    ghost use Rattle.task_script.specs.Narrowed.{ServeFrom};
+    ghost use Rattle.task_script.specs.ByLetter.{ServeFrom};
 
     ghost Value = { List Row };
 

@@ -1,5 +1,6 @@
 use Rattle.std.proofs.Common.{◌<◌, length, sym, ap, subst₂, ◌∙◌, arith}
-use Rattle.rt_signals.specs.Walks.{first_wanted, is_wanted, rest_of}
+use Rattle.rt_signals.specs.Choice.{first_wanted, is_wanted}
+use Rattle.rt_signals.specs.Walks.{rest_of}
 use Rattle.rt_signals.proofs.Walking.{come_below, first_in, found, next_in, passed, read_record, shorter, skip}
 use Rattle.rt_signals.proofs.choice.first_wanted.Goals as goal
 

@@ -1,6 +1,7 @@
 use Rattle.std.proofs.Common.{◌≡◌, ℕ, Some, length, true}
 use Rattle.ranked_arrivals.specs.Arrivals.{has_come}
-use Rattle.rt_signals.specs.Walks.{first_wanted, rank_of, rest_of}
+use Rattle.rt_signals.specs.Choice.{first_wanted}
+use Rattle.rt_signals.specs.Walks.{rank_of, rest_of}
 use Rattle.rt_signals.proofs.choice.first_wanted.Given as goal
 
 abbrev pub invariant-loop-at : goal.invariant-loop-at

@@ -2,7 +2,7 @@ use Rattle.script_table.specs.Faults.{when}
 use Rattle.script_table.specs.LineFaults.{place_faults}
 use Rattle.script_table.specs.Ranges.{range_fault, is_too_many, server_faults}
 use Rattle.std.specs.Prelude.{◌++◌}
-use Rattle.script_table.specs.declared.fault.FaultKind.TheVariants.{TooMany}
+use Rattle.script_table.specs.declared.faults.FaultKind.TheVariants.{TooMany}
 use Rattle.script_table.proofs.KindOrder.{least_kind-append}
 use Rattle.task_script.proofs.ranges.statement_fault.Goals as goal
 

@@ -3,7 +3,7 @@ use Rattle.machine_rules.specs.State.{SignalRecord}
 use Rattle.ranked_arrivals.specs.Arrivals.{Arrivals}
 use Rattle.rt_signals.specs.Ages.{kept_for}
 use Rattle.rt_signals.specs.Kept.{counted_in, records_of}
-use Rattle.rt_signals.proofs.Ages.{kept_stay, records_kept}
+use Rattle.rt_signals.proofs.ByAge.{kept_stay, records_kept}
 use Rattle.rt_signals.proofs.pending.Pending.drop_for.Goals as goal
 
 pub invariant_of-self : goal.invariant_of-self

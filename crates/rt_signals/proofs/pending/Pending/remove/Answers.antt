@@ -3,7 +3,7 @@ use Rattle.std.proofs.Common.{◌≡◌, ◌<◌, ◌-◌, ℕ, List, length, tr
 use Rattle.machine_rules.specs.State.{SignalRecord}
 use Rattle.ranked_arrivals.specs.Arrivals.{Arrivals, has_come}
 use Rattle.rt_signals.specs.Kept.{AreKept, record_at, records_of, weight_of}
-use Rattle.rt_signals.specs.Walks.{first_wanted}
+use Rattle.rt_signals.specs.Choice.{first_wanted}
 use Rattle.rt_signals.specs.declared.choice.Wanted.TheVariants.{WithSerial}
 use Rattle.rt_signals.proofs.Keeping.{contained, count_without, kept_without, records_without, same_serial}
 use Rattle.rt_signals.proofs.Selecting.{has_serial, wanted_is}

@@ -1,6 +1,6 @@
 use Rattle.std.proofs.Common.{◌≡◌, ◌+◌, length}
 use Rattle.script_table.specs.Patterns.{rows_of}
-use Rattle.task_script.specs.Narrowed.{ServeFrom}
+use Rattle.task_script.specs.ByLetter.{ServeFrom}
 use Rattle.task_script.proofs.structure.by_letter.ByLetter.new.Given as goal
 
 abbrev pub invariant-loop-byte : goal.invariant-loop-byte

@@ -1,6 +1,6 @@
 use Rattle.std.proofs.Common.{ℕ, ◌≡◌, ◌+◌, ◌<◌, ◌-◌, length, sym, subst, get_or, arith}
 use Rattle.script_table.specs.Patterns.{rows_of}
-use Rattle.task_script.specs.Narrowed.{Serves}
+use Rattle.task_script.specs.ByLetter.{Serves}
 use Rattle.task_script.proofs.Narrowed.{serves_at}
 use Rattle.task_script.proofs.structure.by_letter.ByLetter.of_byte.Goals as goal
 

@@ -1,0 +1,171 @@
+// The pattern of a line.
+ghost use Rattle.std.specs.Prelude.{◌≡◌, ◌∷◌, [], map};
+ghost use Rattle.std.specs.Str.{bytes_eq};
+ghost use Rattle.std.specs.Option.{option_map};
+ghost use Rattle.script_table.specs.Faults.{least_kind};
+ghost use Rattle.script_table.specs.Patterns.{spot_of, row_of, rows_of};
+ghost use Rattle.script_table.specs.LineFaults.{stands, agrees, fits, any_agrees, fitting_row, spelling, place_faults, fitting_some, unless};
+ghost use Rattle.script_tree.specs.Names.{is_name};
+
+use crate::faults::lesser_first;
+use crate::words::{answer_of, is_number, is_register, set_of, signal_of};
+use crate::{FaultKind, Pattern, Place, Table};
+use script_lex::Words;
+use script_tree::Name;
+
+// Most keywords have another length, and then no byte is looked at.
+#[inline(always)]
+fn is_keyword(word: &[u8], keyword: &[u8]) -> bool
+    ensures { result ≡ bytes_eq word.now keyword.now }
+{
+    word.len() == keyword.len() && word == keyword
+}
+
+#[inline(always)]
+fn stands(place: &Place, word: &[u8]) -> bool
+    ensures { result ≡ stands (spot_of place.now) word.now }
+{
+    match place {
+        Place::Keyword(keyword) => is_keyword(word, keyword),
+        Place::Answer => answer_of(word).is_some(),
+        _ => true,
+    }
+}
+
+fn agrees(places: &[Place], mut words: Words<'_>) -> bool
+    ensures { result ≡ agrees (map spot_of places.now) words.entry.words }
+{
+    match places {
+        [] => true,
+        [place, rest @ ..] => match words.next_word() {
+            None => true,
+            Some(word) => stands(place, word.bytes) && agrees(rest, words),
+        },
+    }
+}
+
+fn fits(places: &[Place], mut words: Words<'_>) -> bool
+    ensures { result ≡ fits (map spot_of places.now) words.entry.words }
+{
+    for place in places {
+        let Some(word) = words.next_word() else {
+            return false;
+        };
+        if !stands(place, word.bytes) {
+            return false;
+        }
+    }
+    words.next_word().is_none()
+}
+
+// The same, where the first word is known.
+#[inline(always)]
+fn fits_first(places: &[Place], first: &[u8], words: &Words<'_>) -> bool
+    ensures { result ≡ fits (map spot_of places.now) (first.now ∷ words.now.words) }
+{
+    match places {
+        [] => false,
+        [place, rest @ ..] => stands(place, first) && fits(rest, words.again()),
+    }
+}
+
+fn any_agrees_in(patterns: &[Pattern], words: &Words<'_>) -> bool
+    ensures { result ≡ any_agrees (map row_of patterns.now) words.now.words }
+{
+    match patterns {
+        [] => false,
+        [pattern, rest @ ..] => agrees(pattern.places, words.again()) || any_agrees_in(rest, words),
+    }
+}
+
+#[inline(always)]
+fn fitting_in(
+    patterns: &'static [Pattern],
+    first: &[u8],
+    words: &Words<'_>,
+) -> Option<&'static Pattern>
+    ensures { option_map (λ p. row_of p.now) result
+        ≡ fitting_row (map row_of patterns.now) (first.now ∷ words.now.words) }
+{
+    for pattern in patterns {
+        if fits_first(pattern.places, first, words) {
+            return Some(pattern);
+        }
+    }
+    None
+}
+
+/// The same, where the first word is known, and `words` are those that follow it.
+pub fn fitting_pattern(table: &Table, first: &[u8], words: &Words<'_>) -> Option<&'static Pattern>
+    ensures { option_map (λ p. row_of p.now) result ≡ fitting_row (rows_of table.now) (first.now ∷ words.now.words) }
+{
+    if let Some(pattern) = fitting_in(table.declarations, first, words) {
+        return Some(pattern);
+    }
+    if let Some(pattern) = fitting_in(table.steps, first, words) {
+        return Some(pattern);
+    }
+    fitting_in(table.calls, first, words)
+}
+
+/// Whether a pattern of the table agrees with a line of these words: each of its keywords stands at its place, or the line is
+/// too short to have that place.
+pub fn any_agrees(table: &Table, words: &Words<'_>) -> bool
+    ensures { result ≡ any_agrees (rows_of table.now) words.now.words }
+{
+    any_agrees_in(table.declarations, words)
+        || (any_agrees_in(table.steps, words) || any_agrees_in(table.calls, words))
+}
+
+/// The pattern of the table that agrees with a line of these words and has their number; `None` exactly where there is none.
+pub fn pattern_of(table: &Table, words: &Words<'_>) -> Option<&'static Pattern>
+    ensures { option_map (λ p. row_of p.now) result ≡ fitting_some (rows_of table.now) words.now.words }
+{
+    let mut rest = words.again();
+    match rest.next_word() {
+        None => None,
+        Some(first) => fitting_pattern(table, first.bytes, &rest),
+    }
+}
+
+fn is_name(word: &[u8]) -> bool
+    ensures { result ≡ is_name word.now }
+{
+    Name::try_new(word).is_some()
+}
+
+fn unless(holds: bool, kind: FaultKind) -> Option<FaultKind>
+    ensures { result ≡ unless holds kind }
+{
+    if holds { None } else { Some(kind) }
+}
+
+fn spelling(place: &Place, word: &[u8]) -> Option<FaultKind>
+    ensures { result ≡ spelling (spot_of place.now) word.now }
+{
+    match place {
+        Place::Keyword(_) => None,
+        Place::Answer => None,
+        Place::Number { .. } => unless(is_number(word), FaultKind::BadNumber),
+        Place::Operand => unless(is_number(word) || is_register(word), FaultKind::BadNumber),
+        Place::Declares(_) => unless(is_name(word), FaultKind::BadName),
+        Place::Uses(_) => unless(is_name(word), FaultKind::BadName),
+        Place::Signal => unless(signal_of(word).is_some(), FaultKind::BadName),
+        Place::Acts => unless(signal_of(word).is_some(), FaultKind::BadName),
+        Place::Signals => unless(set_of(word).is_some(), FaultKind::BadName),
+    }
+}
+
+/// The least kind of what is misspelled at these places; `None` exactly where each word is spelled as its place wants.
+pub fn spelling_fault(places: &[Place], mut words: Words<'_>) -> Option<FaultKind>
+    ensures { result ≡ least_kind (place_faults spelling (map spot_of places.now) words.entry.words) }
+{
+    let mut found = None;
+    for place in places {
+        let Some(word) = words.next_word() else {
+            return found;
+        };
+        found = lesser_first(found, spelling(place, word.bytes));
+    }
+    found
+}

@@ -1,6 +1,0 @@
-use Rattle.std.proofs.Common.{◌∙◌}
-use Rattle.trace_check.proofs.Printed.{printed_is_read}
-use Rattle.trace_check.proofs.line.read_line.Goals as goal
-
-pub returns-clause-printed : goal.returns-clause-printed
-returns-clause-printed c = λ r h. c.read.ensures ∙ printed_is_read _ r h
