@@ -13,7 +13,7 @@ impl Thread {
     {
         let slice = self.slice_lasts(most, quantum);
         let capacity = self.capacity_lasts(most);
-        self.left().min(slice).min(capacity)
+        self.left().min(slice.min(capacity))
     }
 
     fn slice_lasts(&self, most: u64, quantum: u64) -> u64

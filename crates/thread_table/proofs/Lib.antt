@@ -10,3 +10,4 @@ pub mod Expiring
 pub mod Coming
 pub mod Least
 pub mod Accepting
+pub mod Charges

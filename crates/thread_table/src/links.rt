@@ -4,7 +4,7 @@ ghost use Rattle.machine_rules.specs.Priorities.{assigned_of, mutex_waited};
 ghost use Rattle.machine_rules.specs.Threads.{thread_in};
 ghost use Rattle.wait_lists.specs.Places.{place_in};
 ghost use Rattle.thread_blocks.specs.Plain.{wait_of, waiting_of};
-ghost use Rattle.inherit_chain.specs.Chains.{assigned_to, awaited_in, exec_of, waiting_for, with_claim};
+ghost use Rattle.inherit_chain.specs.Chains.{assigned_at, assigned_to, awaited_in, exec_of, waiting_for, with_claim};
 ghost use Rattle.inherit_chain.specs.Moves.{IsPlaced, TellsMoved, entered, left, mutex_named};
 ghost use Rattle.thread_table.specs.Moves.{ArePriced, MayAwait, begun};
 
@@ -35,6 +35,27 @@ pub(crate) fn reassign(
         return None;
     }
     chain.set_base(waits, t, p)
+}
+
+/// The chain has the assigned priority of the thread already, so that nothing changes.
+#[inline(always)]
+pub(crate) fn keep_assigned(
+    threads: &Threads,
+    chain: &Chain,
+    waits: &Waits,
+    t: Tid,
+) -> Option<Moved>
+    requires thread { t < length threads.now }
+    requires known { t < length chain.now.claims }
+    requires placed { IsPlaced chain.now waits.now }
+    requires same { assigned_of (thread_in threads.now t) ≡ assigned_at chain.now t }
+    ensures chain { chain.now ≡ with_claim t (assigned_to (assigned_of (thread_in threads.now t))) chain.now }
+    ensures waits { ArePriced chain.now waits.now waits.now }
+    ensures moved { TellsMoved (length chain.now.claims) (exec_of chain.now) (exec_of chain.now) waits.now result }
+    ensures alone { awaited_in chain.now.claims t ≡ None → IfSome result (λ m. m.thread ≡ t) }
+{
+    let _ = (threads, chain, waits, t);
+    None
 }
 
 /// The thread waits for nothing in an order.
