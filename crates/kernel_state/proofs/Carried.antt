@@ -10,7 +10,7 @@ use Rattle.machine_rules.specs.Threads.{is_runnable, no_thread}
 use Rattle.machine_rules.proofs.Reading.{changed-length, changed-other}
 use Rattle.thread_table.specs.Movers.{KeepsExec, KeepsOthers, TellsMoved, TellsMovedBeside}
 use Rattle.thread_table.specs.Table.{Table, thread_at, with_mutex, with_thread}
-use Rattle.thread_table.proofs.Movers.{keeps}
+use Rattle.thread_table.proofs.ToldMoves.{keeps}
 use Rattle.kernel_state.specs.Members.{TakesIn, Turns, has}
 use Rattle.kernel_state.specs.Standing.{OthersStand}
 use Rattle.kernel_state.specs.Tied.{IsTied}

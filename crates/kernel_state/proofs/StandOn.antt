@@ -10,7 +10,7 @@ use Rattle.machine_rules.specs.Threads.{is_runnable, no_thread, thread_in}
 use Rattle.machine_rules.proofs.Standing.{head_length, tail_length, without_length}
 use Rattle.thread_table.specs.Movers.{IsFree}
 use Rattle.thread_table.specs.Table.{Table, exec, thread_at, with_thread}
-use Rattle.thread_table.proofs.Movers.{runs_free}
+use Rattle.thread_table.proofs.ToldMoves.{runs_free}
 use Rattle.kernel_state.specs.Members.{HasNoneFrom, IsFirstFrom, TakesIn, Turns, has}
 use Rattle.kernel_state.specs.Standing.{OthersStand, ComesNext, StandsRight}
 use Rattle.kernel_state.proofs.OnLists.{gone, gone_apart, head_apart, head_there, tail_apart, tail_there}

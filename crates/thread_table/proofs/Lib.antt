@@ -4,7 +4,7 @@ pub mod Moved
 pub mod Statuses
 pub mod Served
 pub mod Opening
-pub mod Movers
+pub mod ToldMoves
 pub mod Armed
 pub mod Expiring
 pub mod Coming

@@ -3,7 +3,7 @@ use Rattle.sporadic_server.specs.Server.{activate}
 use Rattle.machine_rules.specs.Servers.{with_server}
 use Rattle.thread_table.proofs.Statuses.{activated_claim}
 use Rattle.thread_table.proofs.Ties.{still_tied}
-use Rattle.thread_table.proofs.Movers.{claims_kept, table_with}
+use Rattle.thread_table.proofs.ToldMoves.{claims_kept, table_with}
 use Rattle.thread_table.proofs.Armed.{still_armed, activated_due}
 use Rattle.thread_table.proofs.table.Table.activate.Goals as goal
 

@@ -5,7 +5,7 @@ use Rattle.thread_table.proofs.Moved.{begun_tied}
 use Rattle.std.proofs.lemmas.List.{length-set}
 use Rattle.inherit_chain.specs.Chains.{Links, exec_of}
 use Rattle.inherit_chain.specs.Moves.{TellsMoved}
-use Rattle.thread_table.proofs.Movers.{same_links, told}
+use Rattle.thread_table.proofs.ToldMoves.{same_links, told}
 use Rattle.thread_table.proofs.Ties.{awaits_none}
 use Rattle.thread_table.proofs.Armed.{armed_after}
 use Rattle.thread_table.proofs.table.Table.block.Goals as goal

@@ -5,7 +5,7 @@ use Rattle.machine_rules.specs.declared.frame.FrameKind.TheVariants as frame
 use Rattle.machine_rules.specs.Waking.{new_frame, on_top}
 use Rattle.machine_flat.specs.FlatBodies.{flat_bodies}
 use Rattle.thread_table.proofs.Ties.{still_tied}
-use Rattle.thread_table.proofs.Movers.{claims_kept, table_with}
+use Rattle.thread_table.proofs.ToldMoves.{claims_kept, table_with}
 use Rattle.thread_table.proofs.Armed.{still_armed}
 use Rattle.thread_table.proofs.table.Table.catch_signal.Goals as goal
 

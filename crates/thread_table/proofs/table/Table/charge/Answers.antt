@@ -5,7 +5,7 @@ use Rattle.leap_rules.specs.Quiet.{after_ticks}
 use Rattle.thread_table.proofs.Ties.{placed}
 use Rattle.thread_table.proofs.Moved.{reassigned_tied}
 use Rattle.std.proofs.lemmas.List.{length-set}
-use Rattle.thread_table.proofs.Movers.{told}
+use Rattle.thread_table.proofs.ToldMoves.{told}
 use Rattle.thread_table.proofs.Armed.{still_armed, charged_due}
 use Rattle.thread_table.proofs.table.Table.charge.Goals as goal
 

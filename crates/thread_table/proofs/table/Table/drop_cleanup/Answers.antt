@@ -1,7 +1,7 @@
 use Rattle.std.proofs.Common.{refl}
 use Rattle.machine_rules.specs.Cancellation.{without_cleanup}
 use Rattle.thread_table.proofs.Ties.{still_tied}
-use Rattle.thread_table.proofs.Movers.{claims_kept, table_with}
+use Rattle.thread_table.proofs.ToldMoves.{claims_kept, table_with}
 use Rattle.thread_table.proofs.Armed.{still_armed}
 use Rattle.thread_table.proofs.table.Table.drop_cleanup.Goals as goal
 

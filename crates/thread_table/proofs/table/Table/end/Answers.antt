@@ -4,7 +4,7 @@ use Rattle.thread_table.proofs.Moved.{restated_tied}
 use Rattle.std.proofs.lemmas.List.{length-set}
 use Rattle.machine_rules.proofs.Reading.{changed-length}
 use Rattle.inherit_chain.specs.Chains.{Links, no_claim, waiting_for}
-use Rattle.thread_table.proofs.Movers.{awaits_nothing, told_beside}
+use Rattle.thread_table.proofs.ToldMoves.{awaits_nothing, told_beside}
 use Rattle.thread_table.proofs.Armed.{armed_after}
 use Rattle.thread_table.proofs.table.Table.end.Goals as goal
 

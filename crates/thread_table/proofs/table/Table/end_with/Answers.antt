@@ -1,7 +1,7 @@
 use Rattle.std.proofs.Common.{refl}
 use Rattle.machine_rules.specs.Waking.{ending_with}
 use Rattle.thread_table.proofs.Ties.{still_tied}
-use Rattle.thread_table.proofs.Movers.{claims_kept, table_with}
+use Rattle.thread_table.proofs.ToldMoves.{claims_kept, table_with}
 use Rattle.thread_table.proofs.Armed.{still_armed}
 use Rattle.thread_table.proofs.table.Table.end_with.Goals as goal
 

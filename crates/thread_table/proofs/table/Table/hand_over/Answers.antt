@@ -12,7 +12,7 @@ use Rattle.inherit_chain.specs.Chains.{Links, waiting_for}
 use Rattle.thread_table.specs.Movers.{TellsMoved}
 use Rattle.thread_table.specs.Tied.{IsTied}
 use Rattle.thread_table.proofs.Moved.{moved_tied, mutex_tied, wait_set}
-use Rattle.thread_table.proofs.Movers.{handed_over, table_with, thread_alone, told}
+use Rattle.thread_table.proofs.ToldMoves.{handed_over, table_with, thread_alone, told}
 use Rattle.thread_table.proofs.Armed.{armed_after}
 use Rattle.thread_table.proofs.table.Table.hand_over.Goals.{After-thread_of-2}
 use Rattle.thread_table.proofs.table.Table.hand_over.Goals as goal

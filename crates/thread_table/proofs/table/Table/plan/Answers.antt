@@ -4,7 +4,7 @@ use Rattle.machine_rules.specs.Servers.{with_server}
 use Rattle.thread_table.proofs.Ties.{placed}
 use Rattle.thread_table.proofs.Moved.{reassigned_tied}
 use Rattle.std.proofs.lemmas.List.{length-set}
-use Rattle.thread_table.proofs.Movers.{told}
+use Rattle.thread_table.proofs.ToldMoves.{told}
 use Rattle.thread_table.proofs.Armed.{armed_after}
 use Rattle.thread_table.proofs.table.Table.plan.Goals as goal
 

@@ -2,7 +2,7 @@ use Rattle.std.proofs.Common.{◌∙◌, ℕ, ap, arith, sym}
 use Rattle.machine_rules.specs.Threads.{thread_in, waiting_in}
 use Rattle.wait_lists.specs.Ties.{place_of}
 use Rattle.inherit_chain.specs.Chains.{Links}
-use Rattle.thread_table.proofs.Movers.{claims_long}
+use Rattle.thread_table.proofs.ToldMoves.{claims_long}
 use Rattle.thread_table.proofs.Ties.{count_kept}
 use Rattle.thread_table.proofs.table.Table.set_count.Goals as goal
 

@@ -2,7 +2,7 @@ use Rattle.std.proofs.Common.{refl}
 use Rattle.script_flat.specs.declared.cursor.Cursor.{Cursor}
 use Rattle.machine_rules.specs.State.{Thread}
 use Rattle.thread_table.proofs.Ties.{still_tied}
-use Rattle.thread_table.proofs.Movers.{claims_kept, table_with}
+use Rattle.thread_table.proofs.ToldMoves.{claims_kept, table_with}
 use Rattle.thread_table.proofs.Armed.{still_armed}
 use Rattle.thread_table.proofs.table.Table.set_enabled.Goals as goal
 

@@ -3,7 +3,7 @@ use Rattle.machine_rules.specs.Scheduling.{with_policy}
 use Rattle.thread_table.proofs.Ties.{placed}
 use Rattle.thread_table.proofs.Moved.{reassigned_tied}
 use Rattle.std.proofs.lemmas.List.{length-set}
-use Rattle.thread_table.proofs.Movers.{told}
+use Rattle.thread_table.proofs.ToldMoves.{told}
 use Rattle.thread_table.proofs.Armed.{armed_after}
 use Rattle.thread_table.proofs.table.Table.set_policy.Goals as goal
 

@@ -3,7 +3,7 @@ use Rattle.machine_rules.specs.Scheduling.{with_priority}
 use Rattle.thread_table.proofs.Moved.{reassigned_tied}
 use Rattle.thread_table.proofs.Ties.{placed}
 use Rattle.std.proofs.lemmas.List.{length-set}
-use Rattle.thread_table.proofs.Movers.{told}
+use Rattle.thread_table.proofs.ToldMoves.{told}
 use Rattle.thread_table.proofs.Armed.{still_armed, raised_due}
 use Rattle.thread_table.proofs.table.Table.set_priority.Goals as goal
 

@@ -8,7 +8,7 @@ use Rattle.machine_flat.specs.FlatBodies.{flat_bodies}
 use Rattle.thread_table.specs.Times.{refill_of, start_of, timeout_of}
 use Rattle.thread_table.proofs.Statuses.{unit_keeps}
 use Rattle.thread_table.proofs.Ties.{still_tied}
-use Rattle.thread_table.proofs.Movers.{claims_kept, table_with}
+use Rattle.thread_table.proofs.ToldMoves.{claims_kept, table_with}
 use Rattle.thread_table.proofs.Armed.{still_armed}
 use Rattle.thread_table.proofs.table.Table.take_unit.Goals as goal
 

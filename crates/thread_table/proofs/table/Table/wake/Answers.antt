@@ -3,7 +3,7 @@ use Rattle.machine_rules.specs.Waking.{woken}
 use Rattle.inherit_chain.specs.Chains.{waiting_for}
 use Rattle.thread_table.proofs.Moved.{moved_tied, wait_set}
 use Rattle.std.proofs.lemmas.List.{length-set}
-use Rattle.thread_table.proofs.Movers.{told}
+use Rattle.thread_table.proofs.ToldMoves.{told}
 use Rattle.thread_table.proofs.Armed.{armed_after}
 use Rattle.thread_table.proofs.table.Table.wake.Goals as goal
 
