@@ -1,5 +1,5 @@
 -- A charge at a low priority leaves the assigned priority of the thread as it is.
-use Rattle.std.proofs.Common.{absurd, ◌≡◌, ◌∙◌, ◌<◌, ℕ, zero, suc, List, [], ◌∷◌, Option, None, Some, Bool, true, false, if◌then◌else◌, ap, is_some, length, omega, option_map, arith, refl, sym}
+use Rattle.std.proofs.Common.{◌≡◌, ◌∙◌, ◌<◌, ℕ, zero, suc, List, [], ◌∷◌, Option, None, Some, Bool, true, false, if◌then◌else◌, ap, is_some, length, option_map, arith, refl, sym}
 use Rattle.script_flat.specs.declared.cursor.Cursor.{Cursor}
 use Rattle.script_tree.specs.declared.policy.Policy.{Policy}
 use Rattle.script_tree.specs.declared.policy.Policy.TheVariants as policy
@@ -26,6 +26,7 @@ kept k th low = ap (assigned_under th.policy) (low_keeps k th.server low)
 
 assigned_is : (threads : List (Thread Cursor)) (chain : Links) (t : ℕ) → t < length threads →
     assigned_in (claims threads) chain.mutexes t ≡ assigned_of (thread_in threads t)
+assigned_is [] chain t inside = elim inside [ ]
 assigned_is (th ∷ threads) chain zero inside = refl
 assigned_is (th ∷ threads) chain (suc t) inside = assigned_is threads chain t (omega (arith, inside))
 

@@ -20,7 +20,7 @@ ghost use Rattle.thread_table.specs.Table as table;
 ghost use Rattle.thread_table.specs.Table.{with_thread};
 ghost use Rattle.thread_table.specs.Movers.{KeepsExec, TellsMoved};
 
-use crate::links::{keep_assigned, reassign, stop_waiting};
+use crate::links::{reassign, reassign_charged, stop_waiting};
 use crate::movers::thread_of;
 use crate::table::Table;
 use crate::times::retime;
@@ -151,7 +151,7 @@ impl Table {
     /// So many ticks at once, of the unit that it has taken. The answer is the one thread that stands among no waiters and whose
     /// execution priority changed; `None` exactly where there is none.
     #[inline(always)]
-    #[tactic(auto, using(crate::proofs::Ties::placed, crate::proofs::Charges::stays_assigned))]
+    #[tactic(auto, using(crate::proofs::Ties::placed))]
     pub fn charge(&mut self, t: Tid, k: u64) -> Option<Tid>
         requires known { t < length self.old.threads }
         requires room { HasRoom k (thread_in self.old.threads t) }
@@ -161,9 +161,12 @@ impl Table {
     {
         let was_high = self.threads.get(t).has_high();
         self.threads.get_mut(t).charge(k);
-        if !was_high {
-            return thread_of(keep_assigned(&self.threads, &self.chain, &self.waits, t));
-        }
-        thread_of(reassign(&self.threads, &mut self.chain, &mut self.waits, t))
+        thread_of(reassign_charged(
+            &self.threads,
+            &mut self.chain,
+            &mut self.waits,
+            t,
+            was_high,
+        ))
     }
 }

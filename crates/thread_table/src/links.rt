@@ -1,5 +1,5 @@
 // The chain and the waiters, together.
-ghost use Rattle.std.specs.Prelude.{◌≡◌, ◌<◌, IfSome, None, Some, length, slice_set};
+ghost use Rattle.std.specs.Prelude.{◌≡◌, ◌<◌, IfSome, None, Some, false, length, slice_set};
 ghost use Rattle.machine_rules.specs.Priorities.{assigned_of, mutex_waited};
 ghost use Rattle.machine_rules.specs.Threads.{thread_in};
 ghost use Rattle.wait_lists.specs.Places.{place_in};
@@ -37,25 +37,29 @@ pub(crate) fn reassign(
     chain.set_base(waits, t, p)
 }
 
-/// The chain has the assigned priority of the thread already, so that nothing changes.
+/// The same after a charge, which changes no assigned priority but that of a thread at its high one.
 #[inline(always)]
-pub(crate) fn keep_assigned(
+pub(crate) fn reassign_charged(
     threads: &Threads,
-    chain: &Chain,
-    waits: &Waits,
+    chain: &mut Chain,
+    waits: &mut Waits,
     t: Tid,
+    was_high: bool,
 ) -> Option<Moved>
     requires thread { t < length threads.now }
-    requires known { t < length chain.now.claims }
-    requires placed { IsPlaced chain.now waits.now }
-    requires same { assigned_of (thread_in threads.now t) ≡ assigned_at chain.now t }
-    ensures chain { chain.now ≡ with_claim t (assigned_to (assigned_of (thread_in threads.now t))) chain.now }
-    ensures waits { ArePriced chain.now waits.now waits.now }
-    ensures moved { TellsMoved (length chain.now.claims) (exec_of chain.now) (exec_of chain.now) waits.now result }
-    ensures alone { awaited_in chain.now.claims t ≡ None → IfSome result (λ m. m.thread ≡ t) }
+    requires known { t < length chain.old.claims }
+    requires placed { IsPlaced chain.old waits.old }
+    requires same { was_high ≡ false → assigned_of (thread_in threads.now t) ≡ assigned_at chain.old t }
+    ensures chain { chain.new ≡ with_claim t (assigned_to (assigned_of (thread_in threads.now t))) chain.old }
+    ensures waits { ArePriced chain.new waits.old waits.new }
+    ensures placed { IsPlaced chain.new waits.new }
+    ensures moved { TellsMoved (length chain.old.claims) (exec_of chain.old) (exec_of chain.new) waits.new result }
+    ensures alone { awaited_in chain.old.claims t ≡ None → IfSome result (λ m. m.thread ≡ t) }
 {
-    let _ = (threads, chain, waits, t);
-    None
+    if !was_high {
+        return None;
+    }
+    reassign(threads, chain, waits, t)
 }
 
 /// The thread waits for nothing in an order.
