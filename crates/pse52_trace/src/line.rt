@@ -24,14 +24,14 @@ pub fn line_len(now: Tick, e: &Event, names: &Names) -> usize
     ensures length { result ≡ length (line names.now now e.now) }
     ensures short { result ≤ 256 }
 {
-    let mut line = Line::new();
+    let mut line = LineBuffer::new();
     line.set_event(now, e, names);
     line.len()
 }
 
-// A line of at most 256 bytes, which stands from `start` to `end`. It is seen as its bytes.
+// A buffer of 256 bytes, whose line stands from `start` to `end`. It is seen as the bytes of the line.
 #[derive(Drop)]
-pub struct Line {
+pub struct LineBuffer {
     text: [u8; ROOM],
     start: usize,
     end: usize,
@@ -39,7 +39,7 @@ pub struct Line {
     tens: u64,
 }
 
-impl Model for Line {
+impl Model for LineBuffer {
     ghost use Rattle.std.specs.Prelude.{List, ℕ, ◌≡◌, ◌≤◌, decimal, slice_range};
 
     ghost Value = { List ℕ };
@@ -50,11 +50,11 @@ impl Model for Line {
         × (1 ≤ l.tens → (l.start ≤ 19) × (slice_range l.text l.start 19 ≡ decimal l.tens)) };
 }
 
-impl Line {
-    pub(crate) fn new() -> Line
+impl LineBuffer {
+    pub(crate) fn new() -> LineBuffer
         ensures { result ≡ [] }
     {
-        Line {
+        LineBuffer {
             text: [0; ROOM],
             start: HEAD,
             end: HEAD,

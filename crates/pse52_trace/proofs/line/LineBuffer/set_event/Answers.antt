@@ -2,7 +2,7 @@ use Rattle.std.proofs.Common.{◌++◌, ◌∷◌, List, ℕ, decimal, sym, ◌�
 use Rattle.pse52_trace.specs.Text.{event_words}
 use Rattle.pse52_trace.specs.Placed.{words_behind}
 use Rattle.pse52_trace.proofs.Placed.{head_stays, head_and_rest, length_range, line_by_words, line_is_whole}
-use Rattle.pse52_trace.proofs.line.Line.set_event.Goals as goal
+use Rattle.pse52_trace.proofs.line.LineBuffer.set_event.Goals as goal
 
 pub invariant_of-self : goal.invariant_of-self
 invariant_of-self c =
