@@ -1,11 +1,11 @@
 -- Lines that are put together by writes at places of one buffer.
-use Rattle.std.proofs.Common.{◌<◌, ◌/◌, ◌%◌, ◌^◌, decimal, inl, inr, eq-zero-or-pos, ◌≡◌, ℕ, ◌+◌, ◌-◌, ◌≤◌, List, [], ◌∷◌, ◌++◌, length, take, drop, refl, ap, sym, ◌∙◌, arith, append_assoc, length-append, length-take-le, length-drop, take-add, take-take, take_at, subst}
-use Rattle.std.proofs.lemmas.Fmt.{decimal_digit, decimal_step}
+use Rattle.std.proofs.Common.{◌<◌, ◌/◌, ◌%◌, ◌^◌, decimal, ◌≡◌, ℕ, ◌+◌, ◌-◌, ◌≤◌, List, [], ◌∷◌, ◌++◌, length, take, drop, refl, ap, sym, ◌∙◌, arith, append_assoc, length-append, length-take-le, length-drop, take-add, take-take, take_at, subst}
+use Rattle.itoa.proofs.Decimal.{pair, decimal_pair, length_pair}
 use Rattle.std.proofs.lemmas.Slice.{between_is}
 use Rattle.std.specs.List.{join_with_byte, slice_range}
 use Rattle.rt_io.specs.Placed.{Placed}
 use Rattle.rt_io.proofs.Placed.{range_grows}
-use Rattle.pse52_trace.specs.Placed.{words_behind}
+use Rattle.pse52_trace.specs.Placed.{SharesDigits, words_behind}
 use Rattle.pse52_trace.specs.Text.{line_of_words}
 use Rattle.pse52_trace.specs.ShortLines.{AreWhole}
 use Rattle.pse52_trace.proofs.ShortLines.{ended_is_whole}
@@ -19,48 +19,48 @@ placed_from_end a b digits i at end reached same within before written long =
     ∙ (λ k. before k ++ (ap (take (length digits)) written ∙ take_at digits (drop end a) (length digits) refl) k) in
     subst (λ k. Placed a b k digits end) same (record { front = front; moved = sym reached; same = long })
 
--- what is put behind the head leaves it as it is
-pub head_stays : (a b bytes : List ℕ) (start stop end : ℕ) → stop ≤ 20 → 20 ≤ length a → Placed a b 20 bytes end
-    → slice_range b start stop ≡ slice_range a start stop
-head_stays a b bytes start stop end within long p =
-    let front = length-take-le 20 a long in
-    let head : take 20 b ≡ take 20 a =
-    sym (take-take 20 end b (omega (arith, p.moved))) ∙ ap (take 20) p.front ∙ take_at (take 20 a) bytes 20 front in
-    let same : take stop b ≡ take stop a = sym (take-take stop 20 b within) ∙ ap (take stop) head ∙ take-take stop 20 a within in
-    between_is b start stop ∙ ap (drop start) same ∙ sym (between_is a start stop)
+-- how long a line is
+pub length_range : (text : List ℕ) (start end : ℕ) → end ≤ length text → length (slice_range text start end) ≡ end - start
+length_range text start end fits = length-take-le (end - start) (drop start text) (omega (arith, length-drop start text))
 
--- the last digit of a time behind the digits of its tenth
-pub time_by_digit : (a b : List ℕ) (start now end : ℕ) → now < 2 ^ 64 → start ≤ 19 → 19 ≤ length a
-    → Placed a b 19 ((48 + now % 10) ∷ []) end
-    → (1 ≤ now / 10 → slice_range a start 19 ≡ decimal (now / 10)) → (now / 10 ≡ 0 → start ≡ 19) → slice_range b start 20 ≡ decimal now
-time_by_digit a b start now end fits within long p tens none =
-    let digit : List ℕ = (48 + now % 10) ∷ [] in
-    let grown = ap (λ (i : ℕ). slice_range b start i) (sym p.moved) ∙ range_grows a b digit start 19 end within long p in
-    elim (eq-zero-or-pos (now / 10)) [
-      | inl z ↦
-          let low : now < 10 = omega arith in
-          let last : now % 10 ≡ now = omega arith in
-          let nothing : slice_range a start 19 ≡ [] = ap (λ (i : ℕ). slice_range a i 19) (none z) in
-          grown ∙ ap (λ (t : List ℕ). t ++ digit) nothing ∙ ap (λ (d : ℕ). (48 + d) ∷ []) last ∙ sym (decimal_digit now low)
-      | inr g ↦ grown ∙ ap (λ (t : List ℕ). t ++ digit) (tens (omega arith)) ∙ sym (decimal_step now (omega arith) fits)
-    ]
+-- the last two digits of a time behind those that it shares
+pub time_by_pair : (a b : List ℕ) (start now hundred end : ℕ) → now < 2 ^ 64 → hundred ≤ now → now - hundred < 100 → 18 ≤ length a
+    → SharesDigits a start hundred → Placed a b 18 (pair (now - hundred)) end → slice_range b start 20 ≡ decimal now
+time_by_pair a b start now hundred end fits behind near long (head, first, some, shared) p =
+    let same : hundred / 100 ≡ now / 100 = omega arith in
+    let last : now - hundred ≡ now % 100 = omega arith in
+    ap (λ (i : ℕ). slice_range b start i) (sym p.moved) ∙ range_grows a b (pair (now - hundred)) start 18 end head long p
+    ∙ ap (λ (t : List ℕ). t ++ pair (now - hundred)) (shared ∙ ap decimal same) ∙ ap (λ (n : ℕ). decimal (now / 100) ++ pair n) last
+    ∙ sym (decimal_pair now (omega arith) fits)
 
--- the last digit leaves those before it as they are
-pub tens_stay : (a b bytes : List ℕ) (start end : ℕ) → 19 ≤ length a → Placed a b 19 bytes end → slice_range b start 19 ≡ slice_range a start 19
-tens_stay a b bytes start end long p =
-    let front = length-take-le 19 a long in
-    let same : take 19 b ≡ take 19 a =
-    sym (take-take 19 end b (omega (arith, p.moved))) ∙ ap (take 19) p.front ∙ take_at (take 19 a) bytes 19 front in
-    between_is b start 19 ∙ ap (drop start) same ∙ sym (between_is a start 19)
+-- all digits but the last two of a whole time are shared
+pub time_shares : (text : List ℕ) (start now hundred : ℕ) → now < 2 ^ 64 → 100 ≤ now → 20 ≤ length text → hundred % 100 ≡ 0 → hundred / 100 ≡ now / 100
+    → slice_range text start 20 ≡ decimal now → SharesDigits text start hundred
+time_shares text start now hundred fits some long first same digits =
+    let front = decimal (now / 100) in
+    let count : 20 - start ≡ length front + 2 = sym (length_range text start 20 long) ∙ ap length digits ∙ length_pair now some fits in
+    let short : length front ≡ 18 - start = omega arith in (
+      omega arith,
+      first,
+      omega arith,
+      sym (take-take (18 - start) (20 - start) (drop start text) (omega arith)) ∙ ap (take (18 - start)) (digits ∙ decimal_pair now some fits)
+          ∙ take_at front (pair (now % 100)) (18 - start) short ∙ ap decimal (sym same),
+    )
+
+-- digits stay shared where only what is behind them is written
+pub digits_stay : (a b bytes : List ℕ) (start hundred at end : ℕ) → 18 ≤ at → at ≤ length a → Placed a b at bytes end
+    → SharesDigits a start hundred → SharesDigits b start hundred
+digits_stay a b bytes start hundred at end behind long p (head, first, some, shared) =
+    let front = length-take-le at a long in
+    let before : take at b ≡ take at a =
+    sym (take-take at end b (omega (arith, p.moved))) ∙ ap (take at) p.front ∙ take_at (take at a) bytes at front in
+    let same : take 18 b ≡ take 18 a = sym (take-take 18 at b behind) ∙ ap (take 18) before ∙ take-take 18 at a behind in
+    (head, first, some, between_is b start 18 ∙ ap (drop start) same ∙ sym (between_is a start 18) ∙ shared)
 
 -- a line is its head and what is put behind that
 pub head_and_rest : (a b bytes : List ℕ) (start end : ℕ) → start ≤ 20 → 20 ≤ length a → Placed a b 20 bytes end
     → slice_range b start end ≡ slice_range a start 20 ++ bytes
 head_and_rest a b bytes start end within long p = range_grows a b bytes start 20 end within long p
-
--- how long a line is
-pub length_range : (text : List ℕ) (start end : ℕ) → end ≤ length text → length (slice_range text start end) ≡ end - start
-length_range text start end fits = length-take-le (end - start) (drop start text) (omega (arith, length-drop start text))
 
 -- the words of a line, the first without a blank
 pub line_by_words : (word : List ℕ) (words : List (List ℕ)) → line_of_words (word ∷ words) ≡ word ++ words_behind words

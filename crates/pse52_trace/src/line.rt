@@ -1,16 +1,17 @@
 // Lines: words with one blank between them, and a line end.
-ghost use Rattle.std.specs.Prelude.{◌≡◌, ◌≤◌, ◌<◌, ◌+◌, ◌++◌, ◌∷◌, [], length, ◌/◌, ◌*◌, ◌^◌, codes, decimal, slice_range, Some};
+ghost use Rattle.std.specs.Prelude.{◌≡◌, ◌≤◌, ◌<◌, ◌+◌, ◌++◌, ◌∷◌, [], length, ◌/◌, ◌%◌, ◌-◌, ◌^◌, codes, decimal, slice_range, Some};
 ghost use Rattle.pse52_trace.specs.Text.{IsNamed, budget_words, event_words, line, name_at, report_line, report_words, signal_name};
 ghost use Rattle.rt_io.specs.Placed.{Placed};
-ghost use Rattle.pse52_trace.specs.Placed.{blanks_before, words_behind};
+ghost use Rattle.pse52_trace.specs.Placed.{SharesDigits, blanks_before, words_behind};
+ghost use Rattle.tick_num.specs.Words.{res_text};
 ghost use Rattle.pse52_trace.specs.ShortLines.{AreWhole};
 
-use crate::place::{place_byte, place_number};
+use crate::place::{place_byte, place_number, place_pair};
 use crate::{BudgetView, Event, Names, Report};
 use itoa::{Buffer, write_digits};
 use rt_io::place_word;
 use std::marker::Model;
-use tick_num::{Tick, Tid};
+use tick_num::{Res, Tick, Tid};
 
 // How long the buffer of a line is.
 const ROOM: usize = 256;
@@ -18,47 +19,51 @@ const ROOM: usize = 256;
 // The time of an event ends here, so that the words behind it always begin here.
 const HEAD: usize = 20;
 
+// No hundred: behind every time.
+const NO_HUNDRED: u64 = u64::MAX;
+
 /// How long the line of an event is, in bytes: at most 256, whatever its names and numbers.
 pub fn line_len(now: Tick, e: &Event, names: &Names) -> usize
     requires { IsNamed names.now e.now }
     ensures length { result ≡ length (line names.now now e.now) }
     ensures short { result ≤ 256 }
 {
-    let mut line = Line::new();
+    let mut line = LineBuffer::new();
     line.set_event(now, e, names);
     line.len()
 }
 
-// A line of at most 256 bytes, which stands from `start` to `end`. It is seen as its bytes.
+// A buffer of 256 bytes, whose line stands from `start` to `end`. It is seen as the bytes of the line.
 #[derive(Drop)]
-pub struct Line {
+pub struct LineBuffer {
     text: [u8; ROOM],
     start: usize,
     end: usize,
-    // a tenth of the time, whose digits stand from `start` to the last one, so that instants that are near share them
-    tens: u64,
+    // the first of the hundred instants whose digits stand from `start`, all but the last two, so that instants that are near share them
+    hundred: u64,
 }
 
-impl Model for Line {
-    ghost use Rattle.std.specs.Prelude.{List, ℕ, ◌≡◌, ◌≤◌, decimal, slice_range};
+impl Model for LineBuffer {
+    ghost use Rattle.std.specs.Prelude.{List, ℕ, ◌≤◌, ◌<◌, ◌^◌, ◌-◌, slice_range};
+    ghost use Rattle.pse52_trace.specs.Placed.{SharesDigits};
 
     ghost Value = { List ℕ };
 
     ghost view = { λ l. slice_range l.text l.start l.end };
 
     ghost invariant = { λ l. (l.start ≤ 20) × (20 ≤ l.end) × (l.end ≤ 256)
-        × (1 ≤ l.tens → (l.start ≤ 19) × (slice_range l.text l.start 19 ≡ decimal l.tens)) };
+        × (l.hundred < 2 ^ 64 - 1 → SharesDigits l.text l.start l.hundred) };
 }
 
-impl Line {
-    pub(crate) fn new() -> Line
+impl LineBuffer {
+    pub(crate) fn new() -> LineBuffer
         ensures { result ≡ [] }
     {
-        Line {
+        LineBuffer {
             text: [0; ROOM],
             start: HEAD,
             end: HEAD,
-            tens: 0,
+            hundred: NO_HUNDRED,
         }
     }
 
@@ -69,9 +74,12 @@ impl Line {
         ensures value { self.new ≡ line names.now now e.now }
         ensures whole { AreWhole self.new }
     {
-        let time = now.get();
-        self.start = place_time(&mut self.text, self.tens, self.start, time);
-        self.tens = time / 10;
+        place_time(
+            &mut self.text,
+            &mut self.start,
+            &mut self.hundred,
+            now.get(),
+        );
         self.end = place_event(&mut self.text, e, names);
     }
 
@@ -82,7 +90,7 @@ impl Line {
         ensures whole { AreWhole self.new }
     {
         self.start = HEAD;
-        self.tens = 0;
+        self.hundred = NO_HUNDRED;
         self.end = place_report(&mut self.text, t, report, names);
     }
 
@@ -100,37 +108,43 @@ impl Line {
     }
 }
 
-// Puts the digits of a time before the head, and answers where they begin. All but the last may stand there.
+// Puts the digits of a time before the head, from `start` on. All but the last two may stand there.
 #[inline(always)]
-fn place_time(text: &mut [u8], stands: u64, start: usize, now: u64) -> usize
+fn place_time(text: &mut [u8], start: &mut usize, hundred: &mut u64, now: u64)
     requires room { length text.old ≡ 256 }
-    requires stands { 1 ≤ stands → (start ≤ 19) × (slice_range text.old start 19 ≡ decimal stands) }
-    ensures digits { slice_range text.new result 20 ≡ decimal now }
-    ensures tens { 1 ≤ now / 10 → slice_range text.new result 19 ≡ decimal (now / 10) }
-    ensures head { result ≤ 19 }
+    requires last { now < 2 ^ 64 - 1 }
+    requires stands { hundred.old < 2 ^ 64 - 1 → SharesDigits text.old start.old hundred.old }
+    ensures digits { slice_range text.new start.new 20 ≡ decimal now }
+    ensures stands { hundred.new < 2 ^ 64 - 1 → SharesDigits text.new start.new hundred.new }
+    ensures head { start.new ≤ 19 }
 {
-    let start = place_tens(text, stands, start, now / 10);
-    place_byte(text, HEAD - 1, b'0' + (now % 10) as u8);
-    start
+    if now >= *hundred && now - *hundred < 100 {
+        place_pair(text, HEAD - 2, now - *hundred);
+    } else {
+        *start = place_all_digits(text, now);
+        *hundred = hundred_of(now);
+    }
 }
 
-// Puts the digits of a tenth of a time before the last digit, unless they stand there, and answers where they begin.
-#[inline(always)]
-fn place_tens(text: &mut [u8], stands: u64, start: usize, tens: u64) -> usize
-    requires room { length text.old ≡ 256 }
-    requires fits { 10 * tens < 2 ^ 64 }
-    requires stands { 1 ≤ stands → (start ≤ 19) × (slice_range text.old start 19 ≡ decimal stands) }
-    ensures digits { 1 ≤ tens → slice_range text.new result 19 ≡ decimal tens }
-    ensures none { tens ≡ 0 → result ≡ 19 }
+// Puts all digits of a time before the head, and answers where they begin.
+#[inline(never)]
+fn place_all_digits(text: &mut [u8], now: u64) -> usize
+    requires { length text.old ≡ 256 }
+    ensures digits { slice_range text.new result 20 ≡ decimal now }
     ensures head { result ≤ 19 }
 {
-    if tens == 0 {
-        return HEAD - 1;
+    write_digits(now, text, HEAD)
+}
+
+// The first of the hundred instants that share all digits but the last two, where there are more.
+fn hundred_of(now: u64) -> u64
+    ensures { result < 2 ^ 64 - 1 → (100 ≤ now) × (result % 100 ≡ 0) × (result / 100 ≡ now / 100) }
+{
+    if now < 100 {
+        NO_HUNDRED
+    } else {
+        now - now % 100
     }
-    if tens == stands {
-        return start;
-    }
-    write_digits(tens, text, HEAD - 1)
 }
 
 // Puts the words of an event and the line end behind the head.
@@ -151,7 +165,7 @@ fn place_event(text: &mut [u8], e: &Event, names: &Names) -> usize
             let at = place_of_thread(text, b" return ", names, *t);
             let at = place_byte(text, at, b' ');
             let at = place_word(text, at, call.word().as_bytes());
-            place_outcome(text, at, res.text(), *value)
+            place_result(text, at, *res, *value)
         }
         Event::Deliver(t, sig, code, value) => {
             let at = place_of_thread(text, b" deliver ", names, *t);
@@ -223,6 +237,30 @@ fn place_with_numbers(
     let at = place_number(text, at, first);
     let at = place_number(text, at, second);
     place_byte(text, at, b'\n')
+}
+
+// Puts the result of a call and its value, and the line end. Most calls succeed, with no value to tell.
+#[inline(always)]
+fn place_result(text: &mut [u8], at: usize, res: Res, value: u64) -> usize
+    requires room { at + 55 ≤ length text.old }
+    ensures placed { Placed text.old text.new at (32 ∷ res_text res ++ 32 ∷ decimal value ++ 10 ∷ []) result }
+    ensures within { result ≤ at + 55 }
+{
+    match res {
+        Res::Zero if value == 0 => place_word(text, at, b" 0 0\n"),
+        Res::Zero => place_outcome(text, at, "0", value),
+        _ => place_error(text, at, res, value),
+    }
+}
+
+// Puts an error and its value, and the line end.
+#[inline(never)]
+fn place_error(text: &mut [u8], at: usize, res: Res, value: u64) -> usize
+    requires room { at + 55 ≤ length text.old }
+    ensures placed { Placed text.old text.new at (32 ∷ res_text res ++ 32 ∷ decimal value ++ 10 ∷ []) result }
+    ensures within { result ≤ at + 55 }
+{
+    place_outcome(text, at, res.text(), value)
 }
 
 // Puts the last two words of a line, of which the second is a number, and the line end.

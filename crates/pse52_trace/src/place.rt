@@ -1,5 +1,5 @@
 // Bytes put at a place of a buffer. Each function answers the place behind them.
-ghost use Rattle.std.specs.Prelude.{◌≡◌, ◌+◌, ◌<◌, ◌≤◌, [], ◌∷◌, length, take, decimal};
+ghost use Rattle.std.specs.Prelude.{◌≡◌, ◌+◌, ◌<◌, ◌≤◌, [], ◌∷◌, ◌/◌, ◌%◌, length, take, decimal};
 ghost use Rattle.rt_io.specs.Placed.{Placed};
 
 use itoa::{Buffer, write_digits};
@@ -42,6 +42,21 @@ fn place_two_digits(buf: &mut [u8], at: usize, n: u64) -> usize
 {
     write_digits(n, buf, at + 2);
     at + 2
+}
+
+// Two digits of a number below 100, of which the first may be 0.
+#[inline(always)]
+pub(crate) fn place_pair(buf: &mut [u8], at: usize, n: u64) -> usize
+    requires room { at + 2 ≤ length buf.old }
+    requires two { n < 100 }
+    ensures { Placed buf.old buf.new at ((48 + n / 10) ∷ (48 + n % 10) ∷ []) result }
+{
+    if n < 10 {
+        let at = place_byte(buf, at, b'0');
+        place_byte(buf, at, b'0' + n as u8)
+    } else {
+        place_two_digits(buf, at, n)
+    }
 }
 
 // The digits of a number.

@@ -5,7 +5,7 @@ ghost use Rattle.pse52_trace.specs.Prints.{Prints};
 ghost use Rattle.pse52_trace.specs.ShortLines.{AreWhole};
 ghost use Rattle.pse52_trace.specs.Tells.{Tells};
 
-use crate::line::Line;
+use crate::line::LineBuffer;
 use crate::{Event, Names, Report};
 use rt_io::Sink;
 use tick_num::{Tick, Tid};
@@ -15,7 +15,7 @@ use tick_num::{Tick, Tid};
 pub struct Tracer<'a, K> {
     sink: &'a mut K,
     failed: bool,
-    line: Line,
+    line: LineBuffer,
 }
 
 impl<'a, K: Sink> Tracer<'a, K> {
@@ -28,7 +28,7 @@ impl<'a, K: Sink> Tracer<'a, K> {
         Tracer {
             sink,
             failed: false,
-            line: Line::new(),
+            line: LineBuffer::new(),
         }
     }
 

@@ -1,7 +1,7 @@
 use Rattle.std.proofs.Common.{arith}
 use Rattle.pse52_trace.specs.Text.{report_words}
 use Rattle.pse52_trace.proofs.Placed.{head_and_rest, length_range, line_is_whole}
-use Rattle.pse52_trace.proofs.line.Line.set_report.Goals as goal
+use Rattle.pse52_trace.proofs.line.LineBuffer.set_report.Goals as goal
 
 pub returns-clause-value : goal.returns-clause-value
 returns-clause-value c =
