@@ -6,3 +6,4 @@ mod Memory
 mod Sharing
 pub mod Standing
 pub mod Walks
+mod Writes

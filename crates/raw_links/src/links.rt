@@ -71,10 +71,7 @@ impl Links {
         requires at { (at ≡ self.old.nodes + list) ⊎ (stands_in at (list_at self.old.lists list) ≡ true) }
         ensures { self.new ≡ record self.old { lists = slice_set self.old.lists list (placed at node (list_at self.old.lists list)) } }
     {
-        let left = self.block.before(at);
-        self.block.join(left, node);
-        self.block.join(node, at);
-        self.block.set_list(node, list + 1);
+        self.block.put_in(at, node, list + 1);
     }
 
     /// Takes the node out of its list.
@@ -84,10 +81,7 @@ impl Links {
         ensures gone { on_a_list node self.new.lists ≡ false }
         ensures others { OthersStay node self.old.lists self.new.lists }
     {
-        let left = self.block.before(node);
-        let right = self.block.after(node);
-        self.block.join(left, right);
-        self.block.set_list(node, 0);
+        self.block.take_out(node);
     }
 
     /// The head of the list. None exactly where it is empty.

@@ -20,14 +20,14 @@ last_one t [] once stands none = cc
 last_one t (x ∷ xs) once stands none = grind (arith, nat_tests, no_first xs, last_one t xs, without_absent t xs)
 
 -- what follows the thread on the one list on which it stands
-follower_at : (t k : ℕ) (ls : List (List ℕ)) → times_in_all t ls ≤ 1 → node_stands t (get_or ls k []) ≡ true → follower_on t ls ≡ follower t (get_or ls k [])
+pub follower_at : (t k : ℕ) (ls : List (List ℕ)) → times_in_all t ls ≤ 1 → node_stands t (get_or ls k []) ≡ true → follower_on t ls ≡ follower t (get_or ls k [])
 follower_at t k [] once h = cc
 follower_at t zero (xs ∷ ls) once h = grind (arith, nat_tests)
 follower_at t (suc k) (xs ∷ ls) once h =
     let here = present_node t (get_or ls k []) h in
     grind (arith, nat_tests, absent_node t xs, times_at_le t ls k, follower_at t k ls)
 
-set_again : (ls : List (List ℕ)) (k : ℕ) (a b : List ℕ) → set (set ls k a) k b ≡ set ls k b
+pub set_again : (ls : List (List ℕ)) (k : ℕ) (a b : List ℕ) → set (set ls k a) k b ≡ set ls k b
 set_again [] k a b = refl
 set_again (l ∷ ls) zero a b = refl
 set_again (l ∷ ls) (suc k) a b = ap (λ (r : List (List ℕ)). l ∷ r) (set_again ls k a b)
