@@ -1,14 +1,6 @@
 // Threads by their numbers.
-ghost use Rattle.std.specs.Prelude.{◌≡◌, ◌<◌};
-
-use super::*;
-
-fn thread(n: u16) -> Tid
-    requires { n < 256 }
-    ensures { result ≡ n }
-{
-    Tid::try_new(n).unwrap()
-}
+use crate::numbers::thread;
+use thread_lists::ThreadList;
 
 #[test]
 fn threads_come_move_and_go(rt: HostRuntime) {

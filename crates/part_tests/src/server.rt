@@ -1,22 +1,8 @@
 // A thread under a server with the priorities 8 and 2, period 10, budget 3 and at most 4 pending replenishments, that
 // starts at 2 and first runs at 9. It is exhausted at 12, where its replenishment is due at once, and again at 15.
-ghost use Rattle.std.specs.Prelude.{◌≡◌, ◌≤◌, ◌*◌, ◌^◌};
-
-use super::*;
-
-fn prio(n: u8) -> Prio
-    requires { 1 ≤ n }
-    ensures { result ≡ n }
-{
-    Prio::try_new(n).unwrap()
-}
-
-fn tick(n: u64) -> Tick
-    requires { n ≤ 2 * 10 ^ 18 }
-    ensures { result ≡ n }
-{
-    Tick::try_new(n).unwrap()
-}
+use crate::numbers::{prio, tick};
+use sporadic_server::{BudgetLine, Server, budget_law};
+use tick_num::Params;
 
 #[test]
 fn a_thread_that_first_runs_late(rt: HostRuntime) {

@@ -1,12 +1,12 @@
 // A queue for two messages.
-ghost use Rattle.std.specs.Prelude.{◌≡◌, ◌<◌, ◌∷◌, [], None, false, IfOk};
+ghost use Rattle.std.specs.Prelude.{◌≡◌, ◌∷◌, [], None, false, IfOk};
 ghost use Rattle.machine_rules.specs.Declarations.{queues_of};
 
-use super::*;
+use crate::numbers::object;
+use message_queues::{Queues, Registration};
 use script_tree::{Decl, Decls, Kind, Name, Script};
 use std::alloc::{AllocError, Global};
 use std::test::Fail;
-use tick_num::ObjId;
 
 fn script(alloc: Global) -> Result<Script, AllocError>
     ensures { IfOk result (λ s. queues_of s ≡ record { depth = 2; longest = 8; is_nonblock = false; messages = []; registration = None } ∷ []) }
@@ -25,18 +25,11 @@ fn script(alloc: Global) -> Result<Script, AllocError>
     })
 }
 
-fn number(n: u16) -> ObjId
-    requires { n < 256 }
-    ensures { result ≡ n }
-{
-    ObjId::try_new(n).unwrap()
-}
-
 #[test]
 fn messages_of_a_higher_priority_come_first(rt: HostRuntime) -> Result<(), Fail> {
     let script = script(rt.alloc())?;
     let mut queues = Queues::open(rt.alloc(), &script)?;
-    let q = number(0);
+    let q = object(0);
     assert_eq!(rt; queues.count(), 1);
     assert!(rt; queues.is_empty(q));
     assert!(rt; queues.is_too_long(q, 9));
@@ -56,7 +49,7 @@ fn messages_of_a_higher_priority_come_first(rt: HostRuntime) -> Result<(), Fail>
 fn a_registration_is_kept(rt: HostRuntime) -> Result<(), Fail> {
     let script = script(rt.alloc())?;
     let mut queues = Queues::open(rt.alloc(), &script)?;
-    let q = number(0);
+    let q = object(0);
     queues.register(q, Some(Registration::new(5, 9)));
     let Some(kept) = queues.registration(q) else {
         assert!(rt; false);

@@ -1,12 +1,12 @@
 // A timer of signal 5.
-ghost use Rattle.std.specs.Prelude.{◌≡◌, ◌<◌, ◌≤◌, ◌*◌, ◌^◌, ◌∷◌, [], None, IfOk};
+ghost use Rattle.std.specs.Prelude.{◌≡◌, ◌∷◌, [], None, IfOk};
 ghost use Rattle.machine_rules.specs.Declarations.{timers_of};
 
-use super::*;
+use crate::numbers::{object, tick};
+use interval_timers::Timers;
 use script_tree::{Decl, Decls, Kind, Name, Script};
 use std::alloc::{AllocError, Global};
 use std::test::Fail;
-use tick_num::{ObjId, Tick};
 
 fn script(alloc: Global) -> Result<Script, AllocError>
     ensures { IfOk result (λ s. timers_of s ≡ record { signal = 5; value = 77; due = None; interval = 0; extra = 0; overrun = 0 } ∷ []) }
@@ -20,25 +20,11 @@ fn script(alloc: Global) -> Result<Script, AllocError>
     })
 }
 
-fn number(n: u16) -> ObjId
-    requires { n < 256 }
-    ensures { result ≡ n }
-{
-    ObjId::try_new(n).unwrap()
-}
-
-fn tick(n: u64) -> Tick
-    requires { n ≤ 2 * 10 ^ 18 }
-    ensures { result ≡ n }
-{
-    Tick::try_new(n).unwrap()
-}
-
 #[test]
 fn a_timer_expires_again_and_again(rt: HostRuntime) -> Result<(), Fail> {
     let script = script(rt.alloc())?;
     let mut timers = Timers::open(rt.alloc(), &script)?;
-    let k = number(0);
+    let k = object(0);
     assert_eq!(rt; timers.count(), 1);
     assert_eq!(rt; timers.signal(k), 5);
     assert_eq!(rt; timers.value(k), 77);

@@ -1,19 +1,13 @@
 // A thread that starts by itself, and ends; and a timer that expires twice.
-ghost use Rattle.std.specs.Prelude.{◌≡◌, ◌≤◌, ◌*◌, ◌^◌, IfOk, length};
+ghost use Rattle.std.specs.Prelude.{◌≤◌, IfOk, length};
 ghost use Rattle.machine_rules.specs.Declarations.{threads_of, timers_of};
 
-use super::*;
+use crate::numbers::tick;
 use script_tree::{Body, Decl, Decls, Kind, Name, Policy, Script};
 use std::alloc::Global;
 use std::test::Fail;
-use tick_num::{Item, ObjId, Prio, Tick, Tid};
-
-fn tick(n: u64) -> Tick
-    requires { n ≤ 2 * 10 ^ 18 }
-    ensures { result ≡ n }
-{
-    Tick::try_new(n).unwrap()
-}
+use thread_table::Table;
+use tick_num::{Item, ObjId, Prio, Tid};
 
 fn one_timer(alloc: Global) -> Result<Script, Fail>
     ensures threads { IfOk result (λ s. length (threads_of s) ≤ 64) }

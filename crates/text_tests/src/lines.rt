@@ -1,4 +1,5 @@
-use crate::Lines;
+// The lines of a text, and their words.
+use script_lex::Lines;
 use std::test::Fail;
 
 #[test]

@@ -1,7 +1,7 @@
 // The lines of three tasks, whole and cut off.
 ghost use Rattle.std.specs.Prelude.{◌≡◌, ◌^◌, ◌≤◌};
 
-use super::*;
+use response_report::put_responses;
 use rt_io::{Failed, MemSink, Sink};
 use rta_core::Tasks;
 use std::marker::Brand;

@@ -1,5 +1,5 @@
 // Four nodes, of which three come.
-use super::*;
+use ranked_arrivals::Arrivals;
 use std::test::Fail;
 
 #[test]

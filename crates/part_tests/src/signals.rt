@@ -1,23 +1,8 @@
 // Records for two threads and for the process.
-ghost use Rattle.std.specs.Prelude.{◌≡◌, ◌<◌};
-
-use super::*;
+use crate::numbers::{object, thread};
+use rt_signals::{Pending, SignalRecord};
 use std::test::Fail;
-use tick_num::{ObjId, SigCode, SigSet, Tid};
-
-fn thread(n: u16) -> Tid
-    requires { n < 256 }
-    ensures { result ≡ n }
-{
-    Tid::try_new(n).unwrap()
-}
-
-fn object(n: u16) -> ObjId
-    requires { n < 256 }
-    ensures { result ≡ n }
-{
-    ObjId::try_new(n).unwrap()
-}
+use tick_num::{SigCode, SigSet};
 
 #[test]
 fn the_lowest_signal_and_of_it_the_oldest(rt: HostRuntime) -> Result<(), Fail> {

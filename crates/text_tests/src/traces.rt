@@ -1,7 +1,7 @@
 // Each form of line against its literal, and sinks that fail.
 ghost use Rattle.std.specs.Prelude.{◌≡◌, length};
 
-use crate::{BudgetView, CallName, Event, Names, Report, Tracer, line_len};
+use pse52_trace::{BudgetView, CallName, Event, Names, Report, Tracer, line_len};
 use rt_io::MemSink;
 use std::test::Fail;
 use tick_num::{Prio, Res, SigCode, Tick, Tid};

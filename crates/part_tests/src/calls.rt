@@ -1,4 +1,5 @@
-use super::*;
+// What is known of a call.
+use machine_rules::{call_name, is_cancellation_point};
 use pse52_trace::CallName;
 use script_tree::{Call, Operand};
 

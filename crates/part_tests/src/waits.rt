@@ -1,30 +1,11 @@
 // Three threads that wait for one mutex, a fourth that waits for a semaphore of the same number, and two that wait for signals.
-ghost use Rattle.std.specs.Prelude.{◌≡◌, ◌≤◌, ◌<◌};
+ghost use Rattle.std.specs.Prelude.{◌≡◌};
 ghost use Rattle.wait_lists.specs.declared.WaitObj.TheVariants.{Mutex};
 
-use super::*;
+use crate::numbers::{object, prio, thread};
 use std::test::Fail;
-
-fn thread(n: u16) -> Tid
-    requires { n < 256 }
-    ensures { result ≡ n }
-{
-    Tid::try_new(n).unwrap()
-}
-
-fn object(n: u16) -> ObjId
-    requires { n < 256 }
-    ensures { result ≡ n }
-{
-    ObjId::try_new(n).unwrap()
-}
-
-fn prio(n: u8) -> Prio
-    requires { 1 ≤ n }
-    ensures { result ≡ n }
-{
-    Prio::try_new(n).unwrap()
-}
+use tick_num::SigSet;
+use wait_lists::{WaitObj, Waits};
 
 fn mutex() -> WaitObj
     ensures { result ≡ Mutex 7 }

@@ -1,7 +1,7 @@
 // Worked texts of tasks: their responses, and their faults. The values were worked out by hand.
 ghost use Rattle.std.specs.Prelude.{◌≡◌, ◌^◌, ◌≤◌, length};
 
-use super::*;
+use rta_core::{RtaEnd, TaskFault, Tasks};
 use std::alloc::{AllocError, Global};
 use std::marker::Brand;
 use std::sync::ledger::{Blank, Ledger};

@@ -1,7 +1,7 @@
 // Traces beside one another, each form of line, and what is no line.
-use crate::{Form, Limited, compare, divide, first_difference, read_line};
 use rt_io::{Failed, Sink};
 use std::test::Fail;
+use trace_check::{Form, Limited, compare, divide, first_difference, read_line};
 
 const TRACE: &[u8] = b"0 start a\n0 dispatch a 5\n4 exit a\n4 idle\n10 end\nthread a ticks 4\n";
 

@@ -1,4 +1,6 @@
-use super::*;
+// Texts in a room of fixed size.
+use arrayvec::ArrayVec;
+use fixed_text::{add, add_number};
 use std::test::Fail;
 
 #[test]

@@ -1,8 +1,9 @@
 // The adapters over readers and writers that fail in mid-stream.
-use super::*;
-use crate::{ReadEnd, read_whole};
+ghost use Rattle.std.specs.Prelude.{◌≤◌, length};
+
+use rt_io::{Failed, ReadEnd, Sink, StdSink, StdSource, read_whole};
 use std::io;
-use std::io::ErrorKind;
+use std::io::{ErrorKind, Read, Write};
 use std::test::Fail;
 
 // Gives one byte a read, and fails at one of its reads.
@@ -28,25 +29,52 @@ impl Read for Dripping {
     }
 }
 
-// Takes at most two bytes a write and as many as it has room for in all, and fails to flush.
+// Takes these bytes and no others, at most two a write. Once it took as many as it has room for, so many writes take
+// none. It flushes where it has taken all of them.
 #[derive(Drop)]
 struct Narrow {
+    due: &'static [u8],
     room: usize,
+    refusals: u8,
     fails: bool,
+}
+
+impl Narrow {
+    // How many bytes of a write it takes.
+    fn count_of(&self, buf: &[u8]) -> usize
+        ensures { result ≤ length buf.now }
+    {
+        let most = if self.refusals > 0 {
+            self.room.min(2)
+        } else {
+            2
+        };
+        let count = buf.len().min(most).min(self.due.len());
+        if self.due[..count] == buf[..count] {
+            count
+        } else {
+            0
+        }
+    }
 }
 
 impl Write for Narrow {
     fn write(&mut self, buf: &[u8]) -> io::Result<usize> {
-        let count = buf.len().min(2).min(self.room);
-        if count == 0 && self.fails {
-            return Err(io::Error::from(ErrorKind::BrokenPipe));
+        let count = self.count_of(buf);
+        if count == 0 {
+            self.refusals = self.refusals.saturating_sub(1);
+            if self.fails {
+                return Err(io::Error::from(ErrorKind::BrokenPipe));
+            }
+            return Ok(0);
         }
-        self.room -= count;
+        self.due = self.due.get(count..).unwrap_or(b"");
+        self.room = self.room.saturating_sub(count);
         Ok(count)
     }
 
     fn flush(&mut self) -> io::Result<()> {
-        if self.fails {
+        if self.fails || !self.due.is_empty() {
             return Err(io::Error::from(ErrorKind::BrokenPipe));
         }
         Ok(())
@@ -73,10 +101,15 @@ fn a_reader_fails_in_mid_stream(rt: HostRuntime) -> Result<(), Fail> {
 #[test]
 fn a_writer_fails_in_mid_stream(rt: HostRuntime) -> Result<(), Fail> {
     for fails in [false, true] {
-        let mut sink = StdSink::open(rt.alloc(), 0, Narrow { room: 5, fails })?;
+        let narrow = Narrow {
+            due: b"abcde",
+            room: 5,
+            refusals: 9,
+            fails,
+        };
+        let mut sink = StdSink::open(rt.alloc(), 0, narrow)?;
         assert_eq!(rt; sink.write(b"abc"), Ok(()));
         assert_eq!(rt; sink.write(b"def"), Err(Failed), "two of three bytes fit");
-        assert_eq!(rt; sink.inner.room, 0);
         assert_eq!(rt; sink.write(b""), Ok(()));
         assert_eq!(rt; sink.flush().is_err(), fails);
     }
@@ -86,24 +119,25 @@ fn a_writer_fails_in_mid_stream(rt: HostRuntime) -> Result<(), Fail> {
 #[test]
 fn what_a_writer_does_not_take_stays_held(rt: HostRuntime) -> Result<(), Fail> {
     let narrow = Narrow {
+        due: b"abcdeflmnop",
         room: 5,
+        refusals: 2,
         fails: false,
     };
     let mut sink = StdSink::open(rt.alloc(), 4, narrow)?;
     assert_eq!(rt; sink.write(b"abc"), Ok(()));
-    assert_eq!(rt; sink.inner.room, 5, "three bytes are held");
-    assert_eq!(rt; sink.write(b"def"), Ok(()));
     assert_eq!(rt;
-        sink.inner.room,
-        2,
-        "they were sent, and three more are held"
+        sink.write(b"def"),
+        Ok(()),
+        "three bytes are sent, and three held"
     );
-    assert_eq!(rt; sink.flush(), Err(Failed));
-    assert_eq!(rt; sink.held.bytes(), b"f".as_slice());
+    assert_eq!(rt; sink.flush(), Err(Failed), "one byte stays held");
     assert_eq!(rt; sink.write(b"ghijk"), Err(Failed));
-    sink.inner.room = 6;
-    assert_eq!(rt; sink.write(b"lmnop"), Ok(()));
-    assert_eq!(rt; sink.inner.room, 0, "what was held and the long text");
+    assert_eq!(rt;
+        sink.write(b"lmnop"),
+        Ok(()),
+        "behind the byte that was held"
+    );
     assert_eq!(rt; sink.flush(), Ok(()));
     Ok(())
 }
