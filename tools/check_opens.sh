@@ -1,11 +1,11 @@
 #!/usr/bin/env bash
-# Refuses each allocation of the tests of the crates over linked cells in turn, from the first on: the test must end with the want of
-# memory as its error, until a number is reached that no test comes to; then all must pass. So `open` answers each want of memory, and
-# no later call takes any. It stands outside the gate, since each number builds the tests anew. Usage: tools/check_opens.sh [CRATE..]
+# Refuses each allocation of the tests of the kernel's parts in turn, from the first on: a test that comes to it must end with the want
+# of memory as its error, until a number is reached that no test comes to; then all must pass. So `open` answers each want of memory,
+# and no later call takes any. It stands outside the gate, since each number builds the tests anew. Usage: tools/check_opens.sh [CRATE..]
 set -u
 top=$(cd "$(dirname "$0")/.." && pwd) || exit 1
-[ "$#" -gt 0 ] || set -- raw_links ready_lists timer_wheel wait_lists
-most=20
+[ "$#" -gt 0 ] || set -- part_tests
+most=40
 failed=0
 for crate in "$@"; do
     for ((number = 1; number <= most; number++)); do
@@ -14,9 +14,10 @@ for crate in "$@"; do
             echo "$crate: each of $((number - 1)) allocations was refused in turn"
             break
         fi
-        if ! grep -q 'error: AllocError\|memory' <<<"$log"; then
-            echo "$crate: allocation $number refused, and the test ends otherwise:"
-            tail -n 5 <<<"$log"
+        ended=$(grep -c '^test .* FAILED$' <<<"$log")
+        if [ "$ended" -eq 0 ] || [ "$ended" -ne "$(grep -c 'AllocError\|AllocFailed' <<<"$log")" ]; then
+            echo "$crate: allocation $number refused, and a test ends otherwise:"
+            grep -A 1 ' FAILED$' <<<"$log"
             failed=$((failed + 1))
         fi
     done

@@ -23,6 +23,3 @@ pub fn add_number<const ROOM: usize>(text: &mut ArrayVec<u8, ROOM>, n: u64)
     let mut buffer = Buffer::new();
     add(text, buffer.format(n).as_bytes());
 }
-
-#[cfg(test)]
-mod tests;

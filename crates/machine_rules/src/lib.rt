@@ -15,6 +15,3 @@ pub use dispatch::LastDispatch;
 pub use frame::{BodyOf, FrameKind};
 pub use signal::SigAction;
 pub use thread::{CondEnd, ThreadState, WaitKind};
-
-#[cfg(test)]
-mod tests;

@@ -12,6 +12,3 @@ mod registration;
 
 pub use queues::Queues;
 pub use registration::Registration;
-
-#[cfg(test)]
-mod tests;

@@ -16,6 +16,3 @@ pub use line::line_len;
 pub use names::Names;
 pub use report::{BudgetView, Report};
 pub use tracer::Tracer;
-
-#[cfg(test)]
-mod tests;

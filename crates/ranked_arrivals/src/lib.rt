@@ -9,6 +9,3 @@ mod arrivals;
 mod marks;
 
 pub use arrivals::Arrivals;
-
-#[cfg(test)]
-mod tests;

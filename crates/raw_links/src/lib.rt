@@ -10,6 +10,3 @@ mod cells;
 mod links;
 
 pub use links::Links;
-
-#[cfg(test)]
-mod tests;

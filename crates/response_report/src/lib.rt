@@ -5,6 +5,3 @@ mod line;
 mod report;
 
 pub use report::put_responses;
-
-#[cfg(test)]
-mod tests;

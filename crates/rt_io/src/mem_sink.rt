@@ -99,21 +99,3 @@ impl Sink for MemSink {
         Ok(())
     }
 }
-
-#[cfg(test)]
-mod tests {
-    use super::*;
-    use std::test::Fail;
-
-    #[test]
-    fn a_write_fails_by_number_and_for_want_of_room(rt: HostRuntime) -> Result<(), Fail> {
-        let alloc = rt.alloc();
-        let mut sink = MemSink::open(alloc, 5, vec![in alloc; 2u64; 1]?)?;
-        assert_eq!(rt; sink.write(b"ab"), Ok(()));
-        assert_eq!(rt; sink.write(b"cd"), Err(Failed));
-        assert_eq!(rt; sink.write(b"efgh"), Err(Failed));
-        assert_eq!(rt; sink.write(b"ijk"), Ok(()));
-        assert_eq!(rt; sink.text(), b"abijk".as_slice());
-        Ok(())
-    }
-}

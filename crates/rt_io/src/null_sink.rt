@@ -37,17 +37,3 @@ impl Sink for NullSink {
         true
     }
 }
-
-#[cfg(test)]
-mod tests {
-    use super::*;
-    use std::test::Fail;
-
-    #[test]
-    fn a_write_is_taken(rt: HostRuntime) -> Result<(), Fail> {
-        let mut sink = NullSink::new();
-        assert_eq!(rt; sink.write(b"ab"), Ok(()));
-        assert!(rt; sink.discards());
-        Ok(())
-    }
-}

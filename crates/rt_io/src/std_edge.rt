@@ -171,6 +171,3 @@ impl<W: Write> Sink for StdSink<W> {
         self.write_behind(bytes)
     }
 }
-
-#[cfg(test)]
-mod tests;

@@ -14,6 +14,3 @@ mod record;
 pub use actions::Actions;
 pub use pending::Pending;
 pub use record::SignalRecord;
-
-#[cfg(test)]
-mod tests;

@@ -18,6 +18,3 @@ pub use end::RtaEnd;
 pub use fault::TaskFault;
 pub use task::Task;
 pub use tasks::Tasks;
-
-#[cfg(test)]
-mod tests;

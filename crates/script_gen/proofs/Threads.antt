@@ -1,5 +1,5 @@
 -- The threads of a script, one after another.
-use Rattle.std.proofs.Common.{◌≡◌, ◌<◌, ℕ, zero, suc, ◌+◌, ◌-◌, List, [], ◌∷◌, ◌++◌, refl, sym, subst, ◌∙◌, ap, arith, append_assoc, append-nil}
+use Rattle.std.proofs.Common.{◌≡◌, ◌<◌, ℕ, suc, ◌+◌, ◌-◌, List, [], ◌∷◌, ◌++◌, sym, subst, ◌∙◌, arith, append_assoc, append-nil}
 use Rattle.script_tree.specs.declared.decl.Decl.{Decl}
 use Rattle.script_gen.specs.Draws.{Drawn}
 use Rattle.script_gen.specs.Generated.{thread_from, threads_from}

@@ -12,6 +12,3 @@ mod words;
 pub use line::Line;
 pub use lines::{Lines, MAX_TEXT};
 pub use words::{Word, Words};
-
-#[cfg(test)]
-mod tests;

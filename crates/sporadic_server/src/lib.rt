@@ -199,6 +199,3 @@ impl Server {
 pub fn budget_law()
     ensures { BudgetLaw }
 {}
-
-#[cfg(test)]
-mod tests;

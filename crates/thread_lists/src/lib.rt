@@ -112,6 +112,3 @@ impl ThreadList {
         self.threads.clear();
     }
 }
-
-#[cfg(test)]
-mod tests;

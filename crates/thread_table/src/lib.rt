@@ -18,6 +18,3 @@ mod timers;
 mod times;
 
 pub use table::Table;
-
-#[cfg(test)]
-mod tests;

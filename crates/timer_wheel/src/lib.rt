@@ -193,6 +193,3 @@ impl Wheel {
         Some(ItemId { number })
     }
 }
-
-#[cfg(test)]
-mod tests;

@@ -21,6 +21,3 @@ pub use form::Form;
 pub use known_room::{KnownRoom, Room};
 pub use limited::Limited;
 pub use lines::{TraceLine, read_line};
-
-#[cfg(test)]
-mod tests;

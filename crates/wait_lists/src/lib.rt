@@ -212,6 +212,3 @@ impl Waits {
         let _threads = self.places.len();
     }
 }
-
-#[cfg(test)]
-mod tests;

@@ -1,4 +1,4 @@
-use Rattle.std.proofs.Common.{◌≡◌, ◌+◌, ◌-◌, ◌++◌, ◌%◌}
+use Rattle.std.proofs.Common.{◌≡◌, ◌-◌, ◌++◌, ◌%◌}
 use Rattle.script_gen.specs.Draws.{next, modulus}
 use Rattle.script_gen.specs.Generated.{shared, threads_from}
 use Rattle.script_gen.proofs.generated.make.Given as goal

@@ -1,0 +1,46 @@
+// A thread under a server with the priorities 8 and 2, period 10, budget 3 and at most 4 pending replenishments, that
+// starts at 2 and first runs at 9. It is exhausted at 12, where its replenishment is due at once, and again at 15.
+use crate::numbers::{prio, tick};
+use sporadic_server::{BudgetLine, Server, budget_law};
+use tick_num::Params;
+
+#[test]
+fn a_thread_that_first_runs_late(rt: HostRuntime) {
+    let params = Params::try_new(prio(8), prio(2), 10, 3, 4).expect(
+        &rt,
+        "parameters in their ranges",
+    );
+    let mut server = Server::new(params, tick(2));
+    assert_eq!(rt; server.assigned().get(), 8);
+    assert!(rt; server.next_due().is_none());
+
+    server.charge(3);
+    assert_eq!(rt; (server.capacity(), server.consumed()), (0, 3));
+    assert!(rt; !server.is_high());
+
+    let planned = server.plan();
+    assert_eq!(rt; (planned.amount, planned.due.get()), (3, 12));
+    assert_eq!(rt; server.next_due(), Some(tick(12)));
+
+    let refilled = server.refill().expect(&rt, "one is pending");
+    assert_eq!(rt; (refilled.amount, server.capacity()), (3, 3));
+    assert!(rt; server.refill().is_none());
+
+    server.activate(tick(12));
+    server.set_high(prio(9));
+    assert_eq!(rt; server.assigned().get(), 9);
+    server.charge(3);
+    let planned = server.plan();
+    assert_eq!(rt; (planned.amount, planned.due.get()), (3, 22));
+    assert_eq!(rt; server.pending().len(), 1);
+    assert_eq!(rt; server.assigned().get(), 2);
+
+    let told = BudgetLine {
+        high: 6,
+        init: 3,
+        refilled: 3,
+        capacity: 0,
+    };
+    assert_eq!(rt; server.totals(), told);
+    budget_law();
+}

@@ -1,0 +1,79 @@
+// A thread that starts by itself, and ends; and a timer that expires twice.
+ghost use Rattle.std.specs.Prelude.{◌≤◌, IfOk, length};
+ghost use Rattle.machine_rules.specs.Declarations.{threads_of, timers_of};
+
+use crate::numbers::tick;
+use script_tree::{Body, Decl, Decls, Kind, Name, Policy, Script};
+use std::alloc::Global;
+use std::test::Fail;
+use thread_table::Table;
+use tick_num::{Item, ObjId, Prio, Tid};
+
+fn one_timer(alloc: Global) -> Result<Script, Fail>
+    ensures threads { IfOk result (λ s. length (threads_of s) ≤ 64) }
+    ensures timers { IfOk result (λ s. length (timers_of s) ≤ 32) }
+{
+    let name = Name::try_new(b"k".as_slice()).ok_or("no name")?;
+    let mut decls = Vec::new(alloc);
+    decls.push(Decl::Named(name, Kind::Timer { sig: 3, value: 9 }))?;
+    Ok(Script {
+        quantum: 10,
+        decls: Decls::new(decls),
+    })
+}
+
+fn one_thread(alloc: Global) -> Result<Script, Fail>
+    ensures threads { IfOk result (λ s. length (threads_of s) ≤ 64) }
+    ensures timers { IfOk result (λ s. length (timers_of s) ≤ 32) }
+{
+    let name = Name::try_new(b"a".as_slice()).ok_or("no name")?;
+    let policy = Policy::Fifo(Prio::try_new(7).ok_or("no priority")?);
+    let kind = Kind::Thread {
+        policy,
+        start: Some(5),
+        body: Body::new(Vec::new(alloc)),
+    };
+    let mut decls = Vec::new(alloc);
+    decls.push(Decl::Named(name, kind))?;
+    Ok(Script {
+        quantum: 10,
+        decls: Decls::new(decls),
+    })
+}
+
+#[test]
+fn a_start_is_due_until_the_thread_ends(rt: HostRuntime) -> Result<(), Fail> {
+    let script = one_thread(rt.alloc())?;
+    let mut table = Table::open(rt.alloc(), &script)?;
+    let t = Tid::try_new(0).ok_or("no thread")?;
+    assert_eq!(rt; table.next_due(), Some(tick(5)));
+    assert_eq!(rt; table.first_due(tick(4)), None);
+    assert_eq!(rt; table.first_due(tick(5)), Some(Item::Start(t)));
+    assert!(rt; t.get() < table.count());
+    assert_eq!(rt; table.end(t), None);
+    assert_eq!(rt; table.first_due(tick(5)), None);
+    assert_eq!(rt; table.next_due(), None);
+    Ok(())
+}
+
+#[test]
+fn a_timer_is_due_again_after_its_interval(rt: HostRuntime) -> Result<(), Fail> {
+    let script = one_timer(rt.alloc())?;
+    let mut table = Table::open(rt.alloc(), &script)?;
+    let k = ObjId::try_new(0).ok_or("no timer")?;
+    assert_eq!(rt; table.next_due(), None);
+    assert!(rt; (k.get() as usize) < table.timer_count());
+    assert_eq!(rt; table.timer_signal(k), 3);
+    assert_eq!(rt; table.timer_value(k), 9);
+    table.set_timer(k, Some(tick(5)), 4);
+    assert_eq!(rt; table.next_due(), Some(tick(5)));
+    assert_eq!(rt; table.ticks_to_expiry(k, tick(2)), 3);
+    assert_eq!(rt; table.first_due(tick(5)), Some(Item::Timer(k)));
+    table.arm_timer_again(k, tick(5));
+    assert_eq!(rt; table.next_due(), Some(tick(9)));
+    table.overrun_once_more(k);
+    assert_eq!(rt; table.overrun(k), 0);
+    table.tell_overrun(k);
+    assert_eq!(rt; table.overrun(k), 1);
+    Ok(())
+}
