@@ -1,11 +1,12 @@
 // What the equations of the execution priorities ask for.
 ghost use Rattle.std.specs.Prelude.{◌≡◌, ◌<◌, length, map, max, if◌then◌else◌};
 ghost use Rattle.machine_rules.specs.Lists.{greatest, is};
-ghost use Rattle.machine_rules.specs.Priorities.{base_in, is_inherit_mutex_of};
+ghost use Rattle.machine_rules.specs.Priorities.{is_inherit_mutex_of, owner_ceiling};
 ghost use Rattle.inherit_chain.specs.Chains.{asked_in, prio_in, waiters_in};
 ghost use Rattle.inherit_chain.specs.Moves.{StandsAt, WaitersStand};
 
 use crate::claims::{MutexState, ThreadClaim};
+use script_tree::Protocol;
 use tick_num::{ObjId, Prio, Tid};
 use wait_lists::{WaitObj, Waits};
 
@@ -17,19 +18,6 @@ fn larger(p: Prio, n: u8) -> Prio
         return p;
     };
     if p < q { q } else { p }
-}
-
-// The base of a thread: the greatest of its assigned priority and the ceilings of the mutexes that it owns.
-#[tactic(auto, using(crate::proofs::Asked::base_more))]
-fn base(claims: &[ThreadClaim], mutexes: &[MutexState], t: Tid) -> Prio
-    requires { t < length claims.now }
-    ensures { result ≡ base_in claims.now mutexes.now t }
-{
-    let mut best = claims[t.get() as usize].assigned();
-    for m in mutexes {
-        best = larger(best, m.owner_ceiling(t));
-    }
-    best
 }
 
 // The greater of a priority and that of a thread, if it waits for the mutex.
@@ -83,7 +71,7 @@ fn raised_by_waiters(
     }
 }
 
-// The greatest of a priority and those of the threads that lend to the thread through one mutex.
+// The greatest of a priority and what the thread gets through one mutex: its ceiling, or the priorities of those that wait for it.
 fn raised_through(
     claims: &[ThreadClaim],
     exec: &[Prio],
@@ -98,12 +86,17 @@ fn raised_through(
     requires stand { StandsAt (prio_in exec.now) w.now }
     requires waiters { WaitersStand claims.now w.now }
     ensures { result
-        ≡ (if is_inherit_mutex_of t m.now then max best (greatest (map (prio_in exec.now) (waiters_in claims.now k))) else best) }
+        ≡ max
+        (max best (owner_ceiling t m.now))
+        (if is_inherit_mutex_of t m.now then greatest (map (prio_in exec.now) (waiters_in claims.now k)) else 0) }
 {
-    if m.is_inherit_mutex_of(t) {
-        raised_by_waiters(claims, exec, w, k, best)
-    } else {
-        best
+    if !m.is_owned_by(t) {
+        return best;
+    }
+    match m.protocol() {
+        Protocol::Plain => best,
+        Protocol::Inherit => raised_by_waiters(claims, exec, w, k, best),
+        Protocol::Protect(ceiling) => larger(best, ceiling.get()),
     }
 }
 
@@ -123,7 +116,7 @@ pub(crate) fn asked(
     requires waiters { WaitersStand claims.now w.now }
     ensures { result ≡ asked_in claims.now mutexes.now (prio_in exec.now) t }
 {
-    let mut best = base(claims, mutexes, t);
+    let mut best = claims[t.get() as usize].assigned();
     for (k, m) in mutexes.iter().enumerate() {
         best = raised_through(claims, exec, w, m, k, t, best);
     }

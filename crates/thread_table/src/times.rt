@@ -1,5 +1,5 @@
 // The wheel, and when the items of the threads are due.
-ghost use Rattle.std.specs.Prelude.{◌≡◌, ◌<◌, ◌≤◌, [], length};
+ghost use Rattle.std.specs.Prelude.{◌≡◌, ◌<◌, ◌≤◌, [], length, slice_set};
 ghost use Rattle.machine_rules.specs.Agenda.{agenda};
 ghost use Rattle.machine_rules.specs.DueItems.{next_item};
 ghost use Rattle.machine_rules.specs.Threads.{thread_in};
@@ -10,16 +10,18 @@ ghost use Rattle.thread_table.specs.Times.{in_time, least_due};
 use crate::open::tid_of;
 use crate::table::Table;
 use thread_blocks::Threads;
-use tick_num::{Item, Tick, Tid};
+use tick_num::{Item, ItemId, Tick, Tid};
 use timer_wheel::Wheel;
 
-/// The tick, where it is an instant.
-fn in_time(at: Option<u64>) -> Option<Tick>
-    ensures { result ≡ in_time at }
+/// The item falls due at the tick, where that is an instant; it is not armed afterwards where it is none.
+#[inline(always)]
+fn set_due_at(wheel: &mut Wheel, id: ItemId, at: Option<u64>)
+    requires { id.number < length wheel.old.dues }
+    ensures { wheel.new ≡ record wheel.old { dues = slice_set wheel.old.dues id.number (in_time at) } }
 {
     match at {
-        None => None,
-        Some(at) => Tick::try_new(at),
+        None => wheel.set_due(id, None),
+        Some(at) => wheel.set_due(id, Tick::try_new(at)),
     }
 }
 
@@ -31,7 +33,7 @@ pub(crate) fn retime(threads: &Threads, wheel: &mut Wheel, t: Tid)
 {
     let thread = threads.get(t);
     wheel.set_due(Item::Refill(t).number(), thread.refill_due());
-    wheel.set_due(Item::Start(t).number(), in_time(thread.start_due()));
+    set_due_at(wheel, Item::Start(t).number(), thread.start_due());
     wheel.set_due(Item::Timeout(t).number(), thread.wait_due());
 }
 

@@ -41,6 +41,7 @@ fn put(links: &mut Links, occupied: &mut Bits, list: u32, node: u32)
 }
 
 /// Puts the node into the list of its due tick, or into the set of passed items.
+#[inline(always)]
 pub(crate) fn file(
     links: &mut Links,
     occupied: &mut Bits,

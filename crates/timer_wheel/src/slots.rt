@@ -130,6 +130,7 @@ impl Slots {
     }
 
     /// The wheel goes on to a later tick.
+    #[inline(never)]
     pub(crate) fn advance(&mut self, to: u64)
         requires { (self.old.base < to) × (to ≤ 2 * 10 ^ 18) }
         ensures { self.new ≡ record self.old { base = to } }
