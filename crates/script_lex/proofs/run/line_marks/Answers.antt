@@ -14,8 +14,7 @@ returns-then-len-lt16-clause-marks c =
     let short = c.if-len-lt16.true in
     let end = taken (λ x. not (stops stop.LineEnd x)) text 16 in
     let comment = among_16 (λ x. not (stops stop.Comment x)) text len short in
-    let bad = before_16 (λ x. not (stops stop.Bad x)) text len short in
-    (
+    let bad = before_16 (λ x. not (stops stop.Bad x)) text len short in (
       omega (arith, line, end, short),
       c.min.ensures ∙ (ap (λ n. min n len) c.run_of_16.ensures ∙ comment),
       ap (λ n. nat_lt n len) c.run_of_16-then-len-lt16.ensures ∙ (bad ∙ bad_among text len (omega (arith, c.if-text-ge16.true, short))),

@@ -12,8 +12,7 @@ returns-clause-marks c =
     let text = c.args.text.now in
     let len = c.run_len-len.result in
     let end = taken (λ x. not (stops stop.LineEnd x)) text (length text) in
-    let most = prefix_len-le-length (λ x. not (stops stop.LineEnd x)) text in
-    (
+    let most = prefix_len-le-length (λ x. not (stops stop.LineEnd x)) text in (
       omega (arith, c.run_len-len.ensures.run, end, most),
       c.run_len.ensures.run,
       ap (λ n. nat_lt n len) c.run_len-2.ensures.run ∙ bad_among text len c.run_len-len.ensures.bound,
