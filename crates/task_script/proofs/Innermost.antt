@@ -1,5 +1,5 @@
 -- A step that is put into the innermost of the open blocks, which stands last.
-use Rattle.std.proofs.Common.{◌≡◌, ℕ, suc, List, [], ◌∷◌, ◌++◌, ◌+◌, ◌<◌, length, take, set, reverse, get_or, sym, ◌∙◌, ap, arith}
+use Rattle.std.proofs.Common.{◌≡◌, ℕ, List, [], ◌∷◌, ◌++◌, ◌+◌, length, take, set, reverse, get_or, sym, ◌∙◌, ap, arith}
 use Rattle.std.specs.Prelude.{Some}
 use Rattle.std.proofs.lemmas.List.{take_more, take_all, set_at, reverse-append, length-take-le}
 use Rattle.script_tree.specs.declared.body.Step.{Step}

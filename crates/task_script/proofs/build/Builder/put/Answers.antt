@@ -1,7 +1,7 @@
-use Rattle.std.proofs.Common.{◌≡◌, ◌-◌, length, sym, refl, ap, ◌∙◌, arith}
+use Rattle.std.proofs.Common.{◌-◌, sym, refl, ap, ◌∙◌, arith}
 use Rattle.std.specs.Prelude.{Some}
 use Rattle.std.specs.Vec.{vec_len}
-use Rattle.script_table.specs.Build.{Built, Opened, with_step}
+use Rattle.script_table.specs.Build.{Built, with_step}
 use Rattle.task_script.proofs.Innermost.{put_last}
 use Rattle.task_script.proofs.build.Builder.put.Goals as goal
 

@@ -1,8 +1,7 @@
 use Rattle.std.proofs.Common.{◌≡◌, sym, ◌∙◌, ap}
 use Rattle.std.specs.Prelude.{Some}
-use Rattle.script_lex.specs.Words.{line_words}
 use Rattle.script_table.specs.LineFaults.{fitting_some}
-use Rattle.script_table.specs.Structure.{Said, row_of_line}
+use Rattle.script_table.specs.Structure.{row_of_line}
 use Rattle.task_script.proofs.LineReads.{line_says}
 use Rattle.task_script.proofs.structure.lines.read_line.Goals as goal
 
