@@ -49,3 +49,6 @@ bad_case false n l all e = grind arith
 pub bad_byte : (line : List ℕ) → nat_lt (prefix_len (λ c. not (not (is_allowed c))) line) (length line) ≡ has_bad_byte line
 bad_byte [] = refl
 bad_byte (c ∷ cs) = bad_case (is_allowed c) _ (length cs) _ (bad_byte cs)
+
+pub bad_among : (text : List ℕ) (len : ℕ) → len ≤ length text → nat_lt (prefix_len (λ c. not (not (is_allowed c))) (take len text)) len ≡ has_bad_byte (take len text)
+bad_among text len room = ap (nat_lt (prefix_len (λ c. not (not (is_allowed c))) (take len text))) (sym (length-take-le len text room)) ∙ bad_byte (take len text)

@@ -4,6 +4,8 @@ use Rattle.std.proofs.lemmas.Simd.{chunk-drop, length-chunk, leading_from_mask_l
 use Rattle.std.proofs.lemmas.List.Folds.{prefix_len-append}
 use Rattle.std.proofs.lemmas.List.Sums.{prefix_len-le-length, prefix_len_passes, prefix_len_stops}
 use Rattle.std.proofs.lemmas.Bool.{eq-eqb, ne_eqb, cases_lt}
+use Rattle.std.proofs.lemmas.Bool.Decides.{nat_tests}
+use Rattle.std.specs.Prelude.{nat_lt}
 use Rattle.std.specs.List.{prefix_len}
 use lib.Lanes.{chunk, mask_l}
 use lib.Count.{count_trailing_zeros}
@@ -71,3 +73,10 @@ ends_here q xs n k so_far here failed =
 
 pub ends_last : (q : ℕ → Bool) (xs : List ℕ) (n k : ℕ) → k ≤ prefix_len q (take n xs) → n ≤ k → k ≡ prefix_len q (take n xs)
 ends_last q xs n k so_far all = omega (arith, taken q xs n)
+
+-- the first n of 16 bytes
+pub among_16 : (q : ℕ → Bool) (xs : List ℕ) (n : ℕ) → n < 16 → min (prefix_len q (take 16 xs)) n ≡ prefix_len q (take n xs)
+among_16 q xs n short = omega (arith, taken q xs 16, taken q xs n)
+
+pub before_16 : (q : ℕ → Bool) (xs : List ℕ) (n : ℕ) → n < 16 → nat_lt (prefix_len q (take 16 xs)) n ≡ nat_lt (prefix_len q (take n xs)) n
+before_16 q xs n short = let a = taken q xs 16 in let b = taken q xs n in grind (arith, nat_tests, a, b)

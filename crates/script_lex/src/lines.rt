@@ -4,31 +4,23 @@ ghost use Rattle.std.specs.List.{prefix_len};
 ghost use Rattle.script_lex.specs.Lines.{lines_of};
 
 use crate::Line;
-use crate::stops::{Stop, run_len};
+use crate::stops::line_marks;
 use std::marker::Model;
 
 /// The greatest length of a text, in bytes.
 pub const MAX_TEXT: usize = 67_108_864;
 
-// How many bytes stand before the first line end.
-#[inline(always)]
-fn line_len(text: &[u8]) -> usize
-    ensures len { result ≡ prefix_len (λ c. not (c == 10)) text.now }
-    ensures bound { result ≤ length text.now }
-{
-    run_len(Stop::LineEnd, text, text.len())
-}
-
 // The first line without its end, and what follows that end.
 #[inline(always)]
-fn first_line(text: &[u8]) -> (&[u8], &[u8])
-    requires { 0 < length text.now }
+fn first_line(text: &[u8], len: usize) -> (&[u8], &[u8])
+    requires len { len ≡ prefix_len (λ c. not (c == 10)) text.now }
+    requires bound { len ≤ length text.now }
+    requires some { 0 < length text.now }
     ensures lines { lines_of text.now ≡ result.0.now ∷ lines_of result.1.now }
     ensures shorter { length result.1.now < length text.now }
-    ensures bound { length result.0.now ≤ length text.now }
-    ensures slice { result.0.now ≡ take (length result.0.now) text.now }
+    ensures bytes { result.0.now ≡ take len text.now }
+    ensures count { (length result.0.now ≡ len) × (len ≤ length text.now) }
 {
-    let len = line_len(text);
     if len < text.len() {
         (&text[..len], &text[len + 1..])
     } else {
@@ -84,7 +76,8 @@ impl<'a> Lines<'a> {
             return None;
         }
         let ahead = self.rest;
-        let (bytes, rest) = first_line(ahead);
+        let found = line_marks(ahead);
+        let (bytes, rest) = first_line(ahead, found.len);
         let number = self.number;
         self.rest = rest;
         self.number = number + 1;
@@ -92,6 +85,8 @@ impl<'a> Lines<'a> {
             number,
             bytes,
             ahead,
+            comment_at: found.comment_at as u32,
+            is_bad: found.is_bad,
         })
     }
 }

@@ -2,7 +2,7 @@
 ghost use Rattle.std.specs.Prelude.{◌≡◌, ◌≤◌, not, map, length, take};
 ghost use Rattle.std.specs.List.{prefix_len};
 ghost use Rattle.std.specs.Simd.Lanes.{mask_l};
-ghost use Rattle.script_lex.specs.Stops.{stops};
+ghost use Rattle.script_lex.specs.Stops.{stops, AreMarks};
 
 use std::simd::prelude::*;
 
@@ -103,4 +103,59 @@ pub(crate) fn run_len(stop: Stop, ahead: &[u8], len: usize) -> usize
         return len;
     }
     last_run(stop, ahead, at, len)
+}
+
+// How many of these bytes stand before one that ends the run.
+#[inline(always)]
+fn run_of_16(stop: Stop, v: u8x16) -> usize
+    ensures { result ≡ prefix_len (λ c. not (stops stop c)) v }
+{
+    let found = stops_of_16(stop, v);
+    if found == 0 {
+        16
+    } else {
+        found.trailing_zeros() as usize
+    }
+}
+
+/// Where a line ends, where its comment begins, and whether it has a bad byte.
+#[derive(Clone, Copy)]
+pub(crate) struct Marks {
+    pub len: usize,
+    pub comment_at: usize,
+    pub is_bad: bool,
+}
+
+// The marks of a line of any length.
+#[inline(always)]
+fn marks_of_long(text: &[u8]) -> Marks
+    ensures marks { AreMarks text.now result.len result.comment_at result.is_bad }
+    ensures bound { (result.comment_at ≤ result.len) × (result.len ≤ length text.now) }
+{
+    let len = run_len(Stop::LineEnd, text, text.len());
+    Marks {
+        len,
+        comment_at: run_len(Stop::Comment, text, len),
+        is_bad: run_len(Stop::Bad, text, len) < len,
+    }
+}
+
+/// The marks of the first line of a text. Most lines are shorter than 16 bytes, which are looked at together.
+#[inline(always)]
+pub(crate) fn line_marks(text: &[u8]) -> Marks
+    ensures marks { AreMarks text.now result.len result.comment_at result.is_bad }
+    ensures bound { (result.comment_at ≤ result.len) × (result.len ≤ length text.now) }
+{
+    if 16 <= text.len() {
+        let v = u8x16::from_slice(text);
+        let len = run_of_16(Stop::LineEnd, v);
+        if len < 16 {
+            return Marks {
+                len,
+                comment_at: run_of_16(Stop::Comment, v).min(len),
+                is_bad: run_of_16(Stop::Bad, v) < len,
+            };
+        }
+    }
+    marks_of_long(text)
 }

@@ -1,5 +1,5 @@
 -- Patterns of lines: keywords and operand places. The script language is this project's own.
-use Rattle.std.specs.Prelude.{ℕ, ◌^◌, ◌==◌, Bool, true, false, List, ◌++◌, map}
+use Rattle.std.specs.Prelude.{ℕ, ◌^◌, Bool, true, false, List, ◌++◌, map}
 use Rattle.script_tree.specs.Kinds.{same_kind}
 use Rattle.script_tree.specs.declared.name_kind.NameKind.{NameKind}
 use Rattle.script_tree.specs.declared.name_kind.NameKind.TheVariants as kind

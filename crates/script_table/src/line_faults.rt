@@ -13,12 +13,25 @@ use crate::{FaultKind, Pattern, Place, Table};
 use script_lex::Words;
 use script_tree::Name;
 
+// Words are short: byte by byte is the quickest.
+fn are_same(word: &[u8], keyword: &[u8]) -> bool
+    ensures { result ≡ bytes_eq word.now keyword.now }
+{
+    match word {
+        [] => keyword.is_empty(),
+        [a, word @ ..] => match keyword {
+            [] => false,
+            [b, keyword @ ..] => *a == *b && are_same(word, keyword),
+        },
+    }
+}
+
 // Most keywords have another length, and then no byte is looked at.
 #[inline(always)]
 fn is_keyword(word: &[u8], keyword: &[u8]) -> bool
     ensures { result ≡ bytes_eq word.now keyword.now }
 {
-    word.len() == keyword.len() && word == keyword
+    word.len() == keyword.len() && are_same(word, keyword)
 }
 
 #[inline(always)]
@@ -156,8 +169,8 @@ fn spelling(place: &Place, word: &[u8]) -> Option<FaultKind>
     }
 }
 
-/// The least kind of what is misspelled at these places; `None` exactly where each word is spelled as its place wants.
-pub fn spelling_fault(places: &[Place], mut words: Words<'_>) -> Option<FaultKind>
+// The least kind of what is misspelled at these places.
+fn later_fault(places: &[Place], mut words: Words<'_>) -> Option<FaultKind>
     ensures { result ≡ least_kind (place_faults spelling (map spot_of places.now) words.entry.words) }
 {
     let mut found = None;
@@ -168,4 +181,15 @@ pub fn spelling_fault(places: &[Place], mut words: Words<'_>) -> Option<FaultKin
         found = lesser_first(found, spelling(place, word.bytes));
     }
     found
+}
+
+/// The least kind of what is misspelled at these places, where the first word is known, and `words` are those that follow it; `None`
+/// exactly where each word is spelled as its place wants.
+pub fn spelling_fault(places: &[Place], first: &[u8], words: Words<'_>) -> Option<FaultKind>
+    ensures { result ≡ least_kind (place_faults spelling (map spot_of places.now) (first.now ∷ words.entry.words)) }
+{
+    match places {
+        [] => None,
+        [place, rest @ ..] => lesser_first(spelling(place, first), later_fault(rest, words)),
+    }
 }

@@ -8,3 +8,4 @@ pub mod Bounded
 pub mod NameEntries
 pub mod Unnamed
 pub mod Narrowed
+mod Innermost

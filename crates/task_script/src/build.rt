@@ -8,16 +8,16 @@ ghost use Rattle.script_tree.specs.declared.body.Step.TheVariants as step;
 ghost use Rattle.script_table.specs.Patterns.{greatest};
 ghost use Rattle.script_table.specs.Operands.{number_in};
 ghost use Rattle.script_table.specs.Calls.{call_of};
+ghost use Rattle.script_table.specs.Meaning.{object_decl, action_decl};
 ghost use Rattle.script_table.specs.Build.{Opened, Built, put_step, with_decl, with_step, close_one, closed, opens, after_form, after, nothing_built, built_from, script_of_built, script_of};
 
 use crate::names::NameIndex;
 use crate::operands::number_in;
-use crate::structure::statement::Statement;
+use crate::structure::statement::{LineWords, Statement};
 use crate::{Body, Decl, Decls, Script, Step};
 use calls::call_of;
 use meaning::{action_decl, block_step, body_decl, object_decl, plain_step, runs_cleanup};
-use script_lex::Words;
-use script_table::{CallForm, Form};
+use script_table::{ActionForm, CallForm, Form, ObjectForm};
 use std::alloc::{AllocError, Global};
 use std::marker::Model;
 use tick_num::GREATEST_NUMBER;
@@ -26,7 +26,7 @@ use tick_num::GREATEST_NUMBER;
 #[derive(Drop)]
 struct OpenBlock<'a> {
     form: Form,
-    words: Words<'a>,
+    words: LineWords<'a>,
     steps: Vec<Step>,
 }
 
@@ -39,12 +39,12 @@ impl<'a> Model for OpenBlock<'a> {
 
     ghost coded = { Prim.hlevel (codes, body.the_row.coded) };
 
-    ghost view = { λ o. record { form = o.form; words = o.words.words; steps = o.steps.items } };
+    ghost view = { λ o. record { form = o.form; words = o.words; steps = o.steps.items } };
 }
 
 impl<'a> OpenBlock<'a> {
-    fn new(alloc: Global, form: Form, words: Words<'a>) -> OpenBlock<'a>
-        ensures { result ≡ record { form = form; words = words.entry.words; steps = [] } }
+    fn new(alloc: Global, form: Form, words: LineWords<'a>) -> OpenBlock<'a>
+        ensures { result ≡ record { form = form; words = words.entry; steps = [] } }
     {
         OpenBlock {
             form,
@@ -53,11 +53,12 @@ impl<'a> OpenBlock<'a> {
         }
     }
 
-    fn with(mut self, step: Step) -> Result<OpenBlock<'a>, AllocError>
-        ensures { IfOk result (λ o. o ≡ record self.entry { steps = self.entry.steps ++ step ∷ [] }) }
+    #[inline(always)]
+    fn push(&mut self, step: Step) -> Result<(), AllocError>
+        ensures { IfOk result (λ _. self.new ≡ record self.old { steps = self.old.steps ++ step ∷ [] }) }
     {
         self.steps.push(step)?;
-        Ok(self)
+        Ok(())
     }
 }
 
@@ -120,10 +121,11 @@ impl<'a> Builder<'a> {
         ensures { IfOk result (λ _. self.new ≡ with_step self.old step) }
     {
         let Some(step) = step else { return Ok(()) };
-        match self.pop() {
-            None => Ok(()),
-            Some(block) => self.open(block.with(step)?),
-        }
+        let Some(block) = self.blocks.last_mut() else {
+            return Ok(())
+        };
+        block.push(step)?;
+        Ok(())
     }
 
     fn close_one(
@@ -131,10 +133,10 @@ impl<'a> Builder<'a> {
         names: &NameIndex<'_>,
         run: bool,
         form: Form,
-        words: &Words<'_>,
+        words: &LineWords<'_>,
         steps: Vec<Step>,
     ) -> Result<(), AllocError>
-        ensures { IfOk result (λ _. self.new ≡ close_one names.now self.old run form words.now.words steps.items) }
+        ensures { IfOk result (λ _. self.new ≡ close_one names.now self.old run form words.now steps.items) }
     {
         match form {
             Form::Body(form) => self.declare(body_decl(form, words, Body::new(steps))),
@@ -143,6 +145,7 @@ impl<'a> Builder<'a> {
         }
     }
 
+    #[inline(never)]
     fn close(&mut self, names: &NameIndex<'_>, run: bool) -> Result<(), AllocError>
         ensures { IfOk result (λ _. self.new ≡ closed names.now self.old run self.old.blocks) }
     {
@@ -155,9 +158,38 @@ impl<'a> Builder<'a> {
         }
     }
 
-    fn set_quantum(&mut self, words: &Words<'_>)
+    // Large values stand in functions of their own: most lines have none, and a function clears the room of its own at entry.
+    #[inline(never)]
+    fn declare_object(&mut self, form: ObjectForm, words: &LineWords<'_>) -> Result<(), AllocError>
+        ensures { IfOk result (λ _. self.new ≡ with_decl self.old (object_decl form words.now)) }
+    {
+        self.declare(object_decl(form, words))
+    }
+
+    #[inline(never)]
+    fn declare_action(
+        &mut self,
+        names: &NameIndex<'_>,
+        form: ActionForm,
+        words: &LineWords<'_>,
+    ) -> Result<(), AllocError>
+        ensures { IfOk result (λ _. self.new ≡ with_decl self.old (action_decl names.now form words.now)) }
+    {
+        self.declare(action_decl(names, form, words))
+    }
+
+    #[inline(never)]
+    fn begin(&mut self, alloc: Global, form: Form, words: &LineWords<'a>) -> Result<(), AllocError>
+        ensures { IfOk result (λ _. self.new ≡ record self.old {
+          blocks = record { form = form; words = words.now; steps = [] } ∷ self.old.blocks;
+        }) }
+    {
+        self.open(OpenBlock::new(alloc, form, words.again()))
+    }
+
+    fn set_quantum(&mut self, words: &LineWords<'_>)
         ensures { self.new ≡ record self.old {
-          quantum = unwrap_or (number_in 1 greatest 1 words.now.words) self.old.quantum;
+          quantum = unwrap_or (number_in 1 greatest 1 words.now) self.old.quantum;
         } }
     {
         if let Some(quantum) = number_in(1, GREATEST_NUMBER, 1, words) {
@@ -169,10 +201,10 @@ impl<'a> Builder<'a> {
         &mut self,
         names: &NameIndex<'_>,
         form: CallForm,
-        words: &Words<'_>,
+        words: &LineWords<'_>,
     ) -> Result<(), AllocError>
         ensures { IfOk result (λ _. self.new
-            ≡ with_step self.old (option_map step.Make (call_of names.now form words.now.words))) }
+            ≡ with_step self.old (option_map step.Make (call_of names.now form words.now))) }
     {
         match call_of(names, form, words) {
             None => Ok(()),
@@ -191,15 +223,15 @@ impl<'a> Builder<'a> {
         let words = s.words();
         match s.form() {
             Form::Quantum => {
-                self.set_quantum(&words);
+                self.set_quantum(words);
                 Ok(())
             }
-            Form::Object(form) => self.declare(object_decl(form, &words)),
-            Form::Action(form) => self.declare(action_decl(names, form, &words)),
-            Form::Body(form) => self.open(OpenBlock::new(alloc, Form::Body(form), words)),
-            Form::Block(form) => self.open(OpenBlock::new(alloc, Form::Block(form), words)),
-            Form::Step(form) => self.put(plain_step(form, &words)),
-            Form::Call(form) => self.make(names, form, &words),
+            Form::Object(form) => self.declare_object(form, words),
+            Form::Action(form) => self.declare_action(names, form, words),
+            Form::Body(form) => self.begin(alloc, Form::Body(form), words),
+            Form::Block(form) => self.begin(alloc, Form::Block(form), words),
+            Form::Step(form) => self.put(plain_step(form, words)),
+            Form::Call(form) => self.make(names, form, words),
             Form::Close(form) => self.close(names, runs_cleanup(form)),
         }
     }

@@ -5,16 +5,19 @@ ghost use Rattle.script_table.specs.Operands.{number_in, amount_at, priority_at,
 ghost use Rattle.script_tree.specs.declared.name_kind.NameKind.TheVariants as kind;
 
 use crate::names::NameIndex;
+use crate::structure::statement::LineWords;
 use crate::{Name, Operand, Policy};
-use script_lex::Words;
 use script_table::{NameKind, answer_of, capped_value, is_register, set_of, signal_of};
 use tick_num::{GREATEST_NUMBER, ObjId, Params, Prio, Res, SigSet, Tid};
 
-pub(crate) fn word<'a>(k: usize, words: &Words<'a>) -> &'a [u8]
-    ensures { result.now ≡ word k words.now.words }
+pub(crate) fn word<'a>(k: usize, words: &LineWords<'a>) -> &'a [u8]
+    ensures { result.now ≡ word k words.now }
 {
-    let mut rest = words.again();
-    let mut left = k;
+    let (first, mut rest) = words.parts();
+    if k == 0 {
+        return first;
+    }
+    let mut left = k - 1;
     while let Some(found) = rest.next_word() {
         if left == 0 {
             return found.bytes;
@@ -25,8 +28,8 @@ pub(crate) fn word<'a>(k: usize, words: &Words<'a>) -> &'a [u8]
 }
 
 /// A number, or one past the greatest where it is above that.
-pub(crate) fn capped_number_at(k: usize, words: &Words<'_>) -> u128
-    ensures { result ≡ capped_number_at k words.now.words }
+pub(crate) fn capped_number_at(k: usize, words: &LineWords<'_>) -> u128
+    ensures { result ≡ capped_number_at k words.now }
 {
     capped_value(word(k, words), GREATEST_NUMBER)
 }
@@ -39,8 +42,8 @@ pub(crate) fn is_within(low: u64, high: u64, word: &[u8]) -> bool
     low as u128 <= value && value <= high as u128
 }
 
-pub(crate) fn number_in(low: u64, high: u64, k: usize, words: &Words<'_>) -> Option<u64>
-    ensures number { result ≡ number_in low high k words.now.words }
+pub(crate) fn number_in(low: u64, high: u64, k: usize, words: &LineWords<'_>) -> Option<u64>
+    ensures number { result ≡ number_in low high k words.now }
     ensures range { IfSome result (λ n. (low ≤ n) × (n ≤ high)) }
 {
     let value = capped_value(word(k, words), high);
@@ -51,14 +54,14 @@ pub(crate) fn number_in(low: u64, high: u64, k: usize, words: &Words<'_>) -> Opt
     }
 }
 
-pub(crate) fn amount(k: usize, words: &Words<'_>) -> Option<u64>
-    ensures { result ≡ amount_at k words.now.words }
+pub(crate) fn amount(k: usize, words: &LineWords<'_>) -> Option<u64>
+    ensures { result ≡ amount_at k words.now }
 {
     number_in(0, GREATEST_NUMBER, k, words)
 }
 
-pub(crate) fn priority(k: usize, words: &Words<'_>) -> Option<Prio>
-    ensures { result ≡ priority_at k words.now.words }
+pub(crate) fn priority(k: usize, words: &LineWords<'_>) -> Option<Prio>
+    ensures { result ≡ priority_at k words.now }
 {
     match number_in(1, 255, k, words) {
         None => None,
@@ -66,8 +69,8 @@ pub(crate) fn priority(k: usize, words: &Words<'_>) -> Option<Prio>
     }
 }
 
-pub(crate) fn operand(k: usize, words: &Words<'_>) -> Option<Operand>
-    ensures { result ≡ operand_at k words.now.words }
+pub(crate) fn operand(k: usize, words: &LineWords<'_>) -> Option<Operand>
+    ensures { result ≡ operand_at k words.now }
 {
     if is_register(word(k, words)) {
         return Some(Operand::Reg);
@@ -78,32 +81,32 @@ pub(crate) fn operand(k: usize, words: &Words<'_>) -> Option<Operand>
     }
 }
 
-pub(crate) fn signal(k: usize, words: &Words<'_>) -> Option<u8>
-    ensures { result ≡ signal_at k words.now.words }
+pub(crate) fn signal(k: usize, words: &LineWords<'_>) -> Option<u8>
+    ensures { result ≡ signal_at k words.now }
 {
     signal_of(word(k, words))
 }
 
-pub(crate) fn signals(k: usize, words: &Words<'_>) -> Option<SigSet>
-    ensures { result ≡ signals_at k words.now.words }
+pub(crate) fn signals(k: usize, words: &LineWords<'_>) -> Option<SigSet>
+    ensures { result ≡ signals_at k words.now }
 {
     set_of(word(k, words))
 }
 
-pub(crate) fn answer(k: usize, words: &Words<'_>) -> Option<Res>
-    ensures { result ≡ answer_at k words.now.words }
+pub(crate) fn answer(k: usize, words: &LineWords<'_>) -> Option<Res>
+    ensures { result ≡ answer_at k words.now }
 {
     answer_of(word(k, words))
 }
 
-pub(crate) fn name(k: usize, words: &Words<'_>) -> Option<Name>
-    ensures { result ≡ name_at k words.now.words }
+pub(crate) fn name(k: usize, words: &LineWords<'_>) -> Option<Name>
+    ensures { result ≡ name_at k words.now }
 {
     Name::try_new(word(k, words))
 }
 
-pub(crate) fn thread(names: &NameIndex<'_>, k: usize, words: &Words<'_>) -> Option<Tid>
-    ensures { result ≡ named_at kind.Thread names.now k words.now.words }
+pub(crate) fn thread(names: &NameIndex<'_>, k: usize, words: &LineWords<'_>) -> Option<Tid>
+    ensures { result ≡ named_at kind.Thread names.now k words.now }
 {
     match names.number_of(NameKind::Thread, word(k, words)) {
         None => None,
@@ -115,9 +118,9 @@ pub(crate) fn object(
     kind: NameKind,
     names: &NameIndex<'_>,
     k: usize,
-    words: &Words<'_>,
+    words: &LineWords<'_>,
 ) -> Option<ObjId>
-    ensures { result ≡ named_at kind names.now k words.now.words }
+    ensures { result ≡ named_at kind names.now k words.now }
 {
     match names.number_of(kind, word(k, words)) {
         None => None,
@@ -137,8 +140,8 @@ fn server_of(high: Prio, low: Prio, period: u64, budget: u64, max: u64) -> Optio
 }
 
 // The parameters of a sporadic server, at the words 3 to 7.
-fn server(words: &Words<'_>) -> Option<Params>
-    ensures { result ≡ server_at words.now.words }
+fn server(words: &LineWords<'_>) -> Option<Params>
+    ensures { result ≡ server_at words.now }
 {
     let high = priority(3, words)?;
     let low = priority(4, words)?;
@@ -148,8 +151,8 @@ fn server(words: &Words<'_>) -> Option<Params>
     server_of(high, low, period, budget, max)
 }
 
-pub(crate) fn fifo(k: usize, words: &Words<'_>) -> Option<Policy>
-    ensures { result ≡ fifo_at k words.now.words }
+pub(crate) fn fifo(k: usize, words: &LineWords<'_>) -> Option<Policy>
+    ensures { result ≡ fifo_at k words.now }
 {
     match priority(k, words) {
         None => None,
@@ -157,8 +160,8 @@ pub(crate) fn fifo(k: usize, words: &Words<'_>) -> Option<Policy>
     }
 }
 
-pub(crate) fn rr(k: usize, words: &Words<'_>) -> Option<Policy>
-    ensures { result ≡ rr_at k words.now.words }
+pub(crate) fn rr(k: usize, words: &LineWords<'_>) -> Option<Policy>
+    ensures { result ≡ rr_at k words.now }
 {
     match priority(k, words) {
         None => None,
@@ -166,8 +169,8 @@ pub(crate) fn rr(k: usize, words: &Words<'_>) -> Option<Policy>
     }
 }
 
-pub(crate) fn sporadic(words: &Words<'_>) -> Option<Policy>
-    ensures { result ≡ sporadic_at words.now.words }
+pub(crate) fn sporadic(words: &LineWords<'_>) -> Option<Policy>
+    ensures { result ≡ sporadic_at words.now }
 {
     match server(words) {
         None => None,

@@ -12,7 +12,7 @@ ghost use Rattle.task_script.specs.Ends.{answered};
 
 use crate::ScriptEnd;
 use crate::operands::{capped_number_at, is_within};
-use crate::structure::statement::Statement;
+use crate::structure::statement::{LineWords, Statement};
 use script_lex::Words;
 use script_table::{
     BodyForm, CallForm, FaultKind, Form, Place, ThreadCall, is_register, lesser_first,
@@ -38,7 +38,7 @@ fn range_fault(place: &Place, word: &[u8]) -> Option<FaultKind>
     }
 }
 
-fn place_fault(places: &[Place], mut words: Words<'_>) -> Option<FaultKind>
+fn later_fault(places: &[Place], mut words: Words<'_>) -> Option<FaultKind>
     ensures { result ≡ least_kind (place_faults range_fault (map spot_of places.now) words.entry.words) }
 {
     let mut found = None;
@@ -49,6 +49,17 @@ fn place_fault(places: &[Place], mut words: Words<'_>) -> Option<FaultKind>
         found = lesser_first(found, range_fault(place, word.bytes));
     }
     found
+}
+
+// The first word is known.
+fn place_fault(places: &[Place], words: &LineWords<'_>) -> Option<FaultKind>
+    ensures { result ≡ least_kind (place_faults range_fault (map spot_of places.now) words.now) }
+{
+    let (first, behind) = words.parts();
+    match places {
+        [] => None,
+        [place, rest @ ..] => lesser_first(range_fault(place, first), later_fault(rest, behind)),
+    }
 }
 
 fn sets_server(form: Form) -> bool
@@ -63,8 +74,8 @@ fn sets_server(form: Form) -> bool
 }
 
 // Whether the parameters of a sporadic server fit one another.
-fn is_server(words: &Words<'_>) -> bool
-    ensures { result ≡ is_server words.now.words }
+fn is_server(words: &LineWords<'_>) -> bool
+    ensures { result ≡ is_server words.now }
 {
     let high = capped_number_at(3, words);
     let low = capped_number_at(4, words);
@@ -74,8 +85,8 @@ fn is_server(words: &Words<'_>) -> bool
     (1 <= budget && budget <= period) && ((1 <= max && max <= 16) && low < high)
 }
 
-fn server_fault(form: Form, words: &Words<'_>) -> Option<FaultKind>
-    ensures { result ≡ least_kind (server_faults form words.now.words) }
+fn server_fault(form: Form, words: &LineWords<'_>) -> Option<FaultKind>
+    ensures { result ≡ least_kind (server_faults form words.now) }
 {
     if sets_server(form) && !is_server(words) {
         Some(FaultKind::ServerRange)
@@ -100,7 +111,7 @@ fn statement_fault(tally: &Tally, s: &Statement<'_>) -> Option<FaultKind>
     lesser_first(
         place_fault(s.places(), s.words()),
         lesser_first(
-            server_fault(s.form(), &s.words()),
+            server_fault(s.form(), s.words()),
             many_fault(tally, s.form()),
         ),
     )

@@ -7,13 +7,13 @@ use crate::names::NameIndex;
 use crate::operands::{
     amount, fifo, number_in, object, operand, priority, rr, signal, signals, sporadic, thread,
 };
-use script_lex::Words;
+use crate::structure::statement::LineWords;
 use script_table::{
     CallForm, MessageCall, MutexCall, NameKind, SemCall, SignalCall, ThreadCall, TimeCall,
 };
 
-fn thread_call(names: &NameIndex<'_>, form: ThreadCall, words: &Words<'_>) -> Option<Call>
-    ensures { result ≡ thread_call names.now form words.now.words }
+fn thread_call(names: &NameIndex<'_>, form: ThreadCall, words: &LineWords<'_>) -> Option<Call>
+    ensures { result ≡ thread_call names.now form words.now }
 {
     Some(match form {
         ThreadCall::Yield => Call::Yield,
@@ -31,8 +31,8 @@ fn thread_call(names: &NameIndex<'_>, form: ThreadCall, words: &Words<'_>) -> Op
     })
 }
 
-fn mutex_call(names: &NameIndex<'_>, form: MutexCall, words: &Words<'_>) -> Option<Call>
-    ensures { result ≡ mutex_call names.now form words.now.words }
+fn mutex_call(names: &NameIndex<'_>, form: MutexCall, words: &LineWords<'_>) -> Option<Call>
+    ensures { result ≡ mutex_call names.now form words.now }
 {
     Some(match form {
         MutexCall::Lock => Call::Lock(object(NameKind::Mutex, names, 1, words)?),
@@ -56,8 +56,8 @@ fn mutex_call(names: &NameIndex<'_>, form: MutexCall, words: &Words<'_>) -> Opti
     })
 }
 
-fn sem_call(names: &NameIndex<'_>, form: SemCall, words: &Words<'_>) -> Option<Call>
-    ensures { result ≡ sem_call names.now form words.now.words }
+fn sem_call(names: &NameIndex<'_>, form: SemCall, words: &LineWords<'_>) -> Option<Call>
+    ensures { result ≡ sem_call names.now form words.now }
 {
     let sem = object(NameKind::Sem, names, 1, words)?;
     Some(match form {
@@ -72,8 +72,8 @@ fn sem_call(names: &NameIndex<'_>, form: SemCall, words: &Words<'_>) -> Option<C
     })
 }
 
-fn time_call(names: &NameIndex<'_>, form: TimeCall, words: &Words<'_>) -> Option<Call>
-    ensures { result ≡ time_call names.now form words.now.words }
+fn time_call(names: &NameIndex<'_>, form: TimeCall, words: &LineWords<'_>) -> Option<Call>
+    ensures { result ≡ time_call names.now form words.now }
 {
     Some(match form {
         TimeCall::Nanosleep => Call::Nanosleep(amount(1, words)?),
@@ -101,8 +101,8 @@ fn time_call(names: &NameIndex<'_>, form: TimeCall, words: &Words<'_>) -> Option
     })
 }
 
-fn signal_call(names: &NameIndex<'_>, form: SignalCall, words: &Words<'_>) -> Option<Call>
-    ensures { result ≡ signal_call names.now form words.now.words }
+fn signal_call(names: &NameIndex<'_>, form: SignalCall, words: &LineWords<'_>) -> Option<Call>
+    ensures { result ≡ signal_call names.now form words.now }
 {
     Some(match form {
         SignalCall::Kill => Call::Kill(signal(1, words)?),
@@ -116,8 +116,8 @@ fn signal_call(names: &NameIndex<'_>, form: SignalCall, words: &Words<'_>) -> Op
     })
 }
 
-fn message_call(names: &NameIndex<'_>, form: MessageCall, words: &Words<'_>) -> Option<Call>
-    ensures { result ≡ message_call names.now form words.now.words }
+fn message_call(names: &NameIndex<'_>, form: MessageCall, words: &LineWords<'_>) -> Option<Call>
+    ensures { result ≡ message_call names.now form words.now }
 {
     let queue = object(NameKind::Queue, names, 1, words)?;
     Some(match form {
@@ -144,8 +144,8 @@ fn message_call(names: &NameIndex<'_>, form: MessageCall, words: &Words<'_>) -> 
 }
 
 /// The call that a line of this form makes.
-pub(crate) fn call_of(names: &NameIndex<'_>, form: CallForm, words: &Words<'_>) -> Option<Call>
-    ensures { result ≡ call_of names.now form words.now.words }
+pub(crate) fn call_of(names: &NameIndex<'_>, form: CallForm, words: &LineWords<'_>) -> Option<Call>
+    ensures { result ≡ call_of names.now form words.now }
 {
     match form {
         CallForm::Thread(form) => thread_call(names, form, words),

@@ -6,13 +6,13 @@ use crate::names::NameIndex;
 use crate::operands::{
     amount, answer, fifo, name, number_in, object, priority, rr, signal, sporadic,
 };
+use crate::structure::statement::LineWords;
 use crate::{Body, Decl, Kind, Protocol, Step};
-use script_lex::Words;
 use script_table::{ActionForm, BlockForm, BodyForm, CloseForm, NameKind, ObjectForm, StepForm};
 use tick_num::GREATEST_NUMBER;
 
-fn kind_of_object(form: ObjectForm, words: &Words<'_>) -> Option<Kind>
-    ensures { result ≡ kind_of_object form words.now.words }
+fn kind_of_object(form: ObjectForm, words: &LineWords<'_>) -> Option<Kind>
+    ensures { result ≡ kind_of_object form words.now }
 {
     Some(match form {
         ObjectForm::MutexNone => Kind::Mutex {
@@ -60,8 +60,8 @@ fn kind_of_object(form: ObjectForm, words: &Words<'_>) -> Option<Kind>
     })
 }
 
-pub(crate) fn object_decl(form: ObjectForm, words: &Words<'_>) -> Option<Decl>
-    ensures { result ≡ object_decl form words.now.words }
+pub(crate) fn object_decl(form: ObjectForm, words: &LineWords<'_>) -> Option<Decl>
+    ensures { result ≡ object_decl form words.now }
 {
     let name = name(1, words)?;
     Some(Decl::Named(name, kind_of_object(form, words)?))
@@ -70,9 +70,9 @@ pub(crate) fn object_decl(form: ObjectForm, words: &Words<'_>) -> Option<Decl>
 pub(crate) fn action_decl(
     names: &NameIndex<'_>,
     form: ActionForm,
-    words: &Words<'_>,
+    words: &LineWords<'_>,
 ) -> Option<Decl>
-    ensures { result ≡ action_decl names.now form words.now.words }
+    ensures { result ≡ action_decl names.now form words.now }
 {
     let sig = signal(1, words)?;
     Some(match form {
@@ -81,8 +81,8 @@ pub(crate) fn action_decl(
     })
 }
 
-fn kind_of_body(form: BodyForm, words: &Words<'_>, body: Body) -> Option<Kind>
-    ensures { result ≡ kind_of_body form words.now.words body }
+fn kind_of_body(form: BodyForm, words: &LineWords<'_>, body: Body) -> Option<Kind>
+    ensures { result ≡ kind_of_body form words.now body }
 {
     let (policy, start) = match form {
         BodyForm::FifoAt => (fifo(3, words)?, Some(amount(5, words)?)),
@@ -101,15 +101,15 @@ fn kind_of_body(form: BodyForm, words: &Words<'_>, body: Body) -> Option<Kind>
     })
 }
 
-pub(crate) fn body_decl(form: BodyForm, words: &Words<'_>, body: Body) -> Option<Decl>
-    ensures { result ≡ body_decl form words.now.words body }
+pub(crate) fn body_decl(form: BodyForm, words: &LineWords<'_>, body: Body) -> Option<Decl>
+    ensures { result ≡ body_decl form words.now body }
 {
     let name = name(1, words)?;
     Some(Decl::Named(name, kind_of_body(form, words, body)?))
 }
 
-pub(crate) fn plain_step(form: StepForm, words: &Words<'_>) -> Option<Step>
-    ensures { result ≡ plain_step form words.now.words }
+pub(crate) fn plain_step(form: StepForm, words: &LineWords<'_>) -> Option<Step>
+    ensures { result ≡ plain_step form words.now }
 {
     Some(match form {
         StepForm::Run => Step::Run(number_in(1, GREATEST_NUMBER, 1, words)?),
@@ -131,11 +131,11 @@ pub(crate) fn runs_cleanup(form: CloseForm) -> bool
 pub(crate) fn block_step(
     names: &NameIndex<'_>,
     form: BlockForm,
-    words: &Words<'_>,
+    words: &LineWords<'_>,
     run: bool,
     body: Body,
 ) -> Option<Step>
-    ensures { result ≡ block_step names.now form words.now.words run body }
+    ensures { result ≡ block_step names.now form words.now run body }
 {
     Some(match form {
         BlockForm::If => Step::Test {

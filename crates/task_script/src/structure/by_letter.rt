@@ -1,10 +1,11 @@
 // The patterns of a table by the first byte of a line's first word.
-ghost use Rattle.std.specs.Prelude.{ℕ, ◌≡◌, ◌∷◌, List, map, IfOk};
+ghost use Rattle.std.specs.Prelude.{ℕ, ◌≡◌, ◌∷◌, List, map, IfOk, IfSome};
 ghost use Rattle.std.specs.Option.{option_map};
 ghost use Rattle.script_table.specs.Patterns.{spot_of, row_of, rows_of};
 ghost use Rattle.script_table.specs.LineFaults.{fitting_row, fitting_some};
 ghost use Rattle.task_script.specs.ByLetter.{begins, may_begin, Serves};
 
+use crate::structure::statement::{LineWords, Statement};
 use script_lex::Words;
 use script_table::{Pattern, Place, Table, fitting_pattern};
 use std::alloc::{AllocError, Global};
@@ -120,14 +121,22 @@ impl ByLetter {
         }
     }
 
-    /// The pattern that agrees with a line of these words and has their number; `None` exactly where there is none.
-    pub(crate) fn pattern_of(&self, words: &Words<'_>) -> Option<&'static Pattern>
-        ensures { option_map (λ p. row_of p.now) result ≡ fitting_some self.now words.now.words }
+    /// What a line of these words says: `None` exactly where no pattern agrees with the line and has its number of words.
+    #[inline(always)]
+    pub(crate) fn statement<'a>(&self, line: u32, mut words: Words<'a>) -> Option<Statement<'a>>
+        ensures row { option_map (λ s. s.row) result ≡ fitting_some self.now words.entry.words }
+        ensures line { IfSome result (λ s. (s.line ≡ line) × (s.words ≡ words.entry.words)) }
     {
-        let mut rest = words.again();
-        match rest.next_word() {
+        let Some(first) = words.next_word() else {
+            return None;
+        };
+        match fitting_pattern(self.of_word(first.bytes), first.bytes, &words) {
             None => None,
-            Some(first) => fitting_pattern(self.of_word(first.bytes), first.bytes, &rest),
+            Some(pattern) => Some(Statement::new(
+                line,
+                pattern,
+                LineWords::new(first.bytes, words),
+            )),
         }
     }
 }

@@ -29,16 +29,15 @@ fn read_line<'a>(
         (λ e. EndsBy e (option_map (fault 1 line.entry.number)
         (least_kind (line_faults patterns.now (Some blocks.old) line.entry.bytes.now)))) }
 {
-    let words = line.words();
-    let pattern = patterns.pattern_of(&words);
-    if let Some(kind) = line_fault(patterns.table(), &line, &words, pattern, blocks) {
+    let said = patterns.statement(line.number, line.words());
+    if let Some(kind) = line_fault(patterns.table(), &line, &said, blocks) {
         return Err(ScriptEnd::Fault(line.number, kind));
     }
-    match pattern {
+    match said {
         None => Ok(None),
-        Some(p) => {
-            blocks.pass(p.form)?;
-            Ok(Some(Statement::new(line.number, p, words)))
+        Some(s) => {
+            blocks.pass(s.form())?;
+            Ok(Some(s))
         }
     }
 }

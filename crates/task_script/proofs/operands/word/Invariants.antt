@@ -3,7 +3,7 @@ use Rattle.script_table.specs.Ranges.{word}
 use Rattle.task_script.proofs.operands.word.Given as goal
 
 abbrev pub invariant-loop-found : goal.invariant-loop-found
-invariant-loop-found l = word l.left l.rest.words ≡ word l.k l.words.words
+invariant-loop-found l = word l.left l.rest.words ≡ word l.k l.words
 
 abbrev pub decreases-loop-found : goal.decreases-loop-found
 decreases-loop-found l = length l.rest.words

@@ -1,4 +1,4 @@
-use Rattle.std.proofs.Common.{ℕ, ◌≡◌, ◌+◌, ◌<◌, ◌-◌, length, sym, subst, get_or, arith}
+use Rattle.std.proofs.Common.{◌≡◌, ◌+◌, ◌<◌, ◌-◌, length, sym, subst, get_or, arith}
 use Rattle.script_table.specs.Patterns.{rows_of}
 use Rattle.task_script.specs.ByLetter.{Serves}
 use Rattle.task_script.proofs.Narrowed.{serves_at}

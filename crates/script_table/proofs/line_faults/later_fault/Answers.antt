@@ -1,6 +1,6 @@
 use Rattle.script_table.specs.LineFaults.{spelling}
 use Rattle.script_table.proofs.KindOrder.{past_place, no_word, next_spot}
-use Rattle.script_table.proofs.line_faults.spelling_fault.Goals as goal
+use Rattle.script_table.proofs.line_faults.later_fault.Goals as goal
 
 pub loop-place-preserved : goal.loop-place-preserved
 loop-place-preserved c =

@@ -1,6 +1,6 @@
 use Rattle.script_table.specs.Ranges.{range_fault}
 use Rattle.script_table.proofs.KindOrder.{past_place, no_word, next_spot}
-use Rattle.task_script.proofs.ranges.place_fault.Goals as goal
+use Rattle.task_script.proofs.ranges.later_fault.Goals as goal
 
 pub loop-place-preserved : goal.loop-place-preserved
 loop-place-preserved c =

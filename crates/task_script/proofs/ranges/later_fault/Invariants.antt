@@ -3,7 +3,7 @@ use Rattle.script_table.specs.Faults.{lesser_first, least_kind}
 use Rattle.script_table.specs.Patterns.{spot_of}
 use Rattle.script_table.specs.LineFaults.{place_faults}
 use Rattle.script_table.specs.Ranges.{range_fault}
-use Rattle.task_script.proofs.ranges.place_fault.Given as goal
+use Rattle.task_script.proofs.ranges.later_fault.Given as goal
 
 abbrev pub invariant-loop-place : goal.invariant-loop-place
 invariant-loop-place l =
