@@ -15,13 +15,13 @@ pub struct Direct {
 }
 
 impl Model for Direct {
-    ghost use Rattle.std.specs.Prelude.{List, ℕ, ◌≤◌, take};
+    ghost use Rattle.std.specs.Prelude.{List, ℕ, ◌≡◌, ◌≤◌, length, take};
 
     ghost Value = { List ℕ };
 
     ghost view = { λ d. take d.count d.threads };
 
-    ghost invariant = { λ d. d.count ≤ 256 };
+    ghost invariant = { λ d. (d.count ≤ 256) × (length d.threads ≡ 256) };
 }
 
 impl Direct {
@@ -45,7 +45,8 @@ impl Direct {
         requires { i < length self.now }
         ensures { result ≡ slice_index self.now i }
     {
-        self.threads[i]
+        let threads = &self.threads;
+        threads[i]
     }
 
     pub(crate) fn push(&mut self, t: Tid)
