@@ -7,9 +7,9 @@ ghost use Rattle.kernel_state.specs.Kernel.{Kernel, opened};
 ghost use Rattle.machine_flat.specs.Runnable.{IsRunnable};
 ghost use Rattle.kernel_state.specs.Settled.{HavePriorities};
 
+use crate::direct::Direct;
 use crate::named::Named;
 use crate::parts::Parts;
-use crate::direct::Direct;
 use machine_rules::LastDispatch;
 use message_queues::Queues;
 use pse52_trace::Names;

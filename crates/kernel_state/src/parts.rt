@@ -7,8 +7,8 @@ ghost use Rattle.machine_rules.specs.Turns.{becomes, moves, takes_serial, tells}
 ghost use Rattle.kernel_state.specs.Kernel.{after, ran, told};
 ghost use Rattle.std.specs.Prelude.{Some, is_some};
 
-use crate::named::Named;
 use crate::direct::Direct;
+use crate::named::Named;
 use machine_rules::LastDispatch;
 use message_queues::Queues;
 use pse52_trace::{Event, Names, Tracer};

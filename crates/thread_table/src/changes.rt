@@ -161,12 +161,6 @@ impl Table {
     {
         let was_high = self.threads.get(t).has_high();
         self.threads.get_mut(t).charge(k);
-        thread_of(reassign_charged(
-            &self.threads,
-            &mut self.chain,
-            &mut self.waits,
-            t,
-            was_high,
-        ))
+        thread_of(reassign_charged(&self.threads, &mut self.chain, &mut self.waits, t, was_high))
     }
 }

@@ -42,4 +42,4 @@ reassign_charged-requires-clause-same c = λ low.
     let new = c.charge.ensures ∙ ap (after_ticks c.args.k) c.get_mut.ensures.value in
     ap assigned_of (get_or-set_same s.threads c.args.t c.charge.new.self no_thread known ∙ new)
     ∙ stays_assigned s.threads s.chain s.waits c.args.t c.args.k c.self.invariant.tied known
-      (ap (λ (th : Thread Cursor). has_high th.server) (sym c.get.ensures) ∙ sym c.has_high-was_high.ensures ∙ low)
+    (ap (λ (th : Thread Cursor). has_high th.server) (sym c.get.ensures) ∙ sym c.has_high-was_high.ensures ∙ low)
