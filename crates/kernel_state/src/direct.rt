@@ -26,7 +26,7 @@ impl Model for Direct {
 
 impl Direct {
     /// No thread.
-    pub(crate) fn none() -> Direct
+    pub(crate) fn empty() -> Direct
         ensures { result ≡ [] }
     {
         Direct {

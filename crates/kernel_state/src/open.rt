@@ -89,7 +89,7 @@ impl Parts {
             last: LastDispatch::NoTick,
             next_serial: 0,
             killed: None,
-            direct: Direct::none(),
+            direct: Direct::empty(),
             named: Named::none(),
         })
     }
