@@ -1,7 +1,7 @@
 // The dispatch: the head of the highest list that is not empty runs (IEEE 1003.1-2017, XSH 2.8.4).
-ghost use Rattle.std.specs.Prelude.{◌≡◌, ◌<◌, length, IfSome};
+ghost use Rattle.std.specs.Prelude.{◌≡◌, ◌<◌, false, length, IfSome};
 ghost use Rattle.pse52_trace.specs.Tells.{Tells};
-ghost use Rattle.machine_rules.specs.Dispatch.{dispatch_event, dispatches, head, is_same, tells_unless};
+ghost use Rattle.machine_rules.specs.Dispatch.{dispatches, head, is_same};
 ghost use Rattle.kernel_state.specs.Kernel.{Kernel, after, told};
 
 use crate::parts::Parts;
@@ -10,21 +10,21 @@ use rt_io::Sink;
 use tick_num::Tid;
 
 impl Parts {
-    // It is told where that is a change.
-    fn tell_dispatch<K: Sink>(&self, to: &Option<Tid>, out: &mut Tracer<'_, K>)
-        requires { IfSome to.now (λ t. t < length self.now.names) }
-        ensures { Tells K.text K.faults self.now.names out.old out.new (told (tells_unless (is_same self.now.machine.last to.now) (dispatch_event self.now.machine to.now)) self.now) }
+    // The processor is given to another thread, or to none, which is told.
+    fn switch<K: Sink>(&mut self, to: &Option<Tid>, out: &mut Tracer<'_, K>)
+        requires known { IfSome to.now (λ t. t < length self.old.names) }
+        requires other { is_same self.old.machine.last to.now ≡ false }
+        ensures state { self.new ≡ after (dispatches to.now) self.old }
+        ensures told { Tells K.text K.faults self.old.names out.old out.new (told (dispatches to.now) self.old) }
     {
-        if self.is_last(to) {
-            return;
-        }
         match to {
             None => self.tell(&Event::Idle, out),
             Some(t) => self.tell(&Event::Dispatch(*t, self.exec(*t)), out),
         }
+        self.set_last(to);
     }
 
-    /// The processor is given to the head; `None` exactly where all lists are empty.
+    /// The processor is given to the head; `None` exactly where all lists are empty. It is told where that is a change.
     pub fn dispatch<K: Sink>(&mut self, out: &mut Tracer<'_, K>) -> Option<Tid>
         ensures top { result ≡ head self.old.machine }
         ensures known { IfSome result (λ t. t < length self.old.names) }
@@ -32,8 +32,9 @@ impl Parts {
         ensures told { Tells K.text K.faults self.old.names out.old out.new (told (dispatches (head self.old.machine)) self.old) }
     {
         let to = self.head();
-        self.tell_dispatch(&to, out);
-        self.set_last(&to);
+        if !self.is_last(&to) {
+            self.switch(&to, out);
+        }
         to
     }
 }

@@ -38,10 +38,7 @@ impl Parts {
         requires { self.old.machine.now + k ≤ 10 ^ 18 }
         ensures { self.new ≡ after (becomes (later_by k)) self.old }
     {
-        match self.instant.after(k) {
-            Some(then) => self.instant = then,
-            None => unreachable!(),
-        }
+        self.instant = self.instant.plus(k);
     }
 
     /// So many ticks of that thread, which has taken its unit, or so many idle ticks. It is one step, and nothing else changes the

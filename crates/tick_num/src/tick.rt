@@ -50,6 +50,16 @@ impl Tick {
     {
         Tick::try_new(self.ticks.checked_add(n)?)
     }
+
+    /// The moment n ticks later, which is at most 2·10^18.
+    pub fn plus(self, n: u64) -> Tick
+        requires { self + n ≤ 2 * 10 ^ 18 }
+        ensures { result ≡ self + n }
+    {
+        Tick {
+            ticks: self.ticks + n,
+        }
+    }
 }
 
 impl Default for Tick {
