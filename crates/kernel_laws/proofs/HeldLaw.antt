@@ -27,7 +27,7 @@ use Rattle.machine_rules.specs.Turns.{turn_of}
 use Rattle.machine_rules.specs.Units.{Following, advances, advancing, begins_finish, cleaning_up, continuing, finishing, following, in_cleanup, in_unit, takes_unit}
 use Rattle.machine_rules.specs.Throughout.{after_items}
 use Rattle.machine_moves.proofs.Waiters.Best.{Each}
-use Rattle.machine_laws.proofs.Servers.Ticks.{kept_in_unit}
+use Rattle.machine_laws.proofs.Servers.Units.{kept_in_unit}
 use Rattle.machine_flat.specs.EachCall.{EachMade}
 use Rattle.machine_flat.specs.FlatBodies.{code_of, flat_bodies}
 use Rattle.machine_flat.specs.KnownCalls.{Objects, objects_of}

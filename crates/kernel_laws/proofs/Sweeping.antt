@@ -28,7 +28,7 @@ use Rattle.machine_rules.specs.Waking.{call_in, new_frame, on_top, wakes_telling
 use Rattle.machine_rules.proofs.Reading.{thread-same}
 use Rattle.machine_moves.proofs.Calls.Commuting.{wakes_telling_part}
 use Rattle.machine_moves.proofs.Waiters.OfThreads.{changed_is}
-use Rattle.machine_laws.proofs.Servers.Ticks.{has_server}
+use Rattle.machine_laws.proofs.Servers.Ends.{has_server}
 use Rattle.thread_laws.specs.Frames.{AreInOrder}
 use Rattle.thread_laws.proofs.Frames.{at_most_two}
 use Rattle.thread_blocks.specs.Unused.{IsUnused}

@@ -1,6 +1,10 @@
 -- Sporadic servers.
 pub mod Right
 pub mod Moves
+pub mod Alert
+pub mod Units
+pub mod Charges
+pub mod Ends
 pub mod Ticks
 pub mod Kept
 pub mod Rest

@@ -34,7 +34,7 @@ use Rattle.machine_moves.proofs.Runs.Beside.{TickBeside, both}
 use Rattle.machine_laws.specs.Times.{HighWithin, RanWithin, TimesAreRight}
 use Rattle.machine_laws.proofs.Parts.Opening.{opening_listed}
 use Rattle.machine_laws.proofs.Lists.Kept.{Placed, Placing, opening_placed, placed_tick}
-use Rattle.machine_laws.proofs.Servers.Ticks.{kept_in_unit}
+use Rattle.machine_laws.proofs.Servers.Units.{kept_in_unit}
 
 -- ---- servers
 

@@ -36,12 +36,14 @@ use Rattle.machine_moves.proofs.Runs.Listed.{AllRun, head_can_run}
 use Rattle.machine_moves.proofs.Runs.Units.{in_unit_fits}
 use Rattle.machine_moves.proofs.Runs.Ticks.{Rests, charged_runs, charged_turn, completes_keep, dispatched, in_unit_status, instant_keep, items_keep, run_keep, sweeps_keep}
 use Rattle.machine_laws.proofs.Servers.Moves.{Threads}
-use Rattle.machine_laws.proofs.Servers.Ticks.{ServedDone, ServedMid, ServedRight, dispatched_threads, kept_in_unit, served_stop, served_tick}
+use Rattle.machine_laws.proofs.Servers.Ticks.{ServedDone, ServedMid, ServedRight, dispatched_threads, served_stop, served_tick}
+use Rattle.machine_laws.proofs.Servers.Units.{kept_in_unit}
 use Rattle.machine_laws.proofs.Parts.Opening.{opening_listed}
 use Rattle.machine_laws.proofs.Servers.Kept.{opened_server, opening_served}
 use Rattle.machine_laws.proofs.Budgets.Units.{Book, BookDone, BooksOf, NotDue, book_round, booked_later, booked_ticked, ends_booked, not_due, one_tick, renewing_unit, renews_booked, unit_booked}
 use Rattle.machine_laws.proofs.Budgets.Accounts.{keeps_account}
-use Rattle.machine_laws.proofs.Budgets.Moves.{Booked, Recorded}
+use Rattle.machine_laws.proofs.Budgets.Booked.{Booked}
+use Rattle.machine_laws.proofs.Budgets.Moves.{Recorded}
 
 -- ---- a tick
 

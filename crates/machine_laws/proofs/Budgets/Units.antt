@@ -40,9 +40,12 @@ use Rattle.machine_moves.proofs.Calls.Table.{unit_keep}
 use Rattle.machine_moves.proofs.Runs.Ticks.{RoundKeeps}
 use Rattle.machine_laws.proofs.Servers.Right.{Rising, only}
 use Rattle.machine_laws.proofs.Servers.Moves.{here}
-use Rattle.machine_laws.proofs.Servers.Ticks.{ServedDone, ServedMid, ServedRight, awake_of, end_by, has_server, nobody_awake, served_renew, served_stop, served_tick}
+use Rattle.machine_laws.proofs.Servers.Alert.{awake_of}
+use Rattle.machine_laws.proofs.Servers.Ends.{end_by, has_server}
+use Rattle.machine_laws.proofs.Servers.Ticks.{ServedDone, ServedMid, ServedRight, nobody_awake, served_renew, served_stop, served_tick}
 use Rattle.machine_laws.proofs.Budgets.Accounts.{later_books, planned_books, used_books, used_in_step}
-use Rattle.machine_laws.proofs.Budgets.Moves.{Booked, Recorded, joined_posted, other, own, posted_keep, posted_not, posted_so, renewed_other, renewed_posted, same_server, sleeps_posted, told, told_plainly}
+use Rattle.machine_laws.proofs.Budgets.Booked.{Booked}
+use Rattle.machine_laws.proofs.Budgets.Moves.{Recorded, joined_posted, other, own, posted_keep, posted_not, posted_so, renewed_other, renewed_posted, same_server, sleeps_posted, told, told_plainly}
 
 -- ---- nothing that is pending is due
 
