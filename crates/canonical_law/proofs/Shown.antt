@@ -52,7 +52,6 @@ use Rattle.script_tree.specs.declared.call.Call.{Call}
 use Rattle.script_tree.specs.declared.call.Operand as operands
 use Rattle.script_table.specs.declared.faults.FaultKind.TheVariants.{ServerRange}
 use Rattle.script_tree.specs.declared.name_kind.NameKind.{NameKind}
-use Rattle.script_tree.specs.declared.name_kind.NameKind.TheVariants as kind
 use Rattle.script_table.specs.Faults.{when}
 use Rattle.script_table.specs.Patterns.{greatest}
 use Rattle.script_table.specs.Words.{signal_of, answer_of}

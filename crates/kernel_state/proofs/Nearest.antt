@@ -1,6 +1,6 @@
 -- The ticks to the nearest due tick, by the least of all.
-use Rattle.std.proofs.Common.{◌≡◌, ◌≤◌, ◌<◌, ◌+◌, ℕ, List, [], ◌∷◌, Bool, true, false, Option, None, Some, ap, arith, refl, sym, ◌∙◌}
-use Rattle.std.specs.Prelude.{◌-◌, ◌*◌, ◌^◌, min, nat_le, if◌then◌else◌}
+use Rattle.std.proofs.Common.{◌≡◌, ◌≤◌, ◌+◌, ℕ, List, [], ◌∷◌, Bool, true, false, Option, None, Some, ap, arith, refl, sym, ◌∙◌}
+use Rattle.std.specs.Prelude.{◌-◌, ◌^◌, min, nat_le, if◌then◌else◌}
 use Rattle.machine_rules.specs.Agenda.{Coming}
 use Rattle.leap_rules.specs.Leap.{ticks_to_next}
 use Rattle.timer_wheel.specs.Dues.{earlier}

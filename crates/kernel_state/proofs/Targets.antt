@@ -10,7 +10,7 @@ use Rattle.machine_rules.specs.Lists.{first_by, kept_if, numbers_from}
 use Rattle.machine_rules.specs.Priorities.{exec}
 use Rattle.machine_rules.specs.Signals.{accepts, acceptor, may_go_to, is_kill, is_selected_before, selected}
 use Rattle.machine_rules.specs.State.{Machine, SignalRecord, Thread, Wait, Waiting, for_condition, for_end, for_message, for_mutex, for_mutex_again, for_room, for_semaphore, for_signal, for_time}
-use Rattle.machine_rules.specs.Threads.{action_of, is_blocked, no_thread, thread_at, waiting_in, waiting_of}
+use Rattle.machine_rules.specs.Threads.{action_of, is_blocked, no_thread, thread_at, waiting_of}
 use Rattle.machine_rules.specs.Waiters.{Waiter, is_served_before, waiter_of, waiters, waits_so}
 use Rattle.machine_moves.proofs.Calls.Answers.{acceptor_waits, waits_blocked}
 use Rattle.machine_moves.proofs.Waiters.Best.{Each, blocked_within, first_none, first_one}

@@ -1,7 +1,7 @@
 use Rattle.std.proofs.Common.{◌≡◌, ◌<◌, ◌∙◌, ℕ, None, Option, Some, arith, length, refl, subst, sym}
 use Rattle.std.specs.Prelude.{IfSome, option_map}
 use Rattle.machine_rules.specs.Signals.{accepts, acceptor}
-use Rattle.machine_rules.specs.Threads.{is_blocked, thread_at}
+use Rattle.machine_rules.specs.Threads.{thread_at}
 use Rattle.machine_rules.specs.Waiters.{Waiter, waits_so}
 use Rattle.kernel_state.specs.Kernel.{Kernel}
 use Rattle.kernel_state.proofs.Targets.{acceptor_blocked, acceptor_known, aimed_at}

@@ -1,5 +1,4 @@
-use Rattle.std.proofs.Common.{rules, ◌≡◌, ◌≤◌, ◌+◌, ◌-◌, ◌^◌, ℕ, None, Some, ap, subst, sym, ◌∙◌}
-use Rattle.std.specs.Prelude.{min}
+use Rattle.std.proofs.Common.{rules, ◌≡◌, ◌≤◌, ◌+◌, ◌-◌, ◌^◌, None, Some, subst, sym, ◌∙◌}
 use Rattle.machine_rules.specs.Agenda.{agenda}
 use Rattle.leap_rules.specs.Leap.{ticks_to_next}
 use Rattle.kernel_state.specs.Kernel.{Kernel}
