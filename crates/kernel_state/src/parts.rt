@@ -136,13 +136,15 @@ impl Parts {
     pub fn is_last(&self, to: &Option<Tid>) -> bool
         ensures { result ≡ is_same self.now.machine.last to.now }
     {
+        let Some(t) = to else {
+            return match self.last {
+                LastDispatch::Idle => true,
+                _ => false,
+            };
+        };
         match self.last {
-            LastDispatch::NoTick => false,
-            LastDispatch::Idle => to.is_none(),
-            LastDispatch::Ran(u) => match to {
-                None => false,
-                Some(t) => u.get() == t.get(),
-            },
+            LastDispatch::Ran(u) => u.get() == t.get(),
+            _ => false,
         }
     }
 
