@@ -67,6 +67,7 @@ impl<'a> Lines<'a> {
     }
 
     /// The next line; `None` exactly at the end of the text, where nothing changes.
+    #[inline(always)]
     pub fn next_line(&mut self) -> Option<Line<'a>>
         ensures line { MatchOption result (self.old.lines ≡ []) (λ l. self.old.lines ≡ l.bytes.now ∷ self.new.lines) }
         ensures number { MatchOption result (self.new ≡ self.old)

@@ -94,6 +94,24 @@ impl<'a> Words<'a> {
         }
     }
 
+    /// The words of these bytes, with their places there.
+    #[inline(always)]
+    pub fn in_bytes(bytes: &'a [u8]) -> Words<'a>
+        requires { length bytes.now ≤ 67_108_864 }
+        ensures { result ≡ record { words = words_of bytes.now; places = places_of 0 bytes.now } }
+    {
+        Words::of(bytes, bytes.len())
+    }
+
+    /// The bytes in which these words stand.
+    #[inline(always)]
+    pub fn bytes(&self) -> &'a [u8]
+        ensures words { words_of result.now ≡ self.now.words }
+        ensures bound { length result.now ≤ 67_108_864 }
+    {
+        &self.ahead[..self.len as usize]
+    }
+
     /// The next word; `None` exactly after the last one, and then nothing changes.
     #[inline(always)]
     pub fn next_word(&mut self) -> Option<Word<'a>>

@@ -6,7 +6,7 @@ use Rattle.script_table.specs.declared.faults.FaultKind.{FaultKind}
 use Rattle.script_table.specs.Faults.{number_of, lesser, lesser_first, least_kind}
 use Rattle.script_table.specs.declared.pattern.Place.{Place}
 use Rattle.script_table.specs.Patterns.{Spot, spot_of}
-use Rattle.script_table.specs.LineFaults.{place_faults, fits}
+use Rattle.script_table.specs.LineFaults.{place_faults, stands, fits}
 
 abbrev pick : {A : Type 0} → (A → ℕ) → A → A → A
 pick n a b = cond (nat_lt (n b) (n a)) b a
@@ -62,3 +62,7 @@ next_spot places i d lt = rw add-one (ap (map spot_of) (drop-cons places i d lt)
 -- a line that ends before a place
 pub too_short : (spots rest : List Spot) (spot : Spot) (words : List (List ℕ)) (all : Bool) → spots ≡ spot ∷ rest → words ≡ [] → fits spots words ≡ all → false ≡ all
 too_short spots rest spot words all is_spots none so_far = rw (is_spots, none) at so_far
+
+-- past a place where its word stands
+pub past_fit : (spots rest : List Spot) (spot : Spot) (words ahead : List (List ℕ)) (word : List ℕ) (all : Bool) → spots ≡ spot ∷ rest → words ≡ word ∷ ahead → stands spot word ≡ true → fits spots words ≡ all → fits rest ahead ≡ all
+past_fit spots rest spot words ahead word all is_spots is_words here so_far = rw (is_spots, is_words, here) at so_far

@@ -6,6 +6,7 @@ pub mod LineFaults
 pub mod Structure
 pub mod Names
 pub mod Ranges
+pub mod WordFaults
 pub mod Operands
 pub mod Calls
 pub mod Meaning

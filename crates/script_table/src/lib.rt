@@ -5,7 +5,9 @@ mod faults;
 mod form;
 mod line_faults;
 mod pattern;
+mod ranges;
 mod table;
+mod word_faults;
 mod words;
 
 pub use faults::{FaultKind, lesser_first};
@@ -13,8 +15,9 @@ pub use form::{
     ActionForm, BlockForm, BodyForm, CallForm, CloseForm, Form, MessageCall, MutexCall, ObjectForm,
     SemCall, SignalCall, StepForm, ThreadCall, TimeCall,
 };
-pub use line_faults::{any_agrees, fitting_pattern, pattern_of, spelling_fault};
+pub use line_faults::{Fitting, any_agrees, fitting_pattern, pattern_of};
 pub use pattern::{Bar, Closer, Opening, Pattern, Place, Table};
 pub use script_tree::NameKind;
 pub use table::patterns;
+pub use word_faults::WordFaults;
 pub use words::{answer_of, capped_value, is_number, is_register, set_of, signal_of};

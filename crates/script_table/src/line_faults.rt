@@ -1,15 +1,15 @@
 // The pattern of a line.
-ghost use Rattle.std.specs.Prelude.{◌≡◌, ◌∷◌, [], map};
+ghost use Rattle.std.specs.Prelude.{◌≡◌, ◌∷◌, [], map, true, false, IfSome, MatchOption};
 ghost use Rattle.std.specs.Str.{bytes_eq};
 ghost use Rattle.std.specs.Option.{option_map};
-ghost use Rattle.script_table.specs.Faults.{least_kind};
 ghost use Rattle.script_table.specs.Patterns.{spot_of, row_of, rows_of};
-ghost use Rattle.script_table.specs.LineFaults.{stands, agrees, fits, any_agrees, fitting_row, spelling, place_faults, fitting_some, unless};
+ghost use Rattle.script_table.specs.LineFaults.{stands, agrees, fits, any_agrees, fitting_row, spelling, fitting_some, unless};
+ghost use Rattle.script_table.specs.WordFaults.{AreFaultsIn};
 ghost use Rattle.script_tree.specs.Names.{is_name};
 
-use crate::faults::lesser_first;
+use crate::word_faults::{faults_of_word, joined, no_faults};
 use crate::words::{answer_of, is_number, is_register, set_of, signal_of};
-use crate::{FaultKind, Pattern, Place, Table};
+use crate::{FaultKind, Pattern, Place, Table, WordFaults};
 use script_lex::Words;
 use script_tree::Name;
 
@@ -57,28 +57,46 @@ fn agrees(places: &[Place], mut words: Words<'_>) -> bool
     }
 }
 
-fn fits(places: &[Place], mut words: Words<'_>) -> bool
-    ensures { result ≡ fits (map spot_of places.now) words.entry.words }
+// What is wrong with these words, where the places fit.
+#[inline(always)]
+fn fits(places: &[Place], mut words: Words<'_>) -> Option<WordFaults>
+    ensures { MatchOption result (fits (map spot_of places.now) words.entry.words ≡ false)
+        (λ f. (fits (map spot_of places.now) words.entry.words ≡ true) × AreFaultsIn f (map spot_of places.now) words.entry.words) }
 {
+    let mut found = no_faults();
     for place in places {
         let Some(word) = words.next_word() else {
-            return false;
+            return None;
         };
         if !stands(place, word.bytes) {
-            return false;
+            return None;
         }
+        found = joined(found, faults_of_word(place, word.bytes));
     }
-    words.next_word().is_none()
+    if words.next_word().is_none() {
+        Some(found)
+    } else {
+        None
+    }
 }
 
 // The same, where the first word is known.
 #[inline(always)]
-fn fits_first(places: &[Place], first: &[u8], words: &Words<'_>) -> bool
-    ensures { result ≡ fits (map spot_of places.now) (first.now ∷ words.now.words) }
+fn fits_first(places: &[Place], first: &[u8], words: &Words<'_>) -> Option<WordFaults>
+    ensures { MatchOption result (fits (map spot_of places.now) (first.now ∷ words.now.words) ≡ false)
+        (λ f. (fits (map spot_of places.now) (first.now ∷ words.now.words) ≡ true)
+        × AreFaultsIn f (map spot_of places.now) (first.now ∷ words.now.words)) }
 {
     match places {
-        [] => false,
-        [place, rest @ ..] => stands(place, first) && fits(rest, words.again()),
+        [] => None,
+        [place, rest @ ..] => if stands(place, first) {
+            match fits(rest, words.again()) {
+                None => None,
+                Some(later) => Some(joined(faults_of_word(place, first), later)),
+            }
+        } else {
+            None
+        },
     }
 }
 
@@ -91,32 +109,38 @@ fn any_agrees_in(patterns: &[Pattern], words: &Words<'_>) -> bool
     }
 }
 
+/// The pattern of a line, and what is wrong with the line's words by it.
+#[derive(Clone, Copy)]
+pub struct Fitting {
+    pub pattern: &'static Pattern,
+    pub faults: WordFaults,
+}
+
 #[inline(always)]
-fn fitting_in(
-    patterns: &'static [Pattern],
-    first: &[u8],
-    words: &Words<'_>,
-) -> Option<&'static Pattern>
-    ensures { option_map (λ p. row_of p.now) result
+fn fitting_in(patterns: &'static [Pattern], first: &[u8], words: &Words<'_>) -> Option<Fitting>
+    ensures row { option_map (λ f. row_of f.pattern.now) result
         ≡ fitting_row (map row_of patterns.now) (first.now ∷ words.now.words) }
+    ensures faults { IfSome result (λ f. AreFaultsIn f.faults (map spot_of f.pattern.now.places.now) (first.now ∷ words.now.words)) }
 {
     for pattern in patterns {
-        if fits_first(pattern.places, first, words) {
-            return Some(pattern);
+        if let Some(faults) = fits_first(pattern.places, first, words) {
+            return Some(Fitting { pattern, faults });
         }
     }
     None
 }
 
-/// The same, where the first word is known, and `words` are those that follow it.
-pub fn fitting_pattern(table: &Table, first: &[u8], words: &Words<'_>) -> Option<&'static Pattern>
-    ensures { option_map (λ p. row_of p.now) result ≡ fitting_row (rows_of table.now) (first.now ∷ words.now.words) }
+/// The pattern of the table that agrees with a line of these words and has their number, where the first word is known, and `words` are
+/// those that follow it; `None` exactly where there is none.
+pub fn fitting_pattern(table: &Table, first: &[u8], words: &Words<'_>) -> Option<Fitting>
+    ensures row { option_map (λ f. row_of f.pattern.now) result ≡ fitting_row (rows_of table.now) (first.now ∷ words.now.words) }
+    ensures faults { IfSome result (λ f. AreFaultsIn f.faults (map spot_of f.pattern.now.places.now) (first.now ∷ words.now.words)) }
 {
-    if let Some(pattern) = fitting_in(table.declarations, first, words) {
-        return Some(pattern);
+    if let Some(found) = fitting_in(table.declarations, first, words) {
+        return Some(found);
     }
-    if let Some(pattern) = fitting_in(table.steps, first, words) {
-        return Some(pattern);
+    if let Some(found) = fitting_in(table.steps, first, words) {
+        return Some(found);
     }
     fitting_in(table.calls, first, words)
 }
@@ -137,7 +161,10 @@ pub fn pattern_of(table: &Table, words: &Words<'_>) -> Option<&'static Pattern>
     let mut rest = words.again();
     match rest.next_word() {
         None => None,
-        Some(first) => fitting_pattern(table, first.bytes, &rest),
+        Some(first) => match fitting_pattern(table, first.bytes, &rest) {
+            None => None,
+            Some(found) => Some(found.pattern),
+        },
     }
 }
 
@@ -147,13 +174,13 @@ fn is_name(word: &[u8]) -> bool
     Name::try_new(word).is_some()
 }
 
-fn unless(holds: bool, kind: FaultKind) -> Option<FaultKind>
+pub(crate) fn unless(holds: bool, kind: FaultKind) -> Option<FaultKind>
     ensures { result ≡ unless holds kind }
 {
     if holds { None } else { Some(kind) }
 }
 
-fn spelling(place: &Place, word: &[u8]) -> Option<FaultKind>
+pub(crate) fn spelling(place: &Place, word: &[u8]) -> Option<FaultKind>
     ensures { result ≡ spelling (spot_of place.now) word.now }
 {
     match place {
@@ -166,30 +193,5 @@ fn spelling(place: &Place, word: &[u8]) -> Option<FaultKind>
         Place::Signal => unless(signal_of(word).is_some(), FaultKind::BadName),
         Place::Acts => unless(signal_of(word).is_some(), FaultKind::BadName),
         Place::Signals => unless(set_of(word).is_some(), FaultKind::BadName),
-    }
-}
-
-// The least kind of what is misspelled at these places.
-fn later_fault(places: &[Place], mut words: Words<'_>) -> Option<FaultKind>
-    ensures { result ≡ least_kind (place_faults spelling (map spot_of places.now) words.entry.words) }
-{
-    let mut found = None;
-    for place in places {
-        let Some(word) = words.next_word() else {
-            return found;
-        };
-        found = lesser_first(found, spelling(place, word.bytes));
-    }
-    found
-}
-
-/// The least kind of what is misspelled at these places, where the first word is known, and `words` are those that follow it; `None`
-/// exactly where each word is spelled as its place wants.
-pub fn spelling_fault(places: &[Place], first: &[u8], words: Words<'_>) -> Option<FaultKind>
-    ensures { result ≡ least_kind (place_faults spelling (map spot_of places.now) (first.now ∷ words.entry.words)) }
-{
-    match places {
-        [] => None,
-        [place, rest @ ..] => lesser_first(spelling(place, first), later_fault(rest, words)),
     }
 }

@@ -117,6 +117,7 @@ impl<'a> Builder<'a> {
         Ok(())
     }
 
+    #[inline(always)]
     fn put(&mut self, step: Option<Step>) -> Result<(), AllocError>
         ensures { IfOk result (λ _. self.new ≡ with_step self.old step) }
     {

@@ -1,6 +1,6 @@
 // What the word at a place says.
 ghost use Rattle.std.specs.Prelude.{◌≡◌, ◌≤◌, ◌+◌, ◌^◌, min, [], IfSome};
-ghost use Rattle.script_table.specs.Ranges.{word, capped_number_at, is_within};
+ghost use Rattle.script_table.specs.Ranges.{word, capped_number_at};
 ghost use Rattle.script_table.specs.Operands.{number_in, amount_at, priority_at, operand_at, signal_at, signals_at, answer_at, name_at, named_at, server_of, server_at, fifo_at, rr_at, sporadic_at};
 ghost use Rattle.script_tree.specs.declared.name_kind.NameKind.TheVariants as kind;
 
@@ -13,11 +13,8 @@ use tick_num::{GREATEST_NUMBER, ObjId, Params, Prio, Res, SigSet, Tid};
 pub(crate) fn word<'a>(k: usize, words: &LineWords<'a>) -> &'a [u8]
     ensures { result.now ≡ word k words.now }
 {
-    let (first, mut rest) = words.parts();
-    if k == 0 {
-        return first;
-    }
-    let mut left = k - 1;
+    let mut rest = words.ahead();
+    let mut left = k;
     while let Some(found) = rest.next_word() {
         if left == 0 {
             return found.bytes;
@@ -32,14 +29,6 @@ pub(crate) fn capped_number_at(k: usize, words: &LineWords<'_>) -> u128
     ensures { result ≡ capped_number_at k words.now }
 {
     capped_value(word(k, words), GREATEST_NUMBER)
-}
-
-/// Whether the value of digits lies in a range.
-pub(crate) fn is_within(low: u64, high: u64, word: &[u8]) -> bool
-    ensures { result ≡ is_within low high word.now }
-{
-    let value = capped_value(word, high);
-    low as u128 <= value && value <= high as u128
 }
 
 pub(crate) fn number_in(low: u64, high: u64, k: usize, words: &LineWords<'_>) -> Option<u64>

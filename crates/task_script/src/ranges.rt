@@ -1,66 +1,18 @@
 // Phase 3: ranges and limits, and the least fault of them.
 mod tally;
 
-ghost use Rattle.std.specs.Prelude.{◌≡◌, ◌≤◌, ◌<◌, ◌^◌, ◌∷◌, ◌++◌, ◌&&◌, not, [], map, None, Some, MatchResult, length};
+ghost use Rattle.std.specs.Prelude.{◌≡◌, ◌≤◌, ◌<◌, ◌^◌, ◌∷◌, ◌++◌, ◌&&◌, not, [], None, Some, MatchResult, length};
 ghost use Rattle.std.specs.Option.{option_map};
 ghost use Rattle.script_table.specs.Faults.{least, least_kind, when};
-ghost use Rattle.script_table.specs.Patterns.{spot_of};
-ghost use Rattle.script_table.specs.LineFaults.{place_faults};
 ghost use Rattle.script_table.specs.Structure.{IsRising};
-ghost use Rattle.script_table.specs.Ranges.{range_fault, sets_server, is_server, server_faults, tallied, is_too_many, range_faults, phase_three, no_tally};
+ghost use Rattle.script_table.specs.Ranges.{sets_server, is_server, server_faults, tallied, is_too_many, range_faults, phase_three, no_tally};
 ghost use Rattle.task_script.specs.Ends.{answered};
 
 use crate::ScriptEnd;
-use crate::operands::{capped_number_at, is_within};
+use crate::operands::capped_number_at;
 use crate::structure::statement::{LineWords, Statement};
-use script_lex::Words;
-use script_table::{
-    BodyForm, CallForm, FaultKind, Form, Place, ThreadCall, is_register, lesser_first,
-};
+use script_table::{BodyForm, CallForm, FaultKind, Form, ThreadCall, lesser_first};
 use tally::Tally;
-use tick_num::GREATEST_NUMBER;
-
-fn range_fault(place: &Place, word: &[u8]) -> Option<FaultKind>
-    ensures { result ≡ range_fault (spot_of place.now) word.now }
-{
-    match place {
-        Place::Number { low, high } => if is_within(*low, *high, word) {
-            None
-        } else {
-            Some(FaultKind::NumberRange)
-        },
-        Place::Operand => if is_register(word) || is_within(0, GREATEST_NUMBER, word) {
-            None
-        } else {
-            Some(FaultKind::NumberRange)
-        },
-        _ => None,
-    }
-}
-
-fn later_fault(places: &[Place], mut words: Words<'_>) -> Option<FaultKind>
-    ensures { result ≡ least_kind (place_faults range_fault (map spot_of places.now) words.entry.words) }
-{
-    let mut found = None;
-    for place in places {
-        let Some(word) = words.next_word() else {
-            return found;
-        };
-        found = lesser_first(found, range_fault(place, word.bytes));
-    }
-    found
-}
-
-// The first word is known.
-fn place_fault(places: &[Place], words: &LineWords<'_>) -> Option<FaultKind>
-    ensures { result ≡ least_kind (place_faults range_fault (map spot_of places.now) words.now) }
-{
-    let (first, behind) = words.parts();
-    match places {
-        [] => None,
-        [place, rest @ ..] => lesser_first(range_fault(place, first), later_fault(rest, behind)),
-    }
-}
 
 fn sets_server(form: Form) -> bool
     ensures { result ≡ sets_server form }
@@ -109,7 +61,7 @@ fn statement_fault(tally: &Tally, s: &Statement<'_>) -> Option<FaultKind>
     ensures { result ≡ least_kind (range_faults tally.now s.now) }
 {
     lesser_first(
-        place_fault(s.places(), s.words()),
+        s.range_fault(),
         lesser_first(
             server_fault(s.form(), s.words()),
             many_fault(tally, s.form()),

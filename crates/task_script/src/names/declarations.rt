@@ -12,7 +12,7 @@ ghost use Rattle.task_script.specs.Declarations.{declares, is_named};
 
 use crate::ScriptEnd;
 use crate::names::NameIndex;
-use crate::structure::statement::{LineWords, Statement};
+use crate::structure::statement::Statement;
 use script_lex::Words;
 use script_table::{FaultKind, NameKind, Place, lesser_first};
 use std::alloc::Global;
@@ -156,39 +156,6 @@ impl<'a> Declared<'a> {
         }
     }
 
-    fn declare_all(
-        &mut self,
-        line: u32,
-        places: &[Place],
-        words: &LineWords<'a>,
-    ) -> Result<(), ScriptEnd>
-        ensures { MatchResult result
-            (λ _. self.new ≡ declared_at self.old line (map spot_of places.now) words.now)
-            (λ e. e ≡ ScriptEnd.OutOfMemory) }
-    {
-        let (first, behind) = words.parts();
-        match places {
-            [] => Ok(()),
-            [place, rest @ ..] => {
-                self.declare_word(line, place, first)?;
-                self.declare(line, rest, behind)
-            }
-        }
-    }
-
-    fn fault_of_all(&self, line: u32, places: &[Place], words: &LineWords<'_>) -> Option<FaultKind>
-        ensures { result ≡ least_kind (place_faults (name_fault self.now line) (map spot_of places.now) words.now) }
-    {
-        let (first, behind) = words.parts();
-        match places {
-            [] => None,
-            [place, rest @ ..] => {
-                let here = self.name_fault(line, place, first);
-                lesser_first(here, self.place_fault(line, rest, behind))
-            }
-        }
-    }
-
     // Most lines declare nothing, and their words are not read here.
     fn declare_line(&mut self, s: &Statement<'a>) -> Result<(), ScriptEnd>
         ensures { MatchResult result
@@ -198,7 +165,7 @@ impl<'a> Declared<'a> {
         if !any_declares(s.places()) {
             return Ok(());
         }
-        self.declare_all(s.line(), s.places(), s.words())
+        self.declare(s.line(), s.places(), s.words().ahead())
     }
 
     // Most lines name nothing, and their words are not read here.
@@ -208,7 +175,7 @@ impl<'a> Declared<'a> {
         if !any_is_named(s.places()) {
             return None;
         }
-        self.fault_of_all(s.line(), s.places(), s.words())
+        self.place_fault(s.line(), s.places(), s.words().ahead())
     }
 }
 

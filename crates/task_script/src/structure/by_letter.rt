@@ -127,16 +127,13 @@ impl ByLetter {
         ensures row { option_map (λ s. s.row) result ≡ fitting_some self.now words.entry.words }
         ensures line { IfSome result (λ s. (s.line ≡ line) × (s.words ≡ words.entry.words)) }
     {
+        let all = LineWords::of(&words);
         let Some(first) = words.next_word() else {
             return None;
         };
         match fitting_pattern(self.of_word(first.bytes), first.bytes, &words) {
             None => None,
-            Some(pattern) => Some(Statement::new(
-                line,
-                pattern,
-                LineWords::new(first.bytes, words),
-            )),
+            Some(fitting) => Some(Statement::new(line, fitting, all)),
         }
     }
 }

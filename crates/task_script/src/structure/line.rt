@@ -10,7 +10,7 @@ ghost use Rattle.script_table.specs.Structure.{line_faults, place_of_row};
 use crate::structure::blocks::Blocks;
 use crate::structure::statement::Statement;
 use script_lex::{Line, Words};
-use script_table::{FaultKind, Table, any_agrees, lesser_first, spelling_fault};
+use script_table::{FaultKind, Table, any_agrees, lesser_first};
 
 fn unknown_fault(table: &Table, words: &Words<'_>) -> Option<FaultKind>
     ensures { result ≡ least_kind (unknown_faults (rows_of table.now) words.now.words) }
@@ -33,10 +33,7 @@ fn words_fault(table: &Table, line: &Line<'_>, said: &Option<Statement<'_>>) -> 
 {
     match said {
         None => unknown_fault(table, &line.words()),
-        Some(s) => {
-            let (first, rest) = s.words().parts();
-            spelling_fault(s.places(), first, rest)
-        }
+        Some(s) => s.spelling_fault(),
     }
 }
 

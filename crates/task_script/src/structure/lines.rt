@@ -62,7 +62,8 @@ fn statements_by<'a>(
         (v.last ≡ 1 + length (lines_of text.now)))
         (λ e. EndsBy e (least (phase_one patterns.now 1 (Some []) (lines_of text.now)))) }
 {
-    let mut statements = Vec::new(alloc);
+    // The shortest line that says something is `end`: the room is not moved while the text is read.
+    let mut statements = Vec::with_capacity(alloc, text.len() / 4 + 1)?;
     let mut blocks = Blocks::new(alloc);
     let mut lines = Lines::new(text);
     while let Some(line) = lines.next_line() {

@@ -1,80 +1,91 @@
 // What a line says.
-ghost use Rattle.std.specs.Prelude.{◌≡◌, ◌∷◌, map};
+ghost use Rattle.std.specs.Prelude.{◌≡◌, map};
+ghost use Rattle.script_table.specs.Faults.{least_kind};
 ghost use Rattle.script_table.specs.Patterns.{spot_of};
+ghost use Rattle.script_table.specs.LineFaults.{place_faults, spelling};
+ghost use Rattle.script_table.specs.Ranges.{range_fault};
+ghost use Rattle.script_table.specs.WordFaults.{AreFaultsIn};
 
 use script_lex::Words;
-use script_table::{Bar, Form, Pattern, Place};
+use script_table::{Bar, FaultKind, Fitting, Form, Pattern, Place, WordFaults};
 use std::marker::Model;
 
-/// The words of a line that has some: the first, which is mostly a keyword and is not looked for again, and those that follow it.
-/// Contracts see the list of all.
+/// The words of a line, as the bytes in which they stand: there are as many of these as lines. Contracts see the list of the words.
 #[derive(Drop)]
 pub(crate) struct LineWords<'a> {
-    first: &'a [u8],
-    rest: Words<'a>,
+    bytes: &'a [u8],
 }
 
 impl<'a> Model for LineWords<'a> {
-    ghost use Rattle.std.specs.Prelude.{ℕ, List, ◌∷◌};
+    ghost use Rattle.std.specs.Prelude.{ℕ, List, ◌≤◌, length};
+    ghost use Rattle.script_lex.specs.Words.{words_of};
 
     ghost Value = { List (List ℕ) };
 
-    ghost view = { λ w. w.first.now ∷ w.rest.words };
+    ghost view = { λ w. words_of w.bytes.now };
+
+    ghost invariant = { λ w. length w.bytes.now ≤ 67_108_864 };
 }
 
 impl<'a> LineWords<'a> {
     #[inline(always)]
-    pub(crate) fn new(first: &'a [u8], rest: Words<'a>) -> LineWords<'a>
-        ensures { result ≡ first.now ∷ rest.entry.words }
+    pub(crate) fn of(words: &Words<'a>) -> LineWords<'a>
+        ensures { result ≡ words.now.words }
     {
-        LineWords { first, rest }
+        LineWords {
+            bytes: words.bytes(),
+        }
     }
 
-    /// The first word, and those that follow it.
+    /// The words, one by one.
     #[inline(always)]
-    pub(crate) fn parts(&self) -> (&'a [u8], Words<'a>)
-        ensures { self.now ≡ result.0.now ∷ result.1.words }
+    pub(crate) fn ahead(&self) -> Words<'a>
+        ensures { result.words ≡ self.now }
     {
-        (self.first, self.rest.again())
+        Words::in_bytes(self.bytes)
     }
 
     /// The same words once more.
     pub(crate) fn again(&self) -> LineWords<'a>
         ensures { result ≡ self.now }
     {
-        LineWords {
-            first: self.first,
-            rest: self.rest.again(),
-        }
+        LineWords { bytes: self.bytes }
     }
 }
 
-/// A line with the pattern that it has.
+/// A line with the pattern that it has, and what is wrong with its words by that pattern.
 #[derive(Drop)]
 pub(crate) struct Statement<'a> {
     line: u32,
+    faults: WordFaults,
     pattern: &'static Pattern,
     words: LineWords<'a>,
 }
 
 impl<'a> Model for Statement<'a> {
+    ghost use Rattle.std.specs.Prelude.{map};
     ghost use Rattle.script_table.specs.Structure.{Said};
-    ghost use Rattle.script_table.specs.Patterns.{row_of};
+    ghost use Rattle.script_table.specs.Patterns.{row_of, spot_of};
+    ghost use Rattle.script_table.specs.WordFaults.{AreFaultsIn};
 
     ghost Value = { Said };
 
     ghost view = { λ s. record { line = s.line; row = row_of s.pattern.now; words = s.words } };
+
+    ghost invariant = { λ s. AreFaultsIn s.faults (map spot_of s.pattern.now.places.now) s.words };
 }
 
 impl<'a> Statement<'a> {
     ghost use Rattle.script_table.specs.Patterns.{row_of};
 
-    pub(crate) fn new(line: u32, pattern: &'static Pattern, words: LineWords<'a>) -> Statement<'a>
-        ensures { result ≡ record { line = line; row = row_of pattern.now; words = words.entry } }
+    pub(crate) fn new(line: u32, fitting: Fitting, words: LineWords<'a>) -> Statement<'a>
+        requires { AreFaultsIn fitting.faults (map spot_of fitting.pattern.now.places.now) words }
+        ensures { result ≡ record { line = line; row = row_of fitting.pattern.now; words = words.entry } }
     {
         Statement {
             line,
-            pattern,
+            faults: fitting.faults,
+            pattern: fitting.pattern,
             words,
         }
     }
@@ -107,5 +118,19 @@ impl<'a> Statement<'a> {
         ensures { result.now ≡ self.now.words }
     {
         &self.words
+    }
+
+    /// The least kind of what is misspelled in the line.
+    pub(crate) fn spelling_fault(&self) -> Option<FaultKind>
+        ensures { result ≡ least_kind (place_faults spelling self.now.row.places self.now.words) }
+    {
+        self.faults.spelling
+    }
+
+    /// The least kind of what is out of its range in the line.
+    pub(crate) fn range_fault(&self) -> Option<FaultKind>
+        ensures { result ≡ least_kind (place_faults range_fault self.now.row.places self.now.words) }
+    {
+        self.faults.range
     }
 }

@@ -12,7 +12,7 @@ returns c =
     let words = c.args.s.now.words in
     let later = least_kind-append (server_faults row.form words) (when (is_too_many c.args.tally.now row.form) TooMany) in
     let joined = least_kind-append (place_faults range_fault row.places words) (server_faults row.form words ++ when (is_too_many c.args.tally.now row.form) TooMany) in
-    let places = rw (c.places.ensures, c.words.ensures) at c.place_fault.ensures in
-    let server = rw (c.form.ensures, c.words-2.ensures) at c.server_fault.ensures in
+    let places = c.range_fault.ensures in
+    let server = rw (c.form.ensures, c.words.ensures) at c.server_fault.ensures in
     let many = rw c.form-2.ensures at c.many_fault.ensures in
     cc

@@ -6,11 +6,11 @@ use Rattle.task_script.proofs.structure.lines.statements_by.Goals as goal
 
 pub returns-in_err-statement : goal.returns-in_err-statement
 returns-in_err-statement c =
-    let p = err_from_is_err_and c.from_residual.result c.from_residual.ensures.1 in
+    let p = err_from_is_err_and c.from_residual-in_err-statement.result c.from_residual-in_err-statement.ensures.1 in
     rw (p.1, p.2) (line_ends _ _ _ _ _ _ _ _ c.in_err-statement.field-0.0 c.in-Some.ensures.line c.in-Some.ensures.number.0 c.in_err-statement.ensures c.loop-line.invariant.faults)
 
-pub loop-line-preserved-in-Continue-branch-3 : goal.loop-line-preserved-in-Continue-branch-3
-loop-line-preserved-in-Continue-branch-3 c =
+pub loop-line-preserved-in-Continue-branch-4 : goal.loop-line-preserved-in-Continue-branch-4
+loop-line-preserved-in-Continue-branch-4 c =
     let h = rw c.in-Some-2.is at c.in_ok-statement.ensures in
     record {
       faults = goes_on _ _ _ _ _ _ _ _ _ c.in-Some.ensures.line c.in-Some.ensures.number.1 h.0 h.2 c.loop-line.invariant.faults;

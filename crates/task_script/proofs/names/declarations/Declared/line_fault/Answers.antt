@@ -11,4 +11,4 @@ returns-then-not-any_is_named c =
     sym (no_name_fault s.row.places s.words c.args.self.now s.line none)
 
 pub returns : goal.returns
-returns c = rw (c.line.ensures, c.places-2.ensures, c.words.ensures) at c.fault_of_all.ensures
+returns c = rw (c.line.ensures, c.places-2.ensures, c.ahead.ensures, c.words.ensures) at c.place_fault.ensures

@@ -1,9 +1,0 @@
-use Rattle.std.proofs.Common.{◌≡◌, drop, map}
-use Rattle.script_table.specs.Faults.{lesser_first, least_kind}
-use Rattle.script_table.specs.Patterns.{spot_of}
-use Rattle.script_table.specs.LineFaults.{place_faults, spelling}
-use Rattle.script_table.proofs.line_faults.later_fault.Given as goal
-
-abbrev pub invariant-loop-place : goal.invariant-loop-place
-invariant-loop-place l =
-    lesser_first l.found (least_kind (place_faults spelling (map spot_of (drop l.place-index l.places)) l.words.words)) ≡ least_kind (place_faults spelling (map spot_of l.places) l.fn.words.words)
