@@ -54,11 +54,12 @@ fn caught_up(slots: &mut Slots, least: u64, now: u64) -> u64
     ensures least { IsLeastLater slots.new.base slots.new.dues result }
     ensures settled { now < result }
 {
-    if now < least {
-        return least;
+    let mut least = least;
+    while least <= now {
+        slots.advance(least);
+        least = slots.least_later();
     }
-    slots.advance(now);
-    slots.least_later()
+    least
 }
 
 impl Wheel {
@@ -77,6 +78,7 @@ impl Wheel {
     }
 
     /// The item falls due at that tick, which may have passed.
+    #[inline(never)]
     pub fn arm(&mut self, id: ItemId, due: Tick)
         requires { (id.number < length self.old.dues) × (due_of id.number self.old.dues ≡ None) }
         ensures { self.new ≡ record self.old { dues = slice_set self.old.dues id.number (Some due) } }
@@ -89,14 +91,21 @@ impl Wheel {
     }
 
     /// The item is not armed afterwards.
+    #[inline(never)]
     pub fn disarm(&mut self, id: ItemId)
         requires { id.number < length self.old.dues }
         ensures { self.new ≡ record self.old { dues = slice_set self.old.dues id.number None } }
     {
-        let due = due_of(self.slots.dues(), id.number);
+        let Some(due) = due_of(self.slots.dues(), id.number) else {
+            return;
+        };
         self.slots.disarm(id.number);
-        if is_due_at(due, self.least) {
-            self.least = self.slots.least_later();
+        if due.get() > self.slots.base() {
+            if due.get() == self.least {
+                self.least = self.slots.least_later();
+            }
+        } else if self.slots.first_passed().is_none() {
+            self.early = self.least;
         }
     }
 
@@ -111,12 +120,14 @@ impl Wheel {
         }
     }
 
-    #[inline(never)]
+    #[inline(always)]
     fn change_due(&mut self, id: ItemId, due: Option<Tick>)
         requires { id.number < length self.old.dues }
         ensures { self.new ≡ record self.old { dues = slice_set self.old.dues id.number due } }
     {
-        self.disarm(id);
+        if self.due_of(id).is_some() {
+            self.disarm(id);
+        }
         if let Some(tick) = due {
             self.arm(id, tick);
         }
