@@ -78,7 +78,6 @@ impl Wheel {
     }
 
     /// The item falls due at that tick, which may have passed.
-    #[inline(never)]
     pub fn arm(&mut self, id: ItemId, due: Tick)
         requires { (id.number < length self.old.dues) × (due_of id.number self.old.dues ≡ None) }
         ensures { self.new ≡ record self.old { dues = slice_set self.old.dues id.number (Some due) } }
@@ -115,22 +114,24 @@ impl Wheel {
         requires { id.number < length self.old.dues }
         ensures { self.new ≡ record self.old { dues = slice_set self.old.dues id.number due } }
     {
-        if self.due_of(id) != due {
-            self.change_due(id, due);
+        if self.due_of(id) == due {
+            return;
+        }
+        match due {
+            Some(tick) => self.arm_anew(id, tick),
+            None => self.disarm(id),
         }
     }
 
-    #[inline(always)]
-    fn change_due(&mut self, id: ItemId, due: Option<Tick>)
+    #[inline(never)]
+    fn arm_anew(&mut self, id: ItemId, due: Tick)
         requires { id.number < length self.old.dues }
-        ensures { self.new ≡ record self.old { dues = slice_set self.old.dues id.number due } }
+        ensures { self.new ≡ record self.old { dues = slice_set self.old.dues id.number (Some due) } }
     {
         if self.due_of(id).is_some() {
             self.disarm(id);
         }
-        if let Some(tick) = due {
-            self.arm(id, tick);
-        }
+        self.arm(id, due);
     }
 
     /// The due tick of the item. None exactly where it is not armed.
