@@ -1,12 +1,13 @@
 -- One turn of the loops that move nodes.
-use Rattle.std.proofs.Common.{◌≡◌, ◌≢◌, inl, inr, ⊎_elim, ℕ, ◌<◌, ◌≤◌, true, false, nat_lt, Option, Some, None, IfSome, MatchOption, List, [], length, slice_get, refl, sym, ap, subst, ◌∙◌, arith}
-use Rattle.raw_links.specs.Links.{Lists, list_at, stands_in, on_a_list, stands_at}
+use Rattle.std.proofs.Common.{◌≡◌, ◌≢◌, inl, inr, ⊎_elim, ℕ, ◌<◌, ◌≤◌, true, false, nat_lt, Option, Some, None, IfSome, MatchOption, List, [], ◌∷◌, if◌then◌else◌, length, slice_get, refl, sym, ap, subst, ◌∙◌, arith}
+use borrow.Author.Tests.{eq-eqb}
+use Rattle.raw_links.specs.Links.{list_at, stands_in, stands_at, without, follower}
 use Rattle.timer_wheel.proofs.Order.{lt_or}
 use Rattle.timer_wheel.specs.Bits.{is_set, ChangesBit}
 use Rattle.timer_wheel.specs.Slots.{list_for}
 use Rattle.timer_wheel.specs.Moves.{IsTaken, IsNoted, IsDue, IsMoved, with_last, AreRefiling}
 use Rattle.raw_links.proofs.Chains.{equal}
-use Rattle.raw_links.proofs.Standing.{head_in, no_head, put_stays, put_there, put_back, put_other}
+use Rattle.raw_links.proofs.Standing.{at_map, put_stays, put_there, put_back, put_other}
 use Rattle.timer_wheel.proofs.Stands.{IsMarked, filed_mark, taken_stays, taken_back, length_taken, shorter_at}
 
 pub set_stays : (n i : ℕ) (old new : List ℕ) → ChangesBit n true old new → is_set i old ≡ true → is_set i new ≡ true
@@ -100,3 +101,20 @@ pub moved_mark : (target to n d k : ℕ) (now new : List (List ℕ)) (p q words 
 moved_mark target to n d k now new p q words noted h inside other (mid, t, f) is marked =
     filed_mark to n d k mid new p q words noted (λ lt. let l = inside lt in omega (arith, l, length_taken n now mid t)) f is
     (marked ∙ ap (λ (xs : List ℕ). nat_lt 0 (length xs)) (sym (t.others target k h other)))
+
+-- the node after the head is the head once that has left
+next_head : (n : ℕ) (xs : List ℕ) → Some n ≡ slice_get xs 0 → follower n xs ≡ slice_get (without n xs) 0
+next_head n [] h = cc
+next_head n (x ∷ xs) h =
+    let same : n ≡ x = cc in let e = eq-eqb x n (sym same) in
+    ap (λ b. if b then slice_get xs 0 else follower n xs) e ∙ sym (ap (λ b. slice_get (if b then xs else x ∷ without n xs) 0) e)
+
+pub moved_head : (target to n d : ℕ) (now new : List (List ℕ)) (p q : List ℕ) → Some n ≡ slice_get (list_at now target) 0 → (to < d → list_for to d ≢ target) → IsMoved to n d now new p q
+    → follower n (list_at now target) ≡ slice_get (list_at new target) 0
+moved_head target to n d now new p q head apart (mid, t, f) =
+    next_head n (list_at now target) head
+    ∙ ap (λ (xs : List ℕ). slice_get xs 0) (sym (ap (λ (ls : List (List ℕ)). list_at ls target) t.lists ∙ at_map n target now))
+    ∙ ⊎_elim
+    (λ lt. let w = f.later lt in rw (w.0) (ap (λ (xs : List ℕ). slice_get xs 0) (sym (put_other n (list_for to d) mid target (λ e. apart lt (sym e))))))
+    (λ le. let w = f.gone le in rw (w.0) refl)
+    (lt_or to d)

@@ -105,7 +105,8 @@ pub(crate) fn refile(
     occupied.set(target, false);
     let mut first = links.front(target);
     while let Some(node) = first {
+        links.stand_once();
+        first = links.next(node);
         refile_one(links, occupied, passed, dues, to, node);
-        first = links.front(target);
     }
 }
