@@ -3,7 +3,6 @@ use Rattle.std.proofs.Common.{if◌then◌else◌, ltb-true, ltb-false, ◌≡�
 use borrow.Author.Tests.{clash}
 use Rattle.std.proofs.lemmas.List.{get_or_default, get_or-set_same, get_or-set_other}
 use Rattle.std.proofs.lemmas.Bool.Decides.{nat_tests}
-use Rattle.std.proofs.lemmas.Grind.{common_steps}
 use Rattle.raw_links.specs.Links.{Lists, list_at, stands_in, on_a_list, stands_at}
 use Rattle.timer_wheel.proofs.Order.{lt_or}
 use Rattle.timer_wheel.specs.Bits.{is_set, ChangesBit, IsLowestSet, NoneIsSet}

@@ -1,5 +1,5 @@
 -- One turn of the loops that move nodes.
-use Rattle.std.proofs.Common.{◌≡◌, ◌≢◌, inl, inr, ⊎_elim, ℕ, ◌<◌, ◌≤◌, true, false, nat_lt, Option, Some, None, IfSome, MatchOption, List, [], ◌∷◌, if◌then◌else◌, length, slice_get, refl, sym, ap, subst, ◌∙◌, arith}
+use Rattle.std.proofs.Common.{◌≡◌, ◌≢◌, inl, inr, ⊎_elim, ℕ, ◌<◌, ◌≤◌, true, nat_lt, Option, Some, List, [], ◌∷◌, if◌then◌else◌, length, slice_get, refl, sym, ap, subst, ◌∙◌, arith}
 use borrow.Author.Tests.{eq-eqb}
 use Rattle.raw_links.specs.Links.{list_at, stands_in, stands_at, without, follower}
 use Rattle.timer_wheel.proofs.Order.{lt_or}

@@ -1,10 +1,10 @@
 -- Where nodes stand after one was taken out, and which lists are not empty.
-use Rattle.std.proofs.Common.{◌≡◌, ◌≢◌, ⊎_elim, ℕ, ◌<◌, ◌≤◌, Bool, true, false, nat_lt, is_some, List, [], ◌∷◌, length, map, slice_get, refl, sym, ap, subst, subst₂, ◌∙◌, arith}
+use Rattle.std.proofs.Common.{◌≡◌, ◌≢◌, ⊎_elim, ℕ, ◌<◌, Bool, true, false, nat_lt, is_some, List, [], ◌∷◌, length, slice_get, refl, sym, ap, subst, subst₂, ◌∙◌, arith}
 use Rattle.std.proofs.lemmas.Grind.{common_steps}
 use Rattle.std.proofs.lemmas.Bool.Decides.{nat_tests}
-use Rattle.raw_links.specs.Links.{list_at, stands_in, stands_at, on_a_list, without}
-use Rattle.raw_links.proofs.Chains.{decide, equal}
-use Rattle.raw_links.proofs.Standing.{stays_in, shorter_without, no_longer, at_map, off_at, length_without, put_there, put_other}
+use Rattle.raw_links.specs.Links.{list_at, stands_in, stands_at}
+use Rattle.raw_links.proofs.Chains.{equal}
+use Rattle.raw_links.proofs.Standing.{stays_in, shorter_without, at_map, off_at, length_without, put_there, put_other}
 use Rattle.timer_wheel.proofs.Order.{lt_or}
 use Rattle.timer_wheel.specs.Bits.{is_set, ChangesBit}
 use Rattle.timer_wheel.specs.Slots.{AreMarked, list_for}

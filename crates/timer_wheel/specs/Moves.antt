@@ -1,5 +1,5 @@
 -- What a call does to the lists of a wheel and to the set of passed items (this project's own).
-use Rattle.std.specs.Prelude.{◌≡◌, ◌≢◌, ◌⊎◌, ℕ, ◌+◌, ◌<◌, ◌≤◌, true, false, List, [], ◌∷◌, ◌++◌, length, map, slice_set, Option, Some}
+use Rattle.std.specs.Prelude.{◌≡◌, ◌≢◌, ◌⊎◌, ℕ, ◌<◌, ◌≤◌, true, false, List, [], ◌∷◌, ◌++◌, length, map, slice_set, Option, Some}
 use Rattle.raw_links.specs.Links.{Lists, list_at, on_a_list, without, stands_at}
 use Rattle.timer_wheel.specs.Bits.{is_set, ChangesBit}
 use Rattle.timer_wheel.specs.Dues.{due_of}

@@ -17,7 +17,7 @@ mod moves;
 mod places;
 mod slots;
 
-use dues::{due_of, first_of, is_due_at, least_of};
+use dues::{due_of, first_of, least_of};
 use slots::Slots;
 use std::alloc::{AllocError, Global};
 use std::marker::Model;
@@ -45,7 +45,7 @@ impl Model for Wheel {
     ghost invariant = { λ w. IsCached w.slots w.least w.early w.last };
 }
 
-/// Where an item is due by now, the slots go on to now. The answer is the least due tick after theirs.
+/// The slots go on from one due tick to the next, up to now. The answer is the least due tick after theirs.
 fn caught_up(slots: &mut Slots, least: u64, now: u64) -> u64
     requires least { IsLeastLater slots.old.base slots.old.dues least }
     requires now { (slots.old.base ≤ now) × (now ≤ 2 * 10 ^ 18) }
@@ -123,6 +123,7 @@ impl Wheel {
         }
     }
 
+    // The item falls due at that tick instead.
     #[inline(never)]
     fn arm_anew(&mut self, id: ItemId, due: Tick)
         requires { id.number < length self.old.dues }

@@ -1,6 +1,5 @@
-use Rattle.std.proofs.Common.{◌≡◌, ◌*◌, ◌<◌, ◌≤◌, ◌^◌, ℕ, List, Option, [], subst, sym, arith}
-use Rattle.raw_links.specs.Links.{list_at}
-use Rattle.timer_wheel.specs.Slots.{Placed, IsLeastLater, list_for, AreSmall}
+use Rattle.std.proofs.Common.{◌*◌, ◌≤◌, ◌^◌, ℕ, List, Option, subst, sym, arith}
+use Rattle.timer_wheel.specs.Slots.{Placed, IsLeastLater, AreSmall}
 use Rattle.timer_wheel.specs.Moves.{AreToRefile, AreRefiling}
 use Rattle.timer_wheel.proofs.Filing.{list_small}
 use Rattle.timer_wheel.proofs.Holding.{goes_on, some_held, target_is, empty_below, nodes_to_refile, went_on}
