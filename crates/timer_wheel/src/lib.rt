@@ -123,7 +123,7 @@ impl Wheel {
         }
     }
 
-    // The item falls due at that tick instead.
+    // The item falls due at that tick, whether it was armed or not.
     #[inline(never)]
     fn arm_anew(&mut self, id: ItemId, due: Tick)
         requires { id.number < length self.old.dues }
