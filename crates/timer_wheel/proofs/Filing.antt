@@ -1,5 +1,5 @@
 -- A wheel that goes on: where each item stands before and after.
-use Rattle.std.proofs.Common.{◌≡◌, ◌≢◌, ◌⊎◌, inl, inr, ⊎_elim, ℕ, zero, suc, ◌*◌, ◌^◌, ◌/◌, ◌%◌, ◌<◌, ◌≤◌, true, Option, Some, None, List, [], ◌∷◌, length, sym, ap, subst, ◌∙◌, arith}
+use Rattle.std.proofs.Common.{◌≡◌, ◌≢◌, ◌⊎◌, inl, inr, ⊎_elim, ℕ, zero, suc, ◌+◌, ◌*◌, ◌^◌, ◌/◌, ◌%◌, ◌<◌, ◌≤◌, true, Option, Some, None, List, [], ◌∷◌, length, sym, ap, subst, ◌∙◌, arith}
 use borrow.Author.Tests.{clash}
 use Rattle.raw_links.specs.Links.{list_at, stands_in, stands_at}
 use Rattle.timer_wheel.specs.Places.{place, list_of}
@@ -7,7 +7,7 @@ use Rattle.timer_wheel.proofs.Order.{in_order, keeps_place, has_passed, level_in
 use Rattle.timer_wheel.specs.Bits.{is_set}
 use Rattle.timer_wheel.specs.Dues.{due_of}
 use Rattle.timer_wheel.specs.Slots.{list_for, AreFiled, AreSmall}
-use Rattle.timer_wheel.specs.Moves.{AreEmptyBelow, AreDraining, AreToRefile, AreRefiling}
+use Rattle.timer_wheel.specs.Moves.{AreEmptyBelow, AreToRefile, AreRefiling}
 use Rattle.raw_links.proofs.Chains.{equal}
 
 abbrev is_it : {X : Type 0} → Option X → Type 0
@@ -25,6 +25,13 @@ armed_inside (o ∷ dues) (suc i) d e = let l : i < length dues = armed_inside d
 pub list_small : (base d : ℕ) → base < d → d ≤ 2 * 10 ^ 18 → list_for base d < 704
 list_small base d l small =
     let level = level_inside 11 base d l (omega (arith, small)) in let slot = slot_inside 11 base d in omega (arith, level, slot)
+
+-- a list of the lowest level is for one tick
+pub near_tick : (base d list : ℕ) → list < 64 → list ≡ list_for base d → d ≡ base / 64 * 64 + list
+near_tick base d list low is = ⊎_elim
+    (λ same. let e : list ≡ 64 * 0 + d % 64 = is ∙ ap list_of (near 10 base d same) in omega (arith, e, same))
+    (λ apart. let p = place 10 (base / 64) (d / 64) in let e : list ≡ 64 * suc (p.0) + p.1 = is ∙ ap list_of (far 10 base d apart) in absurd (omega (arith, e, low)))
+    (equal (d / 64) (base / 64))
 
 -- of two ticks of one slot the later is at a lower level once the wheel stands at the first
 deeper_level : (levels now to d : ℕ) → now < to → to < d → (place levels now d).0 ≡ (place levels now to).0 → (place levels now d).1 ≡ (place levels now to).1 → d < 64 ^ levels
@@ -77,29 +84,26 @@ sides k t = ⊎_elim (λ l. inl l) (λ l. ⊎_elim (λ e. inr (inl e)) (λ ne. i
 stands_empty : (i : ℕ) (xs : List ℕ) → xs ≡ [] → stands_in i xs ≡ true → ⊥
 stands_empty i xs e h = let f : stands_in i [] ≡ true = subst (λ ys. stands_in i ys ≡ true) e h in clash f
 
-module _ (base to : ℕ) (dues : List (Option ℕ)) (lists mid new : List (List ℕ)) (passed p q : List ℕ) (lt : base < to) (small : AreSmall dues) (filed : AreFiled base dues lists passed)
-    (drained : AreDraining (list_for base to) lists mid passed p) (empty : AreEmptyBelow (list_for base to) mid) where
-  pub to_refile : AreToRefile (list_for base to) to dues mid
-  to_refile i h =
-      let o = filed.only_later i (list_for base to) (subst (λ xs. stands_in i xs ≡ true) (drained.kept (list_for base to) (omega arith)) h) in
-      (o.0, o.1, λ l. goes_elsewhere base to o.0 lt o.2 (sym o.3) l (small i o.0 o.1))
+module _ (base to : ℕ) (dues : List (Option ℕ)) (lists new : List (List ℕ)) (passed q : List ℕ) (lt : base < to) (small : AreSmall dues) (filed : AreFiled base dues lists passed)
+    (empty : AreEmptyBelow (list_for base to) lists) where
+  pub to_refile : AreToRefile (list_for base to) to dues lists
+  to_refile i h = let o = filed.only_later i (list_for base to) h in (o.0, o.1, λ l. goes_elsewhere base to o.0 lt o.2 (sym o.3) l (small i o.0 o.1))
 
-  module _ (done : AreRefiling (list_for base to) to dues mid new p q) (all : list_at new (list_for base to) ≡ []) where
+  module _ (done : AreRefiling (list_for base to) to dues lists new passed q) (all : list_at new (list_for base to) ≡ []) where
     moved_on : (i d : ℕ) → due_of i dues ≡ Some d → base < d →
         ((d ≤ to) × (is_set i q ≡ true)) ⊎ ((to < d) × (stands_at i (list_for to d) new ≡ true))
     moved_on i d due ld =
         let k = list_for base d in let t = list_for base to in
         let h = filed.later i d due ld in
         ⊎_elim
-        (λ l. ⊎_elim (λ s. absurd (stands_empty i (list_at mid k) (empty k l) s)) (λ s. let g = has_gone base to d lt ld l in inl (omega (arith, g), done.stays i s)) (drained.moved i k l h))
+        (λ l. absurd (stands_empty i (list_at lists k) (empty k l) h))
         (λ r. ⊎_elim
-        (λ e. let s = subst (λ m. stands_at i m mid ≡ true) e (subst (λ xs. stands_in i xs ≡ true) (sym (drained.kept k (omega (arith, e)))) h) in
+        (λ e. let s = subst (λ m. stands_at i m lists ≡ true) e h in
         ⊎_elim
         (λ later. ⊎_elim (λ s2. absurd (stands_empty i (list_at new t) all s2)) (λ s2. inr (later, s2)) (done.later i d s due later))
         (λ gone. ⊎_elim (λ s2. absurd (stands_empty i (list_at new t) all s2)) (λ s2. inl (gone, s2)) (done.gone i d s due gone))
         (lt_or to d))
-        (λ l. let s = subst (λ xs. stands_in i xs ≡ true) (sym (drained.kept k (omega (arith, l)))) h in
-        inr (comes_later base to d lt ld l, subst (λ m. stands_at i m new ≡ true) (keeps_list base to d lt ld l) (done.kept i k (λ e. omega (arith, e, l)) s)))
+        (λ l. inr (comes_later base to d lt ld l, subst (λ m. stands_at i m new ≡ true) (keeps_list base to d lt ld l) (done.kept i k (λ e. omega (arith, e, l)) h)))
         r)
         (sides k t)
 
@@ -108,14 +112,14 @@ module _ (base to : ℕ) (dues : List (Option ℕ)) (lists mid new : List (List 
       later = λ i d due l. ⊎_elim (λ a. absurd (omega (arith, a.0, l))) (λ b. b.1) (moved_on i d due (omega (arith, l, lt)));
       gone = λ i d due l. ⊎_elim
           (λ ld. ⊎_elim (λ a. a.1) (λ b. absurd (omega (arith, b.0, l))) (moved_on i d due ld))
-          (λ le. done.stays i (drained.stays i (filed.gone i d due le)))
+          (λ le. done.stays i (filed.gone i d due le))
           (lt_or base d);
       only_later = λ i k h. ⊎_elim
           (λ s. ⊎_elim
-          (λ l. absurd (stands_empty i (list_at mid k) (empty k l) s))
+          (λ l. absurd (stands_empty i (list_at lists k) (empty k l) s))
           (λ r. ⊎_elim
           (λ e. absurd (stands_empty i (list_at new k) (subst (λ m. list_at new m ≡ []) (sym e) all) h))
-          (λ l. let o = filed.only_later i k (subst (λ xs. stands_in i xs ≡ true) (drained.kept k (omega (arith, l))) s) in
+          (λ l. let o = filed.only_later i k s in
           let l' = subst (λ m. list_for base to < m) o.3 l in
           (o.0, o.1, comes_later base to o.0 lt o.2 l', o.3 ∙ keeps_list base to o.0 lt o.2 l'))
           r)
@@ -123,10 +127,7 @@ module _ (base to : ℕ) (dues : List (Option ℕ)) (lists mid new : List (List 
           (λ r. r.1)
           (done.only_later i k h);
       only_gone = λ i h. ⊎_elim
-          (λ s. ⊎_elim
-          (λ s2. let o = filed.only_gone i s2 in (o.0, o.1, omega (arith, o.2, lt)))
-          (λ b. let o = filed.only_later i b.0 b.2 in let g = has_gone base to o.0 lt o.2 (subst (λ m. m < list_for base to) o.3 b.1) in (o.0, o.1, omega (arith, g)))
-          (drained.only i s))
+          (λ s. let o = filed.only_gone i s in (o.0, o.1, omega (arith, o.2, lt)))
           (λ r. r.1)
           (done.only_gone i h);
     }

@@ -1,20 +1,19 @@
 -- Items that are armed and disarmed, and what the slots tell of due ticks.
-use Rattle.std.proofs.Common.{if◌then◌else◌, ltb-true, ltb-false, ◌≡◌, ◌≢◌, ◌⊎◌, inl, inr, ⊎_elim, ℕ, zero, suc, ◌+◌, ◌*◌, ◌^◌, ◌-◌, ◌<◌, ◌≤◌, Bool, true, false, nat_lt, replicate, Option, Some, None, MatchOption, List, [], ◌∷◌, length, get_or, set, refl, sym, ap, subst, ◌∙◌, arith}
+use Rattle.std.proofs.Common.{if◌then◌else◌, ltb-true, ltb-false, ◌≡◌, ◌≢◌, ◌⊎◌, inl, inr, ⊎_elim, ℕ, zero, suc, ◌+◌, ◌*◌, ◌/◌, ◌^◌, ◌-◌, ◌<◌, ◌≤◌, Bool, true, false, nat_lt, replicate, Option, Some, None, MatchOption, List, [], ◌∷◌, length, get_or, set, refl, sym, ap, subst, ◌∙◌, arith}
 use borrow.Author.Tests.{clash}
 use Rattle.std.proofs.lemmas.List.{get_or_default, get_or-set_same, get_or-set_other}
 use Rattle.std.proofs.lemmas.Bool.Decides.{nat_tests}
-use Rattle.std.proofs.lemmas.Grind.{common_steps}
 use Rattle.raw_links.specs.Links.{Lists, list_at, stands_in, on_a_list, stands_at}
 use Rattle.timer_wheel.proofs.Order.{lt_or}
 use Rattle.timer_wheel.specs.Bits.{is_set, ChangesBit, IsLowestSet, NoneIsSet}
 use Rattle.timer_wheel.specs.Dues.{due_of, NoneIsArmed, IsLeastDue, NoneIsDue, IsFirstDue, earlier}
 use Rattle.timer_wheel.specs.Slots.{list_for, AreMarked, AreFiled, AreSmall, IsEarly, IsLeastLater, IsLeastOf}
-use Rattle.timer_wheel.specs.Moves.{IsFiled, IsTaken, with_last, AreDraining, AreEmptyBelow, AreToRefile, AreRefiling}
+use Rattle.timer_wheel.specs.Moves.{IsFiled, IsTaken, with_last, AreEmptyBelow, AreToRefile, AreRefiling}
 use Rattle.timer_wheel.specs.Held.{AreHeld}
 use Rattle.raw_links.proofs.Chains.{decide, equal}
 use Rattle.raw_links.proofs.Standing.{off_all, on_at, put_stays, put_there, put_back}
-use Rattle.timer_wheel.proofs.Stands.{taken_stays, taken_back}
-use Rattle.timer_wheel.proofs.Filing.{none_some, armed_inside, comes_later, sides, to_refile, advanced}
+use Rattle.timer_wheel.proofs.Stands.{some_length, taken_stays, taken_back}
+use Rattle.timer_wheel.proofs.Filing.{none_some, armed_inside, comes_later, has_gone, near_tick, sides, to_refile, advanced}
 
 -- ---- due ticks after a change
 
@@ -193,10 +192,6 @@ passed_first base dues lists passed (Some p) n filed low =
       first = λ j e l due. ⊎_elim (λ lt. lt) (λ le. absurd (clash (sym (low.0.below j l) ∙ filed.gone j e due le))) (lt_or base e);
     }
 
-some_length : (i : ℕ) (xs : List ℕ) → stands_in i xs ≡ true → nat_lt 0 (length xs) ≡ true
-some_length i [] h = cc
-some_length i (x ∷ xs) h = grind (arith, nat_tests, common_steps)
-
 has_head : (xs : List ℕ) → nat_lt 0 (length xs) ≡ true → (x : ℕ) × (stands_in x xs ≡ true)
 has_head [] h = absurd (clash h)
 has_head (x ∷ xs) h = (x, grind (arith, nat_tests))
@@ -228,17 +223,57 @@ least_at_lowest base dues lists occupied passed list tick filed marked small low
       holds = inr (holder.0, holder.2, after);
     }
 
--- ---- a wheel goes on, with the number of its target list as the code has it
+pub least_at_tick : (base : ℕ) (dues : List (Option ℕ)) (lists : List (List ℕ)) (occupied passed : List ℕ) (list : ℕ) → AreFiled base dues lists passed → AreMarked lists occupied
+    → IsLowestSet occupied list → list < 64 → IsLeastOf dues (list_at lists list) (base / 64 * 64 + list)
+least_at_tick base dues lists occupied passed list filed marked low near =
+    let x = has_head (list_at lists list) (sym (marked list) ∙ low.itself) in
+    let o = filed.only_later x.0 list x.1 in
+    record {
+      least = λ i d h due. let p = filed.only_later i list h in let e = same_due dues i d p.0 due p.1 in let t = near_tick base p.0 list near p.3 in omega (arith, e, t);
+      holds = inr (x.0, x.1, o.1 ∙ ap Some (near_tick base o.0 list near o.3));
+    }
 
-module _ (base to target : ℕ) (dues : List (Option ℕ)) (lists mid new : List (List ℕ)) (passed p q : List ℕ) (is : target ≡ list_for base to) (lt : base < to) (small : AreSmall dues) (filed : AreFiled base dues lists passed)
-    (drained : AreDraining target lists mid passed p) (empty : AreEmptyBelow target mid) where
-  pub nodes_to_refile : AreToRefile target to dues mid
-  nodes_to_refile = subst (λ t. AreToRefile t to dues mid) (sym is)
-      (to_refile base to dues lists mid new passed p q lt small filed (subst (λ t. AreDraining t lists mid passed p) is drained) (subst (λ t. AreEmptyBelow t mid) is empty))
+-- ---- a wheel goes on to its least later due tick
 
-  pub went_on : AreRefiling target to dues mid new p q → list_at new target ≡ [] → AreFiled to dues new q
-  went_on done all = advanced base to dues lists mid new passed p q lt small filed (subst (λ t. AreDraining t lists mid passed p) is drained) (subst (λ t. AreEmptyBelow t mid) is empty)
-      (subst (λ t. AreRefiling t to dues mid new p q) is done) (subst (λ t. list_at new t ≡ []) is all)
+none_held : (xs : List ℕ) → nat_lt 0 (length xs) ≡ false → xs ≡ []
+none_held [] h = refl
+none_held (x ∷ xs) h = absurd (let l : length (x ∷ xs) ≤ 0 = ltb-false 0 (length (x ∷ xs)) h in let m : suc (length xs) ≤ 0 = l in omega (arith, m))
+
+module _ (base to target : ℕ) (dues : List (Option ℕ)) (lists : List (List ℕ)) (occupied passed : List ℕ) (filed : AreFiled base dues lists passed) (marked : AreMarked lists occupied)
+    (is : IsLeastLater base dues to) (most : to ≤ 2 * 10 ^ 18) where
+  holder : (i : ℕ) × (due_of i dues ≡ Some to) × (base < to)
+  holder = ⊎_elim (λ never. absurd (omega (arith, never, most))) (λ h. h) is.holds
+
+  pub goes_on : base < to
+  goes_on = holder.2
+
+  held : is_set (list_for base to) occupied ≡ true
+  held = marked (list_for base to) ∙ some_length holder.0 (list_at lists (list_for base to)) (filed.later holder.0 to holder.1 holder.2)
+
+  pub some_held : NoneIsSet occupied → ⊥
+  some_held none = clash (sym (none (list_for base to)) ∙ held)
+
+  module _ (low : IsLowestSet occupied target) where
+    pub target_is : target ≡ list_for base to
+    target_is =
+        let x = has_head (list_at lists target) (sym (marked target) ∙ low.itself) in
+        let o = filed.only_later x.0 target x.1 in
+        ⊎_elim
+        (λ less. absurd (let g = has_gone base to o.0 goes_on o.2 (subst (λ m. m < list_for base to) o.3 less) in let l = is.least x.0 o.0 o.1 o.2 in omega (arith, g, l)))
+        (λ r. ⊎_elim (λ e. e) (λ more. absurd (clash (sym (low.below (list_for base to) more) ∙ held))) r)
+        (sides target (list_for base to))
+
+    pub empty_below : AreEmptyBelow target lists
+    empty_below k l = none_held (list_at lists k) (sym (marked k) ∙ low.below k l)
+
+module _ (base to target : ℕ) (dues : List (Option ℕ)) (lists new : List (List ℕ)) (passed q : List ℕ) (is : target ≡ list_for base to) (lt : base < to) (small : AreSmall dues) (filed : AreFiled base dues lists passed)
+    (empty : AreEmptyBelow target lists) where
+  pub nodes_to_refile : AreToRefile target to dues lists
+  nodes_to_refile = subst (λ t. AreToRefile t to dues lists) (sym is) (to_refile base to dues lists new passed q lt small filed (subst (λ t. AreEmptyBelow t lists) is empty))
+
+  pub went_on : AreRefiling target to dues lists new passed q → list_at new target ≡ [] → AreFiled to dues new q
+  went_on done all = advanced base to dues lists new passed q lt small filed (subst (λ t. AreEmptyBelow t lists) is empty)
+      (subst (λ t. AreRefiling t to dues lists new passed q) is done) (subst (λ t. list_at new t ≡ []) is all)
 
 -- ---- what the code reads
 

@@ -1,52 +1,17 @@
 -- One turn of the loops that move nodes.
-use Rattle.std.proofs.Common.{◌≡◌, ◌≢◌, inl, inr, ⊎_elim, ℕ, ◌<◌, ◌≤◌, true, false, nat_lt, Option, Some, None, IfSome, MatchOption, List, [], length, slice_get, refl, sym, ap, subst, ◌∙◌, arith}
-use Rattle.raw_links.specs.Links.{Lists, list_at, stands_in, on_a_list, stands_at}
+use Rattle.std.proofs.Common.{◌≡◌, ◌≢◌, inl, inr, ⊎_elim, ℕ, ◌<◌, ◌≤◌, true, nat_lt, Option, Some, List, [], ◌∷◌, if◌then◌else◌, length, slice_get, refl, sym, ap, subst, ◌∙◌, arith}
+use borrow.Author.Tests.{eq-eqb}
+use Rattle.raw_links.specs.Links.{list_at, stands_in, stands_at, without, follower}
 use Rattle.timer_wheel.proofs.Order.{lt_or}
-use Rattle.timer_wheel.specs.Bits.{is_set, ChangesBit, IsLowestSet}
-use Rattle.timer_wheel.specs.Slots.{AreMarked, list_for}
-use Rattle.timer_wheel.specs.Moves.{IsSized, IsTaken, IsDue, IsMoved, with_last, StandsBelow, AreEmptyBelow, AreDraining, AreRefiling}
+use Rattle.timer_wheel.specs.Bits.{is_set, ChangesBit}
+use Rattle.timer_wheel.specs.Slots.{list_for}
+use Rattle.timer_wheel.specs.Moves.{IsTaken, IsNoted, IsDue, IsMoved, with_last, AreRefiling}
 use Rattle.raw_links.proofs.Chains.{equal}
-use Rattle.raw_links.proofs.Standing.{head_in, no_head, put_stays, put_there, put_back, put_other}
-use Rattle.timer_wheel.proofs.Stands.{taken_stays, taken_back, length_taken, shorter_at}
+use Rattle.raw_links.proofs.Standing.{at_map, put_stays, put_there, put_back, put_other}
+use Rattle.timer_wheel.proofs.Stands.{IsMarked, filed_mark, taken_stays, taken_back, length_taken, shorter_at}
 
 pub set_stays : (n i : ℕ) (old new : List ℕ) → ChangesBit n true old new → is_set i old ≡ true → is_set i new ≡ true
 set_stays n i old new c h = ⊎_elim (λ same. rw same c.changed) (λ other. c.others i other ∙ h) (equal i n)
-
-pub found_below : (links : Lists) (words : List ℕ) (k target : ℕ) (o : Option ℕ) → IsSized links words → AreMarked links.lists words → IsLowestSet words k → k < target
-    → o ≡ slice_get (list_at links.lists k) 0 → IfSome o (λ n. (n < links.nodes) × (on_a_list n links.lists ≡ true))
-    → MatchOption o (AreEmptyBelow target links.lists) (λ n. (n < 1024) × StandsBelow target links.lists n)
-found_below links words k target None sized marked lowest l head stands =
-    let empty : list_at links.lists k ≡ [] = no_head (list_at links.lists k) head in
-    let some : nat_lt 0 (length (list_at links.lists k)) ≡ true = sym (marked k) ∙ lowest.itself in
-    let none : nat_lt 0 (length (list_at links.lists k)) ≡ false = rw empty refl in
-    cc
-found_below links words k target (Some n) sized marked lowest l head stands =
-    (omega (arith, stands.0, sized.nodes), (k, l, head_in n (list_at links.lists k) head))
-
--- ---- lists below the target are drained
-
-pub draining_start : (target : ℕ) (lists : List (List ℕ)) (passed : List ℕ) → AreDraining target lists lists passed passed
-draining_start target lists passed = record {
-  kept = λ k l. refl;
-  within = λ i k l h. h;
-  moved = λ i k l h. inl h;
-  stays = λ i h. h;
-  only = λ i h. inl h;
-}
-
-pub draining_step : (target n : ℕ) (old now new : List (List ℕ)) (passed p q : List ℕ) → AreDraining target old now passed p → StandsBelow target now n → IsTaken n now new
-    → ChangesBit n true p q → AreDraining target old new passed q
-draining_step target n old now new passed p q d (j, lj, h) t c = record {
-  kept = λ k l. t.others j k h (λ e. omega (arith, e, l, lj)) ∙ d.kept k l;
-  within = λ i k l s. d.within i k l (taken_back n i k now new t s).0;
-  moved = λ i k l s. ⊎_elim
-      (λ stands. ⊎_elim (λ same. inr (rw same c.changed)) (λ other. inl (taken_stays n i k now new t other ∙ stands)) (equal i n))
-      (λ gone. inr (set_stays n i p q c gone)) (d.moved i k l s);
-  stays = λ i s. set_stays n i p q c (d.stays i s);
-  only = λ i s. ⊎_elim
-      (λ same. inr (rw same (j, lj, d.within n j lj h)))
-      (λ other. d.only i (sym (c.others i other) ∙ s)) (equal i n);
-}
 
 -- ---- one list is filed anew
 
@@ -128,4 +93,28 @@ refiling_less target to n d now new p q h apart (mid, t, f) =
     ⊎_elim
     (λ lt. let w = f.later lt in rw (w.0) (let o = put_other n (list_for to d) mid target (λ e. apart lt (sym e)) in rw o less))
     (λ le. let w = f.gone le in rw (w.0) less)
+    (lt_or to d)
+
+-- the bit of a list other than the target
+pub moved_mark : (target to n d k : ℕ) (now new : List (List ℕ)) (p q words noted : List ℕ) → stands_at n target now ≡ true → (to < d → list_for to d < length now) → k ≢ target
+    → IsMoved to n d now new p q → IsNoted to d words noted → IsMarked k now words → IsMarked k new noted
+moved_mark target to n d k now new p q words noted h inside other (mid, t, f) is marked =
+    filed_mark to n d k mid new p q words noted (λ lt. let l = inside lt in omega (arith, l, length_taken n now mid t)) f is
+    (marked ∙ ap (λ (xs : List ℕ). nat_lt 0 (length xs)) (sym (t.others target k h other)))
+
+-- the node after the head is the head once that has left
+next_head : (n : ℕ) (xs : List ℕ) → Some n ≡ slice_get xs 0 → follower n xs ≡ slice_get (without n xs) 0
+next_head n [] h = cc
+next_head n (x ∷ xs) h =
+    let same : n ≡ x = cc in let e = eq-eqb x n (sym same) in
+    ap (λ b. if b then slice_get xs 0 else follower n xs) e ∙ sym (ap (λ b. slice_get (if b then xs else x ∷ without n xs) 0) e)
+
+pub moved_head : (target to n d : ℕ) (now new : List (List ℕ)) (p q : List ℕ) → Some n ≡ slice_get (list_at now target) 0 → (to < d → list_for to d ≢ target) → IsMoved to n d now new p q
+    → follower n (list_at now target) ≡ slice_get (list_at new target) 0
+moved_head target to n d now new p q head apart (mid, t, f) =
+    next_head n (list_at now target) head
+    ∙ ap (λ (xs : List ℕ). slice_get xs 0) (sym (ap (λ (ls : List (List ℕ)). list_at ls target) t.lists ∙ at_map n target now))
+    ∙ ⊎_elim
+    (λ lt. let w = f.later lt in rw (w.0) (ap (λ (xs : List ℕ). slice_get xs 0) (sym (put_other n (list_for to d) mid target (λ e. apart lt (sym e))))))
+    (λ le. let w = f.gone le in rw (w.0) refl)
     (lt_or to d)

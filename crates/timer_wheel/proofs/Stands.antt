@@ -1,25 +1,14 @@
 -- Where nodes stand after one was taken out, and which lists are not empty.
-use Rattle.std.proofs.Common.{◌≡◌, ◌≢◌, ⊎_elim, ℕ, ◌<◌, ◌≤◌, Bool, true, false, nat_lt, is_some, List, [], ◌∷◌, length, map, slice_get, refl, sym, ap, ◌∙◌, arith}
+use Rattle.std.proofs.Common.{◌≡◌, ◌≢◌, ⊎_elim, ℕ, ◌<◌, Bool, true, false, nat_lt, is_some, List, [], ◌∷◌, length, slice_get, refl, sym, ap, subst, subst₂, ◌∙◌, arith}
 use Rattle.std.proofs.lemmas.Grind.{common_steps}
 use Rattle.std.proofs.lemmas.Bool.Decides.{nat_tests}
-use Rattle.raw_links.specs.Links.{list_at, stands_in, stands_at, on_a_list, without}
-use Rattle.raw_links.proofs.Chains.{decide, equal}
-use Rattle.raw_links.proofs.Standing.{stays_in, shorter_without, no_longer, at_map, off_at, length_without}
-use Rattle.timer_wheel.specs.Bits.{ChangesBit}
-use Rattle.timer_wheel.specs.Slots.{AreMarked}
-use Rattle.timer_wheel.specs.Moves.{total, IsTaken}
-
-less_total : (n : ℕ) (ls : List (List ℕ)) → on_a_list n ls ≡ true → total (map (without n) ls) < total ls
-less_total n [] h = cc
-less_total n (xs ∷ ls) h =
-    ⊎_elim
-    (λ t. let s = shorter_without n xs t in let r = no_more n ls in omega (arith, s, r))
-    (λ f. let rest : on_a_list n ls ≡ true = grind (arith, f, h) in let r = less_total n ls rest in let s = no_longer n xs in omega (arith, s, r))
-    (decide (stands_in n xs))
-  where
-    no_more : (n : ℕ) (ls : List (List ℕ)) → total (map (without n) ls) ≤ total ls
-    no_more n [] = omega arith
-    no_more n (xs ∷ ls) = omega (arith, no_longer n xs, no_more n ls)
+use Rattle.raw_links.specs.Links.{list_at, stands_in, stands_at}
+use Rattle.raw_links.proofs.Chains.{equal}
+use Rattle.raw_links.proofs.Standing.{stays_in, shorter_without, at_map, off_at, length_without, put_there, put_other}
+use Rattle.timer_wheel.proofs.Order.{lt_or}
+use Rattle.timer_wheel.specs.Bits.{is_set, ChangesBit}
+use Rattle.timer_wheel.specs.Slots.{AreMarked, list_for}
+use Rattle.timer_wheel.specs.Moves.{IsTaken, IsFiled, IsNoted, with_last}
 
 pub taken_stays : (n i k : ℕ) (old new : List (List ℕ)) → IsTaken n old new → i ≢ n → stands_at i k new ≡ stands_at i k old
 taken_stays n i k old new t other = ap (λ (ls : List (List ℕ)). stands_at i k ls) t.lists ∙ ap (λ (xs : List ℕ). stands_in i xs) (at_map n k old) ∙ stays_in n i (list_at old k) other
@@ -31,9 +20,6 @@ taken_back n i k old new t h =
     (λ same. let off : stands_at i k new ≡ false = rw same (off_at n k new t.gone) in cc)
     (λ other. (sym (taken_stays n i k old new t other) ∙ h, other))
     (equal i n)
-
-pub taken_less : (n : ℕ) (old new : List (List ℕ)) → IsTaken n old new → on_a_list n old ≡ true → total new < total old
-taken_less n old new t on = rw t.lists (less_total n old on)
 
 pub first_bit : (xs : List ℕ) → is_some (slice_get xs 0) ≡ nat_lt 0 (length xs)
 first_bit [] = refl
@@ -52,3 +38,37 @@ length_taken n old new t = ap length t.lists ∙ length_without n old
 
 pub shorter_at : (n k : ℕ) (old new : List (List ℕ)) → IsTaken n old new → stands_at n k old ≡ true → length (list_at new k) < length (list_at old k)
 shorter_at n k old new t h = let e = ap (λ (ls : List (List ℕ)). list_at ls k) t.lists ∙ at_map n k old in rw e (shorter_without n (list_at old k) h)
+
+pub some_length : (i : ℕ) (xs : List ℕ) → stands_in i xs ≡ true → nat_lt 0 (length xs) ≡ true
+some_length i [] h = cc
+some_length i (x ∷ xs) h = grind (arith, nat_tests, common_steps)
+
+-- ---- the bits of the lists as a node is filed
+
+abbrev pub IsMarked : ℕ → List (List ℕ) → List ℕ → Type 0
+IsMarked k lists occupied = is_set k occupied ≡ nat_lt 0 (length (list_at lists k))
+
+marked_last : (n t k : ℕ) (lists : List (List ℕ)) (words now : List ℕ) → t < length lists → ChangesBit t true words now → IsMarked k lists words → IsMarked k (with_last t n lists) now
+marked_last n t k lists words now inside c marked = ⊎_elim
+    (λ same. subst (λ m. IsMarked m (with_last t n lists) now) (sym same) (c.changed ∙ sym (some_length n (list_at (with_last t n lists) t) (put_there n t lists inside))))
+    (λ other. c.others k other ∙ marked ∙ ap (λ (xs : List ℕ). nat_lt 0 (length xs)) (sym (put_other n t lists k other)))
+    (equal k t)
+
+pub filed_mark : (base n due k : ℕ) (old new : List (List ℕ)) (p q words now : List ℕ) → (base < due → list_for base due < length old) → IsFiled base n due old new p q → IsNoted base due words now
+    → IsMarked k old words → IsMarked k new now
+filed_mark base n due k old new p q words now inside f noted marked = ⊎_elim
+    (λ lt. let w = f.later lt in subst (λ ls. IsMarked k ls now) (sym (w.0)) (marked_last n (list_for base due) k old words now (inside lt) (noted.later lt) marked))
+    (λ le. let w = f.gone le in subst₂ (λ ls ws. IsMarked k ls ws) (sym (w.0)) (sym (noted.gone le)) marked)
+    (lt_or base due)
+
+pub all_marked : (target : ℕ) (lists : List (List ℕ)) (words : List ℕ) → list_at lists target ≡ [] → is_set target words ≡ false → ((k : ℕ) → k ≢ target → IsMarked k lists words) → AreMarked lists words
+all_marked target lists words empty none others k = ⊎_elim
+    (λ same. subst (λ m. IsMarked m lists words) (sym same) (none ∙ sym (ap (λ (xs : List ℕ). nat_lt 0 (length xs)) empty)))
+    (λ other. others k other)
+    (equal k target)
+
+pub filed_unmarked : (base due k : ℕ) (words now : List ℕ) → (base < due → list_for base due ≢ k) → IsNoted base due words now → is_set k words ≡ false → is_set k now ≡ false
+filed_unmarked base due k words now apart noted none = ⊎_elim
+    (λ lt. (noted.later lt).others k (λ e. apart lt (sym e)) ∙ none)
+    (λ le. rw (noted.gone le) none)
+    (lt_or base due)

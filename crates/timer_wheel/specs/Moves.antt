@@ -1,5 +1,5 @@
 -- What a call does to the lists of a wheel and to the set of passed items (this project's own).
-use Rattle.std.specs.Prelude.{◌≡◌, ◌≢◌, ◌⊎◌, ℕ, ◌+◌, ◌<◌, ◌≤◌, true, false, List, [], ◌∷◌, ◌++◌, length, map, slice_set, Option, Some}
+use Rattle.std.specs.Prelude.{◌≡◌, ◌≢◌, ◌⊎◌, ℕ, ◌<◌, ◌≤◌, true, false, List, [], ◌∷◌, ◌++◌, length, map, slice_set, Option, Some}
 use Rattle.raw_links.specs.Links.{Lists, list_at, on_a_list, without, stands_at}
 use Rattle.timer_wheel.specs.Bits.{is_set, ChangesBit}
 use Rattle.timer_wheel.specs.Dues.{due_of}
@@ -25,25 +25,13 @@ pub record IsFiled (base node due : ℕ) (old new : List (List ℕ)) (passed now
   pub gone : due ≤ base → (new ≡ old) × ChangesBit node true passed now
   pub later : base < due → (new ≡ with_last (list_for base due) node old) × (now ≡ passed)
 
--- a node of a list below the target
-abbrev pub StandsBelow : ℕ → List (List ℕ) → ℕ → Type 0
-StandsBelow target lists node = (k : ℕ) × (k < target) × (stands_at node k lists ≡ true)
-
 abbrev pub AreEmptyBelow : ℕ → List (List ℕ) → Type 0
 AreEmptyBelow target lists = (k : ℕ) → k < target → list_at lists k ≡ []
 
--- some nodes of the lists below one have moved to the set, and all else stands as before
-pub record AreDraining (target : ℕ) (old new : List (List ℕ)) (passed now : List ℕ) : Type 0 where
-  pub kept : (k : ℕ) → target ≤ k → list_at new k ≡ list_at old k
-  pub within : (i k : ℕ) → k < target → stands_at i k new ≡ true → stands_at i k old ≡ true
-  pub moved : (i k : ℕ) → k < target → stands_at i k old ≡ true → (stands_at i k new ≡ true) ⊎ (is_set i now ≡ true)
-  pub stays : (i : ℕ) → is_set i passed ≡ true → is_set i now ≡ true
-  pub only : (i : ℕ) → is_set i now ≡ true → (is_set i passed ≡ true) ⊎ StandsBelow target old i
-
--- how many nodes stand on the lists
-abbrev pub total : List (List ℕ) → ℕ
-total [] = 0
-total (xs ∷ lists) = length xs + total lists
+-- of the bits of the lists that of the one that took the node is set, and all others are as before
+pub record IsNoted (base due : ℕ) (old now : List ℕ) : Type 0 where
+  pub gone : due ≤ base → now ≡ old
+  pub later : base < due → ChangesBit (list_for base due) true old now
 
 abbrev pub IsDue : List (Option ℕ) → ℕ → ℕ → Type 0
 IsDue dues i d = due_of i dues ≡ Some d

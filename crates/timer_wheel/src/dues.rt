@@ -1,5 +1,5 @@
 // Due ticks as they stand, one for each item.
-ghost use Rattle.std.specs.Prelude.{◌≡◌, ◌≢◌, ◌≤◌, ◌<◌, ℕ, Some, true, false, length, MatchOption};
+ghost use Rattle.std.specs.Prelude.{◌≡◌, ◌≤◌, ◌<◌, ℕ, Some, true, false, length, MatchOption};
 ghost use Rattle.timer_wheel.specs.Dues.{due_of, NoneIsArmed, IsLeastDue, NoneIsDue, IsFirstDue, earlier};
 
 use tick_num::{ItemId, Tick};
@@ -10,16 +10,6 @@ pub(crate) fn due_of(dues: &[Option<Tick>], id: u32) -> Option<Tick>
     ensures { result ≡ due_of id dues.now }
 {
     dues[id as usize]
-}
-
-/// Whether that is the due tick.
-pub(crate) fn is_due_at(due: Option<Tick>, tick: u64) -> bool
-    ensures { result ≡ false → due ≢ Some tick }
-{
-    match due {
-        Some(d) => d.get() == tick,
-        None => false,
-    }
 }
 
 /// The least due tick of all. None exactly where nothing is armed.

@@ -17,7 +17,7 @@ mod moves;
 mod places;
 mod slots;
 
-use dues::{due_of, first_of, is_due_at, least_of};
+use dues::{due_of, first_of, least_of};
 use slots::Slots;
 use std::alloc::{AllocError, Global};
 use std::marker::Model;
@@ -45,7 +45,7 @@ impl Model for Wheel {
     ghost invariant = { λ w. IsCached w.slots w.least w.early w.last };
 }
 
-/// Where an item is due by now, the slots go on to now. The answer is the least due tick after theirs.
+/// The slots go on from one due tick to the next, up to now. The answer is the least due tick after theirs.
 fn caught_up(slots: &mut Slots, least: u64, now: u64) -> u64
     requires least { IsLeastLater slots.old.base slots.old.dues least }
     requires now { (slots.old.base ≤ now) × (now ≤ 2 * 10 ^ 18) }
@@ -54,11 +54,12 @@ fn caught_up(slots: &mut Slots, least: u64, now: u64) -> u64
     ensures least { IsLeastLater slots.new.base slots.new.dues result }
     ensures settled { now < result }
 {
-    if now < least {
-        return least;
+    let mut least = least;
+    while least <= now {
+        slots.advance(least);
+        least = slots.least_later();
     }
-    slots.advance(now);
-    slots.least_later()
+    least
 }
 
 impl Wheel {
@@ -89,14 +90,21 @@ impl Wheel {
     }
 
     /// The item is not armed afterwards.
+    #[inline(never)]
     pub fn disarm(&mut self, id: ItemId)
         requires { id.number < length self.old.dues }
         ensures { self.new ≡ record self.old { dues = slice_set self.old.dues id.number None } }
     {
-        let due = due_of(self.slots.dues(), id.number);
+        let Some(due) = due_of(self.slots.dues(), id.number) else {
+            return;
+        };
         self.slots.disarm(id.number);
-        if is_due_at(due, self.least) {
-            self.least = self.slots.least_later();
+        if due.get() > self.slots.base() {
+            if due.get() == self.least {
+                self.least = self.slots.least_later();
+            }
+        } else if self.slots.first_passed().is_none() {
+            self.early = self.least;
         }
     }
 
@@ -106,20 +114,25 @@ impl Wheel {
         requires { id.number < length self.old.dues }
         ensures { self.new ≡ record self.old { dues = slice_set self.old.dues id.number due } }
     {
-        if self.due_of(id) != due {
-            self.change_due(id, due);
+        if self.due_of(id) == due {
+            return;
+        }
+        match due {
+            Some(tick) => self.arm_anew(id, tick),
+            None => self.disarm(id),
         }
     }
 
+    // The item falls due at that tick, whether it was armed or not.
     #[inline(never)]
-    fn change_due(&mut self, id: ItemId, due: Option<Tick>)
+    fn arm_anew(&mut self, id: ItemId, due: Tick)
         requires { id.number < length self.old.dues }
-        ensures { self.new ≡ record self.old { dues = slice_set self.old.dues id.number due } }
+        ensures { self.new ≡ record self.old { dues = slice_set self.old.dues id.number (Some due) } }
     {
-        self.disarm(id);
-        if let Some(tick) = due {
-            self.arm(id, tick);
+        if self.due_of(id).is_some() {
+            self.disarm(id);
         }
+        self.arm(id, due);
     }
 
     /// The due tick of the item. None exactly where it is not armed.

@@ -1,8 +1,9 @@
 // Nodes that leave the lists of a wheel, or come to stand on them.
-ghost use Rattle.std.specs.Prelude.{◌≡◌, ◌<◌, ◌≤◌, ◌*◌, ◌^◌, [], ℕ, true, false, length, MatchOption, IfSome};
+ghost use Rattle.std.specs.Prelude.{◌≡◌, ◌<◌, ◌≤◌, ◌*◌, ◌^◌, [], ℕ, true, false, length};
 ghost use Rattle.raw_links.specs.Links.{list_at, on_a_list, stands_at};
+ghost use Rattle.timer_wheel.specs.Bits.{ChangesBit};
 ghost use Rattle.timer_wheel.specs.Slots.{AreMarked, AreSmall};
-ghost use Rattle.timer_wheel.specs.Moves.{IsSized, IsTaken, IsFiled, IsDue, IsMoved, with_last, StandsBelow, AreEmptyBelow, AreDraining, AreToRefile, AreRefiling};
+ghost use Rattle.timer_wheel.specs.Moves.{IsSized, IsTaken, IsFiled, IsNoted, IsDue, IsMoved, with_last, AreToRefile, AreRefiling};
 
 use crate::bits::Bits;
 use crate::places::place_in;
@@ -30,10 +31,9 @@ pub(crate) fn take(links: &mut Links, occupied: &mut Bits, node: u32)
 /// Makes the node the last of a list.
 fn put(links: &mut Links, occupied: &mut Bits, list: u32, node: u32)
     requires sized { IsSized links.old occupied.old }
-    requires marked { AreMarked links.old.lists occupied.old }
     requires node { (node < 1024) × (list < 704) × (on_a_list node links.old.lists ≡ false) }
     ensures sized { IsSized links.new occupied.new }
-    ensures marked { AreMarked links.new.lists occupied.new }
+    ensures bit { ChangesBit list true occupied.old occupied.new }
     ensures put { links.new.lists ≡ with_last list node links.old.lists }
 {
     links.push_back(list, node);
@@ -51,54 +51,20 @@ pub(crate) fn file(
     due: u64,
 )
     requires sized { IsSized links.old occupied.old × (length passed.old ≡ 16) }
-    requires marked { AreMarked links.old.lists occupied.old }
     requires node { (node < 1024) × (due ≤ 2 * 10 ^ 18) × (on_a_list node links.old.lists ≡ false) }
     ensures sized { IsSized links.new occupied.new × (length passed.new ≡ 16) }
-    ensures marked { AreMarked links.new.lists occupied.new }
+    ensures noted { IsNoted base due occupied.old occupied.new }
     ensures filed { IsFiled base node due links.old.lists links.new.lists passed.old passed.new }
 {
     if due <= base {
         passed.set(node, true);
         return;
     }
-    let (level, slot) = place_in(11, base, due);
+    let (level, slot) = place_in(base, due);
     put(links, occupied, level * 64 + slot, node);
 }
 
-/// The head of the lowest list that is not empty, if that is below the target.
-fn first_below(links: &Links, occupied: &Bits, target: u32) -> Option<u32>
-    requires sized { IsSized links.now occupied.now }
-    requires marked { AreMarked links.now.lists occupied.now }
-    ensures node { MatchOption result (AreEmptyBelow target links.now.lists) (λ node. (node < 1024) × StandsBelow target links.now.lists node) }
-    ensures on { IfSome result (λ node. on_a_list node links.now.lists ≡ true) }
-{
-    let Some(list) = occupied.lowest() else {
-        return None;
-    };
-    if list >= target {
-        return None;
-    }
-    links.front(list)
-}
-
-/// Moves the nodes of the lists below the target into the set of passed items.
-pub(crate) fn drain(links: &mut Links, occupied: &mut Bits, passed: &mut Bits, target: u32)
-    requires sized { IsSized links.old occupied.old × (length passed.old ≡ 16) }
-    requires marked { AreMarked links.old.lists occupied.old }
-    ensures sized { IsSized links.new occupied.new × (length passed.new ≡ 16) }
-    ensures marked { AreMarked links.new.lists occupied.new }
-    ensures empty { AreEmptyBelow target links.new.lists }
-    ensures drained { AreDraining target links.old.lists links.new.lists passed.old passed.new }
-{
-    let mut first = first_below(links, occupied, target);
-    while let Some(node) = first {
-        take(links, occupied, node);
-        passed.set(node, true);
-        first = first_below(links, occupied, target);
-    }
-}
-
-/// Takes the node out of its list, and files it anew.
+/// Takes the node out of its list, and files it anew. The bit of the list that it leaves stays as it is.
 fn refile_one(
     links: &mut Links,
     occupied: &mut Bits,
@@ -108,13 +74,12 @@ fn refile_one(
     node: u32,
 )
     requires sized { IsSized links.old occupied.old × (length passed.old ≡ 16) }
-    requires marked { AreMarked links.old.lists occupied.old }
     requires node { (node < 1024) × (on_a_list node links.old.lists ≡ true) × (node < length dues.now) × AreSmall dues.now }
     ensures sized { IsSized links.new occupied.new × (length passed.new ≡ 16) }
-    ensures marked { AreMarked links.new.lists occupied.new }
+    ensures noted { (d : ℕ) → IsDue dues.now node d → IsNoted to d occupied.old occupied.new }
     ensures moved { (d : ℕ) → IsDue dues.now node d → IsMoved to node d links.old.lists links.new.lists passed.old passed.new }
 {
-    take(links, occupied, node);
+    links.unlink(node);
     if let Some(due) = dues[node as usize] {
         file(links, occupied, passed, to, node, due.get());
     }
@@ -137,9 +102,11 @@ pub(crate) fn refile(
     ensures empty { list_at links.new.lists target ≡ [] }
     ensures refiled { AreRefiling target to dues.now links.old.lists links.new.lists passed.old passed.new }
 {
+    occupied.set(target, false);
     let mut first = links.front(target);
     while let Some(node) = first {
+        links.stand_once();
+        first = links.next(node);
         refile_one(links, occupied, passed, dues, to, node);
-        first = links.front(target);
     }
 }

@@ -5,21 +5,17 @@ ghost use Rattle.timer_wheel.specs.Places.{place};
 /// The level and the slot of a due tick, seen from now: how many more digits to the base of 64 there are than those in which the
 /// two agree, and the first digit in which they differ.
 #[inline(always)]
-pub(crate) fn place_in(levels: u32, now: u64, due: u64) -> (u32, u32)
-    requires { levels ≤ 11 }
-    ensures place { result ≡ place levels now due }
-    ensures level { result.0 ≤ levels }
+pub(crate) fn place_in(now: u64, due: u64) -> (u32, u32)
+    ensures place { result ≡ place 11 now due }
+    ensures level { result.0 ≤ 11 }
 {
     let mut level = 0;
     let mut from = now;
     let mut to = due;
-    while level < levels {
-        if to / 64 == from / 64 {
-            return (level, (to % 64) as u32);
-        }
+    while to / 64 != from / 64 {
         from /= 64;
         to /= 64;
         level += 1;
     }
-    (levels, 0)
+    (level, (to % 64) as u32)
 }

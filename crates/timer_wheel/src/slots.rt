@@ -6,8 +6,7 @@ ghost use Rattle.timer_wheel.specs.Slots.{IsLeastLater, IsLeastOf, AreSmall};
 ghost use Rattle.timer_wheel.specs.Moves.{IsDue};
 
 use crate::bits::Bits;
-use crate::moves::{drain, file, refile, take};
-use crate::places::place_in;
+use crate::moves::{file, refile, take};
 use raw_links::Links;
 use std::alloc::{AllocError, Global};
 use std::marker::Model;
@@ -129,29 +128,23 @@ impl Slots {
         }
     }
 
-    /// The wheel goes on to a later tick.
-    #[inline(never)]
+    /// The wheel goes on to the least due tick after its own.
     pub(crate) fn advance(&mut self, to: u64)
-        requires { (self.old.base < to) × (to ≤ 2 * 10 ^ 18) }
+        requires { IsLeastLater self.old.base self.old.dues to × (to ≤ 2 * 10 ^ 18) }
         ensures { self.new ≡ record self.old { base = to } }
     {
-        let (level, slot) = place_in(11, self.base, to);
-        let target = level * 64 + slot;
-        drain(
-            &mut self.links,
-            &mut self.occupied,
-            &mut self.passed,
-            target,
-        );
-        refile(
-            &mut self.links,
-            &mut self.occupied,
-            &mut self.passed,
-            &self.dues,
-            target,
-            to,
-        );
+        let target = self.occupied.lowest();
         self.base = to;
+        if let Some(target) = target {
+            refile(
+                &mut self.links,
+                &mut self.occupied,
+                &mut self.passed,
+                &self.dues,
+                target,
+                to,
+            );
+        }
     }
 
     /// The item with the least number that has passed. None exactly where none has.
@@ -165,9 +158,13 @@ impl Slots {
     pub(crate) fn least_later(&self) -> u64
         ensures { IsLeastLater self.now.base self.now.dues result }
     {
-        match self.occupied.lowest() {
-            Some(list) => least_in(&self.links, &self.dues, list),
-            None => u64::MAX,
+        let Some(list) = self.occupied.lowest() else {
+            return u64::MAX;
+        };
+        // a list of the lowest level is for one tick
+        if list < 64 {
+            return self.base / 64 * 64 + list as u64;
         }
+        least_in(&self.links, &self.dues, list)
     }
 }
