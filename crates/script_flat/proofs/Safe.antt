@@ -10,13 +10,11 @@ use Rattle.script_tree.specs.declared.call.Call.TheVariants as call
 use Rattle.script_flat.specs.declared.cursor.Cursor.{Cursor}
 use Rattle.script_flat.specs.declared.op.Op.{Op}
 use Rattle.script_flat.specs.declared.op.Op.TheVariants as op
-use Rattle.script_flat.specs.declared.op.Effect.{Effect}
-use Rattle.script_flat.specs.declared.op.Effect.TheVariants.{Gives, Skips}
 use Rattle.script_flat.specs.declared.unit.Unit as unit
 use Rattle.script_flat.specs.declared.unit.Unit.TheVariants.{Finish}
 use Rattle.script_flat.specs.Next.{Place, At, In, rest_of, steps_from, holds}
 use Rattle.script_flat.specs.Flat.{NumberedBodies, flat, op_number, nesting}
-use Rattle.script_flat.specs.Fetch.{moved_on, innermost, outer, after_pass, carried_out, or_search, found_in, ops_of}
+use Rattle.script_flat.specs.Fetch.{Effect, Gives, Skips, moved_on, innermost, outer, after_pass, carried_out, or_search, found_in, ops_of}
 use Rattle.script_flat.specs.Stands.{step_at, op_at, counts_inside, counts_at, IsPlaced}
 use Rattle.script_flat.specs.Ready.{open_loops, IsSafe, IsReady}
 use Rattle.script_flat.proofs.Lands.{length-flat, forever_ops, loop_ops}
@@ -153,6 +151,7 @@ counts_open (In i passes place) block at counts ops e =
 
 -- What carrying out an operation leaves to a search that goes on behind n of the operations that follow.
 pub record GoesOn (rest : List Op) (c new : Cursor) (n : ℕ) : Type 0 where
+  pub same_body : new.body ≡ c.body
   pub same_place : new.pc ≡ c.pc
   pub within : n ≤ length rest
   pub loops : length new.counts.items ≡ open_loops (drop n rest)
@@ -170,7 +169,7 @@ pass_over : (rest : List Op) (c : Cursor) → IsSafe rest → length c.counts.it
     → GoesOn rest c (record c { counts = record { items = outer c.counts.items } }) 0
 pass_over rest c h e few =
     let k = length-outer c.counts.items (open_loops rest) e in
-    record { same_place = refl; within = omega arith; loops = k; few = omega arith; safe = h }
+    record { same_body = refl; same_place = refl; within = omega arith; loops = k; few = omega arith; safe = h }
 
 pass_goes_on : (first : ℕ) (passes : Option ℕ) (rest : List Op) (c : Cursor) → IsSafe rest → length c.counts.items ≡ open_loops rest + 1
     → length c.counts.items ≤ 15 → GoesOnAfter rest c (after_pass first passes c)
@@ -181,16 +180,16 @@ pass_goes_on first (Some (suc (suc passes))) rest c h e few = tt
 
 test_goes_on : (b : Bool) (skip : ℕ) (rest : List Op) (c : Cursor) → skip ≤ length rest → open_loops (drop skip rest) ≡ open_loops rest
     → IsSafe rest → length c.counts.items ≡ open_loops rest → length c.counts.items ≤ 15 → GoesOn rest c c (if b then 0 else skip)
-test_goes_on true skip rest c within same h e few = record { same_place = refl; within = omega arith; loops = e; few = few; safe = h }
+test_goes_on true skip rest c within same h e few = record { same_body = refl; same_place = refl; within = omega arith; loops = e; few = few; safe = h }
 test_goes_on false skip rest c within same h e few =
-    record { same_place = refl; within = within; loops = e ∙ sym same; few = few; safe = IsSafe-drop skip rest h }
+    record { same_body = refl; same_place = refl; within = within; loops = e ∙ sym same; few = few; safe = IsSafe-drop skip rest h }
 
 goes_on_after : (o : Op) (rest : List Op) (c : Cursor) → IsReady (o ∷ rest) c → GoesOnAfter rest c (carried_out o c)
 goes_on_after (op.Run n) rest c h = tt
 goes_on_after (op.Make call) rest c h = tt
-goes_on_after (op.Set n) rest c h = record { same_place = refl; within = omega arith; loops = h.loops; few = h.few; safe = h.safe }
-goes_on_after (op.Add n) rest c h = record { same_place = refl; within = omega arith; loops = h.loops; few = h.few; safe = h.safe }
-goes_on_after op.Take rest c h = record { same_place = refl; within = omega arith; loops = h.loops; few = h.few; safe = h.safe }
+goes_on_after (op.Set n) rest c h = record { same_body = refl; same_place = refl; within = omega arith; loops = h.loops; few = h.few; safe = h.safe }
+goes_on_after (op.Add n) rest c h = record { same_body = refl; same_place = refl; within = omega arith; loops = h.loops; few = h.few; safe = h.safe }
+goes_on_after op.Take rest c h = record { same_body = refl; same_place = refl; within = omega arith; loops = h.loops; few = h.few; safe = h.safe }
 goes_on_after (op.Test named equal skip) rest c h =
     test_goes_on (holds named equal c.result) skip rest c h.safe.0.0 h.safe.0.1 h.safe.1 h.loops h.few
 goes_on_after (op.Begin n) rest c h =
@@ -198,7 +197,7 @@ goes_on_after (op.Begin n) rest c h =
     let limit : open_loops rest ≤ 15 = h.safe.0.1 in
     let e : length c.counts.items ≡ open_loops rest - 1 = h.loops in
     let k = length-append c.counts.items (n ∷ []) in
-    record { same_place = refl; within = omega arith; loops = omega arith; few = omega arith; safe = h.safe.1 }
+    record { same_body = refl; same_place = refl; within = omega arith; loops = omega arith; few = omega arith; safe = h.safe.1 }
 goes_on_after (op.Repeat first) rest c h = pass_goes_on first (innermost c.counts.items) rest c h.safe h.loops h.few
 goes_on_after (op.Again first) rest c h = tt
 
@@ -308,6 +307,7 @@ placed_within code c h =
 
 -- A search that began at one cursor has come to another one.
 pub record SearchesOn (ops : List Op) (from now : Cursor) : Type 0 where
+  pub same_body : now.body ≡ from.body
   pub found : found_in (drop now.pc ops) 0 now ≡ found_in (drop from.pc ops) 0 from
   pub ready : IsReady (drop now.pc ops) now
   pub within : now.pc ≤ length ops
@@ -328,6 +328,7 @@ search_goes_on ops from now new o n h past at e =
     drop-drop n (now.pc + 1) ops ∙ ap (λ k. drop k ops) sum in
     let within = on.within in
     record {
+      same_body = on.same_body ∙ h.same_body;
       found = ap (λ xs. found_in xs 0 (record new { pc = new.pc + n })) (sym dropped)
           ∙ (sym (found_in-drop (drop (now.pc + 1) ops) n new on.within)
           ∙ (ap (λ p. or_search p (found_in (drop (now.pc + 1) ops))) (sym e)

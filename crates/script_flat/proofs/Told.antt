@@ -1,21 +1,19 @@
 -- A unit that is told by where its call stands is the unit that was found.
-use Rattle.std.proofs.Common.{◌≡◌, ℕ, zero, suc, ◌<◌, Option, None, Some, List, length, refl, ap, sym, ◌∙◌, get_or, slice_get, drop}
+use Rattle.std.proofs.Common.{◌≡◌, ℕ, zero, suc, ◌<◌, Option, None, Some, List, length, refl, ap, sym, subst, ◌∙◌, get_or, slice_get, drop}
 use Rattle.std.proofs.lemmas.Option.{slice_get_read}
 use Rattle.script_tree.specs.declared.call.Call.{Call}
 use Rattle.script_tree.specs.declared.call.Call.TheVariants.{Yield}
 use Rattle.script_flat.specs.declared.cursor.Cursor.{Cursor}
 use Rattle.script_flat.specs.declared.op.Op.{Op}
 use Rattle.script_flat.specs.declared.op.Op.TheVariants as op
-use Rattle.script_flat.specs.declared.op.Effect.{Effect}
-use Rattle.script_flat.specs.declared.op.Effect.TheVariants.{Gives}
 use Rattle.script_flat.specs.declared.unit.Unit as unit
 use Rattle.script_flat.specs.declared.unit.Unit.TheVariants.{Run, Make, Jump, Finish}
 use Rattle.script_flat.specs.declared.fetched.Fetched.{Fetched}
 use Rattle.script_flat.specs.declared.fetched.Fetched.TheVariants as a
-use Rattle.script_flat.specs.Fetch.{moved_on, innermost, after_pass, carried_out, fetched, found_in, ops_of}
-use Rattle.script_flat.specs.Fetched.{StandsIn, call_at, fetched_at, unit_in, unit_of}
+use Rattle.script_flat.specs.Fetch.{Effect, Gives, Skips, moved_on, innermost, after_pass, carried_out, fetched, found_in, ops_of}
+use Rattle.script_flat.specs.Fetched.{StandsIn, call_at, fetched_at, told, unit_in, unit_of}
 use Rattle.script_flat.specs.Flat.{NumberedBodies}
-use Rattle.script_flat.proofs.Safe.{SearchesOn, search_finds}
+use Rattle.script_flat.proofs.Safe.{SearchesOn, search_finds, search_goes_on}
 
 -- the call that an effect gives
 abbrev made : Cursor × Effect → Call
@@ -40,19 +38,27 @@ made_by (op.Repeat first) c = made_after_pass first (innermost c.counts.items) c
 made_by (op.Again first) c = refl
 
 -- the unit that an operation gives, told by the operation's number
-told : (ops : List Op) (o : Op) (n body : ℕ) (c new : Cursor) (u : unit.Unit) → slice_get ops n ≡ Some o
+unit_told : (ops : List Op) (o : Op) (body n : ℕ) (c new : Cursor) (u : unit.Unit) → slice_get ops n ≡ Some o
     → carried_out o c ≡ (new, Gives u) → u ≡ unit_in ops (fetched_at body n u)
-told ops o n body c new (Run k) at e = refl
-told ops o n body c new (Make call) at e = ap Make (sym (ap call_at at ∙ (sym (made_by o c) ∙ ap made e)))
-told ops o n body c new Jump at e = refl
-told ops o n body c new Finish at e = refl
+unit_told ops o body n c new (Run k) at e = refl
+unit_told ops o body n c new (Make call) at e = ap Make (sym (ap call_at at ∙ (sym (made_by o c) ∙ ap made e)))
+unit_told ops o body n c new Jump at e = refl
+unit_told ops o body n c new Finish at e = refl
 
-pub search_finds_told : (ops : List Op) (from now new : Cursor) (o : Op) (body : ℕ) (u : unit.Unit) → SearchesOn ops from now → now.pc < length ops
-    → o ≡ get_or ops now.pc o → carried_out o (moved_on now) ≡ (new, Gives u)
-    → found_in (drop from.pc ops) 0 from ≡ (new, unit_in ops (fetched_at body now.pc u))
-search_finds_told ops from now new o body u h past at e =
-    search_finds ops from now new o u h past at e
-    ∙ ap (λ v. (new, v)) (told ops o now.pc body (moved_on now) new u (slice_get_read ops (length ops) now.pc o refl past at) e)
+-- a search has found the unit that was told, and goes on where none was
+abbrev pub SearchTold : List Op → Cursor → Cursor × Option Fetched → Type 0
+SearchTold ops from (new, Some f) = found_in (drop from.pc ops) 0 from ≡ (new, unit_in ops f)
+SearchTold ops from (new, None) = SearchesOn ops from new
+
+module _ (ops : List Op) (from now : Cursor) (o : Op) (h : SearchesOn ops from now) (past : now.pc < length ops) (at : o ≡ get_or ops now.pc o) where
+  effect_told : (effect : Cursor × Effect) → carried_out o (moved_on now) ≡ effect → SearchTold ops from (told now.body now.pc effect)
+  effect_told (c, Gives u) e =
+      search_finds ops from now c o u h past at e
+      ∙ ap (λ v. (c, v)) (unit_told ops o now.body now.pc (moved_on now) c u (slice_get_read ops (length ops) now.pc o refl past at) e)
+  effect_told (c, Skips n) e = search_goes_on ops from now c o n h past at e
+
+  pub search_told : (after : Cursor × Option Fetched) → told now.body now.pc (carried_out o (moved_on now)) ≡ after → SearchTold ops from after
+  search_told after e = subst (SearchTold ops from) e (effect_told (carried_out o (moved_on now)) refl)
 
 -- what was found in a body is what was found in the code
 pub found_in_code : (code : NumberedBodies (List Op)) (body : ℕ) (f : Fetched) → StandsIn body f → unit_in (ops_of code body) f ≡ unit_of code f
@@ -60,12 +66,6 @@ found_in_code code body (a.Run n) h = refl
 found_in_code code body (a.Make place) h = ap (λ b. Make (call_at (slice_get (ops_of code b) place.op))) (sym h)
 found_in_code code body a.Jump h = refl
 found_in_code code body a.Finish h = refl
-
-pub stands_in : (body n : ℕ) (u : unit.Unit) → StandsIn body (fetched_at body n u)
-stands_in body n (Run k) = tt
-stands_in body n (Make call) = refl
-stands_in body n Jump = tt
-stands_in body n Finish = tt
 
 pub fetched_told : (code : NumberedBodies (List Op)) (ops : List Op) (c new : Cursor) (f : Fetched) → ops ≡ ops_of code c.body
     → found_in (drop c.pc ops) 0 c ≡ (new, unit_in ops f) → StandsIn c.body f → fetched code c ≡ (new, unit_of code f)

@@ -1,15 +1,18 @@
 -- The next unit of flat code, found by carrying out operations from a cursor on. This project's own.
-use Rattle.std.specs.Prelude.{ℕ, zero, suc, ◌+◌, ◌-◌, Option, Some, if◌then◌else◌, List, [], ◌∷◌, ◌++◌, length, take, drop, slice_get, slice_index_or}
+use Rattle.std.specs.Prelude.{ℕ, zero, suc, ◌+◌, ◌-◌, Option, Some, Bool, true, false, if◌then◌else◌, List, [], ◌∷◌, ◌++◌, length, take, drop, slice_get, slice_index_or}
 use Rattle.tick_num.specs.declared.res.Res.TheVariants.{Zero}
 use Rattle.script_flat.specs.declared.cursor.Cursor.{Cursor}
 use Rattle.script_flat.specs.declared.op.Op.{Op}
 use Rattle.script_flat.specs.declared.op.Op.TheVariants as op
-use Rattle.script_flat.specs.declared.op.Effect.{Effect}
-use Rattle.script_flat.specs.declared.op.Effect.TheVariants.{Gives, Skips}
 use Rattle.script_flat.specs.declared.unit.Unit as unit
 use Rattle.script_flat.specs.declared.unit.Unit.TheVariants.{Run, Make, Jump, Finish}
 use Rattle.script_flat.specs.Flat.{NumberedBodies}
 use Rattle.script_flat.specs.Next.{capped, holds}
+
+-- What carrying out an operation comes to: a unit, or no time, where so many of the operations that follow are passed over.
+pub data Effect : Type 0 where
+  Gives : unit.Unit → Effect
+  Skips : ℕ → Effect
 
 -- the cursor at the next operation
 abbrev pub moved_on : Cursor → Cursor
@@ -27,6 +30,16 @@ abbrev pub after_pass : ℕ → Option ℕ → Cursor → Cursor × Effect
 after_pass first (Some (suc (suc passes))) c =
     (record c { pc = first; counts = record { items = outer c.counts.items ++ suc passes ∷ [] } }, Gives Jump)
 after_pass first passes c = (record c { counts = record { items = outer c.counts.items } }, Skips 0)
+
+-- the cursor behind a pass of the innermost counted loop, and whether another one is left
+abbrev pub pass_ended : Option ℕ → Cursor → Cursor × Bool
+pass_ended (Some (suc (suc passes))) c = (record c { counts = record { items = outer c.counts.items ++ suc passes ∷ [] } }, true)
+pass_ended passes c = (record c { counts = record { items = outer c.counts.items } }, false)
+
+-- how many operations an operation may pass over
+abbrev pub most_skipped : Op → ℕ
+most_skipped (op.Test named equal skip) = skip
+most_skipped o = 0
 
 -- what an operation does, and the cursor after it, which has moved on to the next operation before
 abbrev pub carried_out : Op → Cursor → Cursor × Effect

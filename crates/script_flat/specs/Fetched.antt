@@ -1,7 +1,8 @@
 -- Units as they are fetched, a call by where it stands. This project's own.
-use Rattle.std.specs.Prelude.{◌≡◌, ℕ, Option, Some, List, slice_get}
+use Rattle.std.specs.Prelude.{◌≡◌, ℕ, ◌+◌, Option, None, Some, List, slice_get}
 use Rattle.script_tree.specs.declared.call.Call.{Call}
 use Rattle.script_tree.specs.declared.call.Call.TheVariants.{Yield}
+use Rattle.script_flat.specs.declared.cursor.Cursor.{Cursor}
 use Rattle.script_flat.specs.declared.op.Op.{Op}
 use Rattle.script_flat.specs.declared.op.Op.TheVariants as op
 use Rattle.script_flat.specs.declared.unit.Unit as unit
@@ -9,7 +10,7 @@ use Rattle.script_flat.specs.declared.unit.Unit.TheVariants as a
 use Rattle.script_flat.specs.declared.fetched.CallPlace.{CallPlace}
 use Rattle.script_flat.specs.declared.fetched.Fetched.{Fetched}
 use Rattle.script_flat.specs.declared.fetched.Fetched.TheVariants.{Run, Make, Jump, Finish}
-use Rattle.script_flat.specs.Fetch.{ops_of}
+use Rattle.script_flat.specs.Fetch.{Effect, Gives, Skips, ops_of}
 use Rattle.script_flat.specs.Flat.{NumberedBodies}
 
 -- the call that an operation makes; `yield` where it makes none
@@ -46,3 +47,8 @@ fetched_at body number (a.Run n) = Run n
 fetched_at body number (a.Make call) = Make (record { body = body; op = number })
 fetched_at body number a.Jump = Jump
 fetched_at body number a.Finish = Finish
+
+-- what the effect of that operation comes to: the cursor behind the operations that are passed over, and the unit that is given, if any
+abbrev pub told : ℕ → ℕ → Cursor × Effect → Cursor × Option Fetched
+told body number (c, Gives u) = (c, Some (fetched_at body number u))
+told body number (c, Skips n) = (record c { pc = c.pc + n }, None)

@@ -4,15 +4,14 @@ ghost use Rattle.script_tree.specs.Block.{Block};
 ghost use Rattle.script_tree.specs.Tree.{step_count};
 ghost use Rattle.script_flat.specs.Next.{Place, body_start, register_limit};
 ghost use Rattle.script_flat.specs.Flat.{IsFlattenable, bodies_of, body_list, flat, flat_form, with_decl};
-ghost use Rattle.script_flat.specs.Fetch.{carried_out, after_pass, innermost, found_in, ops_of, started, fetched};
-ghost use Rattle.script_flat.specs.Fetched.{StandsIn, unit_in, unit_of};
+ghost use Rattle.script_flat.specs.Fetch.{carried_out, innermost, most_skipped, pass_ended, found_in, ops_of, started, fetched};
+ghost use Rattle.script_flat.specs.Fetched.{StandsIn, told, unit_in, unit_of};
 ghost use Rattle.script_flat.specs.Ready.{IsReady};
 ghost use Rattle.script_flat.specs.Stands.{IsBody, Stands, IsPlaced, Fetches};
 
 use crate::flatten::flatten;
 use crate::next::{capped, holds};
-use crate::op::Effect;
-use crate::{CallPlace, Cursor, Fetched, Op, Unit};
+use crate::{CallPlace, Cursor, Fetched, Op};
 use arrayvec::ArrayVec;
 use script_tree::{Body, Decl, Kind, Script};
 use std::alloc::{AllocError, Global};
@@ -196,21 +195,11 @@ fn search(ops: &[Op], at: &mut Cursor) -> Fetched
     ensures found { found_in (drop at.old.pc ops.now) 0 at.old ≡ (at.new, unit_in ops.now result) }
     ensures inside { StandsIn at.old.body result }
 {
-    let body = at.body;
     while let Some(op) = ops.get(at.pc as usize) {
         let number = at.pc;
         at.pc += 1;
-        match op {
-            Op::Run(n) => return Fetched::Run(*n),
-            Op::Make(_) => return Fetched::Make(CallPlace { body, op: number }),
-            Op::Again { first } => {
-                at.pc = *first;
-                return Fetched::Jump;
-            }
-            _ => match at.carry_out(op) {
-                Effect::Gives(unit) => return Fetched::of(&unit, body, number),
-                Effect::Skips(skip) => at.pc += skip,
-            },
+        if let Some(unit) = at.carry_out(op, number) {
+            return unit;
         }
     }
     Fetched::Finish
@@ -218,63 +207,60 @@ fn search(ops: &[Op], at: &mut Cursor) -> Fetched
 
 impl Cursor {
     // Jumps back.
-    fn jump(&mut self, first: u32) -> Effect
+    fn jump(&mut self, first: u32) -> Fetched
         ensures place { self.new ≡ record self.old { pc = first } }
-        ensures unit { result ≡ Effect.Gives Unit.Jump }
+        ensures unit { result ≡ Fetched.Jump }
     {
         self.pc = first;
-        Effect::Gives(Unit::Jump)
+        Fetched::Jump
     }
 
-    // The end of a pass of the innermost counted loop.
+    // Ends a pass of the innermost counted loop: whether another one is left.
     #[inline(never)]
-    fn end_pass(&mut self, first: u32) -> Effect
+    fn end_pass(&mut self) -> bool
         requires { length self.old.counts.items ≤ 15 }
-        ensures { after_pass first (innermost self.old.counts.items) self.old ≡ (self.new, result) }
+        ensures { pass_ended (innermost self.old.counts.items) self.old ≡ (self.new, result) }
     {
         match self.counts.pop() {
             Some(passes) if passes > 1 => {
                 self.counts.push(passes - 1);
-                self.jump(first)
+                true
             }
-            _ => Effect::Skips(0),
+            _ => false,
         }
     }
 
-    // Carries out an operation, behind which the cursor stands.
+    // Carries out the operation of that number, behind which the cursor stands: the unit that it gives, or none where it takes no time.
     #[inline(always)]
-    fn carry_out(&mut self, op: &Op) -> Effect
-        requires { length self.old.counts.items ≤ 15 }
-        ensures { carried_out op.now self.old ≡ (self.new, result) }
+    fn carry_out(&mut self, op: &Op, number: u32) -> Option<Fetched>
+        requires few { length self.old.counts.items ≤ 15 }
+        requires room { self.old.pc + most_skipped op.now < 2 ^ 32 }
+        ensures { told self.old.body number (carried_out op.now self.old) ≡ (self.new, result) }
     {
         match *op {
-            Op::Run(n) => Effect::Gives(Unit::Run(n)),
-            Op::Make(call) => Effect::Gives(Unit::Make(call)),
-            Op::Set(n) => {
-                self.register = capped(n);
-                Effect::Skips(0)
+            Op::Run(n) => return Some(Fetched::Run(n)),
+            Op::Make(_) => {
+                return Some(Fetched::Make(CallPlace {
+                    body: self.body,
+                    op: number,
+                }));
             }
-            Op::Add(n) => {
-                self.register = capped(self.register.saturating_add(n));
-                Effect::Skips(0)
-            }
-            Op::Take => {
-                self.register = capped(self.value);
-                Effect::Skips(0)
-            }
+            Op::Set(n) => self.register = capped(n),
+            Op::Add(n) => self.register = capped(self.register.saturating_add(n)),
+            Op::Take => self.register = capped(self.value),
             Op::Test { res, equal, skip } => {
-                Effect::Skips(if holds(res, equal, self.result) {
-                    0
-                } else {
-                    skip
-                })
+                if !holds(res, equal, self.result) {
+                    self.pc += skip;
+                }
             }
-            Op::Begin(times) => {
-                self.counts.push(times);
-                Effect::Skips(0)
+            Op::Begin(times) => self.counts.push(times),
+            Op::Repeat { first } => {
+                if self.end_pass() {
+                    return Some(self.jump(first));
+                }
             }
-            Op::Repeat { first } => self.end_pass(first),
-            Op::Again { first } => self.jump(first),
+            Op::Again { first } => return Some(self.jump(first)),
         }
+        None
     }
 }

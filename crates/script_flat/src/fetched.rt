@@ -1,8 +1,8 @@
 // Units as they are fetched.
 ghost use Rattle.std.specs.Prelude.{◌≡◌};
-ghost use Rattle.script_flat.specs.Fetched.{call_of, fetched_at};
+ghost use Rattle.script_flat.specs.Fetched.{call_of};
 
-use crate::{Code, Op, Unit};
+use crate::{Code, Op};
 use script_tree::Call;
 
 /// A unit as it is fetched. A call is told by where it stands, since it is large and is looked at only when its tick is over.
@@ -25,21 +25,6 @@ pub struct CallPlace {
     pub body: u16,
     /// The number of the operation in its body.
     pub op: u32,
-}
-
-impl Fetched {
-    // The unit, whose call is the operation of that number in the body.
-    #[inline(always)]
-    pub(crate) fn of(unit: &Unit, body: u16, op: u32) -> Fetched
-        ensures { result ≡ fetched_at body op unit.now }
-    {
-        match unit {
-            Unit::Run(n) => Fetched::Run(*n),
-            Unit::Make(_) => Fetched::Make(CallPlace { body, op }),
-            Unit::Jump => Fetched::Jump,
-            Unit::Finish => Fetched::Finish,
-        }
-    }
 }
 
 impl Code {

@@ -7,10 +7,13 @@ use crate::Op;
 use script_tree::{Body, Call, Step};
 use std::alloc::AllocError;
 
-fn append(ops: &mut Vec<Op>, op: Op) -> Result<(), AllocError>
-    ensures { OnOk result (ops.new.items ≡ ops.old.items ++ op ∷ []) }
+// Appends an item to a list.
+fn append<T: Copy>(list: &mut Vec<T>, item: T) -> Result<(), AllocError>
+    ensures { OnOk result (list.new.items ≡ list.old.items ++ item ∷ []) }
 {
-    ops.extend_from_slice(&[op])
+    list.reserve(1)?;
+    list.push_reserved(item);
+    Ok(())
 }
 
 // Appends the operations of a step.

@@ -1,5 +1,4 @@
 // Operations of the flat code.
-use crate::Unit;
 use script_tree::Call;
 use tick_num::Res;
 
@@ -24,13 +23,4 @@ pub enum Op {
     Repeat { first: u32 },
     /// Jumps back.
     Again { first: u32 },
-}
-
-/// What carrying out an operation comes to.
-#[derive(Clone, Copy)]
-pub(crate) enum Effect {
-    /// A unit.
-    Gives(Unit),
-    /// No time: so many of the operations that follow are passed over.
-    Skips(u32),
 }

@@ -36,6 +36,6 @@ flatten_step-returns-in_ok-flatten-in-Test t c =
     let len : c.len.result ≡ length c.flatten.new.ops.items = search rules in
     ap (λ n. slice_set c.flatten.new.ops.items n (op.Test c.in-Test.res c.in-Test.equal ((c.len.result - n) - 1))) at
     ∙ (ap (λ n. slice_set c.flatten.new.ops.items (length c.args.ops.now.items) (op.Test c.in-Test.res c.in-Test.equal ((n - length c.args.ops.now.items) - 1))) len
-    ∙ (test_done c.args.ops.now.items c.append-in-Test.new.ops.items c.flatten.new.ops.items _ c.in-Test.res c.in-Test.equal c.in-Test.body
+    ∙ (test_done c.args.ops.now.items c.append-in-Test.new.list.items c.flatten.new.ops.items _ c.in-Test.res c.in-Test.equal c.in-Test.body
     c.in_ok-append-in-Test.ensures c.in_ok-flatten-in-Test.ensures
     ∙ ap (λ s. c.args.ops.now.items ++ flat (length c.args.ops.now.items) (block_of (s ∷ []))) (sym c.in-Test.is)))
