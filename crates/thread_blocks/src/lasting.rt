@@ -1,6 +1,6 @@
 // How long a thread runs by itself.
 ghost use Rattle.std.specs.Prelude.{◌≡◌};
-ghost use Rattle.leap_rules.specs.Leap.{capacity_left, slice_left, thread_lasts};
+ghost use Rattle.leap_rules.specs.Leap.{capacity_left, thread_lasts};
 
 use crate::thread::Thread;
 use script_tree::Policy;
@@ -11,18 +11,11 @@ impl Thread {
     pub fn lasts(&self, most: u64, quantum: u64) -> u64
         ensures { result ≡ thread_lasts most quantum self.now }
     {
-        let slice = self.slice_lasts(most, quantum);
-        let capacity = self.capacity_lasts(most);
-        self.left().min(slice.min(capacity))
-    }
-
-    fn slice_lasts(&self, most: u64, quantum: u64) -> u64
-        ensures { result ≡ slice_left most quantum self.now.policy self.now.slice }
-    {
+        let left = self.left().min(most);
         match self.policy {
-            Policy::Fifo(_) => most,
-            Policy::Rr(_) => quantum.saturating_sub(self.slice),
-            Policy::Sporadic(_) => most,
+            Policy::Fifo(_) => left,
+            Policy::Rr(_) => left.min(quantum.saturating_sub(self.slice)),
+            Policy::Sporadic(_) => left.min(self.capacity_lasts(most)),
         }
     }
 

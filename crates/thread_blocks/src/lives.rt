@@ -8,7 +8,7 @@ ghost use Rattle.machine_rules.specs.declared.frame.BodyOf.TheVariants as body_o
 ghost use Rattle.machine_rules.specs.Cancellation.{request_acts, requested, without_cleanup};
 ghost use Rattle.machine_rules.specs.Lives.{with_joiner, without_life, without_top};
 ghost use Rattle.machine_rules.specs.Threads.{is_main, top_kind, top_left};
-ghost use Rattle.machine_rules.specs.Units.{advances, begins_cleanup, begins_finish, choice, in_unit, is_at_end, takes_unit};
+ghost use Rattle.machine_rules.specs.Units.{advances, begins_cleanup, begins_finish, choice, in_unit, takes_unit};
 ghost use Rattle.machine_rules.specs.Waking.{ending_with, new_frame, on_top};
 ghost use Rattle.machine_flat.specs.FlatBodies.{flat_bodies};
 ghost use Rattle.machine_flat.specs.Placed.{ArePlaced};
@@ -144,13 +144,6 @@ impl Thread {
         self.frames.insert(0, handler_frame(code, u));
     }
 
-    // Whether it is ending and takes no more units of its main body.
-    fn is_at_end(&self) -> bool
-        ensures { result ≡ is_at_end self.now }
-    {
-        self.is_ending && is_main(self.kind())
-    }
-
     // The next unit of its present body.
     #[inline(always)]
     fn advance(&mut self, code: &Code) -> Fetched
@@ -219,7 +212,7 @@ impl Thread {
         if left > 0 {
             return Fetched::Run(left);
         }
-        if self.is_at_end() {
+        if self.is_ending && is_main(self.kind()) {
             self.begin_ending(code)
         } else {
             self.advance(code)

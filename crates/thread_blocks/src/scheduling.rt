@@ -4,7 +4,7 @@ ghost use Rattle.machine_rules.specs.Threads.{is_runnable, is_blocked};
 ghost use Rattle.machine_rules.specs.Priorities.{assigned_of};
 ghost use Rattle.machine_rules.specs.Scheduling.{at_priority, takes_priority, with_policy, with_priority};
 ghost use Rattle.machine_rules.specs.Ticks.{slice_is_used, without_slice, tick_end};
-ghost use Rattle.leap_rules.specs.Quiet.{after_ticks, frames_after, slice_after};
+ghost use Rattle.leap_rules.specs.Quiet.{after_ticks, frames_after};
 ghost use Rattle.thread_blocks.specs.Room.{HasRoom};
 ghost use Rattle.thread_blocks.specs.Ends.{end_of};
 
@@ -68,9 +68,12 @@ impl Thread {
         ensures { self.new ≡ after_ticks k self.old }
     {
         self.ticks += k;
-        self.slice = slice_after(&self.policy, self.slice, k);
         charge_top(&mut self.frames, k);
-        charge_server(&mut self.server, k);
+        match self.policy {
+            Policy::Fifo(_) => {}
+            Policy::Rr(_) => self.slice += k,
+            Policy::Sporadic(_) => charge_server(&mut self.server, k),
+        }
     }
 
     /// Whether its round robin interval is used up.
@@ -120,17 +123,6 @@ fn policy_at(policy: &Policy, p: Prio) -> Policy
                 None => unreachable!(),
             }
         }
-    }
-}
-
-fn slice_after(policy: &Policy, slice: u64, k: u64) -> u64
-    requires { slice + k ≤ 2 ^ 63 }
-    ensures { result ≡ slice_after k policy.now slice }
-{
-    match policy {
-        Policy::Fifo(_) => slice,
-        Policy::Rr(_) => slice + k,
-        Policy::Sporadic(_) => slice,
     }
 }
 

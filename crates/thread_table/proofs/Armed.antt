@@ -2,7 +2,7 @@
 use Rattle.std.proofs.Common.{◌≡◌, ◌≢◌, ◌<◌, ◌≤◌, ◌+◌, ◌∙◌, ℕ, zero, suc, List, [], ◌∷◌, Bool, true, false, None, Option, Some, ap, arith, inl, inr, length, refl, replicate, slice_set, sym, take}
 use Rattle.std.specs.Prelude.{if◌then◌else◌, option_and_then, option_map}
 use Rattle.std.proofs.lemmas.Bool.Decides.{eqb_tells}
-use Rattle.std.proofs.lemmas.List.{get_or-replicate, get_or-set_other, get_or-set_same, length-replicate, length-set, take_all}
+use Rattle.std.proofs.lemmas.List.{get_or-replicate, get_or-set_other, get_or-set_same, length-replicate, length-set, set-get_or, take_all}
 use Rattle.script_flat.specs.declared.cursor.Cursor.{Cursor}
 use Rattle.sporadic_server.specs.declared.Replenish.{Replenish}
 use Rattle.sporadic_server.specs.Server.{ServerState, activate, charge_ticks, is_high, next_due, set_high}
@@ -12,7 +12,7 @@ use Rattle.machine_rules.specs.State.{Thread, Timer}
 use Rattle.machine_rules.specs.Threads.{no_thread, thread_in}
 use Rattle.machine_rules.proofs.Reading.{changed-keeps}
 use Rattle.timer_wheel.specs.Dues.{due_of}
-use Rattle.thread_table.specs.Tied.{AreArmed, timed}
+use Rattle.thread_table.specs.Tied.{AreArmed, refilling, timed, waiting_until}
 use Rattle.thread_table.specs.Times.{refill_of, start_of, timeout_of}
 
 -- ---- one thread changes
@@ -80,6 +80,38 @@ pub armed_after : (threads : List (Thread Cursor)) (timers : List Timer) (dues n
 armed_after threads timers dues new t th few known is h =
     rw is (armed_anew threads (slice_set threads t th) timers dues t (thread_in (slice_set threads t th) t) (omega (arith, few, known)) refl
     (λ u other. get_or-set_other threads t u th no_thread other) h)
+
+-- ---- some items of the thread are armed anew
+
+due_kept : (dues : List (Option ℕ)) (i : ℕ) (d : Option ℕ) → due_of i dues ≡ d → slice_set dues i d ≡ dues
+due_kept dues i d is = rw (← is) (set-get_or dues i None)
+
+-- a thread whose server alone changes
+pub armed_refilled : (threads : List (Thread Cursor)) (timers : List Timer) (dues new : List (Option ℕ)) (t : ℕ) (th : Thread Cursor) → length threads ≤ 64 → t < length threads →
+    start_of th ≡ start_of (thread_in threads t) → timeout_of th ≡ timeout_of (thread_in threads t) →
+    new ≡ refilling t (thread_in (slice_set threads t th) t) dues → AreArmed threads timers dues → AreArmed (slice_set threads t th) timers new
+armed_refilled threads timers dues new t th few known start timeout is h =
+    let small : t < 256 = omega (arith, few, known) in
+    let here : thread_in (slice_set threads t th) t ≡ th = get_or-set_same threads t th no_thread known in
+    let one = refilling t th dues in
+    let started : due_of (256 + t) one ≡ start_of th =
+    get_or-set_other dues t (256 + t) (refill_of th) None (omega (arith, small)) ∙ h.starts t small ∙ sym start in
+    let ended : due_of (512 + t) one ≡ timeout_of th =
+    get_or-set_other dues t (512 + t) (refill_of th) None (omega (arith, small)) ∙ h.timeouts t small ∙ sym timeout in
+    let all : timed t th dues ≡ one =
+    ap (λ (ds : List (Option ℕ)). slice_set ds (512 + t) (timeout_of th)) (due_kept one (256 + t) (start_of th) started) ∙ due_kept one (512 + t) (timeout_of th) ended in
+    armed_after threads timers dues new t th few known (is ∙ ap (λ (x : Thread Cursor). refilling t x dues) here ∙ sym all ∙ ap (λ (x : Thread Cursor). timed t x dues) (sym here)) h
+
+-- a thread that waits until then, with the server that it had
+pub armed_waiting : (threads : List (Thread Cursor)) (timers : List Timer) (dues new : List (Option ℕ)) (t : ℕ) (th : Thread Cursor) (due : Option ℕ) → length threads ≤ 64 → t < length threads →
+    refill_of th ≡ refill_of (thread_in threads t) → start_of th ≡ None → timeout_of th ≡ due →
+    new ≡ waiting_until t due dues → AreArmed threads timers dues → AreArmed (slice_set threads t th) timers new
+armed_waiting threads timers dues new t th due few known refill start timeout is h =
+    let small : t < 256 = omega (arith, few, known) in
+    let here : thread_in (slice_set threads t th) t ≡ th = get_or-set_same threads t th no_thread known in
+    let refilled : slice_set dues t (refill_of th) ≡ dues = due_kept dues t (refill_of th) (h.refills t small ∙ sym refill) in
+    let all : timed t th dues ≡ waiting_until t due dues = rw (refilled, start, timeout) refl in
+    armed_after threads timers dues new t th few known (is ∙ sym all ∙ ap (λ (x : Thread Cursor). timed t x dues) (sym here)) h
 
 -- a thread that changes in nothing that falls due
 pub still_armed : (threads : List (Thread Cursor)) (timers : List Timer) (dues : List (Option ℕ)) (t : ℕ) (f : Thread Cursor → Thread Cursor) →

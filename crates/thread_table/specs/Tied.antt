@@ -35,6 +35,14 @@ pub record AreArmed (threads : List (Thread Cursor)) (timers : List Timer) (dues
 abbrev pub timed : ℕ → Thread Cursor → List (Option ℕ) → List (Option ℕ)
 timed t th dues = slice_set (slice_set (slice_set dues t (refill_of th)) (256 + t) (start_of th)) (512 + t) (timeout_of th)
 
+-- the refill of one thread is armed anew
+abbrev pub refilling : ℕ → Thread Cursor → List (Option ℕ) → List (Option ℕ)
+refilling t th dues = slice_set dues t (refill_of th)
+
+-- a thread has started, and its wait ends then by itself; None where it waits without a limit, or not at all
+abbrev pub waiting_until : ℕ → Option ℕ → List (Option ℕ) → List (Option ℕ)
+waiting_until t due dues = slice_set (slice_set dues (256 + t) None) (512 + t) due
+
 -- the expiry of one timer is armed anew
 abbrev pub expiring : ℕ → Timer → List (Option ℕ) → List (Option ℕ)
 expiring k timer dues = slice_set dues (768 + k) timer.due

@@ -23,7 +23,7 @@ ghost use Rattle.thread_table.specs.Movers.{KeepsExec, TellsMoved};
 use crate::links::{reassign, reassign_charged, stop_waiting};
 use crate::movers::thread_of;
 use crate::table::Table;
-use crate::times::retime;
+use crate::times::{retime_refill, time_wait};
 use script_flat::{Code, Fetched};
 use script_tree::Policy;
 use sporadic_server::Replenish;
@@ -50,7 +50,7 @@ impl Table {
     {
         let moved = stop_waiting(&mut self.chain, &mut self.waits, t);
         self.threads.get_mut(t).wake(res, value);
-        retime(&self.threads, &mut self.wheel, t);
+        time_wait(&mut self.wheel, t, None);
         thread_of(moved)
     }
 
@@ -97,7 +97,7 @@ impl Table {
         ensures moved { TellsMoved self.old self.new result }
     {
         self.threads.get_mut(t).set_policy(new, now);
-        retime(&self.threads, &mut self.wheel, t);
+        retime_refill(&self.threads, &mut self.wheel, t);
         thread_of(reassign(&self.threads, &mut self.chain, &mut self.waits, t))
     }
 
@@ -112,7 +112,7 @@ impl Table {
         ensures moved { TellsMoved self.old self.new result.1 }
     {
         let planned = self.threads.get_mut(t).plan();
-        retime(&self.threads, &mut self.wheel, t);
+        retime_refill(&self.threads, &mut self.wheel, t);
         let moved = reassign(&self.threads, &mut self.chain, &mut self.waits, t);
         (planned, thread_of(moved))
     }
@@ -128,7 +128,7 @@ impl Table {
         ensures moved { TellsMoved self.old self.new result.1 }
     {
         let refilled = self.threads.get_mut(t).refill();
-        retime(&self.threads, &mut self.wheel, t);
+        retime_refill(&self.threads, &mut self.wheel, t);
         let moved = reassign(&self.threads, &mut self.chain, &mut self.waits, t);
         (refilled, thread_of(moved))
     }

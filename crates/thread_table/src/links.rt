@@ -1,5 +1,5 @@
 // The chain and the waiters, together.
-ghost use Rattle.std.specs.Prelude.{◌≡◌, ◌<◌, IfSome, None, Some, false, length, slice_set};
+ghost use Rattle.std.specs.Prelude.{◌≡◌, ◌<◌, IfSome, IsSome, None, Some, false, length, slice_set};
 ghost use Rattle.machine_rules.specs.Priorities.{assigned_of, mutex_waited};
 ghost use Rattle.machine_rules.specs.Threads.{thread_in};
 ghost use Rattle.wait_lists.specs.Places.{place_in};
@@ -63,6 +63,7 @@ pub(crate) fn reassign_charged(
 }
 
 /// The thread waits for nothing in an order.
+#[inline(always)]
 #[tactic(auto, using(crate::proofs::Places::left_placed, crate::proofs::Places::left_nowhere))]
 pub(crate) fn stop_waiting(chain: &mut Chain, waits: &mut Waits, t: Tid) -> Option<Moved>
     requires known { t < length chain.old.claims }
@@ -73,11 +74,27 @@ pub(crate) fn stop_waiting(chain: &mut Chain, waits: &mut Waits, t: Tid) -> Opti
     ensures nowhere { place_in waits.new t ≡ None }
     ensures moved { TellsMoved (length chain.old.claims) (exec_of chain.old) (exec_of chain.new) waits.new result }
 {
-    if chain.awaits(t) {
-        return chain.stop_wait(waits, t);
-    }
     if waits.place_of(t).is_none() {
         return None;
+    }
+    leave_place(chain, waits, t)
+}
+
+// The thread leaves its place among the waiters.
+#[inline(never)]
+#[tactic(auto, using(crate::proofs::Places::left_placed, crate::proofs::Places::left_nowhere))]
+fn leave_place(chain: &mut Chain, waits: &mut Waits, t: Tid) -> Option<Moved>
+    requires known { t < length chain.old.claims }
+    requires placed { IsPlaced chain.old waits.old }
+    requires stands { IsSome (place_in waits.old t) }
+    ensures chain { chain.new ≡ with_claim t (waiting_for None) chain.old }
+    ensures waits { ArePriced chain.new (left t waits.old) waits.new }
+    ensures placed { IsPlaced chain.new waits.new }
+    ensures nowhere { place_in waits.new t ≡ None }
+    ensures moved { TellsMoved (length chain.old.claims) (exec_of chain.old) (exec_of chain.new) waits.new result }
+{
+    if chain.awaits(t) {
+        return chain.stop_wait(waits, t);
     }
     waits.leave(t);
     None

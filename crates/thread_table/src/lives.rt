@@ -13,7 +13,7 @@ ghost use Rattle.thread_table.specs.Movers.{TellsMoved, TellsMovedBeside};
 use crate::links::{begin_waiting, reassign, stop_waiting};
 use crate::movers::{beside, thread_of};
 use crate::table::Table;
-use crate::times::retime;
+use crate::times::{retime, time_wait};
 use thread_blocks::{Frame, Status, Waiting};
 use tick_num::{SigSet, Tick, Tid};
 
@@ -59,10 +59,10 @@ impl Table {
         ensures table { self.new ≡ with_thread t (put_to_wait (waiting_of waiting)) self.old }
         ensures moved { TellsMoved self.old self.new result }
     {
+        self.threads.get_mut(t).block(waiting);
+        time_wait(&mut self.wheel, t, waiting.due);
         stop_waiting(&mut self.chain, &mut self.waits, t);
         let moved = begin_waiting(&mut self.chain, &mut self.waits, t, &waiting);
-        self.threads.get_mut(t).block(waiting);
-        retime(&self.threads, &mut self.wheel, t);
         thread_of(moved)
     }
 }

@@ -14,7 +14,7 @@ ghost use Rattle.thread_table.specs.Movers.{KeepsExec, KeepsOthers, TellsMoved};
 use crate::links::stop_waiting;
 use crate::movers::thread_of;
 use crate::table::Table;
-use crate::times::retime;
+use crate::times::time_wait;
 use tick_num::{ObjId, Res, Tid};
 use wait_lists::WaitObj;
 
@@ -78,7 +78,7 @@ impl Table {
         let woken = stop_waiting(&mut self.chain, &mut self.waits, t);
         self.chain.take(&mut self.waits, k, t);
         self.threads.get_mut(t).wake(res, value);
-        retime(&self.threads, &mut self.wheel, t);
+        time_wait(&mut self.wheel, t, None);
         (thread_of(released), thread_of(woken))
     }
 

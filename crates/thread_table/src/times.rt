@@ -4,7 +4,7 @@ ghost use Rattle.machine_rules.specs.Agenda.{agenda};
 ghost use Rattle.machine_rules.specs.DueItems.{next_item};
 ghost use Rattle.machine_rules.specs.Threads.{thread_in};
 ghost use Rattle.thread_table.specs.Table.{machine_at, machine_with};
-ghost use Rattle.thread_table.specs.Tied.{AreArmed, timed};
+ghost use Rattle.thread_table.specs.Tied.{AreArmed, refilling, timed, waiting_until};
 ghost use Rattle.thread_table.specs.Times.{in_time, least_due};
 
 use crate::open::tid_of;
@@ -25,14 +25,35 @@ fn set_due_at(wheel: &mut Wheel, id: ItemId, at: Option<u64>)
     }
 }
 
+/// The refill of the thread's server is armed as it is due now.
+#[inline(always)]
+pub(crate) fn retime_refill(threads: &Threads, wheel: &mut Wheel, t: Tid)
+    requires thread { t < length threads.now }
+    requires numbers { length wheel.old.dues ≡ 1024 }
+    ensures { wheel.new.dues ≡ refilling t (thread_in threads.now t) wheel.old.dues }
+{
+    wheel.set_due(Item::Refill(t).number(), threads.get(t).refill_due());
+}
+
+/// The thread has started, and its wait ends then by itself; with `None` it waits without a limit, or not at all.
+#[inline(always)]
+pub(crate) fn time_wait(wheel: &mut Wheel, t: Tid, due: Option<Tick>)
+    requires thread { t < 256 }
+    requires numbers { length wheel.old.dues ≡ 1024 }
+    ensures { wheel.new.dues ≡ waiting_until t due wheel.old.dues }
+{
+    wheel.set_due(Item::Start(t).number(), None);
+    wheel.set_due(Item::Timeout(t).number(), due);
+}
+
 /// The items of the thread are armed as they are due now.
 pub(crate) fn retime(threads: &Threads, wheel: &mut Wheel, t: Tid)
     requires thread { t < length threads.now }
     requires numbers { length wheel.old.dues ≡ 1024 }
     ensures { wheel.new.dues ≡ timed t (thread_in threads.now t) wheel.old.dues }
 {
+    retime_refill(threads, wheel, t);
     let thread = threads.get(t);
-    wheel.set_due(Item::Refill(t).number(), thread.refill_due());
     set_due_at(wheel, Item::Start(t).number(), thread.start_due());
     wheel.set_due(Item::Timeout(t).number(), thread.wait_due());
 }

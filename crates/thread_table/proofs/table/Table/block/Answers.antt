@@ -1,13 +1,14 @@
 use Rattle.std.proofs.Common.{ap, length, slice_set, subst, ◌∙◌}
 use Rattle.machine_rules.specs.Waking.{put_to_wait}
 use Rattle.thread_blocks.specs.Plain.{waiting_of}
+use Rattle.thread_table.specs.Times.{refill_of, start_of, timeout_of}
 use Rattle.thread_table.proofs.Moved.{begun_tied}
 use Rattle.std.proofs.lemmas.List.{length-set}
 use Rattle.inherit_chain.specs.Chains.{Links, exec_of}
 use Rattle.inherit_chain.specs.Moves.{TellsMoved}
 use Rattle.thread_table.proofs.ToldMoves.{same_links, told}
 use Rattle.thread_table.proofs.Ties.{awaits_none}
-use Rattle.thread_table.proofs.Armed.{armed_after}
+use Rattle.thread_table.proofs.Armed.{armed_waiting}
 use Rattle.thread_table.proofs.table.Table.block.Goals as goal
 
 pub invariant_of-self : goal.invariant_of-self
@@ -18,7 +19,8 @@ invariant_of-self c = record {
       begun_tied s.threads s.chain c.stop_waiting.new.chain c.begin_waiting-moved.new.chain s.waits c.stop_waiting.new.waits c.begin_waiting-moved.new.waits c.args.t w c.block.new.self known
       (c.block.ensures ∙ ap (put_to_wait w) c.get_mut.ensures.value) c.stop_waiting.ensures.chain c.stop_waiting.ensures.waits c.begin_waiting-moved.ensures.chain c.begin_waiting-moved.ensures.waits c.self.invariant.tied);
   armed = (let s = c.self.inside in
-      armed_after s.threads s.timers s.wheel.dues _ c.args.t c.block.new.self c.self.invariant.tied.few (rw (← c.self.view_is) at c.requires.known) c.retime.ensures c.self.invariant.armed);
+      let is = c.block.ensures ∙ ap (put_to_wait (waiting_of c.args.waiting)) c.get_mut.ensures.value in
+      armed_waiting s.threads s.timers s.wheel.dues _ c.args.t c.block.new.self c.args.waiting.due c.self.invariant.tied.few (rw (← c.self.view_is) at c.requires.known) (ap refill_of is) (ap start_of is) (ap timeout_of is) c.time_wait.ensures c.self.invariant.armed);
 }
 
 pub returns-clause-moved : goal.returns-clause-moved
@@ -32,5 +34,5 @@ returns-clause-moved c =
     (told s.timers s.threads (slice_set s.threads c.args.t c.block.new.self) s.chain b.new.chain s.waits b.new.waits b.result (length-set s.threads c.args.t c.block.new.self) c.self.invariant.tied
     (invariant_of-self c).tied moved)
 
-pub retime-requires-clause-numbers : goal.retime-requires-clause-numbers
-retime-requires-clause-numbers c = c.self.invariant.armed.numbers
+pub time_wait-requires-clause-numbers : goal.time_wait-requires-clause-numbers
+time_wait-requires-clause-numbers c = c.self.invariant.armed.numbers

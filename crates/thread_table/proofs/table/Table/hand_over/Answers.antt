@@ -11,9 +11,10 @@ use Rattle.inherit_chain.specs.declared.walk.Moved.{Moved}
 use Rattle.inherit_chain.specs.Chains.{Links, waiting_for}
 use Rattle.thread_table.specs.Movers.{TellsMoved}
 use Rattle.thread_table.specs.Tied.{IsTied}
+use Rattle.thread_table.specs.Times.{refill_of, start_of, timeout_of}
 use Rattle.thread_table.proofs.Moved.{moved_tied, mutex_tied, wait_set}
 use Rattle.thread_table.proofs.ToldMoves.{handed_over, table_with, thread_alone, told}
-use Rattle.thread_table.proofs.Armed.{armed_after}
+use Rattle.thread_table.proofs.Armed.{armed_waiting}
 use Rattle.thread_table.proofs.table.Table.hand_over.Goals.{After-thread_of-2}
 use Rattle.thread_table.proofs.table.Table.hand_over.Goals as goal
 
@@ -56,7 +57,8 @@ pub invariant_of-self : goal.invariant_of-self
 invariant_of-self c = record {
   tied = (rw (c.wake.ensures, c.get_mut.ensures.value) (taken_tied c));
   armed = (let s = c.self.inside in
-      armed_after s.threads s.timers s.wheel.dues _ c.args.t c.wake.new.self c.self.invariant.tied.few (rw (← c.self.view_is) at c.requires.known) c.retime.ensures c.self.invariant.armed);
+      let is = c.wake.ensures ∙ ap (woken c.args.res c.args.value) c.get_mut.ensures.value in
+      armed_waiting s.threads s.timers s.wheel.dues _ c.args.t c.wake.new.self None c.self.invariant.tied.few (rw (← c.self.view_is) at c.requires.known) (ap refill_of is) (ap start_of is) (ap timeout_of is) c.time_wait.ensures c.self.invariant.armed);
 }
 
 pub returns-clause-table : goal.returns-clause-table
@@ -95,5 +97,5 @@ returns-clause-others c =
     (thread_alone c.args.t c.take.result c.take.ensures.alone) refl (changed-length no_thread c.args.t f s.threads)
     (λ u other. sym (get_or-set_other s.threads c.args.t u (f (thread_in s.threads c.args.t)) no_thread other)))
 
-pub retime-requires-clause-numbers : goal.retime-requires-clause-numbers
-retime-requires-clause-numbers c = c.self.invariant.armed.numbers
+pub time_wait-requires-clause-numbers : goal.time_wait-requires-clause-numbers
+time_wait-requires-clause-numbers c = c.self.invariant.armed.numbers

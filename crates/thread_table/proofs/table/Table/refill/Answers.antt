@@ -1,11 +1,12 @@
 use Rattle.std.proofs.Common.{ap, refl, slice_set, ◌∙◌}
 use Rattle.sporadic_server.specs.Server.{refill}
 use Rattle.machine_rules.specs.Servers.{with_server}
+use Rattle.thread_table.specs.Times.{start_of, timeout_of}
 use Rattle.thread_table.proofs.Ties.{placed}
 use Rattle.thread_table.proofs.Moved.{reassigned_tied}
 use Rattle.std.proofs.lemmas.List.{length-set}
 use Rattle.thread_table.proofs.ToldMoves.{told}
-use Rattle.thread_table.proofs.Armed.{armed_after}
+use Rattle.thread_table.proofs.Armed.{armed_refilled}
 use Rattle.thread_table.proofs.table.Table.refill.Goals as goal
 
 pub invariant_of-self : goal.invariant_of-self
@@ -16,7 +17,8 @@ invariant_of-self c = record {
       reassigned_tied s.threads s.chain c.reassign-moved.new.chain s.waits c.reassign-moved.new.waits c.args.t f c.refill-refilled.new.self known
       (c.refill-refilled.ensures.thread ∙ ap f c.get_mut.ensures.value) (λ th. refl) c.reassign-moved.ensures.chain c.reassign-moved.ensures.waits c.self.invariant.tied);
   armed = (let s = c.self.inside in
-      armed_after s.threads s.timers s.wheel.dues _ c.args.t c.refill-refilled.new.self c.self.invariant.tied.few (rw (← c.self.view_is) at c.requires.known) c.retime.ensures c.self.invariant.armed);
+      let is = c.refill-refilled.ensures.thread ∙ ap (with_server refill) c.get_mut.ensures.value in
+      armed_refilled s.threads s.timers s.wheel.dues _ c.args.t c.refill-refilled.new.self c.self.invariant.tied.few (rw (← c.self.view_is) at c.requires.known) (ap start_of is) (ap timeout_of is) c.retime_refill.ensures c.self.invariant.armed);
 }
 
 pub reassign-moved-requires-clause-placed : goal.reassign-moved-requires-clause-placed
@@ -29,5 +31,5 @@ returns-clause-moved c =
     (told s.timers s.threads (slice_set s.threads c.args.t c.refill-refilled.new.self) s.chain c.reassign-moved.new.chain s.waits c.reassign-moved.new.waits c.reassign-moved.result (length-set s.threads c.args.t c.refill-refilled.new.self) c.self.invariant.tied
     (invariant_of-self c).tied c.reassign-moved.ensures.moved)
 
-pub retime-requires-clause-numbers : goal.retime-requires-clause-numbers
-retime-requires-clause-numbers c = c.self.invariant.armed.numbers
+pub retime_refill-requires-clause-numbers : goal.retime_refill-requires-clause-numbers
+retime_refill-requires-clause-numbers c = c.self.invariant.armed.numbers
