@@ -1,6 +1,5 @@
 -- Who accepts a signal, by the waiters' own law.
-use Rattle.std.proofs.Common.{◌≡◌, ◌≢◌, ◌≤◌, ◌<◌, ◌∙◌, ◌+◌, ◌∷◌, [], inl, inr, ℕ, zero, suc, List, None, Option, Some, ap, arith, get_or, length, refl, set, sym}
-use Rattle.std.specs.Prelude.{slice_index_or}
+use Rattle.std.proofs.Common.{◌≡◌, ◌≤◌, ◌<◌, ◌∙◌, ◌+◌, ◌∷◌, [], inl, inr, ℕ, zero, suc, List, None, Option, Some, ap, arith, get_or, length, set, sym}
 use Rattle.std.proofs.lemmas.Bool.Decides.{eqb_tells}
 use Rattle.std.proofs.lemmas.List.{get_or-set_same, get_or-set_other, length-set}
 use Rattle.script_flat.specs.declared.cursor.Cursor.{Cursor}

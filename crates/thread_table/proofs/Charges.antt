@@ -1,8 +1,6 @@
 -- A charge at a low priority leaves the assigned priority of the thread as it is.
 use Rattle.std.proofs.Common.{◌≡◌, ◌∙◌, ◌<◌, ℕ, zero, suc, List, [], ◌∷◌, Option, None, Some, Bool, true, false, if◌then◌else◌, ap, is_some, length, option_map, arith, refl, sym}
 use Rattle.script_flat.specs.declared.cursor.Cursor.{Cursor}
-use Rattle.script_tree.specs.declared.policy.Policy.{Policy}
-use Rattle.script_tree.specs.declared.policy.Policy.TheVariants as policy
 use Rattle.sporadic_server.specs.Server.{ServerState, assigned, charge_ticks, is_high}
 use Rattle.machine_rules.specs.Priorities.{Claim, assigned_in, assigned_of, assigned_under, claims}
 use Rattle.machine_rules.specs.Servers.{has_high}

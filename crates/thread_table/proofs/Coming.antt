@@ -1,6 +1,6 @@
 -- What the wheel tells of the machine: its first due item.
 use Rattle.std.proofs.Common.{◌≡◌, ◌<◌, ◌≤◌, ◌+◌, ◌-◌, ◌∙◌, ◌⊎◌, ℕ, zero, suc, List, [], ◌∷◌, ◌++◌, Bool, true, false, None, Option, Some, ap, arith, inl, inr, length, nat_lt, refl, subst, sym}
-use Rattle.std.specs.Prelude.{filter, filter_map, if◌then◌else◌, map, nat_le, option_map}
+use Rattle.std.specs.Prelude.{filter, if◌then◌else◌, map, nat_le}
 use Rattle.std.specs.List.{range_with_len}
 use Rattle.std.proofs.lemmas.Bool.Decides.{eqb_tells}
 use Rattle.std.proofs.lemmas.List.{get_or_past}
@@ -8,15 +8,14 @@ use Rattle.script_flat.specs.declared.cursor.Cursor.{Cursor}
 use Rattle.tick_num.specs.Items.{item_of}
 use Rattle.tick_num.specs.declared.item.Item.{Item}
 use Rattle.tick_num.specs.declared.item.Item.TheVariants as item
-use Rattle.machine_rules.specs.Agenda.{Coming, agenda, coming_at, coming_of}
 use Rattle.machine_rules.specs.DueItems.{first_item, has_come, next_item, refill_due, start_due, start_in, timeout_due, timer_due}
 use Rattle.machine_rules.specs.State.{Machine, Mutex, Thread, Timer}
-use Rattle.machine_rules.specs.Threads.{no_thread, no_timer, thread_in, thread_numbers}
+use Rattle.machine_rules.specs.Threads.{no_thread, no_timer, thread_in}
 use Rattle.interval_timers.specs.Timers.{timer_in}
-use Rattle.timer_wheel.specs.Dues.{IsFirstDue, IsLeastDue, NoneIsArmed, NoneIsDue, due_of, earlier}
-use Rattle.thread_table.specs.Table.{machine_at, machine_with}
+use Rattle.timer_wheel.specs.Dues.{IsFirstDue, NoneIsDue, due_of}
+use Rattle.thread_table.specs.Table.{machine_at}
 use Rattle.thread_table.specs.Tied.{AreArmed}
-use Rattle.thread_table.specs.Times.{in_time, last_instant, least_due, refill_of, start_of, timeout_of}
+use Rattle.thread_table.specs.Times.{in_time, last_instant, refill_of, start_of, timeout_of}
 
 pub lt_or : (m n : ℕ) → (m < n) ⊎ (n ≤ m)
 lt_or zero zero = inr (omega arith)

@@ -1,21 +1,15 @@
 -- The wheel has the expiries of the timers, as one of them changes.
-use Rattle.std.proofs.Common.{◌≡◌, ◌≢◌, ◌<◌, ◌≤◌, ◌+◌, ◌∙◌, ℕ, zero, suc, List, [], ◌∷◌, None, Option, Some, ap, arith, inl, inr, length, refl, slice_set, sym}
+use Rattle.std.proofs.Common.{◌≡◌, ◌≤◌, ◌∙◌, ℕ, zero, suc, List, [], ◌∷◌, None, Option, Some, ap, length, refl, sym}
 use Rattle.std.specs.List.{filter_map}
 use Rattle.std.specs.Prelude.{option_and_then}
-use Rattle.std.proofs.lemmas.Bool.Decides.{eqb_tells}
-use Rattle.std.proofs.lemmas.List.{get_or-set_other, get_or-set_same, length-set}
 use Rattle.script_tree.specs.declared.decl.Decl.{Decl}
 use Rattle.script_tree.specs.declared.decl.Decl.TheVariants as decl
 use Rattle.script_tree.specs.declared.decl.Kind.TheVariants as kind
 use Rattle.script_flat.specs.declared.cursor.Cursor.{Cursor}
 use Rattle.machine_rules.specs.Declarations.{named, timer_kind}
-use Rattle.machine_rules.specs.Lists.{changed_at}
 use Rattle.machine_rules.specs.State.{Thread, Timer}
-use Rattle.machine_rules.specs.Threads.{no_timer}
-use Rattle.machine_rules.proofs.Reading.{changed-keeps, changed-length}
 use Rattle.interval_timers.specs.Timers.{timer_in}
-use Rattle.timer_wheel.specs.Dues.{due_of}
-use Rattle.thread_table.specs.Tied.{AreArmed, expiring}
+use Rattle.thread_table.specs.Tied.{AreArmed}
 
 -- timers of which none is armed
 pub disarmed : (threads : List (Thread Cursor)) (timers : List Timer) (dues : List (Option ℕ)) → length timers ≤ 32 → ((k : ℕ) → (timer_in timers k).due ≡ None) → AreArmed threads [] dues → AreArmed threads timers dues

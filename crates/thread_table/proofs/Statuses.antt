@@ -1,15 +1,13 @@
 -- What changes of a thread leave of its status and its claim.
-use Rattle.std.proofs.Common.{◌≡◌, ◌∙◌, ℕ, zero, suc, Bool, true, false, List, [], ◌∷◌, None, Option, Some, ap, refl}
-use Rattle.std.specs.Prelude.{◌&&◌, ◌==◌, option_map}
+use Rattle.std.proofs.Common.{◌≡◌, ◌∙◌, ℕ, List, [], ◌∷◌, None, Option, Some, ap, refl}
+use Rattle.std.specs.Prelude.{option_map}
 use Rattle.script_tree.specs.declared.policy.Policy.{Policy}
 use Rattle.script_tree.specs.declared.policy.Policy.TheVariants as policy
 use Rattle.sporadic_server.specs.Server.{ServerState, activate}
 use Rattle.machine_rules.specs.Bodies.{Bodies}
-use Rattle.machine_rules.specs.Cancellation.{runs_cleanup, without_cleanup}
 use Rattle.machine_rules.specs.Priorities.{assigned_under, claim_of, mutex_awaited_by}
 use Rattle.machine_rules.specs.Servers.{with_server}
 use Rattle.machine_rules.specs.State.{Frame, Thread}
-use Rattle.machine_rules.specs.Threads.{is_main, top_kind, top_left}
 use Rattle.machine_rules.specs.Units.{Following, advances, advancing, begins_finish, cleaning_up, continuing, finishing, following, frame_begins, in_cleanup, in_unit, next_of, takes_unit}
 
 -- what goes by neither frames nor cleanup handlers
