@@ -16,13 +16,13 @@ leap-requires-clause-room g c =
     let p = c.args.p.now in
     let before = thread_at p.machine c.args.t in
     let th = (in_unit (flat_bodies p.code) before).thread in
-    let is : c.max-k.result ≡ unit_length c.args.near p.machine.quantum th = search rules in
+    let is : c.max-ticks.result ≡ unit_length c.args.near p.machine.quantum th = search rules in
     let within = within_unit (flat_bodies p.code) p.machine.now before c.requires.within in
-    subst (λ (x : Thread Cursor). HasRoom c.max-k.result x) (sym c.take_unit-unit.ensures.thread)
+    subst (λ (x : Thread Cursor). HasRoom c.max-ticks.result x) (sym c.take_unit-unit.ensures.thread)
     (subst (λ (n : ℕ). HasRoom n th) (sym is) (room_for p.machine.now c.args.near c.requires.early p.machine.quantum th within))
 
 pub returns-clause-state : goal.returns-clause-state
 returns-clause-state g c =
     let p = c.args.p.now in
     let x = (in_unit (flat_bodies p.code) (thread_at p.machine c.args.t)).thread in
-    taken_and_leapt c.args.t c.max-k.result x p c.take_unit-unit.new.self c.leap.new.self c.take_unit-unit.ensures.state c.take_unit-unit.ensures.thread c.leap.ensures.state
+    taken_and_leapt c.args.t c.max-ticks.result x p c.take_unit-unit.new.self c.leap.new.self c.take_unit-unit.ensures.state c.take_unit-unit.ensures.thread c.leap.ensures.state

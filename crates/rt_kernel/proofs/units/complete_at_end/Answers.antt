@@ -1,4 +1,5 @@
-use Rattle.std.proofs.Common.{◌≡◌, ◌∙◌, ℕ, zero, suc, refl, subst}
+use Rattle.std.proofs.Common.{◌≡◌, ◌∙◌, ℕ, zero, suc, arith, false, refl, subst, sym}
+use Rattle.std.specs.Prelude.{◌==◌}
 use Rattle.pse52_trace.specs.Tells.{Tells}
 use Rattle.pse52_trace.proofs.Tells.{tells_nothing}
 use Rattle.script_flat.specs.declared.cursor.Cursor.{Cursor}
@@ -17,10 +18,11 @@ later_nothing : (bodies : Bodies Cursor) (n t : ℕ) (u : unit.Unit) (s : Turn C
 later_nothing bodies zero t u s h = absurd (h refl)
 later_nothing bodies (suc n) t u s h = refl
 
-pub returns-else-left-eq0-clause-told : goal.returns-else-left-eq0-clause-told
-returns-else-left-eq0-clause-told g c =
+pub returns-else-charged-clause-told : goal.returns-else-charged-clause-told
+returns-else-charged-clause-told g c =
     let p = c.args.p.now in
     let left = top_left (thread_at p.machine c.args.t).frames in
-    let later = λ (e : left ≡ 0). c.if-left-eq0.false (c.left.ensures ∙ e) in
+    let some : (left == 0) ≡ false = sym c.requires.complete ∙ c.if-charged.false in
+    let later : left ≡ 0 → ⊥ = λ e. absurd (grind arith) in
     subst (λ (s : Turn Cursor). Tells g.K.Sink.text g.K.Sink.faults p.names c.args.out.now c.args.out.now s.events)
-    (later_nothing (flat_bodies p.code) left c.args.t (unit_of p.code c.args.unit.now) (turn p) later) (tells_nothing _ _ _ _)
+    (later_nothing (flat_bodies p.code) left c.args.t (unit_of p.code c.args.charged.now.unit) (turn p) later) (tells_nothing _ _ _ _)
