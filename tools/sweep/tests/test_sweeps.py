@@ -103,6 +103,11 @@ def engines() -> list[str]:
     return ["parallel", "xargs"]
 
 
+def heed_interrupts() -> None:
+    """A shell has what it starts in the background ignore interrupts, and so would all that starts there."""
+    signal.signal(signal.SIGINT, signal.SIG_DFL)
+
+
 class Folder(unittest.TestCase):
     def setUp(self) -> None:
         holder = tempfile.TemporaryDirectory()
@@ -168,7 +173,7 @@ class Sweeps(Folder):
         words = self.words("--jobs", "2", program=program)
         for round, how in enumerate((signal.SIGKILL, signal.SIGINT, signal.SIGTERM), 1):
             (self.folder / "limit").write_text(str(4 * round))
-            started = subprocess.Popen(words, stdout=subprocess.DEVNULL, stderr=subprocess.DEVNULL)
+            started = subprocess.Popen(words, stdout=subprocess.DEVNULL, stderr=subprocess.DEVNULL, preexec_fn=heed_interrupts)
             rows = self.folder / "two.rows"
             before = rows.read_text().count("\n") if rows.exists() else 1
             for _ in range(1200):
