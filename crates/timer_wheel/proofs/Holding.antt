@@ -1,5 +1,5 @@
 -- Items that are armed and disarmed, and what the slots tell of due ticks.
-use Rattle.std.proofs.Common.{if◌then◌else◌, ltb-true, ltb-false, ◌≡◌, ◌≢◌, ◌⊎◌, inl, inr, ⊎_elim, ℕ, zero, suc, ◌+◌, ◌*◌, ◌/◌, ◌^◌, ◌-◌, ◌<◌, ◌≤◌, Bool, true, false, nat_lt, replicate, Option, Some, None, MatchOption, List, [], ◌∷◌, length, get_or, set, refl, sym, ap, subst, ◌∙◌, arith}
+use Rattle.std.proofs.Common.{if◌then◌else◌, ltb-true, ltb-false, ◌≡◌, ◌≢◌, ◌⊎◌, inl, inr, ⊎_elim, ℕ, zero, suc, ◌+◌, ◌*◌, ◌/◌, ◌^◌, ◌-◌, ◌<◌, ◌≤◌, Bool, true, false, nat_lt, replicate, Option, Some, None, MatchOption, is_some, List, [], ◌∷◌, length, get_or, set, refl, sym, ap, subst, ◌∙◌, arith}
 use borrow.Author.Tests.{clash}
 use Rattle.std.proofs.lemmas.List.{get_or_default, get_or-set_same, get_or-set_other}
 use Rattle.std.proofs.lemmas.Bool.Decides.{nat_tests}
@@ -8,7 +8,7 @@ use Rattle.timer_wheel.proofs.Order.{lt_or}
 use Rattle.timer_wheel.specs.Bits.{is_set, ChangesBit, IsLowestSet, NoneIsSet}
 use Rattle.timer_wheel.specs.Dues.{due_of, NoneIsArmed, IsLeastDue, NoneIsDue, IsFirstDue, earlier}
 use Rattle.timer_wheel.specs.Slots.{list_for, AreMarked, AreFiled, AreSmall, IsEarly, IsLeastLater, IsLeastOf}
-use Rattle.timer_wheel.specs.Moves.{IsFiled, IsTaken, with_last, AreEmptyBelow, AreToRefile, AreRefiling}
+use Rattle.timer_wheel.specs.Moves.{IsFiled, IsTaken, with_last, AreEmptyBelow, AreToRefile, AreDueBy, AreRefiling}
 use Rattle.timer_wheel.specs.Held.{AreHeld}
 use Rattle.raw_links.proofs.Chains.{decide, equal}
 use Rattle.raw_links.proofs.Standing.{off_all, on_at, put_stays, put_there, put_back}
@@ -266,6 +266,13 @@ module _ (base to target : ℕ) (dues : List (Option ℕ)) (lists : List (List �
     pub empty_below : AreEmptyBelow target lists
     empty_below k l = none_held (list_at lists k) (sym (marked k) ∙ low.below k l)
 
+-- all items of a list of the lowest level are due at one tick
+pub due_at_target : (base to target : ℕ) (dues : List (Option ℕ)) (lists : List (List ℕ)) (passed : List ℕ) → AreFiled base dues lists passed → target ≡ list_for base to → target < 64
+    → AreDueBy target to dues lists
+due_at_target base to target dues lists passed filed is low i h =
+    let o = filed.only_later i target h in
+    let d = near_tick base o.0 target low o.3 in let t = near_tick base to target low is in (o.0, o.1, omega (arith, d, t))
+
 module _ (base to target : ℕ) (dues : List (Option ℕ)) (lists new : List (List ℕ)) (passed q : List ℕ) (is : target ≡ list_for base to) (lt : base < to) (small : AreSmall dues) (filed : AreFiled base dues lists passed)
     (empty : AreEmptyBelow target lists) where
   pub nodes_to_refile : AreToRefile target to dues lists
@@ -274,11 +281,6 @@ module _ (base to target : ℕ) (dues : List (Option ℕ)) (lists new : List (Li
   pub went_on : AreRefiling target to dues lists new passed q → list_at new target ≡ [] → AreFiled to dues new q
   went_on done all = advanced base to dues lists new passed q lt small filed (subst (λ t. AreEmptyBelow t lists) is empty)
       (subst (λ t. AreRefiling t to dues lists new passed q) is done) (subst (λ t. list_at new t ≡ []) is all)
-
--- ---- what the code reads
-
-pub read_due : (dues : List (Option ℕ)) (id d : ℕ) (v : Option ℕ) → v ≡ get_or dues id v → v ≡ Some d → id < length dues → due_of id dues ≡ Some d
-read_due dues id d v e is l = sym (e ∙ get_or_default dues id v None l) ∙ is
 
 -- ---- the least later due tick after a change
 
@@ -307,6 +309,16 @@ same_disarmed base id least dues is other inside = record {
   least = λ i e due l. is.least i e (sym (set_other id i None dues (λ same. none_some (sym (set_same id None dues inside) ∙ subst (λ m. due_of m (set dues id None) ≡ Some e) same due))) ∙ due) l;
   holds = ⊎_elim (λ n. inl n) (λ h. inr (h.0, set_other id h.0 None dues (λ same. other (subst (λ m. due_of m dues ≡ Some least) same h.1) h.2) ∙ h.1, h.2)) is.holds;
 }
+
+pub early_disarmed : (dues : List (Option ℕ)) (id early : ℕ) → IsEarly dues early → id < length dues → IsEarly (set dues id None) early
+early_disarmed dues id early is inside i d h =
+    is i d (sym (set_other id i None dues (λ same. none_some (sym (set_same id None dues inside) ∙ subst (λ m. due_of m (set dues id None) ≡ Some d) same h))) ∙ h)
+
+-- where nothing has passed, nothing is due before the least later due tick
+pub early_later : (base least : ℕ) (dues : List (Option ℕ)) (o : Option ℕ) → IsLeastLater base dues least → MatchOption o (NoneIsDue base dues) (λ i. IsFirstDue base dues i) → is_some o ≡ false
+    → IsEarly dues least
+early_later base least dues None is m h = λ i d due. is.least i d due (m i d due)
+early_later base least dues (Some x) is m h = cc
 
 none_or : (o : Option ℕ) → (o ≡ None) ⊎ ((d : ℕ) × (o ≡ Some d))
 none_or None = inl refl

@@ -1,4 +1,4 @@
-mod Deeper
+mod Apart
 mod Filing
 mod Holding
 mod Moving

@@ -29,7 +29,7 @@ refiling_start target to dues lists passed = record {
 one_due : (dues : List (Option ℕ)) (n d e : ℕ) → IsDue dues n d → IsDue dues n e → d ≡ e
 one_due dues n d e h g = let s : Some d ≡ Some e = sym h ∙ g in cc
 
-refiling_gone : (target to n d : ℕ) (dues : List (Option ℕ)) (old now new : List (List ℕ)) (passed p q : List ℕ) → AreRefiling target to dues old now passed p
+pub refiling_gone : (target to n d : ℕ) (dues : List (Option ℕ)) (old now new : List (List ℕ)) (passed p q : List ℕ) → AreRefiling target to dues old now passed p
     → stands_at n target now ≡ true → IsDue dues n d → d ≤ to → IsTaken n now new → ChangesBit n true p q → AreRefiling target to dues old new passed q
 refiling_gone target to n d dues old now new passed p q r h due le t c = record {
   kept = λ i k other s. ap (λ (xs : List ℕ). stands_in i xs) (t.others target k h other) ∙ r.kept i k other s;
@@ -109,11 +109,15 @@ next_head n (x ∷ xs) h =
     let same : n ≡ x = cc in let e = eq-eqb x n (sym same) in
     ap (λ b. if b then slice_get xs 0 else follower n xs) e ∙ sym (ap (λ b. slice_get (if b then xs else x ∷ without n xs) 0) e)
 
+pub taken_head : (target n : ℕ) (now mid : List (List ℕ)) → Some n ≡ slice_get (list_at now target) 0 → IsTaken n now mid → follower n (list_at now target) ≡ slice_get (list_at mid target) 0
+taken_head target n now mid head t =
+    next_head n (list_at now target) head
+    ∙ ap (λ (xs : List ℕ). slice_get xs 0) (sym (ap (λ (ls : List (List ℕ)). list_at ls target) t.lists ∙ at_map n target now))
+
 pub moved_head : (target to n d : ℕ) (now new : List (List ℕ)) (p q : List ℕ) → Some n ≡ slice_get (list_at now target) 0 → (to < d → list_for to d ≢ target) → IsMoved to n d now new p q
     → follower n (list_at now target) ≡ slice_get (list_at new target) 0
 moved_head target to n d now new p q head apart (mid, t, f) =
-    next_head n (list_at now target) head
-    ∙ ap (λ (xs : List ℕ). slice_get xs 0) (sym (ap (λ (ls : List (List ℕ)). list_at ls target) t.lists ∙ at_map n target now))
+    taken_head target n now mid head t
     ∙ ⊎_elim
     (λ lt. let w = f.later lt in rw (w.0) (ap (λ (xs : List ℕ). slice_get xs 0) (sym (put_other n (list_for to d) mid target (λ e. apart lt (sym e))))))
     (λ le. let w = f.gone le in rw (w.0) refl)

@@ -44,6 +44,10 @@ IsMoved to node d old new passed now = (mid : List (List ℕ)) × IsTaken node o
 abbrev pub AreToRefile : ℕ → ℕ → List (Option ℕ) → List (List ℕ) → Type 0
 AreToRefile target to dues lists = (i : ℕ) → stands_at i target lists ≡ true → (d : ℕ) × IsDue dues i d × (to < d → list_for to d ≢ target)
 
+-- each node of the target list is armed, and due by then
+abbrev pub AreDueBy : ℕ → ℕ → List (Option ℕ) → List (List ℕ) → Type 0
+AreDueBy target to dues lists = (i : ℕ) → stands_at i target lists ≡ true → (d : ℕ) × IsDue dues i d × (d ≤ to)
+
 -- some nodes of one list have been filed anew, as the wheel stands at `to`, and all else stands as before
 pub record AreRefiling (target to : ℕ) (dues : List (Option ℕ)) (old new : List (List ℕ)) (passed now : List ℕ) : Type 0 where
   pub kept : (i k : ℕ) → k ≢ target → stands_at i k old ≡ true → stands_at i k new ≡ true

@@ -78,28 +78,41 @@ impl Wheel {
     }
 
     /// The item falls due at that tick, which may have passed.
+    #[inline(never)]
     pub fn arm(&mut self, id: ItemId, due: Tick)
         requires { (id.number < length self.old.dues) × (due_of id.number self.old.dues ≡ None) }
         ensures { self.new ≡ record self.old { dues = slice_set self.old.dues id.number (Some due) } }
     {
+        let later = due.get() > self.slots.base();
         self.slots.arm(id.number, due);
+        if due.get() >= self.least {
+            return;
+        }
         self.early = self.early.min(due.get());
-        if due.get() > self.slots.base() && due.get() < self.least {
+        if later {
             self.least = due.get();
         }
     }
 
     /// The item is not armed afterwards.
-    #[inline(never)]
     pub fn disarm(&mut self, id: ItemId)
         requires { id.number < length self.old.dues }
         ensures { self.new ≡ record self.old { dues = slice_set self.old.dues id.number None } }
     {
-        let Some(due) = due_of(self.slots.dues(), id.number) else {
-            return;
-        };
-        self.slots.disarm(id.number);
-        if due.get() > self.slots.base() {
+        if let Some(due) = self.due_of(id) {
+            self.disarm_due(id, due);
+        }
+    }
+
+    // The item, which is due then, is not armed afterwards.
+    #[inline(never)]
+    fn disarm_due(&mut self, id: ItemId, due: Tick)
+        requires { (id.number < length self.old.dues) × (due_of id.number self.old.dues ≡ Some due) }
+        ensures { self.new ≡ record self.old { dues = slice_set self.old.dues id.number None } }
+    {
+        let later = due.get() > self.slots.base();
+        self.slots.disarm(id.number, due);
+        if later {
             if due.get() == self.least {
                 self.least = self.slots.least_later();
             }
@@ -114,24 +127,25 @@ impl Wheel {
         requires { id.number < length self.old.dues }
         ensures { self.new ≡ record self.old { dues = slice_set self.old.dues id.number due } }
     {
-        if self.due_of(id) == due {
-            return;
-        }
-        match due {
-            Some(tick) => self.arm_anew(id, tick),
-            None => self.disarm(id),
+        match (self.due_of(id), due) {
+            (None, None) => (),
+            (None, Some(tick)) => self.arm(id, tick),
+            (Some(before), None) => self.disarm_due(id, before),
+            (Some(before), Some(tick)) => {
+                if before != tick {
+                    self.arm_anew(id, before, tick);
+                }
+            }
         }
     }
 
-    // The item falls due at that tick, whether it was armed or not.
+    // The item, which was due before, falls due at that tick.
     #[inline(never)]
-    fn arm_anew(&mut self, id: ItemId, due: Tick)
-        requires { id.number < length self.old.dues }
+    fn arm_anew(&mut self, id: ItemId, before: Tick, due: Tick)
+        requires { (id.number < length self.old.dues) × (due_of id.number self.old.dues ≡ Some before) }
         ensures { self.new ≡ record self.old { dues = slice_set self.old.dues id.number (Some due) } }
     {
-        if self.due_of(id).is_some() {
-            self.disarm(id);
-        }
+        self.disarm_due(id, before);
         self.arm(id, due);
     }
 
@@ -164,7 +178,9 @@ impl Wheel {
         ensures same { self.new.dues ≡ self.old.dues }
         ensures last { self.new.last ≡ max self.old.last now }
     {
-        self.last = self.last.max(now.get());
+        if self.last < now.get() {
+            self.last = now.get();
+        }
         if now.get() < self.early {
             return None;
         }
@@ -199,10 +215,11 @@ impl Wheel {
     {
         self.last = now.get();
         self.least = caught_up(&mut self.slots, self.least, now.get());
-        let Some(number) = self.slots.first_passed() else {
-            return None;
-        };
-        self.slots.disarm(number);
-        Some(ItemId { number })
+        let number = self.slots.first_passed()?;
+        let id = ItemId { number };
+        if let Some(due) = self.due_of(id) {
+            self.slots.disarm(number, due);
+        }
+        Some(id)
     }
 }

@@ -1,9 +1,9 @@
 // Nodes that leave the lists of a wheel, or come to stand on them.
-ghost use Rattle.std.specs.Prelude.{◌≡◌, ◌<◌, ◌≤◌, ◌*◌, ◌^◌, [], ℕ, true, false, length};
+ghost use Rattle.std.specs.Prelude.{◌≡◌, ◌<◌, ◌≤◌, ◌*◌, ◌^◌, [], ℕ, true, false, List, Option, length};
 ghost use Rattle.raw_links.specs.Links.{list_at, on_a_list, stands_at};
 ghost use Rattle.timer_wheel.specs.Bits.{ChangesBit};
 ghost use Rattle.timer_wheel.specs.Slots.{AreMarked, AreSmall};
-ghost use Rattle.timer_wheel.specs.Moves.{IsSized, IsTaken, IsFiled, IsNoted, IsDue, IsMoved, with_last, AreToRefile, AreRefiling};
+ghost use Rattle.timer_wheel.specs.Moves.{IsSized, IsTaken, IsFiled, IsNoted, IsDue, IsMoved, with_last, AreToRefile, AreDueBy, AreRefiling};
 
 use crate::bits::Bits;
 use crate::places::place_in;
@@ -82,6 +82,26 @@ fn refile_one(
     links.unlink(node);
     if let Some(due) = dues[node as usize] {
         file(links, occupied, passed, to, node, due.get());
+    }
+}
+
+/// All nodes of the list have passed: they leave it, and are of the set from then on.
+#[inline(always)]
+pub(crate) fn pass(links: &mut Links, occupied: &mut Bits, passed: &mut Bits, list: u32)
+    requires sized { IsSized links.old occupied.old × (length passed.old ≡ 16) × (list < 704) }
+    requires marked { AreMarked links.old.lists occupied.old }
+    ensures sized { IsSized links.new occupied.new × (length passed.new ≡ 16) }
+    ensures marked { AreMarked links.new.lists occupied.new }
+    ensures empty { list_at links.new.lists list ≡ [] }
+    ensures passed { (to : ℕ) → (dues : List (Option ℕ)) → AreDueBy list to dues links.old.lists → AreRefiling list to dues links.old.lists links.new.lists passed.old passed.new }
+{
+    occupied.set(list, false);
+    let mut first = links.front(list);
+    while let Some(node) = first {
+        links.stand_once();
+        first = links.next(node);
+        links.unlink(node);
+        passed.set(node, true);
     }
 }
 

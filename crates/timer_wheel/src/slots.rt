@@ -6,7 +6,7 @@ ghost use Rattle.timer_wheel.specs.Slots.{IsLeastLater, IsLeastOf, AreSmall};
 ghost use Rattle.timer_wheel.specs.Moves.{IsDue};
 
 use crate::bits::Bits;
-use crate::moves::{file, refile, take};
+use crate::moves::{file, pass, refile, take};
 use raw_links::Links;
 use std::alloc::{AllocError, Global};
 use std::marker::Model;
@@ -101,6 +101,7 @@ impl Slots {
         requires { (id < length self.old.dues) × (due_of id self.old.dues ≡ None) }
         ensures { self.new ≡ record self.old { dues = slice_set self.old.dues id (Some due) } }
     {
+        self.dues[id as usize] = Some(due);
         file(
             &mut self.links,
             &mut self.occupied,
@@ -109,17 +110,14 @@ impl Slots {
             id,
             due.get(),
         );
-        self.dues[id as usize] = Some(due);
     }
 
-    /// The item is not armed afterwards.
-    pub(crate) fn disarm(&mut self, id: u32)
-        requires { id < length self.old.dues }
+    /// The item, which is due then, is not armed afterwards.
+    #[inline(always)]
+    pub(crate) fn disarm(&mut self, id: u32, due: Tick)
+        requires { (id < length self.old.dues) × (due_of id self.old.dues ≡ Some due) }
         ensures { self.new ≡ record self.old { dues = slice_set self.old.dues id None } }
     {
-        let Some(due) = self.dues[id as usize] else {
-            return;
-        };
         self.dues[id as usize] = None;
         if due.get() <= self.base {
             self.passed.set(id, false);
@@ -129,7 +127,28 @@ impl Slots {
     }
 
     /// The wheel goes on to the least due tick after its own.
+    #[inline(always)]
     pub(crate) fn advance(&mut self, to: u64)
+        requires { IsLeastLater self.old.base self.old.dues to × (to ≤ 2 * 10 ^ 18) }
+        ensures { self.new ≡ record self.old { base = to } }
+    {
+        match self.occupied.lowest_near() {
+            Some(target) => {
+                self.base = to;
+                pass(
+                    &mut self.links,
+                    &mut self.occupied,
+                    &mut self.passed,
+                    target,
+                );
+            }
+            None => self.advance_far(to),
+        }
+    }
+
+    // The same, whichever list the wheel comes to.
+    #[inline(never)]
+    fn advance_far(&mut self, to: u64)
         requires { IsLeastLater self.old.base self.old.dues to × (to ≤ 2 * 10 ^ 18) }
         ensures { self.new ≡ record self.old { base = to } }
     {
@@ -155,16 +174,25 @@ impl Slots {
     }
 
     /// The least due tick after that of the wheel, the last number where there is none.
+    #[inline(always)]
     pub(crate) fn least_later(&self) -> u64
         ensures { IsLeastLater self.now.base self.now.dues result }
     {
-        let Some(list) = self.occupied.lowest() else {
-            return u64::MAX;
-        };
         // a list of the lowest level is for one tick
-        if list < 64 {
-            return self.base / 64 * 64 + list as u64;
+        match self.occupied.lowest_near() {
+            Some(list) => self.base / 64 * 64 + list as u64,
+            None => self.least_far(),
         }
-        least_in(&self.links, &self.dues, list)
+    }
+
+    // The same, from the items of one list.
+    #[inline(never)]
+    fn least_far(&self) -> u64
+        ensures { IsLeastLater self.now.base self.now.dues result }
+    {
+        match self.occupied.lowest() {
+            Some(list) => least_in(&self.links, &self.dues, list),
+            None => u64::MAX,
+        }
     }
 }

@@ -1,25 +1,21 @@
-use Rattle.std.proofs.Common.{◌≡◌, ◌≢◌, ℕ, ◌+◌, ◌-◌, ◌/◌, ◌<◌, ◌≤◌, ◌^◌, ⊎_elim, suc, subst, arith, ◌∙◌}
-use Rattle.raw_links.proofs.Chains.{equal}
-use Rattle.timer_wheel.specs.Places.{place}
-use Rattle.timer_wheel.proofs.Deeper.{below, step}
-use Rattle.timer_wheel.proofs.Order.{less_digits}
+use Rattle.std.proofs.Common.{◌≡◌, ◌+◌, ◌*◌, ◌-◌, ◌/◌, ◌%◌, ◌^◌, ◌<◌, ◌≤◌, ℕ, suc, sym, ap, ◌∙◌, arith}
+use Rattle.std.specs.Int.Bits.{bit_xor, bit_or}
+use Rattle.std.proofs.lemmas.Nat.{leading_top, le_or_r, or_lt, xor_lt}
+use lib.Count.{count_leading_zeros}
+use Rattle.timer_wheel.proofs.Apart.{place_at}
 use Rattle.timer_wheel.proofs.places.place_in.Goals as goal
 
--- two numbers of one digit agree in all others
-level_left : (level from to : ℕ) → level ≤ 10 → from < 64 ^ (11 - level) → to < 64 ^ (11 - level) → to / 64 ≢ from / 64 → level < 10
-level_left level from to most lf lt apart = ⊎_elim
-    (λ same. absurd (let rest : 11 - level ≡ 1 = omega (arith, same) in
-    let f : from < 64 = subst (λ n. from < 64 ^ n) rest lf in let t : to < 64 = subst (λ n. to < 64 ^ n) rest lt in apart (omega (arith, f, t))))
-    (λ other. omega (arith, most, other))
-    (equal level 10)
+highest : (now due : ℕ) → now < 2 ^ 64 → due < 2 ^ 64 → let x = bit_or (bit_xor now due) 63 in
+    (j : ℕ) × (count_leading_zeros 64 x + suc j ≡ 64) × (2 ^ j ≤ x) × (x < 2 ^ suc j)
+highest now due n d = leading_top 64 (bit_or (bit_xor now due) 63) (let least = le_or_r (bit_xor now due) 63 in omega (arith, least)) (or_lt 64 (bit_xor now due) 63 (xor_lt 64 now due n d) (omega arith))
 
-pub loop-to-preserved : goal.loop-to-preserved
-loop-to-preserved c =
-    let l = c.loop-to in let i = l.invariant in let rest = 11 - (l.level + 1) in
-    let left = level_left l.level l.from l.to i.0 i.1 i.2 c.loop-to-test.true in
-    let more : 11 - l.level ≡ suc rest = omega (arith, left) in (
-      omega (arith, left),
-      less_digits rest l.from (subst (λ n. l.from < 64 ^ n) more i.1),
-      less_digits rest l.to (subst (λ n. l.to < 64 ^ n) more i.2),
-      step l.level rest l.from l.to c.loop-to-test.true ∙ subst (λ m. below l.level (place m l.from l.to) ≡ place 11 c.args.now c.args.due) more i.3,
-    )
+pub overflow_sub-level : goal.overflow_sub-level
+overflow_sub-level c = let h = highest c.args.now c.args.due c.ranges.now.fits c.ranges.due.fits in omega (arith, h.1)
+
+pub returns-clause-place : goal.returns-clause-place
+returns-clause-place c =
+    let now = c.args.now in let due = c.args.due in
+    let h = highest now due c.ranges.now.fits c.ranges.due.fits in
+    let top : 63 - count_leading_zeros 64 (bit_or (bit_xor now due) 63) ≡ h.0 = omega (arith, h.1) in
+    let small : h.0 ≤ 63 = omega (arith, h.1) in
+    ap (λ n. (n * 43 / 256, due / 2 ^ (6 * (n * 43 / 256)) % 64)) top ∙ sym (place_at now due h.0 (h.0 * 43 / 256) (omega (arith, small)) (omega (arith, small)) small h.2 h.3)
