@@ -7,3 +7,4 @@ pub mod Opens
 pub mod Examples
 pub mod Relative
 pub mod Told
+pub mod Packs

@@ -1,5 +1,5 @@
 -- A unit that is told by where its call stands is the unit that was found.
-use Rattle.std.proofs.Common.{◌≡◌, ℕ, zero, suc, ◌<◌, Option, None, Some, List, length, refl, ap, sym, subst, ◌∙◌, get_or, slice_get, drop}
+use Rattle.std.proofs.Common.{◌≡◌, ℕ, zero, suc, ◌+◌, ◌≤◌, ◌<◌, Option, None, Some, List, ◌∷◌, length, refl, ap, sym, subst, ◌∙◌, get_or, slice_get, drop, drop-cons, length-drop, arith}
 use Rattle.std.proofs.lemmas.Option.{slice_get_read}
 use Rattle.script_tree.specs.declared.call.Call.{Call}
 use Rattle.script_tree.specs.declared.call.Call.TheVariants.{Yield}
@@ -10,9 +10,10 @@ use Rattle.script_flat.specs.declared.unit.Unit as unit
 use Rattle.script_flat.specs.declared.unit.Unit.TheVariants.{Run, Make, Jump, Finish}
 use Rattle.script_flat.specs.declared.fetched.Fetched.{Fetched}
 use Rattle.script_flat.specs.declared.fetched.Fetched.TheVariants as a
-use Rattle.script_flat.specs.Fetch.{Effect, Gives, Skips, moved_on, innermost, after_pass, carried_out, fetched, found_in, ops_of}
+use Rattle.script_flat.specs.Fetch.{Effect, Gives, Skips, moved_on, innermost, after_pass, carried_out, fetched, found_in, most_skipped, ops_of}
 use Rattle.script_flat.specs.Fetched.{StandsIn, call_at, fetched_at, told, unit_in, unit_of}
 use Rattle.script_flat.specs.Flat.{NumberedBodies}
+use Rattle.script_flat.specs.Ready.{IsSafe}
 use Rattle.script_flat.proofs.Safe.{SearchesOn, search_finds, search_goes_on}
 
 -- the call that an effect gives
@@ -59,6 +60,45 @@ module _ (ops : List Op) (from now : Cursor) (o : Op) (h : SearchesOn ops from n
 
   pub search_told : (after : Cursor × Option Fetched) → told now.body now.pc (carried_out o (moved_on now)) ≡ after → SearchTold ops from after
   search_told after e = subst (SearchTold ops from) e (effect_told (carried_out o (moved_on now)) refl)
+
+not_told : (f : Fetched) (m n : ℕ) → Some f ≡ None → m ≤ n
+not_told f m n e = absurd cc
+
+-- where no unit is told the cursor has not moved back
+moves_pass : (body number first : ℕ) (passes : Option ℕ) (c new : Cursor) → told body number (after_pass first passes c) ≡ (new, None) → c.pc ≤ new.pc
+moves_pass body number first None c new e = omega (arith, ap (λ (x : Cursor × Option Fetched). x.0.pc) e)
+moves_pass body number first (Some zero) c new e = omega (arith, ap (λ (x : Cursor × Option Fetched). x.0.pc) e)
+moves_pass body number first (Some (suc zero)) c new e = omega (arith, ap (λ (x : Cursor × Option Fetched). x.0.pc) e)
+moves_pass body number first (Some (suc (suc passes))) c new e = not_told _ c.pc new.pc (ap (λ (x : Cursor × Option Fetched). x.1) e)
+
+pub told_moves : (body number : ℕ) (o : Op) (c new : Cursor) → told body number (carried_out o c) ≡ (new, None) → c.pc ≤ new.pc
+told_moves body number (op.Run n) c new e = not_told _ c.pc new.pc (ap (λ (x : Cursor × Option Fetched). x.1) e)
+told_moves body number (op.Make call) c new e = not_told _ c.pc new.pc (ap (λ (x : Cursor × Option Fetched). x.1) e)
+told_moves body number (op.Set n) c new e = omega (arith, ap (λ (x : Cursor × Option Fetched). x.0.pc) e)
+told_moves body number (op.Add n) c new e = omega (arith, ap (λ (x : Cursor × Option Fetched). x.0.pc) e)
+told_moves body number op.Take c new e = omega (arith, ap (λ (x : Cursor × Option Fetched). x.0.pc) e)
+told_moves body number (op.Test named equal skip) c new e = omega (arith, ap (λ (x : Cursor × Option Fetched). x.0.pc) e)
+told_moves body number (op.Begin times) c new e = omega (arith, ap (λ (x : Cursor × Option Fetched). x.0.pc) e)
+told_moves body number (op.Repeat first) c new e = moves_pass body number first (innermost c.counts.items) c new e
+told_moves body number (op.Again first) c new e = not_told _ c.pc new.pc (ap (λ (x : Cursor × Option Fetched). x.1) e)
+
+-- a test does not pass over more operations than there are
+safe_skips : (o : Op) (rest : List Op) → IsSafe (o ∷ rest) → most_skipped o ≤ length rest
+safe_skips (op.Run n) rest h = omega arith
+safe_skips (op.Make call) rest h = omega arith
+safe_skips (op.Set n) rest h = omega arith
+safe_skips (op.Add n) rest h = omega arith
+safe_skips op.Take rest h = omega arith
+safe_skips (op.Test named equal skip) rest h = h.0.0
+safe_skips (op.Begin times) rest h = omega arith
+safe_skips (op.Repeat first) rest h = omega arith
+safe_skips (op.Again first) rest h = omega arith
+
+pub skips_within : (ops : List Op) (pc : ℕ) (o : Op) → IsSafe (drop pc ops) → pc < length ops → o ≡ get_or ops pc o → pc + 1 + most_skipped o ≤ length ops
+skips_within ops pc o h past at =
+    let split : drop pc ops ≡ o ∷ drop (suc pc) ops = drop-cons ops pc o past ∙ ap (λ x. x ∷ drop (suc pc) ops) (sym at) in
+    let skips = safe_skips o (drop (suc pc) ops) (subst IsSafe split h) in
+    omega (arith, length-drop (suc pc) ops)
 
 -- what was found in a body is what was found in the code
 pub found_in_code : (code : NumberedBodies (List Op)) (body : ℕ) (f : Fetched) → StandsIn body f → unit_in (ops_of code body) f ≡ unit_of code f

@@ -1,19 +1,22 @@
 // The flat code, and the next unit of a body.
-ghost use Rattle.std.specs.Prelude.{◌≡◌, ℕ, ◌+◌, ◌≤◌, ◌<◌, ◌^◌, [], ◌∷◌, ◌++◌, drop, length, option_copied, slice_get, slice_index, All, IfOk, OnOk, Some};
+ghost use Rattle.std.specs.Prelude.{◌≡◌, ℕ, List, ◌+◌, ◌≤◌, ◌<◌, ◌^◌, [], ◌∷◌, ◌++◌, drop, length, option_copied, slice_get, slice_index, unwrap_or, All, IfOk, OnOk, Some};
 ghost use Rattle.script_tree.specs.Block.{Block};
+ghost use Rattle.script_tree.specs.declared.call.Call.{Call};
+ghost use Rattle.script_tree.specs.declared.call.Call.TheVariants.{Yield};
 ghost use Rattle.script_tree.specs.Tree.{step_count};
 ghost use Rattle.script_flat.specs.Next.{Place, body_start, register_limit};
 ghost use Rattle.script_flat.specs.Flat.{IsFlattenable, bodies_of, body_list, flat, flat_form, with_decl};
 ghost use Rattle.script_flat.specs.Fetch.{carried_out, innermost, most_skipped, pass_ended, found_in, ops_of, started, fetched};
-ghost use Rattle.script_flat.specs.Fetched.{StandsIn, told, unit_in, unit_of};
-ghost use Rattle.script_flat.specs.Ready.{IsReady};
+ghost use Rattle.script_flat.specs.Fetched.{call_of, told, unit_of};
+ghost use Rattle.script_flat.specs.Packed.{unpacked};
 ghost use Rattle.script_flat.specs.Stands.{IsBody, Stands, IsPlaced, Fetches};
 
 use crate::flatten::flatten;
 use crate::next::{capped, holds};
-use crate::{CallPlace, Cursor, Fetched, Op};
+use crate::ops::{Ops, Packed};
+use crate::{CallPlace, Cursor, Fetched};
 use arrayvec::ArrayVec;
-use script_tree::{Body, Decl, Kind, Script};
+use script_tree::{Body, Call, Decl, Kind, Script};
 use std::alloc::{AllocError, Global};
 use std::marker::Model;
 use tick_num::{ObjId, Res, Tid};
@@ -22,21 +25,21 @@ use tick_num::{ObjId, Res, Tid};
 /// threads, handlers and cleanup handlers.
 #[derive(Drop)]
 pub struct Code {
-    bodies: Vec<Vec<Op>>,
+    bodies: Vec<Ops>,
     threads: Vec<u16>,
     handlers: Vec<u16>,
     cleanups: Vec<u16>,
 }
 
 impl Model for Code {
-    ghost use Rattle.std.specs.Prelude.{List, map};
+    ghost use Rattle.std.specs.Prelude.{List};
     ghost use Rattle.script_flat.specs.Flat.{NumberedBodies};
     ghost use Rattle.script_flat.specs.declared.op.Op.{Op};
 
     ghost Value = { NumberedBodies (List Op) };
 
     ghost view = { λ c. record {
-      all = map (λ body. body.items) c.bodies.items;
+      all = c.bodies.items;
       threads = c.threads.items;
       handlers = c.handlers.items;
       cleanups = c.cleanups.items;
@@ -102,7 +105,7 @@ impl Code {
         ensures body { OnOk result (self.new ≡ record self.old { all = self.old.all ++ flat 0 body.now ∷ [] }) }
     {
         let number = self.bodies.len() as u16;
-        let mut ops = Vec::new(alloc);
+        let mut ops = Ops::new(alloc);
         flatten(body, &mut ops)?;
         self.bodies.reserve(1)?;
         self.bodies.push_reserved(ops);
@@ -151,20 +154,31 @@ impl Code {
         }
     }
 
-    // The operation that stands at a place, if one does.
-    #[inline(always)]
-    pub(crate) fn op_at(&self, place: &CallPlace) -> Option<&Op>
-        ensures { option_copied result ≡ slice_get (ops_of self.now place.now.body) place.now.op }
-    {
-        self.bodies.get(place.body as usize)?.get(place.op as usize)
-    }
-
     // The operations of a body.
-    fn ops(&self, body: u16) -> &[Op]
+    fn ops(&self, body: u16) -> &Ops
         requires { body < length self.now.all }
         ensures { result.now ≡ ops_of self.now body }
     {
-        self.bodies[body as usize].as_slice()
+        &self.bodies[body as usize]
+    }
+
+    /// The call that stands at a place, which a fetched unit told; `yield` where none does.
+    #[inline(always)]
+    pub fn call(&self, place: &CallPlace) -> Call
+        ensures { result ≡ call_of self.now place.now }
+    {
+        match self.table_call(place) {
+            Some(call) => *call,
+            None => Call::Yield,
+        }
+    }
+
+    // The call of a place, where its body keeps it in its table.
+    #[inline(always)]
+    fn table_call(&self, place: &CallPlace) -> Option<&Call>
+        ensures { unwrap_or (option_copied result) Yield ≡ call_of self.now place.now }
+    {
+        self.bodies.get(place.body)?.call(place.op)
     }
 
     /// The next unit of the body that the cursor stands in, and the cursor moves behind it: the operations that take no time are
@@ -182,27 +196,8 @@ impl Code {
         ensures placed { IsPlaced self.now at.new }
         ensures few { length at.new.counts.items ≤ 15 }
     {
-        search(self.ops(at.body), at)
+        self.ops(at.body).search(at)
     }
-}
-
-// The first unit of the operations ahead of a cursor, which moves behind it.
-#[inline(always)]
-fn search(ops: &[Op], at: &mut Cursor) -> Fetched
-    requires ready { IsReady (drop at.old.pc ops.now) at.old }
-    requires within { at.old.pc ≤ length ops.now }
-    requires short { length ops.now < 2 ^ 32 }
-    ensures found { found_in (drop at.old.pc ops.now) 0 at.old ≡ (at.new, unit_in ops.now result) }
-    ensures inside { StandsIn at.old.body result }
-{
-    while let Some(op) = ops.get(at.pc as usize) {
-        let number = at.pc;
-        at.pc += 1;
-        if let Some(unit) = at.carry_out(op, number) {
-            return unit;
-        }
-    }
-    Fetched::Finish
 }
 
 impl Cursor {
@@ -232,34 +227,34 @@ impl Cursor {
 
     // Carries out the operation of that number, behind which the cursor stands: the unit that it gives, or none where it takes no time.
     #[inline(always)]
-    fn carry_out(&mut self, op: &Op, number: u32) -> Option<Fetched>
+    pub(crate) fn carry_out(&mut self, op: &Packed, number: u32) -> Option<Fetched>
         requires few { length self.old.counts.items ≤ 15 }
-        requires room { self.old.pc + most_skipped op.now < 2 ^ 32 }
-        ensures { told self.old.body number (carried_out op.now self.old) ≡ (self.new, result) }
+        requires room { self.old.pc + most_skipped (unpacked [] op.now) < 2 ^ 32 }
+        ensures { (calls : List Call) → told self.old.body number (carried_out (unpacked calls op.now) self.old) ≡ (self.new, result) }
     {
         match *op {
-            Op::Run(n) => return Some(Fetched::Run(n)),
-            Op::Make(_) => {
+            Packed::Run(n) => return Some(Fetched::Run(n)),
+            Packed::Make(_) | Packed::Yield => {
                 return Some(Fetched::Make(CallPlace {
-                    body: self.body,
-                    op: number,
+                    body: self.body as usize,
+                    op: number as usize,
                 }));
             }
-            Op::Set(n) => self.register = capped(n),
-            Op::Add(n) => self.register = capped(self.register.saturating_add(n)),
-            Op::Take => self.register = capped(self.value),
-            Op::Test { res, equal, skip } => {
+            Packed::Set(n) => self.register = capped(n),
+            Packed::Add(n) => self.register = capped(self.register.saturating_add(n)),
+            Packed::Take => self.register = capped(self.value),
+            Packed::Test { res, equal, skip } => {
                 if !holds(res, equal, self.result) {
                     self.pc += skip;
                 }
             }
-            Op::Begin(times) => self.counts.push(times),
-            Op::Repeat { first } => {
+            Packed::Begin(times) => self.counts.push(times),
+            Packed::Repeat { first } => {
                 if self.end_pass() {
                     return Some(self.jump(first));
                 }
             }
-            Op::Again { first } => return Some(self.jump(first)),
+            Packed::Again { first } => return Some(self.jump(first)),
         }
         None
     }

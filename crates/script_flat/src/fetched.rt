@@ -1,9 +1,4 @@
 // Units as they are fetched.
-ghost use Rattle.std.specs.Prelude.{◌≡◌};
-ghost use Rattle.script_flat.specs.Fetched.{call_of};
-
-use crate::{Code, Op};
-use script_tree::Call;
 
 /// A unit as it is fetched. A call is told by where it stands, since it is large and is looked at only when its tick is over.
 #[derive(Clone, Copy)]
@@ -18,24 +13,12 @@ pub enum Fetched {
     Finish,
 }
 
-/// Where a call stands in the flat code.
+/// Where a call stands in the flat code. Both numbers are whole words, as the ticks of a unit that runs are, so that a unit is handed
+/// on in registers: a narrow store that a wide load follows is slow.
 #[derive(Clone, Copy)]
 pub struct CallPlace {
     /// The number of the body.
-    pub body: u16,
+    pub body: usize,
     /// The number of the operation in its body.
-    pub op: u32,
-}
-
-impl Code {
-    /// The call that stands at a place, which a fetched unit told; `yield` where none does.
-    #[inline(always)]
-    pub fn call(&self, place: &CallPlace) -> Call
-        ensures { result ≡ call_of self.now place.now }
-    {
-        match self.op_at(place) {
-            Some(Op::Make(call)) => *call,
-            _ => Call::Yield,
-        }
-    }
+    pub op: usize,
 }

@@ -7,6 +7,7 @@ mod fetched;
 mod flatten;
 mod next;
 mod op;
+mod ops;
 mod unit;
 
 pub use code::Code;

@@ -2,7 +2,7 @@
 use script_tree::Call;
 use tick_num::Res;
 
-/// An operation of the flat code. A body's operations are numbered from 0.
+/// An operation of the flat code. A body's operations are numbered from 0. Contracts speak of it, and the code keeps it packed (`ops.rt`).
 #[derive(Clone, Copy)]
 pub enum Op {
     /// Runs for so many ticks.

@@ -5,4 +5,4 @@ use Rattle.script_flat.proofs.code.Code.add.Goals as goal
 pub flatten-requires : goal.flatten-requires
 flatten-requires c =
     let short = c.requires.short in
-    omega (arith, op_number-step_count c.args.body.now, ap length c.new-ops.ensures.items)
+    omega (arith, op_number-step_count c.args.body.now, ap length c.new-ops.ensures)

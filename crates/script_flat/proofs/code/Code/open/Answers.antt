@@ -1,4 +1,3 @@
-use Rattle.std.proofs.Common.{ap, map}
 use Rattle.script_flat.specs.Flat.{bodies_of}
 use Rattle.script_flat.proofs.Opens.{opens_empty, opens_next, opens_more, opens_all, is_body_of_script}
 use Rattle.script_flat.proofs.code.Code.open.Goals as goal
@@ -6,7 +5,7 @@ use Rattle.script_flat.proofs.code.Code.open.Goals as goal
 pub loop-decl-init : goal.loop-decl-init
 loop-decl-init c =
     opens_empty c.args.script.now.decls c.items-decl-items.result.now _ c.requires c.items-decl-items.ensures
-    (ap (map (λ body. body.items)) c.new.ensures.items) c.new-2.ensures.items c.new-3.ensures.items c.new-4.ensures.items
+    c.new.ensures.items c.new-2.ensures.items c.new-3.ensures.items c.new-4.ensures.items
 
 pub declare-requires-clause-short : goal.declare-requires-clause-short
 declare-requires-clause-short c =

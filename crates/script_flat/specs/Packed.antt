@@ -1,0 +1,34 @@
+-- How the operations of a body are kept: calls stand apart in a table, and are told by their numbers there. This project's own.
+use Rattle.std.specs.Prelude.{◌<◌, List, [], ◌∷◌, length, map, get_or}
+use Rattle.script_tree.specs.declared.call.Call.{Call}
+use Rattle.script_tree.specs.declared.call.Call.TheVariants as call
+use Rattle.script_flat.specs.declared.op.Op.{Op}
+use Rattle.script_flat.specs.declared.op.Op.TheVariants as op
+use Rattle.script_flat.specs.declared.ops.Packed.{Packed}
+use Rattle.script_flat.specs.declared.ops.Packed.TheVariants.{Run, Make, Yield, Set, Add, Take, Test, Begin, Repeat, Again}
+
+-- the operation that is kept so, beside those calls
+abbrev pub unpacked : List Call → Packed → Op
+unpacked calls (Run n) = op.Run n
+unpacked calls (Make number) = op.Make (get_or calls number call.Yield)
+unpacked calls Yield = op.Make call.Yield
+unpacked calls (Set n) = op.Set n
+unpacked calls (Add n) = op.Add n
+unpacked calls Take = op.Take
+unpacked calls (Test named equal skip) = op.Test named equal skip
+unpacked calls (Begin times) = op.Begin times
+unpacked calls (Repeat first) = op.Repeat first
+unpacked calls (Again first) = op.Again first
+
+-- those of a body
+abbrev pub all_unpacked : List Call → List Packed → List Op
+all_unpacked calls packed = map (unpacked calls) packed
+
+-- the call of an operation, if it makes one, is in the table
+abbrev pub IsIn : List Call → Packed → Type 0
+IsIn calls (Make number) = number < length calls
+IsIn calls packed = Unit {0}
+
+abbrev pub AreIn : List Call → List Packed → Type 0
+AreIn calls [] = Unit {0}
+AreIn calls (p ∷ packed) = IsIn calls p × AreIn calls packed
