@@ -1,8 +1,9 @@
 // What the equations of the execution priorities ask for.
-ghost use Rattle.std.specs.Prelude.{◌≡◌, ◌<◌, length, map, max, if◌then◌else◌};
+ghost use Rattle.std.specs.Prelude.{◌≡◌, ◌<◌, length, map, max, if◌then◌else◌, slice_index_or, true};
 ghost use Rattle.machine_rules.specs.Lists.{greatest, is};
 ghost use Rattle.machine_rules.specs.Priorities.{is_inherit_mutex_of, owner_ceiling};
-ghost use Rattle.inherit_chain.specs.Chains.{asked_in, prio_in, waiters_in};
+ghost use Rattle.machine_rules.specs.Threads.{mutex_in};
+ghost use Rattle.inherit_chain.specs.Chains.{asked_in, no_claim, prio_in, through_in, waiters_in};
 ghost use Rattle.inherit_chain.specs.Moves.{StandsAt, WaitersStand};
 
 use crate::claims::{MutexState, ThreadClaim};
@@ -98,6 +99,39 @@ fn raised_through(
         Protocol::Inherit => raised_by_waiters(claims, exec, w, k, best),
         Protocol::Protect(ceiling) => larger(best, ceiling.get()),
     }
+}
+
+/// Whether a mutex gives its owner no greater priority.
+#[inline(always)]
+pub(crate) fn lends_nothing(
+    claims: &[ThreadClaim],
+    mutexes: &[MutexState],
+    exec: &[Prio],
+    w: &Waits,
+    k: ObjId,
+    t: Tid,
+) -> bool
+    requires known { t < length claims.now }
+    requires mutex { k < length mutexes.now }
+    requires each { length exec.now ≡ length claims.now }
+    requires counted { length w.now ≡ length claims.now }
+    requires stand { StandsAt (prio_in exec.now) w.now }
+    requires waiters { WaitersStand claims.now w.now }
+    ensures { result ≡ true → prio_in exec.now t ≡ max (prio_in exec.now t) (through_in claims.now (prio_in exec.now) t k (mutex_in mutexes.now k)) }
+{
+    let k = k.get() as usize;
+    let before = exec[t.get() as usize];
+    raised_through(claims, exec, w, &mutexes[k], k, t, before) == before
+}
+
+/// Whether the thread has its assigned priority.
+#[inline(always)]
+pub(crate) fn is_at_assigned(claims: &[ThreadClaim], exec: &[Prio], t: Tid) -> bool
+    requires known { t < length claims.now }
+    requires each { length exec.now ≡ length claims.now }
+    ensures { result ≡ true → prio_in exec.now t ≡ (slice_index_or claims.now t no_claim).assigned }
+{
+    exec[t.get() as usize] == claims[t.get() as usize].assigned()
 }
 
 /// What the equation of a thread asks for.
