@@ -2,6 +2,8 @@
 pub mod Calm
 pub mod LastTick
 pub mod Law
+pub mod Going
+pub mod Ahead
 pub mod Bounds
 pub mod Ended
 pub mod Lengths

@@ -72,7 +72,7 @@ server_pending k s = by_high (is_high s)
     by_high true = ap (λ ps. next_due (record s { pending = ps })) (charged_pending k s)
     by_high false = refl
 
-refill_same : (k : ℕ) (o : Option ServerState) → option_and_then next_due (option_map (server_after k) o) ≡ option_and_then next_due o
+pub refill_same : (k : ℕ) (o : Option ServerState) → option_and_then next_due (option_map (server_after k) o) ≡ option_and_then next_due o
 refill_same k None = refl
 refill_same k (Some s) = server_pending k s
 
@@ -131,7 +131,7 @@ filter_same p q h (n ∷ ns) = by_case (p n) (q n) refl refl (h n) (filter_same 
         no h = absurd (grind arith)
 
 module _ {P : Type 0} (bodies : Bodies P) where
-  with_view : {X : Type 0} (view : Thread P → X) (t : ℕ) (th : Thread P) (ths : List (Thread P)) → view th ≡ view (thread_in ths t) → (u : ℕ) → view (thread_in (changed_at no_thread t (λ x. th) ths) u) ≡ view (thread_in ths u)
+  pub with_view : {X : Type 0} (view : Thread P → X) (t : ℕ) (th : Thread P) (ths : List (Thread P)) → view th ≡ view (thread_in ths t) → (u : ℕ) → view (thread_in (changed_at no_thread t (λ x. th) ths) u) ≡ view (thread_in ths u)
   with_view {X} view t th ths e u = of_two (changed_is no_thread t u (λ x. th) ths)
     where
       of_two : ((t ≡ u) × (thread_in (changed_at no_thread t (λ x. th) ths) u ≡ th)) ⊎ (thread_in (changed_at no_thread t (λ x. th) ths) u ≡ thread_in ths u) → view (thread_in (changed_at no_thread t (λ x. th) ths) u) ≡ view (thread_in ths u)

@@ -65,7 +65,7 @@ module _ {P : Type 0} (bodies : Bodies P) where
       ∙ ap (λ (n : ℕ). record { assigned = n; awaited = mutex_awaited_by th })
       (assigned_stays th.policy th.server (subst (λ (o : Option ServerState). (has_high th.server && capacity_in (option_map charged o) == 0) ≡ false) server spent))
 
-claims_same : {P : Type 0} (ths : List (Thread P)) (t : ℕ) (f : Thread P → Thread P) → claim_of (f (thread_in ths t)) ≡ claim_of (thread_in ths t) → claims (changed_at no_thread t f ths) ≡ claims ths
+pub claims_same : {P : Type 0} (ths : List (Thread P)) (t : ℕ) (f : Thread P → Thread P) → claim_of (f (thread_in ths t)) ≡ claim_of (thread_in ths t) → claims (changed_at no_thread t f ths) ≡ claims ths
 claims_same [] t f e = refl
 claims_same (th ∷ ths) zero f e = ap (λ (c : Claim). c ∷ claims ths) e
 claims_same (th ∷ ths) (suc t) f e = ap (λ (cs : List Claim). claim_of th ∷ cs) (claims_same ths t f e)

@@ -12,7 +12,7 @@ use Rattle.machine_rules.specs.Eventful.{tick_matters}
 
 -- ---- what a quiet tick is not
 
-no_end : (was_high some blocked runnable spent used : Bool) → blocked ≡ false → used ≡ false → (was_high && spent) ≡ false →
+pub no_end : (was_high some blocked runnable spent used : Bool) → blocked ≡ false → used ≡ false → (was_high && spent) ≡ false →
     (if was_high && some && blocked then planning else if was_high && some && runnable && spent then exhausting else if used then slicing else nothing) ≡ nothing
 no_end true true true runnable spent used b u s = absurd (grind arith)
 no_end true true false true true used b u s = absurd (grind arith)
