@@ -33,6 +33,7 @@ use script_tree::Call;
 use tick_num::{Res, Tid};
 
 /// The effect of a call.
+#[inline(always)]
 fn do_call<K: Sink>(p: &mut Parts, t: Tid, call: &Call, out: &mut Tracer<'_, K>)
     requires known { t < length p.old.names }
     requires runnable { CallIsRunnable (objects_in p.old) call.now }
@@ -145,6 +146,7 @@ fn do_call<K: Sink>(p: &mut Parts, t: Tid, call: &Call, out: &mut Tracer<'_, K>)
 }
 
 /// A call is made, or a request acts in its place.
+#[inline(always)]
 pub fn make_call<K: Sink>(p: &mut Parts, t: Tid, call: &Call, out: &mut Tracer<'_, K>)
     requires known { t < length p.old.names }
     requires runnable { CallIsRunnable (objects_in p.old) call.now }

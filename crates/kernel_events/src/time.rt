@@ -14,6 +14,7 @@ use thread_blocks::Wait;
 use tick_num::{Res, Tick, Tid};
 
 /// `nanosleep` and `clock_nanosleep`.
+#[inline(always)]
 pub(crate) fn sleep_until<K: Sink>(
     p: &mut Parts,
     t: Tid,

@@ -1,6 +1,7 @@
 pub mod Turns
 pub mod InRange
 pub mod SettlingSteps
+pub mod OneSettles
 pub mod SettledSame
 pub mod SweepNothing
 pub mod SettleIs

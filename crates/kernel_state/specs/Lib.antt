@@ -6,7 +6,6 @@ pub mod View
 pub mod Settled
 pub mod Stood
 pub mod Due
-pub mod Leaps
 pub mod Waits
 pub mod Messages
 pub mod Caught

@@ -48,6 +48,7 @@ impl Parts {
         self.named.take_in(&moved);
     }
 
+    #[inline(always)]
     #[tactic(auto, using(crate::proofs::Waits::can_await))]
     pub(crate) fn block_thread(&mut self, t: Tid, waiting: Waiting)
         requires known { t < length self.old.names }
@@ -55,8 +56,8 @@ impl Parts {
         requires may { CanWait self.old.machine t (mutex_waited (wait_of waiting.wait)) }
         ensures { self.new ≡ after (changes t (put_to_wait (waiting_of waiting))) self.old }
     {
-        let moved = self.table.block(t, waiting);
         self.named.add(t);
+        let moved = self.table.block(t, waiting);
         self.named.take_in(&moved);
     }
 

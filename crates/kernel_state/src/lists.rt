@@ -35,8 +35,8 @@ impl Parts {
     {
         let p = self.table.exec(t);
         let _ = p.get();
-        self.ready.to_tail(t, p);
         self.named.remove(t);
+        self.ready.to_tail(t, p);
     }
 
     /// It becomes the head of the list of its execution priority.
@@ -47,8 +47,8 @@ impl Parts {
     {
         let p = self.table.exec(t);
         let _ = p.get();
-        self.ready.to_head(t, p);
         self.named.remove(t);
+        self.ready.to_head(t, p);
     }
 
     /// The head of the highest list.
@@ -61,12 +61,19 @@ impl Parts {
         self.ready.highest()
     }
 
+    /// Costs nothing when it runs: there are 255 lists.
+    pub(crate) fn know_lists(&self)
+        ensures { length self.now.machine.lists ≡ 255 }
+    {
+        let _ = &self.named;
+    }
+
     pub(crate) fn take_off(&mut self, t: Tid)
         requires { t < length self.old.names }
         ensures { self.new ≡ with_lists (without t) self.old }
     {
-        self.ready.remove(t);
         self.named.remove(t);
+        self.ready.remove(t);
     }
 
     /// The first named thread from that number on. Those before it, from that number on, stand right; where there is none, all do.

@@ -32,6 +32,7 @@ impl Parts {
     }
 
     /// Whether the assigned priority of the thread is above the mutex's ceiling.
+    #[inline(always)]
     pub fn is_above_ceiling(&self, t: Tid, k: ObjId) -> bool
         requires thread { t < length self.now.names }
         requires mutex { k < length self.now.machine.mutexes }

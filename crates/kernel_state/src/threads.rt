@@ -123,14 +123,6 @@ impl Parts {
         self.table.thread(t).totals()
     }
 
-    /// The ticks left of a thread's unit.
-    pub fn left(&self, t: Tid) -> u64
-        requires { t < length self.now.names }
-        ensures { result ≡ top_left (thread_at self.now.machine t).frames }
-    {
-        self.table.thread(t).left()
-    }
-
     pub fn is_blocked(&self, t: Tid) -> bool
         requires { t < length self.now.names }
         ensures { result ≡ is_blocked (thread_at self.now.machine t).status }

@@ -43,6 +43,7 @@ impl Parts {
     }
 
     /// The caller blocks; its wait takes the next serial. A mutex that it waits for is owned, and to wait for it closes no cycle.
+    #[inline(never)]
     #[tactic(auto, using(crate::proofs::Waits::awaits_none))]
     pub fn block(&mut self, t: Tid, call: &Call, wait: Wait, due: Option<Tick>)
         requires known { t < length self.old.names }
@@ -64,6 +65,7 @@ impl Parts {
     }
 
     /// A wait with no order among its waiters.
+    #[inline(always)]
     #[tactic(auto, using(crate::proofs::Waits::awaits_none))]
     pub fn block_unordered(&mut self, t: Tid, call: &Call, wait: Wait, due: Option<Tick>)
         requires known { t < length self.old.names }

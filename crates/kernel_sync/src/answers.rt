@@ -41,6 +41,7 @@ fn locked_again(k: &MutexState, otherwise: Res) -> LockAnswer
 }
 
 /// How `pthread_mutex_lock` comes out, and with a time, in ticks, `pthread_mutex_timedlock`.
+#[inline(always)]
 pub(crate) fn lock_answer(p: &Parts, t: Tid, k: ObjId, due: &Option<Tick>) -> LockAnswer
     requires known { t < length p.now.names }
     requires mutex { k < length p.now.machine.mutexes }

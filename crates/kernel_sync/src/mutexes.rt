@@ -35,6 +35,7 @@ fn count_up<K: Sink>(p: &mut Parts, t: Tid, call: &Call, k: ObjId, out: &mut Tra
 }
 
 // The caller takes the mutex, which was free.
+#[inline(always)]
 #[tactic(auto, using(crate::proofs::Acts::awaits_none))]
 fn take<K: Sink>(p: &mut Parts, t: Tid, call: &Call, k: ObjId, out: &mut Tracer<'_, K>)
     requires known { t < length p.old.names }
@@ -49,6 +50,7 @@ fn take<K: Sink>(p: &mut Parts, t: Tid, call: &Call, k: ObjId, out: &mut Tracer<
 }
 
 // What an answer does.
+#[inline(always)]
 fn act<K: Sink>(
     p: &mut Parts,
     t: Tid,
@@ -75,6 +77,7 @@ fn act<K: Sink>(
 }
 
 /// `pthread_mutex_lock`, and with a time `pthread_mutex_timedlock`.
+#[inline(always)]
 #[tactic(auto, using(crate::proofs::Acts::lock_acts))]
 pub fn lock<K: Sink>(
     p: &mut Parts,

@@ -4,6 +4,8 @@ use Rattle.std.specs.Prelude.{◌-◌}
 use Rattle.pse52_trace.specs.declared.tracer.Tracer.{Tracer}
 use Rattle.pse52_trace.specs.Tells.{Tells}
 use Rattle.script_flat.specs.declared.cursor.Cursor.{Cursor}
+use Rattle.script_flat.specs.declared.op.Op.{Op}
+use Rattle.script_flat.specs.Flat as flat
 use Rattle.machine_rules.specs.Eventful.{busy}
 use Rattle.machine_rules.specs.Runs.{Ran, ticks}
 use Rattle.machine_rules.specs.State.{Machine}
@@ -15,7 +17,7 @@ use Rattle.kernel_state.specs.Stood.{StoodRight}
 use Rattle.kernel_events.specs.Calls.{objects_in}
 use Rattle.rt_kernel.specs.Fits.{StaysFit}
 use Rattle.rt_kernel.proofs.LeapCounts.{one_less}
-use Rattle.rt_kernel.proofs.Running.{Running, few_leaps, is_leap_of, one_leap, still_fits}
+use Rattle.rt_kernel.proofs.Running.{Running, few_leaps, is_leap_of, one_leap, run_on, still_fits}
 use Rattle.rt_kernel.proofs.TickTimes.{Passes, ticks_pass}
 
 -- so many of the ticks are done, and so many steps were counted before and since
@@ -60,6 +62,27 @@ module _ {K : Type 0} (text : K → Option (List ℕ)) (faults : K → ℕ) (sta
           ∙ here
           ∙ ap (λ (x : Machine Cursor). (in_leaps (flat_bodies start.code) ((total - done) - n) x).count + 1) ends
           ∙ ap (λ (i : ℕ). (in_leaps (flat_bodies start.code) i l.machine).count + 1) less
+
+  -- leaps more
+  pub leaps_on : (k l : Kernel) (total done n before since later : ℕ) (a b c : Tracer K) → Leaping text faults start k total done before since a b → n ≤ total - done →
+      l ≡ record k { machine = (ticks (flat_bodies k.code) n k.machine).machine } → Tells text faults k.names b c (ticks (flat_bodies k.code) n k.machine).events → StoodRight l.machine → l.direct ≡ [] →
+      later + (in_leaps (flat_bodies k.code) ((total - done) - n) l.machine).count ≤ since + (in_leaps (flat_bodies k.code) (total - done) k.machine).count → Leaping text faults start l total (done + n) before later a c
+  leaps_on k l total done n before since later a b c leaping fewer state tells stood quiet steps = record {
+    running = run_on text faults start k l done n a b c leaping.running state tells stood quiet;
+    within = (let le = leaping.within in omega (arith, le, fewer));
+    few = (let few = leaping.few in let more = there in omega (arith, few, more));
+  }
+    where
+      code : k.code ≡ start.code
+      code = ap (λ (x : Kernel). x.code) leaping.running.state
+
+      less : (total - done) - n ≡ total - (done + n)
+      less = omega arith
+
+      there : later + (in_leaps (flat_bodies start.code) (total - (done + n)) l.machine).count ≤ since + (in_leaps (flat_bodies start.code) (total - done) k.machine).count
+      there =
+          subst (λ (i : ℕ). later + (in_leaps (flat_bodies start.code) i l.machine).count ≤ since + (in_leaps (flat_bodies start.code) (total - done) k.machine).count) less
+          (subst (λ (x : flat.NumberedBodies (List Op)). later + (in_leaps (flat_bodies x) ((total - done) - n) l.machine).count ≤ since + (in_leaps (flat_bodies x) (total - done) k.machine).count) code steps)
 
   -- what it comes to
   module _ (k : Kernel) (total done before since : ℕ) (a b : Tracer K) (leaping : Leaping text faults start k total done before since a b) where

@@ -8,11 +8,13 @@ pub mod WholeTrace
 pub mod Opened
 pub mod Charged
 pub mod Lengths
+pub mod Onward
 pub mod Nearer
 pub mod Taken
 pub mod LeapParts
 pub mod LeapCounts
 pub mod Leaping
+pub mod Midway
 pub mod TickTimes
 pub mod Pushing
 pub mod Ticking

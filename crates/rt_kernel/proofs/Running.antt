@@ -106,6 +106,22 @@ module _ {K : Type 0} (text : K → Option (List ℕ)) (faults : K → ℕ) wher
         quiet = quiet;
       }
 
+  -- so many ticks more
+  pub run_on : (start k l : Kernel) (n j : ℕ) (a b c : Tracer K) → Running text faults start k n a b → l ≡ record k { machine = (ticks (flat_bodies k.code) j k.machine).machine } →
+      Tells text faults k.names b c (ticks (flat_bodies k.code) j k.machine).events → StoodRight l.machine → l.direct ≡ [] → Running text faults start l (n + j) a c
+  unfolding ticked
+  run_on start k l n j a b c running state tells stood quiet =
+      let bodies = flat_bodies start.code in
+      let first = state ∙ ap (ticked j) running.state in
+      let there = subst (λ (x : Kernel). Tells text faults x.names b c (ticks (flat_bodies x.code) j x.machine).events) running.state tells in
+      let both = ticks_add bodies n j start.machine in
+      record {
+        state = first ∙ ap (λ (r : Ran Cursor). record start { machine = r.machine }) (sym both);
+        told = tells_both text faults start.names a b c _ _ _ running.told there (sym (ap (λ (r : Ran Cursor). r.events) both));
+        stood = stood;
+        quiet = quiet;
+      }
+
   -- after a failure more ticks may have come
   pub stopped_told : (start k : Kernel) (n d : ℕ) (a b : Tracer K) → Running text faults start k n a b → b.failed ≡ true →
       Tells text faults start.names a b (ticks (flat_bodies start.code) (n + d) start.machine).events

@@ -1,26 +1,23 @@
-// One leap.
-ghost use Rattle.std.specs.Prelude.{◌≡◌, ◌≤◌, ◌<◌, ◌+◌, ◌^◌, None, [], length, max, min, IfSome, Some};
+// Leaps.
+ghost use Rattle.std.specs.Prelude.{◌≡◌, ◌≤◌, ◌<◌, ◌+◌, ◌-◌, ◌^◌, None, [], length, max, Some, true};
 ghost use Rattle.pse52_trace.specs.Tells.{Tells};
-ghost use Rattle.machine_rules.specs.Agenda.{agenda};
-ghost use Rattle.machine_rules.specs.Dispatch.{head};
-ghost use Rattle.machine_rules.specs.DueItems.{instant};
-ghost use Rattle.machine_rules.specs.Servers.{has_high};
+ghost use Rattle.machine_rules.specs.Runs.{ticks};
 ghost use Rattle.machine_rules.specs.Threads.{thread_at};
-ghost use Rattle.machine_rules.specs.Ticks.{tick_ends};
-ghost use Rattle.machine_rules.specs.Turns.{Turn, ◌▷◌};
+ghost use Rattle.machine_rules.specs.Turns.{becomes, changes, ◌▷◌};
 ghost use Rattle.machine_rules.specs.Units.{in_unit};
 ghost use Rattle.machine_flat.specs.FlatBodies.{flat_bodies};
-ghost use Rattle.leap_rules.specs.Leap.{leap, leap_goes_on, leap_head, leap_length, leap_runs, length_from, ticks_to_next, unit_leapt};
+ghost use Rattle.leap_rules.specs.Leap.{in_leaps, later_by, leap_runs};
+ghost use Rattle.leap_rules.specs.Quiet.{IsHandled, after_ticks};
 ghost use Rattle.kernel_events.specs.Calls.{objects_in};
-ghost use Rattle.rt_kernel.specs.Fits.{Fits, FitsLeap, ItemsFit};
+ghost use Rattle.rt_kernel.specs.Fits.{FitsLeap, StaysFit};
 ghost use Rattle.rt_kernel.specs.Landing.{IsSweepable};
-ghost use Rattle.rt_kernel.specs.Reach.{run_length, unit_length};
-ghost use Rattle.kernel_state.specs.Kernel.{Kernel, after, told, turn};
+ghost use Rattle.rt_kernel.specs.Reach.{unit_length};
+ghost use Rattle.kernel_state.specs.Kernel.{after, told};
 ghost use Rattle.kernel_state.specs.Stood.{StoodRight};
 
 use crate::instant::do_instant;
 use crate::tick_ends::end_tick;
-use crate::units::leap_unit;
+use crate::units::{charge_unit, complete_at_end, only_takes_time};
 use kernel_signals::sweep;
 use kernel_state::Parts;
 use pse52_trace::Tracer;
@@ -29,30 +26,12 @@ use std::sync::ledger::Ledger;
 use step_counter::Steps;
 use tick_num::Tid;
 
-// So many ticks of a thread's unit and the rule of the tick's end, each with its moves.
-#[inline(always)]
-fn leap_to_end<K: Sink, L: Ledger>(
-    p: &mut Parts,
-    t: Tid,
-    near: u64,
-    out: &mut Tracer<'_, K>,
-    steps: &mut Steps<L>,
-) -> u64
-    requires known { t < length p.old.names }
-    requires quiet { p.old.direct ≡ [] }
-    requires stood { StoodRight p.old.machine }
-    requires fits { FitsLeap (objects_in p.old) p.old.code p.old.machine t }
-    requires early { p.old.machine.now + max 1 near ≤ 10 ^ 18 }
-    ensures length { result ≡ unit_length near p.old.machine.quantum (in_unit (flat_bodies p.old.code) (thread_at p.old.machine t)).thread }
-    ensures state { p.new ≡ after (λ s. s ▷ unit_leapt (flat_bodies p.old.code) result s.machine t (in_unit (flat_bodies p.old.code) (thread_at s.machine t)) ▷ tick_ends (has_high (thread_at s.machine t).server) t) p.old }
-    ensures told { Tells K.text K.faults p.old.names out.old out.new (told (λ s. s ▷ unit_leapt (flat_bodies p.old.code) result s.machine t (in_unit (flat_bodies p.old.code) (thread_at s.machine t)) ▷ tick_ends (has_high (thread_at s.machine t).server) t) p.old) }
-    ensures stood { StoodRight p.new.machine }
-    ensures step { steps.new ≡ steps.old + 1 }
-{
-    let was_high = p.has_high(t);
-    let k = leap_unit(p, t, near, out, steps);
-    end_tick(p, was_high, t, out);
-    k
+// What came of a leap of a thread.
+#[derive(Clone, Copy)]
+struct Leapt {
+    ticks: u64,
+    // it was its charge alone, so that the thread goes on
+    goes_on: bool,
 }
 
 // So many ticks of a thread, to the nearest due tick at most.
@@ -63,60 +42,46 @@ fn leap_thread<K: Sink, L: Ledger>(
     near: u64,
     out: &mut Tracer<'_, K>,
     steps: &mut Steps<L>,
-) -> u64
+) -> Leapt
     requires known { t < length p.old.names }
     requires quiet { p.old.direct ≡ [] }
     requires stood { StoodRight p.old.machine }
+    requires alive { p.old.machine.killed ≡ None }
+    requires handled { IsHandled p.old.machine }
     requires fits { FitsLeap (objects_in p.old) p.old.code p.old.machine t }
     requires lands { IsSweepable (after (leap_runs (flat_bodies p.old.code) (unit_length near p.old.machine.quantum (in_unit (flat_bodies p.old.code) (thread_at p.old.machine t)).thread) (Some t)) p.old) }
     requires early { p.old.machine.now + max 1 near ≤ 10 ^ 18 }
-    ensures length { result ≡ unit_length near p.old.machine.quantum (in_unit (flat_bodies p.old.code) (thread_at p.old.machine t)).thread }
-    ensures state { p.new ≡ after (leap_runs (flat_bodies p.old.code) result (Some t)) p.old }
-    ensures told { Tells K.text K.faults p.old.names out.old out.new (told (leap_runs (flat_bodies p.old.code) result (Some t)) p.old) }
+    ensures length { result.ticks ≡ unit_length near p.old.machine.quantum (in_unit (flat_bodies p.old.code) (thread_at p.old.machine t)).thread }
+    ensures state { p.new ≡ after (leap_runs (flat_bodies p.old.code) result.ticks (Some t)) p.old }
+    ensures told { Tells K.text K.faults p.old.names out.old out.new (told (leap_runs (flat_bodies p.old.code) result.ticks (Some t)) p.old) }
     ensures stood { StoodRight p.new.machine }
     ensures quiet { p.new.direct ≡ [] }
+    ensures alone { result.goes_on ≡ true
+        → p.new ≡ after (λ s. s ▷ changes t (λ th. after_ticks result.ticks (in_unit (flat_bodies p.old.code) (thread_at p.old.machine t)).thread) ▷ becomes (later_by result.ticks)) p.old }
     ensures step { steps.new ≡ steps.old + 1 }
 {
-    let k = leap_to_end(p, t, near, out, steps);
+    let charged = charge_unit(p, t, near, steps);
+    let ticks = charged.charge.ticks;
+    if !charged.charge.is_used_up && only_takes_time(p, &charged.unit) {
+        return Leapt {
+            ticks,
+            goes_on: true,
+        };
+    }
+    complete_at_end(p, t, &charged, out);
+    p.settle();
+    end_tick(p, charged.charge.was_high, t, out);
     sweep(p, out);
-    k
-}
-
-// So many ticks of a thread, or idle ones.
-#[inline(always)]
-fn leap_runs<K: Sink, L: Ledger>(
-    p: &mut Parts,
-    to: &Option<Tid>,
-    near: u64,
-    out: &mut Tracer<'_, K>,
-    steps: &mut Steps<L>,
-) -> u64
-    requires known { IfSome to.now (λ t. t < length p.old.names) }
-    requires quiet { p.old.direct ≡ [] }
-    requires stood { StoodRight p.old.machine }
-    requires fits { IfSome to.now (λ t. FitsLeap (objects_in p.old) p.old.code p.old.machine t) }
-    requires lands { IfSome to.now (λ t. IsSweepable (after (leap_runs (flat_bodies p.old.code) (unit_length near p.old.machine.quantum (in_unit (flat_bodies p.old.code) (thread_at p.old.machine t)).thread) (Some t)) p.old)) }
-    requires early { p.old.machine.now + max 1 near ≤ 10 ^ 18 }
-    ensures length { result ≡ run_length (flat_bodies p.old.code) near to.now p.old.machine }
-    ensures state { p.new ≡ after (leap_runs (flat_bodies p.old.code) result to.now) p.old }
-    ensures told { Tells K.text K.faults p.old.names out.old out.new (told (leap_runs (flat_bodies p.old.code) result to.now) p.old) }
-    ensures stood { StoodRight p.new.machine }
-    ensures quiet { p.new.direct ≡ [] }
-    ensures step { steps.new ≡ steps.old + 1 }
-{
-    match to {
-        None => {
-            let k = near.max(1);
-            p.leap(&None, k, steps);
-            k
-        }
-        Some(t) => leap_thread(p, *t, near, out, steps),
+    Leapt {
+        ticks,
+        goes_on: false,
     }
 }
 
-// The dispatch, and so many ticks of the head.
+/// Leaps, of at most so many ticks in all: to where something falls due, or a unit, an interval or a capacity ends, and on as long as the
+/// same thread runs and nothing else happens. The answer is how many ticks they were.
 #[inline(always)]
-fn leap_head<K: Sink, L: Ledger>(
+pub(crate) fn leaps<K: Sink, L: Ledger>(
     p: &mut Parts,
     most: u64,
     out: &mut Tracer<'_, K>,
@@ -124,73 +89,37 @@ fn leap_head<K: Sink, L: Ledger>(
 ) -> u64
     requires quiet { p.old.direct ≡ [] }
     requires stood { StoodRight p.old.machine }
-    requires fits { Fits (objects_in p.old) p.old.code p.old.machine }
-    requires lands { IsSweepable (after (leap_head (flat_bodies p.old.code) (length_from (flat_bodies p.old.code) None most p.old.machine)) p.old) }
+    requires fits { StaysFit p.old (objects_in p.old) }
     requires some { 1 ≤ most }
     requires early { p.old.machine.now + most ≤ 10 ^ 18 }
-    ensures length { result ≡ length_from (flat_bodies p.old.code) None most p.old.machine }
-    ensures state { p.new ≡ after (leap_head (flat_bodies p.old.code) result) p.old }
-    ensures told { Tells K.text K.faults p.old.names out.old out.new (told (leap_head (flat_bodies p.old.code) result) p.old) }
+    ensures within { result ≤ most }
+    ensures some { 1 ≤ result }
+    ensures state { p.new ≡ record p.old { machine = (ticks (flat_bodies p.old.code) result p.old.machine).machine } }
+    ensures told { Tells K.text K.faults p.old.names out.old out.new (ticks (flat_bodies p.old.code) result p.old.machine).events }
     ensures stood { StoodRight p.new.machine }
     ensures quiet { p.new.direct ≡ [] }
-    ensures step { steps.new ≡ steps.old + 1 }
+    ensures steps { steps.new + (in_leaps (flat_bodies p.old.code) (most - result) p.new.machine).count ≤ steps.old + (in_leaps (flat_bodies p.old.code) most p.old.machine).count }
 {
-    let near = p.ticks_to_next(most);
-    let to = p.dispatch(out);
-    leap_runs(p, &to, near, out, steps)
-}
-
-// The rest of a leap, which goes as far as it may where the process has ended.
-#[inline(always)]
-fn leap_goes_on<K: Sink, L: Ledger>(
-    p: &mut Parts,
-    most: u64,
-    out: &mut Tracer<'_, K>,
-    steps: &mut Steps<L>,
-) -> u64
-    requires quiet { p.old.direct ≡ [] }
-    requires stood { StoodRight p.old.machine }
-    requires fits { Fits (objects_in p.old) p.old.code p.old.machine }
-    requires lands { IsSweepable (after (leap_goes_on (flat_bodies p.old.code) (length_from (flat_bodies p.old.code) p.old.machine.killed most p.old.machine)) p.old) }
-    requires some { 1 ≤ most }
-    requires early { p.old.machine.now + most ≤ 10 ^ 18 }
-    ensures length { result ≡ length_from (flat_bodies p.old.code) p.old.machine.killed most p.old.machine }
-    ensures state { p.new ≡ after (leap_goes_on (flat_bodies p.old.code) result) p.old }
-    ensures told { Tells K.text K.faults p.old.names out.old out.new (told (leap_goes_on (flat_bodies p.old.code) result) p.old) }
-    ensures stood { StoodRight p.new.machine }
-    ensures quiet { p.new.direct ≡ [] }
-    ensures steps { steps.old ≤ steps.new }
-    ensures step { steps.new ≤ steps.old + 1 }
-{
+    do_instant(p, out);
     if p.is_killed() {
         return most;
     }
-    leap_head(p, most, out, steps)
-}
-
-/// One leap, of at most so many ticks: to where something falls due, or a unit, an interval or a capacity ends. The answer is how many
-/// ticks it was.
-#[inline(always)]
-pub(crate) fn leap<K: Sink, L: Ledger>(
-    p: &mut Parts,
-    most: u64,
-    out: &mut Tracer<'_, K>,
-    steps: &mut Steps<L>,
-) -> u64
-    requires quiet { p.old.direct ≡ [] }
-    requires stood { StoodRight p.old.machine }
-    requires fits { ItemsFit p.old (objects_in p.old) }
-    requires lands { IsSweepable (after (leap (flat_bodies p.old.code) (leap_length (flat_bodies p.old.code) most p.old.machine)) p.old) }
-    requires some { 1 ≤ most }
-    requires early { p.old.machine.now + most ≤ 10 ^ 18 }
-    ensures length { result ≡ leap_length (flat_bodies p.old.code) most p.old.machine }
-    ensures state { p.new ≡ after (leap (flat_bodies p.old.code) result) p.old }
-    ensures told { Tells K.text K.faults p.old.names out.old out.new (told (leap (flat_bodies p.old.code) result) p.old) }
-    ensures still { (instant (flat_bodies p.old.code) (turn p.old)).direct ≡ [] }
-    ensures stood { StoodRight p.new.machine }
-    ensures quiet { p.new.direct ≡ [] }
-    ensures step { steps.new ≤ steps.old + 1 }
-{
-    do_instant(p, out);
-    leap_goes_on(p, most, out, steps)
+    let mut near = p.ticks_to_next(most);
+    let Some(t) = p.dispatch(out) else {
+        let k = near.max(1);
+        p.leap(k, steps);
+        return k;
+    };
+    let mut gone = 0;
+    'same: loop {
+        let leapt = leap_thread(p, t, near, out, steps);
+        gone += leapt.ticks;
+        if !leapt.goes_on {
+            return gone;
+        }
+        near = near.saturating_sub(leapt.ticks);
+        if near == 0 {
+            return gone;
+        }
+    }
 }

@@ -1,6 +1,7 @@
 //! The kernel: it runs the flat code of a script in leaps, which come to the same as ticks, and prints what happens.
 #![tactic(auto)]
 
+mod calls;
 mod instant;
 mod kernel;
 mod leaps;

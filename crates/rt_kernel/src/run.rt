@@ -10,7 +10,7 @@ ghost use Rattle.rt_kernel.specs.Fits.{StaysFit};
 ghost use Rattle.kernel_state.specs.Kernel.{Kernel};
 ghost use Rattle.kernel_state.specs.Stood.{StoodRight};
 
-use crate::leaps::leap;
+use crate::leaps::leaps;
 use kernel_state::Parts;
 use pse52_trace::Tracer;
 use rt_io::Sink;
@@ -63,7 +63,7 @@ pub(crate) fn run_leaps<K: Sink, L: Ledger>(
     let total = horizon.get() - p.instant().get();
     let mut done = 0;
     'leaps: while done < total {
-        done += leap(p, total - done, out, steps);
+        done += leaps(p, total - done, out, steps);
         if out.failed() {
             return RunEnd::Stopped;
         }

@@ -4,6 +4,7 @@ pub mod Unused
 pub mod Lending
 pub mod Room
 pub mod Held
+pub mod Lasting
 pub mod Ends
 pub mod Opening
 pub mod Operands

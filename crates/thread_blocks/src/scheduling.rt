@@ -10,7 +10,7 @@ ghost use Rattle.thread_blocks.specs.Ends.{end_of};
 
 use crate::ends::TickEnd;
 use crate::frame::Frame;
-use crate::server::{charge_server, new_server};
+use crate::server::new_server;
 use crate::thread::Thread;
 use arrayvec::ArrayVec;
 use script_tree::Policy;
@@ -60,20 +60,6 @@ impl Thread {
         self.server = new_server(&new, now);
         self.policy = new;
         self.slice = 0;
-    }
-
-    /// So many ticks at once, of the unit that it has taken.
-    pub fn charge(&mut self, k: u64)
-        requires { HasRoom k self.old }
-        ensures { self.new ≡ after_ticks k self.old }
-    {
-        self.ticks += k;
-        charge_top(&mut self.frames, k);
-        match self.policy {
-            Policy::Fifo(_) => {}
-            Policy::Rr(_) => self.slice += k,
-            Policy::Sporadic(_) => charge_server(&mut self.server, k),
-        }
     }
 
     /// Whether its round robin interval is used up.
@@ -126,7 +112,7 @@ fn policy_at(policy: &Policy, p: Prio) -> Policy
     }
 }
 
-fn charge_top(frames: &mut ArrayVec<Frame, 3>, k: u64)
+pub(crate) fn charge_top(frames: &mut ArrayVec<Frame, 3>, k: u64)
     ensures { frames.new.items ≡ frames_after k frames.old.items }
 {
     if let Some(frame) = frames.get_mut(0) {

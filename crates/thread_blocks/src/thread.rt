@@ -140,6 +140,7 @@ impl Thread {
     }
 
     /// It waits.
+    #[inline(always)]
     pub fn block(&mut self, waiting: Waiting)
         ensures { self.new ≡ put_to_wait (waiting_of waiting) self.old }
     {

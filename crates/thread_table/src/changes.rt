@@ -1,9 +1,9 @@
 // The changes of one thread that leave its wait as it is, or end it.
-ghost use Rattle.std.specs.Prelude.{◌≡◌, ◌<◌, ◌≤◌, ◌^◌, Some, false, is_some, length, option_map, true};
+ghost use Rattle.std.specs.Prelude.{◌≡◌, ◌==◌, ◌<◌, ◌≤◌, ◌^◌, Some, false, is_some, length, option_map, true};
 ghost use Rattle.sporadic_server.specs.Server.{activate, plan, refill, replenishment};
 ghost use Rattle.machine_rules.specs.Scheduling.{takes_priority, with_policy, with_priority};
-ghost use Rattle.machine_rules.specs.Servers.{with_server};
-ghost use Rattle.machine_rules.specs.Threads.{thread_in};
+ghost use Rattle.machine_rules.specs.Servers.{has_high, with_server};
+ghost use Rattle.machine_rules.specs.Threads.{thread_in, top_left};
 ghost use Rattle.machine_rules.specs.Ticks.{consumed_in, without_slice};
 ghost use Rattle.leap_rules.specs.Quiet.{after_ticks};
 ghost use Rattle.machine_rules.specs.Turns.{answered};
@@ -14,6 +14,7 @@ ghost use Rattle.machine_flat.specs.FlatBodies.{flat_bodies};
 ghost use Rattle.machine_flat.specs.Placed.{ArePlaced};
 ghost use Rattle.thread_blocks.specs.Ends.{refilled_of};
 ghost use Rattle.thread_blocks.specs.Handlers.{CanEnd, HandlersBegin};
+ghost use Rattle.thread_blocks.specs.Lasting.{lasts_by, used_up};
 ghost use Rattle.thread_blocks.specs.Room.{HasRoom};
 ghost use Rattle.thread_blocks.specs.Unused.{IsUnused};
 ghost use Rattle.thread_table.specs.Table as table;
@@ -27,7 +28,7 @@ use crate::times::{retime_refill, time_wait};
 use script_flat::{Code, Fetched};
 use script_tree::Policy;
 use sporadic_server::Replenish;
-use thread_blocks::Refilled;
+use thread_blocks::{Charge, Refilled};
 use tick_num::{Prio, Res, Tick, Tid};
 
 impl Table {
@@ -148,19 +149,29 @@ impl Table {
         self.threads.get_mut(t).take(code)
     }
 
-    /// So many ticks at once, of the unit that it has taken. The answer is the one thread that stands among no waiters and whose
-    /// execution priority changed; `None` exactly where there is none.
+    /// As many ticks at once as the thread runs by itself, at most so many but one at least, of the unit that it has taken; and the one
+    /// thread that stands among no waiters and whose execution priority changed, `None` exactly where there is none.
     #[inline(always)]
     #[tactic(auto, using(crate::proofs::Ties::placed))]
-    pub fn charge(&mut self, t: Tid, k: u64) -> Option<Tid>
+    pub fn run(&mut self, t: Tid, most: u64, quantum: u64) -> (Charge, Option<Tid>)
         requires known { t < length self.old.threads }
-        requires room { HasRoom k (thread_in self.old.threads t) }
-        ensures table { self.new ≡ with_thread t (after_ticks k) self.old }
-        ensures thread { thread_in self.new.threads t ≡ after_ticks k (thread_in self.old.threads t) }
-        ensures moved { TellsMoved self.old self.new result }
+        requires room { HasRoom (lasts_by most quantum (thread_in self.old.threads t)) (thread_in self.old.threads t) }
+        ensures table { self.new ≡ with_thread t (after_ticks result.0.ticks) self.old }
+        ensures thread { thread_in self.new.threads t ≡ after_ticks result.0.ticks (thread_in self.old.threads t) }
+        ensures ticks { result.0.ticks ≡ lasts_by most quantum (thread_in self.old.threads t) }
+        ensures complete { result.0.is_complete ≡ (top_left (thread_in self.new.threads t).frames == 0) }
+        ensures high { result.0.was_high ≡ has_high (thread_in self.old.threads t).server }
+        ensures used { result.0.is_used_up ≡ used_up result.0.was_high quantum (thread_in self.new.threads t) }
+        ensures moved { TellsMoved self.old self.new result.1 }
     {
-        let was_high = self.threads.get(t).has_high();
-        self.threads.get_mut(t).charge(k);
-        thread_of(reassign_charged(&self.threads, &mut self.chain, &mut self.waits, t, was_high))
+        let charge = self.threads.get_mut(t).run(most, quantum);
+        let moved = reassign_charged(
+            &self.threads,
+            &mut self.chain,
+            &mut self.waits,
+            t,
+            charge.was_high,
+        );
+        (charge, thread_of(moved))
     }
 }

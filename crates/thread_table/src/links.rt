@@ -101,6 +101,7 @@ fn leave_place(chain: &mut Chain, waits: &mut Waits, t: Tid) -> Option<Moved>
 }
 
 /// The thread, which waits for nothing in an order, begins to wait at its execution priority.
+#[inline(always)]
 pub(crate) fn begin_waiting(
     chain: &mut Chain,
     waits: &mut Waits,

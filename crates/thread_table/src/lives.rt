@@ -51,6 +51,7 @@ impl Table {
 
     /// It waits; what it waited for before, it leaves. The mutex that it begins to await is owned, and no cycle comes of it. The answer is
     /// the one thread that stands among no waiters and whose execution priority changed; `None` exactly where there is none.
+    #[inline(always)]
     #[tactic(auto, using(crate::proofs::Ties::placed))]
     pub fn block(&mut self, t: Tid, waiting: Waiting) -> Option<Tid>
         requires known { t < length self.old.threads }
@@ -59,10 +60,10 @@ impl Table {
         ensures table { self.new ≡ with_thread t (put_to_wait (waiting_of waiting)) self.old }
         ensures moved { TellsMoved self.old self.new result }
     {
-        self.threads.get_mut(t).block(waiting);
-        time_wait(&mut self.wheel, t, waiting.due);
         stop_waiting(&mut self.chain, &mut self.waits, t);
         let moved = begin_waiting(&mut self.chain, &mut self.waits, t, &waiting);
+        self.threads.get_mut(t).block(waiting);
+        time_wait(&mut self.wheel, t, waiting.due);
         thread_of(moved)
     }
 }

@@ -5,23 +5,15 @@ use Rattle.machine_rules.specs.Runs.{ticks}
 use Rattle.machine_flat.specs.FlatBodies.{flat_bodies}
 use Rattle.leap_rules.specs.Leap.{in_leaps}
 use Rattle.rt_kernel.proofs.Ending.{ends_there, told_there, was_ended, was_told}
-use Rattle.rt_kernel.proofs.Landing.{leap_lands}
-use Rattle.rt_kernel.proofs.Leaping.{few_busy, few_steps, leap_on, not_beyond, not_earlier}
-use Rattle.rt_kernel.proofs.Running.{items_fit, still_fits, stopped_told}
+use Rattle.rt_kernel.proofs.Leaping.{few_busy, few_steps, leaps_on, not_beyond, not_earlier}
+use Rattle.rt_kernel.proofs.Running.{still_fits, stopped_told}
 use Rattle.rt_kernel.proofs.run.run_leaps.Goals as goal
 
-pub leap-done-requires-clause-fits : goal.leap-done-requires-clause-fits
-leap-done-requires-clause-fits g c =
-    let running = c.leaps.invariant.leaping.running in
-    items_fit c.leaps.p running.quiet (still_fits c.args.p.now c.leaps.p c.leaps.done running.state c.requires.fits)
+pub leaps-done-requires-clause-fits : goal.leaps-done-requires-clause-fits
+leaps-done-requires-clause-fits g c = still_fits c.args.p.now c.leaps.p c.leaps.done c.leaps.invariant.leaping.running.state c.requires.fits
 
-pub leap-done-requires-clause-lands : goal.leap-done-requires-clause-lands
-leap-done-requires-clause-lands g c =
-    let running = c.leaps.invariant.leaping.running in
-    leap_lands c.leaps.p ((c.get.result - c.get-2.result) - c.leaps.done) (let left = c.leaps-test.true in omega (arith, left)) running.quiet (still_fits c.args.p.now c.leaps.p c.leaps.done running.state c.requires.fits)
-
-pub leap-done-requires-clause-early : goal.leap-done-requires-clause-early
-leap-done-requires-clause-early g c =
+pub leaps-done-requires-clause-early : goal.leaps-done-requires-clause-early
+leaps-done-requires-clause-early g c =
     let far = not_beyond _ _ c.args.p.now c.requires.fits c.leaps.p _ _ _ _ _ _ c.leaps.invariant.leaping in
     let to : c.get.result ≡ c.args.horizon = c.get.ensures.value in
     let from : c.get-2.result ≡ c.args.p.now.machine.now = c.get-2.ensures.value ∙ c.instant.ensures in
@@ -32,39 +24,39 @@ leap-done-requires-clause-early g c =
 
 pub leaps-preserved : goal.leaps-preserved
 leaps-preserved g c =
-    let on = leap_on _ _ c.args.p.now c.requires.fits _ _ _ _ _ _ _ _ _ _ _ c.leaps.invariant.leaping c.leaps-test.true c.leap-done.ensures.length c.leap-done.ensures.state c.leap-done.ensures.told
-    c.leap-done.ensures.stood c.leap-done.ensures.quiet c.leap-done.ensures.step in
+    let on = leaps_on _ _ c.args.p.now c.requires.fits _ _ _ _ _ _ _ _ _ _ _ c.leaps.invariant.leaping c.leaps-done.ensures.within c.leaps-done.ensures.state c.leaps-done.ensures.told
+    c.leaps-done.ensures.stood c.leaps-done.ensures.quiet c.leaps-done.ensures.steps in
     record { leaping = on; good = sym c.failed.ensures ∙ c.if-failed.false; alive = sym c.killed-in-leaps.ensures ∙ c.in_default-killed.is }
 
 pub returns-then-failed-clause-told : goal.returns-then-failed-clause-told
 returns-then-failed-clause-told g c =
     let p = c.args.p.now in
-    let on = leap_on _ _ c.args.p.now c.requires.fits _ _ _ _ _ _ _ _ _ _ _ c.leaps.invariant.leaping c.leaps-test.true c.leap-done.ensures.length c.leap-done.ensures.state c.leap-done.ensures.told
-    c.leap-done.ensures.stood c.leap-done.ensures.quiet c.leap-done.ensures.step in
+    let on = leaps_on _ _ c.args.p.now c.requires.fits _ _ _ _ _ _ _ _ _ _ _ c.leaps.invariant.leaping c.leaps-done.ensures.within c.leaps-done.ensures.state c.leaps-done.ensures.told
+    c.leaps-done.ensures.stood c.leaps-done.ensures.quiet c.leaps-done.ensures.steps in
     let all : c.get.result - c.get-2.result ≡ c.args.horizon - c.args.p.now.machine.now = (let to = c.get.ensures.value in let from = c.get-2.ensures.value ∙ c.instant.ensures in omega (arith, to, from)) in
-    let k : ℕ = c.leaps.done + c.leap-done.result in
+    let k : ℕ = c.leaps.done + c.leaps-done.result in
     let d : ℕ = (c.args.horizon - p.machine.now) - k in
     let within = on.within in
     let n : k + d ≡ c.args.horizon - p.machine.now = omega (arith, all, within) in
-    subst (λ (j : ℕ). Tells g.K.Sink.text g.K.Sink.faults p.names c.args.out.now c.leap-done.new.out (ticks (flat_bodies p.code) j p.machine).events) n
-    (stopped_told g.K.Sink.text g.K.Sink.faults p c.leap-done.new.p k d c.args.out.now c.leap-done.new.out on.running (sym c.failed.ensures ∙ c.if-failed.true))
+    subst (λ (j : ℕ). Tells g.K.Sink.text g.K.Sink.faults p.names c.args.out.now c.leaps-done.new.out (ticks (flat_bodies p.code) j p.machine).events) n
+    (stopped_told g.K.Sink.text g.K.Sink.faults p c.leaps-done.new.p k d c.args.out.now c.leaps-done.new.out on.running (sym c.failed.ensures ∙ c.if-failed.true))
 
 pub returns-then-failed-clause-fits : goal.returns-then-failed-clause-fits
 returns-then-failed-clause-fits g c =
-    let on = leap_on _ _ c.args.p.now c.requires.fits _ _ _ _ _ _ _ _ _ _ _ c.leaps.invariant.leaping c.leaps-test.true c.leap-done.ensures.length c.leap-done.ensures.state c.leap-done.ensures.told
-    c.leap-done.ensures.stood c.leap-done.ensures.quiet c.leap-done.ensures.step in
-    still_fits c.args.p.now c.leap-done.new.p (c.leaps.done + c.leap-done.result) on.running.state c.requires.fits
+    let on = leaps_on _ _ c.args.p.now c.requires.fits _ _ _ _ _ _ _ _ _ _ _ c.leaps.invariant.leaping c.leaps-done.ensures.within c.leaps-done.ensures.state c.leaps-done.ensures.told
+    c.leaps-done.ensures.stood c.leaps-done.ensures.quiet c.leaps-done.ensures.steps in
+    still_fits c.args.p.now c.leaps-done.new.p (c.leaps.done + c.leaps-done.result) on.running.state c.requires.fits
 
 pub returns-then-failed-clause-later : goal.returns-then-failed-clause-later
 returns-then-failed-clause-later g c =
-    let on = leap_on _ _ c.args.p.now c.requires.fits _ _ _ _ _ _ _ _ _ _ _ c.leaps.invariant.leaping c.leaps-test.true c.leap-done.ensures.length c.leap-done.ensures.state c.leap-done.ensures.told
-    c.leap-done.ensures.stood c.leap-done.ensures.quiet c.leap-done.ensures.step in
+    let on = leaps_on _ _ c.args.p.now c.requires.fits _ _ _ _ _ _ _ _ _ _ _ c.leaps.invariant.leaping c.leaps-done.ensures.within c.leaps-done.ensures.state c.leaps-done.ensures.told
+    c.leaps-done.ensures.stood c.leaps-done.ensures.quiet c.leaps-done.ensures.steps in
     not_earlier _ _ c.args.p.now c.requires.fits _ _ _ _ _ _ _ on
 
 pub returns-then-failed-clause-not_beyond : goal.returns-then-failed-clause-not_beyond
 returns-then-failed-clause-not_beyond g c =
-    let on = leap_on _ _ c.args.p.now c.requires.fits _ _ _ _ _ _ _ _ _ _ _ c.leaps.invariant.leaping c.leaps-test.true c.leap-done.ensures.length c.leap-done.ensures.state c.leap-done.ensures.told
-    c.leap-done.ensures.stood c.leap-done.ensures.quiet c.leap-done.ensures.step in
+    let on = leaps_on _ _ c.args.p.now c.requires.fits _ _ _ _ _ _ _ _ _ _ _ c.leaps.invariant.leaping c.leaps-done.ensures.within c.leaps-done.ensures.state c.leaps-done.ensures.told
+    c.leaps-done.ensures.stood c.leaps-done.ensures.quiet c.leaps-done.ensures.steps in
     let all : c.get.result - c.get-2.result ≡ c.args.horizon - c.args.p.now.machine.now = (let to = c.get.ensures.value in let from = c.get-2.ensures.value ∙ c.instant.ensures in omega (arith, to, from)) in
     let far = not_beyond _ _ c.args.p.now c.requires.fits _ _ _ _ _ _ _ on in
     let within = on.within in
@@ -73,18 +65,18 @@ returns-then-failed-clause-not_beyond g c =
 
 pub returns-then-failed-clause-steps : goal.returns-then-failed-clause-steps
 returns-then-failed-clause-steps g c =
-    let on = leap_on _ _ c.args.p.now c.requires.fits _ _ _ _ _ _ _ _ _ _ _ c.leaps.invariant.leaping c.leaps-test.true c.leap-done.ensures.length c.leap-done.ensures.state c.leap-done.ensures.told
-    c.leap-done.ensures.stood c.leap-done.ensures.quiet c.leap-done.ensures.step in
+    let on = leaps_on _ _ c.args.p.now c.requires.fits _ _ _ _ _ _ _ _ _ _ _ c.leaps.invariant.leaping c.leaps-done.ensures.within c.leaps-done.ensures.state c.leaps-done.ensures.told
+    c.leaps-done.ensures.stood c.leaps-done.ensures.quiet c.leaps-done.ensures.steps in
     let all : c.get.result - c.get-2.result ≡ c.args.horizon - c.args.p.now.machine.now = (let to = c.get.ensures.value in let from = c.get-2.ensures.value ∙ c.instant.ensures in omega (arith, to, from)) in
-    subst (λ (n : ℕ). c.leap-done.new.steps ≤ c.args.steps.now + (in_leaps (flat_bodies c.args.p.now.code) n c.args.p.now.machine).count) all
+    subst (λ (n : ℕ). c.leaps-done.new.steps ≤ c.args.steps.now + (in_leaps (flat_bodies c.args.p.now.code) n c.args.p.now.machine).count) all
     (few_steps _ _ c.args.p.now c.requires.fits _ _ _ _ _ _ _ on)
 
 pub returns-then-failed-clause-busy : goal.returns-then-failed-clause-busy
 returns-then-failed-clause-busy g c =
-    let on = leap_on _ _ c.args.p.now c.requires.fits _ _ _ _ _ _ _ _ _ _ _ c.leaps.invariant.leaping c.leaps-test.true c.leap-done.ensures.length c.leap-done.ensures.state c.leap-done.ensures.told
-    c.leap-done.ensures.stood c.leap-done.ensures.quiet c.leap-done.ensures.step in
+    let on = leaps_on _ _ c.args.p.now c.requires.fits _ _ _ _ _ _ _ _ _ _ _ c.leaps.invariant.leaping c.leaps-done.ensures.within c.leaps-done.ensures.state c.leaps-done.ensures.told
+    c.leaps-done.ensures.stood c.leaps-done.ensures.quiet c.leaps-done.ensures.steps in
     let all : c.get.result - c.get-2.result ≡ c.args.horizon - c.args.p.now.machine.now = (let to = c.get.ensures.value in let from = c.get-2.ensures.value ∙ c.instant.ensures in omega (arith, to, from)) in
-    subst (λ (n : ℕ). c.leap-done.new.steps ≤ c.args.steps.now + busy (flat_bodies c.args.p.now.code) c.args.p.now.machine 0 n + 1) all
+    subst (λ (n : ℕ). c.leaps-done.new.steps ≤ c.args.steps.now + busy (flat_bodies c.args.p.now.code) c.args.p.now.machine 0 n + 1) all
     (few_busy _ _ c.args.p.now c.requires.fits _ _ _ _ _ _ _ on)
 
 pub returns-clause-later : goal.returns-clause-later
@@ -112,20 +104,20 @@ returns-clause-busy g c =
 
 pub returns-in-Some-killed-clause-fits : goal.returns-in-Some-killed-clause-fits
 returns-in-Some-killed-clause-fits g c =
-    let on = leap_on _ _ c.args.p.now c.requires.fits _ _ _ _ _ _ _ _ _ _ _ c.leaps.invariant.leaping c.leaps-test.true c.leap-done.ensures.length c.leap-done.ensures.state c.leap-done.ensures.told
-    c.leap-done.ensures.stood c.leap-done.ensures.quiet c.leap-done.ensures.step in
-    still_fits c.args.p.now c.leap-done.new.p (c.leaps.done + c.leap-done.result) on.running.state c.requires.fits
+    let on = leaps_on _ _ c.args.p.now c.requires.fits _ _ _ _ _ _ _ _ _ _ _ c.leaps.invariant.leaping c.leaps-done.ensures.within c.leaps-done.ensures.state c.leaps-done.ensures.told
+    c.leaps-done.ensures.stood c.leaps-done.ensures.quiet c.leaps-done.ensures.steps in
+    still_fits c.args.p.now c.leaps-done.new.p (c.leaps.done + c.leaps-done.result) on.running.state c.requires.fits
 
 pub returns-in-Some-killed-clause-later : goal.returns-in-Some-killed-clause-later
 returns-in-Some-killed-clause-later g c =
-    let on = leap_on _ _ c.args.p.now c.requires.fits _ _ _ _ _ _ _ _ _ _ _ c.leaps.invariant.leaping c.leaps-test.true c.leap-done.ensures.length c.leap-done.ensures.state c.leap-done.ensures.told
-    c.leap-done.ensures.stood c.leap-done.ensures.quiet c.leap-done.ensures.step in
+    let on = leaps_on _ _ c.args.p.now c.requires.fits _ _ _ _ _ _ _ _ _ _ _ c.leaps.invariant.leaping c.leaps-done.ensures.within c.leaps-done.ensures.state c.leaps-done.ensures.told
+    c.leaps-done.ensures.stood c.leaps-done.ensures.quiet c.leaps-done.ensures.steps in
     not_earlier _ _ c.args.p.now c.requires.fits _ _ _ _ _ _ _ on
 
 pub returns-in-Some-killed-clause-not_beyond : goal.returns-in-Some-killed-clause-not_beyond
 returns-in-Some-killed-clause-not_beyond g c =
-    let on = leap_on _ _ c.args.p.now c.requires.fits _ _ _ _ _ _ _ _ _ _ _ c.leaps.invariant.leaping c.leaps-test.true c.leap-done.ensures.length c.leap-done.ensures.state c.leap-done.ensures.told
-    c.leap-done.ensures.stood c.leap-done.ensures.quiet c.leap-done.ensures.step in
+    let on = leaps_on _ _ c.args.p.now c.requires.fits _ _ _ _ _ _ _ _ _ _ _ c.leaps.invariant.leaping c.leaps-done.ensures.within c.leaps-done.ensures.state c.leaps-done.ensures.told
+    c.leaps-done.ensures.stood c.leaps-done.ensures.quiet c.leaps-done.ensures.steps in
     let all : c.get.result - c.get-2.result ≡ c.args.horizon - c.args.p.now.machine.now = (let to = c.get.ensures.value in let from = c.get-2.ensures.value ∙ c.instant.ensures in omega (arith, to, from)) in
     let far = not_beyond _ _ c.args.p.now c.requires.fits _ _ _ _ _ _ _ on in
     let within = on.within in
@@ -134,38 +126,38 @@ returns-in-Some-killed-clause-not_beyond g c =
 
 pub returns-in-Some-killed-clause-steps : goal.returns-in-Some-killed-clause-steps
 returns-in-Some-killed-clause-steps g c =
-    let on = leap_on _ _ c.args.p.now c.requires.fits _ _ _ _ _ _ _ _ _ _ _ c.leaps.invariant.leaping c.leaps-test.true c.leap-done.ensures.length c.leap-done.ensures.state c.leap-done.ensures.told
-    c.leap-done.ensures.stood c.leap-done.ensures.quiet c.leap-done.ensures.step in
+    let on = leaps_on _ _ c.args.p.now c.requires.fits _ _ _ _ _ _ _ _ _ _ _ c.leaps.invariant.leaping c.leaps-done.ensures.within c.leaps-done.ensures.state c.leaps-done.ensures.told
+    c.leaps-done.ensures.stood c.leaps-done.ensures.quiet c.leaps-done.ensures.steps in
     let all : c.get.result - c.get-2.result ≡ c.args.horizon - c.args.p.now.machine.now = (let to = c.get.ensures.value in let from = c.get-2.ensures.value ∙ c.instant.ensures in omega (arith, to, from)) in
-    subst (λ (n : ℕ). c.leap-done.new.steps ≤ c.args.steps.now + (in_leaps (flat_bodies c.args.p.now.code) n c.args.p.now.machine).count) all
+    subst (λ (n : ℕ). c.leaps-done.new.steps ≤ c.args.steps.now + (in_leaps (flat_bodies c.args.p.now.code) n c.args.p.now.machine).count) all
     (few_steps _ _ c.args.p.now c.requires.fits _ _ _ _ _ _ _ on)
 
 pub returns-in-Some-killed-clause-busy : goal.returns-in-Some-killed-clause-busy
 returns-in-Some-killed-clause-busy g c =
-    let on = leap_on _ _ c.args.p.now c.requires.fits _ _ _ _ _ _ _ _ _ _ _ c.leaps.invariant.leaping c.leaps-test.true c.leap-done.ensures.length c.leap-done.ensures.state c.leap-done.ensures.told
-    c.leap-done.ensures.stood c.leap-done.ensures.quiet c.leap-done.ensures.step in
+    let on = leaps_on _ _ c.args.p.now c.requires.fits _ _ _ _ _ _ _ _ _ _ _ c.leaps.invariant.leaping c.leaps-done.ensures.within c.leaps-done.ensures.state c.leaps-done.ensures.told
+    c.leaps-done.ensures.stood c.leaps-done.ensures.quiet c.leaps-done.ensures.steps in
     let all : c.get.result - c.get-2.result ≡ c.args.horizon - c.args.p.now.machine.now = (let to = c.get.ensures.value in let from = c.get-2.ensures.value ∙ c.instant.ensures in omega (arith, to, from)) in
-    subst (λ (n : ℕ). c.leap-done.new.steps ≤ c.args.steps.now + busy (flat_bodies c.args.p.now.code) c.args.p.now.machine 0 n + 1) all
+    subst (λ (n : ℕ). c.leaps-done.new.steps ≤ c.args.steps.now + busy (flat_bodies c.args.p.now.code) c.args.p.now.machine 0 n + 1) all
     (few_busy _ _ c.args.p.now c.requires.fits _ _ _ _ _ _ _ on)
 
 -- where the process ended in this leap
 pub returns-in-Some-killed-clause-state : goal.returns-in-Some-killed-clause-state
 returns-in-Some-killed-clause-state g c clean =
-    let on = leap_on _ _ c.args.p.now c.requires.fits _ _ _ _ _ _ _ _ _ _ _ c.leaps.invariant.leaping c.leaps-test.true c.leap-done.ensures.length c.leap-done.ensures.state c.leap-done.ensures.told
-    c.leap-done.ensures.stood c.leap-done.ensures.quiet c.leap-done.ensures.step in
+    let on = leaps_on _ _ c.args.p.now c.requires.fits _ _ _ _ _ _ _ _ _ _ _ c.leaps.invariant.leaping c.leaps-done.ensures.within c.leaps-done.ensures.state c.leaps-done.ensures.told
+    c.leaps-done.ensures.stood c.leaps-done.ensures.quiet c.leaps-done.ensures.steps in
     let all : c.get.result - c.get-2.result ≡ c.args.horizon - c.args.p.now.machine.now = (let to = c.get.ensures.value in let from = c.get-2.ensures.value ∙ c.instant.ensures in omega (arith, to, from)) in
     let ended = sym c.killed-in-leaps.ensures ∙ c.in-Some-killed.is in
-    subst (λ (n : ℕ). c.leap-done.new.p ≡ record c.args.p.now { machine = (ticks (flat_bodies c.args.p.now.code) n c.args.p.now.machine).machine }) all
-    (ends_there _ _ c.args.p.now c.leap-done.new.p _ _ c.in-Some-killed.signal _ _ on.running on.within ended)
+    subst (λ (n : ℕ). c.leaps-done.new.p ≡ record c.args.p.now { machine = (ticks (flat_bodies c.args.p.now.code) n c.args.p.now.machine).machine }) all
+    (ends_there _ _ c.args.p.now c.leaps-done.new.p _ _ c.in-Some-killed.signal _ _ on.running on.within ended)
 
 pub returns-in-Some-killed-clause-told : goal.returns-in-Some-killed-clause-told
 returns-in-Some-killed-clause-told g c =
-    let on = leap_on _ _ c.args.p.now c.requires.fits _ _ _ _ _ _ _ _ _ _ _ c.leaps.invariant.leaping c.leaps-test.true c.leap-done.ensures.length c.leap-done.ensures.state c.leap-done.ensures.told
-    c.leap-done.ensures.stood c.leap-done.ensures.quiet c.leap-done.ensures.step in
+    let on = leaps_on _ _ c.args.p.now c.requires.fits _ _ _ _ _ _ _ _ _ _ _ c.leaps.invariant.leaping c.leaps-done.ensures.within c.leaps-done.ensures.state c.leaps-done.ensures.told
+    c.leaps-done.ensures.stood c.leaps-done.ensures.quiet c.leaps-done.ensures.steps in
     let all : c.get.result - c.get-2.result ≡ c.args.horizon - c.args.p.now.machine.now = (let to = c.get.ensures.value in let from = c.get-2.ensures.value ∙ c.instant.ensures in omega (arith, to, from)) in
     let ended = sym c.killed-in-leaps.ensures ∙ c.in-Some-killed.is in
-    subst (λ (n : ℕ). Tells g.K.Sink.text g.K.Sink.faults c.args.p.now.names c.args.out.now c.leap-done.new.out (ticks (flat_bodies c.args.p.now.code) n c.args.p.now.machine).events) all
-    (told_there g.K.Sink.text g.K.Sink.faults c.args.p.now c.leap-done.new.p _ _ c.in-Some-killed.signal c.args.out.now c.leap-done.new.out on.running on.within ended)
+    subst (λ (n : ℕ). Tells g.K.Sink.text g.K.Sink.faults c.args.p.now.names c.args.out.now c.leaps-done.new.out (ticks (flat_bodies c.args.p.now.code) n c.args.p.now.machine).events) all
+    (told_there g.K.Sink.text g.K.Sink.faults c.args.p.now c.leaps-done.new.p _ _ c.in-Some-killed.signal c.args.out.now c.leaps-done.new.out on.running on.within ended)
 
 -- where it had ended before
 pub returns-in-Some-clause-state : goal.returns-in-Some-clause-state

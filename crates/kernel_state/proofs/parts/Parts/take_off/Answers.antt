@@ -5,6 +5,6 @@ pub invariant_of-self : goal.invariant_of-self
 invariant_of-self c =
     let s = c.self.inside in
     record {
-      tied = rw c.remove.ensures c.self.invariant.tied;
-      stand = rw c.remove.ensures (taken_off s.named.bits c.remove-2.new.self.bits s.table s.ready.lists c.args.t c.self.invariant.stand c.remove-2.ensures);
+      tied = rw c.remove-2.ensures c.self.invariant.tied;
+      stand = rw c.remove-2.ensures (taken_off s.named.bits c.remove.new.self.bits s.table s.ready.lists c.args.t c.self.invariant.stand c.remove.ensures);
     }

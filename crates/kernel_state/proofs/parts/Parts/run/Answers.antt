@@ -1,0 +1,22 @@
+use Rattle.script_flat.specs.declared.cursor.Cursor.{Cursor}
+use Rattle.machine_rules.specs.State.{Thread}
+use Rattle.leap_rules.specs.Quiet.{after_ticks}
+use Rattle.kernel_state.proofs.Carried.{as_many, fit, tied_again, told_there, told_thread}
+use Rattle.kernel_state.proofs.parts.Parts.run.Goals as goal
+
+pub invariant_of-self : goal.invariant_of-self
+invariant_of-self c =
+    let s = c.self.inside in
+    let w = c.run-moved in
+    let f : Thread Cursor → Thread Cursor = after_ticks w.result.0.ticks in
+    record {
+      tied = tied_again s.names s.code s.ready.threads s.table.threads w.new.self.threads s.direct (as_many s.table w.new.self c.args.t f w.ensures.table) c.self.invariant.tied;
+      stand = told_thread s.table w.new.self s.ready.lists s.named.bits c.args.t f w.ensures.table c.self.invariant.stand c.take_in.new.self.bits w.result.1 (λ th h. h) c.take_in.ensures w.ensures.moved;
+    }
+
+pub take_in-requires : goal.take_in-requires
+take_in-requires c =
+    let s = c.self.inside in
+    let w = c.run-moved in
+    let f : Thread Cursor → Thread Cursor = after_ticks w.result.0.ticks in
+    fit s.table w.new.self w.result.1 (as_many s.table w.new.self c.args.t f w.ensures.table) c.self.invariant.tied.few (told_there s.table w.new.self w.result.1 w.ensures.moved)

@@ -1,0 +1,110 @@
+-- A leap whose unit only takes time, and that uses up neither its interval nor its capacity: it is its charge alone, and the threads
+-- stand right after it.
+use Rattle.std.proofs.Common.{◌≡◌, ◌≤◌, ◌<◌, ◌-◌, ℕ, Bool, true, false, List, [], Option, None, Some, ap, arith, refl, subst, sym, ◌∙◌}
+use Rattle.std.specs.Prelude.{◌==◌, ◌&&◌, ◌||◌, if◌then◌else◌}
+use Rattle.pse52_trace.specs.declared.tracer.Tracer.{Tracer}
+use Rattle.pse52_trace.specs.Tells.{Tells}
+use Rattle.pse52_trace.specs.Text.{Entry}
+use Rattle.pse52_trace.proofs.Tells.{tells_nothing}
+use Rattle.script_flat.specs.declared.cursor.Cursor.{Cursor}
+use Rattle.script_flat.specs.declared.fetched.Fetched.{Fetched}
+use Rattle.script_flat.specs.declared.op.Op.{Op}
+use Rattle.script_flat.specs.declared.unit.Unit as unit_type
+use Rattle.script_flat.specs.declared.unit.Unit.TheVariants as unit
+use Rattle.script_flat.specs.Fetched.{unit_of}
+use Rattle.script_flat.specs.Flat as flat
+use Rattle.machine_rules.specs.Bodies.{Bodies}
+use Rattle.machine_rules.specs.Calls.{unit_effect}
+use Rattle.machine_rules.specs.Servers.{has_high}
+use Rattle.machine_rules.specs.State.{Thread}
+use Rattle.machine_rules.specs.Threads.{can_run, thread_at}
+use Rattle.machine_rules.specs.Ticks.{capacity_in, slice_is_used}
+use Rattle.machine_rules.specs.Turns.{Turn, becomes, changes, turn_of, ◌▷◌}
+use Rattle.machine_rules.specs.Units.{in_unit}
+use Rattle.machine_flat.specs.FlatBodies.{flat_bodies}
+use Rattle.leap_rules.specs.Leap.{later_by, leap_runs}
+use Rattle.leap_rules.specs.Quiet.{IsHandled, after_ticks}
+use Rattle.machine_leaps.proofs.Leaps.Going.{gone, gone_can_run, gone_exec, leapt_alone}
+use Rattle.machine_leaps.proofs.Quiet.AnyMachine.{handled_of}
+use Rattle.thread_blocks.specs.Lasting.{used_up}
+use Rattle.kernel_state.specs.Kernel.{Kernel, after, told, turn}
+use Rattle.kernel_state.specs.Stood.{StoodRight}
+use Rattle.rt_kernel.specs.Reach.{only_takes_time}
+use Rattle.rt_kernel.proofs.Running.{turn_is}
+
+does_nothing : (bodies : Bodies Cursor) (t : ℕ) (u : unit_type.Unit) → only_takes_time u ≡ true → (s : Turn Cursor) → unit_effect bodies t u s ≡ s
+does_nothing bodies t (unit.Run n) e s = refl
+does_nothing bodies t (unit.Make c) e s = absurd (grind arith)
+does_nothing bodies t unit.Jump e s = refl
+does_nothing bodies t unit.Finish e s = absurd (grind arith)
+
+first_no : (a b : Bool) → (a || b) ≡ false → a ≡ false
+first_no a b e = grind arith
+
+second_no : (a b : Bool) → (a || b) ≡ false → b ≡ false
+second_no a b e = grind arith
+
+-- so many ticks of a thread in its unit
+abbrev pub charges_by : ℕ → ℕ → Kernel → Turn Cursor → Turn Cursor
+charges_by t k p s = s ▷ changes t (λ th. after_ticks k (in_unit (flat_bodies p.code) (thread_at p.machine t)).thread) ▷ becomes (later_by k)
+
+-- nothing is used up, by the answer of the charge
+pub not_used : (p l : Kernel) (t k : ℕ) (used was_high : Bool) → used ≡ false → used ≡ used_up was_high p.machine.quantum (thread_at l.machine t) → was_high ≡ has_high (thread_at p.machine t).server →
+    thread_at l.machine t ≡ after_ticks k (in_unit (flat_bodies p.code) (thread_at p.machine t)).thread →
+    used_up (has_high (thread_at p.machine t).server) p.machine.quantum (after_ticks k (in_unit (flat_bodies p.code) (thread_at p.machine t)).thread) ≡ false
+not_used p l t k used was_high e is high at =
+    ap (λ (th : Thread Cursor). used_up (has_high (thread_at p.machine t).server) p.machine.quantum th) (sym at)
+    ∙ ap (λ (b : Bool). used_up b p.machine.quantum (thread_at l.machine t)) (sym high)
+    ∙ sym is ∙ e
+
+-- and the unit only takes time, by the look at it
+pub only_time : (p l : Kernel) (f : Fetched) (u : unit_type.Unit) (b : Bool) → l.code ≡ p.code → unit_of p.code f ≡ u → b ≡ only_takes_time (unit_of l.code f) → b ≡ true → only_takes_time u ≡ true
+only_time p l f u b code is looks holds =
+    ap only_takes_time (sym is) ∙ ap (λ (x : flat.NumberedBodies (List Op)). only_takes_time (unit_of x f)) (sym code) ∙ sym looks ∙ holds
+
+module _ (p l : Kernel) (t k : ℕ) (state : l ≡ after (charges_by t k p) p) (quiet : p.direct ≡ []) (stood : StoodRight p.machine)
+    (over : used_up (has_high (thread_at p.machine t).server) p.machine.quantum (after_ticks k (in_unit (flat_bodies p.code) (thread_at p.machine t)).thread) ≡ false)
+    (idle : only_takes_time (in_unit (flat_bodies p.code) (thread_at p.machine t)).unit ≡ true)
+    (can : can_run p.machine t ≡ true) (alive : p.machine.killed ≡ None) (handled : IsHandled p.machine) where
+  abbrev bodies : Bodies Cursor
+  bodies = flat_bodies p.code
+
+  abbrev spent : Thread Cursor
+  spent = after_ticks k (in_unit bodies (thread_at p.machine t)).thread
+
+  full : (has_high (thread_at p.machine t).server && capacity_in spent.server == 0) ≡ false
+  full = second_no (slice_is_used spent.policy spent.slice p.machine.quantum) (has_high (thread_at p.machine t).server && capacity_in spent.server == 0) over
+
+  alone : leap_runs bodies k (Some t) (turn p) ≡ turn_of (gone bodies t k p.machine)
+  alone =
+      let ready = handled_of bodies p.machine handled in
+      ap (leap_runs bodies k (Some t)) (turn_is p quiet)
+      ∙ leapt_alone bodies t k p.machine full ready.stand
+      (first_no (slice_is_used spent.policy spent.slice p.machine.quantum) (has_high (thread_at p.machine t).server && capacity_in spent.server == 0) over)
+      (does_nothing bodies t (in_unit bodies (thread_at p.machine t)).unit idle) can (ready.swept alive)
+
+  pub alone_state : l ≡ after (leap_runs bodies k (Some t)) p
+  alone_state =
+      state
+      ∙ ap (λ (d : List ℕ). record p { machine = gone bodies t k p.machine; direct = d }) quiet
+      ∙ sym (ap (λ (s : Turn Cursor). record p { machine = s.machine; direct = s.direct }) alone)
+
+  pub alone_told : {K : Type 0} (text : K → Option (List ℕ)) (faults : K → ℕ) (a : Tracer K) → Tells text faults p.names a a (told (leap_runs bodies k (Some t)) p)
+  alone_told text faults a =
+      subst (λ (es : List Entry). Tells text faults p.names a a es) (sym (ap (λ (s : Turn Cursor). s.events) alone)) (tells_nothing text faults p.names a)
+
+  there : StoodRight (gone bodies t k p.machine)
+  there =
+      let stand = (handled_of bodies p.machine handled).stand in
+      let exec_same = gone_exec bodies t k p.machine full stand in
+      let can_same = gone_can_run bodies t k p.machine in
+      record {
+        every = stood.every;
+        within = λ u. subst (λ (n : ℕ). n - 1 < 255) (sym (exec_same u)) (stood.within u);
+        positive = λ u runs. subst (λ (n : ℕ). 1 ≤ n) (sym (exec_same u)) (stood.positive u (sym (can_same u) ∙ runs));
+        runs = λ u i runs. stood.runs u i (sym (can_same u) ∙ runs) ∙ ap (λ (n : ℕ). if n - 1 == i then 1 else 0) (sym (exec_same u));
+        others = λ u i off. stood.others u i (sym (can_same u) ∙ off);
+      }
+
+  pub alone_stood : StoodRight l.machine
+  alone_stood = subst (λ (x : Kernel). StoodRight x.machine) (sym state) there

@@ -1,0 +1,62 @@
+// Calls that have a function of their own, so that `make` needs no room for what they use.
+ghost use Rattle.std.specs.Prelude.{◌≡◌, ◌≤◌, ◌<◌, ◌^◌, length};
+ghost use Rattle.pse52_trace.specs.Tells.{Tells};
+ghost use Rattle.script_flat.specs.Fetched.{call_of};
+ghost use Rattle.script_tree.specs.declared.call.Call.TheVariants as call;
+ghost use Rattle.machine_rules.specs.Calls.{makes_call};
+ghost use Rattle.machine_rules.specs.Threads.{thread_at};
+ghost use Rattle.machine_flat.specs.FlatBodies.{flat_bodies};
+ghost use Rattle.kernel_events.specs.Calls.{objects_in};
+ghost use Rattle.rt_kernel.specs.Completes.{CanAct, CanMake};
+ghost use Rattle.kernel_state.specs.Kernel.{after, by, told};
+
+use kernel_events::make_call;
+use kernel_state::Parts;
+use pse52_trace::Tracer;
+use rt_io::Sink;
+use script_flat::CallPlace;
+use script_tree::Call;
+use tick_num::{ObjId, Tid};
+
+/// Any call.
+#[inline(never)]
+pub(crate) fn make_any<K: Sink>(p: &mut Parts, t: Tid, place: CallPlace, out: &mut Tracer<'_, K>)
+    requires known { t < length p.old.names }
+    requires can { CanMake (objects_in p.old) (thread_at p.old.machine t) (call_of p.old.code place) }
+    requires acts { CanAct p.old t }
+    requires room { length p.old.direct < 128 }
+    requires early { p.old.machine.now ≤ 10 ^ 18 }
+    ensures state { p.new ≡ after (makes_call (flat_bodies p.old.code) (by t (call_of p.old.code place))) p.old }
+    ensures told { Tells K.text K.faults p.old.names out.old out.new (told (makes_call (flat_bodies p.old.code) (by t (call_of p.old.code place))) p.old) }
+{
+    let call = p.call(&place);
+    make_call(p, t, &call, out);
+}
+
+/// `pthread_mutex_lock`.
+#[inline(never)]
+pub(crate) fn make_lock<K: Sink>(p: &mut Parts, t: Tid, k: ObjId, out: &mut Tracer<'_, K>)
+    requires known { t < length p.old.names }
+    requires can { CanMake (objects_in p.old) (thread_at p.old.machine t) (call.Lock k) }
+    requires acts { CanAct p.old t }
+    requires room { length p.old.direct < 128 }
+    requires early { p.old.machine.now ≤ 10 ^ 18 }
+    ensures state { p.new ≡ after (makes_call (flat_bodies p.old.code) (by t (call.Lock k))) p.old }
+    ensures told { Tells K.text K.faults p.old.names out.old out.new (told (makes_call (flat_bodies p.old.code) (by t (call.Lock k))) p.old) }
+{
+    make_call(p, t, &Call::Lock(k), out);
+}
+
+/// `nanosleep`.
+#[inline(never)]
+pub(crate) fn make_sleep<K: Sink>(p: &mut Parts, t: Tid, n: u64, out: &mut Tracer<'_, K>)
+    requires known { t < length p.old.names }
+    requires can { CanMake (objects_in p.old) (thread_at p.old.machine t) (call.Nanosleep n) }
+    requires acts { CanAct p.old t }
+    requires room { length p.old.direct < 128 }
+    requires early { p.old.machine.now ≤ 10 ^ 18 }
+    ensures state { p.new ≡ after (makes_call (flat_bodies p.old.code) (by t (call.Nanosleep n))) p.old }
+    ensures told { Tells K.text K.faults p.old.names out.old out.new (told (makes_call (flat_bodies p.old.code) (by t (call.Nanosleep n))) p.old) }
+{
+    make_call(p, t, &Call::Nanosleep(n), out);
+}
