@@ -30,3 +30,8 @@ pub(crate) fn tick(n: u64) -> Tick
 {
     Tick::try_new(n).unwrap()
 }
+
+#[test]
+fn a_moment_some_ticks_later(rt: HostRuntime) {
+    assert_eq!(rt; tick(5).plus(7), tick(12));
+}

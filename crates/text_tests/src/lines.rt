@@ -1,5 +1,5 @@
 // The lines of a text, and their words.
-use script_lex::Lines;
+use script_lex::{Lines, Words};
 use std::test::Fail;
 
 #[test]
@@ -30,6 +30,16 @@ fn lines_have_numbers_words_and_places(rt: HostRuntime) -> Result<(), Fail> {
     assert_eq!(rt; words.next_word().ok_or("at")?.at, 2);
     assert_eq!(rt; words.next_word().ok_or("0")?.at, 5);
     assert!(rt; lines.next_line().is_none());
+    Ok(())
+}
+
+#[test]
+fn words_of_bytes_alone(rt: HostRuntime) -> Result<(), Fail> {
+    let mut words = Words::in_bytes(b" run 5".as_slice());
+    assert_eq!(rt; words.bytes(), b" run 5".as_slice());
+    let run = words.next_word().ok_or("run")?;
+    assert_eq!(rt; run.bytes, b"run".as_slice());
+    assert_eq!(rt; run.at, 1);
     Ok(())
 }
 
