@@ -1,17 +1,14 @@
 // The smallest changes of a thread. Each names those that may no longer stand where they are to stand.
-ghost use Rattle.std.specs.Prelude.{◌≡◌, ◌≤◌, ◌<◌, ◌^◌, length, option_map, true, false};
+ghost use Rattle.std.specs.Prelude.{◌≡◌, ◌≤◌, ◌<◌, ◌^◌, length, option_map, true};
 ghost use Rattle.sporadic_server.specs.Server.{activate};
 ghost use Rattle.machine_rules.specs.Servers.{with_server};
-ghost use Rattle.thread_blocks.specs.Handlers.{CanEnd};
 ghost use Rattle.thread_blocks.specs.Unused.{IsUnused};
 ghost use Rattle.machine_rules.specs.Threads.{thread_at};
 ghost use Rattle.machine_rules.specs.Lives.{without_life};
 ghost use Rattle.machine_rules.specs.Scheduling.{takes_priority, with_policy, with_priority};
 ghost use Rattle.machine_rules.specs.Waking.{new_frame, started};
 ghost use Rattle.machine_rules.specs.Ticks.{without_slice};
-ghost use Rattle.machine_rules.specs.Units.{in_unit};
-ghost use Rattle.script_flat.specs.Fetched.{call_of, unit_of};
-ghost use Rattle.machine_flat.specs.Placed.{ArePlaced};
+ghost use Rattle.script_flat.specs.Fetched.{call_of};
 ghost use Rattle.machine_flat.specs.FlatBodies.{flat_bodies};
 ghost use Rattle.machine_rules.specs.Turns.{answered, changes};
 ghost use Rattle.machine_rules.specs.Waking.{put_to_wait, woken};
@@ -26,7 +23,7 @@ ghost use Rattle.thread_blocks.specs.Ends.{refilled_of};
 
 use crate::parts::Parts;
 use machine_rules::{BodyOf, FrameKind};
-use script_flat::{CallPlace, Fetched};
+use script_flat::CallPlace;
 use script_tree::{Call, Policy};
 use sporadic_server::Replenish;
 use thread_blocks::{Frame, Refilled, Waiting};
@@ -110,19 +107,6 @@ impl Parts {
     {
         let moved = self.table.set_policy(t, new, self.instant);
         self.named.take_in(&moved);
-    }
-
-    /// The unit that a thread is in, or takes next.
-    #[inline(always)]
-    pub fn take_unit(&mut self, t: Tid) -> Fetched
-        requires known { t < length self.old.names }
-        requires placed { ArePlaced self.old.code (thread_at self.old.machine t).frames }
-        requires ends { (thread_at self.old.machine t).is_ending ≡ true → CanEnd (length self.old.code.cleanups) (thread_at self.old.machine t) }
-        ensures unit { unit_of self.old.code result ≡ (in_unit (flat_bodies self.old.code) (thread_at self.old.machine t)).unit }
-        ensures state { self.new ≡ after (changes t (λ th. (in_unit (flat_bodies self.old.code) (thread_at self.old.machine t)).thread)) self.old }
-        ensures thread { thread_at self.new.machine t ≡ (in_unit (flat_bodies self.old.code) (thread_at self.old.machine t)).thread }
-    {
-        self.table.take_unit(t, &self.code)
     }
 
     /// The call that stands at a place of the code.

@@ -1,6 +1,6 @@
 // What can be asked of a thread.
-ghost use Rattle.std.specs.Prelude.{◌≡◌, ◌≤◌, ◌<◌, ◌*◌, ◌^◌, length, option_map};
-ghost use Rattle.sporadic_server.specs.Server.{ServerState};
+ghost use Rattle.std.specs.Prelude.{◌≡◌, ◌≤◌, ◌<◌, ◌*◌, ◌^◌, is_some, length, option_map};
+ghost use Rattle.sporadic_server.specs.Server.{ServerState, totals};
 ghost use Rattle.machine_rules.specs.Servers.{high_server};
 ghost use Rattle.machine_rules.specs.Threads.{can_run, is_dormant, lives, number_of, thread_at, waiting_of as waiting_at};
 ghost use Rattle.machine_rules.specs.State.{Waiting};
@@ -9,12 +9,6 @@ ghost use Rattle.thread_blocks.specs.Plain.{wait_of};
 ghost use Rattle.machine_rules.specs.Lives.{inherited_mask};
 ghost use Rattle.machine_rules.specs.Scheduling.{takes_priority};
 ghost use Rattle.machine_rules.specs.Waking.{call_in};
-ghost use Rattle.machine_rules.specs.Threads.{top_left};
-ghost use Rattle.machine_rules.specs.Ticks.{slice_is_used};
-ghost use Rattle.std.specs.Prelude.{is_some};
-ghost use Rattle.sporadic_server.specs.Server.{totals};
-ghost use Rattle.machine_rules.specs.Threads.{is_blocked};
-ghost use Rattle.machine_rules.specs.Servers.{has_high};
 ghost use Rattle.machine_rules.specs.Ticks.{tick_end};
 ghost use Rattle.thread_blocks.specs.Ends.{end_of};
 
@@ -123,26 +117,11 @@ impl Parts {
         self.table.thread(t).totals()
     }
 
-    pub fn is_blocked(&self, t: Tid) -> bool
-        requires { t < length self.now.names }
-        ensures { result ≡ is_blocked (thread_at self.now.machine t).status }
-    {
-        self.table.thread(t).is_blocked()
-    }
-
     pub fn has_server(&self, t: Tid) -> bool
         requires { t < length self.now.names }
         ensures { result ≡ is_some (thread_at self.now.machine t).server }
     {
         self.table.thread(t).has_server()
-    }
-
-    /// Whether its server has the high priority.
-    pub fn has_high(&self, t: Tid) -> bool
-        requires { t < length self.now.names }
-        ensures { result ≡ has_high (thread_at self.now.machine t).server }
-    {
-        self.table.thread(t).has_high()
     }
 
     /// The rule of the tick's end.

@@ -31,7 +31,8 @@ use Rattle.kernel_laws.specs.Visitable.{CanBeSwept}
 use Rattle.kernel_laws.proofs.Sweeping.{can_visit, swept_back}
 use Rattle.rt_kernel.specs.Fits.{ItemsFit, StaysFit}
 use Rattle.rt_kernel.specs.Landing.{IsSweepable}
-use Rattle.rt_kernel.specs.Reach.{run_length, unit_length}
+use Rattle.thread_blocks.specs.Lasting.{lasts_by}
+use Rattle.rt_kernel.specs.Reach.{run_length}
 use Rattle.rt_kernel.proofs.Halfway.{Halfway}
 use Rattle.rt_kernel.proofs.ItemsLaw.{items_more}
 use Rattle.rt_kernel.proofs.LeapParts.{leap_goes_on_behind}
@@ -111,9 +112,9 @@ head_now p l state = ap (λ (x : Kernel). x.machine.now) state ∙ ap (λ (m : M
 -- after the dispatch
 pub head_lands : (p l : Kernel) (most near : ℕ) (to : Option ℕ) → to ≡ head p.machine → l ≡ after (dispatches (head p.machine)) p → near ≡ ticks_to_next most p.machine.now (agenda p.machine) →
     IsSweepable (after (leap_head (flat_bodies p.code) (length_from (flat_bodies p.code) None most p.machine)) p) →
-    IfSome to (λ t. IsSweepable (after (leap_runs (flat_bodies l.code) (unit_length near l.machine.quantum (in_unit (flat_bodies l.code) (thread_at l.machine t)).thread) (Some t)) l))
+    IfSome to (λ t. IsSweepable (after (leap_runs (flat_bodies l.code) (lasts_by near l.machine.quantum (in_unit (flat_bodies l.code) (thread_at l.machine t)).thread) (Some t)) l))
 head_lands p l most near to top state is_near lands =
-    subst (λ (o : Option ℕ). IfSome o (λ t. IsSweepable (after (leap_runs (flat_bodies l.code) (unit_length near l.machine.quantum (in_unit (flat_bodies l.code) (thread_at l.machine t)).thread) (Some t)) l))) (sym top) (by_head (head p.machine) refl)
+    subst (λ (o : Option ℕ). IfSome o (λ t. IsSweepable (after (leap_runs (flat_bodies l.code) (lasts_by near l.machine.quantum (in_unit (flat_bodies l.code) (thread_at l.machine t)).thread) (Some t)) l))) (sym top) (by_head (head p.machine) refl)
   where
     h : Option ℕ
     h = head p.machine
@@ -130,7 +131,7 @@ head_lands p l most near to top state is_near lands =
     as_long t e =
         sym (head_long p l most near h refl state is_near) ∙ ap (λ (o : Option ℕ). run_length (flat_bodies l.code) near o l.machine) e
 
-    by_head : (o : Option ℕ) → head p.machine ≡ o → IfSome o (λ t. IsSweepable (after (leap_runs (flat_bodies l.code) (unit_length near l.machine.quantum (in_unit (flat_bodies l.code) (thread_at l.machine t)).thread) (Some t)) l))
+    by_head : (o : Option ℕ) → head p.machine ≡ o → IfSome o (λ t. IsSweepable (after (leap_runs (flat_bodies l.code) (lasts_by near l.machine.quantum (in_unit (flat_bodies l.code) (thread_at l.machine t)).thread) (Some t)) l))
     by_head None e = tt
     by_head (Some t) e =
         subst (λ (n : ℕ). IsSweepable (after (leap_runs (flat_bodies l.code) n (Some t)) l)) (as_long t e)

@@ -7,10 +7,10 @@ pub mod Running
 pub mod WholeTrace
 pub mod Opened
 pub mod Charged
-pub mod Lengths
 pub mod Onward
+pub mod Passing
+pub mod ThreadLeap
 pub mod Nearer
-pub mod Taken
 pub mod LeapParts
 pub mod LeapCounts
 pub mod Leaping

@@ -7,11 +7,8 @@ use Rattle.pse52_trace.specs.Tells.{Tells}
 use Rattle.pse52_trace.specs.Text.{Entry}
 use Rattle.pse52_trace.proofs.Tells.{tells_nothing}
 use Rattle.script_flat.specs.declared.cursor.Cursor.{Cursor}
-use Rattle.script_flat.specs.declared.fetched.Fetched.{Fetched}
-use Rattle.script_flat.specs.declared.op.Op.{Op}
 use Rattle.script_flat.specs.declared.unit.Unit as unit_type
 use Rattle.script_flat.specs.declared.unit.Unit.TheVariants as unit
-use Rattle.script_flat.specs.Fetched.{unit_of}
 use Rattle.script_flat.specs.Flat as flat
 use Rattle.machine_rules.specs.Bodies.{Bodies}
 use Rattle.machine_rules.specs.Calls.{unit_effect}
@@ -27,9 +24,9 @@ use Rattle.leap_rules.specs.Quiet.{IsHandled, after_ticks}
 use Rattle.machine_leaps.proofs.Leaps.Going.{gone, gone_can_run, gone_exec, leapt_alone}
 use Rattle.machine_leaps.proofs.Quiet.AnyMachine.{handled_of}
 use Rattle.thread_blocks.specs.Lasting.{used_up}
+use Rattle.thread_blocks.specs.Running.{only_takes_time}
 use Rattle.kernel_state.specs.Kernel.{Kernel, after, told, turn}
 use Rattle.kernel_state.specs.Stood.{StoodRight}
-use Rattle.rt_kernel.specs.Reach.{only_takes_time}
 use Rattle.rt_kernel.proofs.Running.{turn_is}
 
 does_nothing : (bodies : Bodies Cursor) (t : ℕ) (u : unit_type.Unit) → only_takes_time u ≡ true → (s : Turn Cursor) → unit_effect bodies t u s ≡ s
@@ -41,26 +38,12 @@ does_nothing bodies t unit.Finish e s = absurd (grind arith)
 first_no : (a b : Bool) → (a || b) ≡ false → a ≡ false
 first_no a b e = grind arith
 
-second_no : (a b : Bool) → (a || b) ≡ false → b ≡ false
+pub second_no : (a b : Bool) → (a || b) ≡ false → b ≡ false
 second_no a b e = grind arith
 
 -- so many ticks of a thread in its unit
 abbrev pub charges_by : ℕ → ℕ → Kernel → Turn Cursor → Turn Cursor
 charges_by t k p s = s ▷ changes t (λ th. after_ticks k (in_unit (flat_bodies p.code) (thread_at p.machine t)).thread) ▷ becomes (later_by k)
-
--- nothing is used up, by the answer of the charge
-pub not_used : (p l : Kernel) (t k : ℕ) (used was_high : Bool) → used ≡ false → used ≡ used_up was_high p.machine.quantum (thread_at l.machine t) → was_high ≡ has_high (thread_at p.machine t).server →
-    thread_at l.machine t ≡ after_ticks k (in_unit (flat_bodies p.code) (thread_at p.machine t)).thread →
-    used_up (has_high (thread_at p.machine t).server) p.machine.quantum (after_ticks k (in_unit (flat_bodies p.code) (thread_at p.machine t)).thread) ≡ false
-not_used p l t k used was_high e is high at =
-    ap (λ (th : Thread Cursor). used_up (has_high (thread_at p.machine t).server) p.machine.quantum th) (sym at)
-    ∙ ap (λ (b : Bool). used_up b p.machine.quantum (thread_at l.machine t)) (sym high)
-    ∙ sym is ∙ e
-
--- and the unit only takes time, by the look at it
-pub only_time : (p l : Kernel) (f : Fetched) (u : unit_type.Unit) (b : Bool) → l.code ≡ p.code → unit_of p.code f ≡ u → b ≡ only_takes_time (unit_of l.code f) → b ≡ true → only_takes_time u ≡ true
-only_time p l f u b code is looks holds =
-    ap only_takes_time (sym is) ∙ ap (λ (x : flat.NumberedBodies (List Op)). only_takes_time (unit_of x f)) (sym code) ∙ sym looks ∙ holds
 
 module _ (p l : Kernel) (t k : ℕ) (state : l ≡ after (charges_by t k p) p) (quiet : p.direct ≡ []) (stood : StoodRight p.machine)
     (over : used_up (has_high (thread_at p.machine t).server) p.machine.quantum (after_ticks k (in_unit (flat_bodies p.code) (thread_at p.machine t)).thread) ≡ false)

@@ -5,3 +5,4 @@ pub mod Landing
 pub mod Ready
 pub mod Ran
 pub mod Reach
+pub mod Passing

@@ -1,23 +1,19 @@
-// A thread's unit: its charge, and what it does at its end.
-ghost use Rattle.std.specs.Prelude.{◌≡◌, ◌≤◌, ◌<◌, ◌+◌, ◌^◌, ◌==◌, [], length, max, min, true};
+// A thread's units: its running, and what a unit does at its end.
+ghost use Rattle.std.specs.Prelude.{◌≡◌, ◌≤◌, ◌<◌, ◌+◌, ◌^◌, ◌==◌, length, max, true};
 ghost use Rattle.pse52_trace.specs.Tells.{Tells};
 ghost use Rattle.script_flat.specs.Fetched.{call_of, unit_of};
 ghost use Rattle.machine_rules.specs.Calls.{makes_call, unit_effect};
-ghost use Rattle.machine_rules.specs.Servers.{has_high};
 ghost use Rattle.machine_rules.specs.Threads.{thread_at, top_left};
 ghost use Rattle.machine_rules.specs.Ticks.{completes};
 ghost use Rattle.machine_rules.specs.Turns.{becomes, changes, ◌▷◌};
-ghost use Rattle.machine_rules.specs.Units.{in_unit};
 ghost use Rattle.machine_flat.specs.FlatBodies.{flat_bodies};
 ghost use Rattle.leap_rules.specs.Leap.{later_by};
-ghost use Rattle.leap_rules.specs.Quiet.{after_ticks};
 ghost use Rattle.machine_flat.specs.Placed.{ArePlaced};
 ghost use Rattle.thread_blocks.specs.Handlers.{CanEnd};
-ghost use Rattle.thread_blocks.specs.Lasting.{used_up};
+ghost use Rattle.thread_blocks.specs.Running.{HasRun};
 ghost use Rattle.thread_laws.specs.Within.{IsWithin};
 ghost use Rattle.kernel_events.specs.Calls.{objects_in};
 ghost use Rattle.rt_kernel.specs.Completes.{CanAct, CanComplete, CanMake};
-ghost use Rattle.rt_kernel.specs.Reach.{only_takes_time, unit_length};
 ghost use Rattle.kernel_state.specs.Kernel.{Kernel, after, by, told};
 
 use crate::calls::{make_any, make_lock, make_sleep};
@@ -30,43 +26,25 @@ use script_flat::{CallPlace, Fetched};
 use script_tree::Call;
 use std::sync::ledger::Ledger;
 use step_counter::Steps;
-use thread_blocks::Charge;
+use thread_blocks::Ran;
 use tick_num::Tid;
 
-/// A unit some ticks of which were charged.
-#[derive(Drop)]
-pub(crate) struct Charged {
-    pub(crate) unit: Fetched,
-    pub(crate) charge: Charge,
-}
-
-/// The unit that a thread is in, with as many ticks of it charged as it runs by itself, at most so many but one at least.
+/// A thread runs by itself for at most so many ticks, but one at least, and the instant moves on.
 #[inline(always)]
-pub(crate) fn charge_unit<L: Ledger>(
-    p: &mut Parts,
-    t: Tid,
-    near: u64,
-    steps: &mut Steps<L>,
-) -> Charged
+pub(crate) fn run_thread<L: Ledger>(p: &mut Parts, t: Tid, near: u64, steps: &mut Steps<L>) -> Ran
     requires known { t < length p.old.names }
     requires placed { ArePlaced p.old.code (thread_at p.old.machine t).frames }
     requires ends { (thread_at p.old.machine t).is_ending ≡ true → CanEnd (length p.old.code.cleanups) (thread_at p.old.machine t) }
     requires within { IsWithin p.old.machine.now (thread_at p.old.machine t) }
     requires early { p.old.machine.now + max 1 near ≤ 10 ^ 18 }
-    ensures unit { unit_of p.old.code result.unit ≡ (in_unit (flat_bodies p.old.code) (thread_at p.old.machine t)).unit }
-    ensures length { result.charge.ticks ≡ unit_length near p.old.machine.quantum (in_unit (flat_bodies p.old.code) (thread_at p.old.machine t)).thread }
-    ensures state { p.new ≡ after (λ s. s ▷ changes t (λ th. after_ticks result.charge.ticks (in_unit (flat_bodies p.old.code) (thread_at p.old.machine t)).thread) ▷ becomes (later_by result.charge.ticks)) p.old }
-    ensures thread { thread_at p.new.machine t ≡ after_ticks result.charge.ticks (in_unit (flat_bodies p.old.code) (thread_at p.old.machine t)).thread }
-    ensures complete { result.charge.is_complete ≡ (top_left (thread_at p.new.machine t).frames == 0) }
-    ensures high { result.charge.was_high ≡ has_high (thread_at p.old.machine t).server }
-    ensures used { result.charge.is_used_up ≡ used_up result.charge.was_high p.old.machine.quantum (thread_at p.new.machine t) }
-    ensures few { result.charge.ticks ≤ max 1 near }
+    ensures ran { HasRun p.old.code near p.old.machine.quantum result (thread_at p.old.machine t) (thread_at p.new.machine t) }
+    ensures state { p.new ≡ after (λ s. s ▷ changes t (λ th. thread_at p.new.machine t) ▷ becomes (later_by (result.passed + result.ticks))) p.old }
+    ensures few { result.passed + result.ticks ≤ max 1 near }
     ensures step { steps.new ≡ steps.old + 1 }
 {
-    let unit = p.take_unit(t);
-    let charge = p.run(t, near);
-    p.leap(charge.ticks, steps);
-    Charged { unit, charge }
+    let ran = p.run(t, near);
+    p.leap(ran.passed + ran.ticks, steps);
+    ran
 }
 
 // What a call does. It stands apart from the loop of leaps, since most units are no calls. The calls that are made most often are told
@@ -115,35 +93,17 @@ fn complete<K: Sink>(p: &mut Parts, t: Tid, unit: &Fetched, out: &mut Tracer<'_,
 
 /// The effect of the unit, where no tick of it is left.
 #[inline(always)]
-pub(crate) fn complete_at_end<K: Sink>(
-    p: &mut Parts,
-    t: Tid,
-    charged: &Charged,
-    out: &mut Tracer<'_, K>,
-)
+pub(crate) fn complete_at_end<K: Sink>(p: &mut Parts, t: Tid, ran: &Ran, out: &mut Tracer<'_, K>)
     requires known { t < length p.old.names }
-    requires complete { charged.now.charge.is_complete ≡ (top_left (thread_at p.old.machine t).frames == 0) }
-    requires can { CanComplete (objects_in p.old) (thread_at p.old.machine t) (unit_of p.old.code charged.now.unit) }
+    requires complete { ran.now.is_complete ≡ (top_left (thread_at p.old.machine t).frames == 0) }
+    requires can { CanComplete (objects_in p.old) (thread_at p.old.machine t) (unit_of p.old.code ran.now.unit) }
     requires acts { CanAct p.old t }
     requires room { length p.old.direct < 128 }
     requires early { p.old.machine.now ≤ 10 ^ 18 }
-    ensures state { p.new ≡ after (completes (flat_bodies p.old.code) t (unit_of p.old.code charged.now.unit)) p.old }
-    ensures told { Tells K.text K.faults p.old.names out.old out.new (told (completes (flat_bodies p.old.code) t (unit_of p.old.code charged.now.unit)) p.old) }
+    ensures state { p.new ≡ after (completes (flat_bodies p.old.code) t (unit_of p.old.code ran.now.unit)) p.old }
+    ensures told { Tells K.text K.faults p.old.names out.old out.new (told (completes (flat_bodies p.old.code) t (unit_of p.old.code ran.now.unit)) p.old) }
 {
-    if charged.charge.is_complete {
-        complete(p, t, &charged.unit, out);
-    }
-}
-
-/// Whether a unit does nothing at its end.
-pub(crate) fn only_takes_time(p: &Parts, unit: &Fetched) -> bool
-    ensures { result ≡ only_takes_time (unit_of p.now.code unit.now) }
-{
-    let _ = p;
-    match unit {
-        Fetched::Run(_) => true,
-        Fetched::Make(_) => false,
-        Fetched::Jump => true,
-        Fetched::Finish => false,
+    if ran.is_complete {
+        complete(p, t, &ran.unit, out);
     }
 }

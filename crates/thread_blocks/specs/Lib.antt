@@ -5,6 +5,8 @@ pub mod Lending
 pub mod Room
 pub mod Held
 pub mod Lasting
+pub mod Running
+pub mod Passing
 pub mod Ends
 pub mod Opening
 pub mod Operands

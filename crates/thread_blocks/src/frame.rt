@@ -5,10 +5,11 @@ ghost use Rattle.script_flat.specs.Fetched.{unit_of};
 ghost use Rattle.script_flat.specs.Next.{register_limit, ticks_of};
 ghost use Rattle.script_flat.specs.Stands.{IsPlaced};
 ghost use Rattle.machine_rules.specs.Units.{frame_begins, next_of};
-ghost use Rattle.machine_flat.specs.FlatBodies.{flat_bodies};
 ghost use Rattle.machine_flat.specs.Placed.{cursor_of};
-ghost use Rattle.machine_flat.specs.FlatBodies.{place_of};
+ghost use Rattle.machine_flat.specs.FlatBodies.{flat_bodies, place_of};
+ghost use Rattle.thread_blocks.specs.Passing.{HasBegun};
 
+use crate::ran::Taken;
 use arrayvec::ArrayVec;
 use machine_rules::{BodyOf, FrameKind};
 use script_flat::{Code, Cursor, Fetched};
@@ -18,10 +19,10 @@ use tick_num::{Res, Tid};
 /// A body that a thread is in, with the ticks left of its present unit.
 #[derive(Drop)]
 pub struct Frame {
+    left: u64,
     kind: FrameKind,
     body: BodyOf,
     at: Cursor,
-    left: u64,
 }
 
 impl Model for Frame {
@@ -124,16 +125,36 @@ impl Frame {
         self.left = 1;
     }
 
-    /// It begins the next unit of its body.
-    #[inline(always)]
-    pub fn begin(&mut self, code: &Code) -> Fetched
-        requires { IsPlaced code.now (cursor_of self.old) }
+    // It begins the next unit of its body.
+    pub(crate) fn begin_next(&mut self, code: &Code) -> Fetched
+        requires placed { IsPlaced code.now (cursor_of self.old) }
+        requires whole { self.old.left ≡ 0 }
         ensures unit { unit_of code.now result ≡ (next_of (flat_bodies code.now) self.old).unit }
         ensures moved { self.new ≡ frame_begins (next_of (flat_bodies code.now) self.old) self.old }
     {
-        let unit = code.fetch(&mut self.at);
-        self.left = ticks_of(code, &unit);
-        unit
+        self.begin(code, 0).unit
+    }
+
+    // It begins the next unit of its body, past each one that only takes time and is over before so many ticks are.
+    #[inline(always)]
+    pub(crate) fn begin(&mut self, code: &Code, most: u64) -> Taken
+        requires placed { IsPlaced code.now (cursor_of self.old) }
+        requires whole { self.old.left ≡ 0 }
+        ensures { HasBegun code.now most result self.old self.new }
+    {
+        let mut rest = most;
+        'units: loop {
+            let unit = code.fetch(&mut self.at);
+            match unit {
+                Fetched::Run(n) if 0 < n && n < rest => rest -= n,
+                Fetched::Jump if 1 < rest => rest -= 1,
+                _ => {
+                    self.left = ticks_of(code, &unit);
+                    let passed = most - rest;
+                    return Taken { unit, passed };
+                }
+            }
+        }
     }
 }
 

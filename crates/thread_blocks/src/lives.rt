@@ -1,5 +1,5 @@
 // Joining, cancellation and the end of a thread.
-ghost use Rattle.std.specs.Prelude.{◌≡◌, ◌≤◌, ◌<◌, ◌==◌, ◌&&◌, ◌∷◌, List, length, slice_get, true};
+ghost use Rattle.std.specs.Prelude.{◌≡◌, ◌≤◌, ◌<◌, ◌==◌, ◌&&◌, ◌∷◌, List, false, length, slice_get, true};
 ghost use Rattle.script_flat.specs.declared.op.Op.{Op};
 ghost use Rattle.script_flat.specs.Fetched.{unit_of};
 ghost use Rattle.script_flat.specs.Flat.{NumberedBodies};
@@ -8,14 +8,16 @@ ghost use Rattle.machine_rules.specs.declared.frame.BodyOf.TheVariants as body_o
 ghost use Rattle.machine_rules.specs.Cancellation.{request_acts, requested, without_cleanup};
 ghost use Rattle.machine_rules.specs.Lives.{with_joiner, without_life, without_top};
 ghost use Rattle.machine_rules.specs.Threads.{is_main, top_kind, top_left};
-ghost use Rattle.machine_rules.specs.Units.{advances, begins_cleanup, begins_finish, choice, in_unit, takes_unit};
+ghost use Rattle.machine_rules.specs.Units.{begins_cleanup, begins_finish, choice, is_at_end, takes_unit};
 ghost use Rattle.machine_rules.specs.Waking.{ending_with, new_frame, on_top};
 ghost use Rattle.machine_flat.specs.FlatBodies.{flat_bodies};
 ghost use Rattle.machine_flat.specs.Placed.{ArePlaced};
 ghost use Rattle.thread_blocks.specs.Handlers.{AreHandlers, CanEnd, HandlersBegin};
+ghost use Rattle.thread_blocks.specs.Passing.{HasTaken};
 ghost use Rattle.thread_blocks.specs.Plain.{joiner_of};
 
 use crate::frame::Frame;
+use crate::ran::Taken;
 use crate::status::{Joiner, Status};
 use crate::thread::Thread;
 use machine_rules::{BodyOf, FrameKind};
@@ -144,16 +146,20 @@ impl Thread {
         self.frames.insert(0, handler_frame(code, u));
     }
 
-    // The next unit of its present body.
+    // The next unit of its present body, past those that only take time and are over before so many ticks are.
     #[inline(always)]
-    fn advance(&mut self, code: &Code) -> Fetched
+    fn advance(&mut self, code: &Code, most: u64) -> Taken
         requires placed { ArePlaced code.now self.old.frames }
-        ensures unit { unit_of code.now result ≡ (advances (flat_bodies code.now) self.old.frames self.old).unit }
-        ensures thread { self.new ≡ (advances (flat_bodies code.now) self.old.frames self.old).thread }
+        requires whole { top_left self.old.frames ≡ 0 }
+        requires goes_on { is_at_end self.old ≡ false }
+        ensures { HasTaken code.now most result self.old self.new }
     {
         match self.frames.get_mut(0) {
-            None => Fetched::Finish,
-            Some(frame) => frame.begin(code),
+            None => Taken {
+                passed: 0,
+                unit: Fetched::Finish,
+            },
+            Some(frame) => frame.begin(code, most),
         }
     }
 
@@ -178,7 +184,7 @@ impl Thread {
     {
         self.drop_cleanup();
         let mut frame = handler_frame(code, u);
-        let unit = frame.begin(code);
+        let unit = frame.begin_next(code);
         self.frames.insert(0, frame);
         unit
     }
@@ -199,24 +205,26 @@ impl Thread {
         }
     }
 
-    /// The unit that it is in, or takes next.
+    // The unit that it is in, or takes next, past those that only take time and are over before so many ticks are. No tick is charged.
     #[inline(always)]
-    pub fn take(&mut self, code: &Code) -> Fetched
+    pub(crate) fn take(&mut self, code: &Code, most: u64) -> Taken
         requires placed { ArePlaced code.now self.old.frames }
         requires begins { HandlersBegin code.now }
         requires ends { self.old.is_ending ≡ true → CanEnd (length code.now.cleanups) self.old }
-        ensures unit { unit_of code.now result ≡ (in_unit (flat_bodies code.now) self.old).unit }
-        ensures thread { self.new ≡ (in_unit (flat_bodies code.now) self.old).thread }
+        ensures { HasTaken code.now most result self.old self.new }
     {
         let left = self.left();
         if left > 0 {
-            return Fetched::Run(left);
+            return Taken {
+                passed: 0,
+                unit: Fetched::Run(left),
+            };
         }
         if self.is_ending && is_main(self.kind()) {
-            self.begin_ending(code)
-        } else {
-            self.advance(code)
+            let unit = self.begin_ending(code);
+            return Taken { passed: 0, unit };
         }
+        self.advance(code, most)
     }
 }
 

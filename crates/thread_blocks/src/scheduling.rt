@@ -5,7 +5,6 @@ ghost use Rattle.machine_rules.specs.Priorities.{assigned_of};
 ghost use Rattle.machine_rules.specs.Scheduling.{at_priority, takes_priority, with_policy, with_priority};
 ghost use Rattle.machine_rules.specs.Ticks.{slice_is_used, without_slice, tick_end};
 ghost use Rattle.leap_rules.specs.Quiet.{after_ticks, frames_after};
-ghost use Rattle.thread_blocks.specs.Room.{HasRoom};
 ghost use Rattle.thread_blocks.specs.Ends.{end_of};
 
 use crate::ends::TickEnd;

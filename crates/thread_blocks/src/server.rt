@@ -71,7 +71,7 @@ impl Thread {
     }
 
     /// Whether its server has the high priority.
-    pub fn has_high(&self) -> bool
+    pub(crate) fn has_high(&self) -> bool
         ensures { result ≡ has_high self.now.server }
     {
         match &self.server {

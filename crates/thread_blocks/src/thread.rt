@@ -14,7 +14,6 @@ ghost use Rattle.machine_rules.specs.State as machine;
 ghost use Rattle.machine_rules.specs.Units.{in_unit};
 ghost use Rattle.machine_flat.specs.FlatBodies.{flat_bodies};
 ghost use Rattle.machine_flat.specs.Placed.{ArePlaced};
-ghost use Rattle.thread_blocks.specs.Room.{HasRoom, ServerHasRoom};
 ghost use Rattle.thread_blocks.specs.Plain.{status_of, wait_of, waiting_of};
 ghost use Rattle.pse52_trace.specs.declared.report.Report.{Report};
 ghost use Rattle.machine_rules.specs.Machine.{budget_of, report_of};
@@ -33,17 +32,17 @@ use tick_num::{ObjId, Res, SigSet, Tick};
 /// A thread of a script.
 #[derive(Drop)]
 pub struct Thread {
-    pub(crate) status: Status,
-    pub(crate) policy: Policy,
-    pub(crate) server: Option<Server>,
-    pub(crate) slice: u64,
     pub(crate) ticks: u64,
+    pub(crate) slice: u64,
+    pub(crate) policy: Policy,
     pub(crate) mask: SigSet,
-    // the top frame first
-    pub(crate) frames: ArrayVec<Frame, 3>,
     pub(crate) is_requested: bool,
     pub(crate) is_enabled: bool,
     pub(crate) is_ending: bool,
+    // the top frame first
+    pub(crate) frames: ArrayVec<Frame, 3>,
+    pub(crate) status: Status,
+    pub(crate) server: Option<Server>,
     // the handler that was pushed last first
     pub(crate) cleanups: ArrayVec<ObjId, 8>,
     pub(crate) exit_value: u64,
@@ -61,7 +60,6 @@ impl Model for Thread {
     ghost use Rattle.machine_rules.specs.Units.{in_unit};
     ghost use Rattle.machine_flat.specs.FlatBodies.{flat_bodies};
     ghost use Rattle.machine_flat.specs.Placed.{ArePlaced};
-    ghost use Rattle.thread_blocks.specs.Room.{HasRoom, ServerHasRoom};
     ghost use Rattle.thread_blocks.specs.Plain.{joiner_of, status_of};
 
     ghost view = { λ t. record { status = status_of t.status; policy = t.policy; server = t.server; slice = t.slice; ticks = t.ticks; mask = t.mask; frames = t.frames.items; is_requested = t.is_requested; is_enabled = t.is_enabled; is_ending = t.is_ending; cleanups = t.cleanups.items; exit_value = t.exit_value; joiner = joiner_of t.joiner } };
@@ -253,7 +251,7 @@ impl Thread {
         }
     }
 
-    pub fn is_blocked(&self) -> bool
+    pub(crate) fn is_blocked(&self) -> bool
         ensures { result ≡ is_blocked self.now.status }
     {
         match self.status {

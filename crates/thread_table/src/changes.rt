@@ -1,21 +1,16 @@
 // The changes of one thread that leave its wait as it is, or end it.
-ghost use Rattle.std.specs.Prelude.{◌≡◌, ◌==◌, ◌<◌, ◌≤◌, ◌^◌, Some, false, is_some, length, option_map, true};
+ghost use Rattle.std.specs.Prelude.{◌≡◌, ◌<◌, ◌≤◌, ◌^◌, Some, is_some, length, max, option_map, true};
 ghost use Rattle.sporadic_server.specs.Server.{activate, plan, refill, replenishment};
 ghost use Rattle.machine_rules.specs.Scheduling.{takes_priority, with_policy, with_priority};
-ghost use Rattle.machine_rules.specs.Servers.{has_high, with_server};
-ghost use Rattle.machine_rules.specs.Threads.{thread_in, top_left};
+ghost use Rattle.machine_rules.specs.Servers.{with_server};
+ghost use Rattle.machine_rules.specs.Threads.{thread_in};
 ghost use Rattle.machine_rules.specs.Ticks.{consumed_in, without_slice};
-ghost use Rattle.leap_rules.specs.Quiet.{after_ticks};
 ghost use Rattle.machine_rules.specs.Turns.{answered};
-ghost use Rattle.machine_rules.specs.Units.{in_unit};
-ghost use Rattle.script_flat.specs.Fetched.{unit_of};
 ghost use Rattle.machine_rules.specs.Waking.{woken};
-ghost use Rattle.machine_flat.specs.FlatBodies.{flat_bodies};
 ghost use Rattle.machine_flat.specs.Placed.{ArePlaced};
 ghost use Rattle.thread_blocks.specs.Ends.{refilled_of};
 ghost use Rattle.thread_blocks.specs.Handlers.{CanEnd, HandlersBegin};
-ghost use Rattle.thread_blocks.specs.Lasting.{lasts_by, used_up};
-ghost use Rattle.thread_blocks.specs.Room.{HasRoom};
+ghost use Rattle.thread_blocks.specs.Running.{HasRun, HasTime};
 ghost use Rattle.thread_blocks.specs.Unused.{IsUnused};
 ghost use Rattle.thread_table.specs.Table as table;
 ghost use Rattle.thread_table.specs.Table.{with_thread};
@@ -25,10 +20,10 @@ use crate::links::{reassign, reassign_charged, stop_waiting};
 use crate::movers::thread_of;
 use crate::table::Table;
 use crate::times::{retime_refill, time_wait};
-use script_flat::{Code, Fetched};
+use script_flat::Code;
 use script_tree::Policy;
 use sporadic_server::Replenish;
-use thread_blocks::{Charge, Refilled};
+use thread_blocks::{Ran, Refilled};
 use tick_num::{Prio, Res, Tick, Tid};
 
 impl Table {
@@ -134,44 +129,28 @@ impl Table {
         (refilled, thread_of(moved))
     }
 
-    /// The unit that it is in, or takes next. No execution priority changes.
+    /// It runs by itself for at most so many ticks, but one at least. The second answer is the one thread that stands among no waiters and
+    /// whose execution priority changed; `None` exactly where there is none.
     #[inline(always)]
-    pub fn take_unit(&mut self, t: Tid, code: &Code) -> Fetched
+    #[tactic(auto, using(crate::proofs::Ties::placed))]
+    pub fn run(&mut self, t: Tid, code: &Code, most: u64, quantum: u64) -> (Ran, Option<Tid>)
         requires known { t < length self.old.threads }
         requires placed { ArePlaced code.now (thread_in self.old.threads t).frames }
         requires begins { HandlersBegin code.now }
         requires ends { (thread_in self.old.threads t).is_ending ≡ true → CanEnd (length code.now.cleanups) (thread_in self.old.threads t) }
-        ensures unit { unit_of code.now result ≡ (in_unit (flat_bodies code.now) (thread_in self.old.threads t)).unit }
-        ensures table { self.new ≡ with_thread t (λ th. (in_unit (flat_bodies code.now) th).thread) self.old }
-        ensures thread { thread_in self.new.threads t ≡ (in_unit (flat_bodies code.now) (thread_in self.old.threads t)).thread }
-        ensures same { KeepsExec self.old self.new }
-    {
-        self.threads.get_mut(t).take(code)
-    }
-
-    /// As many ticks at once as the thread runs by itself, at most so many but one at least, of the unit that it has taken; and the one
-    /// thread that stands among no waiters and whose execution priority changed, `None` exactly where there is none.
-    #[inline(always)]
-    #[tactic(auto, using(crate::proofs::Ties::placed))]
-    pub fn run(&mut self, t: Tid, most: u64, quantum: u64) -> (Charge, Option<Tid>)
-        requires known { t < length self.old.threads }
-        requires room { HasRoom (lasts_by most quantum (thread_in self.old.threads t)) (thread_in self.old.threads t) }
-        ensures table { self.new ≡ with_thread t (after_ticks result.0.ticks) self.old }
-        ensures thread { thread_in self.new.threads t ≡ after_ticks result.0.ticks (thread_in self.old.threads t) }
-        ensures ticks { result.0.ticks ≡ lasts_by most quantum (thread_in self.old.threads t) }
-        ensures complete { result.0.is_complete ≡ (top_left (thread_in self.new.threads t).frames == 0) }
-        ensures high { result.0.was_high ≡ has_high (thread_in self.old.threads t).server }
-        ensures used { result.0.is_used_up ≡ used_up result.0.was_high quantum (thread_in self.new.threads t) }
+        requires room { HasTime (max 1 most) (thread_in self.old.threads t) }
+        ensures table { self.new ≡ with_thread t (λ th. thread_in self.new.threads t) self.old }
+        ensures ran { HasRun code.now most quantum result.0 (thread_in self.old.threads t) (thread_in self.new.threads t) }
         ensures moved { TellsMoved self.old self.new result.1 }
     {
-        let charge = self.threads.get_mut(t).run(most, quantum);
+        let ran = self.threads.get_mut(t).run(code, most, quantum);
         let moved = reassign_charged(
             &self.threads,
             &mut self.chain,
             &mut self.waits,
             t,
-            charge.was_high,
+            ran.was_high,
         );
-        (charge, thread_of(moved))
+        (ran, thread_of(moved))
     }
 }

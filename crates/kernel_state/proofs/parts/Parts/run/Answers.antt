@@ -1,6 +1,10 @@
+use Rattle.std.proofs.Common.{ap, refl, true, ◌∙◌}
 use Rattle.script_flat.specs.declared.cursor.Cursor.{Cursor}
 use Rattle.machine_rules.specs.State.{Thread}
-use Rattle.leap_rules.specs.Quiet.{after_ticks}
+use Rattle.machine_rules.specs.Threads.{is_runnable, thread_in}
+use Rattle.machine_flat.specs.FlatBodies.{flat_bodies}
+use Rattle.thread_table.specs.Table.{with_thread}
+use Rattle.thread_table.proofs.Charges.{run_past, runs_keep}
 use Rattle.kernel_state.proofs.Carried.{as_many, fit, tied_again, told_there, told_thread}
 use Rattle.kernel_state.proofs.parts.Parts.run.Goals as goal
 
@@ -8,15 +12,19 @@ pub invariant_of-self : goal.invariant_of-self
 invariant_of-self c =
     let s = c.self.inside in
     let w = c.run-moved in
-    let f : Thread Cursor → Thread Cursor = after_ticks w.result.0.ticks in
+    let ran = w.ensures.ran in
+    let bodies = flat_bodies s.code in
+    let f : Thread Cursor → Thread Cursor = run_past bodies ran.units w.result.0.ticks in
+    let is = w.ensures.table ∙ ap (λ (th : Thread Cursor). with_thread c.args.t (λ old. th) s.table) ran.thread in
     record {
-      tied = tied_again s.names s.code s.ready.threads s.table.threads w.new.self.threads s.direct (as_many s.table w.new.self c.args.t f w.ensures.table) c.self.invariant.tied;
-      stand = told_thread s.table w.new.self s.ready.lists s.named.bits c.args.t f w.ensures.table c.self.invariant.stand c.take_in.new.self.bits w.result.1 (λ th h. h) c.take_in.ensures w.ensures.moved;
+      tied = tied_again s.names s.code s.ready.threads s.table.threads w.new.self.threads s.direct (as_many s.table w.new.self c.args.t f is) c.self.invariant.tied;
+      stand = told_thread s.table w.new.self s.ready.lists s.named.bits c.args.t f is c.self.invariant.stand c.take_in.new.self.bits w.result.1
+          (λ th runs. runs_keep bodies (λ (x : Thread Cursor). is_runnable x.status) true (λ x fs us. refl) (λ k x e. e) ran.units w.result.0.ticks th runs) c.take_in.ensures w.ensures.moved;
     }
 
 pub take_in-requires : goal.take_in-requires
 take_in-requires c =
     let s = c.self.inside in
     let w = c.run-moved in
-    let f : Thread Cursor → Thread Cursor = after_ticks w.result.0.ticks in
-    fit s.table w.new.self w.result.1 (as_many s.table w.new.self c.args.t f w.ensures.table) c.self.invariant.tied.few (told_there s.table w.new.self w.result.1 w.ensures.moved)
+    let to_new : Thread Cursor → Thread Cursor = λ th. thread_in w.new.self.threads c.args.t in
+    fit s.table w.new.self w.result.1 (as_many s.table w.new.self c.args.t to_new w.ensures.table) c.self.invariant.tied.few (told_there s.table w.new.self w.result.1 w.ensures.moved)

@@ -1,0 +1,23 @@
+use Rattle.std.proofs.Common.{◌∙◌, ap, subst, sym}
+use Rattle.script_flat.specs.declared.cursor.Cursor.{Cursor}
+use Rattle.machine_rules.specs.GoodState.{HasParameters}
+use Rattle.machine_rules.specs.State.{Thread}
+use Rattle.thread_blocks.proofs.Charged.{run_fifo, run_rr, run_sporadic}
+use Rattle.thread_blocks.proofs.thread.Thread.run.Goals as goal
+
+pub returns-in-Fifo : goal.returns-in-Fifo
+returns-in-Fifo c =
+    run_fifo c.args.code.now c.args.most c.args.quantum c.run_unit.result c.args.self.now c.run_unit.new.self c.in-Fifo.field-0
+    (sym (ap (λ (t : Thread Cursor). t.policy) c.self.view_is) ∙ c.in-Fifo.is)
+    (subst (λ (t : Thread Cursor). HasParameters t.policy t.server) c.self.view_is c.self.invariant.parameters) c.run_unit.ensures.spent c.run_unit.ensures.high
+
+pub returns-in-Rr : goal.returns-in-Rr
+returns-in-Rr c =
+    run_rr c.args.code.now c.args.most c.args.quantum c.run_slice.result c.args.self.now c.run_slice.new.self c.in-Rr.field-0
+    (sym (ap (λ (t : Thread Cursor). t.policy) c.self.view_is) ∙ c.in-Rr.is)
+    (subst (λ (t : Thread Cursor). HasParameters t.policy t.server) c.self.view_is c.self.invariant.parameters) c.run_slice.ensures.spent c.run_slice.ensures.high
+
+pub returns-in-Sporadic : goal.returns-in-Sporadic
+returns-in-Sporadic c =
+    run_sporadic c.args.code.now c.args.most c.args.quantum c.run_capacity.result c.args.self.now c.run_capacity.new.self c.in-Sporadic.field-0
+    (sym (ap (λ (t : Thread Cursor). t.policy) c.self.view_is) ∙ c.in-Sporadic.is) c.run_capacity.ensures.spent c.run_capacity.ensures.high
