@@ -1,13 +1,13 @@
 // Lines: words with one blank between them, and a line end.
-ghost use Rattle.std.specs.Prelude.{◌≡◌, ◌≤◌, ◌<◌, ◌+◌, ◌++◌, ◌∷◌, [], length, ◌/◌, ◌%◌, ◌-◌, ◌^◌, codes, decimal, slice_range, Some};
+ghost use Rattle.std.specs.Prelude.{◌≡◌, ◌≤◌, ◌<◌, ◌+◌, ◌++◌, ◌∷◌, [], length, take, ◌/◌, ◌%◌, ◌^◌, codes, decimal, slice_range, IfSome, IsTrue, None, Some, false, ℕ};
 ghost use Rattle.pse52_trace.specs.Text.{IsNamed, budget_words, event_words, line, name_at, report_line, report_words, signal_name};
 ghost use Rattle.rt_io.specs.Placed.{Placed};
 ghost use Rattle.pse52_trace.specs.Placed.{SharesDigits, blanks_before, words_behind};
-ghost use Rattle.tick_num.specs.Words.{res_text};
+ghost use Rattle.pse52_trace.specs.Calls.{call_word};
 ghost use Rattle.pse52_trace.specs.ShortLines.{AreWhole};
 
 use crate::place::{place_byte, place_number, place_pair};
-use crate::{BudgetView, Event, Names, Report};
+use crate::{BudgetView, CallName, Event, Names, Report};
 use itoa::{Buffer, write_digits};
 use rt_io::place_word;
 use std::marker::Model;
@@ -19,8 +19,8 @@ const ROOM: usize = 256;
 // The time of an event ends here, so that the words behind it always begin here.
 const HEAD: usize = 20;
 
-// No hundred: behind every time.
-const NO_HUNDRED: u64 = u64::MAX;
+// No hundred: far behind every time.
+const NO_HUNDRED: u64 = 1 << 63;
 
 /// How long the line of an event is, in bytes: at most 256, whatever its names and numbers.
 pub fn line_len(now: Tick, e: &Event, names: &Names) -> usize
@@ -44,7 +44,7 @@ pub struct LineBuffer {
 }
 
 impl Model for LineBuffer {
-    ghost use Rattle.std.specs.Prelude.{List, ℕ, ◌≤◌, ◌<◌, ◌^◌, ◌-◌, slice_range};
+    ghost use Rattle.std.specs.Prelude.{List, ℕ, ◌≤◌, ◌<◌, ◌^◌, slice_range};
     ghost use Rattle.pse52_trace.specs.Placed.{SharesDigits};
 
     ghost Value = { List ℕ };
@@ -52,7 +52,7 @@ impl Model for LineBuffer {
     ghost view = { λ l. slice_range l.text l.start l.end };
 
     ghost invariant = { λ l. (l.start ≤ 20) × (20 ≤ l.end) × (l.end ≤ 256)
-        × (l.hundred < 2 ^ 64 - 1 → SharesDigits l.text l.start l.hundred) };
+        × (l.hundred ≤ 2 ^ 63) × (l.hundred < 2 ^ 63 → SharesDigits l.text l.start l.hundred) };
 }
 
 impl LineBuffer {
@@ -67,8 +67,26 @@ impl LineBuffer {
         }
     }
 
-    // Becomes the line of an event.
+    // Becomes the line of an event, where it is one of the commonest and its time shares digits with the one before, and answers whether it does.
     #[inline(always)]
+    pub(crate) fn set_common(&mut self, now: Tick, e: &Event, names: &Names) -> bool
+        requires { IsNamed names.now e.now }
+        ensures value { IsTrue result → self.new ≡ line names.now now e.now }
+        ensures whole { IsTrue result → AreWhole self.new }
+    {
+        if !place_near(&mut self.text, self.hundred, now.get()) {
+            return false;
+        }
+        match place_common(&mut self.text, e, names) {
+            Some(end) => {
+                self.end = end;
+                true
+            }
+            None => false,
+        }
+    }
+
+    // Becomes the line of an event.
     pub(crate) fn set_event(&mut self, now: Tick, e: &Event, names: &Names)
         requires { IsNamed names.now e.now }
         ensures value { self.new ≡ line names.now now e.now }
@@ -106,24 +124,52 @@ impl LineBuffer {
     {
         &self.text[self.start..self.end]
     }
+
+    // The buffer from the start of the line on, and how long the line is.
+    #[inline(always)]
+    pub(crate) fn front(&self) -> (&[u8], usize)
+        ensures line { take result.1 result.0.now ≡ self.now }
+        ensures room { 64 ≤ length result.0.now }
+    {
+        (&self.text[self.start..], self.end - self.start)
+    }
 }
 
 // Puts the digits of a time before the head, from `start` on. All but the last two may stand there.
 #[inline(always)]
 fn place_time(text: &mut [u8], start: &mut usize, hundred: &mut u64, now: u64)
     requires room { length text.old ≡ 256 }
-    requires last { now < 2 ^ 64 - 1 }
-    requires stands { hundred.old < 2 ^ 64 - 1 → SharesDigits text.old start.old hundred.old }
+    requires last { now < 2 ^ 63 }
+    requires far { hundred.old ≤ 2 ^ 63 }
+    requires stands { hundred.old < 2 ^ 63 → SharesDigits text.old start.old hundred.old }
     ensures digits { slice_range text.new start.new 20 ≡ decimal now }
-    ensures stands { hundred.new < 2 ^ 64 - 1 → SharesDigits text.new start.new hundred.new }
+    ensures far { hundred.new ≤ 2 ^ 63 }
+    ensures stands { hundred.new < 2 ^ 63 → SharesDigits text.new start.new hundred.new }
     ensures head { start.new ≤ 19 }
 {
-    if now >= *hundred && now - *hundred < 100 {
-        place_pair(text, HEAD - 2, now - *hundred);
-    } else {
+    if !place_near(text, *hundred, now) {
         *start = place_all_digits(text, now);
         *hundred = hundred_of(now);
     }
+}
+
+// Puts the last two digits of a time of this hundred, whose others stand before them, and answers whether it is one.
+#[inline(always)]
+fn place_near(text: &mut [u8], hundred: u64, now: u64) -> bool
+    requires room { length text.old ≡ 256 }
+    requires last { now < 2 ^ 63 }
+    requires far { hundred ≤ 2 ^ 63 }
+    ensures near { IsTrue result → hundred < 2 ^ 63 }
+    ensures digits { IsTrue result → (start : ℕ) → SharesDigits text.old start hundred
+        → (slice_range text.new start 20 ≡ decimal now) × SharesDigits text.new start hundred }
+    ensures kept { result ≡ false → text.new ≡ text.old }
+{
+    let last = now.wrapping_sub(hundred);
+    if last >= 100 {
+        return false;
+    }
+    place_pair(text, HEAD - 2, last);
+    true
 }
 
 // Puts all digits of a time before the head, and answers where they begin.
@@ -138,7 +184,9 @@ fn place_all_digits(text: &mut [u8], now: u64) -> usize
 
 // The first of the hundred instants that share all digits but the last two, where there are more.
 fn hundred_of(now: u64) -> u64
-    ensures { result < 2 ^ 64 - 1 → (100 ≤ now) × (result % 100 ≡ 0) × (result / 100 ≡ now / 100) }
+    requires { now < 2 ^ 63 }
+    ensures far { result ≤ 2 ^ 63 }
+    ensures first { result < 2 ^ 63 → (100 ≤ now) × (result % 100 ≡ 0) × (result / 100 ≡ now / 100) }
 {
     if now < 100 {
         NO_HUNDRED
@@ -147,8 +195,58 @@ fn hundred_of(now: u64) -> u64
     }
 }
 
-// Puts the words of an event and the line end behind the head.
+// Puts the words of an event and the line end behind the head, where it is one of the commonest.
 #[inline(always)]
+fn place_common(text: &mut [u8], e: &Event, names: &Names) -> Option<usize>
+    requires room { length text.old ≡ 256 }
+    requires named { IsNamed names.now e.now }
+    ensures placed { IfSome result (λ end.
+        Placed text.old text.new 20 (words_behind (event_words names.now e.now)) end × (end ≤ 256)) }
+    ensures kept { result ≡ None → text.new ≡ text.old }
+{
+    if let Event::Return(t, call, res, value) = e {
+        return match res {
+            Res::Zero if *value == 0 => Some(place_success(text, names, *t, *call)),
+            _ => None,
+        };
+    }
+    if let Event::Dispatch(t, prio) = e {
+        let level = prio.get() as u64;
+        if level < 100 {
+            return Some(place_with_number(text, b" dispatch ", names, *t, level));
+        }
+    }
+    None
+}
+
+// Puts the whole of a call that succeeded, with no value to tell, behind the head.
+#[inline(always)]
+fn place_success(text: &mut [u8], names: &Names, t: Tid, call: CallName) -> usize
+    requires room { length text.old ≡ 256 }
+    requires named { t < length names.now }
+    ensures placed { Placed text.old text.new 20
+        (codes " return " ++ (name_at names.now t ++ 32 ∷ (call_word call ++ codes " 0 0\n"))) result }
+    ensures within { result ≤ 84 }
+{
+    let at = place_call(text, names, t, call);
+    place_word(text, at, b" 0 0\n")
+}
+
+// Puts that a call returned behind the head, and the names of its thread and of itself.
+#[inline(always)]
+fn place_call(text: &mut [u8], names: &Names, t: Tid, call: CallName) -> usize
+    requires room { length text.old ≡ 256 }
+    requires named { t < length names.now }
+    ensures placed { Placed text.old text.new 20
+        (codes " return " ++ (name_at names.now t ++ 32 ∷ call_word call)) result }
+    ensures within { result ≤ 79 }
+{
+    let at = place_of_thread(text, b" return ", names, t);
+    let at = place_byte(text, at, b' ');
+    call.place(text, at)
+}
+
+// Puts the words of an event and the line end behind the head.
 fn place_event(text: &mut [u8], e: &Event, names: &Names) -> usize
     requires room { length text.old ≡ 256 }
     requires named { IsNamed names.now e.now }
@@ -162,10 +260,8 @@ fn place_event(text: &mut [u8], e: &Event, names: &Names) -> usize
         Event::Idle => place_word(text, HEAD, b" idle\n"),
         Event::Start(t) => place_alone(text, b" start ", names, *t),
         Event::Return(t, call, res, value) => {
-            let at = place_of_thread(text, b" return ", names, *t);
-            let at = place_byte(text, at, b' ');
-            let at = place_word(text, at, call.word().as_bytes());
-            place_result(text, at, *res, *value)
+            let at = place_call(text, names, *t, *call);
+            place_outcome(text, at, res.text(), *value)
         }
         Event::Deliver(t, sig, code, value) => {
             let at = place_of_thread(text, b" deliver ", names, *t);
@@ -239,32 +335,7 @@ fn place_with_numbers(
     place_byte(text, at, b'\n')
 }
 
-// Puts the result of a call and its value, and the line end. Most calls succeed, with no value to tell.
-#[inline(always)]
-fn place_result(text: &mut [u8], at: usize, res: Res, value: u64) -> usize
-    requires room { at + 55 ≤ length text.old }
-    ensures placed { Placed text.old text.new at (32 ∷ res_text res ++ 32 ∷ decimal value ++ 10 ∷ []) result }
-    ensures within { result ≤ at + 55 }
-{
-    match res {
-        Res::Zero if value == 0 => place_word(text, at, b" 0 0\n"),
-        Res::Zero => place_outcome(text, at, "0", value),
-        _ => place_error(text, at, res, value),
-    }
-}
-
-// Puts an error and its value, and the line end.
-#[inline(never)]
-fn place_error(text: &mut [u8], at: usize, res: Res, value: u64) -> usize
-    requires room { at + 55 ≤ length text.old }
-    ensures placed { Placed text.old text.new at (32 ∷ res_text res ++ 32 ∷ decimal value ++ 10 ∷ []) result }
-    ensures within { result ≤ at + 55 }
-{
-    place_outcome(text, at, res.text(), value)
-}
-
 // Puts the last two words of a line, of which the second is a number, and the line end.
-#[inline(always)]
 fn place_outcome(text: &mut [u8], at: usize, word: &str, value: u64) -> usize
     requires room { at + 55 ≤ length text.old }
     requires short { length word.now ≤ 32 }

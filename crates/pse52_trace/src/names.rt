@@ -3,7 +3,7 @@ ghost use Rattle.std.specs.Prelude.{◌≡◌, ◌≤◌, ◌<◌, ◌+◌, List
 ghost use Rattle.rt_io.specs.Placed.{Placed};
 ghost use Rattle.pse52_trace.specs.Text.{name_at};
 
-use rt_io::place_front;
+use rt_io::place_within;
 use std::alloc::{AllocError, Global};
 use std::marker::Model;
 use tick_num::Tid;
@@ -52,8 +52,7 @@ impl Name {
         ensures placed { Placed buf.old buf.new at self.now result }
         ensures within { result ≤ at + 32 }
     {
-        place_front::<32>(buf, at, &self.text);
-        at + self.len
+        place_within::<32>(buf, at, &self.text, self.len)
     }
 }
 

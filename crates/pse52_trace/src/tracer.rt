@@ -40,7 +40,7 @@ impl<'a, K: Sink> Tracer<'a, K> {
     }
 
     // Writes the line at once, unless a write has failed.
-    #[inline(always)]
+    #[inline(never)]
     fn write_line(&mut self)
         requires { AreWhole self.old.line }
         ensures { Prints K.text K.faults self.old self.new self.old.line }
@@ -71,6 +71,21 @@ impl<'a, K: Sink> Tracer<'a, K> {
         if self.is_unheard() {
             return;
         }
+        if self.failed || !self.line.set_common(now, e, names) {
+            return self.put_any(now, e, names);
+        }
+        let (front, len) = self.line.front();
+        if !self.sink.take_front(front, len) {
+            self.write_line();
+        }
+    }
+
+    // Prints the line of any event, by one write.
+    #[inline(never)]
+    fn put_any(&mut self, now: Tick, e: &Event, names: &Names)
+        requires { IsNamed names.now e.now }
+        ensures { Prints K.text K.faults self.old self.new (line names.now now e.now) }
+    {
         self.line.set_event(now, e, names);
         self.write_line();
     }

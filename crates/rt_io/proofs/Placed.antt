@@ -1,5 +1,5 @@
 -- Writes at places of one buffer, one after another.
-use Rattle.std.proofs.Common.{◌≡◌, ℕ, ◌+◌, ◌-◌, ◌≤◌, List, ◌++◌, length, take, drop, ap, sym, ◌∙◌, arith, append_assoc, length-append, length-take-le, length-drop, take-add, take-take, take_at, drop_at, take_all, take-append-drop}
+use Rattle.std.proofs.Common.{◌≡◌, ℕ, ◌+◌, ◌-◌, ◌≤◌, List, ◌++◌, length, take, drop, ap, sym, ◌∙◌, arith, append_assoc, length-append, length-take-le, length-drop, take-add, take-take, take_at, drop_at, take_all, take-append-drop, subst}
 use Rattle.std.proofs.lemmas.Slice.{take-put_mid, between_is}
 use Rattle.std.proofs.lemmas.List.{drop-append-le, drop-drop}
 use Rattle.std.specs.List.{slice_range}
@@ -52,6 +52,14 @@ pub range_grows : (a b bytes : List ℕ) (start at end : ℕ) → start ≤ at �
 range_grows a b bytes start at end within long p =
     between_is b start end ∙ ap (drop start) p.front ∙ drop-append-le start (take at a) bytes (omega (arith, length-take-le at a long))
     ∙ ap (λ t. t ++ bytes) (sym (between_is a start at))
+
+-- the same of a buffer whose text has other names before and after, and of what is seen of it
+pub held_grows : {text before placed now held bytes : List ℕ} {start at end : ℕ} → now ≡ placed → before ≡ text → slice_range text start at ≡ held
+    → start ≤ at → at ≤ length text → Placed before placed at bytes end → slice_range now start end ≡ held ++ bytes
+held_grows {text} {before} {placed} {now} {held} {bytes} {start} {at} {end} after same seen within long p =
+    ap (λ t. slice_range t start end) after
+    ∙ range_grows text placed bytes start at end within long (subst (λ t. Placed t placed at bytes end) same p)
+    ∙ ap (λ t. t ++ bytes) seen
 
 -- what stands from further on is what the front is dropped from
 pub range_shrinks : (text : List ℕ) (start count end : ℕ) → slice_range text (start + count) end ≡ drop count (slice_range text start end)

@@ -1,7 +1,7 @@
 // Bytes that are held back, to be sent on together.
-ghost use Rattle.std.specs.Prelude.{◌≡◌, ◌≤◌, ◌++◌, [], drop, false, length, IfOk, IsTrue};
+ghost use Rattle.std.specs.Prelude.{◌≡◌, ◌≤◌, ◌++◌, [], drop, false, length, take, IfOk, IsTrue};
 
-use crate::place::place_bytes;
+use crate::place::{place_bytes, place_few};
 use std::alloc::{AllocError, Global};
 use std::marker::Model;
 
@@ -45,6 +45,21 @@ impl Held {
             return false;
         }
         self.end = place_bytes(self.bytes.as_mut_slice(), self.end, bytes);
+        true
+    }
+
+    // Holds the first `len` bytes of a text too, where these are few and there is ample room behind the held ones, and
+    // answers whether it does.
+    #[inline(always)]
+    pub(crate) fn put_front(&mut self, text: &[u8], len: usize) -> bool
+        requires { 64 ≤ length text.now }
+        ensures taken { IsTrue result → self.new ≡ self.old ++ take len text.now }
+        ensures kept { result ≡ false → self.new ≡ self.old }
+    {
+        if len > 64 || self.end + 64 > self.bytes.len() {
+            return false;
+        }
+        self.end = place_few(self.bytes.as_mut_slice(), self.end, text, len);
         true
     }
 

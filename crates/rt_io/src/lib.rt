@@ -18,6 +18,6 @@ pub use mem_sink::MemSink;
 pub use mem_source::{MemSource, SureSource};
 pub use null_sink::NullSink;
 pub use outside::{Failed, Sink, Source};
-pub use place::{place_bytes, place_front, place_word};
+pub use place::{place_bytes, place_front, place_within, place_word};
 pub use std_edge::{StdSink, StdSource};
 pub use whole::{ReadEnd, read_whole};

@@ -14,6 +14,17 @@ pub fn place_front<const N: usize>(buf: &mut [u8], at: usize, bytes: &[u8]) -> u
     at + N
 }
 
+/// The first `len` bytes of a text, where N bytes can be read and written at once: by one load and one store.
+#[inline(always)]
+pub fn place_within<const N: usize>(buf: &mut [u8], at: usize, text: &[u8], len: usize) -> usize
+    requires room { (N ≤ length text.now) × (at + N ≤ length buf.old) }
+    requires short { len ≤ N }
+    ensures { Placed buf.old buf.new at (take len text.now) result }
+{
+    place_front::<N>(buf, at, text);
+    at + len
+}
+
 // Bytes by two copies of N that may lie over each other.
 #[inline(always)]
 fn place_ends<const N: usize>(buf: &mut [u8], at: usize, bytes: &[u8]) -> usize
@@ -46,6 +57,20 @@ pub fn place_word(buf: &mut [u8], at: usize, word: &[u8]) -> usize
         place_front::<1>(buf, at, word)
     } else {
         at
+    }
+}
+
+// The first `len` bytes of a text, where 64 bytes can be read and written at once: by 32 or by 64.
+#[inline(always)]
+pub(crate) fn place_few(buf: &mut [u8], at: usize, text: &[u8], len: usize) -> usize
+    requires room { (64 ≤ length text.now) × (at + 64 ≤ length buf.old) }
+    requires few { len ≤ 64 }
+    ensures { Placed buf.old buf.new at (take len text.now) result }
+{
+    if len <= 32 {
+        place_within::<32>(buf, at, text, len)
+    } else {
+        place_within::<64>(buf, at, text, len)
     }
 }
 

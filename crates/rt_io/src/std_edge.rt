@@ -170,4 +170,10 @@ impl<W: Write> Sink for StdSink<W> {
         }
         self.write_behind(bytes)
     }
+
+    /// Holds them back, where there is room for 64 bytes and they are no more.
+    #[inline(always)]
+    fn take_front(&mut self, front: &[u8], len: usize) -> bool {
+        self.held.put_front(front, len)
+    }
 }

@@ -141,3 +141,21 @@ fn what_a_writer_does_not_take_stays_held(rt: HostRuntime) -> Result<(), Fail> {
     assert_eq!(rt; sink.flush(), Ok(()));
     Ok(())
 }
+
+#[test]
+fn a_short_copy_is_taken_where_there_is_room(rt: HostRuntime) -> Result<(), Fail> {
+    let front = [b'x'; 80];
+    let narrow = Narrow {
+        due: b"xxx",
+        room: 5,
+        refusals: 0,
+        fails: false,
+    };
+    let mut sink = StdSink::open(rt.alloc(), 66, narrow)?;
+    assert!(rt; sink.take_front(&front, 3));
+    assert!(rt; !sink.take_front(&front, 3), "63 bytes are left");
+    assert_eq!(rt; sink.flush(), Ok(()));
+    assert!(rt; !sink.take_front(&front, 65), "too long");
+    assert_eq!(rt; sink.flush(), Ok(()));
+    Ok(())
+}

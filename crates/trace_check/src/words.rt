@@ -158,7 +158,7 @@ fn is_call_of(calls: &[CallName], word: &[u8]) -> bool
 {
     match calls {
         [] => false,
-        [call, rest @ ..] => word == call.word().as_bytes() || is_call_of(rest, word),
+        [call, rest @ ..] => word == call.word() || is_call_of(rest, word),
     }
 }
 

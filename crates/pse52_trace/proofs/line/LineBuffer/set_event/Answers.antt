@@ -11,6 +11,7 @@ invariant_of-self c =
       omega (arith, time.ensures.head),
       omega (arith, p.moved),
       c.place_event-self-inside.ensures.within,
+      time.ensures.far,
       λ some. digits_stay _ _ _ time.new.start time.new.hundred 20 _ (omega arith) (omega arith) p (time.ensures.stands some),
     )
 
