@@ -71,7 +71,7 @@ fn stops_of_16(stop: Stop, v: u8x16) -> u64
 }
 
 // The same byte by byte, from `from` on.
-#[inline(never)]
+#[inline(always)]
 fn last_run(stop: Stop, ahead: &[u8], from: usize, len: usize) -> usize
     requires room { len ≤ length ahead.now }
     requires from { from ≤ prefix_len (λ c. not (stops stop c)) (take len ahead.now) }

@@ -1,5 +1,5 @@
 -- Patterns of lines: keywords and operand places. The script language is this project's own.
-use Rattle.std.specs.Prelude.{ℕ, ◌^◌, Bool, true, false, List, ◌++◌, map}
+use Rattle.std.specs.Prelude.{ℕ, ◌^◌, Bool, true, false, List, ◌∷◌, ◌++◌, map}
 use Rattle.script_tree.specs.Kinds.{same_kind}
 use Rattle.script_tree.specs.declared.name_kind.NameKind.{NameKind}
 use Rattle.script_tree.specs.declared.name_kind.NameKind.TheVariants as kind
@@ -43,7 +43,7 @@ spot_of place.Acts = Acts
 spot_of place.Signals = Signals
 
 abbrev pub row_of : Pattern → Row
-row_of p = record { form = p.form; bar = p.bar; places = map spot_of p.places.now }
+row_of p = record { form = p.form; bar = p.bar; places = Keyword p.keyword.now ∷ map spot_of p.places.now }
 
 -- the rows of a table, part by part
 abbrev pub rows_of : Table → List Row

@@ -7,7 +7,7 @@ ghost use Rattle.script_table.specs.LineFaults.{stands, agrees, fits, any_agrees
 ghost use Rattle.script_table.specs.WordFaults.{AreFaultsIn};
 ghost use Rattle.script_tree.specs.Names.{is_name};
 
-use crate::word_faults::{faults_of_word, joined, no_faults};
+use crate::word_faults::{no_faults, with_word};
 use crate::words::{answer_of, is_number, is_register, set_of, signal_of};
 use crate::{FaultKind, Pattern, Place, Table, WordFaults};
 use script_lex::Words;
@@ -71,7 +71,7 @@ fn fits(places: &[Place], mut words: Words<'_>) -> Option<WordFaults>
         if !stands(place, word.bytes) {
             return None;
         }
-        found = joined(found, faults_of_word(place, word.bytes));
+        found = with_word(found, place, word.bytes);
     }
     if words.next_word().is_none() {
         Some(found)
@@ -80,24 +80,28 @@ fn fits(places: &[Place], mut words: Words<'_>) -> Option<WordFaults>
     }
 }
 
-// The same, where the first word is known.
+// The same of a line of this first word, which other words follow.
 #[inline(always)]
-fn fits_first(places: &[Place], first: &[u8], words: &Words<'_>) -> Option<WordFaults>
-    ensures { MatchOption result (fits (map spot_of places.now) (first.now ∷ words.now.words) ≡ false)
-        (λ f. (fits (map spot_of places.now) (first.now ∷ words.now.words) ≡ true)
-        × AreFaultsIn f (map spot_of places.now) (first.now ∷ words.now.words)) }
+fn fits_pattern(pattern: &Pattern, first: &[u8], words: &Words<'_>) -> Option<WordFaults>
+    ensures fit { MatchOption result (fits (row_of pattern.now).places (first.now ∷ words.now.words) ≡ false)
+        (λ f. (fits (row_of pattern.now).places (first.now ∷ words.now.words) ≡ true)
+        × AreFaultsIn f (row_of pattern.now).places (first.now ∷ words.now.words)) }
+    ensures keyword { IfSome result (λ _. pattern.now.keyword.now ≡ first.now) }
 {
-    match places {
-        [] => None,
-        [place, rest @ ..] => if stands(place, first) {
-            match fits(rest, words.again()) {
-                None => None,
-                Some(later) => Some(joined(faults_of_word(place, first), later)),
-            }
-        } else {
-            None
-        },
+    if is_keyword(first, pattern.keyword) {
+        fits(pattern.places, words.again())
+    } else {
+        None
     }
+}
+
+fn pattern_agrees(pattern: &Pattern, mut words: Words<'_>) -> bool
+    ensures { result ≡ agrees (row_of pattern.now).places words.entry.words }
+{
+    let Some(first) = words.next_word() else {
+        return true;
+    };
+    is_keyword(first.bytes, pattern.keyword) && agrees(pattern.places, words)
 }
 
 fn any_agrees_in(patterns: &[Pattern], words: &Words<'_>) -> bool
@@ -105,7 +109,8 @@ fn any_agrees_in(patterns: &[Pattern], words: &Words<'_>) -> bool
 {
     match patterns {
         [] => false,
-        [pattern, rest @ ..] => agrees(pattern.places, words.again()) || any_agrees_in(rest, words),
+        [pattern, rest @ ..] => pattern_agrees(pattern, words.again())
+            || any_agrees_in(rest, words),
     }
 }
 
@@ -120,10 +125,11 @@ pub struct Fitting {
 fn fitting_in(patterns: &'static [Pattern], first: &[u8], words: &Words<'_>) -> Option<Fitting>
     ensures row { option_map (λ f. row_of f.pattern.now) result
         ≡ fitting_row (map row_of patterns.now) (first.now ∷ words.now.words) }
-    ensures faults { IfSome result (λ f. AreFaultsIn f.faults (map spot_of f.pattern.now.places.now) (first.now ∷ words.now.words)) }
+    ensures faults { IfSome result (λ f. AreFaultsIn f.faults (row_of f.pattern.now).places (first.now ∷ words.now.words)) }
+    ensures keyword { IfSome result (λ f. f.pattern.now.keyword.now ≡ first.now) }
 {
     for pattern in patterns {
-        if let Some(faults) = fits_first(pattern.places, first, words) {
+        if let Some(faults) = fits_pattern(pattern, first, words) {
             return Some(Fitting { pattern, faults });
         }
     }
@@ -132,9 +138,11 @@ fn fitting_in(patterns: &'static [Pattern], first: &[u8], words: &Words<'_>) -> 
 
 /// The pattern of the table that agrees with a line of these words and has their number, where the first word is known, and `words` are
 /// those that follow it; `None` exactly where there is none.
+#[inline(never)]
 pub fn fitting_pattern(table: &Table, first: &[u8], words: &Words<'_>) -> Option<Fitting>
     ensures row { option_map (λ f. row_of f.pattern.now) result ≡ fitting_row (rows_of table.now) (first.now ∷ words.now.words) }
-    ensures faults { IfSome result (λ f. AreFaultsIn f.faults (map spot_of f.pattern.now.places.now) (first.now ∷ words.now.words)) }
+    ensures faults { IfSome result (λ f. AreFaultsIn f.faults (row_of f.pattern.now).places (first.now ∷ words.now.words)) }
+    ensures keyword { IfSome result (λ f. f.pattern.now.keyword.now ≡ first.now) }
 {
     if let Some(found) = fitting_in(table.declarations, first, words) {
         return Some(found);

@@ -56,6 +56,9 @@ pub enum Place {
 pub struct Pattern {
     pub form: Form,
     pub bar: Bar,
+    /// The word with which the line begins.
+    pub keyword: &'static [u8],
+    /// What follows that word.
     pub places: &'static [Place],
 }
 

@@ -26,8 +26,8 @@ macro_rules! place {
 }
 
 macro_rules! pattern {
-    ($form:expr, $bar:ident => $($place:tt)*) => {
-        Pattern { form: $form, bar: Bar::$bar, places: &[$(place!($place)),*] }
+    ($form:expr, $bar:ident => $keyword:literal $($place:tt)*) => {
+        Pattern { form: $form, bar: Bar::$bar, keyword: $keyword, places: &[$(place!($place)),*] }
     };
 }
 

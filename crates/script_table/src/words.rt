@@ -1,5 +1,5 @@
 // What a single word says.
-ghost use Rattle.std.specs.Prelude.{◌≡◌, ◌≤◌, ◌<◌, ◌+◌, ◌^◌, ◌==◌, not, [], ◌∷◌, min, length, IfSome};
+ghost use Rattle.std.specs.Prelude.{◌≡◌, ◌≤◌, ◌<◌, ◌+◌, ◌^◌, ◌==◌, true, not, [], ◌∷◌, min, length, IfSome};
 ghost use Rattle.std.specs.List.{list_all, prefix_len};
 ghost use Rattle.std.specs.Option.{option_map};
 ghost use Rattle.script_tree.specs.Names.{is_digit};
@@ -24,6 +24,24 @@ pub fn is_number(word: &[u8]) -> bool
     ensures { result ≡ is_number word.now }
 {
     !word.is_empty() && are_digits(word)
+}
+
+/// The value of digits, of which there are few; `None` also where there are many.
+#[inline(always)]
+pub(crate) fn short_number(word: &[u8]) -> Option<u64>
+    ensures { IfSome result (λ n. (is_number word.now ≡ true) × (n ≡ value_of word.now)) }
+{
+    if word.is_empty() {
+        return None;
+    }
+    let mut value = 0u64;
+    for c in word {
+        if !is_digit(*c) || 100_000_000_000_000_000 <= value {
+            return None;
+        }
+        value = value * 10 + (*c - b'0') as u64;
+    }
+    Some(value)
 }
 
 // In 64 bits, for which a cap of the language's greatest number leaves room for one more digit.

@@ -1,30 +1,22 @@
 -- Tables that serve for the lines that begin with one byte.
-use Rattle.std.proofs.Common.{◌≡◌, ◌<◌, ℕ, zero, suc, ◌+◌, List, [], ◌∷◌, ◌++◌, length, get_or, refl, subst, arith, false}
+use Rattle.std.proofs.Common.{◌≡◌, ◌<◌, ℕ, zero, suc, ◌+◌, List, [], ◌∷◌, ◌++◌, length, get_or, refl, subst, arith, false, map}
 use Rattle.script_table.specs.declared.pattern.Table.{Table}
-use Rattle.script_table.specs.Patterns.{Spot, Keyword, Answer, Number, Operand, Declares, Uses, Signal, Acts, Signals, Row}
+use Rattle.script_table.specs.Patterns.{Spot, Keyword, Row, spot_of, row_of}
+use Rattle.script_table.specs.declared.pattern.Pattern.{Pattern}
 use Rattle.script_table.specs.LineFaults.{fits, fitting_row}
 use Rattle.script_table.proofs.ThreeParts.{fitting_parts}
-use Rattle.task_script.specs.ByLetter.{may_begin, Serves, ServeFrom}
+use Rattle.task_script.specs.ByLetter.{begins, Serves, ServeFrom}
 
-pub fits_not : (b : ℕ) (spots : List Spot) (cs : List ℕ) (ws : List (List ℕ)) → may_begin b spots ≡ false → fits spots ((b ∷ cs) ∷ ws) ≡ false
-fits_not b [] cs ws e = cc
-fits_not b (Keyword [] ∷ ss) cs ws e = refl
-fits_not b (Keyword (c ∷ k) ∷ ss) cs ws e = rw e refl
-fits_not b (Answer ∷ ss) cs ws e = cc
-fits_not b (Number low high ∷ ss) cs ws e = cc
-fits_not b (Operand ∷ ss) cs ws e = cc
-fits_not b (Declares kind ∷ ss) cs ws e = cc
-fits_not b (Uses kind ∷ ss) cs ws e = cc
-fits_not b (Signal ∷ ss) cs ws e = cc
-fits_not b (Acts ∷ ss) cs ws e = cc
-fits_not b (Signals ∷ ss) cs ws e = cc
+pub fits_not : (b : ℕ) (k : List ℕ) (spots : List Spot) (cs : List ℕ) (ws : List (List ℕ)) → begins b k ≡ false → fits (Keyword k ∷ spots) ((b ∷ cs) ∷ ws) ≡ false
+fits_not b [] ss cs ws e = refl
+fits_not b (c ∷ k) ss cs ws e = rw e refl
 
 -- the same pattern for each line that begins with this byte
 abbrev pub Same : ℕ → List Row → List Row → Type 0
 Same b xs ys = (cs : List ℕ) (ws : List (List ℕ)) → fitting_row xs ((b ∷ cs) ∷ ws) ≡ fitting_row ys ((b ∷ cs) ∷ ws)
 
-pub past : (b : ℕ) (row : Row) (rows found : List Row) → may_begin b row.places ≡ false → Same b found rows → Same b found (row ∷ rows)
-past b row rows found e same cs ws = rw (fits_not b row.places cs ws e) (same cs ws)
+pub past : (b : ℕ) (p : Pattern) (rows found : List Row) → begins b p.keyword.now ≡ false → Same b found rows → Same b found (row_of p ∷ rows)
+past b p rows found e same cs ws = rw (fits_not b p.keyword.now (map spot_of p.places.now) cs ws e) (same cs ws)
 
 pub three : (b : ℕ) (xs ys zs xs' ys' zs' : List Row) → Same b xs xs' → Same b ys ys' → Same b zs zs' → Same b (xs ++ (ys ++ zs)) (xs' ++ (ys' ++ zs'))
 three b xs ys zs xs' ys' zs' one two last cs ws =

@@ -1,4 +1,4 @@
--- Places without names declare nothing, and no name is at fault there.
+-- Places without names declare nothing, and no name is at fault there; so with the keyword of a line.
 use Rattle.std.proofs.Common.{◌≡◌, ℕ, List, [], ◌∷◌, refl, false, ap}
 use Rattle.std.specs.List.{list_any}
 use Rattle.std.specs.Prelude.{None}
@@ -36,3 +36,10 @@ none_at_fault (Signals ∷ ss) (w ∷ ws) d n e = none_at_fault ss ws d n e
 
 pub no_name_fault : (spots : List Spot) (words : List (List ℕ)) (d : Declared) (n : ℕ) → list_any is_named spots ≡ false → least_kind (place_faults (name_fault d n) spots words) ≡ None
 no_name_fault spots words d n e = ap least_kind (none_at_fault spots words d n e)
+
+pub declared_past_keyword : (d : Declared) (n : ℕ) (spots rest : List Spot) (words ahead : List (List ℕ)) (k w : List ℕ) → spots ≡ Keyword k ∷ rest → words ≡ w ∷ ahead → declared_at d n spots words ≡ declared_at d n rest ahead
+declared_past_keyword d n spots rest words ahead k w is_spots is_words = rw (is_spots, is_words) refl
+
+pub faults_past_keyword : (d : Declared) (n : ℕ) (spots rest : List Spot) (words ahead : List (List ℕ)) (k w : List ℕ) → spots ≡ Keyword k ∷ rest → words ≡ w ∷ ahead →
+    least_kind (place_faults (name_fault d n) spots words) ≡ least_kind (place_faults (name_fault d n) rest ahead)
+faults_past_keyword d n spots rest words ahead k w is_spots is_words = rw (is_spots, is_words) refl

@@ -1,18 +1,13 @@
 -- Tables that serve for the lines that begin with one byte.
 use Rattle.std.specs.Prelude.{ℕ, ◌≡◌, ◌+◌, ◌==◌, Bool, true, false, List, [], ◌∷◌}
 use Rattle.script_table.specs.declared.pattern.Table.{Table}
-use Rattle.script_table.specs.Patterns.{Spot, Keyword, Row, rows_of}
+use Rattle.script_table.specs.Patterns.{Row, rows_of}
 use Rattle.script_table.specs.LineFaults.{fitting_row}
 
+-- a word begins with this byte
 abbrev pub begins : ℕ → List ℕ → Bool
 begins b [] = false
 begins b (c ∷ cs) = b == c
-
--- a line that begins with this byte may have these places
-abbrev pub may_begin : ℕ → List Spot → Bool
-may_begin b [] = true
-may_begin b (Keyword k ∷ spots) = begins b k
-may_begin b (other ∷ spots) = true
 
 -- the table and the rows have the same pattern for each line that begins with this byte
 abbrev pub Serves : List Row → ℕ → Table → Type 0

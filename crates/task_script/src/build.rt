@@ -221,7 +221,7 @@ impl<'a> Builder<'a> {
     ) -> Result<(), AllocError>
         ensures { IfOk result (λ _. self.new ≡ after names.now self.old s.now) }
     {
-        let words = s.words();
+        let words = &s.words();
         match s.form() {
             Form::Quantum => {
                 self.set_quantum(words);

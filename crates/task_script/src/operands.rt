@@ -1,6 +1,6 @@
 // What the word at a place says.
-ghost use Rattle.std.specs.Prelude.{◌≡◌, ◌≤◌, ◌+◌, ◌^◌, min, [], IfSome};
-ghost use Rattle.script_table.specs.Ranges.{word, capped_number_at};
+ghost use Rattle.std.specs.Prelude.{◌≡◌, ◌≤◌, ◌^◌, IfSome};
+ghost use Rattle.script_table.specs.Ranges.{capped_number_at};
 ghost use Rattle.script_table.specs.Operands.{number_in, amount_at, priority_at, operand_at, signal_at, signals_at, answer_at, name_at, named_at, server_of, server_at, fifo_at, rr_at, sporadic_at};
 ghost use Rattle.script_tree.specs.declared.name_kind.NameKind.TheVariants as kind;
 
@@ -10,32 +10,18 @@ use crate::{Name, Operand, Policy};
 use script_table::{NameKind, answer_of, capped_value, is_register, set_of, signal_of};
 use tick_num::{GREATEST_NUMBER, ObjId, Params, Prio, Res, SigSet, Tid};
 
-pub(crate) fn word<'a>(k: usize, words: &LineWords<'a>) -> &'a [u8]
-    ensures { result.now ≡ word k words.now }
-{
-    let mut rest = words.ahead();
-    let mut left = k;
-    while let Some(found) = rest.next_word() {
-        if left == 0 {
-            return found.bytes;
-        }
-        left -= 1;
-    }
-    b"".as_slice()
-}
-
 /// A number, or one past the greatest where it is above that.
 pub(crate) fn capped_number_at(k: usize, words: &LineWords<'_>) -> u128
     ensures { result ≡ capped_number_at k words.now }
 {
-    capped_value(word(k, words), GREATEST_NUMBER)
+    capped_value(words.word(k), GREATEST_NUMBER)
 }
 
 pub(crate) fn number_in(low: u64, high: u64, k: usize, words: &LineWords<'_>) -> Option<u64>
     ensures number { result ≡ number_in low high k words.now }
     ensures range { IfSome result (λ n. (low ≤ n) × (n ≤ high)) }
 {
-    let value = capped_value(word(k, words), high);
+    let value = capped_value(words.word(k), high);
     if low as u128 <= value && value <= high as u128 {
         Some(value as u64)
     } else {
@@ -61,7 +47,7 @@ pub(crate) fn priority(k: usize, words: &LineWords<'_>) -> Option<Prio>
 pub(crate) fn operand(k: usize, words: &LineWords<'_>) -> Option<Operand>
     ensures { result ≡ operand_at k words.now }
 {
-    if is_register(word(k, words)) {
+    if is_register(words.word(k)) {
         return Some(Operand::Reg);
     }
     match amount(k, words) {
@@ -73,31 +59,31 @@ pub(crate) fn operand(k: usize, words: &LineWords<'_>) -> Option<Operand>
 pub(crate) fn signal(k: usize, words: &LineWords<'_>) -> Option<u8>
     ensures { result ≡ signal_at k words.now }
 {
-    signal_of(word(k, words))
+    signal_of(words.word(k))
 }
 
 pub(crate) fn signals(k: usize, words: &LineWords<'_>) -> Option<SigSet>
     ensures { result ≡ signals_at k words.now }
 {
-    set_of(word(k, words))
+    set_of(words.word(k))
 }
 
 pub(crate) fn answer(k: usize, words: &LineWords<'_>) -> Option<Res>
     ensures { result ≡ answer_at k words.now }
 {
-    answer_of(word(k, words))
+    answer_of(words.word(k))
 }
 
 pub(crate) fn name(k: usize, words: &LineWords<'_>) -> Option<Name>
     ensures { result ≡ name_at k words.now }
 {
-    Name::try_new(word(k, words))
+    Name::try_new(words.word(k))
 }
 
 pub(crate) fn thread(names: &NameIndex<'_>, k: usize, words: &LineWords<'_>) -> Option<Tid>
     ensures { result ≡ named_at kind.Thread names.now k words.now }
 {
-    match names.number_of(NameKind::Thread, word(k, words)) {
+    match names.number_of(NameKind::Thread, words.word(k)) {
         None => None,
         Some(number) => Tid::try_new(number),
     }
@@ -111,7 +97,7 @@ pub(crate) fn object(
 ) -> Option<ObjId>
     ensures { result ≡ named_at kind names.now k words.now }
 {
-    match names.number_of(kind, word(k, words)) {
+    match names.number_of(kind, words.word(k)) {
         None => None,
         Some(number) => ObjId::try_new(number),
     }

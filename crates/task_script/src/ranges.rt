@@ -63,7 +63,7 @@ fn statement_fault(tally: &Tally, s: &Statement<'_>) -> Option<FaultKind>
     lesser_first(
         s.range_fault(),
         lesser_first(
-            server_fault(s.form(), s.words()),
+            server_fault(s.form(), &s.words()),
             many_fault(tally, s.form()),
         ),
     )

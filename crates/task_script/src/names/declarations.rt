@@ -165,7 +165,7 @@ impl<'a> Declared<'a> {
         if !any_declares(s.places()) {
             return Ok(());
         }
-        self.declare(s.line(), s.places(), s.words().ahead())
+        self.declare(s.line(), s.places(), s.operands())
     }
 
     // Most lines name nothing, and their words are not read here.
@@ -175,7 +175,7 @@ impl<'a> Declared<'a> {
         if !any_is_named(s.places()) {
             return None;
         }
-        self.place_fault(s.line(), s.places(), s.words().ahead())
+        self.place_fault(s.line(), s.places(), s.operands())
     }
 }
 

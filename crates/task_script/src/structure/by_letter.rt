@@ -1,13 +1,13 @@
 // The patterns of a table by the first byte of a line's first word.
 ghost use Rattle.std.specs.Prelude.{ℕ, ◌≡◌, ◌∷◌, List, map, IfOk, IfSome};
 ghost use Rattle.std.specs.Option.{option_map};
-ghost use Rattle.script_table.specs.Patterns.{spot_of, row_of, rows_of};
+ghost use Rattle.script_table.specs.Patterns.{row_of, rows_of};
 ghost use Rattle.script_table.specs.LineFaults.{fitting_row, fitting_some};
-ghost use Rattle.task_script.specs.ByLetter.{begins, may_begin, Serves};
+ghost use Rattle.task_script.specs.ByLetter.{begins, Serves};
 
-use crate::structure::statement::{LineWords, Statement};
+use crate::structure::statement::Statement;
 use script_lex::Words;
-use script_table::{Pattern, Place, Table, fitting_pattern};
+use script_table::{Pattern, Table, fitting_pattern};
 use std::alloc::{AllocError, Global};
 use std::marker::Model;
 
@@ -20,19 +20,6 @@ fn begins(word: &[u8], byte: u8) -> bool
     }
 }
 
-// Whether a line may begin with this byte and have these places.
-fn may_begin(places: &[Place], byte: u8) -> bool
-    ensures { result ≡ may_begin byte (map spot_of places.now) }
-{
-    match places {
-        [] => true,
-        [place, ..] => match place {
-            Place::Keyword(keyword) => begins(keyword, byte),
-            _ => true,
-        },
-    }
-}
-
 // The patterns from the first one on that a line may have which begins with this byte.
 fn from_first(patterns: &'static [Pattern], byte: u8) -> &'static [Pattern]
     ensures { (cs : List ℕ) (ws : List (List ℕ))
@@ -40,7 +27,7 @@ fn from_first(patterns: &'static [Pattern], byte: u8) -> &'static [Pattern]
 {
     match patterns {
         [] => patterns,
-        [pattern, rest @ ..] => if may_begin(pattern.places, byte) {
+        [pattern, rest @ ..] => if begins(pattern.keyword, byte) {
             patterns
         } else {
             from_first(rest, byte)
@@ -127,13 +114,12 @@ impl ByLetter {
         ensures row { option_map (λ s. s.row) result ≡ fitting_some self.now words.entry.words }
         ensures line { IfSome result (λ s. (s.line ≡ line) × (s.words ≡ words.entry.words)) }
     {
-        let all = LineWords::of(&words);
         let Some(first) = words.next_word() else {
             return None;
         };
         match fitting_pattern(self.of_word(first.bytes), first.bytes, &words) {
             None => None,
-            Some(fitting) => Some(Statement::new(line, fitting, all)),
+            Some(fitting) => Some(Statement::new(line, fitting, &words)),
         }
     }
 }

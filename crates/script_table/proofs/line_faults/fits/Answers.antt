@@ -1,4 +1,4 @@
-use Rattle.std.proofs.Common.{sym, ◌∙◌}
+use Rattle.std.proofs.Common.{refl, sym, ◌∙◌}
 use Rattle.script_table.specs.declared.pattern.Place.TheVariants as place
 use Rattle.script_table.specs.LineFaults.{spelling}
 use Rattle.script_table.specs.Ranges.{range_fault}
@@ -14,6 +14,6 @@ loop-place-preserved c =
     let so_far = c.loop-place.invariant in
     record {
       fit = past_fit _ _ _ _ _ _ _ here c.in-Some.ensures.word (sym c.stands.ensures ∙ c.if-not-stands.false) so_far.fit;
-      spelled = past_place spelling _ _ _ _ _ _ _ _ _ _ here c.in-Some.ensures.word c.faults_of_word.ensures.0 c.joined-found.ensures.0 so_far.spelled;
-      ranged = past_place range_fault _ _ _ _ _ _ _ _ _ _ here c.in-Some.ensures.word c.faults_of_word.ensures.1 c.joined-found.ensures.1 so_far.ranged;
+      spelled = past_place spelling _ _ _ _ _ _ _ _ _ _ here c.in-Some.ensures.word refl c.with_word-found.ensures.0 so_far.spelled;
+      ranged = past_place range_fault _ _ _ _ _ _ _ _ _ _ here c.in-Some.ensures.word refl c.with_word-found.ensures.1 so_far.ranged;
     }
