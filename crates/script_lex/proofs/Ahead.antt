@@ -1,10 +1,11 @@
 -- The first word among the first bytes of what is ahead, and the bytes that a line may not have.
 use Rattle.std.proofs.Common.{◌≡◌, ◌≤◌, ◌<◌, ℕ, suc, ◌+◌, ◌-◌, List, [], ◌∷◌, length, take, drop, refl, sym, ◌∙◌, ap, ap₂, arith, Bool, true, false, not, cond}
-use Rattle.std.specs.Prelude.{nat_lt, ◌&&◌}
+use Rattle.std.specs.Prelude.{nat_lt, ◌&&◌, ◌==◌}
+use Rattle.std.proofs.lemmas.Bool.Decides.{nat_tests}
 use Rattle.std.specs.List.{prefix_len}
 use Rattle.std.proofs.lemmas.List.{drop-take, take-take, drop-drop, length-take-le, length-drop}
 use Rattle.script_lex.specs.Words.{words_of, places_of, is_blank, is_allowed, has_bad_byte}
-use Rattle.script_lex.proofs.Split.{in_word, word_at}
+use Rattle.script_lex.proofs.Split.{in_word, word_at, only_blanks, leading_blanks}
 use Rattle.script_lex.proofs.Places.{place_at}
 
 behind_blanks : (ahead : List ℕ) (len start : ℕ) → start < len → drop start (take len ahead) ≡ take (len - start) (drop start ahead)
@@ -41,6 +42,27 @@ first_place ahead at len start k room some within is long =
     let sum : at + start + length (take k (drop start (take len ahead))) ≡ at + (start + k) = omega (arith, word) in
     place_at at (take len ahead) start k here is (long_is ahead len start k some long)
     ∙ ap₂ (λ n r. (at + start) ∷ places_of n r) sum (rest_is ahead len start k some within)
+
+-- behind the blanks that lead
+pub from_first : (ahead : List ℕ) (len start : ℕ) → start ≤ len → start ≡ prefix_len is_blank (take len ahead) → words_of (take (len - start) (drop start ahead)) ≡ words_of (take len ahead)
+from_first ahead len start within is =
+    let sum : len ≡ start + (len - start) = omega arith in
+    let cut : drop start (take len ahead) ≡ take (len - start) (drop start ahead) = ap (λ n. drop start (take n ahead)) sum ∙ drop-take start (len - start) ahead in
+    ap words_of (sym cut) ∙ (ap (λ n. words_of (drop n (take len ahead))) is ∙ leading_blanks (take len ahead))
+
+one_or_more : (n : ℕ) → false ≡ (suc n == 0)
+one_or_more n = grind (arith, nat_tests)
+
+-- no word where all are blanks, and one where some are not
+pub over : (ahead : List ℕ) (len start : ℕ) (all : Bool) → len ≤ length ahead → start ≤ len → start ≡ prefix_len is_blank (take len ahead) → all ≡ (start == len) → all ≡ (length (words_of (take len ahead)) == 0)
+over ahead len start true room within is e =
+    let whole : start ≡ len = grind (arith, nat_tests, e) in
+    let none : words_of (take len ahead) ≡ [] = only_blanks (take len ahead) (omega (arith, length-take-le len ahead room, is, whole)) in
+    rw none refl
+over ahead len start false room within is e =
+    let some : start < len = grind (arith, nat_tests, e) in
+    let here : start < length (take len ahead) = omega (arith, length-take-le len ahead room, some) in
+    rw (word_at (take len ahead) start _ here is refl) (one_or_more _)
 
 bad_case : (b : Bool) (n l : ℕ) (all : Bool) → nat_lt n l ≡ not all → nat_lt (cond (not (not b)) (1 + n) 0) (suc l) ≡ not (b && all)
 bad_case true n l all e = grind (arith, e)

@@ -1,9 +1,9 @@
 -- The first line of a text and the first word of a line.
 use Rattle.std.proofs.Common.{◌≡◌, ◌≤◌, ◌<◌, ℕ, suc, ◌+◌, List, [], ◌∷◌, length, take, drop, refl, sym, ◌∙◌, ap, subst, arith, Bool, true, false, not}
-use Rattle.std.specs.Prelude.{◌==◌}
+use Rattle.std.specs.Prelude.{◌==◌, ◌&&◌}
 use Rattle.std.proofs.Common.{length-drop}
 use Rattle.std.proofs.Math.ListN.{drop_of_length-le}
-use Rattle.std.specs.List.{prefix_len}
+use Rattle.std.specs.List.{prefix_len, list_all}
 use Rattle.script_lex.specs.Lines.{lines_of}
 use Rattle.script_lex.specs.Words.{onto_first, words_of, is_blank}
 
@@ -98,6 +98,30 @@ blank_case false c cs e all ih = let n = stops is_blank c cs e in absurd (omega 
 pub only_blanks : (line : List ℕ) → prefix_len is_blank line ≡ length line → words_of line ≡ []
 only_blanks [] all = no_words
 only_blanks (c ∷ cs) all = blank_case (is_blank c) c cs refl all (only_blanks cs)
+
+leading_case : (b : Bool) (c : ℕ) (cs : List ℕ) → is_blank c ≡ b → words_of (drop (prefix_len is_blank cs) cs) ≡ words_of cs → words_of (drop (prefix_len is_blank (c ∷ cs)) (c ∷ cs)) ≡ words_of (c ∷ cs)
+leading_case true c cs e ih = ap (λ n. words_of (drop n (c ∷ cs))) (passes is_blank c cs e) ∙ (ih ∙ sym (word_skips c cs e))
+leading_case false c cs e ih = ap (λ n. words_of (drop n (c ∷ cs))) (stops is_blank c cs e)
+
+-- blanks that lead are of no word
+pub leading_blanks : (line : List ℕ) → words_of (drop (prefix_len is_blank line) line) ≡ words_of line
+leading_blanks [] = refl
+leading_blanks (c ∷ cs) = leading_case (is_blank c) c cs refl (leading_blanks cs)
+
+ink_first : (b all : Bool) → (not b && all) ≡ true → b ≡ false
+ink_first true all e = cc
+ink_first false all e = refl
+
+ink_later : (b all : Bool) → (not b && all) ≡ true → all ≡ true
+ink_later true all e = cc
+ink_later false all e = e
+
+-- bytes that are no blanks are one word
+pub one_word : (c : ℕ) (cs : List ℕ) → list_all in_word (c ∷ cs) ≡ true → words_of (c ∷ cs) ≡ (c ∷ cs) ∷ []
+one_word c [] e = word_alone c (ink_first (is_blank c) true e) ∙ ap (λ ws. (c ∷ []) ∷ ws) no_words
+one_word c (d ∷ ds) e =
+    let later : list_all in_word (d ∷ ds) ≡ true = ink_later (is_blank c) _ e in
+    word_more c d ds (ink_first (is_blank c) _ e) (ink_first (is_blank d) _ later) ∙ ap (onto_first c) (one_word d ds later)
 
 pub line_with_end : (text : List ℕ) (k : ℕ) → 0 < length text → k ≡ prefix_len (λ c. not (c == 10)) text → lines_of text ≡ take k text ∷ lines_of (drop (k + 1) text)
 line_with_end text k some is = subst (λ n. lines_of text ≡ take n text ∷ lines_of (drop (n + 1) text)) (sym is) (lines_first text some)

@@ -1,5 +1,5 @@
 // The words of a line, each with its place.
-ghost use Rattle.std.specs.Prelude.{◌≡◌, ◌≤◌, ◌+◌, ◌-◌, ◌∷◌, [], length, take, drop, MatchOption, IfSome};
+ghost use Rattle.std.specs.Prelude.{◌≡◌, ◌≤◌, ◌+◌, ◌-◌, ◌==◌, ◌∷◌, [], length, take, drop, MatchOption, IfSome};
 ghost use Rattle.std.specs.List.{prefix_len};
 ghost use Rattle.script_lex.specs.Words.{words_of, places_of, is_blank};
 
@@ -110,6 +110,25 @@ impl<'a> Words<'a> {
         ensures bound { length result.now ≤ 67_108_864 }
     {
         &self.ahead[..self.len as usize]
+    }
+
+    /// Whether no word is ahead.
+    #[inline(always)]
+    pub fn is_over(&self) -> bool
+        ensures { result ≡ (length self.now.words == 0) }
+    {
+        let len = self.len as usize;
+        blanks(self.ahead, len) == len
+    }
+
+    /// The bytes from the first word on: where no blank is among them, they are that word, and no other is ahead.
+    #[inline(always)]
+    pub fn from_first(&self) -> &'a [u8]
+        ensures { words_of result.now ≡ self.now.words }
+    {
+        let len = self.len as usize;
+        let start = blanks(self.ahead, len);
+        &self.ahead[start..len]
     }
 
     /// The next word; `None` exactly after the last one, and then nothing changes.

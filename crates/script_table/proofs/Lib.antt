@@ -2,3 +2,4 @@ pub mod Parts
 pub mod ThreeParts
 pub mod Rows
 pub mod KindOrder
+pub mod Alone

@@ -20,4 +20,4 @@ pub use pattern::{Bar, Closer, Opening, Pattern, Place, Table};
 pub use script_tree::NameKind;
 pub use table::patterns;
 pub use word_faults::WordFaults;
-pub use words::{answer_of, capped_value, is_number, is_register, set_of, signal_of};
+pub use words::{answer_of, capped_value, is_number, is_register, set_of, short_number, signal_of};

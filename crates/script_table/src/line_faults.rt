@@ -1,13 +1,15 @@
 // The pattern of a line.
-ghost use Rattle.std.specs.Prelude.{◌≡◌, ◌∷◌, [], map, true, false, IfSome, MatchOption};
+ghost use Rattle.std.specs.Prelude.{◌≡◌, ◌∷◌, [], map, None, true, false, length, IfSome, MatchOption};
 ghost use Rattle.std.specs.Str.{bytes_eq};
 ghost use Rattle.std.specs.Option.{option_map};
+ghost use Rattle.script_table.specs.Faults.{least_kind};
 ghost use Rattle.script_table.specs.Patterns.{spot_of, row_of, rows_of};
-ghost use Rattle.script_table.specs.LineFaults.{stands, agrees, fits, any_agrees, fitting_row, spelling, fitting_some, unless};
+ghost use Rattle.script_table.specs.LineFaults.{stands, agrees, fits, any_agrees, fitting_row, place_faults, spelling, fitting_some, unless};
+ghost use Rattle.script_table.specs.Ranges.{range_fault};
 ghost use Rattle.script_table.specs.WordFaults.{AreFaultsIn};
 ghost use Rattle.script_tree.specs.Names.{is_name};
 
-use crate::word_faults::{no_faults, with_word};
+use crate::word_faults::{is_short_within, no_faults, with_word};
 use crate::words::{answer_of, is_number, is_register, set_of, signal_of};
 use crate::{FaultKind, Pattern, Place, Table, WordFaults};
 use script_lex::Words;
@@ -15,14 +17,12 @@ use script_tree::Name;
 
 // Words are short: byte by byte is the quickest.
 fn are_same(word: &[u8], keyword: &[u8]) -> bool
+    requires { length word.now ≡ length keyword.now }
     ensures { result ≡ bytes_eq word.now keyword.now }
 {
     match word {
-        [] => keyword.is_empty(),
-        [a, word @ ..] => match keyword {
-            [] => false,
-            [b, keyword @ ..] => *a == *b && are_same(word, keyword),
-        },
+        [] => true,
+        [first, rest @ ..] => *first == keyword[0] && are_same(rest, &keyword[1..]),
     }
 }
 
@@ -57,15 +57,50 @@ fn agrees(places: &[Place], mut words: Words<'_>) -> bool
     }
 }
 
-// What is wrong with these words, where the places fit.
+// Whether it is seen at once that there is one word, and that nothing is wrong with it.
 #[inline(always)]
-fn fits(places: &[Place], mut words: Words<'_>) -> Option<WordFaults>
-    ensures { MatchOption result (fits (map spot_of places.now) words.entry.words ≡ false)
-        (λ f. (fits (map spot_of places.now) words.entry.words ≡ true) × AreFaultsIn f (map spot_of places.now) words.entry.words) }
+fn is_right_alone(place: &Place, words: &Words<'_>) -> bool
+    ensures { (result ≡ true) → (fits (spot_of place.now ∷ []) words.now.words ≡ true)
+        × (least_kind (place_faults spelling (spot_of place.now ∷ []) words.now.words) ≡ None)
+        × (least_kind (place_faults range_fault (spot_of place.now ∷ []) words.now.words) ≡ None) }
 {
+    match place {
+        Place::Number { low, high } => is_short_within(*low, *high, words.from_first()),
+        _ => false,
+    }
+}
+
+// What is wrong with these words, where the places fit. Most lines have a short number behind their keyword, or nothing.
+#[inline(always)]
+fn fits(places: &[Place], words: &Words<'_>) -> Option<WordFaults>
+    ensures { MatchOption result (fits (map spot_of places.now) words.now.words ≡ false)
+        (λ f. (fits (map spot_of places.now) words.now.words ≡ true) × AreFaultsIn f (map spot_of places.now) words.now.words) }
+{
+    match places {
+        [] => if words.is_over() {
+            Some(no_faults())
+        } else {
+            None
+        },
+        [place] => if is_right_alone(place, words) {
+            Some(no_faults())
+        } else {
+            fits_each(places, words)
+        },
+        _ => fits_each(places, words),
+    }
+}
+
+// The same place by place.
+#[inline(never)]
+fn fits_each(places: &[Place], words: &Words<'_>) -> Option<WordFaults>
+    ensures { MatchOption result (fits (map spot_of places.now) words.now.words ≡ false)
+        (λ f. (fits (map spot_of places.now) words.now.words ≡ true) × AreFaultsIn f (map spot_of places.now) words.now.words) }
+{
+    let mut ahead = words.again();
     let mut found = no_faults();
     for place in places {
-        let Some(word) = words.next_word() else {
+        let Some(word) = ahead.next_word() else {
             return None;
         };
         if !stands(place, word.bytes) {
@@ -73,7 +108,7 @@ fn fits(places: &[Place], mut words: Words<'_>) -> Option<WordFaults>
         }
         found = with_word(found, place, word.bytes);
     }
-    if words.next_word().is_none() {
+    if ahead.next_word().is_none() {
         Some(found)
     } else {
         None
@@ -89,7 +124,7 @@ fn fits_pattern(pattern: &Pattern, first: &[u8], words: &Words<'_>) -> Option<Wo
     ensures keyword { IfSome result (λ _. pattern.now.keyword.now ≡ first.now) }
 {
     if is_keyword(first, pattern.keyword) {
-        fits(pattern.places, words.again())
+        fits(pattern.places, words)
     } else {
         None
     }
@@ -138,7 +173,7 @@ fn fitting_in(patterns: &'static [Pattern], first: &[u8], words: &Words<'_>) -> 
 
 /// The pattern of the table that agrees with a line of these words and has their number, where the first word is known, and `words` are
 /// those that follow it; `None` exactly where there is none.
-#[inline(never)]
+#[inline(always)]
 pub fn fitting_pattern(table: &Table, first: &[u8], words: &Words<'_>) -> Option<Fitting>
     ensures row { option_map (λ f. row_of f.pattern.now) result ≡ fitting_row (rows_of table.now) (first.now ∷ words.now.words) }
     ensures faults { IfSome result (λ f. AreFaultsIn f.faults (row_of f.pattern.now).places (first.now ∷ words.now.words)) }

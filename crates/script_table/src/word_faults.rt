@@ -32,7 +32,7 @@ pub(crate) fn no_faults() -> WordFaults
 
 // Most numbers are short ones in their range.
 #[inline(always)]
-fn is_short_within(low: u64, high: u64, word: &[u8]) -> bool
+pub(crate) fn is_short_within(low: u64, high: u64, word: &[u8]) -> bool
     ensures { (result ≡ true) → (is_number word.now ≡ true) × (is_within low high word.now ≡ true) }
 {
     match short_number(word) {

@@ -28,7 +28,7 @@ pub fn is_number(word: &[u8]) -> bool
 
 /// The value of digits, of which there are few; `None` also where there are many.
 #[inline(always)]
-pub(crate) fn short_number(word: &[u8]) -> Option<u64>
+pub fn short_number(word: &[u8]) -> Option<u64>
     ensures { IfSome result (λ n. (is_number word.now ≡ true) × (n ≡ value_of word.now)) }
 {
     if word.is_empty() {

@@ -8,4 +8,5 @@ pub mod Bounded
 pub mod NameEntries
 pub mod Unnamed
 pub mod Narrowed
+mod OnlyNumber
 mod Innermost

@@ -1,5 +1,7 @@
 -- Tables that serve for the lines that begin with one byte.
-use Rattle.std.proofs.Common.{◌≡◌, ◌<◌, ℕ, zero, suc, ◌+◌, List, [], ◌∷◌, ◌++◌, length, get_or, refl, subst, arith, false, map}
+use Rattle.std.proofs.Common.{◌≡◌, ◌<◌, ℕ, zero, suc, ◌+◌, ◌-◌, ◌≤◌, List, [], ◌∷◌, ◌++◌, length, take, get_or, refl, sym, ap, ◌∙◌, cond, Some, subst, arith, false, map}
+use Rattle.std.proofs.Math.Seq.{take-length}
+use Rattle.std.proofs.lemmas.List.{take_more, map-append}
 use Rattle.script_table.specs.declared.pattern.Table.{Table}
 use Rattle.script_table.specs.Patterns.{Spot, Keyword, Row, spot_of, row_of}
 use Rattle.script_table.specs.declared.pattern.Pattern.{Pattern}
@@ -17,6 +19,21 @@ Same b xs ys = (cs : List ℕ) (ws : List (List ℕ)) → fitting_row xs ((b ∷
 
 pub past : (b : ℕ) (p : Pattern) (rows found : List Row) → begins b p.keyword.now ≡ false → Same b found rows → Same b found (row_of p ∷ rows)
 past b p rows found e same cs ws = rw (fits_not b p.keyword.now (map spot_of p.places.now) cs ws e) (same cs ws)
+
+-- behind all others
+fits_not_last : (b : ℕ) (p : Pattern) (rows : List Row) → begins b p.keyword.now ≡ false → Same b rows (rows ++ row_of p ∷ [])
+fits_not_last b p [] e cs ws = rw (fits_not b p.keyword.now (map spot_of p.places.now) cs ws e) refl
+fits_not_last b p (r ∷ rows) e cs ws = ap (cond (fits r.places ((b ∷ cs) ∷ ws)) (Some r)) (fits_not_last b p rows e cs ws)
+
+pub past_last : (b : ℕ) (ps : List Pattern) (d : Pattern) (found : List Row) → 1 ≤ length ps → begins b (get_or ps (length ps - 1) d).keyword.now ≡ false
+    → Same b found (map row_of (take (length ps - 1) ps)) → Same b found (map row_of ps)
+past_last b ps d found some e same cs ws =
+    let n = length ps - 1 in
+    let last = get_or ps n d in
+    let sum : length ps ≡ n + 1 = omega arith in
+    let whole : ps ≡ take n ps ++ last ∷ [] = sym (take-length ps) ∙ (ap (λ k. take k ps) sum ∙ take_more ps n d (omega arith)) in
+    same cs ws ∙ (fits_not_last b last (map row_of (take n ps)) e cs ws
+    ∙ ap (λ rows. fitting_row rows ((b ∷ cs) ∷ ws)) (sym (ap (map row_of) whole ∙ map-append row_of (take n ps) (last ∷ []))))
 
 pub three : (b : ℕ) (xs ys zs xs' ys' zs' : List Row) → Same b xs xs' → Same b ys ys' → Same b zs zs' → Same b (xs ++ (ys ++ zs)) (xs' ++ (ys' ++ zs'))
 three b xs ys zs xs' ys' zs' one two last cs ws =

@@ -30,11 +30,11 @@ pub two_from : (last : ℕ) (es : Declared) (n : ℕ) (ss : List Said) → Follo
 two_from last es n [] f = tt
 two_from last es n (s ∷ ss) f = parts_from 2 n s.line (name_faults es s) (phase_two es ss) f.0 (two_from last es (s.line + 1) ss f.1)
 
-rising : (last n : ℕ) (ss : List Said) → Follows last n ss → IsRising last ss
+pub rising : (last n : ℕ) (ss : List Said) → Follows last n ss → IsRising last ss
 rising last n [] f = tt
 rising last n (s ∷ ss) f = f.1
 
-pub at_drop : (ss : List Said) (i : ℕ) (s : Said) → i < length ss → s ≡ get_or ss i s → drop i ss ≡ s ∷ drop (i + 1) ss
+pub at_drop : {X : Type 0} (ss : List X) (i : ℕ) (s : X) → i < length ss → s ≡ get_or ss i s → drop i ss ≡ s ∷ drop (i + 1) ss
 at_drop ss i s lt is = rw add-one (drop-cons ss i s lt ∙ ap (λ x. x ∷ drop (suc i) ss) (sym is))
 
 pub two_step : (last : ℕ) (es : Declared) (ss rest : List Said) (s : Said) (all : Option Fault) → ss ≡ s ∷ rest → IsRising last ss → least (phase_two es ss) ≡ all →

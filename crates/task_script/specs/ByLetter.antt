@@ -1,5 +1,5 @@
 -- Tables that serve for the lines that begin with one byte.
-use Rattle.std.specs.Prelude.{ℕ, ◌≡◌, ◌+◌, ◌==◌, Bool, true, false, List, [], ◌∷◌}
+use Rattle.std.specs.Prelude.{ℕ, ◌≡◌, ◌+◌, ◌==◌, Bool, false, List, [], ◌∷◌}
 use Rattle.script_table.specs.declared.pattern.Table.{Table}
 use Rattle.script_table.specs.Patterns.{Row, rows_of}
 use Rattle.script_table.specs.LineFaults.{fitting_row}

@@ -14,10 +14,10 @@ ghost use Rattle.script_table.specs.Build.{Opened, Built, put_step, with_decl, w
 use crate::names::NameIndex;
 use crate::operands::number_in;
 use crate::structure::statement::{LineWords, Statement};
-use crate::{Body, Decl, Decls, Script, Step};
+use crate::{Body, Call, Decl, Decls, Script, Step};
 use calls::call_of;
 use meaning::{action_decl, block_step, body_decl, object_decl, plain_step, runs_cleanup};
-use script_table::{ActionForm, CallForm, Form, ObjectForm};
+use script_table::{ActionForm, CallForm, Form, ObjectForm, ThreadCall};
 use std::alloc::{AllocError, Global};
 use std::marker::Model;
 use tick_num::GREATEST_NUMBER;
@@ -161,10 +161,10 @@ impl<'a> Builder<'a> {
 
     // Large values stand in functions of their own: most lines have none, and a function clears the room of its own at entry.
     #[inline(never)]
-    fn declare_object(&mut self, form: ObjectForm, words: &LineWords<'_>) -> Result<(), AllocError>
-        ensures { IfOk result (λ _. self.new ≡ with_decl self.old (object_decl form words.now)) }
+    fn declare_object(&mut self, form: ObjectForm, s: &Statement<'_>) -> Result<(), AllocError>
+        ensures { IfOk result (λ _. self.new ≡ with_decl self.old (object_decl form s.now.words)) }
     {
-        self.declare(object_decl(form, words))
+        self.declare(object_decl(form, &s.words()))
     }
 
     #[inline(never)]
@@ -172,42 +172,42 @@ impl<'a> Builder<'a> {
         &mut self,
         names: &NameIndex<'_>,
         form: ActionForm,
-        words: &LineWords<'_>,
+        s: &Statement<'_>,
     ) -> Result<(), AllocError>
-        ensures { IfOk result (λ _. self.new ≡ with_decl self.old (action_decl names.now form words.now)) }
+        ensures { IfOk result (λ _. self.new ≡ with_decl self.old (action_decl names.now form s.now.words)) }
     {
-        self.declare(action_decl(names, form, words))
+        self.declare(action_decl(names, form, &s.words()))
     }
 
     #[inline(never)]
-    fn begin(&mut self, alloc: Global, form: Form, words: &LineWords<'a>) -> Result<(), AllocError>
-        ensures { IfOk result (λ _. self.new ≡ record self.old {
-          blocks = record { form = form; words = words.now; steps = [] } ∷ self.old.blocks;
-        }) }
+    fn begin(&mut self, alloc: Global, s: &Statement<'a>) -> Result<(), AllocError>
+        ensures { IfOk result (λ _. self.new ≡ opens self.old s.now.row.form s.now.words) }
     {
-        self.open(OpenBlock::new(alloc, form, words.again()))
+        self.open(OpenBlock::new(alloc, s.form(), s.words()))
     }
 
-    fn set_quantum(&mut self, words: &LineWords<'_>)
+    #[inline(never)]
+    fn set_quantum(&mut self, s: &Statement<'_>)
         ensures { self.new ≡ record self.old {
-          quantum = unwrap_or (number_in 1 greatest 1 words.now) self.old.quantum;
+          quantum = unwrap_or (number_in 1 greatest 1 s.now.words) self.old.quantum;
         } }
     {
-        if let Some(quantum) = number_in(1, GREATEST_NUMBER, 1, words) {
+        if let Some(quantum) = number_in(1, GREATEST_NUMBER, 1, &s.words()) {
             self.quantum = quantum;
         }
     }
 
+    #[inline(never)]
     fn make(
         &mut self,
         names: &NameIndex<'_>,
         form: CallForm,
-        words: &LineWords<'_>,
+        s: &Statement<'_>,
     ) -> Result<(), AllocError>
         ensures { IfOk result (λ _. self.new
-            ≡ with_step self.old (option_map step.Make (call_of names.now form words.now))) }
+            ≡ with_step self.old (option_map step.Make (call_of names.now form s.now.words))) }
     {
-        match call_of(names, form, words) {
+        match call_of(names, form, &s.words()) {
             None => Ok(()),
             Some(call) => self.put(Some(Step::Make(call))),
         }
@@ -221,24 +221,27 @@ impl<'a> Builder<'a> {
     ) -> Result<(), AllocError>
         ensures { IfOk result (λ _. self.new ≡ after names.now self.old s.now) }
     {
-        let words = &s.words();
         match s.form() {
             Form::Quantum => {
-                self.set_quantum(words);
+                self.set_quantum(s);
                 Ok(())
             }
-            Form::Object(form) => self.declare_object(form, words),
-            Form::Action(form) => self.declare_action(names, form, words),
-            Form::Body(form) => self.begin(alloc, Form::Body(form), words),
-            Form::Block(form) => self.begin(alloc, Form::Block(form), words),
-            Form::Step(form) => self.put(plain_step(form, words)),
-            Form::Call(form) => self.make(names, form, words),
+            Form::Object(form) => self.declare_object(form, s),
+            Form::Action(form) => self.declare_action(names, form, s),
+            Form::Body(_) | Form::Block(_) => self.begin(alloc, s),
+            Form::Step(form) => self.put(plain_step(form, &s.words())),
+            // The commonest call has a way of its own.
+            Form::Call(CallForm::Thread(ThreadCall::Yield)) => self.put(Some(Step::Make(
+                Call::Yield,
+            ))),
+            Form::Call(form) => self.make(names, form, s),
             Form::Close(form) => self.close(names, runs_cleanup(form)),
         }
     }
 }
 
 /// The script that the statements say.
+#[inline(never)]
 pub(crate) fn script_of(
     alloc: Global,
     names: &NameIndex<'_>,

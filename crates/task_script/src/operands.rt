@@ -29,6 +29,17 @@ pub(crate) fn number_in(low: u64, high: u64, k: usize, words: &LineWords<'_>) ->
     }
 }
 
+/// The same of the first word behind the keyword, which most often is a short number and the only one.
+#[inline(always)]
+pub(crate) fn first_number(low: u64, high: u64, words: &LineWords<'_>) -> Option<u64>
+    ensures { result ≡ number_in low high 1 words.now }
+{
+    match words.only_number() {
+        Some(value) if low <= value && value <= high => Some(value),
+        _ => number_in(low, high, 1, words),
+    }
+}
+
 pub(crate) fn amount(k: usize, words: &LineWords<'_>) -> Option<u64>
     ensures { result ≡ amount_at k words.now }
 {

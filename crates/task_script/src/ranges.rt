@@ -70,6 +70,7 @@ fn statement_fault(tally: &Tally, s: &Statement<'_>) -> Option<FaultKind>
 }
 
 /// The least fault of phase 3; `last` is the number of the line behind the last.
+#[inline(never)]
 pub(crate) fn check_ranges(last: u32, statements: &[Statement<'_>]) -> Result<(), ScriptEnd>
     requires { IsRising last statements.now }
     ensures { MatchResult result (λ _. least (phase_three last no_tally statements.now) ≡ None)

@@ -6,7 +6,7 @@ ghost use Rattle.script_table.specs.Read.{read};
 ghost use Rattle.task_script.specs.Ends.{IsRefusal};
 
 use crate::build::script_of;
-use crate::names::declarations::{check_names, declarations};
+use crate::names::declarations::{check_names, declare_all};
 use crate::ranges::check_ranges;
 use crate::structure::lines::statements;
 use crate::{Script, ScriptEnd};
@@ -21,10 +21,14 @@ fn read_by(alloc: Global, table: &Table, text: &[u8]) -> Result<Script, ScriptEn
         (λ e. IsRefusal e (read (rows_of table.now) text.now)) }
 {
     let reading = statements(alloc, table, text)?;
-    let all = declarations(alloc, reading.statements.as_slice())?;
-    check_names(&all, reading.statements.as_slice())?;
+    let naming = declare_all(alloc, reading.statements.as_slice())?;
+    check_names(&naming.declared, naming.lines.as_slice())?;
     check_ranges(reading.last, reading.statements.as_slice())?;
-    let script = script_of(alloc, all.names(), reading.statements.as_slice())?;
+    let script = script_of(
+        alloc,
+        naming.declared.names(),
+        reading.statements.as_slice(),
+    )?;
     Ok(script)
 }
 

@@ -4,7 +4,7 @@ ghost use Rattle.script_table.specs.Meaning.{kind_of_object, object_decl, action
 
 use crate::names::NameIndex;
 use crate::operands::{
-    amount, answer, fifo, name, number_in, object, priority, rr, signal, sporadic,
+    amount, answer, fifo, first_number, name, number_in, object, priority, rr, signal, sporadic,
 };
 use crate::structure::statement::LineWords;
 use crate::{Body, Decl, Kind, Protocol, Step};
@@ -112,9 +112,9 @@ pub(crate) fn plain_step(form: StepForm, words: &LineWords<'_>) -> Option<Step>
     ensures { result ≡ plain_step form words.now }
 {
     Some(match form {
-        StepForm::Run => Step::Run(number_in(1, GREATEST_NUMBER, 1, words)?),
-        StepForm::Set => Step::Set(amount(1, words)?),
-        StepForm::Add => Step::Add(amount(1, words)?),
+        StepForm::Run => Step::Run(first_number(1, GREATEST_NUMBER, words)?),
+        StepForm::Set => Step::Set(first_number(0, GREATEST_NUMBER, words)?),
+        StepForm::Add => Step::Add(first_number(0, GREATEST_NUMBER, words)?),
         StepForm::Take => Step::Take,
     })
 }

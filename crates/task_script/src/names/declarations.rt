@@ -8,7 +8,7 @@ ghost use Rattle.script_table.specs.LineFaults.{place_faults};
 ghost use Rattle.script_table.specs.Structure.{IsRising};
 ghost use Rattle.script_table.specs.Names.{nothing_declared, with_declaration, declared_at, declared, name_fault, name_faults, phase_two};
 ghost use Rattle.task_script.specs.Ends.{answered};
-ghost use Rattle.task_script.specs.Declarations.{declares, is_named};
+ghost use Rattle.task_script.specs.Declarations.{declares, is_named, naming_lines};
 
 use crate::ScriptEnd;
 use crate::names::NameIndex;
@@ -168,38 +168,52 @@ impl<'a> Declared<'a> {
         self.declare(s.line(), s.places(), s.operands())
     }
 
-    // Most lines name nothing, and their words are not read here.
     fn line_fault(&self, s: &Statement<'_>) -> Option<FaultKind>
         ensures { result ≡ least_kind (name_faults self.now s.now) }
     {
-        if !any_is_named(s.places()) {
-            return None;
-        }
         self.place_fault(s.line(), s.places(), s.operands())
     }
 }
 
-/// All that the lines declare.
-pub(crate) fn declarations<'a>(
-    alloc: Global,
-    statements: &[Statement<'a>],
-) -> Result<Declared<'a>, ScriptEnd>
-    ensures { MatchResult result (λ d. d ≡ declared statements.now) (λ e. e ≡ ScriptEnd.OutOfMemory) }
-{
-    let mut all = Declared::new(alloc);
-    for s in statements {
-        all.declare_line(s)?;
-    }
-    Ok(all)
+/// All that lines declare, and the lines that name something, which alone can be at fault for a name.
+#[derive(Drop)]
+pub(crate) struct Naming<'s, 'a> {
+    pub declared: Declared<'a>,
+    pub lines: Vec<&'s Statement<'a>>,
 }
 
-/// The least fault of phase 2.
-pub(crate) fn check_names(all: &Declared<'_>, statements: &[Statement<'_>]) -> Result<(), ScriptEnd>
-    requires { (last : ℕ) × IsRising last statements.now }
-    ensures { MatchResult result (λ _. least (phase_two all.now statements.now) ≡ None)
-        (λ e. option_map answered (least (phase_two all.now statements.now)) ≡ Some e) }
+/// What these lines declare. Most lines name nothing, and their words are not read here.
+#[inline(never)]
+pub(crate) fn declare_all<'s, 'a>(
+    alloc: Global,
+    statements: &'s [Statement<'a>],
+) -> Result<Naming<'s, 'a>, ScriptEnd>
+    ensures { MatchResult result
+        (λ n. (n.declared ≡ declared statements.now) × (map (λ s. s.now) n.lines.items ≡ naming_lines statements.now))
+        (λ e. e ≡ ScriptEnd.OutOfMemory) }
 {
+    let mut all = Declared::new(alloc);
+    let mut lines = Vec::new(alloc);
     for s in statements {
+        if !any_is_named(s.places()) {
+            continue;
+        }
+        all.declare_line(s)?;
+        lines.push(s)?;
+    }
+    Ok(Naming {
+        declared: all,
+        lines,
+    })
+}
+
+/// The least fault of phase 2 of lines that name something.
+pub(crate) fn check_names(all: &Declared<'_>, lines: &[&Statement<'_>]) -> Result<(), ScriptEnd>
+    requires { (last : ℕ) × IsRising last (map (λ s. s.now) lines.now) }
+    ensures { MatchResult result (λ _. least (phase_two all.now (map (λ s. s.now) lines.now)) ≡ None)
+        (λ e. option_map answered (least (phase_two all.now (map (λ s. s.now) lines.now))) ≡ Some e) }
+{
+    for s in lines {
         if let Some(kind) = all.line_fault(s) {
             return Err(ScriptEnd::Fault(s.line(), kind));
         }

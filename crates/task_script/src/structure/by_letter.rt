@@ -35,13 +35,36 @@ fn from_first(patterns: &'static [Pattern], byte: u8) -> &'static [Pattern]
     }
 }
 
+// The patterns up to the last one that a line may have which begins with this byte.
+fn to_last(patterns: &'static [Pattern], byte: u8) -> &'static [Pattern]
+    ensures { (cs : List ℕ) (ws : List (List ℕ))
+        → fitting_row (map row_of result.now) ((byte ∷ cs) ∷ ws) ≡ fitting_row (map row_of patterns.now) ((byte ∷ cs) ∷ ws) }
+{
+    match patterns {
+        [] => patterns,
+        [rest @ .., pattern] => if begins(pattern.keyword, byte) {
+            patterns
+        } else {
+            to_last(rest, byte)
+        },
+    }
+}
+
+// The patterns from the first to the last that a line may have which begins with this byte.
+fn between(patterns: &'static [Pattern], byte: u8) -> &'static [Pattern]
+    ensures { (cs : List ℕ) (ws : List (List ℕ))
+        → fitting_row (map row_of result.now) ((byte ∷ cs) ∷ ws) ≡ fitting_row (map row_of patterns.now) ((byte ∷ cs) ∷ ws) }
+{
+    to_last(from_first(patterns, byte), byte)
+}
+
 fn narrowed(table: &Table, byte: u8) -> Table
     ensures { Serves (rows_of table.now) byte result }
 {
     Table {
-        declarations: from_first(table.declarations, byte),
-        steps: from_first(table.steps, byte),
-        calls: from_first(table.calls, byte),
+        declarations: between(table.declarations, byte),
+        steps: between(table.steps, byte),
+        calls: between(table.calls, byte),
     }
 }
 

@@ -16,6 +16,9 @@ use script_lex::{Line, Lines};
 use script_table::{FaultKind, Table};
 use std::alloc::Global;
 
+// How many steps a script may have.
+const MOST_STEPS: usize = 65_536;
+
 // What a line says, where it has no fault of phase 1.
 fn read_line<'a>(
     patterns: &ByLetter,
@@ -50,6 +53,7 @@ pub(crate) struct Reading<'a> {
 }
 
 // What the lines of a text say by these patterns, where none has a fault of phase 1.
+#[inline(never)]
 fn statements_by<'a>(
     alloc: Global,
     patterns: &ByLetter,
@@ -62,8 +66,8 @@ fn statements_by<'a>(
         (v.last ≡ 1 + length (lines_of text.now)))
         (λ e. EndsBy e (least (phase_one patterns.now 1 (Some []) (lines_of text.now)))) }
 {
-    // The shortest line that says something is `end`: the room is not moved while the text is read.
-    let mut statements = Vec::with_capacity(alloc, text.len() / 4 + 1)?;
+    // The shortest line that says something is `end`: the room is not moved while the text is read, unless blocks are very many.
+    let mut statements = Vec::with_capacity(alloc, (text.len() / 4 + 1).min(MOST_STEPS))?;
     let mut blocks = Blocks::new(alloc);
     let mut lines = Lines::new(text);
     while let Some(line) = lines.next_line() {

@@ -1,13 +1,14 @@
 // What a line says.
-ghost use Rattle.std.specs.Prelude.{◌≡◌, ◌∷◌, map};
+ghost use Rattle.std.specs.Prelude.{◌≡◌, ◌∷◌, map, IfSome};
 ghost use Rattle.script_table.specs.Faults.{least_kind};
 ghost use Rattle.script_table.specs.Patterns.{Keyword, spot_of};
 ghost use Rattle.script_table.specs.LineFaults.{place_faults, spelling};
 ghost use Rattle.script_table.specs.Ranges.{range_fault, word};
 ghost use Rattle.script_table.specs.WordFaults.{AreFaultsIn};
+ghost use Rattle.script_table.specs.Words.{value_of};
 
 use script_lex::Words;
-use script_table::{Bar, FaultKind, Fitting, Form, Pattern, Place, WordFaults};
+use script_table::{Bar, FaultKind, Fitting, Form, Pattern, Place, WordFaults, short_number};
 use std::marker::Model;
 
 /// The words of a line: the keyword that it begins with, and the bytes in which the others stand. Contracts see the list of all.
@@ -39,14 +40,12 @@ impl<'a> LineWords<'a> {
         nth(Words::in_bytes(self.operands), k - 1)
     }
 
-    /// The same words once more.
-    pub(crate) fn again(&self) -> LineWords<'a>
-        ensures { result ≡ self.now }
+    /// The number behind the keyword, where it is short and the only word there; `None` also where it is not.
+    #[inline(always)]
+    pub(crate) fn only_number(&self) -> Option<u64>
+        ensures { IfSome result (λ n. n ≡ value_of (word 1 self.now)) }
     {
-        LineWords {
-            keyword: self.keyword,
-            operands: self.operands,
-        }
+        short_number(Words::in_bytes(self.operands).from_first())
     }
 }
 

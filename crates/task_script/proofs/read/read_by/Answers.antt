@@ -1,4 +1,4 @@
-use Rattle.std.proofs.Common.{◌+◌, sym, ◌∙◌, ap, subst, arith, length, List}
+use Rattle.std.proofs.Common.{◌+◌, sym, ◌∙◌, ap, subst, arith, length, map, List}
 use Rattle.std.specs.Prelude.{Ok}
 use Rattle.std.proofs.lemmas.Result.{err_from_is_err_and}
 use Rattle.script_lex.specs.Lines.{lines_of}
@@ -7,7 +7,9 @@ use Rattle.script_table.specs.Structure.{IsRising, Said}
 use Rattle.script_table.specs.Names.{Declared, Entry}
 use Rattle.script_table.specs.Build.{script_of}
 use Rattle.script_table.specs.Read.{said}
-use Rattle.task_script.proofs.Phases.{said_rising}
+use Rattle.task_script.specs.Declarations.{naming_lines}
+use Rattle.task_script.proofs.Phases.{said_follow, said_rising}
+use Rattle.task_script.proofs.Unnamed.{two_of_naming, naming_rising}
 use Rattle.task_script.proofs.Whole.{ends_in_one, ends_in_two, ends_in_three, no_fault_at_all}
 use Rattle.task_script.proofs.read.read_by.Goals as goal
 
@@ -20,8 +22,9 @@ pub check_names-requires : goal.check_names-requires
 check_names-requires c =
     let rows = rows_of c.args.table.now in
     let last = 1 + length (lines_of c.args.text.now) in
-    let all = c.as_slice-2.ensures.value ∙ c.in_ok-reading.ensures.1 in
-    (last, subst (λ ss. IsRising last ss) (sym all) (said_rising rows last 1 (lines_of c.args.text.now) (omega arith)))
+    let one = c.as_slice.ensures.value ∙ c.in_ok-reading.ensures.1 in
+    let lines = ap (map (λ s. s.now)) c.as_slice-2.ensures.value ∙ (c.in_ok-naming.ensures.1 ∙ ap naming_lines one) in
+    (last, subst (λ ss. IsRising last ss) (sym lines) (naming_rising last 1 (said rows c.args.text.now) (said_follow rows last 1 (lines_of c.args.text.now) (omega arith))))
 
 pub check_ranges-requires : goal.check_ranges-requires
 check_ranges-requires c =
@@ -35,9 +38,9 @@ returns-in_err-check_names c =
     let p = err_from_is_err_and c.from_residual-in_err-check_names.result c.from_residual-in_err-check_names.ensures.1 in
     let st = c.in_ok-reading.ensures in
     let one = c.as_slice.ensures.value ∙ st.1 in
-    let all = c.as_slice-2.ensures.value ∙ st.1 in
-    let names = rw one at c.in_ok-all.ensures in
-    let two = rw (all, names) at c.in_err-check_names.ensures in
+    let names = rw one at c.in_ok-naming.ensures.0 in
+    let lines = ap (map (λ s. s.now)) c.as_slice-2.ensures.value ∙ (c.in_ok-naming.ensures.1 ∙ ap naming_lines one) in
+    let two = rw (lines, names, two_of_naming) at c.in_err-check_names.ensures in
     rw (p.1, p.2) (ends_in_two (rows_of c.args.table.now) c.args.text.now c.in_err-check_names.field-0.0 st.0 two)
 
 pub returns-in_err-check_ranges : goal.returns-in_err-check_ranges
@@ -45,9 +48,9 @@ returns-in_err-check_ranges c =
     let p = err_from_is_err_and c.from_residual-in_err-check_ranges.result c.from_residual-in_err-check_ranges.ensures.1 in
     let st = c.in_ok-reading.ensures in
     let one = c.as_slice.ensures.value ∙ st.1 in
-    let all = c.as_slice-2.ensures.value ∙ st.1 in
-    let names = rw one at c.in_ok-all.ensures in
-    let two = rw (all, names) at c.in_ok-check_names.ensures in
+    let names = rw one at c.in_ok-naming.ensures.0 in
+    let lines = ap (map (λ s. s.now)) c.as_slice-2.ensures.value ∙ (c.in_ok-naming.ensures.1 ∙ ap naming_lines one) in
+    let two = rw (lines, names, two_of_naming) at c.in_ok-check_names.ensures in
     let ranged = c.as_slice-3.ensures.value ∙ st.1 in
     let three = rw (st.2, ranged) at c.in_err-check_ranges.ensures in
     rw (p.1, p.2) (ends_in_three (rows_of c.args.table.now) c.args.text.now c.in_err-check_ranges.field-0.0 st.0 two three)
@@ -57,9 +60,9 @@ returns c =
     let rows = rows_of c.args.table.now in
     let st = c.in_ok-reading.ensures in
     let one = c.as_slice.ensures.value ∙ st.1 in
-    let all = c.as_slice-2.ensures.value ∙ st.1 in
-    let names = rw one at c.in_ok-all.ensures in
-    let two = rw (all, names) at c.in_ok-check_names.ensures in
+    let names = rw one at c.in_ok-naming.ensures.0 in
+    let lines = ap (map (λ s. s.now)) c.as_slice-2.ensures.value ∙ (c.in_ok-naming.ensures.1 ∙ ap naming_lines one) in
+    let two = rw (lines, names, two_of_naming) at c.in_ok-check_names.ensures in
     let ranged = c.as_slice-3.ensures.value ∙ st.1 in
     let three = rw (st.2, ranged) at c.in_ok-check_ranges.ensures in
     let last = c.as_slice-4.ensures.value ∙ st.1 in

@@ -3,7 +3,7 @@ use Rattle.script_table.specs.declared.pattern.Place.TheVariants as place
 use Rattle.script_table.specs.LineFaults.{spelling}
 use Rattle.script_table.specs.Ranges.{range_fault}
 use Rattle.script_table.proofs.KindOrder.{too_short, next_spot, past_place, past_fit}
-use Rattle.script_table.proofs.line_faults.fits.Goals as goal
+use Rattle.script_table.proofs.line_faults.fits_each.Goals as goal
 
 pub returns-in_default : goal.returns-in_default
 returns-in_default c = sym (too_short _ _ _ _ _ (next_spot c.args.places.now c.loop-place.place-index place.Answer c.loop-place-test.true) c.in_default.ensures.word c.loop-place.invariant.fit)
