@@ -22,61 +22,64 @@ armed_inside [] i d e = absurd (none_some e)
 armed_inside (o ∷ dues) zero d e = omega arith
 armed_inside (o ∷ dues) (suc i) d e = let l : i < length dues = armed_inside dues i d e in omega (arith, l)
 
-pub list_small : (base d : ℕ) → base < d → d ≤ 2 * 10 ^ 18 → list_for base d < 704
+pub list_small : (base d : ℕ) → base < d → d ≤ 2 * 10 ^ 18 → list_for base d < 4096
 list_small base d l small =
-    let level = level_inside 11 base d l (omega (arith, small)) in let slot = slot_inside 11 base d in omega (arith, level, slot)
+    let level = level_inside 8 base d l (omega (arith, small)) in let slot = slot_inside 8 base d in omega (arith, level, slot)
+
+pub near_list : (base d : ℕ) → d / 512 ≡ base / 512 → list_for base d ≡ d % 512
+near_list base d same = let e : list_for base d ≡ 512 * 0 + d % 512 = ap list_of (near 7 base d same) in omega (arith, e)
 
 -- a list of the lowest level is for one tick
-pub near_tick : (base d list : ℕ) → list < 64 → list ≡ list_for base d → d ≡ base / 64 * 64 + list
+pub near_tick : (base d list : ℕ) → list < 512 → list ≡ list_for base d → d ≡ base / 512 * 512 + list
 near_tick base d list low is = ⊎_elim
-    (λ same. let e : list ≡ 64 * 0 + d % 64 = is ∙ ap list_of (near 10 base d same) in omega (arith, e, same))
-    (λ apart. let p = place 10 (base / 64) (d / 64) in let e : list ≡ 64 * suc (p.0) + p.1 = is ∙ ap list_of (far 10 base d apart) in absurd (omega (arith, e, low)))
-    (equal (d / 64) (base / 64))
+    (λ same. let e : list ≡ 512 * 0 + d % 512 = is ∙ ap list_of (near 7 base d same) in omega (arith, e, same))
+    (λ apart. let p = place 7 (base / 512) (d / 512) in let e : list ≡ 512 * suc (p.0) + p.1 = is ∙ ap list_of (far 7 base d apart) in absurd (omega (arith, e, low)))
+    (equal (d / 512) (base / 512))
 
 -- of two ticks of one slot the later is at a lower level once the wheel stands at the first
-deeper_level : (levels now to d : ℕ) → now < to → to < d → (place levels now d).0 ≡ (place levels now to).0 → (place levels now d).1 ≡ (place levels now to).1 → d < 64 ^ levels
+deeper_level : (levels now to d : ℕ) → now < to → to < d → (place levels now d).0 ≡ (place levels now to).0 → (place levels now d).1 ≡ (place levels now to).1 → d < 512 ^ levels
     → (place levels to d).0 < (place levels now to).0
 deeper_level zero now to d lt ld same slot small = let s : d < 1 = small in absurd (omega (arith, s, ld))
 deeper_level (suc levels) now to d lt ld same slot small =
     ⊎_elim
     (λ tn. let at = near levels now to tn in ⊎_elim
     (λ dn. let there = near levels now d dn in
-    absurd (let e : d % 64 ≡ to % 64 = sym (ap (λ (p : ℕ × ℕ). p.1) there) ∙ slot ∙ ap (λ (p : ℕ × ℕ). p.1) at in omega (arith, e, dn, tn, ld)))
+    absurd (let e : d % 512 ≡ to % 512 = sym (ap (λ (p : ℕ × ℕ). p.1) there) ∙ slot ∙ ap (λ (p : ℕ × ℕ). p.1) at in omega (arith, e, dn, tn, ld)))
     (λ dn. let there = far levels now d dn in
-    absurd (let e : suc (place levels (now / 64) (d / 64)).0 ≡ 0 = sym (ap (λ (p : ℕ × ℕ). p.0) there) ∙ same ∙ ap (λ (p : ℕ × ℕ). p.0) at in omega (arith, e)))
-    (equal (d / 64) (now / 64)))
+    absurd (let e : suc (place levels (now / 512) (d / 512)).0 ≡ 0 = sym (ap (λ (p : ℕ × ℕ). p.0) there) ∙ same ∙ ap (λ (p : ℕ × ℕ). p.0) at in omega (arith, e)))
+    (equal (d / 512) (now / 512)))
     (λ tn. let at = far levels now to tn in ⊎_elim
     (λ dn. let there = near levels now d dn in
-    absurd (let e : 0 ≡ suc (place levels (now / 64) (to / 64)).0 = sym (ap (λ (p : ℕ × ℕ). p.0) there) ∙ same ∙ ap (λ (p : ℕ × ℕ). p.0) at in omega (arith, e)))
+    absurd (let e : 0 ≡ suc (place levels (now / 512) (to / 512)).0 = sym (ap (λ (p : ℕ × ℕ). p.0) there) ∙ same ∙ ap (λ (p : ℕ × ℕ). p.0) at in omega (arith, e)))
     (λ dn. let there = far levels now d dn in ⊎_elim
     (λ dt. let e : (place (suc levels) to d).0 ≡ 0 = ap (λ (p : ℕ × ℕ). p.0) (near levels to d dt) in
-    let f : (place (suc levels) now to).0 ≡ suc (place levels (now / 64) (to / 64)).0 = ap (λ (p : ℕ × ℕ). p.0) at in omega (arith, e, f))
+    let f : (place (suc levels) now to).0 ≡ suc (place levels (now / 512) (to / 512)).0 = ap (λ (p : ℕ × ℕ). p.0) at in omega (arith, e, f))
     (λ dt.
-    let e : suc (place levels (now / 64) (d / 64)).0 ≡ suc (place levels (now / 64) (to / 64)).0 = sym (ap (λ (p : ℕ × ℕ). p.0) there) ∙ same ∙ ap (λ (p : ℕ × ℕ). p.0) at in
+    let e : suc (place levels (now / 512) (d / 512)).0 ≡ suc (place levels (now / 512) (to / 512)).0 = sym (ap (λ (p : ℕ × ℕ). p.0) there) ∙ same ∙ ap (λ (p : ℕ × ℕ). p.0) at in
     let f = sym (ap (λ (p : ℕ × ℕ). p.1) there) ∙ slot ∙ ap (λ (p : ℕ × ℕ). p.1) at in
-    let under = deeper_level levels (now / 64) (to / 64) (d / 64) (later now to lt tn) (later to d ld dt) (omega (arith, e)) f (less_digits levels d small) in
-    let g : (place (suc levels) to d).0 ≡ suc (place levels (to / 64) (d / 64)).0 = ap (λ (p : ℕ × ℕ). p.0) (far levels to d dt) in
-    let h : (place (suc levels) now to).0 ≡ suc (place levels (now / 64) (to / 64)).0 = ap (λ (p : ℕ × ℕ). p.0) at in omega (arith, under, g, h))
-    (equal (d / 64) (to / 64)))
-    (equal (d / 64) (now / 64)))
-    (equal (to / 64) (now / 64))
+    let under = deeper_level levels (now / 512) (to / 512) (d / 512) (later now to lt tn) (later to d ld dt) (omega (arith, e)) f (less_digits levels d small) in
+    let g : (place (suc levels) to d).0 ≡ suc (place levels (to / 512) (d / 512)).0 = ap (λ (p : ℕ × ℕ). p.0) (far levels to d dt) in
+    let h : (place (suc levels) now to).0 ≡ suc (place levels (now / 512) (to / 512)).0 = ap (λ (p : ℕ × ℕ). p.0) at in omega (arith, under, g, h))
+    (equal (d / 512) (to / 512)))
+    (equal (d / 512) (now / 512)))
+    (equal (to / 512) (now / 512))
 
 -- lists below, at and above the one of `to`
 module _ (base to d : ℕ) (lt : base < to) (ld : base < d) where
   pub has_gone : list_for base d < list_for base to → d < to
-  has_gone l = has_passed 11 base to d lt ld (list_order (place 11 base d) (place 11 base to) (slot_inside 11 base d) (slot_inside 11 base to) l)
+  has_gone l = has_passed 8 base to d lt ld (list_order (place 8 base d) (place 8 base to) (slot_inside 8 base d) (slot_inside 8 base to) l)
 
   pub comes_later : list_for base to < list_for base d → to < d
-  comes_later l = in_order 11 base to d lt ld (list_order (place 11 base to) (place 11 base d) (slot_inside 11 base to) (slot_inside 11 base d) l)
+  comes_later l = in_order 8 base to d lt ld (list_order (place 8 base to) (place 8 base d) (slot_inside 8 base to) (slot_inside 8 base d) l)
 
   pub keeps_list : list_for base to < list_for base d → list_for base d ≡ list_for to d
-  keeps_list l = sym (ap list_of (keeps_place 11 base to d (list_order (place 11 base to) (place 11 base d) (slot_inside 11 base to) (slot_inside 11 base d) l)))
+  keeps_list l = sym (ap list_of (keeps_place 8 base to d (list_order (place 8 base to) (place 8 base d) (slot_inside 8 base to) (slot_inside 8 base d) l)))
 
   pub goes_elsewhere : list_for base d ≡ list_for base to → to < d → d ≤ 2 * 10 ^ 18 → list_for to d ≢ list_for base to
   goes_elsewhere same l small other =
-      let p = place_from_list (place 11 base d) (place 11 base to) (slot_inside 11 base d) (slot_inside 11 base to) same in
-      let q = place_from_list (place 11 to d) (place 11 base to) (slot_inside 11 to d) (slot_inside 11 base to) other in
-      let under = deeper_level 11 base to d lt l p.0 p.1 (omega (arith, small)) in omega (arith, under, q.0)
+      let p = place_from_list (place 8 base d) (place 8 base to) (slot_inside 8 base d) (slot_inside 8 base to) same in
+      let q = place_from_list (place 8 to d) (place 8 base to) (slot_inside 8 to d) (slot_inside 8 base to) other in
+      let under = deeper_level 8 base to d lt l p.0 p.1 (omega (arith, small)) in omega (arith, under, q.0)
 
 pub sides : (k t : ℕ) → (k < t) ⊎ ((k ≡ t) ⊎ (t < k))
 sides k t = ⊎_elim (λ l. inl l) (λ l. ⊎_elim (λ e. inr (inl e)) (λ ne. inr (inr (omega (arith, l, ne)))) (equal k t)) (lt_or k t)

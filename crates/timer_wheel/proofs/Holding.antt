@@ -7,12 +7,12 @@ use Rattle.raw_links.specs.Links.{Lists, list_at, stands_in, on_a_list, stands_a
 use Rattle.timer_wheel.proofs.Order.{lt_or}
 use Rattle.timer_wheel.specs.Bits.{is_set, ChangesBit, IsLowestSet, NoneIsSet}
 use Rattle.timer_wheel.specs.Dues.{due_of, NoneIsArmed, IsLeastDue, NoneIsDue, IsFirstDue, earlier}
-use Rattle.timer_wheel.specs.Slots.{list_for, AreMarked, AreFiled, AreSmall, IsEarly, IsLeastLater, IsLeastOf}
-use Rattle.timer_wheel.specs.Moves.{IsFiled, IsTaken, with_last, AreEmptyBelow, AreToRefile, AreDueBy, AreRefiling}
+use Rattle.timer_wheel.specs.Slots.{list_for, AreMarked, AreFiled, AreSmall, IsEarly, IsLeastLater, IsLeastOf, IsLone, IsLoneOf, IsOnly}
+use Rattle.timer_wheel.specs.Moves.{IsFiled, IsTaken, with_last, AreEmptyBelow, AreToRefile, AreRefiling}
 use Rattle.timer_wheel.specs.Held.{AreHeld}
 use Rattle.raw_links.proofs.Chains.{decide, equal}
 use Rattle.raw_links.proofs.Standing.{off_all, on_at, put_stays, put_there, put_back}
-use Rattle.timer_wheel.proofs.Stands.{some_length, taken_stays, taken_back}
+use Rattle.timer_wheel.proofs.Stands.{some_length, taken_stays, taken_back, none_in}
 use Rattle.timer_wheel.proofs.Filing.{none_some, armed_inside, comes_later, has_gone, near_tick, sides, to_refile, advanced}
 
 -- ---- due ticks after a change
@@ -152,17 +152,17 @@ length_lists : (n : ℕ) → length {A = List ℕ} (replicate n []) ≡ n
 length_lists zero = refl
 length_lists (suc n) = ap suc (length_lists n)
 
-pub opened : (ids : ℕ) (dues : List (Option ℕ)) (links : Lists) (occupied passed : List ℕ) → ids ≤ 1024 → dues ≡ replicate ids None → (links.nodes ≡ 1024) × (links.lists ≡ replicate 704 [])
-    → (length occupied ≡ 11) × NoneIsSet occupied → (length passed ≡ 16) × NoneIsSet passed → AreHeld 0 dues links occupied passed
+pub opened : (ids : ℕ) (dues : List (Option ℕ)) (links : Lists) (occupied passed : List ℕ) → ids ≤ 1024 → dues ≡ replicate ids None → (links.nodes ≡ 1024) × (links.lists ≡ replicate 4096 [])
+    → (length occupied ≡ 64) × NoneIsSet occupied → (length passed ≡ 16) × NoneIsSet passed → AreHeld 0 dues links occupied passed
 opened ids dues links occupied passed few e l o p = record {
-  sized = record { nodes = l.0; lists = ap length l.1 ∙ length_lists 704; words = o.0 };
+  sized = record { nodes = l.0; lists = ap length l.1 ∙ length_lists 4096; words = o.0 };
   set = p.0;
   few = (let n : length dues ≡ ids = ap length e ∙ length_none ids in omega (arith, n, few));
-  marked = λ k. o.1 k ∙ ap (λ (xs : List ℕ). nat_lt 0 (length xs)) (sym (ap (λ (ls : List (List ℕ)). list_at ls k) l.1 ∙ list_none 704 k));
+  marked = λ k. o.1 k ∙ ap (λ (xs : List ℕ). nat_lt 0 (length xs)) (sym (ap (λ (ls : List (List ℕ)). list_at ls k) l.1 ∙ list_none 4096 k));
   filed = record {
     later = λ i d due lt. absurd (never i d due);
     gone = λ i d due le. absurd (never i d due);
-    only_later = λ i k h. absurd (let s : stands_in i [] ≡ true = subst (λ xs. stands_in i xs ≡ true) (ap (λ (ls : List (List ℕ)). list_at ls k) l.1 ∙ list_none 704 k) h in clash s);
+    only_later = λ i k h. absurd (let s : stands_in i [] ≡ true = subst (λ xs. stands_in i xs ≡ true) (ap (λ (ls : List (List ℕ)). list_at ls k) l.1 ∙ list_none 4096 k) h in clash s);
     only_gone = λ i h. absurd (clash (sym (p.1 i) ∙ h));
   };
   small = λ i d due. absurd (never i d due);
@@ -224,7 +224,7 @@ least_at_lowest base dues lists occupied passed list tick filed marked small low
     }
 
 pub least_at_tick : (base : ℕ) (dues : List (Option ℕ)) (lists : List (List ℕ)) (occupied passed : List ℕ) (list : ℕ) → AreFiled base dues lists passed → AreMarked lists occupied
-    → IsLowestSet occupied list → list < 64 → IsLeastOf dues (list_at lists list) (base / 64 * 64 + list)
+    → IsLowestSet occupied list → list < 512 → IsLeastOf dues (list_at lists list) (base / 512 * 512 + list)
 least_at_tick base dues lists occupied passed list filed marked low near =
     let x = has_head (list_at lists list) (sym (marked list) ∙ low.itself) in
     let o = filed.only_later x.0 list x.1 in
@@ -232,6 +232,21 @@ least_at_tick base dues lists occupied passed list filed marked low near =
       least = λ i d h due. let p = filed.only_later i list h in let e = same_due dues i d p.0 due p.1 in let t = near_tick base p.0 list near p.3 in omega (arith, e, t);
       holds = inr (x.0, x.1, o.1 ∙ ap Some (near_tick base o.0 list near o.3));
     }
+
+-- ---- which item alone is due next
+
+pub lone_at : (base list tick n : ℕ) (dues : List (Option ℕ)) (lists : List (List ℕ)) (passed : List ℕ) → AreFiled base dues lists passed → IsLoneOf dues (list_at lists list) tick n → IsLone dues tick n
+lone_at base list tick n dues lists passed filed of l =
+    let k = of l in let o = filed.only_later n list k.0 in
+    let same = same_due dues n o.0 tick o.1 k.1 in
+    let at : list ≡ list_for base tick = subst (λ t. list ≡ list_for base t) same o.3 in
+    let after : base < tick = omega (arith, o.2, same) in
+    (k.1, λ i due. k.2 i (subst (λ m. stands_at i m lists ≡ true) (sym at) (filed.later i tick due after)) due)
+
+pub lone_at_tick : (base list n : ℕ) (dues : List (Option ℕ)) (lists : List (List ℕ)) (passed : List ℕ) → AreFiled base dues lists passed → list < 512 → IsOnly (list_at lists list) n
+    → IsLoneOf dues (list_at lists list) (base / 512 * 512 + list) n
+lone_at_tick base list n dues lists passed filed near only l =
+    let k = only l in let o = filed.only_later n list k.0 in (k.0, o.1 ∙ ap Some (near_tick base o.0 list near o.3), λ i h due. k.1 i h)
 
 -- ---- a wheel goes on to its least later due tick
 
@@ -266,13 +281,6 @@ module _ (base to target : ℕ) (dues : List (Option ℕ)) (lists : List (List �
     pub empty_below : AreEmptyBelow target lists
     empty_below k l = none_held (list_at lists k) (sym (marked k) ∙ low.below k l)
 
--- all items of a list of the lowest level are due at one tick
-pub due_at_target : (base to target : ℕ) (dues : List (Option ℕ)) (lists : List (List ℕ)) (passed : List ℕ) → AreFiled base dues lists passed → target ≡ list_for base to → target < 64
-    → AreDueBy target to dues lists
-due_at_target base to target dues lists passed filed is low i h =
-    let o = filed.only_later i target h in
-    let d = near_tick base o.0 target low o.3 in let t = near_tick base to target low is in (o.0, o.1, omega (arith, d, t))
-
 module _ (base to target : ℕ) (dues : List (Option ℕ)) (lists new : List (List ℕ)) (passed q : List ℕ) (is : target ≡ list_for base to) (lt : base < to) (small : AreSmall dues) (filed : AreFiled base dues lists passed)
     (empty : AreEmptyBelow target lists) where
   pub nodes_to_refile : AreToRefile target to dues lists
@@ -282,9 +290,38 @@ module _ (base to target : ℕ) (dues : List (Option ℕ)) (lists new : List (Li
   went_on done all = advanced base to dues lists new passed q lt small filed (subst (λ t. AreEmptyBelow t lists) is empty)
       (subst (λ t. AreRefiling t to dues lists new passed q) is done) (subst (λ t. list_at new t ≡ []) is all)
 
+-- ---- the item that is due next leaves, and the wheel goes on to its tick
+
+pub comes_next : (base to : ℕ) (dues : List (Option ℕ)) → IsLeastLater base dues to → to ≤ 2 * 10 ^ 18 → base < to
+comes_next base to dues is most = ⊎_elim (λ never. absurd (omega (arith, never, most))) (λ h. h.2) is.holds
+
+module _ (base id to : ℕ) (dues : List (Option ℕ)) (lists mid new : List (List ℕ)) (passed q : List ℕ) (filed : AreFiled base dues lists passed) (due : due_of id dues ≡ Some to) (small : AreSmall dues)
+    (is : IsLeastLater base dues to) (t : IsTaken id lists mid) where
+  next_after : base < to
+  next_after = comes_next base to dues is (small id to due)
+
+  next_filed : AreFiled base (set dues id None) mid passed
+  next_filed = disarmed_later base id to dues lists mid passed passed filed due next_after t
+
+  next_small : AreSmall (set dues id None)
+  next_small = still_small dues id None small (λ d h. absurd (none_some h)) (armed_inside dues id to due)
+
+  next_empty : AreEmptyBelow (list_for base to) mid
+  next_empty k l = none_in (list_at mid k) (λ i h.
+      let o = next_filed.only_later i k h in
+      let gone = has_gone base to o.0 next_after o.2 (subst (λ m. m < list_for base to) o.3 l) in
+      let least = is.least i o.0 (before base id to dues lists lists passed passed filed due i o.0 o.1) o.2 in omega (arith, gone, least))
+
+  pub next_to_refile : (list : ℕ) → list ≡ list_for base to → AreToRefile list to (set dues id None) mid
+  next_to_refile list at = subst (λ m. AreToRefile m to (set dues id None) mid) (sym at) (to_refile base to (set dues id None) mid new passed q next_after next_small next_filed next_empty)
+
+  pub next_left : (list : ℕ) → list ≡ list_for base to → AreRefiling list to (set dues id None) mid new passed q → list_at new list ≡ [] → AreFiled to (set dues id None) new q
+  next_left list at done all = advanced base to (set dues id None) mid new passed q next_after next_small next_filed next_empty
+      (subst (λ m. AreRefiling m to (set dues id None) mid new passed q) at done) (subst (λ m. list_at new m ≡ []) at all)
+
 -- ---- the least later due tick after a change
 
-pub lower_armed : (base id d least : ℕ) (dues : List (Option ℕ)) → IsLeastLater base dues least → base < d → d < least → id < length dues → IsLeastLater base (set dues id (Some d)) d
+pub lower_armed : (base id d least : ℕ) (dues : List (Option ℕ)) → IsLeastLater base dues least → base < d → d ≤ least → id < length dues → IsLeastLater base (set dues id (Some d)) d
 lower_armed base id d least dues is lt less inside = record {
   least = λ i e due l. ⊎_elim
       (λ same. let s : Some d ≡ Some e = sym (set_same id (Some d) dues inside) ∙ subst (λ m. due_of m (set dues id (Some d)) ≡ Some e) same due in
@@ -309,6 +346,17 @@ same_disarmed base id least dues is other inside = record {
   least = λ i e due l. is.least i e (sym (set_other id i None dues (λ same. none_some (sym (set_same id None dues inside) ∙ subst (λ m. due_of m (set dues id None) ≡ Some e) same due))) ∙ due) l;
   holds = ⊎_elim (λ n. inl n) (λ h. inr (h.0, set_other id h.0 None dues (λ same. other (subst (λ m. due_of m dues ≡ Some least) same h.1) h.2) ∙ h.1, h.2)) is.holds;
 }
+
+-- ---- what is due first after a change
+
+pub front_led : (base id d least : ℕ) (dues : List (Option ℕ)) → IsLeastLater base dues least → base < d → d < least → id < length dues → IsLone (set dues id (Some d)) d id
+front_led base id d least dues is lt less inside l = (
+  set_same id (Some d) dues inside,
+  λ i due. ⊎_elim
+      (λ same. same)
+      (λ other. absurd (let h = is.least i d (sym (set_other id i (Some d) dues other) ∙ due) lt in omega (arith, h, less)))
+      (equal i id),
+)
 
 pub early_disarmed : (dues : List (Option ℕ)) (id early : ℕ) → IsEarly dues early → id < length dues → IsEarly (set dues id None) early
 early_disarmed dues id early is inside i d h =

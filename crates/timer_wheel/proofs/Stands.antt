@@ -1,5 +1,6 @@
 -- Where nodes stand after one was taken out, and which lists are not empty.
 use Rattle.std.proofs.Common.{◌≡◌, ◌≢◌, ⊎_elim, ℕ, ◌<◌, Bool, true, false, nat_lt, is_some, List, [], ◌∷◌, length, slice_get, refl, sym, ap, subst, subst₂, ◌∙◌, arith}
+use borrow.Author.Tests.{clash}
 use Rattle.std.proofs.lemmas.Grind.{common_steps}
 use Rattle.std.proofs.lemmas.Bool.Decides.{nat_tests}
 use Rattle.raw_links.specs.Links.{list_at, stands_in, stands_at}
@@ -32,6 +33,19 @@ taken_marks n k0 old new words now bit t h marked changes is k =
     (λ same. rw same (changes.changed ∙ is))
     (λ other. changes.others k other ∙ marked k ∙ ap (λ (xs : List ℕ). nat_lt 0 (length xs)) (sym (t.others k0 k h other)))
     (equal k k0)
+
+pub none_in : (xs : List ℕ) → ((i : ℕ) → stands_in i xs ≡ true → ⊥) → xs ≡ []
+none_in [] h = refl
+none_in (x ∷ xs) h = absurd (h x (grind (arith, nat_tests)))
+
+-- the list of a node that stood there alone
+pub lone_taken : (n k : ℕ) (old new : List (List ℕ)) → IsTaken n old new → ((i : ℕ) → stands_at i k old ≡ true → i ≡ n) → list_at new k ≡ []
+lone_taken n k old new t lone = none_in (list_at new k) (λ i h. let b = taken_back n i k old new t h in b.1 (lone i b.0))
+
+-- a node that is gone stood in one list
+pub same_list : (n j k : ℕ) (old new : List (List ℕ)) → IsTaken n old new → stands_at n j old ≡ true → stands_at n k old ≡ true → j ≡ k
+same_list n j k old new t h g =
+    ⊎_elim (λ same. sym same) (λ other. absurd (clash (sym (off_at n k new t.gone) ∙ ap (λ (xs : List ℕ). stands_in n xs) (t.others j k h other) ∙ g))) (equal k j)
 
 pub length_taken : (n : ℕ) (old new : List (List ℕ)) → IsTaken n old new → length new ≡ length old
 length_taken n old new t = ap length t.lists ∙ length_without n old

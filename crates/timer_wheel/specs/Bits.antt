@@ -20,7 +20,7 @@ pub record IsLowestSet (words : List ℕ) (i : ℕ) : Type 0 where
 abbrev pub NoneIsSet : List ℕ → Type 0
 NoneIsSet words = (k : ℕ) → is_set k words ≡ false
 
--- of up to 16 words those that are not 0 are marked by their bits
+-- of up to 64 words those that are not 0 are marked by their bits
 pub record AreUsed (used : ℕ) (words : List ℕ) : Type 0 where
-  pub few : length words ≤ 16
+  pub few : length words ≤ 64
   pub marked : (i : ℕ) → i < 64 → bit_at used i ≡ (if nat_lt 0 (slice_index words i) then 1 else 0)

@@ -5,11 +5,11 @@ use Rattle.timer_wheel.specs.Bits.{is_set, ChangesBit}
 use Rattle.timer_wheel.specs.Dues.{due_of}
 use Rattle.timer_wheel.specs.Slots.{list_for}
 
--- 1,024 nodes, eleven times 64 lists, and a word of bits for each level
+-- 1,024 nodes, eight times 512 lists, and a bit for each list
 pub record IsSized (links : Lists) (occupied : List ℕ) : Type 0 where
   pub nodes : links.nodes ≡ 1024
-  pub lists : length links.lists ≡ 704
-  pub words : length occupied ≡ 11
+  pub lists : length links.lists ≡ 4096
+  pub words : length occupied ≡ 64
 
 -- the node alone is gone from its list
 pub record IsTaken (node : ℕ) (old new : List (List ℕ)) : Type 0 where
@@ -43,10 +43,6 @@ IsMoved to node d old new passed now = (mid : List (List ℕ)) × IsTaken node o
 -- each node of the target list is armed, and is filed elsewhere
 abbrev pub AreToRefile : ℕ → ℕ → List (Option ℕ) → List (List ℕ) → Type 0
 AreToRefile target to dues lists = (i : ℕ) → stands_at i target lists ≡ true → (d : ℕ) × IsDue dues i d × (to < d → list_for to d ≢ target)
-
--- each node of the target list is armed, and due by then
-abbrev pub AreDueBy : ℕ → ℕ → List (Option ℕ) → List (List ℕ) → Type 0
-AreDueBy target to dues lists = (i : ℕ) → stands_at i target lists ≡ true → (d : ℕ) × IsDue dues i d × (d ≤ to)
 
 -- some nodes of one list have been filed anew, as the wheel stands at `to`, and all else stands as before
 pub record AreRefiling (target to : ℕ) (dues : List (Option ℕ)) (old new : List (List ℕ)) (passed now : List ℕ) : Type 0 where

@@ -1,5 +1,5 @@
 -- Due ticks in the slots of a wheel that stands at a base: which item stands where (this project's own).
-use Rattle.std.specs.Prelude.{◌≡◌, ◌⊎◌, ℕ, ◌-◌, ◌*◌, ◌^◌, ◌<◌, ◌≤◌, true, nat_lt, List, Option, Some, length}
+use Rattle.std.specs.Prelude.{◌≡◌, ◌⊎◌, ℕ, ◌-◌, ◌*◌, ◌^◌, ◌<◌, ◌≤◌, true, nat_lt, List, Option, Some, length, MatchOption}
 use Rattle.raw_links.specs.Links.{list_at, stands_in, stands_at}
 use Rattle.timer_wheel.specs.Places.{place, list_of}
 use Rattle.timer_wheel.specs.Bits.{is_set}
@@ -10,9 +10,9 @@ pub record Placed : Type 0 where
   pub dues : List (Option ℕ)
   pub base : ℕ
 
--- the list of a due tick, one of 64 for each of eleven levels
+-- the list of a due tick, one of 512 for each of eight levels
 abbrev pub list_for : ℕ → ℕ → ℕ
-list_for base due = list_of (place 11 base due)
+list_for base due = list_of (place 8 base due)
 
 -- the bits of just the lists that are not empty are set
 abbrev pub AreMarked : List (List ℕ) → List ℕ → Type 0
@@ -42,9 +42,32 @@ pub record IsLeastOf (dues : List (Option ℕ)) (items : List ℕ) (tick : ℕ) 
 abbrev pub IsEarly : List (Option ℕ) → ℕ → Type 0
 IsEarly dues tick = (i d : ℕ) → due_of i dues ≡ Some d → tick ≤ d
 
--- what a wheel keeps beside its slots: the least later due tick, a tick before which nothing is due, and the last now
-pub record IsCached (slots : Placed) (least early last : ℕ) : Type 0 where
+-- where the number is one of an item, that item is due then, and no other is
+abbrev pub IsLone : List (Option ℕ) → ℕ → ℕ → Type 0
+IsLone dues tick n = n < 1024 → (due_of n dues ≡ Some tick) × ((i : ℕ) → due_of i dues ≡ Some tick → i ≡ n)
+
+-- the same, of the items of one list
+abbrev pub IsLoneOf : List (Option ℕ) → List ℕ → ℕ → ℕ → Type 0
+IsLoneOf dues items tick n = n < 1024 → (stands_in n items ≡ true) × (due_of n dues ≡ Some tick) × ((i : ℕ) → stands_in i items ≡ true → due_of i dues ≡ Some tick → i ≡ n)
+
+-- where the number is one of a node, the list holds that node and no other
+abbrev pub IsOnly : List ℕ → ℕ → Type 0
+IsOnly items n = n < 1024 → (stands_in n items ≡ true) × ((i : ℕ) → stands_in i items ≡ true → i ≡ n)
+
+-- the least tick, and the number of the item that alone is due then, once an item is added to those before
+abbrev pub IsSooner : ℕ → ℕ → ℕ → Option ℕ → ℕ → ℕ → Type 0
+IsSooner tick lone node due now sole = MatchOption due ((now ≡ tick) × (sole ≡ lone))
+    (λ d. ((d < tick) × (now ≡ d) × (sole ≡ node)) ⊎ (((d ≡ tick) × (now ≡ tick) × (sole ≡ 2 ^ 32 - 1)) ⊎ ((tick < d) × (now ≡ tick) × (sole ≡ lone))))
+
+-- the least later due tick, a tick before which nothing is due, and the number of the item that alone is due then
+pub record IsFront (slots : Placed) (least early lone : ℕ) : Type 0 where
   pub later : IsLeastLater slots.base slots.dues least
+  pub none_before : IsEarly slots.dues early
+  pub alone : IsLone slots.dues least lone
+  pub first : lone < 1024 → early ≡ least
+
+-- what a wheel keeps beside its slots
+pub record IsCached (slots : Placed) (least early lone last : ℕ) : Type 0 where
+  pub front : IsFront slots least early lone
   pub behind : slots.base ≤ last
   pub small : AreSmall slots.dues
-  pub none_before : IsEarly slots.dues early

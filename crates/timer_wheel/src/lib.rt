@@ -1,15 +1,15 @@
-//! The due ticks of up to 1,024 items, in a wheel of eleven levels of 64 slots.
+//! The due ticks of up to 1,024 items, in a wheel of eight levels of 512 slots.
 //!
 //! Contracts see a finite map from item number to due tick, and the last `now` of `pop_due`; `specs/Dues.antt` states what each call
-//! answers. The wheel stands at a tick that is at most that last `now`. An item that is due later stands on the list of its slot, a
-//! word of bits for each level tells which slots are taken, and an item whose tick has passed is a bit of a set, so that the least
-//! number is found at once. The least later due tick is kept, so that `next` searches no slot, and a tick before which nothing is due,
-//! so that `first_due` is one comparison where nothing is. No call after `open` takes memory.
+//! answers. The wheel stands at a tick that is at most that last `now`. An item that is due later stands on the list of its slot, bits
+//! tell which slots are taken, and an item whose tick has passed is a bit of a set, so that the least
+//! number is found at once. The least later due tick is kept, so that `next` searches no slot, a tick before which nothing is due, so
+//! that `first_due` is one comparison where nothing is, and the item that alone is due then, which `first_due` answers. No call after `open` takes memory.
 #![tactic(auto)]
 
 ghost use Rattle.std.specs.Prelude.{◌≡◌, ◌≢◌, ◌≤◌, ◌<◌, ◌*◌, ◌^◌, ℕ, None, Some, true, false, length, max, replicate, slice_set, IfOk, MatchOption};
 ghost use Rattle.timer_wheel.specs.Dues.{due_of, NoneIsArmed, IsLeastDue, NoneIsDue, IsFirstDue};
-ghost use Rattle.timer_wheel.specs.Slots.{IsLeastLater};
+ghost use Rattle.timer_wheel.specs.Slots.{Placed, IsLeastLater, IsLone, IsEarly, IsFront};
 
 mod bits;
 mod dues;
@@ -18,19 +18,27 @@ mod places;
 mod slots;
 
 use dues::{due_of, first_of, least_of};
-use slots::Slots;
+use slots::{NO_ITEM, Next, Slots};
 use std::alloc::{AllocError, Global};
 use std::marker::Model;
 use tick_num::{ItemId, Tick};
+
+/// What is due first.
+#[derive(Clone, Copy)]
+struct Front {
+    // the least due tick after that of the slots
+    least: u64,
+    // nothing is due before that tick
+    early: u64,
+    // the number of the item that alone is due then, and later than the slots' tick, or no item's
+    lone: u32,
+}
 
 /// Items and their due ticks.
 #[derive(Drop)]
 pub struct Wheel {
     slots: Slots,
-    // the least due tick after that of the slots
-    least: u64,
-    // nothing is due before that tick
-    early: u64,
+    front: Front,
     last: u64,
 }
 
@@ -42,24 +50,77 @@ impl Model for Wheel {
 
     ghost view = { λ w. record { dues = w.slots.dues; last = w.last } };
 
-    ghost invariant = { λ w. IsCached w.slots w.least w.early w.last };
+    ghost invariant = { λ w. IsCached w.slots w.front.least w.front.early w.front.lone w.last };
 }
 
-/// The slots go on from one due tick to the next, up to now. The answer is the least due tick after theirs.
-fn caught_up(slots: &mut Slots, least: u64, now: u64) -> u64
+/// The slots go on from one due tick to the next, up to now. The answer is what is due next after theirs.
+fn caught_up(slots: &mut Slots, least: u64, now: u64) -> Next
     requires least { IsLeastLater slots.old.base slots.old.dues least }
     requires now { (slots.old.base ≤ now) × (now ≤ 2 * 10 ^ 18) }
     ensures dues { slots.new.dues ≡ slots.old.dues }
     ensures base { slots.new.base ≤ now }
-    ensures least { IsLeastLater slots.new.base slots.new.dues result }
-    ensures settled { now < result }
+    ensures least { IsLeastLater slots.new.base slots.new.dues result.tick }
+    ensures lone { IsLone slots.new.dues result.tick result.lone }
+    ensures settled { now < result.tick }
 {
-    let mut least = least;
-    while least <= now {
-        slots.advance(least);
-        least = slots.least_later();
+    let mut next = Next {
+        tick: least,
+        lone: NO_ITEM,
+    };
+    while next.tick <= now {
+        slots.advance(next.tick);
+        next = slots.least_later();
     }
-    least
+    next
+}
+
+/// What is due first, from what is due next after the tick of the slots, where nothing is due before `early`.
+#[inline(always)]
+fn front_of(slots: &Slots, next: Next, early: u64) -> Front
+    requires next { IsLeastLater slots.now.base slots.now.dues next.tick × IsLone slots.now.dues next.tick next.lone }
+    requires early { IsEarly slots.now.dues early }
+    ensures { IsFront slots.now result.least result.early result.lone }
+{
+    if slots.none_passed() {
+        Front {
+            least: next.tick,
+            early: next.tick,
+            lone: next.lone,
+        }
+    } else {
+        Front {
+            least: next.tick,
+            early,
+            lone: NO_ITEM,
+        }
+    }
+}
+
+/// What is due first, once an item that was not armed falls due at that tick.
+#[inline(always)]
+fn fronted(front: Front, base: u64, id: u32, tick: u64) -> Front
+    ensures { (slots : Placed) → base ≡ slots.base → (id < length slots.dues) × (due_of id slots.dues ≡ None) → IsFront slots front.least front.early front.lone → IsFront (record slots { dues = slice_set slots.dues id (Some tick) }) result.least result.early result.lone }
+{
+    let early = front.early.min(tick);
+    if tick <= base {
+        return Front {
+            early,
+            lone: NO_ITEM,
+            ..front
+        };
+    }
+    if tick < front.least && tick <= front.early {
+        return Front {
+            least: tick,
+            early,
+            lone: id,
+        };
+    }
+    Front {
+        least: front.least.min(tick),
+        early,
+        lone: NO_ITEM,
+    }
 }
 
 impl Wheel {
@@ -71,8 +132,11 @@ impl Wheel {
         let slots = Slots::open(alloc, ids)?;
         Ok(Wheel {
             slots,
-            least: u64::MAX,
-            early: u64::MAX,
+            front: Front {
+                least: u64::MAX,
+                early: u64::MAX,
+                lone: NO_ITEM,
+            },
             last: 0,
         })
     }
@@ -83,15 +147,21 @@ impl Wheel {
         requires { (id.number < length self.old.dues) × (due_of id.number self.old.dues ≡ None) }
         ensures { self.new ≡ record self.old { dues = slice_set self.old.dues id.number (Some due) } }
     {
-        let later = due.get() > self.slots.base();
+        if self.front.least < due.get() {
+            self.slots.arm(id.number, due);
+        } else {
+            self.arm_first(id, due);
+        }
+    }
+
+    // The same where the item may be due first.
+    #[inline(never)]
+    fn arm_first(&mut self, id: ItemId, due: Tick)
+        requires { (id.number < length self.old.dues) × (due_of id.number self.old.dues ≡ None) }
+        ensures { self.new ≡ record self.old { dues = slice_set self.old.dues id.number (Some due) } }
+    {
+        self.front = fronted(self.front, self.slots.base(), id.number, due.get());
         self.slots.arm(id.number, due);
-        if due.get() >= self.least {
-            return;
-        }
-        self.early = self.early.min(due.get());
-        if later {
-            self.least = due.get();
-        }
     }
 
     /// The item is not armed afterwards.
@@ -110,14 +180,34 @@ impl Wheel {
         requires { (id.number < length self.old.dues) × (due_of id.number self.old.dues ≡ Some due) }
         ensures { self.new ≡ record self.old { dues = slice_set self.old.dues id.number None } }
     {
-        let later = due.get() > self.slots.base();
+        let tick = due.get();
+        if id.number == self.front.lone && tick <= self.last && self.slots.is_near(tick) {
+            self.slots.disarm_lone(id.number, tick);
+            let next = self.slots.least_later();
+            self.front.least = next.tick;
+            self.front.early = next.tick;
+            self.front.lone = next.lone;
+        } else {
+            self.disarm_other(id, due);
+        }
+    }
+
+    // The same, whatever stands with the item.
+    #[inline(never)]
+    fn disarm_other(&mut self, id: ItemId, due: Tick)
+        requires { (id.number < length self.old.dues) × (due_of id.number self.old.dues ≡ Some due) }
+        ensures { self.new ≡ record self.old { dues = slice_set self.old.dues id.number None } }
+    {
+        let tick = due.get();
+        if tick == self.front.least && tick <= self.last {
+            self.slots.disarm_next(id.number, tick);
+            self.front = front_of(&self.slots, self.slots.least_later(), self.front.early);
+            return;
+        }
+        let later = tick > self.slots.base();
         self.slots.disarm(id.number, due);
-        if later {
-            if due.get() == self.least {
-                self.least = self.slots.least_later();
-            }
-        } else if self.slots.first_passed().is_none() {
-            self.early = self.least;
+        if !later || tick == self.front.least {
+            self.front = front_of(&self.slots, self.slots.least_later(), self.front.early);
         }
     }
 
@@ -161,12 +251,12 @@ impl Wheel {
     pub fn next(&self) -> Option<Tick>
         ensures { MatchOption result (NoneIsArmed self.now.dues) (λ tick. IsLeastDue self.now.dues tick) }
     {
-        if self.least <= self.early {
-            return Tick::try_new(self.least);
+        if self.front.least <= self.front.early {
+            return Tick::try_new(self.front.least);
         }
         match self.slots.first_passed() {
             Some(_) => least_of(self.slots.dues()),
-            None => Tick::try_new(self.least),
+            None => Tick::try_new(self.front.least),
         }
     }
 
@@ -178,11 +268,15 @@ impl Wheel {
         ensures same { self.new.dues ≡ self.old.dues }
         ensures last { self.new.last ≡ max self.old.last now }
     {
+        let Front { early, lone, .. } = self.front;
         if self.last < now.get() {
             self.last = now.get();
         }
-        if now.get() < self.early {
+        if now.get() < early {
             return None;
+        }
+        if now.get() == early && lone < 1024 {
+            return Some(ItemId { number: lone });
         }
         self.search_due(now)
     }
@@ -198,11 +292,9 @@ impl Wheel {
         if now.get() < self.last {
             return first_of(self.slots.dues(), now);
         }
-        self.least = caught_up(&mut self.slots, self.least, now.get());
-        let Some(number) = self.slots.first_passed() else {
-            self.early = self.least;
-            return None;
-        };
+        let next = caught_up(&mut self.slots, self.front.least, now.get());
+        self.front = front_of(&self.slots, next, self.front.early);
+        let number = self.slots.first_passed()?;
         Some(ItemId { number })
     }
 
@@ -213,13 +305,8 @@ impl Wheel {
         ensures gone { MatchOption result (self.new.dues ≡ self.old.dues) (λ id. self.new.dues ≡ slice_set self.old.dues id.number None) }
         ensures last { self.new.last ≡ now }
     {
-        self.last = now.get();
-        self.least = caught_up(&mut self.slots, self.least, now.get());
-        let number = self.slots.first_passed()?;
-        let id = ItemId { number };
-        if let Some(due) = self.due_of(id) {
-            self.slots.disarm(number, due);
-        }
+        let id = self.first_due(now)?;
+        self.disarm(id);
         Some(id)
     }
 }

@@ -1,37 +1,57 @@
 // Nodes that leave the lists of a wheel, or come to stand on them.
-ghost use Rattle.std.specs.Prelude.{◌≡◌, ◌<◌, ◌≤◌, ◌*◌, ◌^◌, [], ℕ, true, false, List, Option, length};
+ghost use Rattle.std.specs.Prelude.{◌≡◌, ◌<◌, ◌≤◌, ◌*◌, ◌^◌, [], ℕ, true, false, length, MatchOption};
 ghost use Rattle.raw_links.specs.Links.{list_at, on_a_list, stands_at};
 ghost use Rattle.timer_wheel.specs.Bits.{ChangesBit};
 ghost use Rattle.timer_wheel.specs.Slots.{AreMarked, AreSmall};
-ghost use Rattle.timer_wheel.specs.Moves.{IsSized, IsTaken, IsFiled, IsNoted, IsDue, IsMoved, with_last, AreToRefile, AreDueBy, AreRefiling};
+ghost use Rattle.timer_wheel.specs.Moves.{IsSized, IsTaken, IsFiled, IsNoted, IsDue, IsMoved, with_last, AreToRefile, AreRefiling};
 
 use crate::bits::Bits;
-use crate::places::place_in;
+use crate::places::{is_near, place_in};
 use raw_links::Links;
 use tick_num::Tick;
 
-/// Takes the node out of its list.
-pub(crate) fn take(links: &mut Links, occupied: &mut Bits, node: u32)
+/// Takes the node out of its list. The answer is that list, where another node is left in it.
+#[inline(always)]
+pub(crate) fn take(links: &mut Links, occupied: &mut Bits, node: u32) -> Option<u32>
     requires sized { IsSized links.old occupied.old }
     requires marked { AreMarked links.old.lists occupied.old }
     requires node { (node < 1024) × (on_a_list node links.old.lists ≡ true) }
     ensures sized { IsSized links.new occupied.new }
     ensures marked { AreMarked links.new.lists occupied.new }
     ensures taken { IsTaken node links.old.lists links.new.lists }
+    ensures left { (k : ℕ) → stands_at node k links.old.lists ≡ true → MatchOption result (list_at links.new.lists k ≡ []) (λ list. list ≡ k) }
 {
     links.stand_once();
-    let Some(list) = links.list_of(node) else {
-        return;
-    };
+    let list = links.list_of(node)?;
     links.unlink(node);
-    let left = links.front(list).is_some();
-    occupied.set(list, left);
+    if links.front(list).is_some() {
+        return Some(list);
+    }
+    occupied.set(list, false);
+    None
+}
+
+/// Takes the only node of a list out of it.
+#[inline(always)]
+pub(crate) fn take_lone(links: &mut Links, occupied: &mut Bits, list: u32, node: u32)
+    requires sized { IsSized links.old occupied.old × (list < 4096) }
+    requires marked { AreMarked links.old.lists occupied.old }
+    requires node { (node < 1024) × (stands_at node list links.old.lists ≡ true) }
+    requires lone { (i : ℕ) → stands_at i list links.old.lists ≡ true → i ≡ node }
+    ensures sized { IsSized links.new occupied.new }
+    ensures marked { AreMarked links.new.lists occupied.new }
+    ensures taken { IsTaken node links.old.lists links.new.lists }
+    ensures empty { list_at links.new.lists list ≡ [] }
+{
+    links.unlink(node);
+    occupied.set(list, false);
 }
 
 /// Makes the node the last of a list.
-fn put(links: &mut Links, occupied: &mut Bits, list: u32, node: u32)
+#[inline(always)]
+pub(crate) fn put(links: &mut Links, occupied: &mut Bits, list: u32, node: u32)
     requires sized { IsSized links.old occupied.old }
-    requires node { (node < 1024) × (list < 704) × (on_a_list node links.old.lists ≡ false) }
+    requires node { (node < 1024) × (list < 4096) × (on_a_list node links.old.lists ≡ false) }
     ensures sized { IsSized links.new occupied.new }
     ensures bit { ChangesBit list true occupied.old occupied.new }
     ensures put { links.new.lists ≡ with_last list node links.old.lists }
@@ -58,10 +78,12 @@ pub(crate) fn file(
 {
     if due <= base {
         passed.set(node, true);
-        return;
+    } else if is_near(base, due) {
+        put(links, occupied, (due % 512) as u32, node);
+    } else {
+        let (level, slot) = place_in(base, due);
+        put(links, occupied, level * 512 + slot, node);
     }
-    let (level, slot) = place_in(base, due);
-    put(links, occupied, level * 64 + slot, node);
 }
 
 /// Takes the node out of its list, and files it anew. The bit of the list that it leaves stays as it is.
@@ -85,27 +107,8 @@ fn refile_one(
     }
 }
 
-/// All nodes of the list have passed: they leave it, and are of the set from then on.
-#[inline(always)]
-pub(crate) fn pass(links: &mut Links, occupied: &mut Bits, passed: &mut Bits, list: u32)
-    requires sized { IsSized links.old occupied.old × (length passed.old ≡ 16) × (list < 704) }
-    requires marked { AreMarked links.old.lists occupied.old }
-    ensures sized { IsSized links.new occupied.new × (length passed.new ≡ 16) }
-    ensures marked { AreMarked links.new.lists occupied.new }
-    ensures empty { list_at links.new.lists list ≡ [] }
-    ensures passed { (to : ℕ) → (dues : List (Option ℕ)) → AreDueBy list to dues links.old.lists → AreRefiling list to dues links.old.lists links.new.lists passed.old passed.new }
-{
-    occupied.set(list, false);
-    let mut first = links.front(list);
-    while let Some(node) = first {
-        links.stand_once();
-        first = links.next(node);
-        links.unlink(node);
-        passed.set(node, true);
-    }
-}
-
 /// Files the nodes of one list anew, as the wheel stands at `to`.
+#[inline(never)]
 pub(crate) fn refile(
     links: &mut Links,
     occupied: &mut Bits,
@@ -114,7 +117,7 @@ pub(crate) fn refile(
     target: u32,
     to: u64,
 )
-    requires sized { IsSized links.old occupied.old × (length passed.old ≡ 16) × (target < 704) }
+    requires sized { IsSized links.old occupied.old × (length passed.old ≡ 16) × (target < 4096) }
     requires marked { AreMarked links.old.lists occupied.old }
     requires nodes { AreToRefile target to dues.now links.old.lists × AreSmall dues.now }
     ensures sized { IsSized links.new occupied.new × (length passed.new ≡ 16) }

@@ -1,12 +1,13 @@
 // The slots of a wheel.
-ghost use Rattle.std.specs.Prelude.{◌≡◌, ◌≢◌, ◌⊎◌, ◌<◌, ◌≤◌, ◌*◌, ◌^◌, ◌-◌, ℕ, true, false, None, Some, length, replicate, slice_set, IfOk, MatchOption};
+ghost use Rattle.std.specs.Prelude.{◌≡◌, ◌<◌, ◌≤◌, ◌*◌, ◌/◌, ◌^◌, ℕ, true, None, Some, length, replicate, slice_set, IfOk, MatchOption};
 ghost use Rattle.raw_links.specs.Links.{list_at, stands_in, stands_at};
 ghost use Rattle.timer_wheel.specs.Dues.{due_of, NoneIsArmed, IsLeastDue, NoneIsDue, IsFirstDue};
-ghost use Rattle.timer_wheel.specs.Slots.{IsLeastLater, IsLeastOf, AreSmall};
+ghost use Rattle.timer_wheel.specs.Slots.{IsLeastLater, IsLone, IsLeastOf, IsLoneOf, IsSooner, IsOnly, AreSmall};
 ghost use Rattle.timer_wheel.specs.Moves.{IsDue};
 
 use crate::bits::Bits;
-use crate::moves::{file, pass, refile, take};
+use crate::moves::{file, put, refile, take, take_lone};
+use crate::places::is_near;
 use raw_links::Links;
 use std::alloc::{AllocError, Global};
 use std::marker::Model;
@@ -35,29 +36,66 @@ impl Model for Slots {
     ghost invariant = { λ s. AreHeld s.base s.dues.items s.links s.occupied s.passed };
 }
 
-/// The least due tick of the items in one list, the last number where none is.
-fn least_in(links: &Links, dues: &[Option<Tick>], list: u32) -> u64
-    requires list { list < length links.now.lists }
-    requires armed { (i : ℕ) → stands_at i list links.now.lists ≡ true → (d : ℕ) × IsDue dues.now i d }
-    ensures { IsLeastOf dues.now (list_at links.now.lists list) result }
-{
-    links.stand_once();
-    let mut least = u64::MAX;
-    let mut at = links.front(list);
-    while let Some(node) = at {
-        least = lower(least, dues[node as usize]);
-        at = links.next(node);
-    }
-    least
+/// No item's number.
+pub(crate) const NO_ITEM: u32 = u32::MAX;
+
+/// The least due tick of some items, the last number where there are none, and the number of the item that alone is due then, or no
+/// item's.
+#[derive(Clone, Copy)]
+pub struct Next {
+    pub(crate) tick: u64,
+    pub(crate) lone: u32,
 }
 
-/// The lower of the two.
-fn lower(least: u64, due: Option<Tick>) -> u64
-    ensures { MatchOption due (result ≡ least) (λ d. (result ≤ least) × (result ≤ d) × ((result ≡ least) ⊎ (result ≡ d))) }
+/// What is due next of the items in one list.
+#[inline(always)]
+fn least_in(links: &Links, dues: &[Option<Tick>], list: u32) -> Next
+    requires list { list < length links.now.lists }
+    requires armed { (i : ℕ) → stands_at i list links.now.lists ≡ true → (d : ℕ) × IsDue dues.now i d }
+    ensures least { IsLeastOf dues.now (list_at links.now.lists list) result.tick }
+    ensures lone { IsLoneOf dues.now (list_at links.now.lists list) result.tick result.lone }
+{
+    links.stand_once();
+    let mut next = Next {
+        tick: u64::MAX,
+        lone: NO_ITEM,
+    };
+    let mut at = links.front(list);
+    while let Some(node) = at {
+        next = sooner(next, node, dues[node as usize]);
+        at = links.next(node);
+    }
+    next
+}
+
+/// What is due next, of one item more.
+#[inline(always)]
+fn sooner(next: Next, node: u32, due: Option<Tick>) -> Next
+    ensures { IsSooner next.tick next.lone node due result.tick result.lone }
 {
     match due {
-        Some(tick) if tick.get() < least => tick.get(),
-        _ => least,
+        Some(tick) if tick.get() < next.tick => Next {
+            tick: tick.get(),
+            lone: node,
+        },
+        Some(tick) if tick.get() == next.tick => Next {
+            tick: next.tick,
+            lone: NO_ITEM,
+        },
+        _ => next,
+    }
+}
+
+/// The number of the node of the list that holds no other, or no node's.
+#[inline(always)]
+fn only_in(links: &Links, list: u32) -> u32
+    requires list { list < length links.now.lists }
+    ensures { IsOnly (list_at links.now.lists list) result }
+{
+    links.stand_once();
+    match links.front(list) {
+        Some(node) if links.next(node).is_none() => node,
+        _ => NO_ITEM,
     }
 }
 
@@ -71,8 +109,8 @@ impl Slots {
         for _ in 0..ids {
             dues.push(None)?;
         }
-        let links = Links::open(alloc, 1024, 704)?;
-        let occupied = Bits::open(alloc, 11)?;
+        let links = Links::open(alloc, 1024, 4096)?;
+        let occupied = Bits::open(alloc, 64)?;
         let passed = Bits::open(alloc, 16)?;
         Ok(Slots {
             dues,
@@ -97,7 +135,23 @@ impl Slots {
         self.dues.as_slice()
     }
 
+    #[inline(always)]
     pub(crate) fn arm(&mut self, id: u32, due: Tick)
+        requires { (id < length self.old.dues) × (due_of id self.old.dues ≡ None) }
+        ensures { self.new ≡ record self.old { dues = slice_set self.old.dues id (Some due) } }
+    {
+        let tick = due.get();
+        if tick > self.base && is_near(self.base, tick) {
+            self.dues[id as usize] = Some(due);
+            put(&mut self.links, &mut self.occupied, (tick % 512) as u32, id);
+        } else {
+            self.arm_far(id, due);
+        }
+    }
+
+    // The same, wherever the item is to stand.
+    #[inline(never)]
+    fn arm_far(&mut self, id: u32, due: Tick)
         requires { (id < length self.old.dues) × (due_of id self.old.dues ≡ None) }
         ensures { self.new ≡ record self.old { dues = slice_set self.old.dues id (Some due) } }
     {
@@ -126,29 +180,42 @@ impl Slots {
         }
     }
 
-    /// The wheel goes on to the least due tick after its own.
-    #[inline(always)]
-    pub(crate) fn advance(&mut self, to: u64)
-        requires { IsLeastLater self.old.base self.old.dues to × (to ≤ 2 * 10 ^ 18) }
-        ensures { self.new ≡ record self.old { base = to } }
+    /// The item, which is due next, is not armed afterwards, and the wheel goes on to its tick.
+    pub(crate) fn disarm_next(&mut self, id: u32, due: u64)
+        requires item { (id < length self.old.dues) × (due_of id self.old.dues ≡ Some due) }
+        requires next { IsLeastLater self.old.base self.old.dues due }
+        ensures { self.new ≡ record { dues = slice_set self.old.dues id None; base = due } }
     {
-        match self.occupied.lowest_near() {
-            Some(target) => {
-                self.base = to;
-                pass(
-                    &mut self.links,
-                    &mut self.occupied,
-                    &mut self.passed,
-                    target,
-                );
-            }
-            None => self.advance_far(to),
+        self.dues[id as usize] = None;
+        self.base = due;
+        if let Some(list) = take(&mut self.links, &mut self.occupied, id) {
+            refile(
+                &mut self.links,
+                &mut self.occupied,
+                &mut self.passed,
+                &self.dues,
+                list,
+                due,
+            );
         }
     }
 
-    // The same, whichever list the wheel comes to.
-    #[inline(never)]
-    fn advance_far(&mut self, to: u64)
+    /// The same for an item that alone is due then, and stands in the lowest level.
+    #[inline(always)]
+    pub(crate) fn disarm_lone(&mut self, id: u32, due: u64)
+        requires item { (id < length self.old.dues) × (due_of id self.old.dues ≡ Some due) }
+        requires next { IsLeastLater self.old.base self.old.dues due }
+        requires near { due / 512 ≡ self.old.base / 512 }
+        requires lone { (i : ℕ) → due_of i self.old.dues ≡ Some due → i ≡ id }
+        ensures { self.new ≡ record { dues = slice_set self.old.dues id None; base = due } }
+    {
+        self.dues[id as usize] = None;
+        self.base = due;
+        take_lone(&mut self.links, &mut self.occupied, (due % 512) as u32, id);
+    }
+
+    /// The wheel goes on to the least due tick after its own.
+    pub(crate) fn advance(&mut self, to: u64)
         requires { IsLeastLater self.old.base self.old.dues to × (to ≤ 2 * 10 ^ 18) }
         ensures { self.new ≡ record self.old { base = to } }
     {
@@ -173,26 +240,50 @@ impl Slots {
         self.passed.lowest()
     }
 
-    /// The least due tick after that of the wheel, the last number where there is none.
-    #[inline(always)]
-    pub(crate) fn least_later(&self) -> u64
-        ensures { IsLeastLater self.now.base self.now.dues result }
+    /// Whether no armed item has passed.
+    pub(crate) fn none_passed(&self) -> bool
+        ensures { result ≡ true → NoneIsDue self.now.base self.now.dues }
     {
-        // a list of the lowest level is for one tick
-        match self.occupied.lowest_near() {
-            Some(list) => self.base / 64 * 64 + list as u64,
-            None => self.least_far(),
+        self.passed.is_empty()
+    }
+
+    /// Whether that tick has a list of the lowest level.
+    #[inline(always)]
+    pub(crate) fn is_near(&self, tick: u64) -> bool
+        ensures near { result ≡ true → tick / 512 ≡ self.now.base / 512 }
+        ensures few { length self.now.dues ≤ 1024 }
+    {
+        is_near(self.base, tick)
+    }
+
+    /// What is due next after the tick of the wheel.
+    #[inline(always)]
+    pub(crate) fn least_later(&self) -> Next
+        ensures later { IsLeastLater self.now.base self.now.dues result.tick }
+        ensures lone { IsLone self.now.dues result.tick result.lone }
+    {
+        match self.occupied.lowest() {
+            // a list of the lowest level is for one tick
+            Some(list) if list < 512 => Next {
+                tick: self.base / 512 * 512 + list as u64,
+                lone: only_in(&self.links, list),
+            },
+            _ => self.least_far(),
         }
     }
 
-    // The same, from the items of one list.
+    // The same, from the items of the first list.
     #[inline(never)]
-    fn least_far(&self) -> u64
-        ensures { IsLeastLater self.now.base self.now.dues result }
+    fn least_far(&self) -> Next
+        ensures later { IsLeastLater self.now.base self.now.dues result.tick }
+        ensures lone { IsLone self.now.dues result.tick result.lone }
     {
         match self.occupied.lowest() {
             Some(list) => least_in(&self.links, &self.dues, list),
-            None => u64::MAX,
+            None => Next {
+                tick: u64::MAX,
+                lone: NO_ITEM,
+            },
         }
     }
 }
