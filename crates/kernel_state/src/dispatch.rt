@@ -1,7 +1,8 @@
 // The dispatch: the head of the highest list that is not empty runs (IEEE 1003.1-2017, XSH 2.8.4).
-ghost use Rattle.std.specs.Prelude.{◌≡◌, ◌<◌, false, length, IfSome};
+ghost use Rattle.std.specs.Prelude.{◌≡◌, ◌<◌, length, IfSome};
 ghost use Rattle.pse52_trace.specs.Tells.{Tells};
-ghost use Rattle.machine_rules.specs.Dispatch.{dispatches, head, is_same};
+ghost use Rattle.machine_rules.specs.Dispatch.{dispatch_event, dispatches, head};
+ghost use Rattle.machine_rules.specs.Turns.{tells};
 ghost use Rattle.kernel_state.specs.Kernel.{Kernel, after, told};
 
 use crate::parts::Parts;
@@ -10,18 +11,15 @@ use rt_io::Sink;
 use tick_num::Tid;
 
 impl Parts {
-    // The processor is given to another thread, or to none, which is told.
-    fn switch<K: Sink>(&mut self, to: &Option<Tid>, out: &mut Tracer<'_, K>)
-        requires known { IfSome to.now (λ t. t < length self.old.names) }
-        requires other { is_same self.old.machine.last to.now ≡ false }
-        ensures state { self.new ≡ after (dispatches to.now) self.old }
-        ensures told { Tells K.text K.faults self.old.names out.old out.new (told (dispatches to.now) self.old) }
+    // The processor is given to another thread, or to none.
+    fn tell_dispatch<K: Sink>(&self, to: &Option<Tid>, out: &mut Tracer<'_, K>)
+        requires { IfSome to.now (λ t. t < length self.now.names) }
+        ensures { Tells K.text K.faults self.now.names out.old out.new (told (tells (dispatch_event self.now.machine to.now)) self.now) }
     {
         match to {
             None => self.tell(&Event::Idle, out),
             Some(t) => self.tell(&Event::Dispatch(*t, self.exec(*t)), out),
         }
-        self.set_last(to);
     }
 
     /// The processor is given to the head; `None` exactly where all lists are empty. It is told where that is a change.
@@ -33,8 +31,9 @@ impl Parts {
     {
         let to = self.head();
         if !self.is_last(&to) {
-            self.switch(&to, out);
+            self.tell_dispatch(&to, out);
         }
+        self.set_last(&to);
         to
     }
 }

@@ -15,8 +15,10 @@ pub mod LeapParts
 pub mod LeapCounts
 pub mod Leaping
 pub mod Midway
+pub mod PastUnits
 pub mod TickTimes
 pub mod Pushing
 pub mod Ticking
 pub mod Landing
 pub mod Ending
+pub mod TickEnding

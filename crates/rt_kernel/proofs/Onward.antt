@@ -9,7 +9,6 @@ use Rattle.pse52_trace.proofs.Tells.{tells_nothing}
 use Rattle.script_flat.specs.declared.cursor.Cursor.{Cursor}
 use Rattle.script_flat.specs.declared.unit.Unit as unit_type
 use Rattle.script_flat.specs.declared.unit.Unit.TheVariants as unit
-use Rattle.script_flat.specs.Flat as flat
 use Rattle.machine_rules.specs.Bodies.{Bodies}
 use Rattle.machine_rules.specs.Calls.{unit_effect}
 use Rattle.machine_rules.specs.Servers.{has_high}

@@ -1,9 +1,9 @@
 // The rule of the tick's end.
-ghost use Rattle.std.specs.Prelude.{◌≡◌, ◌≤◌, ◌<◌, ◌+◌, [], length};
+ghost use Rattle.std.specs.Prelude.{◌≡◌, ◌≤◌, ◌<◌, ◌+◌, [], false, length};
 ghost use Rattle.pse52_trace.specs.Tells.{Tells};
 ghost use Rattle.machine_rules.specs.Servers.{plans};
 ghost use Rattle.machine_rules.specs.Threads.{can_run, thread_at};
-ghost use Rattle.machine_rules.specs.Ticks.{consumed_in, ends_tick, exhausting, slicing, tick_end, tick_ends};
+ghost use Rattle.machine_rules.specs.Ticks.{consumed_in, ends_tick, exhausting, nothing, slicing, tick_end, tick_ends};
 ghost use Rattle.thread_blocks.specs.Ends.{end_of};
 ghost use Rattle.kernel_state.specs.Kernel.{Kernel, after, told};
 ghost use Rattle.kernel_state.specs.Stood.{StoodRight};
@@ -54,11 +54,12 @@ fn exhaust<K: Sink>(p: &mut Parts, t: Tid, out: &mut Tracer<'_, K>)
     p.move_unless_boosted(t);
 }
 
-// The rule of the tick's end, before its moves.
+// The rule of the tick's end, before its moves: whether it did anything.
 #[inline(always)]
-fn end_by_rule<K: Sink>(p: &mut Parts, was_high: bool, t: Tid, out: &mut Tracer<'_, K>)
+fn end_by_rule<K: Sink>(p: &mut Parts, was_high: bool, t: Tid, out: &mut Tracer<'_, K>) -> bool
     requires known { t < length p.old.names }
     requires quiet { p.old.direct ≡ [] }
+    ensures none { result ≡ false → tick_end was_high p.old.machine.quantum (thread_at p.old.machine t) ≡ nothing }
     ensures state { p.new ≡ after (ends_tick (tick_end was_high p.old.machine.quantum (thread_at p.old.machine t)) t) p.old }
     ensures told { Tells K.text K.faults p.old.names out.old out.new (told (ends_tick (tick_end was_high p.old.machine.quantum (thread_at p.old.machine t)) t) p.old) }
 {
@@ -66,11 +67,12 @@ fn end_by_rule<K: Sink>(p: &mut Parts, was_high: bool, t: Tid, out: &mut Tracer<
         TickEnd::Planning => plan(p, t, out),
         TickEnd::Exhausting => exhaust(p, t, out),
         TickEnd::Slicing => use_slice(p, t),
-        TickEnd::Nothing => return,
+        TickEnd::Nothing => return false,
     }
+    true
 }
 
-/// The rule of the tick's end, with its moves.
+/// The rule of the tick's end, with its moves. Where it does nothing, nobody has to move since the last settling.
 #[inline(always)]
 pub(crate) fn end_tick<K: Sink>(p: &mut Parts, was_high: bool, t: Tid, out: &mut Tracer<'_, K>)
     requires known { t < length p.old.names }
@@ -80,6 +82,7 @@ pub(crate) fn end_tick<K: Sink>(p: &mut Parts, was_high: bool, t: Tid, out: &mut
     ensures told { Tells K.text K.faults p.old.names out.old out.new (told (tick_ends was_high t) p.old) }
     ensures stood { StoodRight p.new.machine }
 {
-    end_by_rule(p, was_high, t, out);
-    p.settle();
+    if end_by_rule(p, was_high, t, out) {
+        p.settle();
+    }
 }

@@ -83,11 +83,11 @@ fn complete<K: Sink>(p: &mut Parts, t: Tid, unit: &Fetched, out: &mut Tracer<'_,
     ensures state { p.new ≡ after (unit_effect (flat_bodies p.old.code) t (unit_of p.old.code unit.now)) p.old }
     ensures told { Tells K.text K.faults p.old.names out.old out.new (told (unit_effect (flat_bodies p.old.code) t (unit_of p.old.code unit.now)) p.old) }
 {
-    match unit {
-        Fetched::Run(_) => return,
-        Fetched::Make(place) => make(p, t, place, out),
-        Fetched::Jump => return,
-        Fetched::Finish => finish(p, t, out),
+    // two tests, the frequent one first, where a table would be looked up
+    if let Fetched::Make(place) = unit {
+        make(p, t, place, out);
+    } else if let Fetched::Finish = unit {
+        finish(p, t, out);
     }
 }
 

@@ -72,6 +72,7 @@ taken_by_frame code most taken f g fs th whole goes_on begun =
       passed = begun.passed;
       unit = begun.unit ∙ sym (ap (λ (x : InUnit Cursor). x.unit) is);
       thread = ap (λ h. in_frame h fs th) begun.frame ∙ sym (ap (λ (x : InUnit Cursor). x.thread) is);
+      left = begun.left;
     }
 
 taken_by_top : (code : NumberedBodies (List Op)) (most : ℕ) (taken : Taken) (f g : Frame Cursor) (fs : List (Frame Cursor)) (th : Thread Cursor) →
@@ -93,7 +94,7 @@ taken_by_first code most taken f g th = first th.frames refl
 
 -- and one with no frame takes its finish
 pub taken_by_none : (code : NumberedBodies (List Op)) (most : ℕ) (th : Thread Cursor) → length th.frames ≤ 0 → is_at_end th ≡ false →
-    HasTaken code most (record { passed = 0; unit = Finish }) th th
+    HasTaken code most (record { passed = 0; unit = Finish; left = 0 }) th th
 taken_by_none code most th none goes_on =
     let is = no_frames th.frames none in
     let advances_none = chosen (top_left th.frames) (is_at_end th) (ap top_left is) goes_on is in
@@ -103,6 +104,7 @@ taken_by_none code most th none goes_on =
       passed = refl;
       unit = sym (ap (λ (x : InUnit Cursor). x.unit) advances_none);
       thread = sym (ap (λ (x : InUnit Cursor). x.thread) advances_none);
+      left = sym (ap top_left is);
     }
   where
     no_frames : (fs : List (Frame Cursor)) → length fs ≤ 0 → fs ≡ []

@@ -65,6 +65,7 @@ pub record HasBegun (code : NumberedBodies (List Op)) (most : ℕ) (taken : Take
   pub passed : taken.passed ≡ all_of units
   pub unit : unit_of code taken.unit ≡ (next_of (flat_bodies code) (frame_past (flat_bodies code) units old)).unit
   pub frame : new ≡ frame_begins (next_of (flat_bodies code) (frame_past (flat_bodies code) units old)) (frame_past (flat_bodies code) units old)
+  pub left : taken.left ≡ new.left
 
 -- a thread goes past units, and is in one more
 pub record HasTaken (code : NumberedBodies (List Op)) (most : ℕ) (taken : Taken) (old new : Thread Cursor) : Type 0 where
@@ -73,6 +74,7 @@ pub record HasTaken (code : NumberedBodies (List Op)) (most : ℕ) (taken : Take
   pub passed : taken.passed ≡ all_of units
   pub unit : unit_of code taken.unit ≡ (in_unit (flat_bodies code) (thread_past (flat_bodies code) units old)).unit
   pub thread : new ≡ (in_unit (flat_bodies code) (thread_past (flat_bodies code) units old)).thread
+  pub left : taken.left ≡ top_left new.frames
 
 -- what both have in common with the thread before
 pub record HasCountsOf (old new : Thread Cursor) : Type 0 where
@@ -84,7 +86,7 @@ pub record HasCountsOf (old new : Thread Cursor) : Type 0 where
 -- a thread goes past units and runs in one more, the ticks of both are counted, and its interval and its server are these
 pub record HasSpent (code : NumberedBodies (List Op)) (most : ℕ) (ran : Ran) (slice : ℕ) (server : Option ServerState) (old new : Thread Cursor) : Type 0 where
   pub taken : Thread Cursor
-  pub takes : HasTaken code most (record { passed = ran.passed; unit = ran.unit }) old taken
+  pub takes : HasTaken code most (record { passed = ran.passed; unit = ran.unit; left = top_left taken.frames }) old taken
   pub same : HasCountsOf old taken
   pub ticks : ran.ticks ≡ max 1 (min (most - ran.passed) (top_left taken.frames))
   pub within : ran.passed + ran.ticks ≤ max 1 most

@@ -1,5 +1,5 @@
 // The frames of a thread.
-ghost use Rattle.std.specs.Prelude.{◌≡◌, ◌-◌, ◌≤◌};
+ghost use Rattle.std.specs.Prelude.{◌≡◌, ◌≤◌};
 ghost use Rattle.machine_rules.specs.Threads.{is_signal};
 ghost use Rattle.script_flat.specs.Fetched.{unit_of};
 ghost use Rattle.script_flat.specs.Next.{register_limit, ticks_of};
@@ -111,11 +111,11 @@ impl Frame {
         self.at.value = value;
     }
 
-    /// So many ticks of its unit at once.
-    pub fn charge(&mut self, k: u64)
-        ensures { self.new ≡ record self.old { left = self.old.left - k } }
+    /// So many ticks of its unit are left.
+    pub(crate) fn set_left(&mut self, left: u64)
+        ensures { self.new ≡ record self.old { left = left } }
     {
-        self.left = self.left.saturating_sub(k);
+        self.left = left;
     }
 
     /// It is at the last tick of its body.
@@ -149,9 +149,10 @@ impl Frame {
                 Fetched::Run(n) if 0 < n && n < rest => rest -= n,
                 Fetched::Jump if 1 < rest => rest -= 1,
                 _ => {
-                    self.left = ticks_of(code, &unit);
+                    let left = ticks_of(code, &unit);
+                    self.left = left;
                     let passed = most - rest;
-                    return Taken { unit, passed };
+                    return Taken { unit, passed, left };
                 }
             }
         }

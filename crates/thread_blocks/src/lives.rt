@@ -158,6 +158,7 @@ impl Thread {
             None => Taken {
                 passed: 0,
                 unit: Fetched::Finish,
+                left: 0,
             },
             Some(frame) => frame.begin(code, most),
         }
@@ -218,11 +219,16 @@ impl Thread {
             return Taken {
                 passed: 0,
                 unit: Fetched::Run(left),
+                left,
             };
         }
         if self.is_ending && is_main(self.kind()) {
             let unit = self.begin_ending(code);
-            return Taken { passed: 0, unit };
+            return Taken {
+                passed: 0,
+                unit,
+                left: self.left(),
+            };
         }
         self.advance(code, most)
     }

@@ -16,9 +16,10 @@ pub struct Ran {
     pub was_high: bool,
 }
 
-// The unit that a thread is in, and the ticks of those that it passed before.
+// The unit that a thread is in, how many ticks of it are left, and the ticks of those that it passed before.
 #[derive(Clone, Copy)]
 pub(crate) struct Taken {
     pub(crate) passed: u64,
     pub(crate) unit: Fetched,
+    pub(crate) left: u64,
 }

@@ -44,15 +44,14 @@ impl Thread {
         ensures high { result.was_high ≡ was_high }
     {
         let taken = self.take(code, most);
-        let left = self.left();
-        let ticks = (most - taken.passed).min(left).max(1);
+        let ticks = (most - taken.passed).min(taken.left).max(1);
         self.ticks += taken.passed + ticks;
-        charge_top(&mut self.frames, ticks);
+        charge_top(&mut self.frames, taken.left, ticks);
         Ran {
             passed: taken.passed,
             unit: taken.unit,
             ticks,
-            is_complete: left <= ticks,
+            is_complete: taken.left <= ticks,
             was_high,
         }
     }

@@ -1,6 +1,6 @@
 // How a thread is scheduled: its policy, its priority, its slice and its ticks.
 ghost use Rattle.std.specs.Prelude.{◌≡◌, ◌≤◌, ◌<◌, ◌+◌, ◌^◌, None, true, false, Some};
-ghost use Rattle.machine_rules.specs.Threads.{is_runnable, is_blocked};
+ghost use Rattle.machine_rules.specs.Threads.{is_runnable, is_blocked, top_left};
 ghost use Rattle.machine_rules.specs.Priorities.{assigned_of};
 ghost use Rattle.machine_rules.specs.Scheduling.{at_priority, takes_priority, with_policy, with_priority};
 ghost use Rattle.machine_rules.specs.Ticks.{slice_is_used, without_slice, tick_end};
@@ -111,10 +111,13 @@ fn policy_at(policy: &Policy, p: Prio) -> Policy
     }
 }
 
-pub(crate) fn charge_top(frames: &mut ArrayVec<Frame, 3>, k: u64)
+/// The ticks of the top frame, of which so many are left, are k less.
+#[inline(always)]
+pub(crate) fn charge_top(frames: &mut ArrayVec<Frame, 3>, left: u64, k: u64)
+    requires { left ≡ top_left frames.old.items }
     ensures { frames.new.items ≡ frames_after k frames.old.items }
 {
     if let Some(frame) = frames.get_mut(0) {
-        frame.charge(k);
+        frame.set_left(left.saturating_sub(k));
     }
 }

@@ -1,5 +1,6 @@
 use Rattle.std.proofs.Common.{◌^◌, ◌∙◌, None, Some, arith, sym}
-use Rattle.rt_kernel.proofs.Midway.{begun, ended_leap, idle_leap, in_time, may_leap_on, thread_leapt}
+use Rattle.rt_kernel.proofs.Midway.{begun, ended_leap, idle_leap, in_time}
+use Rattle.rt_kernel.proofs.PastUnits.{may_leap_on, thread_leapt}
 use Rattle.rt_kernel.proofs.Running.{items_fit}
 use Rattle.rt_kernel.proofs.leaps.leaps.Goals as goal
 

@@ -1,5 +1,6 @@
-use Rattle.std.proofs.Common.{◌≡◌, ◌∙◌, ap, arith, refl, sym}
+use Rattle.std.proofs.Common.{◌≡◌, ◌∙◌, ap, arith, refl, subst, sym}
 use Rattle.machine_rules.specs.Threads.{top_left}
+use Rattle.thread_blocks.specs.Passing.{HasTaken}
 use Rattle.thread_blocks.specs.contracts.thread.Thread.{the_view}
 use Rattle.thread_blocks.proofs.Charged.{complete_is, taken_counts, taken_within}
 use Rattle.thread_blocks.proofs.thread.Thread.run_unit.Goals as goal
@@ -30,10 +31,10 @@ returns-clause-spent c =
     let server : c.args.self.now.server ≡ (the_view c.self.inside).server = sym (ap (λ t. t.server) c.self.view_is ∙ same.server) in
     record {
       taken = c.take-taken.new.self;
-      takes = c.take-taken.ensures;
+      takes = subst (λ n. HasTaken c.args.code.now c.args.most (record { passed = c.take-taken.result.passed; unit = c.take-taken.result.unit; left = n }) c.args.self.now c.take-taken.new.self) c.take-taken.ensures.left c.take-taken.ensures;
       same = same;
-      ticks = omega (arith, c.max-ticks.ensures, c.min.ensures, c.left-left.ensures);
+      ticks = omega (arith, c.max-ticks.ensures, c.min.ensures, c.take-taken.ensures.left);
       within = omega arith;
       thread = rw (← c.self.view_is, ticks, slice, server, c.charge_top.ensures) refl;
-      complete = rw c.charge_top.ensures (complete_is c.left-left.result c.max-ticks.result c.self.inside.frames.items (c.left-left.ensures ∙ sym (ap (λ t. top_left t.frames) c.self.view_is)));
+      complete = rw c.charge_top.ensures (complete_is c.take-taken.result.left c.max-ticks.result c.self.inside.frames.items (c.take-taken.ensures.left ∙ sym (ap (λ t. top_left t.frames) c.self.view_is)));
     }
