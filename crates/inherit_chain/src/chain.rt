@@ -1,17 +1,21 @@
 // Owners, mutex waits, and the execution priorities that follow from them.
-ghost use Rattle.std.specs.Prelude.{◌≡◌, ◌<◌, ◌≤◌, IfOk, IfSome, IsSome, None, Some, false, is_some, length, ℕ};
+ghost use Rattle.std.specs.Prelude.{◌≡◌, ◌==◌, ◌<◌, ◌≤◌, IfOk, IfSome, IsSome, None, Some, false, is_some, length, ℕ};
 ghost use Rattle.std.specs.Prelude.{filter};
 ghost use Rattle.std.specs.List.{list_any};
 ghost use Rattle.machine_rules.specs.Lists.{is};
 ghost use Rattle.machine_rules.specs.Mutexes.{freed, is_boosting, taken_by};
 ghost use Rattle.machine_rules.specs.State.{Mutex};
-ghost use Rattle.wait_lists.specs.Places.{place_in};
-ghost use Rattle.inherit_chain.specs.Chains.{IsPriority, Links, OwnersAreThreads, SameExec, assigned_at, counted, assigned_to, awaited_in, closes_cycle_in, exec_of, mutex_at, waiting_for, with_claim, with_mutex};
+ghost use Rattle.wait_lists.specs.declared.WaitObj.TheVariants as wait_obj;
+ghost use Rattle.wait_lists.specs.Places.{best_of, place_in};
+ghost use Rattle.inherit_chain.specs.Chains.{IsPriority, Links, OwnersAreThreads, SameExec, assigned_at, counted, assigned_to, awaited_in, closes_cycle_in, exec_of, freed_if, is_plainly_free, mutex_at, taken_if, waiting_for, with_claim, with_mutex};
 ghost use Rattle.inherit_chain.specs.Fresh.{fresh};
 ghost use Rattle.inherit_chain.specs.Moves.{Changes, IsPlaced, entered, left};
 
 use crate::boosts::{owned_count, owns_boosting};
-use crate::changes::{begin_wait, change_base, end_wait, recount, release, take};
+use crate::changes::{
+    begin_wait, change_base, end_wait, raise_base, recount, release, release_at_once, rises, take,
+    take_at_once,
+};
 use crate::claims::{
     MutexKind, MutexState, ThreadClaim, free_mutexes, fresh_claims, leads_to, lowest,
 };
@@ -131,7 +135,23 @@ impl Chain {
     }
 
     /// The assigned priority of the thread is another. Of a thread that waits for no mutex, no other priority changes with it.
+    #[inline(always)]
     pub fn set_base(&mut self, w: &mut Waits, t: Tid, p: Prio) -> Option<Moved>
+        requires known { t < length self.old.claims }
+        requires placed { IsPlaced self.old w.old }
+        ensures chain { self.new ≡ with_claim t (assigned_to p) self.old }
+        ensures changes { Changes self.old self.new w.old w.new result }
+        ensures alone { awaited_in self.old.claims t ≡ None → IfSome result (λ m. m.thread ≡ t) }
+    {
+        if rises(&self.exec, w, t, p) {
+            return raise_base(&mut self.claims, &self.mutexes, &mut self.exec, w, t, p);
+        }
+        self.set_base_anyhow(w, t, p)
+    }
+
+    // The same, whatever its priority is.
+    #[inline(never)]
+    fn set_base_anyhow(&mut self, w: &mut Waits, t: Tid, p: Prio) -> Option<Moved>
         requires known { t < length self.old.claims }
         requires placed { IsPlaced self.old w.old }
         ensures chain { self.new ≡ with_claim t (assigned_to p) self.old }
@@ -194,6 +214,34 @@ impl Chain {
         ensures alone { IfSome result (λ m. m.thread ≡ t) }
     {
         take(&self.claims, &mut self.mutexes, &mut self.exec, w, k, t)
+    }
+
+    /// The thread, which waits for no mutex, owns the mutex where it is plainly free. The answer is whether it is. No priority changes.
+    #[inline(always)]
+    pub fn take_at_once(&mut self, w: &Waits, k: ObjId, t: Tid) -> bool
+        requires known { t < length self.old.claims }
+        requires mutex { k < length self.old.mutexes }
+        requires placed { IsPlaced self.old w.now }
+        requires waits_not { awaited_in self.old.claims t ≡ None }
+        ensures value { result ≡ is_plainly_free (mutex_at self.old k) (best_of (wait_obj.Mutex k) w.now) }
+        ensures chain { self.new ≡ with_mutex k (taken_if result t) self.old }
+        ensures same { SameExec self.old self.new }
+    {
+        take_at_once(&self.claims, &mut self.mutexes, &self.exec, w, k, t)
+    }
+
+    /// The mutex, which the thread owned, is free where the thread has its assigned priority. The answer is whether it has. No priority
+    /// changes.
+    #[inline(always)]
+    pub fn release_at_once(&mut self, w: &Waits, k: ObjId, t: Tid) -> bool
+        requires mutex { k < length self.old.mutexes }
+        requires placed { IsPlaced self.old w.now }
+        requires owned { (mutex_at self.old k).owner ≡ Some t }
+        ensures value { result ≡ (exec_of self.old t == assigned_at self.old t) }
+        ensures chain { self.new ≡ with_mutex k (freed_if result) self.old }
+        ensures same { SameExec self.old self.new }
+    {
+        release_at_once(&self.claims, &mut self.mutexes, &self.exec, w, k, t)
     }
 
     /// The mutex, which the thread owned, is free.

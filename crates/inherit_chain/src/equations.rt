@@ -1,9 +1,11 @@
 // What the equations of the execution priorities ask for.
-ghost use Rattle.std.specs.Prelude.{◌≡◌, ◌<◌, length, map, max, if◌then◌else◌, slice_index_or, true};
+ghost use Rattle.std.specs.Prelude.{◌≡◌, ◌==◌, ◌<◌, length, map, max, if◌then◌else◌, slice_index_or, true};
 ghost use Rattle.machine_rules.specs.Lists.{greatest, is};
 ghost use Rattle.machine_rules.specs.Priorities.{is_inherit_mutex_of, owner_ceiling};
 ghost use Rattle.machine_rules.specs.Threads.{mutex_in};
-ghost use Rattle.inherit_chain.specs.Chains.{asked_in, no_claim, prio_in, through_in, waiters_in};
+ghost use Rattle.wait_lists.specs.declared.WaitObj.TheVariants as wait_obj;
+ghost use Rattle.wait_lists.specs.Places.{best_of};
+ghost use Rattle.inherit_chain.specs.Chains.{asked_in, is_plainly_free, no_claim, prio_in, through_in, waiters_in};
 ghost use Rattle.inherit_chain.specs.Moves.{StandsAt, WaitersStand};
 
 use crate::claims::{MutexState, ThreadClaim};
@@ -101,6 +103,23 @@ fn raised_through(
     }
 }
 
+/// Whether a mutex is free, and raises nobody who takes it, whatever the priorities are.
+#[inline(always)]
+pub(crate) fn is_plainly_free(mutexes: &[MutexState], w: &Waits, k: ObjId) -> bool
+    requires { k < length mutexes.now }
+    ensures { result ≡ is_plainly_free (mutex_in mutexes.now k) (best_of (wait_obj.Mutex k) w.now) }
+{
+    let mutex = &mutexes[k.get() as usize];
+    if mutex.owner().is_some() {
+        return false;
+    }
+    match mutex.protocol() {
+        Protocol::Plain => true,
+        Protocol::Inherit => w.best(WaitObj::Mutex(k)).is_none(),
+        Protocol::Protect(_) => false,
+    }
+}
+
 /// Whether a mutex gives its owner no greater priority.
 #[inline(always)]
 pub(crate) fn lends_nothing(
@@ -129,7 +148,7 @@ pub(crate) fn lends_nothing(
 pub(crate) fn is_at_assigned(claims: &[ThreadClaim], exec: &[Prio], t: Tid) -> bool
     requires known { t < length claims.now }
     requires each { length exec.now ≡ length claims.now }
-    ensures { result ≡ true → prio_in exec.now t ≡ (slice_index_or claims.now t no_claim).assigned }
+    ensures { result ≡ (prio_in exec.now t == (slice_index_or claims.now t no_claim).assigned) }
 {
     exec[t.get() as usize] == claims[t.get() as usize].assigned()
 }

@@ -19,3 +19,4 @@ pub mod StandOn
 pub mod Carried
 pub mod Targets
 pub mod InQueues
+pub mod LeftAlone

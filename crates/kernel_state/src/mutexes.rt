@@ -4,12 +4,13 @@ ghost use Rattle.pse52_trace.specs.Tells.{Tells};
 ghost use Rattle.machine_rules.specs.Mutexes.{closes_cycle, freed, is_above_ceiling, taken_by};
 ghost use Rattle.machine_rules.specs.Priorities.{mutex_awaited_by};
 ghost use Rattle.machine_rules.specs.State.{Wait};
+ghost use Rattle.wait_lists.specs.declared.WaitObj.TheVariants as wait_obj;
 ghost use Rattle.wait_lists.specs.Ties.{is_object, object_of};
 ghost use Rattle.machine_rules.specs.Threads.{is_blocked, mutex_at, thread_at};
 ghost use Rattle.machine_rules.specs.Turns.{changes, changes_mutex, ◌▷◌};
 ghost use Rattle.machine_rules.specs.Waiters.{Waiter, best_waiter};
 ghost use Rattle.machine_rules.specs.Waking.{wakes, woken};
-ghost use Rattle.inherit_chain.specs.Chains.{counted};
+ghost use Rattle.inherit_chain.specs.Chains.{counted, freed_if, is_plainly_free, taken_if};
 ghost use Rattle.thread_blocks.specs.Unused.{IsUnused};
 ghost use Rattle.kernel_state.specs.Kernel.{after, told};
 
@@ -74,8 +75,44 @@ impl Parts {
         self.named.take_in(&moved);
     }
 
-    /// The mutex, which the thread owned, is free.
+    /// The thread, which waits for no mutex, owns the mutex where it is plainly free. The answer is whether it is.
+    #[inline(always)]
+    pub fn take_at_once(&mut self, k: ObjId, t: Tid) -> bool
+        requires known { t < length self.old.names }
+        requires mutex { k < length self.old.machine.mutexes }
+        requires waits_not { mutex_awaited_by (thread_at self.old.machine t) ≡ None }
+        ensures value { (passes : Wait → Bool) → ((w : Wait) → passes w ≡ is_object (wait_obj.Mutex k) (object_of w)) → result ≡ is_plainly_free (mutex_at self.old.machine k) (option_map (λ (w : Waiter). w.thread) (best_waiter self.old.machine passes)) }
+        ensures state { self.new ≡ after (changes_mutex k (taken_if result t)) self.old }
+    {
+        self.table.take_at_once(k, t)
+    }
+
+    /// The mutex, which the thread owned, is free. Mostly that lowers nobody.
+    #[inline(always)]
+    #[tactic(auto, using(crate::proofs::LeftAlone::left_alone))]
     pub fn release_mutex(&mut self, k: ObjId, t: Tid)
+        requires mutex { k < length self.old.machine.mutexes }
+        requires owned { (mutex_at self.old.machine k).owner ≡ Some t }
+        ensures { self.new ≡ after (changes_mutex k freed) self.old }
+    {
+        if !self.release_at_once(k, t) {
+            self.release_raised(k, t);
+        }
+    }
+
+    // It is free where the thread has its assigned priority. The answer is whether it has.
+    #[inline(always)]
+    fn release_at_once(&mut self, k: ObjId, t: Tid) -> bool
+        requires mutex { k < length self.old.machine.mutexes }
+        requires owned { (mutex_at self.old.machine k).owner ≡ Some t }
+        ensures { self.new ≡ after (changes_mutex k (freed_if result)) self.old }
+    {
+        self.table.release_at_once(k, t)
+    }
+
+    // It is free, and the priority of the thread follows.
+    #[inline(never)]
+    fn release_raised(&mut self, k: ObjId, t: Tid)
         requires mutex { k < length self.old.machine.mutexes }
         requires owned { (mutex_at self.old.machine k).owner ≡ Some t }
         ensures { self.new ≡ after (changes_mutex k freed) self.old }

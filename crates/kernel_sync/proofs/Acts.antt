@@ -1,9 +1,13 @@
 -- What the answers of the rules mean.
 use Rattle.std.proofs.Common.{◌≡◌, ℕ, Bool, true, false, Option, None, Some, refl}
-use Rattle.std.specs.Prelude.{IsSome, is_none, not, if◌then◌else◌, ◌==◌}
+use Rattle.std.specs.Prelude.{IsSome, is_none, not, if◌then◌else◌, ◌==◌, ◌&&◌}
 use Rattle.tick_num.specs.declared.res.Res.{Res}
 use Rattle.tick_num.specs.declared.res.Res.TheVariants as res
-use Rattle.machine_rules.specs.State.{Machine}
+use Rattle.script_tree.specs.declared.policy.Protocol.{Protocol}
+use Rattle.script_tree.specs.declared.policy.Protocol.TheVariants as protocol
+use Rattle.machine_rules.specs.Lists.{is}
+use Rattle.machine_rules.specs.State.{Machine, Thread}
+use Rattle.inherit_chain.specs.Chains.{is_plainly_free, raises_nobody}
 use Rattle.machine_rules.specs.Threads.{can_run, mutex_at, thread_at}
 use Rattle.machine_rules.specs.Mutexes.{closes_cycle, counts, is_above_ceiling, is_free, lock_answer, locked_again, must_wait, owns, recursion_limit, refused, takes, trylock_answer}
 use Rattle.machine_rules.specs.Turns.{is_late}
@@ -41,6 +45,28 @@ module _ {P : Type 0} (m : Machine P) (t k : ℕ) where
       by_case false false false e true f late = tt
       by_case false false false e false f true = tt
       by_case false false false e false f false = (owned_is (mutex_at m k).owner e, f)
+
+  none_owns : (o : Option ℕ) → is_none o ≡ true → is o t ≡ false
+  none_owns None h = refl
+  none_owns (Some u) h = absurd cc
+
+  under_no_ceiling : (th : Thread P) (p : Protocol) (first : Option ℕ) → raises_nobody p first ≡ true → is_above_ceiling th p ≡ false
+  under_no_ceiling th protocol.Plain first h = refl
+  under_no_ceiling th protocol.Inherit first h = refl
+  under_no_ceiling th (protocol.Protect n) first h = absurd cc
+
+  both_are : (a b : Bool) → (a && b) ≡ true → (a ≡ true) × (b ≡ true)
+  both_are true true h = (refl, refl)
+  both_are true false h = absurd cc
+  both_are false b h = absurd cc
+
+  -- a lock takes a mutex that is plainly free
+  pub plainly_takes : (due first : Option ℕ) → is_plainly_free (mutex_at m k) first ≡ true → lock_answer m t k due ≡ takes
+  plainly_takes due first h =
+      let two = both_are (is_none (mutex_at m k).owner) (raises_nobody (mutex_at m k).protocol first) h in
+      let above = under_no_ceiling (thread_at m t) (mutex_at m k).protocol first two.1 in
+      let owns = none_owns (mutex_at m k).owner two.0 in
+      rw (above, owns, two.0) refl
 
   pub trylock_can : CanAct m t k (trylock_answer m t k)
   trylock_can = by_case (is_above_ceiling (thread_at m t) (mutex_at m k).protocol) (owns m t k) (is_free m k) refl

@@ -6,3 +6,4 @@ pub mod Contended
 pub mod Signalling
 pub mod Returned
 pub mod Kept
+pub mod AtOnce

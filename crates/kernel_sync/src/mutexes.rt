@@ -76,10 +76,35 @@ fn act<K: Sink>(
     }
 }
 
-/// `pthread_mutex_lock`, and with a time `pthread_mutex_timedlock`.
+/// `pthread_mutex_lock`, and with a time `pthread_mutex_timedlock`. Mostly the mutex is free, and to take it raises nobody.
 #[inline(always)]
-#[tactic(auto, using(crate::proofs::Acts::lock_acts))]
+#[tactic(auto, using(crate::proofs::Acts::awaits_none))]
 pub fn lock<K: Sink>(
+    p: &mut Parts,
+    t: Tid,
+    call: &Call,
+    k: ObjId,
+    due: Option<Tick>,
+    out: &mut Tracer<'_, K>,
+)
+    requires known { t < length p.old.names }
+    requires runs { can_run p.old.machine t ≡ true }
+    requires mutex { k < length p.old.machine.mutexes }
+    requires serial { p.old.machine.next_serial < 2 ^ 63 }
+    ensures state { p.new ≡ after (locks (by t call.now) k due) p.old }
+    ensures told { Tells K.text K.faults p.old.names out.old out.new (told (locks (by t call.now) k due) p.old) }
+{
+    if p.take_at_once(k, t) {
+        p.returns(t, call, Res::Zero, 0, out);
+    } else {
+        lock_by_answer(p, t, call, k, due, out);
+    }
+}
+
+// The lock of any mutex, as it comes out.
+#[inline(never)]
+#[tactic(auto, using(crate::proofs::Acts::lock_acts))]
+fn lock_by_answer<K: Sink>(
     p: &mut Parts,
     t: Tid,
     call: &Call,
@@ -113,6 +138,7 @@ pub fn try_lock<K: Sink>(p: &mut Parts, t: Tid, call: &Call, k: ObjId, out: &mut
 }
 
 // The owner's mutex goes to its best waiter.
+#[inline(never)]
 #[tactic(auto, using(crate::proofs::Resting::best_rests))]
 fn hand_over<K: Sink>(p: &mut Parts, t: Tid, k: ObjId, w: Tid, out: &mut Tracer<'_, K>)
     requires known { w < length p.old.names }

@@ -1,14 +1,15 @@
 // Owners and counts of mutexes, and who is served first.
-ghost use Rattle.std.specs.Prelude.{◌≡◌, ◌<◌, Bool, IfSome, Option, None, Some, length, option_map};
+ghost use Rattle.std.specs.Prelude.{◌≡◌, ◌==◌, ◌<◌, Bool, IfSome, Option, None, Some, length, option_map};
 ghost use Rattle.machine_rules.specs.Mutexes.{freed, taken_by};
-ghost use Rattle.machine_rules.specs.Priorities.{mutex_awaited_by};
+ghost use Rattle.machine_rules.specs.Priorities.{assigned_of, mutex_awaited_by};
 ghost use Rattle.machine_rules.specs.State.{Wait};
 ghost use Rattle.machine_rules.specs.Threads.{mutex_in, thread_in};
 ghost use Rattle.machine_rules.specs.Waking.{woken};
+ghost use Rattle.wait_lists.specs.declared.WaitObj.TheVariants as wait_obj;
 ghost use Rattle.wait_lists.specs.Ties.{is_object, object_of};
-ghost use Rattle.inherit_chain.specs.Chains.{counted};
+ghost use Rattle.inherit_chain.specs.Chains.{counted, freed_if, is_plainly_free, taken_if};
 ghost use Rattle.thread_table.specs.Table as table;
-ghost use Rattle.thread_table.specs.Table.{best_in, with_mutex, with_thread};
+ghost use Rattle.thread_table.specs.Table.{best_in, exec, with_mutex, with_thread};
 ghost use Rattle.thread_table.specs.Movers.{KeepsExec, KeepsOthers, TellsMoved};
 
 use crate::links::stop_waiting;
@@ -41,6 +42,36 @@ impl Table {
         ensures alone { IfSome result (λ u. u ≡ t) }
     {
         thread_of(self.chain.take(&mut self.waits, k, t))
+    }
+
+    /// The thread, which awaits no mutex, owns the mutex where it is plainly free. The answer is whether it is. No execution priority changes.
+    #[inline(always)]
+    #[tactic(auto, using(crate::proofs::Ties::placed, crate::proofs::Ties::awaits_none))]
+    pub fn take_at_once(&mut self, k: ObjId, t: Tid) -> bool
+        requires known { t < length self.old.threads }
+        requires mutex { k < length self.old.mutexes }
+        requires waits_not { mutex_awaited_by (thread_in self.old.threads t) ≡ None }
+        ensures value { (passes : Wait → Bool) → ((w : Wait) → passes w ≡ is_object (wait_obj.Mutex k) (object_of w)) → result ≡ is_plainly_free (mutex_in self.old.mutexes k) (best_in self.old passes) }
+        ensures table { self.new ≡ with_mutex k (taken_if result t) self.old }
+        ensures same { KeepsExec self.old self.new }
+    {
+        self.waits.serve_by_the_rules();
+        self.chain.take_at_once(&self.waits, k, t)
+    }
+
+    /// The mutex, which the thread owned, is free where the thread has its assigned priority. The answer is whether it has. No execution
+    /// priority changes.
+    #[inline(always)]
+    #[tactic(auto, using(crate::proofs::Ties::placed))]
+    pub fn release_at_once(&mut self, k: ObjId, t: Tid) -> bool
+        requires mutex { k < length self.old.mutexes }
+        requires owned { (mutex_in self.old.mutexes k).owner ≡ Some t }
+        ensures value { result ≡ (exec self.old t == assigned_of (thread_in self.old.threads t)) }
+        ensures table { self.new ≡ with_mutex k (freed_if result) self.old }
+        ensures same { KeepsExec self.old self.new }
+    {
+        self.chain.owners_are_threads();
+        self.chain.release_at_once(&self.waits, k, t)
     }
 
     /// The mutex, which the thread owned, is free. The answer is the one thread that stands among no waiters and whose execution priority

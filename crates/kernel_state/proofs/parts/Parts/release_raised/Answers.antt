@@ -3,7 +3,7 @@ use Rattle.machine_rules.specs.Mutexes.{freed}
 use Rattle.machine_rules.specs.State.{Mutex}
 use Rattle.thread_table.specs.Table.{Table}
 use Rattle.kernel_state.proofs.Carried.{fit, tied_again, told_mutex, told_there}
-use Rattle.kernel_state.proofs.parts.Parts.release_mutex.Goals as goal
+use Rattle.kernel_state.proofs.parts.Parts.release_raised.Goals as goal
 
 pub invariant_of-self : goal.invariant_of-self
 invariant_of-self c =
