@@ -146,12 +146,12 @@ impl Chain {
         if rises(&self.exec, w, t, p) {
             return raise_base(&mut self.claims, &self.mutexes, &mut self.exec, w, t, p);
         }
-        self.set_base_anyhow(w, t, p)
+        self.set_base_by_walk(w, t, p)
     }
 
-    // The same, whatever its priority is.
+    // The same by a walk along the chain.
     #[inline(never)]
-    fn set_base_anyhow(&mut self, w: &mut Waits, t: Tid, p: Prio) -> Option<Moved>
+    fn set_base_by_walk(&mut self, w: &mut Waits, t: Tid, p: Prio) -> Option<Moved>
         requires known { t < length self.old.claims }
         requires placed { IsPlaced self.old w.old }
         ensures chain { self.new ≡ with_claim t (assigned_to p) self.old }

@@ -97,14 +97,14 @@ pub fn lock<K: Sink>(
     if p.take_at_once(k, t) {
         p.returns(t, call, Res::Zero, 0, out);
     } else {
-        lock_by_answer(p, t, call, k, due, out);
+        lock_any(p, t, call, k, due, out);
     }
 }
 
 // The lock of any mutex, as it comes out.
 #[inline(never)]
 #[tactic(auto, using(crate::proofs::Acts::lock_acts))]
-fn lock_by_answer<K: Sink>(
+fn lock_any<K: Sink>(
     p: &mut Parts,
     t: Tid,
     call: &Call,

@@ -5,11 +5,13 @@
 
 mod call_name;
 mod event;
+mod head;
 mod line;
 mod names;
 mod place;
 mod report;
 mod tracer;
+mod words;
 
 pub use event::{CallName, Event};
 pub use line::line_len;

@@ -29,10 +29,10 @@ returns-then-take_at_once-clause-told g c =
 pub returns-else-take_at_once-clause-state : goal.returns-else-take_at_once-clause-state
 returns-else-take_at_once-clause-state g c =
     let same = untaken c.args.p.now c.args.t c.args.k c.take_at_once.result c.take_at_once.new.self c.take_at_once.ensures.state c.if-take_at_once.false in
-    subst (λ (x : Kernel). c.lock_by_answer.new.p ≡ after (locks (by c.args.t c.args.call.now) c.args.k c.args.due) x) same c.lock_by_answer.ensures.state
+    subst (λ (x : Kernel). c.lock_any.new.p ≡ after (locks (by c.args.t c.args.call.now) c.args.k c.args.due) x) same c.lock_any.ensures.state
 
 pub returns-else-take_at_once-clause-told : goal.returns-else-take_at_once-clause-told
 returns-else-take_at_once-clause-told g c =
     let same = untaken c.args.p.now c.args.t c.args.k c.take_at_once.result c.take_at_once.new.self c.take_at_once.ensures.state c.if-take_at_once.false in
-    subst (λ (x : Kernel). Tells g.K.Sink.text g.K.Sink.faults x.names c.args.out.now c.lock_by_answer.new.out (told (locks (by c.args.t c.args.call.now) c.args.k c.args.due) x)) same
-    c.lock_by_answer.ensures.told
+    subst (λ (x : Kernel). Tells g.K.Sink.text g.K.Sink.faults x.names c.args.out.now c.lock_any.new.out (told (locks (by c.args.t c.args.call.now) c.args.k c.args.due) x)) same
+    c.lock_any.ensures.told

@@ -1,6 +1,6 @@
 use Rattle.std.proofs.Common.{arith, refl}
 use Rattle.pse52_trace.proofs.Placed.{time_shares}
-use Rattle.pse52_trace.proofs.line.place_time.Goals as goal
+use Rattle.pse52_trace.proofs.head.place_time.Goals as goal
 
 pub returns-then-not-place_near-clause-stands : goal.returns-then-not-place_near-clause-stands
 returns-then-not-place_near-clause-stands c some =

@@ -2,7 +2,7 @@ use Rattle.std.proofs.Common.{◌≡◌, ◌≤◌, ◌+◌, ◌-◌, ◌%◌, �
 use Rattle.itoa.proofs.Decimal.{pair}
 use Rattle.rt_io.specs.Placed.{Placed}
 use Rattle.pse52_trace.proofs.Placed.{digits_stay, time_by_pair}
-use Rattle.pse52_trace.proofs.line.place_near.Goals as goal
+use Rattle.pse52_trace.proofs.head.place_near.Goals as goal
 
 pub returns-clause-digits : goal.returns-clause-digits
 returns-clause-digits c _ start shared =

@@ -1,6 +1,6 @@
 use Rattle.std.proofs.Common.{arith}
 use Rattle.std.proofs.lemmas.Fmt.{decimal_digit}
-use Rattle.pse52_trace.proofs.line.place_common.Goals as goal
+use Rattle.pse52_trace.proofs.words.place_common.Goals as goal
 
 pub returns-in-Zero-clause-placed : goal.returns-in-Zero-clause-placed
 returns-in-Zero-clause-placed c =
