@@ -1,9 +1,9 @@
 -- A wheel that goes on: where each item stands before and after.
-use Rattle.std.proofs.Common.{◌≡◌, ◌≢◌, ◌⊎◌, inl, inr, ⊎_elim, ℕ, zero, suc, ◌+◌, ◌*◌, ◌^◌, ◌/◌, ◌%◌, ◌<◌, ◌≤◌, true, Option, Some, None, List, [], ◌∷◌, length, sym, ap, subst, ◌∙◌, arith}
-use borrow.Author.Tests.{clash}
+use Rattle.std.proofs.Common.{◌≡◌, ◌≢◌, ◌⊎◌, inl, inr, ⊎_elim, ℕ, zero, suc, ◌+◌, ◌*◌, ◌^◌, ◌/◌, ◌%◌, ◌<◌, ◌≤◌, true, Option, Some, None, List, [], ◌∷◌, length, sym, ap, subst, subst₂, if◌then◌else◌, ◌∙◌, arith}
+use borrow.Author.Tests.{clash, eq-eqb, apart_eqb}
 use Rattle.raw_links.specs.Links.{list_at, stands_in, stands_at}
-use Rattle.timer_wheel.specs.Places.{place, list_of}
-use Rattle.timer_wheel.proofs.Order.{in_order, keeps_place, has_passed, level_inside, slot_inside, lt_or, near, far, later, less_digits, place_from_list, list_order}
+use Rattle.timer_wheel.specs.Places.{place, list_of, IsBefore}
+use Rattle.timer_wheel.proofs.Order.{in_order, keeps_place, no_self, level_inside, slot_inside, lt_or, near, far, later, less_digits, place_from_list, list_order}
 use Rattle.timer_wheel.specs.Bits.{is_set}
 use Rattle.timer_wheel.specs.Dues.{due_of}
 use Rattle.timer_wheel.specs.Slots.{list_for, AreFiled, AreSmall}
@@ -22,64 +22,138 @@ armed_inside [] i d e = absurd (none_some e)
 armed_inside (o ∷ dues) zero d e = omega arith
 armed_inside (o ∷ dues) (suc i) d e = let l : i < length dues = armed_inside dues i d e in omega (arith, l)
 
-pub list_small : (base d : ℕ) → base < d → d ≤ 2 * 10 ^ 18 → list_for base d < 4096
-list_small base d l small =
-    let level = level_inside 8 base d l (omega (arith, small)) in let slot = slot_inside 8 base d in omega (arith, level, slot)
+pub near_list : (base d : ℕ) → d / 2048 ≡ base / 2048 → list_for base d ≡ d % 2048
+near_list base d e = ap (λ b. if b then d % 2048 else 2048 + list_of (place 7 (base / 2048) (d / 2048))) (eq-eqb (d / 2048) (base / 2048) e)
 
-pub near_list : (base d : ℕ) → d / 512 ≡ base / 512 → list_for base d ≡ d % 512
-near_list base d same = let e : list_for base d ≡ 512 * 0 + d % 512 = ap list_of (near 7 base d same) in omega (arith, e)
+far_list : (base d : ℕ) → d / 2048 ≢ base / 2048 → list_for base d ≡ 2048 + list_of (place 7 (base / 2048) (d / 2048))
+far_list base d e = ap (λ b. if b then d % 2048 else 2048 + list_of (place 7 (base / 2048) (d / 2048))) (apart_eqb (d / 2048) (base / 2048) e)
+
+later_block : (base d : ℕ) → base < d → d / 2048 ≢ base / 2048 → base / 2048 < d / 2048
+later_block base d l apart = ⊎_elim (λ h. h) (λ h. absurd (apart (omega (arith, h, l)))) (lt_or (base / 2048) (d / 2048))
+
+pub list_small : (base d : ℕ) → base < d → d ≤ 2 * 10 ^ 18 → list_for base d < 3840
+list_small base d l small = ⊎_elim
+    (λ same. let e = near_list base d same in omega (arith, e))
+    (λ apart.
+    let e : list_for base d ≡ 2048 + (256 * (place 7 (base / 2048) (d / 2048)).0 + (place 7 (base / 2048) (d / 2048)).1) = far_list base d apart in
+    let level = level_inside 7 (base / 2048) (d / 2048) (later_block base d l apart) (omega (arith, small)) in
+    let slot = slot_inside 7 (base / 2048) (d / 2048) in omega (arith, e, level, slot))
+    (equal (d / 2048) (base / 2048))
 
 -- a list of the lowest level is for one tick
-pub near_tick : (base d list : ℕ) → list < 512 → list ≡ list_for base d → d ≡ base / 512 * 512 + list
+pub near_tick : (base d list : ℕ) → list < 2048 → list ≡ list_for base d → d ≡ base / 2048 * 2048 + list
 near_tick base d list low is = ⊎_elim
-    (λ same. let e : list ≡ 512 * 0 + d % 512 = is ∙ ap list_of (near 7 base d same) in omega (arith, e, same))
-    (λ apart. let p = place 7 (base / 512) (d / 512) in let e : list ≡ 512 * suc (p.0) + p.1 = is ∙ ap list_of (far 7 base d apart) in absurd (omega (arith, e, low)))
-    (equal (d / 512) (base / 512))
+    (λ same. let e : list ≡ d % 2048 = is ∙ near_list base d same in omega (arith, e, same))
+    (λ apart. let e : list ≡ 2048 + list_of (place 7 (base / 2048) (d / 2048)) = is ∙ far_list base d apart in absurd (omega (arith, e, low)))
+    (equal (d / 2048) (base / 2048))
 
--- of two ticks of one slot the later is at a lower level once the wheel stands at the first
-deeper_level : (levels now to d : ℕ) → now < to → to < d → (place levels now d).0 ≡ (place levels now to).0 → (place levels now d).1 ≡ (place levels now to).1 → d < 512 ^ levels
+-- of two numbers of one slot the later is at a lower level seen from the first
+deeper_level : (levels now to d : ℕ) → now < to → to < d → (place levels now d).0 ≡ (place levels now to).0 → (place levels now d).1 ≡ (place levels now to).1 → d < 256 ^ levels
     → (place levels to d).0 < (place levels now to).0
 deeper_level zero now to d lt ld same slot small = let s : d < 1 = small in absurd (omega (arith, s, ld))
 deeper_level (suc levels) now to d lt ld same slot small =
     ⊎_elim
     (λ tn. let at = near levels now to tn in ⊎_elim
     (λ dn. let there = near levels now d dn in
-    absurd (let e : d % 512 ≡ to % 512 = sym (ap (λ (p : ℕ × ℕ). p.1) there) ∙ slot ∙ ap (λ (p : ℕ × ℕ). p.1) at in omega (arith, e, dn, tn, ld)))
+    absurd (let e : d % 256 ≡ to % 256 = sym (ap (λ (p : ℕ × ℕ). p.1) there) ∙ slot ∙ ap (λ (p : ℕ × ℕ). p.1) at in omega (arith, e, dn, tn, ld)))
     (λ dn. let there = far levels now d dn in
-    absurd (let e : suc (place levels (now / 512) (d / 512)).0 ≡ 0 = sym (ap (λ (p : ℕ × ℕ). p.0) there) ∙ same ∙ ap (λ (p : ℕ × ℕ). p.0) at in omega (arith, e)))
-    (equal (d / 512) (now / 512)))
+    absurd (let e : suc (place levels (now / 256) (d / 256)).0 ≡ 0 = sym (ap (λ (p : ℕ × ℕ). p.0) there) ∙ same ∙ ap (λ (p : ℕ × ℕ). p.0) at in omega (arith, e)))
+    (equal (d / 256) (now / 256)))
     (λ tn. let at = far levels now to tn in ⊎_elim
     (λ dn. let there = near levels now d dn in
-    absurd (let e : 0 ≡ suc (place levels (now / 512) (to / 512)).0 = sym (ap (λ (p : ℕ × ℕ). p.0) there) ∙ same ∙ ap (λ (p : ℕ × ℕ). p.0) at in omega (arith, e)))
+    absurd (let e : 0 ≡ suc (place levels (now / 256) (to / 256)).0 = sym (ap (λ (p : ℕ × ℕ). p.0) there) ∙ same ∙ ap (λ (p : ℕ × ℕ). p.0) at in omega (arith, e)))
     (λ dn. let there = far levels now d dn in ⊎_elim
     (λ dt. let e : (place (suc levels) to d).0 ≡ 0 = ap (λ (p : ℕ × ℕ). p.0) (near levels to d dt) in
-    let f : (place (suc levels) now to).0 ≡ suc (place levels (now / 512) (to / 512)).0 = ap (λ (p : ℕ × ℕ). p.0) at in omega (arith, e, f))
+    let f : (place (suc levels) now to).0 ≡ suc (place levels (now / 256) (to / 256)).0 = ap (λ (p : ℕ × ℕ). p.0) at in omega (arith, e, f))
     (λ dt.
-    let e : suc (place levels (now / 512) (d / 512)).0 ≡ suc (place levels (now / 512) (to / 512)).0 = sym (ap (λ (p : ℕ × ℕ). p.0) there) ∙ same ∙ ap (λ (p : ℕ × ℕ). p.0) at in
+    let e : suc (place levels (now / 256) (d / 256)).0 ≡ suc (place levels (now / 256) (to / 256)).0 = sym (ap (λ (p : ℕ × ℕ). p.0) there) ∙ same ∙ ap (λ (p : ℕ × ℕ). p.0) at in
     let f = sym (ap (λ (p : ℕ × ℕ). p.1) there) ∙ slot ∙ ap (λ (p : ℕ × ℕ). p.1) at in
-    let under = deeper_level levels (now / 512) (to / 512) (d / 512) (later now to lt tn) (later to d ld dt) (omega (arith, e)) f (less_digits levels d small) in
-    let g : (place (suc levels) to d).0 ≡ suc (place levels (to / 512) (d / 512)).0 = ap (λ (p : ℕ × ℕ). p.0) (far levels to d dt) in
-    let h : (place (suc levels) now to).0 ≡ suc (place levels (now / 512) (to / 512)).0 = ap (λ (p : ℕ × ℕ). p.0) at in omega (arith, under, g, h))
-    (equal (d / 512) (to / 512)))
-    (equal (d / 512) (now / 512)))
-    (equal (to / 512) (now / 512))
+    let under = deeper_level levels (now / 256) (to / 256) (d / 256) (later now to lt tn) (later to d ld dt) (omega (arith, e)) f (less_digits levels d small) in
+    let g : (place (suc levels) to d).0 ≡ suc (place levels (to / 256) (d / 256)).0 = ap (λ (p : ℕ × ℕ). p.0) (far levels to d dt) in
+    let h : (place (suc levels) now to).0 ≡ suc (place levels (now / 256) (to / 256)).0 = ap (λ (p : ℕ × ℕ). p.0) at in omega (arith, under, g, h))
+    (equal (d / 256) (to / 256)))
+    (equal (d / 256) (now / 256)))
+    (equal (to / 256) (now / 256))
+
+-- of two lists beyond the lowest level the places are in the same order
+module _ (base a b : ℕ) (an : a / 2048 ≢ base / 2048) (bn : b / 2048 ≢ base / 2048) where
+  far_before : list_for base a < list_for base b → IsBefore (place 7 (base / 2048) (a / 2048)) (place 7 (base / 2048) (b / 2048))
+  far_before l =
+      let p = place 7 (base / 2048) (a / 2048) in let q = place 7 (base / 2048) (b / 2048) in
+      let m : 2048 + list_of p < 2048 + list_of q = subst₂ (λ x y. x < y) (far_list base a an) (far_list base b bn) l in
+      list_order p q (slot_inside 7 (base / 2048) (a / 2048)) (slot_inside 7 (base / 2048) (b / 2048)) (omega (arith, m))
+
+  far_same : list_for base a ≡ list_for base b → ((place 7 (base / 2048) (a / 2048)).0 ≡ (place 7 (base / 2048) (b / 2048)).0) × ((place 7 (base / 2048) (a / 2048)).1 ≡ (place 7 (base / 2048) (b / 2048)).1)
+  far_same e =
+      let p = place 7 (base / 2048) (a / 2048) in let q = place 7 (base / 2048) (b / 2048) in
+      let m : 2048 + list_of p ≡ 2048 + list_of q = sym (far_list base a an) ∙ e ∙ far_list base b bn in
+      place_from_list p q (slot_inside 7 (base / 2048) (a / 2048)) (slot_inside 7 (base / 2048) (b / 2048)) (omega (arith, m))
+
+-- no list beyond the lowest level is one of it
+near_far : (base a b : ℕ) → a / 2048 ≡ base / 2048 → b / 2048 ≢ base / 2048 → list_for base a < list_for base b
+near_far base a b an bn = let e = near_list base a an in let f : list_for base b ≡ 2048 + list_of (place 7 (base / 2048) (b / 2048)) = far_list base b bn in omega (arith, e, f)
+
+-- of two later ticks the one with the earlier list is the earlier
+by_list : (base a b : ℕ) → base < a → base < b → list_for base a < list_for base b → a < b
+by_list base a b la lb l = ⊎_elim
+    (λ an. ⊎_elim
+    (λ bn. let e = near_list base a an in let f = near_list base b bn in omega (arith, an, bn, e, f, l))
+    (λ bn. let m = later_block base b lb bn in omega (arith, m, an))
+    (equal (b / 2048) (base / 2048)))
+    (λ an. ⊎_elim
+    (λ bn. absurd (let m = near_far base b a bn an in omega (arith, m, l)))
+    (λ bn. let m = in_order 7 (base / 2048) (a / 2048) (b / 2048) (later_block base a la an) (later_block base b lb bn) (far_before base a b an bn l) in omega (arith, m))
+    (equal (b / 2048) (base / 2048)))
+    (equal (a / 2048) (base / 2048))
+
+-- of two ticks of one list beyond the lowest level the later has a lower list once the wheel stands at the first
+lower : (base to d : ℕ) → base < to → to / 2048 ≢ base / 2048 → d / 2048 ≢ base / 2048 → list_for base d ≡ list_for base to → to < d → d ≤ 2 * 10 ^ 18 → list_for to d ≢ list_for base to
+lower base to d lt tn dn same l small other =
+    let f : list_for base to ≡ 2048 + list_of (place 7 (base / 2048) (to / 2048)) = far_list base to tn in ⊎_elim
+    (λ dt. let e = near_list to d dt in omega (arith, e, f, other))
+    (λ dt.
+    let p = far_same base d to dn tn same in
+    let under = deeper_level 7 (base / 2048) (to / 2048) (d / 2048) (later_block base to lt tn) (later_block to d l dt) p.0 p.1 (omega (arith, small)) in
+    let e : list_for to d ≡ 2048 + list_of (place 7 (to / 2048) (d / 2048)) = far_list to d dt in
+    let m : 2048 + list_of (place 7 (to / 2048) (d / 2048)) ≡ 2048 + list_of (place 7 (base / 2048) (to / 2048)) = sym e ∙ other ∙ f in
+    let q = place_from_list (place 7 (to / 2048) (d / 2048)) (place 7 (base / 2048) (to / 2048)) (slot_inside 7 (to / 2048) (d / 2048)) (slot_inside 7 (base / 2048) (to / 2048)) (omega (arith, m)) in
+    omega (arith, under, q.0))
+    (equal (d / 2048) (to / 2048))
 
 -- lists below, at and above the one of `to`
 module _ (base to d : ℕ) (lt : base < to) (ld : base < d) where
   pub has_gone : list_for base d < list_for base to → d < to
-  has_gone l = has_passed 8 base to d lt ld (list_order (place 8 base d) (place 8 base to) (slot_inside 8 base d) (slot_inside 8 base to) l)
+  has_gone l = by_list base d to ld lt l
 
   pub comes_later : list_for base to < list_for base d → to < d
-  comes_later l = in_order 8 base to d lt ld (list_order (place 8 base to) (place 8 base d) (slot_inside 8 base to) (slot_inside 8 base d) l)
+  comes_later l = by_list base to d lt ld l
 
   pub keeps_list : list_for base to < list_for base d → list_for base d ≡ list_for to d
-  keeps_list l = sym (ap list_of (keeps_place 8 base to d (list_order (place 8 base to) (place 8 base d) (slot_inside 8 base to) (slot_inside 8 base d) l)))
+  keeps_list l = ⊎_elim
+      (λ tn. ⊎_elim
+      (λ dn. near_list base d dn ∙ sym (near_list to d (dn ∙ sym tn)))
+      (λ dn. far_list base d dn ∙ ap (λ n. 2048 + list_of (place 7 n (d / 2048))) (sym tn) ∙ sym (far_list to d (λ e. dn (e ∙ tn))))
+      (equal (d / 2048) (base / 2048)))
+      (λ tn. ⊎_elim
+      (λ dn. absurd (let m = near_far base d to dn tn in omega (arith, m, l)))
+      (λ dn. let before = far_before base to d tn dn l in
+      far_list base d dn
+      ∙ sym (ap (λ p. 2048 + list_of p) (keeps_place 7 (base / 2048) (to / 2048) (d / 2048) before))
+      ∙ sym (far_list to d (λ e. no_self (place 7 (base / 2048) (to / 2048)) (subst (λ x. IsBefore (place 7 (base / 2048) (to / 2048)) (place 7 (base / 2048) x)) e before))))
+      (equal (d / 2048) (base / 2048)))
+      (equal (to / 2048) (base / 2048))
 
   pub goes_elsewhere : list_for base d ≡ list_for base to → to < d → d ≤ 2 * 10 ^ 18 → list_for to d ≢ list_for base to
-  goes_elsewhere same l small other =
-      let p = place_from_list (place 8 base d) (place 8 base to) (slot_inside 8 base d) (slot_inside 8 base to) same in
-      let q = place_from_list (place 8 to d) (place 8 base to) (slot_inside 8 to d) (slot_inside 8 base to) other in
-      let under = deeper_level 8 base to d lt l p.0 p.1 (omega (arith, small)) in omega (arith, under, q.0)
+  goes_elsewhere same l small other = ⊎_elim
+      (λ tn. ⊎_elim
+      (λ dn. let e = near_list base to tn in let f = near_list base d dn in omega (arith, e, f, same, tn, dn, l))
+      (λ dn. let m = near_far base to d tn dn in omega (arith, m, same))
+      (equal (d / 2048) (base / 2048)))
+      (λ tn. ⊎_elim
+      (λ dn. let m = near_far base d to dn tn in omega (arith, m, same))
+      (λ dn. lower base to d lt tn dn same l small other)
+      (equal (d / 2048) (base / 2048)))
+      (equal (to / 2048) (base / 2048))
 
 pub sides : (k t : ℕ) → (k < t) ⊎ ((k ≡ t) ⊎ (t < k))
 sides k t = ⊎_elim (λ l. inl l) (λ l. ⊎_elim (λ e. inr (inl e)) (λ ne. inr (inr (omega (arith, l, ne)))) (equal k t)) (lt_or k t)

@@ -1,13 +1,13 @@
 -- Items that are armed and disarmed, and what the slots tell of due ticks.
-use Rattle.std.proofs.Common.{if◌then◌else◌, ltb-true, ltb-false, ◌≡◌, ◌≢◌, ◌⊎◌, inl, inr, ⊎_elim, ℕ, zero, suc, ◌+◌, ◌*◌, ◌/◌, ◌^◌, ◌-◌, ◌<◌, ◌≤◌, Bool, true, false, nat_lt, replicate, Option, Some, None, MatchOption, is_some, List, [], ◌∷◌, length, get_or, set, refl, sym, ap, subst, ◌∙◌, arith}
+use Rattle.std.proofs.Common.{ltb-false, ◌≡◌, ◌≢◌, inl, inr, ⊎_elim, ℕ, zero, suc, ◌+◌, ◌*◌, ◌/◌, ◌^◌, ◌-◌, ◌<◌, ◌≤◌, true, false, nat_lt, replicate, Option, Some, None, MatchOption, List, [], ◌∷◌, length, get_or, set, refl, sym, ap, subst, ◌∙◌, arith}
 use borrow.Author.Tests.{clash}
 use Rattle.std.proofs.lemmas.List.{get_or_default, get_or-set_same, get_or-set_other}
 use Rattle.std.proofs.lemmas.Bool.Decides.{nat_tests}
 use Rattle.raw_links.specs.Links.{Lists, list_at, stands_in, on_a_list, stands_at}
 use Rattle.timer_wheel.proofs.Order.{lt_or}
 use Rattle.timer_wheel.specs.Bits.{is_set, ChangesBit, IsLowestSet, NoneIsSet}
-use Rattle.timer_wheel.specs.Dues.{due_of, NoneIsArmed, IsLeastDue, NoneIsDue, IsFirstDue, earlier}
-use Rattle.timer_wheel.specs.Slots.{list_for, AreMarked, AreFiled, AreSmall, IsEarly, IsLeastLater, IsLeastOf, IsLone, IsLoneOf, IsOnly}
+use Rattle.timer_wheel.specs.Dues.{due_of, NoneIsDue, IsFirstDue}
+use Rattle.timer_wheel.specs.Slots.{list_for, AreMarked, AreFiled, AreSmall, IsLeastLater, IsLeastOf, IsLone, IsLoneOf, IsOnly}
 use Rattle.timer_wheel.specs.Moves.{IsFiled, IsTaken, with_last, AreEmptyBelow, AreToRefile, AreRefiling}
 use Rattle.timer_wheel.specs.Held.{AreHeld}
 use Rattle.raw_links.proofs.Chains.{decide, equal}
@@ -23,13 +23,16 @@ set_same i v dues l = get_or-set_same dues i v None l
 pub set_other : (i j : ℕ) (v : Option ℕ) (dues : List (Option ℕ)) → j ≢ i → due_of j (set dues i v) ≡ due_of j dues
 set_other i j v dues other = get_or-set_other dues i j v None other
 
+pub read_at : (dues : List (Option ℕ)) (at : ℕ) (v : Option ℕ) → v ≡ get_or dues at v → at < length dues → v ≡ due_of at dues
+read_at dues at v e l = e ∙ get_or_default dues at v None l
+
 pub same_due : (dues : List (Option ℕ)) (i d e : ℕ) → due_of i dues ≡ Some d → due_of i dues ≡ Some e → d ≡ e
 same_due dues i d e h g = let s : Some d ≡ Some e = sym h ∙ g in cc
 
 pub none_armed : (dues : List (Option ℕ)) (i d : ℕ) → due_of i dues ≡ None → due_of i dues ≡ Some d → ⊥
 none_armed dues i d h g = none_some (sym h ∙ g)
 
-apart_from : (dues : List (Option ℕ)) (id i e : ℕ) → due_of id dues ≡ None → due_of i dues ≡ Some e → i ≢ id
+pub apart_from : (dues : List (Option ℕ)) (id i e : ℕ) → due_of id dues ≡ None → due_of i dues ≡ Some e → i ≢ id
 apart_from dues id i e none due same = none_armed dues id e none (subst (λ m. due_of m dues ≡ Some e) same due)
 
 module _ (base id d : ℕ) (dues : List (Option ℕ)) (lists new : List (List ℕ)) (passed q : List ℕ) (filed : AreFiled base dues lists passed) (none : due_of id dues ≡ None) (inside : id < length dues) where
@@ -119,14 +122,6 @@ still_small dues id v small here l i d h = ⊎_elim
     (λ other. small i d (sym (set_other id i v dues other) ∙ h))
     (equal i id)
 
--- nothing that is due then or later comes before
-pub early_armed : (dues : List (Option ℕ)) (id d early less : ℕ) → IsEarly dues early → less ≤ early → less ≤ d → id < length dues → IsEarly (set dues id (Some d)) less
-early_armed dues id d early less before le here l i e h = ⊎_elim
-    (λ same. let q : Some d ≡ Some e = sym (set_same id (Some d) dues l) ∙ subst (λ m. due_of m (set dues id (Some d)) ≡ Some e) same h in
-    let de : d ≡ e = cc in omega (arith, de, here))
-    (λ other. let under = before i e (sym (set_other id i (Some d) dues other) ∙ h) in omega (arith, under, le))
-    (equal i id)
-
 pub set_twice : (i : ℕ) (v w : Option ℕ) (dues : List (Option ℕ)) → set (set dues i v) i w ≡ set dues i w
 set_twice i v w [] = refl
 set_twice zero v w (x ∷ dues) = refl
@@ -152,32 +147,23 @@ length_lists : (n : ℕ) → length {A = List ℕ} (replicate n []) ≡ n
 length_lists zero = refl
 length_lists (suc n) = ap suc (length_lists n)
 
-pub opened : (ids : ℕ) (dues : List (Option ℕ)) (links : Lists) (occupied passed : List ℕ) → ids ≤ 1024 → dues ≡ replicate ids None → (links.nodes ≡ 1024) × (links.lists ≡ replicate 4096 [])
-    → (length occupied ≡ 64) × NoneIsSet occupied → (length passed ≡ 16) × NoneIsSet passed → AreHeld 0 dues links occupied passed
+pub opened : (ids : ℕ) (dues : List (Option ℕ)) (links : Lists) (occupied passed : List ℕ) → ids ≤ 1024 → dues ≡ replicate ids None → (links.nodes ≡ 1024) × (links.lists ≡ replicate 3840 [])
+    → (length occupied ≡ 60) × NoneIsSet occupied → (length passed ≡ 16) × NoneIsSet passed → AreHeld 0 dues links occupied passed
 opened ids dues links occupied passed few e l o p = record {
-  sized = record { nodes = l.0; lists = ap length l.1 ∙ length_lists 4096; words = o.0 };
+  sized = record { nodes = l.0; lists = ap length l.1 ∙ length_lists 3840; words = o.0 };
   set = p.0;
   few = (let n : length dues ≡ ids = ap length e ∙ length_none ids in omega (arith, n, few));
-  marked = λ k. o.1 k ∙ ap (λ (xs : List ℕ). nat_lt 0 (length xs)) (sym (ap (λ (ls : List (List ℕ)). list_at ls k) l.1 ∙ list_none 4096 k));
+  marked = λ k. o.1 k ∙ ap (λ (xs : List ℕ). nat_lt 0 (length xs)) (sym (ap (λ (ls : List (List ℕ)). list_at ls k) l.1 ∙ list_none 3840 k));
   filed = record {
     later = λ i d due lt. absurd (never i d due);
     gone = λ i d due le. absurd (never i d due);
-    only_later = λ i k h. absurd (let s : stands_in i [] ≡ true = subst (λ xs. stands_in i xs ≡ true) (ap (λ (ls : List (List ℕ)). list_at ls k) l.1 ∙ list_none 4096 k) h in clash s);
+    only_later = λ i k h. absurd (let s : stands_in i [] ≡ true = subst (λ xs. stands_in i xs ≡ true) (ap (λ (ls : List (List ℕ)). list_at ls k) l.1 ∙ list_none 3840 k) h in clash s);
     only_gone = λ i h. absurd (clash (sym (p.1 i) ∙ h));
   };
   small = λ i d due. absurd (never i d due);
 } where
   never : (i d : ℕ) → due_of i dues ≡ Some d → ⊥
   never i d due = none_armed (replicate ids None) i d (due_none ids i) (subst (λ ds. due_of i ds ≡ Some d) e due)
-
-pub none_later : (ids base : ℕ) → IsLeastLater base (replicate ids None) (2 ^ 64 - 1)
-none_later ids base = record {
-  least = λ i d due l. absurd (none_armed (replicate ids None) i d (due_none ids i) due);
-  holds = inl refl;
-}
-
-pub none_small : (ids : ℕ) → AreSmall (replicate ids None)
-none_small ids i d due = absurd (none_armed (replicate ids None) i d (due_none ids i) due)
 
 -- ---- what the slots tell
 
@@ -224,7 +210,7 @@ least_at_lowest base dues lists occupied passed list tick filed marked small low
     }
 
 pub least_at_tick : (base : ℕ) (dues : List (Option ℕ)) (lists : List (List ℕ)) (occupied passed : List ℕ) (list : ℕ) → AreFiled base dues lists passed → AreMarked lists occupied
-    → IsLowestSet occupied list → list < 512 → IsLeastOf dues (list_at lists list) (base / 512 * 512 + list)
+    → IsLowestSet occupied list → list < 2048 → IsLeastOf dues (list_at lists list) (base / 2048 * 2048 + list)
 least_at_tick base dues lists occupied passed list filed marked low near =
     let x = has_head (list_at lists list) (sym (marked list) ∙ low.itself) in
     let o = filed.only_later x.0 list x.1 in
@@ -243,8 +229,8 @@ lone_at base list tick n dues lists passed filed of l =
     let after : base < tick = omega (arith, o.2, same) in
     (k.1, λ i due. k.2 i (subst (λ m. stands_at i m lists ≡ true) (sym at) (filed.later i tick due after)) due)
 
-pub lone_at_tick : (base list n : ℕ) (dues : List (Option ℕ)) (lists : List (List ℕ)) (passed : List ℕ) → AreFiled base dues lists passed → list < 512 → IsOnly (list_at lists list) n
-    → IsLoneOf dues (list_at lists list) (base / 512 * 512 + list) n
+pub lone_at_tick : (base list n : ℕ) (dues : List (Option ℕ)) (lists : List (List ℕ)) (passed : List ℕ) → AreFiled base dues lists passed → list < 2048 → IsOnly (list_at lists list) n
+    → IsLoneOf dues (list_at lists list) (base / 2048 * 2048 + list) n
 lone_at_tick base list n dues lists passed filed near only l =
     let k = only l in let o = filed.only_later n list k.0 in (k.0, o.1 ∙ ap Some (near_tick base o.0 list near o.3), λ i h due. k.1 i h)
 
@@ -318,113 +304,3 @@ module _ (base id to : ℕ) (dues : List (Option ℕ)) (lists mid new : List (Li
   pub next_left : (list : ℕ) → list ≡ list_for base to → AreRefiling list to (set dues id None) mid new passed q → list_at new list ≡ [] → AreFiled to (set dues id None) new q
   next_left list at done all = advanced base to (set dues id None) mid new passed q next_after next_small next_filed next_empty
       (subst (λ m. AreRefiling m to (set dues id None) mid new passed q) at done) (subst (λ m. list_at new m ≡ []) at all)
-
--- ---- the least later due tick after a change
-
-pub lower_armed : (base id d least : ℕ) (dues : List (Option ℕ)) → IsLeastLater base dues least → base < d → d ≤ least → id < length dues → IsLeastLater base (set dues id (Some d)) d
-lower_armed base id d least dues is lt less inside = record {
-  least = λ i e due l. ⊎_elim
-      (λ same. let s : Some d ≡ Some e = sym (set_same id (Some d) dues inside) ∙ subst (λ m. due_of m (set dues id (Some d)) ≡ Some e) same due in
-      let de : d ≡ e = cc in omega (arith, de))
-      (λ other. let h = is.least i e (sym (set_other id i (Some d) dues other) ∙ due) l in omega (arith, h, less))
-      (equal i id);
-  holds = inr (id, set_same id (Some d) dues inside, lt);
-}
-
-pub same_armed : (base id d least : ℕ) (dues : List (Option ℕ)) → IsLeastLater base dues least → (base < d → least ≤ d) → due_of id dues ≡ None → id < length dues → IsLeastLater base (set dues id (Some d)) least
-same_armed base id d least dues is above none inside = record {
-  least = λ i e due l. ⊎_elim
-      (λ same. let s : Some d ≡ Some e = sym (set_same id (Some d) dues inside) ∙ subst (λ m. due_of m (set dues id (Some d)) ≡ Some e) same due in
-      let de : d ≡ e = cc in (let a = above (omega (arith, de, l)) in omega (arith, de, a)))
-      (λ other. is.least i e (sym (set_other id i (Some d) dues other) ∙ due) l)
-      (equal i id);
-  holds = ⊎_elim (λ n. inl n) (λ h. inr (h.0, set_other id h.0 (Some d) dues (apart_from dues id h.0 least none h.1) ∙ h.1, h.2)) is.holds;
-}
-
-pub same_disarmed : (base id least : ℕ) (dues : List (Option ℕ)) → IsLeastLater base dues least → (due_of id dues ≡ Some least → base < least → ⊥) → id < length dues → IsLeastLater base (set dues id None) least
-same_disarmed base id least dues is other inside = record {
-  least = λ i e due l. is.least i e (sym (set_other id i None dues (λ same. none_some (sym (set_same id None dues inside) ∙ subst (λ m. due_of m (set dues id None) ≡ Some e) same due))) ∙ due) l;
-  holds = ⊎_elim (λ n. inl n) (λ h. inr (h.0, set_other id h.0 None dues (λ same. other (subst (λ m. due_of m dues ≡ Some least) same h.1) h.2) ∙ h.1, h.2)) is.holds;
-}
-
--- ---- what is due first after a change
-
-pub front_led : (base id d least : ℕ) (dues : List (Option ℕ)) → IsLeastLater base dues least → base < d → d < least → id < length dues → IsLone (set dues id (Some d)) d id
-front_led base id d least dues is lt less inside l = (
-  set_same id (Some d) dues inside,
-  λ i due. ⊎_elim
-      (λ same. same)
-      (λ other. absurd (let h = is.least i d (sym (set_other id i (Some d) dues other) ∙ due) lt in omega (arith, h, less)))
-      (equal i id),
-)
-
-pub early_disarmed : (dues : List (Option ℕ)) (id early : ℕ) → IsEarly dues early → id < length dues → IsEarly (set dues id None) early
-early_disarmed dues id early is inside i d h =
-    is i d (sym (set_other id i None dues (λ same. none_some (sym (set_same id None dues inside) ∙ subst (λ m. due_of m (set dues id None) ≡ Some d) same h))) ∙ h)
-
--- where nothing has passed, nothing is due before the least later due tick
-pub early_later : (base least : ℕ) (dues : List (Option ℕ)) (o : Option ℕ) → IsLeastLater base dues least → MatchOption o (NoneIsDue base dues) (λ i. IsFirstDue base dues i) → is_some o ≡ false
-    → IsEarly dues least
-early_later base least dues None is m h = λ i d due. is.least i d due (m i d due)
-early_later base least dues (Some x) is m h = cc
-
-none_or : (o : Option ℕ) → (o ≡ None) ⊎ ((d : ℕ) × (o ≡ Some d))
-none_or None = inl refl
-none_or (Some d) = inr (d, refl)
-
--- where nothing has passed, the least later due tick is the least
-pub next_later : (base least : ℕ) (dues : List (Option ℕ)) (o : Option ℕ) → IsLeastLater base dues least → AreSmall dues → NoneIsDue base dues
-    → MatchOption o (2 * 10 ^ 18 < least) (λ t. (t ≡ least) × (least ≤ 2 * 10 ^ 18)) → MatchOption o (NoneIsArmed dues) (λ t. IsLeastDue dues t)
-next_later base least dues None is small none m = λ i.
-    ⊎_elim (λ e. e) (λ d. absurd (let l = is.least i d.0 d.1 (none i d.0 d.1) in let s = small i d.0 d.1 in omega (arith, l, s, m))) (none_or (due_of i dues))
-next_later base least dues (Some t) is small none m = record {
-  holds = ⊎_elim (λ never. absurd (omega (arith, never, m.1))) (λ h. (h.0, h.1 ∙ ap Some (sym m.0))) is.holds;
-  least = λ i d due. let l = is.least i d due (none i d due) in omega (arith, l, m.0);
-}
-
--- the first of the passed items is the first that is due now, where the least later due tick is after now
-pub due_now : (base now least : ℕ) (dues : List (Option ℕ)) (o : Option ℕ) → base ≤ now → now < least → IsLeastLater base dues least
-    → MatchOption o (NoneIsDue base dues) (λ i. IsFirstDue base dues i) → MatchOption o (NoneIsDue now dues) (λ i. IsFirstDue now dues i)
-due_now base now least dues None le lt is m = λ i d due. let l = is.least i d due (m i d due) in omega (arith, l, lt)
-due_now base now least dues (Some i) le lt is m = record {
-  inside = m.inside;
-  due = (m.due.0, m.due.1, let l = m.due.2 in omega (arith, l, le));
-  first = λ j d l due. let a = is.least j d due (m.first j d l due) in omega (arith, a, lt);
-}
-
--- ---- the least of all
-
-abbrev pub IsLeastSoFar : List (Option ℕ) → ℕ → Option ℕ → Type 0
-IsLeastSoFar dues at None = (i : ℕ) → i < at → due_of i dues ≡ None
-IsLeastSoFar dues at (Some t) = ((i : ℕ) × (due_of i dues ≡ Some t)) × ((i d : ℕ) → i < at → due_of i dues ≡ Some d → t ≤ d)
-
-before_or : (i at : ℕ) → i < at + 1 → (i < at) ⊎ (i ≡ at)
-before_or i at l = ⊎_elim (λ s. inr s) (λ o. inl (omega (arith, l, o))) (equal i at)
-
-lower_of : (dues : List (Option ℕ)) (at t d : ℕ) (b : Bool) → b ≡ nat_lt d t → due_of at dues ≡ Some d → IsLeastSoFar dues at (Some t) → IsLeastSoFar dues (at + 1) (if b then Some d else Some t)
-lower_of dues at t d true e here so =
-    let l : d < t = ltb-true d t (sym e) in
-    ((at, here), λ i f lt due. ⊎_elim (λ p. let q = so.1 i f p due in omega (arith, q, l)) (λ s. let q = same_due dues at d f here (subst (λ m. due_of m dues ≡ Some f) s due) in omega (arith, q)) (before_or i at lt))
-lower_of dues at t d false e here so =
-    let l : t ≤ d = ltb-false d t (sym e) in
-    (so.0, λ i f lt due. ⊎_elim (λ p. so.1 i f p due) (λ s. let q = same_due dues at d f here (subst (λ m. due_of m dues ≡ Some f) s due) in omega (arith, q, l)) (before_or i at lt))
-
-pub so_far_on : (dues : List (Option ℕ)) (at : ℕ) (o v : Option ℕ) → v ≡ due_of at dues → IsLeastSoFar dues at o → IsLeastSoFar dues (at + 1) (earlier o v)
-so_far_on dues at None None e so = λ i l. ⊎_elim (λ p. so i p) (λ s. subst (λ m. due_of m dues ≡ None) (sym s) (sym e)) (before_or i at l)
-so_far_on dues at None (Some d) e so =
-    ((at, sym e), λ i f lt due. ⊎_elim (λ p. absurd (none_armed dues i f (so i p) due)) (λ s. let q = same_due dues at d f (sym e) (subst (λ m. due_of m dues ≡ Some f) s due) in omega (arith, q)) (before_or i at lt))
-so_far_on dues at (Some t) None e so =
-    (so.0, λ i f lt due. ⊎_elim (λ p. so.1 i f p due) (λ s. absurd (none_armed dues at f (sym e) (subst (λ m. due_of m dues ≡ Some f) s due))) (before_or i at lt))
-so_far_on dues at (Some t) (Some d) e so = lower_of dues at t d (nat_lt d t) refl (sym e) so
-
-none_beyond : (dues : List (Option ℕ)) (i : ℕ) → length dues ≤ i → due_of i dues ≡ None
-none_beyond [] i l = refl
-none_beyond (o ∷ dues) zero l = absurd (omega (arith, l))
-none_beyond (o ∷ dues) (suc i) l = none_beyond dues i (let h : suc (length dues) ≤ suc i = l in omega (arith, h))
-
-pub so_far_all : (dues : List (Option ℕ)) (at : ℕ) (o : Option ℕ) → length dues ≤ at → IsLeastSoFar dues at o → MatchOption o (NoneIsArmed dues) (λ t. IsLeastDue dues t)
-so_far_all dues at None l so = λ i. ⊎_elim (λ p. so i p) (λ p. none_beyond dues i (omega (arith, p, l))) (lt_or i at)
-so_far_all dues at (Some t) l so = record { holds = so.0; least = λ i d due. so.1 i d (let p = armed_inside dues i d due in omega (arith, p, l)) due }
-
-pub read_at : (dues : List (Option ℕ)) (at : ℕ) (v : Option ℕ) → v ≡ get_or dues at v → at < length dues → v ≡ due_of at dues
-read_at dues at v e l = e ∙ get_or_default dues at v None l

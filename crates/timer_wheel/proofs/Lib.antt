@@ -1,6 +1,8 @@
 mod Apart
 mod Filing
+mod Fronts
 mod Holding
+mod Least
 mod Moving
 mod Order
 mod Stands

@@ -1,6 +1,5 @@
 -- Where nodes stand after one was taken out, and which lists are not empty.
-use Rattle.std.proofs.Common.{◌≡◌, ◌≢◌, ⊎_elim, ℕ, ◌<◌, Bool, true, false, nat_lt, is_some, List, [], ◌∷◌, length, slice_get, refl, sym, ap, subst, subst₂, ◌∙◌, arith}
-use borrow.Author.Tests.{clash}
+use Rattle.std.proofs.Common.{◌≡◌, ◌≢◌, ⊎_elim, ℕ, ◌<◌, Bool, true, false, nat_lt, List, [], ◌∷◌, length, refl, sym, ap, subst, subst₂, ◌∙◌, arith}
 use Rattle.std.proofs.lemmas.Grind.{common_steps}
 use Rattle.std.proofs.lemmas.Bool.Decides.{nat_tests}
 use Rattle.raw_links.specs.Links.{list_at, stands_in, stands_at}
@@ -22,10 +21,6 @@ taken_back n i k old new t h =
     (λ other. (sym (taken_stays n i k old new t other) ∙ h, other))
     (equal i n)
 
-pub first_bit : (xs : List ℕ) → is_some (slice_get xs 0) ≡ nat_lt 0 (length xs)
-first_bit [] = refl
-first_bit (x ∷ xs) = grind (arith, nat_tests, common_steps)
-
 pub taken_marks : (n k0 : ℕ) (old new : List (List ℕ)) (words now : List ℕ) (bit : Bool) → IsTaken n old new → stands_at n k0 old ≡ true → AreMarked old words
     → ChangesBit k0 bit words now → bit ≡ nat_lt 0 (length (list_at new k0)) → AreMarked new now
 taken_marks n k0 old new words now bit t h marked changes is k =
@@ -41,11 +36,6 @@ none_in (x ∷ xs) h = absurd (h x (grind (arith, nat_tests)))
 -- the list of a node that stood there alone
 pub lone_taken : (n k : ℕ) (old new : List (List ℕ)) → IsTaken n old new → ((i : ℕ) → stands_at i k old ≡ true → i ≡ n) → list_at new k ≡ []
 lone_taken n k old new t lone = none_in (list_at new k) (λ i h. let b = taken_back n i k old new t h in b.1 (lone i b.0))
-
--- a node that is gone stood in one list
-pub same_list : (n j k : ℕ) (old new : List (List ℕ)) → IsTaken n old new → stands_at n j old ≡ true → stands_at n k old ≡ true → j ≡ k
-same_list n j k old new t h g =
-    ⊎_elim (λ same. sym same) (λ other. absurd (clash (sym (off_at n k new t.gone) ∙ ap (λ (xs : List ℕ). stands_in n xs) (t.others j k h other) ∙ g))) (equal k j)
 
 pub length_taken : (n : ℕ) (old new : List (List ℕ)) → IsTaken n old new → length new ≡ length old
 length_taken n old new t = ap length t.lists ∙ length_without n old

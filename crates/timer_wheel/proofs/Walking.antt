@@ -1,12 +1,12 @@
 -- A walk along one list for the least due tick.
 use Rattle.std.proofs.Common.{◌≡◌, ◌≢◌, ◌⊎◌, inl, inr, ⊎_elim, ℕ, ◌^◌, ◌-◌, ◌<◌, ◌≤◌, true, false, Option, Some, None, is_some, List, [], ◌∷◌, if◌then◌else◌, slice_get, refl, sym, ap, subst, ◌∙◌, arith}
-use borrow.Author.Tests.{clash, eq-eqb}
+use borrow.Author.Tests.{eq-eqb}
 use Rattle.std.proofs.lemmas.Bool.Decides.{nat_tests}
 use Rattle.raw_links.specs.Links.{stands_in, follower, AreDistinct}
 use Rattle.raw_links.specs.Walks.{rest_of}
 use Rattle.raw_links.proofs.Walks.{rest_first, step}
 use Rattle.timer_wheel.specs.Dues.{due_of}
-use Rattle.timer_wheel.specs.Slots.{IsLeastOf, IsLoneOf, IsSooner}
+use Rattle.timer_wheel.specs.Slots.{IsSooner}
 use Rattle.raw_links.proofs.Chains.{equal}
 use Rattle.timer_wheel.proofs.Filing.{none_some}
 use Rattle.timer_wheel.proofs.Holding.{same_due}
@@ -24,19 +24,6 @@ walk_start dues items o is = record {
   holds = inl refl;
   alone = λ l. absurd (omega (arith, l));
 }
-
-none_left : (items : List ℕ) (i : ℕ) (o : Option ℕ) → o ≡ None → stands_in i (rest_of o items) ≡ true → ⊥
-none_left items i o is s = let none : stands_in i [] ≡ true = subst (λ (a : Option ℕ). stands_in i (rest_of a items) ≡ true) is s in clash none
-
-pub walk_end : (dues : List (Option ℕ)) (items : List ℕ) (o : Option ℕ) (tick lone : ℕ) → o ≡ None → IsWalked dues items o tick lone → IsLeastOf dues items tick
-walk_end dues items o tick lone is w = record {
-  least = λ i d h due. ⊎_elim (λ s. absurd (none_left items i o is s)) (λ l. l) (w.seen i d h due);
-  holds = w.holds;
-}
-
-pub walk_end_lone : (dues : List (Option ℕ)) (items : List ℕ) (o : Option ℕ) (tick lone : ℕ) → o ≡ None → IsWalked dues items o tick lone → IsLoneOf dues items tick lone
-walk_end_lone dues items o tick lone is w l =
-    let k = w.alone l in (k.0, k.1, λ i h due. ⊎_elim (λ s. absurd (none_left items i o is s)) (λ e. e) (k.2 i h due))
 
 rest_or : (i n : ℕ) (xs : List ℕ) → i ≢ n → stands_in i (n ∷ xs) ≡ true → stands_in i xs ≡ true
 rest_or i n xs other h = grind (arith, nat_tests)

@@ -5,11 +5,11 @@ use Rattle.timer_wheel.specs.Bits.{is_set, ChangesBit}
 use Rattle.timer_wheel.specs.Dues.{due_of}
 use Rattle.timer_wheel.specs.Slots.{list_for}
 
--- 1,024 nodes, eight times 512 lists, and a bit for each list
+-- 1,024 nodes, 2,048 lists of the lowest level and 256 of each of seven above it, and a bit for each list
 pub record IsSized (links : Lists) (occupied : List ℕ) : Type 0 where
   pub nodes : links.nodes ≡ 1024
-  pub lists : length links.lists ≡ 4096
-  pub words : length occupied ≡ 64
+  pub lists : length links.lists ≡ 3840
+  pub words : length occupied ≡ 60
 
 -- the node alone is gone from its list
 pub record IsTaken (node : ℕ) (old new : List (List ℕ)) : Type 0 where

@@ -1,5 +1,5 @@
 -- Due ticks in the slots of a wheel that stands at a base: which item stands where (this project's own).
-use Rattle.std.specs.Prelude.{◌≡◌, ◌⊎◌, ℕ, ◌-◌, ◌*◌, ◌^◌, ◌<◌, ◌≤◌, true, nat_lt, List, Option, Some, length, MatchOption}
+use Rattle.std.specs.Prelude.{◌≡◌, ◌⊎◌, ◌==◌, if◌then◌else◌, ℕ, ◌+◌, ◌-◌, ◌*◌, ◌/◌, ◌%◌, ◌^◌, ◌<◌, ◌≤◌, true, nat_lt, List, Option, Some, length, MatchOption}
 use Rattle.raw_links.specs.Links.{list_at, stands_in, stands_at}
 use Rattle.timer_wheel.specs.Places.{place, list_of}
 use Rattle.timer_wheel.specs.Bits.{is_set}
@@ -10,9 +10,9 @@ pub record Placed : Type 0 where
   pub dues : List (Option ℕ)
   pub base : ℕ
 
--- the list of a due tick, one of 512 for each of eight levels
+-- the list of a due tick: in the block of the base one of 2,048, each for one tick, else by the place of its block one of 256 for each of seven levels
 abbrev pub list_for : ℕ → ℕ → ℕ
-list_for base due = list_of (place 8 base due)
+list_for base due = if due / 2048 == base / 2048 then due % 2048 else 2048 + list_of (place 7 (base / 2048) (due / 2048))
 
 -- the bits of just the lists that are not empty are set
 abbrev pub AreMarked : List (List ℕ) → List ℕ → Type 0

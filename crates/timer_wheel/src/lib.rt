@@ -1,10 +1,12 @@
-//! The due ticks of up to 1,024 items, in a wheel of eight levels of 512 slots.
+//! The due ticks of up to 1,024 items, in a wheel of eight levels: the lowest has 2,048 slots of one tick each, and each of the seven
+//! above it 256, of 2,048 ticks each and then of 256 times as many as at the level below.
 //!
 //! Contracts see a finite map from item number to due tick, and the last `now` of `pop_due`; `specs/Dues.antt` states what each call
 //! answers. The wheel stands at a tick that is at most that last `now`. An item that is due later stands on the list of its slot, bits
 //! tell which slots are taken, and an item whose tick has passed is a bit of a set, so that the least
 //! number is found at once. The least later due tick is kept, so that `next` searches no slot, a tick before which nothing is due, so
-//! that `first_due` is one comparison where nothing is, and the item that alone is due then, which `first_due` answers. No call after `open` takes memory.
+//! that `first_due` is one comparison where nothing is, and the item that alone is due then, which `first_due` answers. No call after
+//! `open` takes memory.
 #![tactic(auto)]
 
 ghost use Rattle.std.specs.Prelude.{◌≡◌, ◌≢◌, ◌≤◌, ◌<◌, ◌*◌, ◌^◌, ℕ, None, Some, true, false, length, max, replicate, slice_set, IfOk, MatchOption};
@@ -96,30 +98,32 @@ fn front_of(slots: &Slots, next: Next, early: u64) -> Front
     }
 }
 
-/// What is due first, once an item that was not armed falls due at that tick.
+/// What is due first, once an item that was not armed falls due at that tick, which is no later than that of the slots.
 #[inline(always)]
-fn fronted(front: Front, base: u64, id: u32, tick: u64) -> Front
-    ensures { (slots : Placed) → base ≡ slots.base → (id < length slots.dues) × (due_of id slots.dues ≡ None) → IsFront slots front.least front.early front.lone → IsFront (record slots { dues = slice_set slots.dues id (Some tick) }) result.least result.early result.lone }
+fn with_passed(front: Front, tick: u64) -> Front
+    ensures { (slots : Placed) → (id : ℕ) → tick ≤ slots.base → (id < length slots.dues) × (due_of id slots.dues ≡ None) → IsFront slots front.least front.early front.lone → IsFront (record slots { dues = slice_set slots.dues id (Some tick) }) result.least result.early result.lone }
 {
     let early = front.early.min(tick);
-    if tick <= base {
-        return Front {
-            early,
-            lone: NO_ITEM,
-            ..front
-        };
-    }
-    if tick < front.least && tick <= front.early {
-        return Front {
-            least: tick,
-            early,
-            lone: id,
-        };
-    }
     Front {
-        least: front.least.min(tick),
         early,
         lone: NO_ITEM,
+        ..front
+    }
+}
+
+/// What is due first, once an item that was not armed falls due at that tick, which is later than that of the slots.
+#[inline(always)]
+fn with_later(front: Front, id: u32, tick: u64) -> Front
+    requires { tick ≤ 2 * 10 ^ 18 }
+    ensures { (slots : Placed) → slots.base < tick → (id < length slots.dues) × (due_of id slots.dues ≡ None) → IsFront slots front.least front.early front.lone → IsFront (record slots { dues = slice_set slots.dues id (Some tick) }) result.least result.early result.lone }
+{
+    // no item's number where the tick is no later than the least
+    let kept = front.lone | (((tick <= front.least) as u32) << 31);
+    let lone = if tick < front.early { id } else { kept };
+    Front {
+        least: front.least.min(tick),
+        early: front.early.min(tick),
+        lone,
     }
 }
 
@@ -147,21 +151,14 @@ impl Wheel {
         requires { (id.number < length self.old.dues) × (due_of id.number self.old.dues ≡ None) }
         ensures { self.new ≡ record self.old { dues = slice_set self.old.dues id.number (Some due) } }
     {
-        if self.front.least < due.get() {
-            self.slots.arm(id.number, due);
+        let tick = due.get();
+        if tick <= self.slots.base() {
+            self.front = with_passed(self.front, tick);
+            self.slots.arm_far(id.number, due);
         } else {
-            self.arm_first(id, due);
+            self.front = with_later(self.front, id.number, tick);
+            self.slots.arm(id.number, due);
         }
-    }
-
-    // The same where the item may be due first.
-    #[inline(never)]
-    fn arm_first(&mut self, id: ItemId, due: Tick)
-        requires { (id.number < length self.old.dues) × (due_of id.number self.old.dues ≡ None) }
-        ensures { self.new ≡ record self.old { dues = slice_set self.old.dues id.number (Some due) } }
-    {
-        self.front = fronted(self.front, self.slots.base(), id.number, due.get());
-        self.slots.arm(id.number, due);
     }
 
     /// The item is not armed afterwards.

@@ -6,7 +6,7 @@ ghost use Rattle.timer_wheel.specs.Slots.{AreMarked, AreSmall};
 ghost use Rattle.timer_wheel.specs.Moves.{IsSized, IsTaken, IsFiled, IsNoted, IsDue, IsMoved, with_last, AreToRefile, AreRefiling};
 
 use crate::bits::Bits;
-use crate::places::{is_near, place_in};
+use crate::places::list_for;
 use raw_links::Links;
 use tick_num::Tick;
 
@@ -34,7 +34,7 @@ pub(crate) fn take(links: &mut Links, occupied: &mut Bits, node: u32) -> Option<
 /// Takes the only node of a list out of it.
 #[inline(always)]
 pub(crate) fn take_lone(links: &mut Links, occupied: &mut Bits, list: u32, node: u32)
-    requires sized { IsSized links.old occupied.old × (list < 4096) }
+    requires sized { IsSized links.old occupied.old × (list < 3840) }
     requires marked { AreMarked links.old.lists occupied.old }
     requires node { (node < 1024) × (stands_at node list links.old.lists ≡ true) }
     requires lone { (i : ℕ) → stands_at i list links.old.lists ≡ true → i ≡ node }
@@ -51,7 +51,7 @@ pub(crate) fn take_lone(links: &mut Links, occupied: &mut Bits, list: u32, node:
 #[inline(always)]
 pub(crate) fn put(links: &mut Links, occupied: &mut Bits, list: u32, node: u32)
     requires sized { IsSized links.old occupied.old }
-    requires node { (node < 1024) × (list < 4096) × (on_a_list node links.old.lists ≡ false) }
+    requires node { (node < 1024) × (list < 3840) × (on_a_list node links.old.lists ≡ false) }
     ensures sized { IsSized links.new occupied.new }
     ensures bit { ChangesBit list true occupied.old occupied.new }
     ensures put { links.new.lists ≡ with_last list node links.old.lists }
@@ -78,11 +78,8 @@ pub(crate) fn file(
 {
     if due <= base {
         passed.set(node, true);
-    } else if is_near(base, due) {
-        put(links, occupied, (due % 512) as u32, node);
     } else {
-        let (level, slot) = place_in(base, due);
-        put(links, occupied, level * 512 + slot, node);
+        put(links, occupied, list_for(base, due), node);
     }
 }
 
@@ -117,7 +114,7 @@ pub(crate) fn refile(
     target: u32,
     to: u64,
 )
-    requires sized { IsSized links.old occupied.old × (length passed.old ≡ 16) × (target < 4096) }
+    requires sized { IsSized links.old occupied.old × (length passed.old ≡ 16) × (target < 3840) }
     requires marked { AreMarked links.old.lists occupied.old }
     requires nodes { AreToRefile target to dues.now links.old.lists × AreSmall dues.now }
     ensures sized { IsSized links.new occupied.new × (length passed.new ≡ 16) }

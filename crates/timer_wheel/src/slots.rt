@@ -19,7 +19,7 @@ use tick_num::Tick;
 pub struct Slots {
     dues: Vec<Option<Tick>>,
     links: Links,
-    // the lists that are not empty, a word for each level
+    // the lists that are not empty
     occupied: Bits,
     passed: Bits,
     base: u64,
@@ -109,8 +109,8 @@ impl Slots {
         for _ in 0..ids {
             dues.push(None)?;
         }
-        let links = Links::open(alloc, 1024, 4096)?;
-        let occupied = Bits::open(alloc, 64)?;
+        let links = Links::open(alloc, 1024, 3840)?;
+        let occupied = Bits::open(alloc, 60)?;
         let passed = Bits::open(alloc, 16)?;
         Ok(Slots {
             dues,
@@ -143,15 +143,20 @@ impl Slots {
         let tick = due.get();
         if tick > self.base && is_near(self.base, tick) {
             self.dues[id as usize] = Some(due);
-            put(&mut self.links, &mut self.occupied, (tick % 512) as u32, id);
+            put(
+                &mut self.links,
+                &mut self.occupied,
+                (tick % 2048) as u32,
+                id,
+            );
         } else {
             self.arm_far(id, due);
         }
     }
 
-    // The same, wherever the item is to stand.
+    /// The same, wherever the item is to stand.
     #[inline(never)]
-    fn arm_far(&mut self, id: u32, due: Tick)
+    pub(crate) fn arm_far(&mut self, id: u32, due: Tick)
         requires { (id < length self.old.dues) × (due_of id self.old.dues ≡ None) }
         ensures { self.new ≡ record self.old { dues = slice_set self.old.dues id (Some due) } }
     {
@@ -205,13 +210,13 @@ impl Slots {
     pub(crate) fn disarm_lone(&mut self, id: u32, due: u64)
         requires item { (id < length self.old.dues) × (due_of id self.old.dues ≡ Some due) }
         requires next { IsLeastLater self.old.base self.old.dues due }
-        requires near { due / 512 ≡ self.old.base / 512 }
+        requires near { due / 2048 ≡ self.old.base / 2048 }
         requires lone { (i : ℕ) → due_of i self.old.dues ≡ Some due → i ≡ id }
         ensures { self.new ≡ record { dues = slice_set self.old.dues id None; base = due } }
     {
         self.dues[id as usize] = None;
         self.base = due;
-        take_lone(&mut self.links, &mut self.occupied, (due % 512) as u32, id);
+        take_lone(&mut self.links, &mut self.occupied, (due % 2048) as u32, id);
     }
 
     /// The wheel goes on to the least due tick after its own.
@@ -250,7 +255,7 @@ impl Slots {
     /// Whether that tick has a list of the lowest level.
     #[inline(always)]
     pub(crate) fn is_near(&self, tick: u64) -> bool
-        ensures near { result ≡ true → tick / 512 ≡ self.now.base / 512 }
+        ensures near { result ≡ true → tick / 2048 ≡ self.now.base / 2048 }
         ensures few { length self.now.dues ≤ 1024 }
     {
         is_near(self.base, tick)
@@ -264,8 +269,8 @@ impl Slots {
     {
         match self.occupied.lowest() {
             // a list of the lowest level is for one tick
-            Some(list) if list < 512 => Next {
-                tick: self.base / 512 * 512 + list as u64,
+            Some(list) if list < 2048 => Next {
+                tick: self.base / 2048 * 2048 + list as u64,
                 lone: only_in(&self.links, list),
             },
             _ => self.least_far(),

@@ -1,4 +1,4 @@
-use Rattle.timer_wheel.proofs.Holding.{so_far_all}
+use Rattle.timer_wheel.proofs.Least.{so_far_all}
 use Rattle.timer_wheel.proofs.dues.least_of.Goals as goal
 
 pub returns : goal.returns

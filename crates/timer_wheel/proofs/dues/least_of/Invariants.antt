@@ -1,5 +1,5 @@
 use Rattle.std.proofs.Common.{◌-◌, length}
-use Rattle.timer_wheel.proofs.Holding.{IsLeastSoFar}
+use Rattle.timer_wheel.proofs.Least.{IsLeastSoFar}
 use Rattle.timer_wheel.proofs.dues.least_of.Given as goal
 
 abbrev pub invariant-loop-at : goal.invariant-loop-at
