@@ -131,13 +131,12 @@ tail_below h t p ls top lt below =
     follow h ls i (get_or ls i [] ++ t ∷ []) top below
     (λ e. first_stays h t (get_or ls i []) (subst (λ k. slice_get (get_or ls k []) 0 ≡ Some h) (sym e) top.first)) lt
 
-pub put_head : (end at : End) (t p q : ℕ) (ls old new : List (List ℕ)) → end ≡ at → q ≡ p → old ≡ ls → new ≡ set ls (q - 1) (at_end at t (get_or ls (q - 1) [])) →
-    highest (change_list p (at_end end t) old) ≡ highest new
-put_head end at t p q ls old new e prio same is = rw (is, prio, same, e) refl
+pub put_head : (end at : End) (t p : ℕ) (ls new : List (List ℕ)) → end ≡ at → new ≡ set ls (p - 1) (at_end at t (get_or ls (p - 1) [])) → highest (change_list p (at_end end t) ls) ≡ highest new
+put_head end at t p ls new e is = rw (is, e) refl
 
 -- ---- a thread is taken out
 
-first_without : (t : ℕ) (xs : List ℕ) → slice_get xs 0 ≢ Some t → slice_get (without_thread t xs) 0 ≡ slice_get xs 0
+pub first_without : (t : ℕ) (xs : List ℕ) → slice_get xs 0 ≢ Some t → slice_get (without_thread t xs) 0 ≡ slice_get xs 0
 first_without t [] other = refl
 first_without t (x ∷ xs) other = grind (arith, nat_tests, other)
 
@@ -308,7 +307,7 @@ named_other n t other e = grind (arith, nat_tests, e, other)
 pub named_within : (n h : ℕ) → named n ≡ Some h → n ≡ h
 named_within n h e = grind (arith, nat_tests, e)
 
-named_some : (n : ℕ) → named n ≢ None → named n ≡ Some n
+pub named_some : (n : ℕ) → named n ≢ None → named n ≡ Some n
 named_some n other = grind (arith, nat_tests, other)
 
 -- the head is numbered where one of the lists is not empty

@@ -24,6 +24,7 @@ invariant_of-self c =
       nodes = ap (λ (l : Lists). l.nodes) c.push_back.ensures ∙ ap (λ (l : Lists). l.nodes) c.unlink.ensures.lists ∙ c.self.invariant.nodes;
       marked = rw now (rotated_marks t p lists c.self.inside.occupied.words once stands c.self.invariant.marked);
       head = named_small c.args.next c.requires.next.0 ∙ sym (ap highest now ∙ head_rotates t c.args.next p lists once stands head next);
+      top = c.self.invariant.top;
     }
 
 pub invariant_of-self-else-self-get : goal.invariant_of-self-else-self-get
@@ -39,6 +40,7 @@ invariant_of-self-else-self-get c =
       nodes = ap (λ (l : Lists). l.nodes) c.push_back.ensures ∙ ap (λ (l : Lists). l.nodes) c.unlink.ensures.lists ∙ c.self.invariant.nodes;
       marked = rw now (rotated_marks t p lists c.self.inside.occupied.words once stands c.self.invariant.marked);
       head = c.self.invariant.head ∙ is ∙ sym (ap highest now ∙ other_rotates t h p lists once stands is other);
+      top = c.self.invariant.top;
     }
 
 pub returns-then-self-get : goal.returns-then-self-get
