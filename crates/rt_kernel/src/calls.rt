@@ -1,4 +1,4 @@
-// Calls that have a function of their own, so that `make` needs no room for what they use.
+// Calls that have a function of their own, so that the loop of leaps needs no room for what they use.
 ghost use Rattle.std.specs.Prelude.{◌≡◌, ◌≤◌, ◌<◌, ◌^◌, length};
 ghost use Rattle.pse52_trace.specs.Tells.{Tells};
 ghost use Rattle.script_flat.specs.Fetched.{call_of};
@@ -18,7 +18,7 @@ use script_flat::CallPlace;
 use script_tree::Call;
 use tick_num::{ObjId, Tid};
 
-/// Any call.
+/// The call that stands at a place.
 #[inline(never)]
 pub(crate) fn make_any<K: Sink>(p: &mut Parts, t: Tid, place: CallPlace, out: &mut Tracer<'_, K>)
     requires known { t < length p.old.names }

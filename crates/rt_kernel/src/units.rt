@@ -1,8 +1,8 @@
 // A thread's units: its running, and what a unit does at its end.
 ghost use Rattle.std.specs.Prelude.{◌≡◌, ◌≤◌, ◌<◌, ◌+◌, ◌^◌, ◌==◌, length, max, true};
 ghost use Rattle.pse52_trace.specs.Tells.{Tells};
-ghost use Rattle.script_flat.specs.Fetched.{call_of, unit_of};
-ghost use Rattle.machine_rules.specs.Calls.{makes_call, unit_effect};
+ghost use Rattle.script_flat.specs.Fetched.{unit_of};
+ghost use Rattle.machine_rules.specs.Calls.{unit_effect};
 ghost use Rattle.machine_rules.specs.Threads.{thread_at, top_left};
 ghost use Rattle.machine_rules.specs.Ticks.{completes};
 ghost use Rattle.machine_rules.specs.Turns.{becomes, changes, ◌▷◌};
@@ -13,8 +13,8 @@ ghost use Rattle.thread_blocks.specs.Handlers.{CanEnd};
 ghost use Rattle.thread_blocks.specs.Running.{HasRun};
 ghost use Rattle.thread_laws.specs.Within.{IsWithin};
 ghost use Rattle.kernel_events.specs.Calls.{objects_in};
-ghost use Rattle.rt_kernel.specs.Completes.{CanAct, CanComplete, CanMake};
-ghost use Rattle.kernel_state.specs.Kernel.{Kernel, after, by, told};
+ghost use Rattle.rt_kernel.specs.Completes.{CanAct, CanComplete};
+ghost use Rattle.kernel_state.specs.Kernel.{Kernel, after, told};
 
 use crate::calls::{make_any, make_lock, make_sleep};
 use kernel_events::make_call;
@@ -47,32 +47,7 @@ pub(crate) fn run_thread<L: Ledger>(p: &mut Parts, t: Tid, near: u64, steps: &mu
     ran
 }
 
-// What a call does. It stands apart from the loop of leaps, since most units are no calls. The calls that are made most often are told
-// by their operand, so that nothing is copied and each has what it does for itself.
-#[inline(never)]
-fn make<K: Sink>(p: &mut Parts, t: Tid, place: &CallPlace, out: &mut Tracer<'_, K>)
-    requires known { t < length p.old.names }
-    requires can { CanMake (objects_in p.old) (thread_at p.old.machine t) (call_of p.old.code place.now) }
-    requires acts { CanAct p.old t }
-    requires room { length p.old.direct < 128 }
-    requires early { p.old.machine.now ≤ 10 ^ 18 }
-    ensures state { p.new ≡ after (makes_call (flat_bodies p.old.code) (by t (call_of p.old.code place.now))) p.old }
-    ensures told { Tells K.text K.faults p.old.names out.old out.new (told (makes_call (flat_bodies p.old.code) (by t (call_of p.old.code place.now))) p.old) }
-{
-    match p.call(place) {
-        Call::Yield => make_call(p, t, &Call::Yield, out),
-        Call::Lock(k) => make_lock(p, t, k, out),
-        Call::Unlock(k) => make_call(p, t, &Call::Unlock(k), out),
-        Call::SemPost(k) => make_call(p, t, &Call::SemPost(k), out),
-        Call::Nanosleep(n) => make_sleep(p, t, n, out),
-        _ => {
-            let CallPlace { body, op } = *place;
-            make_any(p, t, CallPlace { body, op }, out)
-        }
-    }
-}
-
-// What a unit does once it is complete.
+// What a unit does once it is complete. The calls that are made most often are told by the unit itself, so that nothing is looked up.
 #[inline(always)]
 fn complete<K: Sink>(p: &mut Parts, t: Tid, unit: &Fetched, out: &mut Tracer<'_, K>)
     requires known { t < length p.old.names }
@@ -83,11 +58,18 @@ fn complete<K: Sink>(p: &mut Parts, t: Tid, unit: &Fetched, out: &mut Tracer<'_,
     ensures state { p.new ≡ after (unit_effect (flat_bodies p.old.code) t (unit_of p.old.code unit.now)) p.old }
     ensures told { Tells K.text K.faults p.old.names out.old out.new (told (unit_effect (flat_bodies p.old.code) t (unit_of p.old.code unit.now)) p.old) }
 {
-    // two tests, the frequent one first, where a table would be looked up
-    if let Fetched::Make(place) = unit {
-        make(p, t, place, out);
-    } else if let Fetched::Finish = unit {
-        finish(p, t, out);
+    match unit {
+        Fetched::Run(_) | Fetched::Jump => (),
+        Fetched::Make(place) => {
+            let CallPlace { body, op } = *place;
+            make_any(p, t, CallPlace { body, op }, out)
+        }
+        Fetched::Yield => make_call(p, t, &Call::Yield, out),
+        Fetched::Lock(k) => make_lock(p, t, *k, out),
+        Fetched::Unlock(k) => make_call(p, t, &Call::Unlock(*k), out),
+        Fetched::Post(k) => make_call(p, t, &Call::SemPost(*k), out),
+        Fetched::Sleep(n) => make_sleep(p, t, *n, out),
+        Fetched::Finish => finish(p, t, out),
     }
 }
 

@@ -10,9 +10,12 @@ use Rattle.script_flat.specs.declared.unit.Unit as unit
 use Rattle.script_flat.specs.declared.unit.Unit.TheVariants.{Run, Make, Jump, Finish}
 use Rattle.script_flat.specs.declared.fetched.Fetched.{Fetched}
 use Rattle.script_flat.specs.declared.fetched.Fetched.TheVariants as a
+use Rattle.script_flat.specs.declared.ops.Packed.{Packed}
+use Rattle.script_flat.specs.declared.ops.Packed.TheVariants as kept
 use Rattle.script_flat.specs.Fetch.{Effect, Gives, Skips, moved_on, innermost, after_pass, carried_out, fetched, found_in, most_skipped, ops_of}
-use Rattle.script_flat.specs.Fetched.{StandsIn, call_at, fetched_at, told, unit_in, unit_of}
+use Rattle.script_flat.specs.Fetched.{StandsIn, call_at, fetched_at, fetched_from, told, unit_in, unit_of}
 use Rattle.script_flat.specs.Flat.{NumberedBodies}
+use Rattle.script_flat.specs.Packed.{unpacked}
 use Rattle.script_flat.specs.Ready.{IsSafe}
 use Rattle.script_flat.proofs.Safe.{SearchesOn, search_finds, search_goes_on}
 
@@ -46,41 +49,69 @@ unit_told ops o body n c new (Make call) at e = ap Make (sym (ap call_at at ∙ 
 unit_told ops o body n c new Jump at e = refl
 unit_told ops o body n c new Finish at e = refl
 
+-- the unit that an effect gives
+abbrev given : Cursor × Effect → unit.Unit
+given (c, Gives u) = u
+given (c, Skips n) = Finish
+
+-- the same of an operation as it is kept
+module _ (ops : List Op) (calls : List Call) (body n : ℕ) (c new : Cursor) (u : unit.Unit) where
+  unit_kept : (packed : Packed) → slice_get ops n ≡ Some (unpacked calls packed) → carried_out (unpacked calls packed) c ≡ (new, Gives u)
+      → u ≡ unit_in ops (fetched_from body n packed u)
+  unit_kept (kept.Run k) at e = unit_told ops (unpacked calls (kept.Run k)) body n c new u at e
+  unit_kept (kept.Make number) at e = unit_told ops (unpacked calls (kept.Make number)) body n c new u at e
+  unit_kept kept.Yield at e = sym (ap given e)
+  unit_kept (kept.Lock k) at e = sym (ap given e)
+  unit_kept (kept.Unlock k) at e = sym (ap given e)
+  unit_kept (kept.Post k) at e = sym (ap given e)
+  unit_kept (kept.Sleep k) at e = sym (ap given e)
+  unit_kept (kept.Set k) at e = unit_told ops (unpacked calls (kept.Set k)) body n c new u at e
+  unit_kept (kept.Add k) at e = unit_told ops (unpacked calls (kept.Add k)) body n c new u at e
+  unit_kept kept.Take at e = unit_told ops (unpacked calls kept.Take) body n c new u at e
+  unit_kept (kept.Test named equal skip) at e = unit_told ops (unpacked calls (kept.Test named equal skip)) body n c new u at e
+  unit_kept (kept.Begin times) at e = unit_told ops (unpacked calls (kept.Begin times)) body n c new u at e
+  unit_kept (kept.Repeat first) at e = unit_told ops (unpacked calls (kept.Repeat first)) body n c new u at e
+  unit_kept (kept.Again first) at e = unit_told ops (unpacked calls (kept.Again first)) body n c new u at e
+
 -- a search has found the unit that was told, and goes on where none was
 abbrev pub SearchTold : List Op → Cursor → Cursor × Option Fetched → Type 0
 SearchTold ops from (new, Some f) = found_in (drop from.pc ops) 0 from ≡ (new, unit_in ops f)
 SearchTold ops from (new, None) = SearchesOn ops from new
 
-module _ (ops : List Op) (from now : Cursor) (o : Op) (h : SearchesOn ops from now) (past : now.pc < length ops) (at : o ≡ get_or ops now.pc o) where
-  effect_told : (effect : Cursor × Effect) → carried_out o (moved_on now) ≡ effect → SearchTold ops from (told now.body now.pc effect)
+module _ (ops : List Op) (from now : Cursor) (calls : List Call) (packed : Packed) (h : SearchesOn ops from now) (past : now.pc < length ops)
+    (at : unpacked calls packed ≡ get_or ops now.pc (unpacked calls packed)) where
+  abbrev o : Op
+  o = unpacked calls packed
+
+  effect_told : (effect : Cursor × Effect) → carried_out o (moved_on now) ≡ effect → SearchTold ops from (told now.body now.pc packed effect)
   effect_told (c, Gives u) e =
       search_finds ops from now c o u h past at e
-      ∙ ap (λ v. (c, v)) (unit_told ops o now.body now.pc (moved_on now) c u (slice_get_read ops (length ops) now.pc o refl past at) e)
+      ∙ ap (λ v. (c, v)) (unit_kept ops calls now.body now.pc (moved_on now) c u packed (slice_get_read ops (length ops) now.pc o refl past at) e)
   effect_told (c, Skips n) e = search_goes_on ops from now c o n h past at e
 
-  pub search_told : (after : Cursor × Option Fetched) → told now.body now.pc (carried_out o (moved_on now)) ≡ after → SearchTold ops from after
+  pub search_told : (after : Cursor × Option Fetched) → told now.body now.pc packed (carried_out o (moved_on now)) ≡ after → SearchTold ops from after
   search_told after e = subst (SearchTold ops from) e (effect_told (carried_out o (moved_on now)) refl)
 
 not_told : (f : Fetched) (m n : ℕ) → Some f ≡ None → m ≤ n
 not_told f m n e = absurd cc
 
 -- where no unit is told the cursor has not moved back
-moves_pass : (body number first : ℕ) (passes : Option ℕ) (c new : Cursor) → told body number (after_pass first passes c) ≡ (new, None) → c.pc ≤ new.pc
-moves_pass body number first None c new e = omega (arith, ap (λ (x : Cursor × Option Fetched). x.0.pc) e)
-moves_pass body number first (Some zero) c new e = omega (arith, ap (λ (x : Cursor × Option Fetched). x.0.pc) e)
-moves_pass body number first (Some (suc zero)) c new e = omega (arith, ap (λ (x : Cursor × Option Fetched). x.0.pc) e)
-moves_pass body number first (Some (suc (suc passes))) c new e = not_told _ c.pc new.pc (ap (λ (x : Cursor × Option Fetched). x.1) e)
+moves_pass : (body number first : ℕ) (packed : Packed) (passes : Option ℕ) (c new : Cursor) → told body number packed (after_pass first passes c) ≡ (new, None) → c.pc ≤ new.pc
+moves_pass body number first packed None c new e = omega (arith, ap (λ (x : Cursor × Option Fetched). x.0.pc) e)
+moves_pass body number first packed (Some zero) c new e = omega (arith, ap (λ (x : Cursor × Option Fetched). x.0.pc) e)
+moves_pass body number first packed (Some (suc zero)) c new e = omega (arith, ap (λ (x : Cursor × Option Fetched). x.0.pc) e)
+moves_pass body number first packed (Some (suc (suc passes))) c new e = not_told _ c.pc new.pc (ap (λ (x : Cursor × Option Fetched). x.1) e)
 
-pub told_moves : (body number : ℕ) (o : Op) (c new : Cursor) → told body number (carried_out o c) ≡ (new, None) → c.pc ≤ new.pc
-told_moves body number (op.Run n) c new e = not_told _ c.pc new.pc (ap (λ (x : Cursor × Option Fetched). x.1) e)
-told_moves body number (op.Make call) c new e = not_told _ c.pc new.pc (ap (λ (x : Cursor × Option Fetched). x.1) e)
-told_moves body number (op.Set n) c new e = omega (arith, ap (λ (x : Cursor × Option Fetched). x.0.pc) e)
-told_moves body number (op.Add n) c new e = omega (arith, ap (λ (x : Cursor × Option Fetched). x.0.pc) e)
-told_moves body number op.Take c new e = omega (arith, ap (λ (x : Cursor × Option Fetched). x.0.pc) e)
-told_moves body number (op.Test named equal skip) c new e = omega (arith, ap (λ (x : Cursor × Option Fetched). x.0.pc) e)
-told_moves body number (op.Begin times) c new e = omega (arith, ap (λ (x : Cursor × Option Fetched). x.0.pc) e)
-told_moves body number (op.Repeat first) c new e = moves_pass body number first (innermost c.counts.items) c new e
-told_moves body number (op.Again first) c new e = not_told _ c.pc new.pc (ap (λ (x : Cursor × Option Fetched). x.1) e)
+pub told_moves : (body number : ℕ) (packed : Packed) (o : Op) (c new : Cursor) → told body number packed (carried_out o c) ≡ (new, None) → c.pc ≤ new.pc
+told_moves body number packed (op.Run n) c new e = not_told _ c.pc new.pc (ap (λ (x : Cursor × Option Fetched). x.1) e)
+told_moves body number packed (op.Make call) c new e = not_told _ c.pc new.pc (ap (λ (x : Cursor × Option Fetched). x.1) e)
+told_moves body number packed (op.Set n) c new e = omega (arith, ap (λ (x : Cursor × Option Fetched). x.0.pc) e)
+told_moves body number packed (op.Add n) c new e = omega (arith, ap (λ (x : Cursor × Option Fetched). x.0.pc) e)
+told_moves body number packed op.Take c new e = omega (arith, ap (λ (x : Cursor × Option Fetched). x.0.pc) e)
+told_moves body number packed (op.Test named equal skip) c new e = omega (arith, ap (λ (x : Cursor × Option Fetched). x.0.pc) e)
+told_moves body number packed (op.Begin times) c new e = omega (arith, ap (λ (x : Cursor × Option Fetched). x.0.pc) e)
+told_moves body number packed (op.Repeat first) c new e = moves_pass body number first packed (innermost c.counts.items) c new e
+told_moves body number packed (op.Again first) c new e = not_told _ c.pc new.pc (ap (λ (x : Cursor × Option Fetched). x.1) e)
 
 -- a test does not pass over more operations than there are
 safe_skips : (o : Op) (rest : List Op) → IsSafe (o ∷ rest) → most_skipped o ≤ length rest
@@ -106,6 +137,11 @@ found_in_code code body (a.Run n) h = refl
 found_in_code code body (a.Make place) h = ap (λ b. Make (call_at (slice_get (ops_of code b) place.op))) (sym h)
 found_in_code code body a.Jump h = refl
 found_in_code code body a.Finish h = refl
+found_in_code code body a.Yield h = refl
+found_in_code code body (a.Lock k) h = refl
+found_in_code code body (a.Unlock k) h = refl
+found_in_code code body (a.Post k) h = refl
+found_in_code code body (a.Sleep n) h = refl
 
 pub fetched_told : (code : NumberedBodies (List Op)) (ops : List Op) (c new : Cursor) (f : Fetched) → ops ≡ ops_of code c.body
     → found_in (drop c.pc ops) 0 c ≡ (new, unit_in ops f) → StandsIn c.body f → fetched code c ≡ (new, unit_of code f)

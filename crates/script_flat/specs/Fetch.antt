@@ -68,6 +68,11 @@ found_in (o ∷ ops) zero c = or_search (carried_out o (moved_on c)) (found_in o
 abbrev pub ops_of : NumberedBodies (List Op) → ℕ → List Op
 ops_of code body = slice_index_or code.all body []
 
+-- one body of the code, by its number
+pub record OneBody : Type 0 where
+  pub code : NumberedBodies (List Op)
+  pub body : ℕ
+
 -- the cursor after the next unit, and that unit
 abbrev pub fetched : NumberedBodies (List Op) → Cursor → Cursor × unit.Unit
 fetched code c = found_in (drop c.pc (ops_of code c.body)) 0 c

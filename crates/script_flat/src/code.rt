@@ -1,12 +1,12 @@
 // The flat code, and the next unit of a body.
-ghost use Rattle.std.specs.Prelude.{◌≡◌, ℕ, List, ◌+◌, ◌≤◌, ◌<◌, ◌^◌, [], ◌∷◌, ◌++◌, drop, length, option_copied, slice_get, slice_index, unwrap_or, All, IfOk, OnOk, Some};
+ghost use Rattle.std.specs.Prelude.{◌≡◌, ℕ, List, ◌+◌, ◌≤◌, ◌<◌, ◌^◌, [], ◌∷◌, ◌++◌, length, slice_get, slice_index, unwrap_or, All, IfOk, OnOk, Some};
 ghost use Rattle.script_tree.specs.Block.{Block};
 ghost use Rattle.script_tree.specs.declared.call.Call.{Call};
 ghost use Rattle.script_tree.specs.declared.call.Call.TheVariants.{Yield};
 ghost use Rattle.script_tree.specs.Tree.{step_count};
 ghost use Rattle.script_flat.specs.Next.{Place, body_start, register_limit};
 ghost use Rattle.script_flat.specs.Flat.{IsFlattenable, bodies_of, body_list, flat, flat_form, with_decl};
-ghost use Rattle.script_flat.specs.Fetch.{carried_out, innermost, most_skipped, pass_ended, found_in, ops_of, started, fetched};
+ghost use Rattle.script_flat.specs.Fetch.{carried_out, innermost, most_skipped, pass_ended, started, fetched};
 ghost use Rattle.script_flat.specs.Fetched.{call_of, told, unit_of};
 ghost use Rattle.script_flat.specs.Packed.{unpacked};
 ghost use Rattle.script_flat.specs.Stands.{IsBody, Stands, IsPlaced, Fetches};
@@ -14,7 +14,7 @@ ghost use Rattle.script_flat.specs.Stands.{IsBody, Stands, IsPlaced, Fetches};
 use crate::flatten::flatten;
 use crate::next::{capped, holds};
 use crate::ops::{Ops, Packed};
-use crate::{CallPlace, Cursor, Fetched};
+use crate::{CallPlace, Cursor, Fetched, Units};
 use arrayvec::ArrayVec;
 use script_tree::{Body, Call, Decl, Kind, Script};
 use std::alloc::{AllocError, Global};
@@ -154,31 +154,32 @@ impl Code {
         }
     }
 
-    // The operations of a body.
-    fn ops(&self, body: u16) -> &Ops
-        requires { body < length self.now.all }
-        ensures { result.now ≡ ops_of self.now body }
-    {
-        &self.bodies[body as usize]
-    }
-
     /// The call that stands at a place, which a fetched unit told; `yield` where none does.
     #[inline(always)]
     pub fn call(&self, place: &CallPlace) -> Call
         ensures { result ≡ call_of self.now place.now }
     {
-        match self.table_call(place) {
-            Some(call) => *call,
+        match self.call_at(place) {
+            Some(call) => call,
             None => Call::Yield,
         }
     }
 
-    // The call of a place, where its body keeps it in its table.
+    // The same, where one does.
     #[inline(always)]
-    fn table_call(&self, place: &CallPlace) -> Option<&Call>
-        ensures { unwrap_or (option_copied result) Yield ≡ call_of self.now place.now }
+    fn call_at(&self, place: &CallPlace) -> Option<Call>
+        ensures { unwrap_or result Yield ≡ call_of self.now place.now }
     {
         self.bodies.get(place.body)?.call(place.op)
+    }
+
+    /// The units of a body.
+    #[inline(always)]
+    pub fn units(&self, body: u16) -> Units<'_>
+        requires exists { body < length self.now.all }
+        ensures { result ≡ record { code = self.now; body = body } }
+    {
+        Units::new(self, body, &self.bodies[body as usize])
     }
 
     /// The next unit of the body that the cursor stands in, and the cursor moves behind it: the operations that take no time are
@@ -196,7 +197,7 @@ impl Code {
         ensures placed { IsPlaced self.now at.new }
         ensures few { length at.new.counts.items ≤ 15 }
     {
-        self.ops(at.body).search(at)
+        self.units(at.body).fetch(at)
     }
 }
 
@@ -230,11 +231,16 @@ impl Cursor {
     pub(crate) fn carry_out(&mut self, op: &Packed, number: u32) -> Option<Fetched>
         requires few { length self.old.counts.items ≤ 15 }
         requires room { self.old.pc + most_skipped (unpacked [] op.now) < 2 ^ 32 }
-        ensures { (calls : List Call) → told self.old.body number (carried_out (unpacked calls op.now) self.old) ≡ (self.new, result) }
+        ensures { (calls : List Call) → told self.old.body number op.now (carried_out (unpacked calls op.now) self.old) ≡ (self.new, result) }
     {
         match *op {
             Packed::Run(n) => return Some(Fetched::Run(n)),
-            Packed::Make(_) | Packed::Yield => {
+            Packed::Yield => return Some(Fetched::Yield),
+            Packed::Lock(k) => return Some(Fetched::Lock(k)),
+            Packed::Unlock(k) => return Some(Fetched::Unlock(k)),
+            Packed::Post(k) => return Some(Fetched::Post(k)),
+            Packed::Sleep(n) => return Some(Fetched::Sleep(n)),
+            Packed::Make(_) => {
                 return Some(Fetched::Make(CallPlace {
                     body: self.body as usize,
                     op: number as usize,

@@ -1,14 +1,27 @@
 // Units as they are fetched.
 
-/// A unit as it is fetched. A call is told by where it stands, since it is large and is looked at only when its tick is over.
+use tick_num::ObjId;
+
+/// A unit as it is fetched. The calls that are made most often, and have one number at most, are told by themselves. Any other is told by
+/// where it stands, since it is large and is looked at only when its tick is over.
 #[derive(Clone, Copy)]
 pub enum Fetched {
     /// Runs for so many ticks.
     Run(u64),
-    /// Makes the call that stands there.
-    Make(CallPlace),
     /// Jumps back to the start of a loop.
     Jump,
+    /// Makes the call that stands there.
+    Make(CallPlace),
+    /// Calls `sched_yield`.
+    Yield,
+    /// Calls `pthread_mutex_lock` for that mutex.
+    Lock(ObjId),
+    /// Calls `pthread_mutex_unlock` for that mutex.
+    Unlock(ObjId),
+    /// Calls `sem_post` for that semaphore.
+    Post(ObjId),
+    /// Calls `nanosleep` for so many ticks.
+    Sleep(u64),
     /// Comes to the end of the body.
     Finish,
 }

@@ -9,9 +9,11 @@ mod next;
 mod op;
 mod ops;
 mod unit;
+mod units;
 
 pub use code::Code;
 pub use cursor::Cursor;
 pub use fetched::{CallPlace, Fetched};
 pub use op::Op;
 pub use unit::Unit;
+pub use units::Units;

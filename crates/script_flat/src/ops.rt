@@ -1,25 +1,26 @@
 // The operations of a body as they are kept.
-ghost use Rattle.std.specs.Prelude.{◌≡◌, ◌<◌, ◌≤◌, ◌^◌, [], ◌∷◌, ◌++◌, length, drop, option_copied, slice_get, slice_set, unwrap_or, OnOk, OnErr};
+ghost use Rattle.std.specs.Prelude.{◌≡◌, ◌<◌, [], ◌∷◌, ◌++◌, length, slice_get, slice_set, unwrap_or, IfSome, OnOk, OnErr, Some};
 ghost use Rattle.script_tree.specs.declared.call.Call.TheVariants.{Yield};
 ghost use Rattle.script_flat.specs.declared.op.Op.TheVariants.{Make, Test};
-ghost use Rattle.script_flat.specs.Fetch.{found_in};
-ghost use Rattle.script_flat.specs.Fetched.{StandsIn, call_at, unit_in};
-ghost use Rattle.script_flat.specs.Packed.{IsIn, unpacked};
-ghost use Rattle.script_flat.specs.Ready.{IsReady};
+ghost use Rattle.script_flat.specs.Fetched.{call_at};
+ghost use Rattle.script_flat.specs.Packed.{IsIn, all_unpacked, short_call, unpacked};
 
-use crate::{Cursor, Fetched};
 use script_tree::Call;
 use std::alloc::{AllocError, Global};
 use std::marker::Model;
-use tick_num::Res;
+use tick_num::{ObjId, Res};
 
-/// An operation in 16 bytes: a call, which takes 48 by itself, is told by its number in the table of its body. `yield` has nothing
-/// to keep there.
+/// An operation in 16 bytes. The calls that are made most often, and have one number at most, are kept whole; any other, which takes 48
+/// bytes by itself, is told by its number in the table of its body.
 #[derive(Clone, Copy)]
 pub(crate) enum Packed {
     Run(u64),
     Make(usize),
     Yield,
+    Lock(ObjId),
+    Unlock(ObjId),
+    Post(ObjId),
+    Sleep(u64),
     Set(u64),
     Add(u64),
     Take,
@@ -80,8 +81,8 @@ impl Ops {
     pub(crate) fn push_call(&mut self, call: &Call) -> Result<(), AllocError>
         ensures { OnOk result (self.new ≡ self.old ++ Make call.now ∷ []) }
     {
-        if let Call::Yield = call {
-            return self.push(Packed::Yield);
+        if let Some(packed) = shortened(call) {
+            return self.push(packed);
         }
         let number = self.calls.len();
         append(&mut self.calls, *call)?;
@@ -97,34 +98,53 @@ impl Ops {
         self.packed[at] = Packed::Test { res, equal, skip };
     }
 
-    // The call of that number; none where it is `yield`, or the operation is no call.
+    // The call of that number; none where the operation is no call.
     #[inline(always)]
-    pub(crate) fn call(&self, number: usize) -> Option<&Call>
-        ensures { unwrap_or (option_copied result) Yield ≡ call_at (slice_get self.now number) }
+    pub(crate) fn call(&self, number: usize) -> Option<Call>
+        ensures { unwrap_or result Yield ≡ call_at (slice_get self.now number) }
     {
         match self.packed.get(number)? {
-            Packed::Make(call) => Some(&self.calls[*call]),
-            _ => None,
+            Packed::Make(call) => Some(self.calls[*call]),
+            packed => packed.short_call(),
         }
     }
 
-    // The first unit of the operations ahead of a cursor, which moves behind it.
+    // What is kept of each operation, and the table of the calls.
     #[inline(always)]
-    pub(crate) fn search(&self, at: &mut Cursor) -> Fetched
-        requires ready { IsReady (drop at.old.pc self.now) at.old }
-        requires within { at.old.pc ≤ length self.now }
-        requires short { length self.now < 2 ^ 32 }
-        ensures found { found_in (drop at.old.pc self.now) 0 at.old ≡ (at.new, unit_in self.now result) }
-        ensures inside { StandsIn at.old.body result }
+    pub(crate) fn parts(&self) -> (&[Packed], &[Call])
+        ensures { all_unpacked result.1.now result.0.now ≡ self.now }
     {
-        while let Some(op) = self.packed.get(at.pc as usize) {
-            let number = at.pc;
-            at.pc += 1;
-            if let Some(unit) = at.carry_out(op, number) {
-                return unit;
-            }
+        (self.packed.as_slice(), self.calls.as_slice())
+    }
+}
+
+impl Packed {
+    // The call that it keeps by itself.
+    fn short_call(&self) -> Option<Call>
+        ensures { result ≡ short_call self.now }
+    {
+        match *self {
+            Packed::Yield => Some(Call::Yield),
+            Packed::Lock(k) => Some(Call::Lock(k)),
+            Packed::Unlock(k) => Some(Call::Unlock(k)),
+            Packed::Post(k) => Some(Call::SemPost(k)),
+            Packed::Sleep(n) => Some(Call::Nanosleep(n)),
+            _ => None,
         }
-        Fetched::Finish
+    }
+}
+
+// The operation that keeps the call by itself, where it is short.
+fn shortened(call: &Call) -> Option<Packed>
+    ensures { IfSome result (λ p. short_call p ≡ Some call.now) }
+{
+    match *call {
+        Call::Yield => Some(Packed::Yield),
+        Call::Lock(k) => Some(Packed::Lock(k)),
+        Call::Unlock(k) => Some(Packed::Unlock(k)),
+        Call::SemPost(k) => Some(Packed::Post(k)),
+        Call::Nanosleep(n) => Some(Packed::Sleep(n)),
+        _ => None,
     }
 }
 

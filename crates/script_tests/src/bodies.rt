@@ -49,12 +49,16 @@ fn said(code: &Code, unit: &Fetched) -> (&'static str, u64) {
         Fetched::Make(place) => said_of_call(&code.call(place)),
         Fetched::Jump => ("jump", 0),
         Fetched::Finish => ("finish", 0),
+        Fetched::Yield => ("yield", 0),
+        Fetched::Lock(k) => ("lock", u64::from(k.get())),
+        Fetched::Unlock(k) => ("unlock", u64::from(k.get())),
+        Fetched::Post(k) => ("post", u64::from(k.get())),
+        Fetched::Sleep(ticks) => ("sleep", *ticks),
     }
 }
 
 fn said_of_call(call: &Call) -> (&'static str, u64) {
     match call {
-        Call::Yield => ("yield", 0),
         Call::Push(_) => ("push", 0),
         Call::Pop(run) => ("pop", u64::from(*run)),
         _ => ("another call", 0),
@@ -165,6 +169,51 @@ fn the_body_of_a_handler(rt: HostRuntime) -> Result<(), Fail> {
         [("jump", 0), ("jump", 0), ("jump", 0)].as_slice()
     );
     assert_eq!(rt; register, 65);
+    Ok(())
+}
+
+// add 20; run 3, with the value of its signal, 5, where its operations are looked up once
+#[test]
+fn the_units_of_a_body(rt: HostRuntime) -> Result<(), Fail> {
+    let alloc = rt.alloc();
+    let handler = Body::new(vec![in alloc; Step::Add(20), Step::Run(3)]?);
+    let code = code_of(alloc, nothing(alloc)?, handler, nothing(alloc)?)?;
+    let number = code.handler_body(ObjId::default());
+    let mut cursor = code.start(number, 5);
+    let unit = code.units(number).fetch(&mut cursor);
+    assert_eq!(rt; said(&code, &unit), ("run", 3));
+    assert_eq!(rt; cursor.register, 25);
+    Ok(())
+}
+
+// lock, unlock, post, sleep, and a call that is told by its place
+#[test]
+fn the_calls_that_are_told_by_themselves(rt: HostRuntime) -> Result<(), Fail> {
+    let alloc = rt.alloc();
+    let mutex = ObjId::try_new(3).ok_or("no mutex")?;
+    let semaphore = ObjId::try_new(2).ok_or("no semaphore")?;
+    let thread = Body::new(vec![in alloc;
+        Step::Make(Call::Lock(mutex)),
+        Step::Make(Call::Unlock(mutex)),
+        Step::Make(Call::SemPost(semaphore)),
+        Step::Make(Call::Nanosleep(7)),
+        Step::Make(Call::Testcancel),
+    ]?);
+    let code = code_of(alloc, thread, nothing(alloc)?, nothing(alloc)?)?;
+    let start = code.start(code.thread_body(Tid::default()), 0);
+    let (calls, _) = units(alloc, &code, start, Res::Zero, 0, 6)?;
+    assert_eq!(rt;
+        calls.as_slice(),
+        [
+            ("lock", 3),
+            ("unlock", 3),
+            ("post", 2),
+            ("sleep", 7),
+            ("another call", 0),
+            ("finish", 0)
+        ]
+        .as_slice()
+    );
     Ok(())
 }
 

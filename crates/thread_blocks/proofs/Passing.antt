@@ -4,7 +4,7 @@ use Rattle.script_tree.specs.Block.{Block}
 use Rattle.script_flat.specs.declared.cursor.Cursor.{Cursor}
 use Rattle.script_flat.specs.declared.op.Op.{Op}
 use Rattle.script_flat.specs.declared.unit.Unit as unit_type
-use Rattle.script_flat.specs.Fetch.{fetched}
+use Rattle.script_flat.specs.Fetch.{OneBody, fetched}
 use Rattle.script_flat.specs.Flat.{NumberedBodies}
 use Rattle.script_flat.specs.Next.{Place, ticks_of}
 use Rattle.script_flat.specs.Stands.{Fetches, IsBody, IsPlaced, Stands}
@@ -71,14 +71,15 @@ pub record HasGone (code : NumberedBodies (List Op)) (most rest : ℕ) (old now 
   pub each : FramePasses (flat_bodies code) most units old
   pub passed : rest + all_of units ≡ most
   pub frame : now ≡ frame_past (flat_bodies code) units old
+  pub body : (cursor_of now).body ≡ (cursor_of old).body
   pub placed : IsPlaced code (cursor_of now)
   pub whole : now.left ≡ 0
 
-pub goes_on : (code : NumberedBodies (List Op)) (most rest k : ℕ) (old now : Frame Cursor) (at : Cursor) (u : unit_type.Unit) → HasGone code most rest old now →
+goes_past : (code : NumberedBodies (List Op)) (most rest k : ℕ) (old now : Frame Cursor) (at : Cursor) (u : unit_type.Unit) → HasGone code most rest old now →
     fetched code (cursor_of now) ≡ (at, u) →
     ((tree : Block) (place : Place) → IsBody code (cursor_of now).body tree → Stands tree place (cursor_of now) → Fetches tree place (cursor_of now) at u) →
     IsPlaced code at → only_takes_time u ≡ true → k ≡ ticks_of u → 1 ≤ k → k < rest → HasGone code most (rest - k) old (frame_at now at)
-goes_on code most rest k old now at u gone is next placed idle long some within =
+goes_past code most rest k old now at u gone is next placed idle long some within =
     let kept = next gone.placed.body gone.placed.place gone.placed.is_body gone.placed.stands in
     let over : IsOver rest k (ticks_of u) u = record { idle = idle; long = long; some = some; within = within } in
     let more = longer (flat_bodies code) most rest k gone.units old now gone.each gone.frame gone.passed
@@ -88,9 +89,19 @@ goes_on code most rest k old now at u gone is next placed idle long some within 
       each = more.each;
       passed = omega (arith, more.total, gone.passed);
       frame = behind_is code now at u is kept.result kept.value gone.whole ∙ sym more.past;
+      body = kept.body_same ∙ gone.body;
       placed = placed;
       whole = gone.whole;
     }
+
+-- the same where the units of the body gave it
+pub goes_on : (code : NumberedBodies (List Op)) (units : OneBody) (most rest k : ℕ) (old now : Frame Cursor) (at : Cursor) (u : unit_type.Unit) → units.code ≡ code →
+    HasGone code most rest old now → fetched units.code (cursor_of now) ≡ (at, u) →
+    ((tree : Block) (place : Place) → IsBody units.code (cursor_of now).body tree → Stands tree place (cursor_of now) → Fetches tree place (cursor_of now) at u) →
+    IsPlaced units.code at → only_takes_time u ≡ true → k ≡ ticks_of u → 1 ≤ k → k < rest → HasGone code most (rest - k) old (frame_at now at)
+goes_on code units most rest k old now at u same gone is next placed idle long some within =
+    subst (λ one. HasGone one most (rest - k) old (frame_at now at)) same
+    (goes_past units.code most rest k old now at u (subst (λ one. HasGone one most rest old now) (sym same) gone) is next placed idle long some within)
 
 -- ---- with no tick to pass
 

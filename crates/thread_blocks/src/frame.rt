@@ -143,8 +143,9 @@ impl Frame {
         ensures { HasBegun code.now most result self.old self.new }
     {
         let mut rest = most;
+        let body = code.units(self.at.body);
         'units: loop {
-            let unit = code.fetch(&mut self.at);
+            let unit = body.fetch(&mut self.at);
             match unit {
                 Fetched::Run(n) if 0 < n && n < rest => rest -= n,
                 Fetched::Jump if 1 < rest => rest -= 1,
@@ -167,8 +168,6 @@ fn ticks_of(code: &Code, unit: &Fetched) -> u64
     let _ = code;
     match unit {
         Fetched::Run(n) => *n,
-        Fetched::Make(_) => 1,
-        Fetched::Jump => 1,
-        Fetched::Finish => 1,
+        _ => 1,
     }
 }

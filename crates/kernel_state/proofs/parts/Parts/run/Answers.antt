@@ -11,7 +11,7 @@ use Rattle.kernel_state.proofs.parts.Parts.run.Goals as goal
 pub invariant_of-self : goal.invariant_of-self
 invariant_of-self c =
     let s = c.self.inside in
-    let w = c.run-moved in
+    let w = c.run-ran in
     let ran = w.ensures.ran in
     let bodies = flat_bodies s.code in
     let f : Thread Cursor → Thread Cursor = run_past bodies ran.units w.result.0.ticks in
@@ -25,6 +25,6 @@ invariant_of-self c =
 pub take_in-requires : goal.take_in-requires
 take_in-requires c =
     let s = c.self.inside in
-    let w = c.run-moved in
+    let w = c.run-ran in
     let to_new : Thread Cursor → Thread Cursor = λ th. thread_in w.new.self.threads c.args.t in
     fit s.table w.new.self w.result.1 (as_many s.table w.new.self c.args.t to_new w.ensures.table) c.self.invariant.tied.few (told_there s.table w.new.self w.result.1 w.ensures.moved)
