@@ -1,6 +1,6 @@
 -- A settling of one thread: one direct move where nobody is named, or one named thread where nothing moves directly.
-use Rattle.std.proofs.Common.{◌≡◌, ◌≢◌, ◌<◌, ◌≤◌, ◌-◌, ◌+◌, ◌∙◌, inl, inr, ℕ, Bool, true, false, List, [], ◌∷◌, None, Option, Some, ap, arith, length, refl, subst, sym}
-use Rattle.std.specs.Prelude.{MatchOption, if◌then◌else◌, is_some, slice_index}
+use Rattle.std.proofs.Common.{◌≡◌, ◌≢◌, ◌<◌, ◌≤◌, ◌-◌, ◌+◌, ◌∙◌, inl, inr, ℕ, Bool, true, false, List, [], ◌∷◌, None, Option, Some, ap, arith, length, refl, sym}
+use Rattle.std.specs.Prelude.{if◌then◌else◌, slice_index}
 use Rattle.std.proofs.lemmas.Bool.Decides.{eqb_tells}
 use Rattle.script_flat.specs.declared.cursor.Cursor.{Cursor}
 use Rattle.ready_lists.specs.Lists.{prio_of, to_tail, without}
@@ -121,7 +121,7 @@ later_other t u low same = omega (arith, low, same)
 earlier_other : (t u : ℕ) → u < t → u ≢ t
 earlier_other t u small same = omega (arith, small, same)
 
-one_settles : (k : Kernel) (t : ℕ) → HavePriorities k.machine → IsNext k.machine 0 t → StandFrom k.machine (t + 1) → length k.machine.lists ≡ 255 → k.direct ≡ [] →
+pub one_settles : (k : Kernel) (t : ℕ) → HavePriorities k.machine → IsNext k.machine 0 t → StandFrom k.machine (t + 1) → length k.machine.lists ≡ 255 → k.direct ≡ [] →
     settled_now k ≡ with_lists (λ lists. placed k.machine t (left_one k.machine t lists)) k
 one_settles k t fits next right every none =
     let m = k.machine in let lists = m.lists in
@@ -146,14 +146,3 @@ one_settles k t fits next right every none =
 pub no_items : (xs : List ℕ) → length xs ≡ 0 → xs ≡ []
 no_items [] none = refl
 no_items (x ∷ xs) none = absurd (omega (arith, none))
-
-rest_stands : (k : Kernel) (from : ℕ) (o : Option ℕ) → is_some o ≡ false → MatchOption o (StandFrom k.machine from) (λ u. IsNext k.machine from u) → StandFrom k.machine from
-rest_stands k from None off stand = stand
-rest_stands k from (Some t) off next = absurd cc
-
-pub the_one_settles : (k : Kernel) (t from : ℕ) (o : Option ℕ) → HavePriorities k.machine → IsNext k.machine 0 t → from ≡ t → is_some o ≡ false →
-    MatchOption o (StandFrom k.machine (from + 1)) (λ u. IsNext k.machine (from + 1) u) → length k.machine.lists ≡ 255 → length k.direct ≡ 0 →
-    settled_now k ≡ with_lists (λ lists. placed k.machine t (left_one k.machine t lists)) k
-the_one_settles k t from o fits next is off rest every none =
-    let right : StandFrom k.machine (t + 1) = subst (λ (n : ℕ). StandFrom k.machine (n + 1)) is (rest_stands k (from + 1) o off rest) in
-    one_settles k t fits next right every (no_items k.direct none)

@@ -96,6 +96,23 @@ module _ (bits after : ℕ) (table : Table) (lists : List (List ℕ)) (t : ℕ) 
   pub forgotten : StandsRight table lists t → OthersStand after table lists
   forgotten right = put_right bits after table lists lists t are turns refl (λ u other. refl) right
 
+-- it is named as before
+pub kept_tail : (bits : ℕ) (table : Table) (lists : List (List ℕ)) (t : ℕ) → OthersStand bits table lists → (p : ℕ) → p ≡ exec table t → 1 ≤ p → p ≤ 255 →
+    is_runnable (thread_at table t).status ≡ true → OthersStand bits table (to_tail t p lists)
+kept_tail bits table lists t are p is some small runs =
+    let fits : p - 1 < length lists = omega (arith, some, small, are.every) in
+    record {
+      every = tail_length t p lists ∙ are.every;
+      known = are.known;
+      others = λ u out. elim (eqb_tells u t) [
+        | inl it ↦ rw it.1 (home table (to_tail t p lists) t runs (tail_there t p lists some fits ∙ ap (λ (n : ℕ). Some n) is))
+        | inr other ↦ (let was = are.others u out in record {
+          runs = λ q e. was.runs q (sym (tail_apart t u p lists fits other.1) ∙ e);
+          there = λ q e. was.there q (sym (tail_apart t u p lists fits other.1) ∙ e);
+        })
+      ];
+    }
+
 -- ---- threads and mutexes change
 
 pub stand_on : (old new : Table) (lists : List (List ℕ)) (before after : ℕ) →

@@ -2,8 +2,9 @@
 ghost use Rattle.std.specs.Prelude.{◌≡◌, ◌≤◌, ◌<◌, ◌^◌, length, option_map, true};
 ghost use Rattle.sporadic_server.specs.Server.{activate};
 ghost use Rattle.machine_rules.specs.Servers.{with_server};
+ghost use Rattle.thread_blocks.specs.Sleeping.{waits_for_time};
 ghost use Rattle.thread_blocks.specs.Unused.{IsUnused};
-ghost use Rattle.machine_rules.specs.Threads.{thread_at};
+ghost use Rattle.machine_rules.specs.Threads.{can_run, thread_at, waiting_in};
 ghost use Rattle.machine_rules.specs.Lives.{without_life};
 ghost use Rattle.machine_rules.specs.Scheduling.{takes_priority, with_policy, with_priority};
 ghost use Rattle.machine_rules.specs.Waking.{new_frame, started};
@@ -41,6 +42,29 @@ impl Parts {
         requires { t < length self.old.names }
         ensures { self.new ≡ after (changes t (woken res value)) self.old }
     {
+        if self.table.thread(t).waits_for_time() {
+            self.wake_sleeper(t, res, value);
+        } else {
+            self.wake_waiter(t, res, value);
+        }
+    }
+
+    // The same of a thread that waits for nothing but an instant.
+    #[inline(always)]
+    fn wake_sleeper(&mut self, t: Tid, res: Res, value: u64)
+        requires known { t < length self.old.names }
+        requires sleeps { waits_for_time (waiting_in (thread_at self.old.machine t).status) ≡ true }
+        ensures { self.new ≡ after (changes t (woken res value)) self.old }
+    {
+        self.table.wake_sleeper(t, res, value);
+    }
+
+    // The same, whatever it waits for.
+    #[inline(never)]
+    fn wake_waiter(&mut self, t: Tid, res: Res, value: u64)
+        requires { t < length self.old.names }
+        ensures { self.new ≡ after (changes t (woken res value)) self.old }
+    {
         let moved = self.table.wake(t, res, value);
         self.named.take_in(&moved);
     }
@@ -55,6 +79,20 @@ impl Parts {
     {
         self.named.add(t);
         let moved = self.table.block(t, waiting);
+        self.named.take_in(&moved);
+    }
+
+    // The same of a thread that can run.
+    #[inline(always)]
+    #[tactic(auto, using(crate::proofs::Waits::can_await))]
+    pub(crate) fn block_runner(&mut self, t: Tid, waiting: Waiting)
+        requires known { t < length self.old.names }
+        requires runs { can_run self.old.machine t ≡ true }
+        requires may { CanWait self.old.machine t (mutex_waited (wait_of waiting.wait)) }
+        ensures { self.new ≡ after (changes t (put_to_wait (waiting_of waiting))) self.old }
+    {
+        self.named.add(t);
+        let moved = self.table.block_runner(t, waiting);
         self.named.take_in(&moved);
     }
 
@@ -152,6 +190,7 @@ impl Parts {
     {
         let (refilled, moved) = self.table.refill(t);
         self.named.take_in(&moved);
-        refilled
+        // the fields alone, and not what lies between them
+        Refilled { ..refilled }
     }
 }

@@ -1,5 +1,5 @@
 // The ready lists, and the priorities that threads stand at.
-ghost use Rattle.std.specs.Prelude.{◌≡◌, ◌<◌, IfSome, MatchOption, length, true};
+ghost use Rattle.std.specs.Prelude.{◌≡◌, ◌<◌, ◌+◌, IfSome, MatchOption, length, true};
 ghost use Rattle.ready_lists.specs.Lists.{AreReadyLists, highest, prio_of, to_head, to_tail, without};
 ghost use Rattle.machine_rules.specs.Priorities.{exec};
 ghost use Rattle.machine_rules.specs.Threads.{can_run};
@@ -36,6 +36,17 @@ impl Parts {
         let p = self.table.exec(t);
         let _ = p.get();
         self.named.remove(t);
+        self.ready.to_tail(t, p);
+    }
+
+    /// The same, and it stays named where it is.
+    pub(crate) fn put_last_as_named(&mut self, t: Tid)
+        requires known { t < length self.old.names }
+        requires runs { can_run self.old.machine t ≡ true }
+        ensures { self.new ≡ with_lists (to_tail t (exec self.old.machine t)) self.old }
+    {
+        let p = self.table.exec(t);
+        let _ = p.get();
         self.ready.to_tail(t, p);
     }
 
@@ -82,6 +93,14 @@ impl Parts {
         ensures known { IfSome result (λ t. t < length self.now.names) }
     {
         self.named.first_from(from)
+    }
+
+    /// Whether no other thread than that one is named. Those after it stand right then.
+    pub(crate) fn is_named_alone(&self, t: Tid) -> bool
+        requires { t < length self.now.names }
+        ensures { result ≡ true → StandFrom self.now.machine (t + 1) }
+    {
+        self.named.is_alone(t)
     }
 
     /// A thread that stands right is named no more.

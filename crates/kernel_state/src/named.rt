@@ -1,5 +1,5 @@
 // The threads that a settling looks at.
-ghost use Rattle.std.specs.Prelude.{◌≡◌, ◌≤◌, ◌<◌, ℕ, IfSome, MatchOption, false, true};
+ghost use Rattle.std.specs.Prelude.{◌≡◌, ◌≢◌, ◌≤◌, ◌<◌, ℕ, IfSome, MatchOption, false, true};
 ghost use Rattle.kernel_state.specs.Members.{HasNoneFrom, IsFirstFrom, TakesIn, Turns, has};
 
 use tick_num::Tid;
@@ -48,6 +48,14 @@ impl Named {
     {
         let bit = first_bit(self.bits, from as u32)?;
         Tid::try_new(bit as u16)
+    }
+
+    /// Whether no other is in it.
+    pub(crate) fn is_alone(&self, t: Tid) -> bool
+        requires { t < 64 }
+        ensures { result ≡ true → (u : ℕ) → u ≢ t → has u self.now.bits ≡ false }
+    {
+        without_bit(self.bits, t.get() as u32) == 0
     }
 }
 

@@ -53,7 +53,7 @@ impl Parts {
         ensures { self.new ≡ after (blocks (by t call.now) (wait_of wait) due) self.old }
     {
         let serial = self.take_serial();
-        self.block_thread(
+        self.block_runner(
             t,
             Waiting {
                 wait,
@@ -73,7 +73,7 @@ impl Parts {
         requires unordered { mutex_waited (wait_of wait) ≡ None }
         ensures { self.new ≡ after (blocks_unordered (by t call.now) (wait_of wait) due) self.old }
     {
-        self.block_thread(
+        self.block_runner(
             t,
             Waiting {
                 wait,

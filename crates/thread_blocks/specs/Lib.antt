@@ -6,6 +6,7 @@ pub mod Room
 pub mod Held
 pub mod Lasting
 pub mod Running
+pub mod Sleeping
 pub mod Passing
 pub mod Ends
 pub mod Opening

@@ -1,19 +1,20 @@
 // The sporadic server of a thread.
-ghost use Rattle.std.specs.Prelude.{◌≡◌, ◌≤◌, ◌<◌, ◌^◌, None, option_map, option_and_then, true, false, is_some, Some};
-ghost use Rattle.sporadic_server.specs.Server.{ServerState, activate, next_due, plan, refill, replenishment, totals};
+ghost use Rattle.std.specs.Prelude.{◌≡◌, ◌≤◌, ◌<◌, ◌^◌, length, None, option_map, option_and_then, true, false, is_some, Some};
+ghost use Rattle.sporadic_server.specs.Server.{ServerState, activate, is_high, next_due, plan, refill, totals};
+ghost use Rattle.machine_rules.specs.Priorities.{assigned_of};
 ghost use Rattle.machine_rules.specs.Servers.{has_high, high_server, server_of, with_server};
 ghost use Rattle.leap_rules.specs.Quiet.{server_after};
 ghost use Rattle.thread_blocks.specs.Room.{ServerHasRoom};
 ghost use Rattle.thread_blocks.specs.Unused.{IsUnused};
 ghost use Rattle.machine_rules.specs.Machine.{budget_of};
 ghost use Rattle.machine_rules.specs.Ticks.{capacity_in, consumed_in};
-ghost use Rattle.thread_blocks.specs.Ends.{refilled_of};
+ghost use Rattle.thread_blocks.specs.Ends.{greatest_pending, planned_of, refilled_of};
 
-use crate::ends::Refilled;
+use crate::ends::{Planned, Refilled};
 use crate::thread::Thread;
 use pse52_trace::BudgetView;
 use script_tree::Policy;
-use sporadic_server::{BudgetLine, Replenish, Server};
+use sporadic_server::{BudgetLine, Server};
 use tick_num::Tick;
 
 impl Thread {
@@ -100,27 +101,34 @@ impl Thread {
         }
     }
 
-    /// What its server consumed becomes a pending replenishment.
-    pub fn plan(&mut self) -> Replenish
+    /// What its server consumed becomes the last pending replenishment.
+    pub fn plan_next(&mut self) -> Planned
         requires { 1 ≤ consumed_in self.old.server }
-        ensures value { Some result ≡ option_map replenishment self.old.server }
+        ensures value { Some result ≡ option_map planned_of self.old.server }
         ensures thread { self.new ≡ with_server plan self.old }
     {
+        let max = greatest_pending(&self.policy);
         match &mut self.server {
             None => unreachable!(),
-            Some(server) => server.plan(),
+            Some(server) => plan_server(server, max),
         }
     }
 
-    /// The oldest pending replenishment of its server is carried out.
-    pub fn refill(&mut self) -> Refilled
+    /// The oldest pending replenishment of its server is carried out. The second answer is when the next one is due. The assigned priority
+    /// stays, unless the high one is regained.
+    pub fn refill_oldest(&mut self) -> (Refilled, Option<Tick>)
         requires { is_some self.old.server ≡ true }
-        ensures value { Some result ≡ option_map refilled_of self.old.server }
+        ensures value { Some result.0 ≡ option_map refilled_of self.old.server }
+        ensures next { result.1 ≡ option_and_then next_due self.new.server }
+        ensures priority { result.0.regains_high ≡ false → assigned_of self.new ≡ assigned_of self.old }
         ensures thread { self.new ≡ with_server refill self.old }
     {
         match &mut self.server {
             None => unreachable!(),
-            Some(server) => refill_server(server),
+            Some(server) => {
+                let refilled = refill_server(server);
+                (refilled, server.next_due())
+            }
         }
     }
 
@@ -157,10 +165,40 @@ pub(crate) fn charge_server(server: &mut Option<Server>, k: u64)
     }
 }
 
+// How many replenishments may be pending under that policy.
+fn greatest_pending(policy: &Policy) -> usize
+    ensures { result ≡ greatest_pending policy.now }
+{
+    match policy {
+        Policy::Fifo(_) => 0,
+        Policy::Rr(_) => 0,
+        Policy::Sporadic(params) => params.max as usize,
+    }
+}
+
+// What the server, for which at most so many replenishments may be pending, consumed becomes one.
+fn plan_server(server: &mut Server, max: usize) -> Planned
+    requires used { 1 ≤ server.old.consumed }
+    requires room { length server.old.pending < server.old.params.max }
+    requires most { max ≡ server.old.params.max }
+    ensures value { result ≡ planned_of server.old }
+    ensures after { server.new ≡ plan server.old }
+{
+    let replenish = server.plan();
+    let count = server.pending().len();
+    Planned {
+        replenish,
+        is_first: count == 1,
+        has_room: count < max,
+    }
+}
+
 fn refill_server(server: &mut Server) -> Refilled
     ensures value { result ≡ refilled_of server.old }
     ensures after { server.new ≡ refill server.old }
+    ensures stays { is_high server.old ≡ true → is_high server.new ≡ true }
 {
+    let _ = server.totals();
     let was_high = server.is_high();
     let amount = match server.refill() {
         None => 0,

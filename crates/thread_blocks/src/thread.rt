@@ -15,6 +15,7 @@ ghost use Rattle.machine_rules.specs.Units.{in_unit};
 ghost use Rattle.machine_flat.specs.FlatBodies.{flat_bodies};
 ghost use Rattle.machine_flat.specs.Placed.{ArePlaced};
 ghost use Rattle.thread_blocks.specs.Plain.{status_of, wait_of, waiting_of};
+ghost use Rattle.thread_blocks.specs.Sleeping.{waits_for_time};
 ghost use Rattle.pse52_trace.specs.declared.report.Report.{Report};
 ghost use Rattle.machine_rules.specs.Machine.{budget_of, report_of};
 
@@ -185,6 +186,19 @@ impl Thread {
         match self.status {
             Status::Blocked(w) => w.due,
             _ => None,
+        }
+    }
+
+    /// Whether it waits, and for nothing but an instant.
+    pub fn waits_for_time(&self) -> bool
+        ensures { result ≡ waits_for_time (waiting_in self.now.status) }
+    {
+        match &self.status {
+            Status::Blocked(w) => match w.wait {
+                Wait::Time => true,
+                _ => false,
+            },
+            _ => false,
         }
     }
 

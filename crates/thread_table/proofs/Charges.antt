@@ -51,7 +51,7 @@ kept bodies units k th low =
     ∙ ap (assigned_under th.policy)
     (runs_keep bodies (λ (x : Thread Cursor). x.server) th.server (λ x fs us. refl) (λ n x is. ap (option_map (server_after n)) is ∙ low_keeps n th.server low) units k th refl)
 
-assigned_is : (threads : List (Thread Cursor)) (chain : Links) (t : ℕ) → t < length threads →
+pub assigned_is : (threads : List (Thread Cursor)) (chain : Links) (t : ℕ) → t < length threads →
     assigned_in (claims threads) chain.mutexes t ≡ assigned_of (thread_in threads t)
 assigned_is [] chain t inside = elim inside [ ]
 assigned_is (th ∷ threads) chain zero inside = refl

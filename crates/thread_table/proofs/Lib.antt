@@ -11,3 +11,5 @@ pub mod Coming
 pub mod Least
 pub mod Accepting
 pub mod Charges
+pub mod Planning
+pub mod Runs

@@ -3,6 +3,7 @@ pub mod Tied
 pub mod View
 pub mod Moves
 pub mod Opening
+pub mod Plans
 pub mod Movers
 pub mod Times
 pub mod Acceptors

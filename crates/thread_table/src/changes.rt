@@ -1,9 +1,9 @@
 // The changes of one thread that leave its wait as it is, or end it.
-ghost use Rattle.std.specs.Prelude.{◌≡◌, ◌<◌, ◌≤◌, ◌^◌, Some, is_some, length, max, option_map, true};
+ghost use Rattle.std.specs.Prelude.{◌≡◌, ◌<◌, ◌≤◌, ◌^◌, None, Some, is_some, length, max, option_map, true};
 ghost use Rattle.sporadic_server.specs.Server.{activate, plan, refill, replenishment};
 ghost use Rattle.machine_rules.specs.Scheduling.{takes_priority, with_policy, with_priority};
 ghost use Rattle.machine_rules.specs.Servers.{with_server};
-ghost use Rattle.machine_rules.specs.Threads.{thread_in};
+ghost use Rattle.machine_rules.specs.Threads.{thread_in, waiting_in};
 ghost use Rattle.machine_rules.specs.Ticks.{consumed_in, without_slice};
 ghost use Rattle.machine_rules.specs.Turns.{answered};
 ghost use Rattle.machine_rules.specs.Waking.{woken};
@@ -11,15 +11,17 @@ ghost use Rattle.machine_flat.specs.Placed.{ArePlaced};
 ghost use Rattle.thread_blocks.specs.Ends.{refilled_of};
 ghost use Rattle.thread_blocks.specs.Handlers.{CanEnd, HandlersBegin};
 ghost use Rattle.thread_blocks.specs.Running.{HasRun, HasTime};
+ghost use Rattle.thread_blocks.specs.Sleeping.{waits_for_time};
 ghost use Rattle.thread_blocks.specs.Unused.{IsUnused};
 ghost use Rattle.thread_table.specs.Table as table;
 ghost use Rattle.thread_table.specs.Table.{with_thread};
 ghost use Rattle.thread_table.specs.Movers.{KeepsExec, TellsMoved};
 
-use crate::links::{reassign, reassign_charged, stop_waiting};
+use crate::links::{reassign, reassign_changed, stands_nowhere, stop_waiting};
 use crate::movers::thread_of;
+use crate::plans::take_plan;
 use crate::table::Table;
-use crate::times::{retime_refill, time_wait};
+use crate::times::{end_sleep, retime_refill, time_refill, time_wait};
 use script_flat::Code;
 use script_tree::Policy;
 use sporadic_server::Replenish;
@@ -48,6 +50,20 @@ impl Table {
         self.threads.get_mut(t).wake(res, value);
         time_wait(&mut self.wheel, t, None);
         thread_of(moved)
+    }
+
+    /// The same of a thread that waits for nothing but an instant. No execution priority changes of a thread that stands among no waiters.
+    #[inline(always)]
+    #[tactic(auto, using(crate::proofs::Ties::placed))]
+    pub fn wake_sleeper(&mut self, t: Tid, res: Res, value: u64)
+        requires known { t < length self.old.threads }
+        requires sleeps { waits_for_time (waiting_in (thread_in self.old.threads t).status) ≡ true }
+        ensures table { self.new ≡ with_thread t (woken res value) self.old }
+        ensures same { TellsMoved self.old self.new None }
+    {
+        stands_nowhere(&self.chain, &self.waits, t);
+        self.threads.get_mut(t).wake(res, value);
+        end_sleep(&mut self.wheel, t);
     }
 
     /// Its priority is that one; of a sporadic thread the high priority. The answer is the one thread that stands among no waiters and
@@ -107,14 +123,21 @@ impl Table {
         ensures table { self.new ≡ with_thread t (with_server plan) self.old }
         ensures moved { TellsMoved self.old self.new result.1 }
     {
-        let planned = self.threads.get_mut(t).plan();
-        retime_refill(&self.threads, &mut self.wheel, t);
-        let moved = reassign(&self.threads, &mut self.chain, &mut self.waits, t);
-        (planned, thread_of(moved))
+        let planned = self.threads.get_mut(t).plan_next();
+        let moved = take_plan(
+            &self.threads,
+            &mut self.chain,
+            &mut self.waits,
+            &mut self.wheel,
+            t,
+            &planned,
+        );
+        (planned.replenish, thread_of(moved))
     }
 
     /// The oldest pending replenishment of its server is carried out. The second answer is the one thread that stands among no waiters and
     /// whose execution priority changed; `None` exactly where there is none.
+    #[inline(always)]
     #[tactic(auto, using(crate::proofs::Ties::placed))]
     pub fn refill(&mut self, t: Tid) -> (Refilled, Option<Tid>)
         requires known { t < length self.old.threads }
@@ -123,9 +146,15 @@ impl Table {
         ensures table { self.new ≡ with_thread t (with_server refill) self.old }
         ensures moved { TellsMoved self.old self.new result.1 }
     {
-        let refilled = self.threads.get_mut(t).refill();
-        retime_refill(&self.threads, &mut self.wheel, t);
-        let moved = reassign(&self.threads, &mut self.chain, &mut self.waits, t);
+        let (refilled, next) = self.threads.get_mut(t).refill_oldest();
+        time_refill(&mut self.wheel, t, next);
+        let moved = reassign_changed(
+            &self.threads,
+            &mut self.chain,
+            &mut self.waits,
+            t,
+            refilled.regains_high,
+        );
         (refilled, thread_of(moved))
     }
 
@@ -144,7 +173,7 @@ impl Table {
         ensures moved { TellsMoved self.old self.new result.1 }
     {
         let ran = self.threads.get_mut(t).run(code, most, quantum);
-        let moved = reassign_charged(
+        let moved = reassign_changed(
             &self.threads,
             &mut self.chain,
             &mut self.waits,

@@ -11,6 +11,7 @@ mod lives;
 mod movers;
 mod mutexes;
 mod open;
+mod plans;
 mod reads;
 mod signals;
 mod table;

@@ -37,26 +37,26 @@ pub(crate) fn reassign(
     chain.set_base(waits, t, p)
 }
 
-/// The same after a charge, which changes no assigned priority but that of a thread at its high one.
+/// The same where the assigned priority may be another.
 #[inline(always)]
-pub(crate) fn reassign_charged(
+pub(crate) fn reassign_changed(
     threads: &Threads,
     chain: &mut Chain,
     waits: &mut Waits,
     t: Tid,
-    was_high: bool,
+    may_be_another: bool,
 ) -> Option<Moved>
     requires thread { t < length threads.now }
     requires known { t < length chain.old.claims }
     requires placed { IsPlaced chain.old waits.old }
-    requires same { was_high ≡ false → assigned_of (thread_in threads.now t) ≡ assigned_at chain.old t }
+    requires same { may_be_another ≡ false → assigned_of (thread_in threads.now t) ≡ assigned_at chain.old t }
     ensures chain { chain.new ≡ with_claim t (assigned_to (assigned_of (thread_in threads.now t))) chain.old }
     ensures waits { ArePriced chain.new waits.old waits.new }
     ensures placed { IsPlaced chain.new waits.new }
     ensures moved { TellsMoved (length chain.old.claims) (exec_of chain.old) (exec_of chain.new) waits.new result }
     ensures alone { awaited_in chain.old.claims t ≡ None → IfSome result (λ m. m.thread ≡ t) }
 {
-    if !was_high {
+    if !may_be_another {
         return None;
     }
     reassign(threads, chain, waits, t)
@@ -78,6 +78,21 @@ pub(crate) fn stop_waiting(chain: &mut Chain, waits: &mut Waits, t: Tid) -> Opti
         return None;
     }
     leave_place(chain, waits, t)
+}
+
+/// Costs nothing when it runs: a thread that stands nowhere waits for nothing in an order.
+#[inline(always)]
+#[tactic(auto, using(crate::proofs::Places::left_placed, crate::proofs::Places::left_nowhere))]
+pub(crate) fn stands_nowhere(chain: &Chain, waits: &Waits, t: Tid)
+    requires known { t < length chain.now.claims }
+    requires placed { IsPlaced chain.now waits.now }
+    requires nowhere { place_in waits.now t ≡ None }
+    ensures chain { chain.now ≡ with_claim t (waiting_for None) chain.now }
+    ensures waits { ArePriced chain.now (left t waits.now) waits.now }
+{
+    let _ = chain;
+    let _ = waits;
+    let _ = t;
 }
 
 // The thread leaves its place among the waiters.

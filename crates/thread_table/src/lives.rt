@@ -1,19 +1,19 @@
 // A thread starts, waits and ends.
-ghost use Rattle.std.specs.Prelude.{◌≡◌, ◌<◌, ◌≤◌, ◌^◌, ◌∷◌, [], None, length};
+ghost use Rattle.std.specs.Prelude.{◌≡◌, ◌<◌, ◌≤◌, ◌^◌, ◌∷◌, [], None, length, true};
 ghost use Rattle.machine_rules.specs.Lives.{without_life};
 ghost use Rattle.machine_rules.specs.Priorities.{mutex_awaited_by, mutex_waited};
 ghost use Rattle.machine_rules.specs.Servers.{server_of};
-ghost use Rattle.machine_rules.specs.Threads.{thread_in};
+ghost use Rattle.machine_rules.specs.Threads.{is_runnable, thread_in};
 ghost use Rattle.machine_rules.specs.Waking.{put_to_wait};
 ghost use Rattle.thread_blocks.specs.Plain.{status_of, wait_of, waiting_of};
 ghost use Rattle.thread_table.specs.Table as table;
 ghost use Rattle.thread_table.specs.Table.{CanAwait, with_thread};
 ghost use Rattle.thread_table.specs.Movers.{TellsMoved, TellsMovedBeside};
 
-use crate::links::{begin_waiting, reassign, stop_waiting};
+use crate::links::{begin_waiting, reassign, stands_nowhere, stop_waiting};
 use crate::movers::{beside, thread_of};
 use crate::table::Table;
-use crate::times::{retime, time_wait};
+use crate::times::{retime, time_runner, time_wait};
 use thread_blocks::{Frame, Status, Waiting};
 use tick_num::{SigSet, Tick, Tid};
 
@@ -64,6 +64,23 @@ impl Table {
         let moved = begin_waiting(&mut self.chain, &mut self.waits, t, &waiting);
         self.threads.get_mut(t).block(waiting);
         time_wait(&mut self.wheel, t, waiting.due);
+        thread_of(moved)
+    }
+
+    /// The same of a thread that can run.
+    #[inline(always)]
+    #[tactic(auto, using(crate::proofs::Ties::placed))]
+    pub fn block_runner(&mut self, t: Tid, waiting: Waiting) -> Option<Tid>
+        requires known { t < length self.old.threads }
+        requires runs { is_runnable (thread_in self.old.threads t).status ≡ true }
+        requires may { CanAwait self.old t (mutex_waited (wait_of waiting.wait)) }
+        ensures table { self.new ≡ with_thread t (put_to_wait (waiting_of waiting)) self.old }
+        ensures moved { TellsMoved self.old self.new result }
+    {
+        stands_nowhere(&self.chain, &self.waits, t);
+        let moved = begin_waiting(&mut self.chain, &mut self.waits, t, &waiting);
+        self.threads.get_mut(t).block(waiting);
+        time_runner(&mut self.wheel, t, waiting.due);
         thread_of(moved)
     }
 }

@@ -1,10 +1,11 @@
 // The wheel, and when the items of the threads are due.
-ghost use Rattle.std.specs.Prelude.{◌≡◌, ◌<◌, ◌≤◌, [], length, slice_set};
+ghost use Rattle.std.specs.Prelude.{◌≡◌, ◌<◌, ◌≤◌, ◌+◌, [], None, length, slice_set};
 ghost use Rattle.machine_rules.specs.Agenda.{agenda};
 ghost use Rattle.machine_rules.specs.DueItems.{next_item};
 ghost use Rattle.machine_rules.specs.Threads.{thread_in};
 ghost use Rattle.thread_table.specs.Table.{machine_at, machine_with};
 ghost use Rattle.thread_table.specs.Tied.{AreArmed, refilling, timed, waiting_until};
+ghost use Rattle.timer_wheel.specs.Dues.{due_of};
 ghost use Rattle.thread_table.specs.Times.{in_time, least_due};
 
 use crate::open::tid_of;
@@ -44,6 +45,41 @@ pub(crate) fn time_wait(wheel: &mut Wheel, t: Tid, due: Option<Tick>)
 {
     wheel.set_due(Item::Start(t).number(), None);
     wheel.set_due(Item::Timeout(t).number(), due);
+}
+
+/// The refill of the thread, which was due, is due then.
+#[inline(always)]
+pub(crate) fn time_refill(wheel: &mut Wheel, t: Tid, due: Option<Tick>)
+    requires thread { t < 256 }
+    requires numbers { length wheel.old.dues ≡ 1024 }
+    ensures { wheel.new.dues ≡ slice_set wheel.old.dues t due }
+{
+    wheel.set_due(Item::Refill(t).number(), due);
+}
+
+/// The wait of the thread, which has started, does not end by itself any more.
+#[inline(always)]
+pub(crate) fn end_sleep(wheel: &mut Wheel, t: Tid)
+    requires thread { t < 256 }
+    requires numbers { length wheel.old.dues ≡ 1024 }
+    requires started { due_of (256 + t) wheel.old.dues ≡ None }
+    ensures { wheel.new.dues ≡ waiting_until t None wheel.old.dues }
+{
+    wheel.set_due(Item::Timeout(t).number(), None);
+}
+
+/// The thread, which can run, begins a wait that ends then by itself; with `None` it waits without a limit.
+#[inline(always)]
+pub(crate) fn time_runner(wheel: &mut Wheel, t: Tid, due: Option<Tick>)
+    requires thread { t < 256 }
+    requires numbers { length wheel.old.dues ≡ 1024 }
+    requires started { due_of (256 + t) wheel.old.dues ≡ None }
+    requires runs { due_of (512 + t) wheel.old.dues ≡ None }
+    ensures { wheel.new.dues ≡ waiting_until t due wheel.old.dues }
+{
+    if let Some(at) = due {
+        wheel.arm(Item::Timeout(t).number(), at);
+    }
 }
 
 /// The items of the thread are armed as they are due now.

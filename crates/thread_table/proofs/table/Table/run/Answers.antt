@@ -23,27 +23,27 @@ invariant_of-self c =
     let is = ran.thread ∙ ap f c.get_mut.ensures.value in
     record {
       tied = (let known = rw (← c.self.view_is) at c.requires.known in
-          reassigned_tied s.threads s.chain c.reassign_charged-moved.new.chain s.waits c.reassign_charged-moved.new.waits c.args.t f c.run-ran.new.self known
+          reassigned_tied s.threads s.chain c.reassign_changed-moved.new.chain s.waits c.reassign_changed-moved.new.waits c.args.t f c.run-ran.new.self known
           is (λ th. runs_keep bodies (λ (x : Thread Cursor). waiting_in x.status) (waiting_in th.status) (λ x fs us. refl) (λ k x e. e) ran.units c.run-ran.result.ticks th refl)
-          c.reassign_charged-moved.ensures.chain c.reassign_charged-moved.ensures.waits c.self.invariant.tied);
+          c.reassign_changed-moved.ensures.chain c.reassign_changed-moved.ensures.waits c.self.invariant.tied);
       armed = rw is (still_armed s.threads s.timers s.wheel.dues c.args.t f
           (λ th. runs_keep bodies refill_of (refill_of th) (λ x fs us. refl) (λ k x e. charged_due k x.server ∙ e) ran.units c.run-ran.result.ticks th refl)
           (λ th. runs_keep bodies start_of (start_of th) (λ x fs us. refl) (λ k x e. e) ran.units c.run-ran.result.ticks th refl)
           (λ th. runs_keep bodies timeout_of (timeout_of th) (λ x fs us. refl) (λ k x e. e) ran.units c.run-ran.result.ticks th refl) c.self.invariant.armed);
     }
 
-pub reassign_charged-moved-requires-clause-placed : goal.reassign_charged-moved-requires-clause-placed
-reassign_charged-moved-requires-clause-placed c = placed c.self.inside.threads c.self.inside.chain c.self.inside.waits c.self.invariant.tied
+pub reassign_changed-moved-requires-clause-placed : goal.reassign_changed-moved-requires-clause-placed
+reassign_changed-moved-requires-clause-placed c = placed c.self.inside.threads c.self.inside.chain c.self.inside.waits c.self.invariant.tied
 
 pub returns-clause-moved : goal.returns-clause-moved
 returns-clause-moved c =
     let s = c.self.inside in
     rw (← c.self.view_is, c.thread_of.ensures)
-    (told s.timers s.threads (slice_set s.threads c.args.t c.run-ran.new.self) s.chain c.reassign_charged-moved.new.chain s.waits c.reassign_charged-moved.new.waits c.reassign_charged-moved.result (length-set s.threads c.args.t c.run-ran.new.self) c.self.invariant.tied
-    (invariant_of-self c).tied c.reassign_charged-moved.ensures.moved)
+    (told s.timers s.threads (slice_set s.threads c.args.t c.run-ran.new.self) s.chain c.reassign_changed-moved.new.chain s.waits c.reassign_changed-moved.new.waits c.reassign_changed-moved.result (length-set s.threads c.args.t c.run-ran.new.self) c.self.invariant.tied
+    (invariant_of-self c).tied c.reassign_changed-moved.ensures.moved)
 
-pub reassign_charged-moved-requires-clause-same : goal.reassign_charged-moved-requires-clause-same
-reassign_charged-moved-requires-clause-same c = λ low.
+pub reassign_changed-moved-requires-clause-same : goal.reassign_changed-moved-requires-clause-same
+reassign_changed-moved-requires-clause-same c = λ low.
     let s = c.self.inside in
     let ran = c.run-ran.ensures in
     let bodies = flat_bodies c.args.code.now in

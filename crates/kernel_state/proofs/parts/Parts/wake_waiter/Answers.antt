@@ -3,7 +3,7 @@ use Rattle.script_flat.specs.declared.cursor.Cursor.{Cursor}
 use Rattle.machine_rules.specs.State.{Thread}
 use Rattle.machine_rules.specs.Waking.{woken}
 use Rattle.kernel_state.proofs.Carried.{as_many, fit, tied_again, told_there, told_thread}
-use Rattle.kernel_state.proofs.parts.Parts.wake_thread.Goals as goal
+use Rattle.kernel_state.proofs.parts.Parts.wake_waiter.Goals as goal
 
 pub invariant_of-self : goal.invariant_of-self
 invariant_of-self c =

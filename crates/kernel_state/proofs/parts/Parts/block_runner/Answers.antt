@@ -1,0 +1,26 @@
+use Rattle.std.proofs.Common.{arith}
+use Rattle.script_flat.specs.declared.cursor.Cursor.{Cursor}
+use Rattle.machine_rules.specs.State.{Thread}
+use Rattle.machine_rules.specs.Waking.{put_to_wait}
+use Rattle.thread_blocks.specs.Plain.{waiting_of}
+use Rattle.kernel_state.proofs.Carried.{as_many, fit, self_thread, tied_again, told_keeps, told_there}
+use Rattle.kernel_state.proofs.parts.Parts.block_runner.Goals as goal
+
+pub invariant_of-self : goal.invariant_of-self
+invariant_of-self c =
+    let s = c.self.inside in
+    let w = c.block_runner-moved in
+    let f : Thread Cursor → Thread Cursor = put_to_wait (waiting_of c.args.waiting) in
+    let known = rw (← c.self.view_is) at c.requires.known in
+    record {
+      tied = tied_again s.names s.code s.ready.threads s.table.threads w.new.self.threads s.direct (as_many s.table w.new.self c.args.t f w.ensures.table) c.self.invariant.tied;
+      stand = self_thread s.table w.new.self s.ready.lists s.named.bits c.args.t f w.ensures.table c.self.invariant.stand c.add.new.self.bits c.take_in.new.self.bits w.result
+          (omega (arith, known, c.self.invariant.tied.named)) c.add.ensures c.take_in.ensures (told_there s.table w.new.self w.result w.ensures.moved) (told_keeps c.args.t s.table w.new.self w.result w.ensures.moved);
+    }
+
+pub take_in-requires : goal.take_in-requires
+take_in-requires c =
+    let s = c.self.inside in
+    let w = c.block_runner-moved in
+    let f : Thread Cursor → Thread Cursor = put_to_wait (waiting_of c.args.waiting) in
+    fit s.table w.new.self w.result (as_many s.table w.new.self c.args.t f w.ensures.table) c.self.invariant.tied.few (told_there s.table w.new.self w.result w.ensures.moved)
