@@ -4,6 +4,7 @@
     python3 tools/live/batch.py rows                      the worked examples of tests/worked that the kernel has the forms for
     python3 tools/live/batch.py probes [--keep]           the probes of examples/real; --keep writes their traces and logs anew
     python3 tools/live/batch.py generated FIRST COUNT     generated scripts, from a seed on
+    python3 tools/live/batch.py plain FIRST COUNT         those that come to no known difference, and so must agree
 
 Further words: --only NAME.., --program WORDS, --core K, --times T, --figures NAME (keeps the sums in tools/live/figures.json),
 --logs FOLDER (keeps each log). Exit status 1 where a difference has no name, or the other side parts from the reference.
@@ -57,7 +58,7 @@ class Sums:
 
 def words_of(words: list[str]) -> argparse.Namespace:
     parser = argparse.ArgumentParser(description=__doc__, formatter_class=argparse.RawDescriptionHelpFormatter)
-    parser.add_argument("kind", choices=("rows", "probes", "generated"))
+    parser.add_argument("kind", choices=("rows", "probes", "generated", "plain"))
     parser.add_argument("numbers", nargs="*", type=int)
     parser.add_argument("--keep", action="store_true")
     parser.add_argument("--only", nargs="+", default=[])
@@ -76,7 +77,7 @@ def cases(said: argparse.Namespace) -> Iterator[Case]:
         case "probes":
             found = probes()
         case _:
-            found = generated(*said.numbers)
+            found = generated(*said.numbers, is_plain=said.kind == "plain")
     yield from (case for case in found if not said.only or case.name in said.only)
 
 
@@ -126,10 +127,11 @@ class Batch:
             sums.known += bool(result.names)
             sums.unknown += not result.names
             sums.names.update(result.names)
-            wanted = "" if not case.shows or case.shows in result.names else f", and not {case.shows}"
-            print(f"{case.name}: {', '.join(result.names) or 'NO KNOWN NAME'}{wanted}: {found.differences[0]}")
-        if case.shows and found.agrees:
-            print(f"{case.name}: agrees, and was to show {case.shows}")
+            print(f"{case.name}: {', '.join(result.names) or 'NO KNOWN NAME'}: {found.differences[0]}")
+        shown = ["agrees"] if result.agrees else result.names
+        if case.shows and case.shows not in shown:
+            sums.unknown += 1
+            print(f"{case.name}: shows {', '.join(shown)}, and was to show {case.shows}")
 
 
 def trace_text(lines: list[str]) -> str:

@@ -47,8 +47,8 @@ def probes() -> Iterator[Case]:
     yield from map(probe, sorted(PROBES.glob("*.task")))
 
 
-def generated(first: int, count: int) -> Iterator[Case]:
-    """So many generated scripts, from a seed on."""
+def generated(first: int, count: int, is_plain: bool = False) -> Iterator[Case]:
+    """So many generated scripts, from a seed on; plain ones come to no known difference."""
     for seed in range(first, first + count):
-        text, horizon = made(seed)
+        text, horizon = made(seed, is_plain)
         yield Case(f"seed_{seed}", text, horizon)

@@ -62,7 +62,7 @@ class Comparer:
 
     def compare(self) -> Comparison:
         if self.log.trouble is not None:
-            self.differ(0, f"the run {self.log.trouble}")
+            self.differ(self.log.died or 0, f"the process {self.log.trouble}")
         self.compare_owners()
         self.compare_priorities()
         self.compare_killed()
@@ -171,6 +171,8 @@ class Comparer:
 
     def end(self) -> int:
         """When the run ended: at its horizon, or with its process."""
+        if self.log.died is not None:
+            return min(self.log.died, len(self.log.owners))
         if self.log.killed is None:
             return len(self.log.owners)
         return self.due.end if self.is_killed_as_due() else self.log.killed[0]

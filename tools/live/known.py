@@ -1,2 +1,3 @@
+RIG = frozenset(("slice-ends-with-a-unit",))
 def told(name):
     return [name]

@@ -45,6 +45,7 @@ class Log:
     processor: list[float] = field(default_factory=list)  #: of each thread, by its clock, in ticks
     killed: tuple[int, str] | None = None
     trouble: str | None = None  #: how the run ended, where it came neither to its horizon nor to the end of its process
+    died: int | None = None  #: the tick at which the process was ended by a signal that no script sends, as an abort
     noise: Noise = Noise(0, 0, 0, 0.0)
 
     @property
@@ -81,8 +82,11 @@ def _read_line(log: Log, line: str) -> None:
             log.processor.append(float(words[3]))
         case "noise":
             log.noise = Noise(int(words[2]), int(words[4]), int(words[6]), float(words[8]))
-        case "timeout" | "died" | "ended":
-            log.trouble = line
+        case "died":
+            log.trouble = "died of signal " + words[3]
+            log.died = int(words[5])
+        case "timeout":
+            log.trouble = "did not end in time"
         case _ if words[3] == "killed":
             log.killed = (int(words[0]), words[4])
         case _:

@@ -17,13 +17,8 @@ from .log import Log, read_log
 from .runner import LONGEST_SECONDS, Place, last_core, run_flat
 from .settings import realtime
 from .unfit import Unfit, unfit_lines
-from .watch import Watched, Watcher
-from .watch_mutexes import ConditionWatcher, MutexWatcher, SemaphoreWatcher
-from .watch_signals import DeferredWatcher, QueueWatcher, SignalWatcher, TimerWatcher
-from .watch_threads import LifeWatcher, SchedulingWatcher, WakeWatcher
+from .watched import watched
 
-WATCHERS: list[type[Watcher]] = [
-    MutexWatcher, ConditionWatcher, SemaphoreWatcher, WakeWatcher, SchedulingWatcher, LifeWatcher, SignalWatcher, TimerWatcher, QueueWatcher]
 TICK = 5.0  #: milliseconds
 LEAST_RR_TICK = 8.0  #: a round robin tick is a multiple of the kernel's own tick, and at least this
 MOST_ATTEMPTS = 10
@@ -112,13 +107,6 @@ def script_of(text: bytes) -> Script:
     if lines:
         raise CannotRun(lines)
     return script
-
-
-def watched(script: Script, horizon: int, handlers_in_waits: bool = False) -> Watched:
-    """The reference's run to the horizon, with all that is known noted."""
-    machine = Watched(script, [*WATCHERS, DeferredWatcher] if handlers_in_waits else WATCHERS)
-    machine.run_until(horizon)
-    return machine
 
 
 def kernel_tick() -> float:

@@ -69,6 +69,6 @@ def run_flat(numbers: list[int], horizon: int, place: Place, handlers_in_waits: 
         process.kill()
         process.wait()
         raise
-    if process.returncode != 0 or said:
-        raise NoLog(f"the runner has ended with {process.returncode}: {said.strip()}")
+    if process.returncode != 0 or "\nended early" in "\n" + log:
+        raise NoLog(f"the runner could not run the script: {said.strip() or process.returncode}")
     return log

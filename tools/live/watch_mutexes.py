@@ -13,10 +13,10 @@ FOR_MUTEX = (WaitKind.MUTEX, WaitKind.CONTENTION)
 class MutexWatcher(Watcher):
     def __init__(self, machine: Watched) -> None:
         super().__init__(machine)
-        self.handed: dict[int, int] = {}  #: mutexes whose new owner has not run yet
+        self.handed: dict[int, tuple[int, str]] = {}  #: mutexes whose new owner has not run yet, and what a use of them shows
 
     def before_run(self, thread: Thread) -> None:
-        self.handed = {mutex: owner for mutex, owner in self.handed.items() if owner != thread.number}
+        self.handed = {mutex: (owner, name) for mutex, (owner, name) in self.handed.items() if owner != thread.number}
 
     def before_call(self, thread: Thread, call: Call) -> None:
         if call.word not in ("lock", "timedlock", "trylock"):
@@ -44,14 +44,14 @@ class MutexWatcher(Watcher):
             self.note("ceiling-after-timeout")
 
     def touch(self, number: int) -> None:
-        """Somebody asks for a mutex that was handed over, and whose owner would still have to take it."""
+        """Somebody asks for a mutex that its new owner would still have to take."""
         if number in self.handed:
-            self.note("no-hand-over")
+            self.note(self.handed[number][1])
 
     def after_release(self, mutex: int) -> None:
         owner = self.machine.mutexes[mutex].owner
         if owner is not None:
-            self.handed[mutex] = owner
+            self.handed[mutex] = (owner, "no-hand-over")
 
     def before_contention(self, thread: Thread) -> None:
         number = thread.wait.mutex
@@ -66,7 +66,7 @@ class MutexWatcher(Watcher):
 
     def after_contention(self, thread: Thread, mutex: int) -> None:
         if self.machine.mutexes[mutex].owner == thread.number:
-            self.handed[mutex] = thread.number
+            self.handed[mutex] = (thread.number, "mutex-after-condition")
 
     def others_for(self, thread: Thread, number: int) -> bool:
         """Whether other threads wait for the mutex."""

@@ -45,8 +45,10 @@ class SignalWatcher(Watcher):
     def before_generation(self, record: Record) -> None:
         taker = acceptor(self.machine, record)
         if record.target is None:
-            takers = [thread for thread in self.machine.threads if self.is_open(thread, record.signal) or
-                      thread.waits_in(WaitKind.SIGNAL) and thread.wait.signals >> record.signal & 1]
+            waiting = [thread for thread in self.machine.threads if thread.waits_in(WaitKind.SIGNAL) and thread.wait.signals >> record.signal & 1]
+            takers = {thread.number for thread in self.machine.threads if self.is_open(thread, record.signal) or thread in waiting}
+            if len(waiting) > 1:
+                self.note("second-waiter-interrupted")
             kills = action_of(self.machine, record.signal) is Fate.KILL and taker is None
             if len(takers) > 1 and not kills:
                 self.note("choice-of-thread")

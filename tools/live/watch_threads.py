@@ -106,5 +106,3 @@ class LifeWatcher(Watcher):
         other = self.machine.threads[call.operands[0]]
         if other.joiner.waiting is not None and other is not thread:
             self.note("second-joiner")
-        if other.waits_in(WaitKind.JOIN) and other.wait.target == thread.number:
-            self.note("mutual-join")

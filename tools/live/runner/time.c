@@ -98,12 +98,13 @@ static bool burn_tick(Thread *me) {
   last_runner = me->number;
   int64_t last = now(), tick = tick_of(last), end = grid(tick + 1), spent = clock_now(CLOCK_THREAD_CPUTIME_ID);
   int64_t handled = me->handled;
-  bool owned = false;
+  bool owned = false, preempted = false;
   while (last < end) {
     int64_t time = now();
     if (last_runner != me->number || me->handled != handled) {
       last_runner = me->number;
       handled = me->handled;
+      preempted = true;
       time = now();
       if (time - last > part(GAP) && last < grid(tick) + part(OWNED)) return false;
     } else if (time - last > part(GAP)) {
@@ -116,7 +117,7 @@ static bool burn_tick(Thread *me) {
     }
   }
   if (!owned) own(me, tick);
-  count_lateness(last - end);
+  if (!preempted) count_lateness(last - end);
   run->processor[me->number] += clock_now(CLOCK_THREAD_CPUTIME_ID) - spent;
   return true;
 }
