@@ -14,7 +14,6 @@ from __future__ import annotations
 import argparse
 import json
 import sys
-from collections import Counter
 from collections.abc import Iterator
 from dataclasses import asdict, dataclass, field
 from pathlib import Path
@@ -47,7 +46,7 @@ class Sums:
     disturbed: int = 0
     events: int = 0
     parted: int = 0  #: traces of the other side that are not the reference's
-    names: Counter = field(default_factory=Counter)
+    names: dict[str, int] = field(default_factory=dict)  #: how often each known difference was one of those that explain
 
     def line(self) -> str:
         ran = self.agree + self.known + self.unknown + self.gave_up
@@ -126,7 +125,8 @@ class Batch:
         else:
             sums.known += bool(result.names)
             sums.unknown += not result.names
-            sums.names.update(result.names)
+            for name in result.names:
+                sums.names[name] = sums.names.get(name, 0) + 1
             print(f"{case.name}: {', '.join(result.names) or 'NO KNOWN NAME'}: {found.differences[0]}")
         shown = ["agrees"] if result.agrees else result.names
         if case.shows and case.shows not in shown:
@@ -169,7 +169,7 @@ def main(words: list[str]) -> int:
         return 130
     print(f"beside {side.name}")
     print(batch.sums.line())
-    print(dict(batch.sums.names.most_common()))
+    print(dict(sorted(batch.sums.names.items())))
     if said.figures:
         keep_figures(said.figures, side, batch.sums)
     return 1 if batch.sums.unknown or batch.sums.parted else 0

@@ -17,13 +17,17 @@ _HEAD = re.compile(r"# horizon (\d+)(, handlers)?\. (.*)")
 
 @dataclass(frozen=True)
 class Case:
-    """A script with its horizon. `handlers` says that they run in waits too; `shows` is the known difference of a probe."""
+    """A script with its horizon. `handlers` says that they run in waits too.
+
+    `shows` is the known difference of a probe, or `agrees`, and `title` what to look for.
+    """
 
     name: str
     text: bytes
     horizon: int
     handlers: bool = False
     shows: str = ""
+    title: str = ""
 
 
 def worked() -> Iterator[Case]:
@@ -40,7 +44,8 @@ def probe(path: Path) -> Case:
     head = _HEAD.fullmatch(text.decode().splitlines()[0])
     if head is None:
         raise ValueError(f"{path.name}: the first line is not '# horizon N. NAME: ..'")
-    return Case(path.stem, text, int(head[1]), head[2] is not None, head[3].split(":")[0])
+    shows, _, title = head[3].partition(": ")
+    return Case(path.stem, text, int(head[1]), head[2] is not None, shows, title)
 
 
 def probes() -> Iterator[Case]:

@@ -11,7 +11,7 @@ from reader import read
 from script import Script
 
 from .flatten import TooMany, flatten
-from .known import RIG
+from .known import limits_of_the_rig
 from .unfit import unfit_lines
 from .watched import watched
 
@@ -51,6 +51,6 @@ def fitting(text: bytes) -> Script | None:
 def tells(script: Script, horizon: int, is_plain: bool) -> bool:
     """Whether a run has enough events, and nothing in it that would hide what the kernel does."""
     machine = watched(script, horizon)
-    if len(machine.events) < LEAST_EVENTS or RIG & set(machine.noted):
+    if len(machine.events) < LEAST_EVENTS or limits_of_the_rig() & set(machine.noted):
         return False
     return not (is_plain and machine.noted)

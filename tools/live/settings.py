@@ -1,8 +1,10 @@
 """The settings of the kernel that a run needs, and that are put back afterwards, also where the run is interrupted."""
 from __future__ import annotations
 
+import fcntl
 import os
 import signal
+import tempfile
 from collections.abc import Iterator
 from contextlib import contextmanager
 from pathlib import Path
@@ -11,6 +13,8 @@ from types import FrameType
 RUNTIME = Path("/proc/sys/kernel/sched_rt_runtime_us")
 TIMESLICE = Path("/proc/sys/kernel/sched_rr_timeslice_ms")
 DEPTH = Path("/proc/sys/fs/mqueue/msg_max")
+#: whoever holds it runs; the others wait, since they would disturb one another and put back what is not theirs
+LOCK = (Path("/run") if Path("/run").is_dir() else Path(tempfile.gettempdir())) / "pse52-live.lock"
 ENDING = (signal.SIGINT, signal.SIGTERM, signal.SIGHUP)
 
 
@@ -57,30 +61,50 @@ def _interrupt(number: int, _frame: FrameType | None) -> None:
 
 
 @contextmanager
+def _alone() -> Iterator[None]:
+    """Nobody else is inside at the same time, on this machine."""
+    file = os.open(LOCK, os.O_CREAT | os.O_RDWR | os.O_NOFOLLOW | os.O_CLOEXEC, 0o600)
+    try:
+        fcntl.flock(file, fcntl.LOCK_EX)
+        yield
+    finally:
+        os.close(file)
+
+
+@contextmanager
 def realtime(timeslice: int | None = None, depth: int = 0) -> Iterator[None]:
     """Realtime threads may use all of a core inside, a round robin interval has so many milliseconds, and a queue this depth.
 
     What the settings were is put back at the end, whatever ends it; a signal that asks for the end becomes `Interrupted`.
     """
+    with _alone():
+        wanted = _wanted(timeslice, depth)
+        kept = {path: path.read_text().strip() for path in wanted}
+        handlers = {number: signal.signal(number, _interrupt) for number in ENDING}
+        try:
+            for path, value in wanted.items():
+                _set(path, value)
+            yield
+        finally:
+            for number in ENDING:
+                signal.signal(number, signal.SIG_IGN)
+            for path, value in kept.items():
+                _set(path, value)
+            for number, handler in handlers.items():
+                signal.signal(number, handler)
+
+
+def _wanted(timeslice: int | None, depth: int) -> dict[Path, str]:
     wanted = {RUNTIME: "-1"}
     if timeslice is not None:
         wanted[TIMESLICE] = str(timeslice)
     if DEPTH.exists() and int(DEPTH.read_text()) < depth:
         wanted[DEPTH] = str(depth)
-    kept = {path: path.read_text().strip() for path in wanted}
-    handlers = {number: signal.signal(number, _interrupt) for number in ENDING}
+    return wanted
+
+
+def _set(path: Path, value: str) -> None:
     try:
-        for path, value in wanted.items():
-            path.write_text(value + "\n")
-        yield
+        path.write_text(value + "\n")
     except OSError as error:
-        if error.filename in map(str, wanted):
-            raise NotAllowed(f"{error.filename} cannot be set: {error.strerror}") from error
-        raise
-    finally:
-        for number in ENDING:
-            signal.signal(number, signal.SIG_IGN)
-        for path, value in kept.items():
-            path.write_text(value + "\n")
-        for number, handler in handlers.items():
-            signal.signal(number, handler)
+        raise NotAllowed(f"{path} cannot be set: {error.strerror}") from error
