@@ -1,6 +1,7 @@
 #!/usr/bin/env bash
-# Tries what stands beside the program: the tests of the viewer and of the sweep, the manual pages, and the commands of the tutorial
-# and of the page on sweeps. Nothing is built. What a missing tool would have read is skipped, with a line that says so.
+# Tries what stands beside the program: the tests of the viewer, of the sweep and of scripts on real threads, the manual pages, and the
+# commands of the tutorial and of the page on sweeps. Nothing is built but the runner of real threads, where those may run. What a
+# missing tool would have read is skipped, with a line that says so, and so are real threads where they may not run.
 set -u
 cd "$(dirname "$0")/.." || exit 1
 
@@ -14,7 +15,7 @@ if ! python3 -c 'import sys; sys.exit(sys.version_info < (3, 11))'; then
 fi
 
 failed=0
-for folder in view sweep pages; do
+for folder in view sweep pages live; do
     log=$(python3 -m unittest discover -s "tools/$folder/tests" -t tools 2>&1)
     if [ $? -eq 0 ]; then
         printf '%s\n' "$log" | grep -o 'skipped: .*' | sort -u

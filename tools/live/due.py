@@ -51,9 +51,10 @@ def other_side(said: str | None = None) -> Side:
     """Who is asked: what was said, or PSE52 of the environment, or the proved program, or the reference."""
     said = said or os.environ.get("PSE52")
     if said:
-        return Side(tuple(shlex.split(said)), said)
+        is_proved = Path(said).parts[-4:] == BUILT.parts[-4:]  # only a proof leaves a program there
+        return Side(tuple(shlex.split(said)), "the proved program" if is_proved else said)
     if BUILT.exists():
-        return Side((str(TOP / "bin" / "pse52"),), "the proved program, bin/pse52")
+        return Side((str(TOP / "bin" / "pse52"),), "the proved program")
     return Side((sys.executable, str(REFERENCE)), "the reference, tools/reference/simulate.py, since the program is not built")
 
 

@@ -2,6 +2,7 @@
 from __future__ import annotations
 
 import argparse
+import signal
 import sys
 from enum import IntEnum
 from pathlib import Path
@@ -67,7 +68,7 @@ def report(result: Result, side: Side) -> Status:
     if not result.names:
         say("no known difference explains the first one: the kernel breaks a rule that docs/REAL_KERNELS.md does not name, or the rig is wrong")
         return Status.UNKNOWN
-    say("what is known of it (docs/REAL_KERNELS.md), the rule that the script came to by then:")
+    say("known differences that the script had come to by then, the latest first (docs/REAL_KERNELS.md):")
     for name in result.names:
         for line in known.told(name):
             say(f"    {line}")
@@ -111,6 +112,6 @@ def main(words: list[str]) -> int:
     except (NoTrace, NotBuilt, NoLog, NotALog) as missing:
         say(str(missing))
         return Status.NOT_BUILT
-    except Interrupted as interrupted:
+    except (Interrupted, KeyboardInterrupt) as interrupted:
         say("interrupted; the settings of the kernel are as they were")
-        return Status.INTERRUPTED + interrupted.number
+        return Status.INTERRUPTED + getattr(interrupted, "number", signal.SIGINT)

@@ -91,8 +91,8 @@ def section(each: Difference) -> Iterator[str]:
     yield wrapped("**To a designer**:", each.means)
     for name in each.probes:
         case = probe(PROBES / f"{name}.task")
-        agrees = ", where both agree" if case.shows == "agrees" else ""
-        yield f"\n[{name}](../examples/real/{name}.task){agrees}: {case.title}\n"
+        how = ", where both agree" if case.shows == "agrees" else ", with `--handlers`" if case.handlers else ""
+        yield f"\n[{name}](../examples/real/{name}.task){how}: {case.title}\n"
         yield "```"
         yield from picture(name)
         yield "```"
@@ -121,8 +121,8 @@ SHORT = {Side.STANDARD: "the rules'", Side.OPEN: "open, or Linux's", Side.OWN: "
 
 def counts() -> str:
     sides = [each.side for each in by_name().values()]
-    return (f"{len(sides) - sides.count(Side.RIG)} differences: in {sides.count(Side.STANDARD)} the standard is on the side of the rules, "
-            f"{sides.count(Side.OPEN)} it leaves open or leans to Linux, and in {sides.count(Side.OWN)} the rule is this project's own.")
+    return (f"There are {len(sides) - sides.count(Side.RIG)}: in {sides.count(Side.STANDARD)} the standard is on the side of the rules,\n"
+            f"{sides.count(Side.OPEN)} it leaves open, or it leans to Linux, and in {sides.count(Side.OWN)} the rule is this project's own.")
 
 
 def figures() -> str:
@@ -143,7 +143,8 @@ def sides() -> str:
     told = json.loads(FIGURES.read_text())
     versions = {json.dumps(sums["versions"], sort_keys=True) for sums in told.values()}
     lines = [f"{each['kernel']} ({each['preemption']}), {each['library']}, {each['processors']} processors" for each in map(json.loads, sorted(versions))]
-    return "; ".join(lines) + ". The traces that are due are those of " + " and ".join(sorted({sums["side"] for sums in told.values()})) + "."
+    asked = " and ".join(sorted({sums["side"] for sums in told.values()}))
+    return "; ".join(lines) + f".\nThe traces that are due are those of {asked}."
 
 
 def left_out() -> str:

@@ -89,9 +89,10 @@ class Result:
 
     @property
     def names(self) -> list[str]:
-        """The known differences that may have made the first one that shows."""
+        """The known differences that may have made the first one that shows, the latest first."""
         first = self.last.found.first
-        return [] if first is None else [name for name, tick in self.noted.items() if tick <= first]
+        known = [] if first is None else [name for name, tick in self.noted.items() if tick <= first]
+        return sorted(known, key=lambda name: -self.noted[name])
 
     @property
     def is_explained(self) -> bool:
