@@ -81,6 +81,8 @@ def cases(said: argparse.Namespace) -> Iterator[Case]:
 
 
 class Batch:
+    """The cases of one kind, one after the other."""
+
     def __init__(self, said: argparse.Namespace, side: Side) -> None:
         self.said = said
         self.side = side
@@ -110,6 +112,7 @@ class Batch:
             (self.said.logs / f"{case.name}.trace").write_text(trace_text(result.due.lines))
 
     def add(self, case: Case, result: Result) -> None:
+        """Adds up one result, and prints what is not as it would be best."""
         sums, found = self.sums, result.last.found
         sums.runs += result.attempts
         sums.disturbed += result.attempts - len(result.runs)
@@ -147,6 +150,7 @@ def keep_probe(case: Case, result: Result) -> None:
 
 
 def keep_figures(name: str, side: Side, sums: Sums) -> None:
+    """The sums by their kind, for the page."""
     figures = json.loads(FIGURES.read_text()) if FIGURES.exists() else {}
     figures[name] = asdict(sums) | {"side": side.name, "versions": versions()}
     FIGURES.write_text(json.dumps(figures, indent=1, sort_keys=True) + "\n")

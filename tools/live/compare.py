@@ -30,6 +30,8 @@ class Difference:
 
 @dataclass
 class Comparison:
+    """What one log shows beside the trace that is due."""
+
     differences: list[Difference] = field(default_factory=list)
     lines: list[str] = field(default_factory=list)  #: the trace that came out
     compared: int = 0  #: events that agree

@@ -47,15 +47,25 @@ class Side:
         return text
 
 
+def is_fresh() -> bool:
+    """Whether the program is built, and no source of a crate is newer. It is not built here: that takes long, and is bin/pse52's affair."""
+    if not BUILT.exists():
+        return False
+    built = BUILT.stat().st_mtime
+    folders = [folder for folder in (TOP / "crates").glob("*/*") if folder.name in ("src", "specs", "proofs")]
+    sources = [path for folder in folders if not folder.parent.name.endswith("_tests") for path in folder.rglob("*") if path.is_file()]
+    return all(source.stat().st_mtime <= built for source in sources)
+
+
 def other_side(said: str | None = None) -> Side:
-    """Who is asked: what was said, or PSE52 of the environment, or the proved program, or the reference."""
+    """Who is asked: what was said, or PSE52 of the environment, or the proved program where it is built, or the reference."""
     said = said or os.environ.get("PSE52")
     if said:
         is_proved = Path(said).parts[-4:] == BUILT.parts[-4:]  # only a proof leaves a program there
         return Side(tuple(shlex.split(said)), "the proved program" if is_proved else said)
-    if BUILT.exists():
-        return Side((str(TOP / "bin" / "pse52"),), "the proved program")
-    return Side((sys.executable, str(REFERENCE)), "the reference, tools/reference/simulate.py, since the program is not built")
+    if is_fresh():
+        return Side((str(BUILT),), "the proved program")
+    return Side((sys.executable, str(REFERENCE)), "the reference (tools/reference), since the program is not built, or older than a source")
 
 
 @dataclass(frozen=True)

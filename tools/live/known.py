@@ -46,6 +46,8 @@ class Difference:
 
 @dataclass(frozen=True)
 class Subject:
+    """The differences of one subject, as the page has them."""
+
     title: str
     differences: tuple[Difference, ...]
 
@@ -69,6 +71,7 @@ def by_name() -> dict[str, Difference]:
 
 
 def limits_of_the_rig() -> frozenset[str]:
+    """What the rig cannot show; no kernel is to blame for it."""
     return frozenset(name for name, each in by_name().items() if each.side is Side.RIG)
 
 

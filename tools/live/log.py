@@ -38,6 +38,8 @@ class Noise:
 
 @dataclass
 class Log:
+    """All that was seen of a run."""
+
     events: list[Seen] = field(default_factory=list)
     owners: list[int] = field(default_factory=list)  #: of each tick the thread that ran it, or -1
     priorities: list[int] = field(default_factory=list)
@@ -50,6 +52,7 @@ class Log:
 
     @property
     def is_noisy(self) -> bool:
+        """Whether something else on the machine has disturbed the run."""
         held_up = any(not EARLIEST < event.phase < LATEST for event in self.events)
         return bool(self.noise.clashes or self.noise.gaps or self.noise.late or held_up)
 

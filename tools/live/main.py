@@ -16,6 +16,8 @@ from .settings import Interrupted, NotAllowed, refused_by_kernel, why_not
 
 
 class Status(IntEnum):
+    """The exit status; an interrupted run has INTERRUPTED and the number of the signal."""
+
     SAME = 0
     USAGE = 1
     REFUSED = 2
@@ -76,6 +78,7 @@ def report(result: Result, side: Side) -> Status:
 
 
 def carry_out(said: argparse.Namespace) -> Status:
+    """Runs the script, writes the trace that came out, and reports."""
     text = said.script.read_bytes()
     side = other_side(said.program)
     options = Options(core=said.core, tick=said.tick, times=said.times, handlers_in_waits=said.handlers)

@@ -83,6 +83,7 @@ def picture(name: str) -> Iterator[str]:
 
 
 def section(each: Difference) -> Iterator[str]:
+    """A difference with its probes."""
     yield f"### {each.name}\n"
     yield f"{each.side.told[0].upper()}{each.side.told[1:]}.\n"
     yield wrapped("**Linux**:", each.kernel)
@@ -92,7 +93,7 @@ def section(each: Difference) -> Iterator[str]:
     for name in each.probes:
         case = probe(PROBES / f"{name}.task")
         how = ", where both agree" if case.shows == "agrees" else ", with `--handlers`" if case.handlers else ""
-        yield f"\n[{name}](../examples/real/{name}.task){how}: {case.title}\n"
+        yield f"\n[{name}](../examples/real/{name}.task){how}:\n{case.title}\n"
         yield "```"
         yield from picture(name)
         yield "```"
@@ -126,6 +127,7 @@ def counts() -> str:
 
 
 def figures() -> str:
+    """The sums that batch.py has kept."""
     told = json.loads(FIGURES.read_text())
     lines = ["| scripts | run | agree | differ, with a known name | without one | given up | runs | disturbed | events that agree |",
              "|---|---|---|---|---|---|---|---|---|"]

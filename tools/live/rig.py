@@ -42,6 +42,8 @@ class TooLong(Exception):
 
 @dataclass(frozen=True)
 class Options:
+    """How a script is run."""
+
     core: int = field(default_factory=last_core)
     tick: float | None = None  #: milliseconds, or what the script needs
     times: int = 2  #: runs that must tell the same

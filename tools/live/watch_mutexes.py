@@ -11,6 +11,8 @@ FOR_MUTEX = (WaitKind.MUTEX, WaitKind.CONTENTION)
 
 
 class MutexWatcher(Watcher):
+    """Locks, unlocks, and mutexes whose owner has changed and has not run since."""
+
     def __init__(self, machine: Watched) -> None:
         super().__init__(machine)
         self.handed: dict[int, tuple[int, str]] = {}  #: mutexes whose new owner has not run yet, and what a use of them shows
@@ -92,6 +94,8 @@ class MutexWatcher(Watcher):
 
 
 class ConditionWatcher(Watcher):
+    """Conditions, and the two groups of waiters in which glibc keeps them."""
+
     def __init__(self, machine: Watched) -> None:
         super().__init__(machine)
         self.older: dict[int, set[int]] = {}  #: of each condition the group of waiters that glibc serves first
@@ -133,6 +137,8 @@ class ConditionWatcher(Watcher):
 
 
 class SemaphoreWatcher(Watcher):
+    """Semaphores, and the posts that nobody has taken yet."""
+
     def __init__(self, machine: Watched) -> None:
         super().__init__(machine)
         self.posted: dict[int, set[int]] = {}  #: of each semaphore the threads that a post woke and that have not run yet

@@ -11,6 +11,8 @@ DEFERRING = (WaitKind.MUTEX, WaitKind.CONTENTION, WaitKind.COND, WaitKind.JOIN)
 
 
 class SignalWatcher(Watcher):
+    """Which thread takes which signal, and when that is settled."""
+
     def __init__(self, machine: Watched) -> None:
         super().__init__(machine)
         self.accepting: dict[int, int] = {}  #: threads that accepted a signal of the process and have not run since
@@ -45,7 +47,8 @@ class SignalWatcher(Watcher):
     def before_generation(self, record: Record) -> None:
         taker = acceptor(self.machine, record)
         if record.target is None:
-            waiting = [thread for thread in self.machine.threads if thread.waits_in(WaitKind.SIGNAL) and thread.wait.signals >> record.signal & 1]
+            waiting = [thread for thread in self.machine.threads
+                       if thread.waits_in(WaitKind.SIGNAL) and thread.wait.signals >> record.signal & 1]
             takers = {thread.number for thread in self.machine.threads if self.is_open(thread, record.signal) or thread in waiting}
             if len(waiting) > 1:
                 self.note("second-waiter-interrupted")
@@ -99,6 +102,8 @@ class DeferredWatcher(Watcher):
 
 
 class TimerWatcher(Watcher):
+    """Timers that are set anew, or for a time that has passed."""
+
     def before_call(self, thread: Thread, call: Call) -> None:
         if call.word != "timer_settime":
             return
@@ -110,6 +115,8 @@ class TimerWatcher(Watcher):
 
 
 class QueueWatcher(Watcher):
+    """Notifications of queues."""
+
     def before_call(self, thread: Thread, call: Call) -> None:
         match call.word:
             case "mq_receive" | "mq_timedreceive":

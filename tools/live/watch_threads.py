@@ -36,6 +36,8 @@ class WakeWatcher(Watcher):
 
 
 class SchedulingWatcher(Watcher):
+    """Priorities, policies, round robin intervals, and new threads."""
+
     def __init__(self, machine: Watched) -> None:
         super().__init__(machine)
         self.inside: dict[int, int] = {}  #: threads whose priority was changed, and the caller that may still stand in that call
@@ -96,6 +98,8 @@ class SchedulingWatcher(Watcher):
 
 
 class LifeWatcher(Watcher):
+    """Joins."""
+
     def before_cancelled(self, thread: Thread, call: Call) -> None:
         if call.word == "join" and self.machine.threads[call.operands[0]].state is ThreadState.ENDED:
             self.note("join-of-ended")
