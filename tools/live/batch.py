@@ -87,6 +87,7 @@ class Batch:
         self.said = said
         self.side = side
         self.sums = Sums()
+        self.distances: list[float] = []  #: of effects of ticks from their grid points, in ticks, where runs agree
 
     def run(self, case: Case) -> None:
         self.sums.scripts += 1
@@ -125,6 +126,7 @@ class Batch:
             print(f"{case.name}: given up, {result.gave_up}; {found.differences[:1]}")
         elif found.agrees:
             sums.agree += 1
+            self.distances += [event.phase for run in result.runs for event in run.log.events if event.is_call]
         else:
             sums.known += bool(result.names)
             sums.unknown += not result.names
@@ -149,10 +151,16 @@ def keep_probe(case: Case, result: Result) -> None:
     (LOGS / f"{case.name}.log").write_text(result.last.text)
 
 
-def keep_figures(name: str, side: Side, sums: Sums) -> None:
+def placed(distances: list[float]) -> dict[str, float]:
+    """How far from their grid points effects came: of half of them, and of all but one in a hundred, at most."""
+    found = sorted(map(abs, distances)) or [0.0]
+    return {"effects": len(distances), "half": found[len(found) // 2], "nearly_all": found[len(found) * 99 // 100]}
+
+
+def keep_figures(name: str, side: Side, sums: Sums, distances: list[float]) -> None:
     """The sums by their kind, for the page."""
     figures = json.loads(FIGURES.read_text()) if FIGURES.exists() else {}
-    figures[name] = asdict(sums) | {"side": side.name, "versions": versions()}
+    figures[name] = asdict(sums) | placed(distances) | {"side": side.name, "versions": versions()}
     FIGURES.write_text(json.dumps(figures, indent=1, sort_keys=True) + "\n")
 
 
@@ -173,9 +181,10 @@ def main(words: list[str]) -> int:
         return 130
     print(f"beside {side.name}")
     print(batch.sums.line())
+    print(placed(batch.distances))
     print(dict(sorted(batch.sums.names.items())))
     if said.figures:
-        keep_figures(said.figures, side, batch.sums)
+        keep_figures(said.figures, side, batch.sums, batch.distances)
     return 1 if batch.sums.unknown or batch.sums.parted else 0
 
 
