@@ -2,8 +2,8 @@
 
 A thread tells what happens to it when it has the processor. One that wakes may have to wait for that, and one that is preempted within
 a call tells its return when it goes on. So an event may be seen at its own time, at the tick in which its thread is next dispatched, or
-between these. Of the traces that a log allows the one that came out is the one that follows the due trace for longest: an event that
-agrees stands at its due place, any other where it was seen.
+between these; and later, where others that are no less urgent kept the processor all the time. Of the traces that a log allows the one
+that came out is the one that follows the due trace for longest: an event that agrees stands at its due place, any other where it was seen.
 """
 from __future__ import annotations
 
@@ -135,13 +135,26 @@ class Comparer:
             have = want  # a handler stands in the call, whose answer comes after it
         if have != want:
             return f"`{have}`, and `{want}` is due at {told.time}"
-        if not told.time <= seen.tick <= told.seen_by:
+        is_in_time = seen.tick <= told.seen_by or self.was_kept_waiting(told, seen.thread, seen.tick)
+        if seen.tick < told.time or self.has_run(seen.thread, told.time, seen.tick) or not is_in_time:
             return f"`{have}` is seen at {seen.tick}, and due at {told.time}, to be seen by {told.seen_by}"
         return None
 
+    def has_run(self, thread: int, since: int, until: int) -> bool:
+        """Whether a thread has run a tick in between, and so would have told before what was to tell."""
+        return thread in self.log.owners[since:until]
+
+    def was_kept_waiting(self, told: Told, thread: int, until: int) -> bool:
+        """Whether threads that are no less urgent kept the processor from an event's time to this tick."""
+        owners, priorities = self.log.owners, self.log.priorities
+        turn = next((tick for tick in range(until, len(owners)) if owners[tick] == thread), None)
+        own = told.priority if turn is None else priorities[turn]
+        return all(owners[tick] not in (NOBODY, thread) and priorities[tick] >= own for tick in range(told.time, until))
+
     def is_missed(self, thread: int, told: Told) -> bool:
         """Whether an event that the log lacks had to be seen; one that nobody could see stands in the trace as it is due."""
-        if told.is_seen or told.words == "exit":
+        is_due = told.is_seen and not self.was_kept_waiting(told, thread, self.end())
+        if is_due or told.words == "exit":
             self.differ(told.seen_by, f"{self.name(thread)}: nothing, and `{told.words}` is due at {told.time}")
             return True
         self.found.unseen.append(self.due.lines[told.place])

@@ -73,7 +73,7 @@ class Told:
     """An event of a thread in the trace: its time, its line's place, and its words without the thread.
 
     Its thread gets the processor next at `seen_by`, the horizon where it does not get it any more; until then nothing can be seen of
-    the event from outside.
+    the event from outside. `priority` is that of its last dispatch by then, 0 where there is none.
     """
 
     time: int
@@ -81,6 +81,7 @@ class Told:
     words: str
     seen_by: int
     is_seen: bool  #: whether its thread gets the processor once more
+    priority: int
 
 
 @dataclass
@@ -90,7 +91,7 @@ class Due:
     names: list[str]
     lines: list[str]
     owners: list[int] = field(default_factory=list)
-    priorities: dict[int, int] = field(default_factory=dict)  #: of each tick with a dispatch line
+    priorities: dict[int, int] = field(default_factory=dict)  #: of each tick with a dispatch line: the priority of its list
     ticks: list[int] = field(default_factory=list)
     killed: tuple[int, str] | None = None
     end: int = 0
@@ -133,5 +134,7 @@ def _read_lines(due: Due) -> None:
     due.events = [[] for _ in due.names]
     for time, place, thread, words in found:
         turn = next((tick for tick in range(time, len(due.owners)) if due.owners[tick] == thread), None)
-        told = Told(time, place, words, due.end if turn is None else turn, turn is not None)
-        due.events[thread].append(told)
+        seen_by = due.end if turn is None else turn
+        dispatches = [tick for tick in due.priorities if tick <= seen_by and due.owners[tick:tick + 1] == [thread]]
+        priority = due.priorities[max(dispatches)] if dispatches else 0
+        due.events[thread].append(Told(time, place, words, seen_by, turn is not None, priority))

@@ -43,12 +43,17 @@ void let_handlers_in(Thread *me) {
   if (me->holds_back) mask_as_script(me);
 }
 
-/* A handler runs: it ends a call that waits, whose return is told now although its answer is seen later. */
+/* Whether a call waits on after a handler has run in it. */
+static bool waits_on(int call) {
+  return call == CALL_lock || call == CALL_timedlock || call == CALL_wait || call == CALL_timedwait || call == CALL_join;
+}
+
+/* A handler runs. It may end a call that waits: then its return is told now although its answer is seen later. */
 static void on_signal(int signal, siginfo_t *info, void *context) {
   (void)context;
   Thread *me = self;
-  int saved = errno;
-  if (me->blocked_in) me->slot = tell(me->number, KIND_RETURN, me->blocked_in - 1, UNSEEN, 0);
+  int saved = errno, waiting_in = me->blocked_in != 0 && waits_on(me->blocked_in - 1) ? me->blocked_in : 0;
+  if (me->blocked_in && !waiting_in) me->slot = tell(me->number, KIND_RETURN, me->blocked_in - 1, UNSEEN, 0);
   me->blocked_in = 0;
   tell_delivery(me, info);
   int slot = me->slot;
@@ -62,7 +67,7 @@ static void on_signal(int signal, siginfo_t *info, void *context) {
   me->in_handler--;
   me->handled++;
   me->holds_back = holds_back;
-  me->blocked_in = 0;
+  me->blocked_in = waiting_in;
   me->slot = slot;
   errno = saved;
 }
