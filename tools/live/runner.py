@@ -11,8 +11,8 @@ FOLDER = Path(__file__).with_name("runner")
 BUILT = FOLDER / "out" / "runner"
 #: seconds that a run may take beyond its ticks, before it is ended
 PATIENCE = 3
-#: a run is never longer, so that a core is never taken for long
-LONGEST_SECONDS = 20.0
+#: a run is never longer, so that what else has work on its core waits no longer than that
+LONGEST_SECONDS = 10.0
 
 
 class NotBuilt(Exception):

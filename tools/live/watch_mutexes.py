@@ -99,17 +99,23 @@ class ConditionWatcher(Watcher):
     def __init__(self, machine: Watched) -> None:
         super().__init__(machine)
         self.older: dict[int, set[int]] = {}  #: of each condition the group of waiters that glibc serves first
+        self.past: set[int] = set()  #: threads in a timed wait whose time had passed when it was called
 
     def before_call(self, thread: Thread, call: Call) -> None:
         match call.word:
             case "signal":
                 self.at_signal(call.operands[0])
             case "timedwait":
-                equals = self.machine.lists[self.machine.exec(thread)]
-                if self.machine.value_of(thread, call.operands[2]) <= self.machine.time and len(equals) > 1:
-                    self.note("past-timedwait")
+                if self.machine.value_of(thread, call.operands[2]) <= self.machine.time:
+                    self.past.add(thread.number)
             case "cancel":
                 self.at_cancel(self.machine.threads[call.operands[0]])
+
+    def before_contention(self, thread: Thread) -> None:
+        """Equals that are ready by now, also those that woke in the same instant, run before a thread that blocked."""
+        if thread.number in self.past and self.machine.lists[self.machine.exec(thread)]:
+            self.note("past-timedwait")
+        self.past.discard(thread.number)
 
     def before_cancelled(self, thread: Thread, call: Call) -> None:
         if call.word in ("wait", "timedwait"):

@@ -3,6 +3,8 @@ from __future__ import annotations
 
 import unittest
 
+from live.compare import Comparison, compare
+from live.due import read_due
 from live.known import by_name
 from live.log import NotALog, read_log
 from live.watched import watched
@@ -84,6 +86,57 @@ class Changes(unittest.TestCase):
         for text in ("owners 1\n", "one line\n", "3 0.1 x start\n"):
             with self.subTest(text), self.assertRaises(NotALog):
                 read_log(text)
+
+
+class WhatALogAllows(unittest.TestCase):
+    """Two threads of one priority: a has two ticks and ends, then b."""
+
+    DUE = """\
+0 start a
+0 start b
+0 dispatch a 5
+2 exit a
+2 dispatch b 5
+4 exit b
+4 idle
+6 end
+thread a ticks 2
+thread b ticks 2
+"""
+
+    def found(self, owners: str, priorities: str, *events: str) -> Comparison:
+        """The comparison with a log in which these threads ran, at these priorities."""
+        ending = ["ticks 0 2 2.0", "ticks 1 2 2.0", "noise clashes 0 gaps 0 late 0 latest 0.0"]
+        text = "\n".join([*events, f"owners {owners}", f"priorities {priorities}", *ending])
+        return compare(read_due(self.DUE, ["a", "b"]), read_log(text))
+
+    def test_a_start_that_is_seen_when_the_thread_first_runs(self) -> None:
+        found = self.found("0 0 1 1 -1 -1", "5 5 5 5 0 0", "0 0 0 start", "2 0 0 exit", "2 0 1 start", "4 0 1 exit")
+        self.assertEqual("".join(line + "\n" for line in found.lines), self.DUE)
+        self.assertTrue(found.agrees)
+        self.assertEqual((found.compared, found.late), (4, 1))
+
+    def test_a_start_behind_a_thread_that_is_no_less_urgent(self) -> None:
+        found = self.found("0 0 0 1 1 -1", "5 5 5 5 5 0", "0 0 0 start", "3 0 0 exit", "3 0 1 start", "5 0 1 exit")
+        self.assertIn("0 start b", found.lines)
+        self.assertEqual(found.first, 2)
+
+    def test_a_start_behind_a_less_urgent_thread_came_late(self) -> None:
+        found = self.found("0 0 0 1 1 -1", "4 4 4 5 5 0", "0 0 0 start", "3 0 0 exit", "3 0 1 start", "5 0 1 exit")
+        self.assertIn("3 start b", found.lines)
+
+    def test_a_start_behind_an_idle_tick_came_late(self) -> None:
+        found = self.found("0 0 -1 1 1 -1", "5 5 0 5 5 0", "0 0 0 start", "2 0 0 exit", "3 0 1 start", "5 0 1 exit")
+        self.assertIn("3 start b", found.lines)
+
+    def test_a_thread_that_has_run_would_have_told_its_end(self) -> None:
+        found = self.found("0 0 1 1 1 -1", "5 5 5 5 5 0", "0 0 0 start", "2 0 0 exit", "2 0 1 start", "5 0 1 exit")
+        self.assertIn("5 exit b", found.lines)
+
+    def test_another_signal_ends_the_process(self) -> None:
+        found = self.found("0 0 -1 -1 -1 -1", "5 5 0 0 0 0", "0 0 0 start", "2 0 0 exit", "3 0 -1 killed rt4")
+        self.assertEqual(found.lines[-4:], ["3 killed rt4", "3 end", "thread a ticks 2", "thread b ticks 2"])
+        self.assertIn("the process: killed by rt4 at 3, and due: lives on", map(lambda each: each.text, found.differences))
 
 
 if __name__ == "__main__":

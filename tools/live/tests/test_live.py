@@ -8,7 +8,7 @@ import unittest
 from live import TOP
 from live.due import REFERENCE, Side
 from live.rig import Result, run_script
-from live.settings import refused_by_kernel, why_not
+from live.settings import NotAllowed, refused_by_kernel, why_not
 
 from .kept import CASES
 
@@ -26,7 +26,10 @@ class OnThisKernel(unittest.TestCase):
         self.skipTest(why)
 
     def run_it(self, text: bytes, horizon: int) -> Result:
-        result = run_script(text, horizon, SIDE)
+        try:
+            result = run_script(text, horizon, SIDE)
+        except NotAllowed as why:
+            self.skip(str(why))
         if result.gave_up is not None:
             self.skip(f"this machine is too busy: {result.gave_up}")
         return result
