@@ -4,13 +4,19 @@ from __future__ import annotations
 from collections.abc import Iterator
 from dataclasses import dataclass
 
-from forms import SIGNAL, SIGNAL_SET, Form, Stage
+from forms import RESULTS, SIGNAL, SIGNAL_SET, Form, Stage, is_place
 from reader import Entry, lines_of, number_of, read_lines, signals_of
 
-from .flatten import SIGNALS
+from .flatten import CALLS, SIGNALS
 
 #: Linux has the priorities 1 to 99 for these policies, and the runner's own thread has the highest
 HIGHEST_PRIORITY = 98
+
+#: the keywords that flatten.py and the runner know, beside the calls
+KNOWN = frozenset((
+    *"1 abs action add at block cleanup cond disable dormant enable end fifo forever handler if ignore inherit loop mutex".split(),
+    *"nonblock none protect quantum queue recursive rel rr run sem set take thread timer unblock unless".split(),
+    *CALLS, *RESULTS))
 
 
 @dataclass(frozen=True)
@@ -31,10 +37,12 @@ def unfit_lines(text: bytes) -> list[Unfit]:
 
 
 def reasons(entry: Entry) -> Iterator[str]:
-    if "sporadic" in entry.form.words:
+    """Why a line cannot be run: what the kernel has not got, and keywords that came to the language after this rig."""
+    unknown = [word for word in entry.form.words if not is_place(word) and word not in KNOWN]
+    if "sporadic" in unknown:
         yield "SCHED_SPORADIC: Linux has no sporadic servers"
-    elif "strict" in entry.form.words:
-        yield "strict servers: Linux has none"
+    elif unknown:
+        yield f"{unknown[0]}: the rig does not know it"
     for place, number in entry.numbers():
         if place == "<priority>" and number > HIGHEST_PRIORITY:
             yield f"priority {number}: Linux has 1 to 99, and the runner keeps the highest"

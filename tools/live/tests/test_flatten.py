@@ -5,10 +5,12 @@ import errno
 import re
 import unittest
 
+from forms import FORMS, Form, Role, Stage, is_place
 from live.flatten import CALLS, OPERATION_WORDS, TooMany, flatten
 from live.rig import CannotRun, script_of
 from live.runner import FOLDER
-from live.unfit import unfit_lines
+from reader import Entry
+from live.unfit import KNOWN, reasons, unfit_lines
 
 COUNTS = 7
 ACTIONS = 31
@@ -16,15 +18,6 @@ ACTIONS = 31
 
 def numbers_of(*lines: str) -> list[int]:
     return flatten(script_of("".join(line + "\n" for line in lines).encode()))
-
-
-def operations(numbers: list[int]) -> list[list[int]]:
-    """The operations at the end of the numbers, each without the zeros behind it."""
-    found, rest = [], numbers[:]
-    while rest[-OPERATION_WORDS - 1] != len(found) + 1:
-        found.insert(0, rest[-OPERATION_WORDS:])
-        del rest[-OPERATION_WORDS:]
-    return [rest[-OPERATION_WORDS:], *found]
 
 
 class FlatScripts(unittest.TestCase):
@@ -73,6 +66,15 @@ class UnfitScripts(unittest.TestCase):
 
     def test_a_script_that_fits(self) -> None:
         self.assertEqual(self.why("thread a fifo 98 at 0", "sigmask block all", "kill rt30", "end"), [])
+
+    def test_a_keyword_that_came_to_the_language_after_the_rig(self) -> None:
+        entry = Entry(3, Form(Role.STEP, Stage.WHOLE, ("clock_settime", "<number>")), ("5",))
+        self.assertEqual(list(reasons(entry)), ["clock_settime: the rig does not know it"])
+
+    def test_each_keyword_that_is_known_is_one_of_the_language(self) -> None:
+        words = {word for form in FORMS for word in form.words if not is_place(word)}
+        self.assertEqual(KNOWN - words, set())
+        self.assertIn("sporadic", words - KNOWN)
 
     def test_such_a_script_is_not_run(self) -> None:
         with self.assertRaises(CannotRun):
