@@ -14,7 +14,7 @@ if ! python3 -c 'import sys; sys.exit(sys.version_info < (3, 11))'; then
 fi
 
 failed=0
-for folder in view sweep pages; do
+for folder in view sweep explain wrapper pages; do
     log=$(python3 -m unittest discover -s "tools/$folder/tests" -t tools 2>&1)
     if [ $? -eq 0 ]; then
         printf '%s\n' "$log" | grep -o 'skipped: .*' | sort -u

@@ -30,13 +30,12 @@ run_and_explain() {
 
 # The faults of the script, as tools/explain shows them; a line of our own where that cannot.
 explain_refusal() {
-    page=docs/SCRIPT.md
-    case $1 in rta) page=docs/RTA.md ;; audit) page=docs/AUDIT.md ;; esac
-    case $1 in
-        run | upgrade) [ -z "$kept_script" ] || python3 "$top/tools/explain/main.py" "$kept_script" 2>/dev/null || {
-            say "the script is refused: standard output has the line and the kind of its fault, which $page explains"; } ;;
-        *) say "the text is refused: standard output has the line and the kind of its fault, which $page explains" ;;
-    esac
+    case $1 in rta) page=docs/RTA.md ;; audit) page=docs/AUDIT.md ;; *) page=docs/SCRIPT.md ;; esac
+    if [ -n "$kept_script" ] && { [ "$1" = run ] || [ "$1" = upgrade ]; }; then
+        python3 "$top/tools/explain/main.py" "$kept_script" 2>/dev/null
+        [ $? -ne 2 ] || return 0
+    fi
+    say "the text is refused: standard output has its line and the kind of its fault, which $page explains"
 }
 
 # One line for a status that is not 0.

@@ -44,7 +44,7 @@ refuse() {
 # What the number of a command is.
 meaning_of() {
     case $1 in
-        run | check) echo 'a last tick, from 0 to 10^18' ;;
+        run | check) echo 'a number of ticks from 0 to 10^18' ;;
         rta) echo 'a number of ticks from 0 to 100000000' ;;
         *) echo 'a number from 0 to 10^18' ;;
     esac
