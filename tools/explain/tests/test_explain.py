@@ -38,7 +38,7 @@ CASES = [
     (BODY.format("loop 0\nend"), 2, 6, "NumberRange", "1 to 10^18"),
     ("Thread a fifo 5 at 0\nrun 1\nend\n", 1, 1, "UnknownWord", "did you mean `thread`?"),
     ("thread s sporadic 20 40 10 4 at 0\nend\n", 1, 10, "UnknownWord", "missing is the low priority or the high priority"),
-    ("thread s sporadic 20 2 40 at 0\nend\n", 1, 10, "UnknownWord", "there are 3"),
+    ("thread s sporadic 20 2 40 at 0\nend\n", 1, 10, "WordCount", "there are 3"),
     ("thread s sporadic 5 5 10 3 4 at 0\nend\n", 1, 21, "ServerRange", "low priority 5 is not below the high one, 5"),
     ("thread s sporadic 5 2 10 30 4 at 0\nend\n", 1, 26, "ServerRange", "budget 30 is above the period, 10"),
     ("thread a fifo 5 at 0\r\nend\n", 1, 21, "BadByte", "a Windows line end"),
