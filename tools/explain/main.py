@@ -1,6 +1,8 @@
 """The command `pse52 explain`: all faults of a script.
 
-    python3 tools/explain/main.py SCRIPT     (- is standard input)
+    python3 tools/explain/main.py [--lines] SCRIPT     (- is standard input)
+
+With --lines each fault is one line, FILE:LINE:COLUMN: KIND: what is wrong; how to fix it. Editors read that.
 
 Exit status: 0 no fault, 2 refused, 3 too long, 4 not read.
 """
@@ -11,11 +13,13 @@ from pathlib import Path
 
 sys.path.insert(0, str(Path(__file__).resolve().parent.parent))
 
-from explain.show import shown  # noqa: E402
+from explain.show import in_one_line_each, shown  # noqa: E402
 from explain.text import GREATEST_TEXT, faults_of  # noqa: E402
 
 
 def main(words: list[str]) -> int:
+    in_lines = words[:1] == ["--lines"]
+    words = words[in_lines:]
     if len(words) != 1:
         print(__doc__, file=sys.stderr)
         return 1
@@ -32,7 +36,7 @@ def main(words: list[str]) -> int:
     if not faults:
         print("no fault")
         return 0
-    print(shown(text, faults), end="")
+    print(in_one_line_each(words[0], faults) if in_lines else shown(text, faults), end="")
     return 2
 
 

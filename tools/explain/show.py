@@ -26,6 +26,12 @@ def shown(text: bytes, faults: list[Found]) -> str:
     return "\n".join(parts) + f"\n{count}\n"
 
 
+def in_one_line_each(name: str, faults: list[Found]) -> str:
+    """All faults, each in one line with the name of the file, as editors read them."""
+    return "".join(f"{name}:{fault.line}:{fault.word.column if fault.word else 1}: {fault.kind.name}: {fault.wrong}"
+                   f"{'; ' if fault.mend else ''}{fault.mend}\n" for fault in faults)
+
+
 def _fault(fault: Found, lines: list[bytes]) -> str:
     place = f"line {fault.line}" + (f", column {fault.word.column}" if fault.word else "")
     told = [f"{place}: {fault.kind.name}: {fault.wrong}"]

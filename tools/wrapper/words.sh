@@ -15,7 +15,7 @@ Without FILE it reads standard input. Times are in ticks.
   upgrade [SCRIPT]        writes the script as one of version 2
   gen S                   writes the script that is made of the number S
   soak S N                runs the script of the number S to tick N, and writes its closing lines
-  explain [SCRIPT]        tells every fault of a script: the line, the word, what was expected and how to mend it
+  explain [SCRIPT]        tells every fault of a script: its line and word, and how to fix it (--lines SCRIPT: for editors)
 
   --explain               with a command: where the script is refused, its faults on standard error (always so on a terminal)
   --prove                 proves and builds the program of the sources that stand here
@@ -175,11 +175,16 @@ refuse_operands() {
 
 # All faults of a script, by the tools beside the program: needs Python alone, and no program.
 explain_command() {
+    lines=
+    if [ "${1-}" = --lines ]; then
+        lines=$1
+        shift
+    fi
     [ "$#" -le 1 ] || refuse 'explain takes one script; write: pse52 explain SCRIPT'
     if ! python3 -c 'import sys; sys.exit(sys.version_info < (3, 11))' 2>/dev/null; then
         say 'explain needs Python 3.11 or later (python3)'
         exit 70
     fi
     [ "$#" -eq 0 ] || [ "$1" = - ] || open_input "$1"
-    exec python3 "$top/tools/explain/main.py" "${input:--}"
+    exec python3 "$top/tools/explain/main.py" ${lines:+"$lines"} "${input:--}"
 }
