@@ -22,6 +22,12 @@ class Pages(unittest.TestCase):
     def test_the_tutorial(self) -> None:
         self.check("TUTORIAL.md")
 
+    def test_the_first_page(self) -> None:
+        self.check("../README.md")
+
+    def test_the_page_on_commands(self) -> None:
+        self.check("COMMANDS.md")
+
     def test_the_page_on_sweeps(self) -> None:
         self.check("SWEEP.md")
 
