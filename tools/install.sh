@@ -20,7 +20,10 @@ commands=$(cd bin && echo *)
 
 if [ -n "$remove" ]; then
     for command in $commands; do
-        rm -f "$root/bin/$command" "$root/share/man/man1/$command.1"
+        rm -f "$root/bin/$command"
+    done
+    for page in docs/*.1; do
+        rm -f "$root/share/man/man1/${page#docs/}"
     done
     rm -f "$root/share/bash-completion/completions/pse52" "$root/share/bash-completion/completions/pse52-view" \
         "$root/share/bash-completion/completions/pse52-sweep" "$root/share/zsh/site-functions/_pse52" \

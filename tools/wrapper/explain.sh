@@ -3,6 +3,8 @@
 # Runs the program. A script that comes through a pipe is kept beside, so that its faults can be shown.
 run_and_explain() {
     kept_script=
+    writes_to_pipe=
+    [ ! -p /dev/stdout ] || writes_to_pipe=yes
     case $1 in
         gen | soak) "$program" "$@"; status=$? ;;
         *)
@@ -46,7 +48,7 @@ explain_status() {
         2) explain_refusal "$@" ;;
         3) say 'the text has more bytes than the command reads: 1048576 of a script, 67108864 of tasks or with a trace' ;;
         4) say 'the text could not be read' ;;
-        5) [ -p /dev/stdout ] || say 'standard output could not be written' ;;
+        5) [ -n "$writes_to_pipe" ] || say 'standard output could not be written' ;; # else its reader had enough
         6) say 'there was not enough memory; nothing was written' ;;
         7) say "the trace is not the script's: standard output has the first line that differs, what is due there, and what stands there" ;;
         8) say 'no line %% stands between the script and the trace' ;;

@@ -61,10 +61,14 @@ look() {
     [ -n "$program" ]
 }
 
-# Whether what was kept still counts. A crate without definitions must not have got any.
+# Whether what was kept still counts. A crate without definitions must not have got any, and a checkout no release.
 still_counts() {
     { read -r known && read -r program && read -r watched; } 2>/dev/null <"$kept/known" || return 1
     [ -n "$known" ] && [ "$(changes_since "$kept/stamp")" = "$known" ] || return 1
+    case " $watched " in
+        *' release '*) ;;
+        *) [ ! -d "$top/release" ] || return 1 ;;
+    esac
     for folder in $watched; do
         case $folder in
             */src) case " $watched " in
