@@ -1,6 +1,7 @@
 #!/usr/bin/env bash
-# Tries what stands beside the program: the tests of the viewer and of the sweep, the manual pages, and the commands of the tutorial
-# and of the page on sweeps. Nothing is built. What a missing tool would have read is skipped, with a line that says so.
+# Tries what stands beside the program: the tests of the wrapper, the viewer, the sweep and the explanation of faults, the manual pages,
+# and the pages that a reader types along, with the program that was built here, or else the reference. Nothing is built. What a missing
+# tool would have read is skipped, with a line that says so.
 set -u
 cd "$(dirname "$0")/.." || exit 1
 
@@ -13,6 +14,10 @@ if ! python3 -c 'import sys; sys.exit(sys.version_info < (3, 11))'; then
     exit 0
 fi
 
+if [ -x crates/pse52/out/pse52 ]; then
+    PSE52_PROGRAM=$PWD/crates/pse52/out/pse52
+    export PSE52_PROGRAM
+fi
 failed=0
 for folder in view sweep explain wrapper pages; do
     log=$(python3 -m unittest discover -s "tools/$folder/tests" -t tools 2>&1)

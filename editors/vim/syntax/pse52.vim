@@ -1,5 +1,5 @@
 " Vim syntax file for scripts of pse52 (*.task).
-" To use it: cp -r editors/vim/. ~/.vim/
+" editors/README.md says how to install it.
 if exists('b:current_syntax')
   finish
 endif
