@@ -26,8 +26,10 @@ PLACES = {"SEED": "7", "S": "7", "N": "10", "script": "examples/one_thread.task"
 
 # What is not run here, and why.
 LEFT_OUT = {
-    ".ci/run": "it is the gate", "--prove": "it proves", "tools/machine_rows": "it proves", "tools/bench": "it measures for minutes",
-    "tools/check_": "the gate runs it by itself", "check_opens": "it takes hours", "make_release.sh": "it changes the release",
+    ".ci/run": "it is the gate", "--prove": "it proves", "tools/machine_rows": "it proves",
+    "tools/bench": "it measures for minutes",
+    "tools/check_": "the gate runs it by itself", "tools/documents.py": "so this", "tools/turned_rules.py": "and this",
+    "tools/reference/selftest.py": "and this", "check_opens": "it takes hours", "make_release.sh": "it changes the release",
     "--sshlogin": "it needs other machines", "make install": "tools/wrapper/tests installs", "PAGE..": "it changes pages"}
 
 

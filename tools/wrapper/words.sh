@@ -89,16 +89,23 @@ open_input() {
     input=$1
 }
 
-# A script and a trace as one input, with the line between them. What takes them is the program that was asked for by the words before.
+# A script and a trace as one input, with the line between them: the command with its numbers, the script, the trace. Where the two differ
+# and somebody looks on, the line of the trace is shown.
 divided() {
-    for file in "$2" "$3"; do
-        open_input "$file"
-    done
+    open_input "$2"
+    open_input "$3"
     input=
     # A script whose last line has no end gets one, so that the line %% is a line of its own.
-    # shellcheck disable=SC2086
-    { sed -e '$a\' "$2"; echo '%%'; cat "$3"; } | "$self" ${asked:+--$asked} ${explains:+--explain} $1
-    exit $?
+    # shellcheck disable=SC1003,SC2086
+    told=$({ sed -e '$a\' "$2"; echo '%%'; cat "$3"; } | "$self" ${asked:+--$asked} ${explains:+--explain} $1)
+    status=$?
+    [ -z "$told" ] || printf '%s\n' "$told"
+    number=${told#* }
+    number=${number%%[!0-9]*}
+    if [ "$status" -eq 7 ] && [ -n "$number" ] && { [ -n "$explains" ] || [ -t 2 ]; }; then
+        say "line $number of $3: $(sed -n "${number}p" "$3")"
+    fi
+    exit "$status"
 }
 
 # The command that a misspelt word was to be, if one is near: the same letters but one, or two that changed places.

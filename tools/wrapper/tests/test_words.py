@@ -70,6 +70,16 @@ class Words(unittest.TestCase):
             self.assertEqual((ended.status, ended.out), (4, ""), words)
             self.assertIn(part, ended.err)
 
+    def test_a_line_that_differs_is_shown(self) -> None:
+        self.checkout.put_built()
+        self.checkout.write("crates/pse52/out/pse52", "#!/bin/sh\nprintf 'differs 2\\nwant x\\nhave text\\n'\nexit 7\n")
+        subprocess.run(["sh", str(self.checkout.top / "tools/wrapper/record.sh"), self.checkout.sum("sources")], check=True)
+        self.checkout.write("t.trace", "one\ntwo\n")
+        ended = self.checkout.run("check", "7", "s.task", "t.trace", "--explain")
+        self.assertEqual((ended.status, ended.out), (7, "differs 2\nwant x\nhave text\n"))
+        self.assertIn("line 2 of t.trace: two\n", ended.err)
+        self.assertEqual(self.checkout.run("check", "7", "s.task", "t.trace").err, "")
+
     def test_which(self) -> None:
         self.checkout.put_built()
         self.assertEqual(self.checkout.run("--which").out, f"{self.checkout.top.resolve()}/crates/pse52/out/pse52\n")
