@@ -46,6 +46,7 @@ def _filled(item: list[str]) -> list[str]:
     mark = _ITEM.match(item[0])
     first = mark[0] if mark else re.match(" *", item[0])[0]
     text = " ".join([item[0][len(first):].strip(), *(line.strip() for line in item[1:])])
+    text = re.sub(r"`[^`]{,60}`", lambda code: code[0].replace(" ", "\u00a0"), text)  # what is typed stays in one line
     text = re.sub(r" ([-+*]) ", "\u00a0\\1 ", text)  # a line that began with one of these would be an item
     lines = textwrap.wrap(text, WIDTH, initial_indent=first, subsequent_indent=" " * len(first), break_long_words=False,
                           break_on_hyphens=False)
