@@ -46,7 +46,7 @@ def patterns() -> list[Pattern]:
     for form, places in re.findall(r"pattern!\(Form::(.*), \w+ => (.*)\),", text):
         words = tuple(keyword or None for keyword, _ in re.findall(r'b"(\w+)"|(\([^)]*\)|\w+)', places))
         found.append(Pattern(form, words))
-    assert len(found) == 79, f"{len(found)} patterns in the table"
+    assert len(found) >= 79, f"{len(found)} patterns in the table"
     return found
 
 

@@ -23,7 +23,7 @@ elapsed() {
 
 # Waits while another run proves in this checkout. The lock of a run that is gone is taken over.
 take_lock() {
-    local told= owner
+    local told='' owner
     until mkdir "$lock" 2>/dev/null; do
         owner=$(cat "$lock/pid" 2>/dev/null)
         if [ -n "$owner" ] && ! kill -0 "$owner" 2>/dev/null; then
@@ -42,10 +42,12 @@ take_lock() {
 # Ends the proofs that are under way.
 stop_proofs() {
     local group
-    for group in $(jobs -p); do
-        kill -TERM -- "-$group" 2>/dev/null
-    done
-    wait
+    {
+        for group in $(jobs -p); do
+            kill -TERM -- "-$group"
+        done
+        wait
+    } 2>/dev/null
     rm -rf "$lock"
 }
 

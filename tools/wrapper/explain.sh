@@ -30,14 +30,21 @@ run_and_explain() {
     explain_status "$@" >&2
 }
 
-# The faults of the script, as tools/explain shows them; a line of our own where that cannot.
+# The faults of the script, as tools/explain shows them. Of another text, or where that cannot, the line that is refused.
 explain_refusal() {
     case $1 in rta) page=docs/RTA.md ;; audit) page=docs/AUDIT.md ;; *) page=docs/SCRIPT.md ;; esac
-    if [ -n "$kept_script" ] && { [ "$1" = run ] || [ "$1" = upgrade ]; }; then
+    if [ -z "$kept_script" ]; then
+        say "the text is refused: standard output has its line and the kind of its fault, which $page explains"
+        return
+    fi
+    if [ "$1" = run ] || [ "$1" = upgrade ]; then
         python3 "$top/tools/explain/main.py" "$kept_script" 2>/dev/null
         [ $? -ne 2 ] || return 0
     fi
-    say "the text is refused: standard output has its line and the kind of its fault, which $page explains"
+    refusal=$("$program" "$@" <"$kept_script" 2>/dev/null | head -n 1)
+    line=$(printf '%s\n' "$refusal" | cut -d ' ' -f 2)
+    words=$(sed -n "${line}p" "$kept_script" | tr -cd ' -~' | cut -c 1-60)
+    say "line $line is refused, $(printf '%s\n' "$refusal" | cut -d ' ' -f 4): '$words' ($page, faults)"
 }
 
 # One line for a status that is not 0.

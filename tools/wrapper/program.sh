@@ -33,6 +33,11 @@ is_of() {
     [ -x "$1" ] && [ "$(value_of code "$2")" = "$3" ] && [ "$(value_of program "$2")" = "$(digest_of "$1")" ]
 }
 
+# Whether the release can be run on this machine, by its kernel and processor and by its C library.
+starts_here() {
+    [ "$(value_of machine "$manifest")" = "$(uname -sm)" ] && "$release" gen 0 >/dev/null 2>&1
+}
+
 # Looks at all the code, and keeps what came of it where there is a folder to keep it in.
 look() {
     stamp=
@@ -43,7 +48,7 @@ look() {
     code=$(sh "$wrapper/sum.sh" code) || return 1
     watched=$(sh "$wrapper/sum.sh" folders) || return 1
     program=
-    if is_of "$release" "$manifest" "$code" && [ "$(value_of machine "$manifest")" = "$(uname -sm)" ]; then
+    if is_of "$release" "$manifest" "$code" && starts_here; then
         program=$release
         watched="$watched release"
     elif is_of "$built" "$record" "$code"; then
@@ -91,30 +96,39 @@ choose_program() {
     still_counts || look
 }
 
+# Why the release cannot be run here.
+does_not_start() {
+    echo "it is for $(value_of machine "$manifest") with glibc, and does not start on this machine, $(uname -sm)"
+}
+
 # The release whatever stands here, where its user asks for it by name.
 released_program() {
-    if [ -d "$top/crates" ]; then
-        if ! is_of "$release" "$manifest" "$(value_of code "$manifest")"; then
-            say 'there is no release here, or it is not the program of release/MANIFEST'
-            exit 70
-        fi
-        if [ "$(value_of machine "$manifest")" != "$(uname -sm)" ]; then
-            say "the release is for $(value_of machine "$manifest"), and this machine is $(uname -sm)"
-            exit 70
-        fi
-        choose_program && [ "$program" = "$release" ] ||
-            say "the release $(value_of version "$manifest") of $(value_of date "$manifest"): proved, but of other code than stands here"
+    program=$release
+    [ -d "$top/crates" ] || return 0
+    if ! is_of "$release" "$manifest" "$(value_of code "$manifest")"; then
+        say 'there is no release here, or it is not the program of release/MANIFEST'
+        exit 70
+    fi
+    starts_here || {
+        say "the release: $(does_not_start)"
+        exit 70
+    }
+    if choose_program && [ "$program" = "$release" ]; then
+        return
     fi
     program=$release
+    say "the release $(value_of version "$manifest") of $(value_of date "$manifest"): proved, but of other code than stands here"
 }
 
 # One line on what there is to do where no proved program of this code is here.
 no_program() {
     . "$wrapper/cost.sh"
-    if [ -e "$manifest" ]; then
-        old="; the release $(value_of version "$manifest"), proved of other code, runs at once by 'pse52 --released'"
+    if [ ! -e "$manifest" ]; then
+        old='; there is no release'
+    elif [ "$(value_of code "$manifest")" = "$(sh "$wrapper/sum.sh" code)" ]; then
+        old="; there is a release, but $(does_not_start)"
     else
-        old=' (there is no release here)'
+        old="; the release $(value_of version "$manifest"), proved of other code, runs at once by 'pse52 --released'"
     fi
     say "no program that was proved of this code is here: 'pse52 --prove' makes one, $first_proof$old"
     exit 70

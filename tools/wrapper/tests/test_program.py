@@ -112,6 +112,15 @@ class Programs(unittest.TestCase):
         self.assertEqual((ended.status, ended.out), (0, RUN))
         self.assertIn("of other code than stands here", ended.err)
 
+    def test_a_release_that_does_not_start_here(self) -> None:
+        self.checkout.put_release()
+        manifest = self.checkout.top / "release/MANIFEST"
+        manifest.write_text(manifest.read_text().replace("machine Linux", "machine Plan9"))
+        for words in (("run", "7"), ("--released", "run", "7")):
+            ended = self.checkout.run(*words, text=SCRIPT)
+            self.assertEqual((ended.status, ended.out), (70, ""))
+            self.assertIn("does not start on this machine", ended.err)
+
     def test_a_copy_looks_again(self) -> None:
         self.checkout.put_release()
         self.assertEqual(self.runs(), RUN)
