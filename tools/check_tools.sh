@@ -1,7 +1,8 @@
 #!/usr/bin/env bash
-# Tries what stands beside the program: the tests of the viewer, of the sweep and of scripts on real threads, the manual pages, and the
-# commands of the tutorial and of the page on sweeps. Nothing is built but the runner of real threads, where those may run. What a
-# missing tool would have read is skipped, with a line that says so, and so are real threads where they may not run.
+# Tries what stands beside the program: the tests of the wrapper, the viewer, the sweep, the explanation of faults and scripts on real
+# threads, the manual pages, and the pages that a reader types along, with the program that was built here, or else the reference.
+# Nothing is built but the runner of real threads, where those may run. What a missing tool would have read is skipped, with a line that
+# says so, and so are real threads where they may not run.
 set -u
 cd "$(dirname "$0")/.." || exit 1
 
@@ -14,8 +15,12 @@ if ! python3 -c 'import sys; sys.exit(sys.version_info < (3, 11))'; then
     exit 0
 fi
 
+if [ -x crates/pse52/out/pse52 ]; then
+    PSE52_PROGRAM=$PWD/crates/pse52/out/pse52
+    export PSE52_PROGRAM
+fi
 failed=0
-for folder in view sweep pages live; do
+for folder in view sweep explain wrapper pages live; do
     log=$(python3 -m unittest discover -s "tools/$folder/tests" -t tools 2>&1)
     if [ $? -eq 0 ]; then
         printf '%s\n' "$log" | grep -o 'skipped: .*' | sort -u

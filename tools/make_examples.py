@@ -11,8 +11,10 @@ from __future__ import annotations
 
 import re
 import sys
+import textwrap
 from collections.abc import Iterator
 from dataclasses import dataclass
+from itertools import takewhile
 from pathlib import Path
 
 TOP = Path(__file__).resolve().parent.parent
@@ -25,23 +27,24 @@ from view.lines import read_trace  # noqa: E402
 from view.svg import draw  # noqa: E402
 from view.timeline import timeline_of  # noqa: E402
 
+FIRST = ("one_thread", "loops_and_tests", "yield", "preemption")
 HEAD = re.compile(r"# horizon (\d+), stage ([a-z]+)\. (.*)")
 
 GALLERY = """\
 # Examples
 
-Each example is a script, `NAME.task`, with its trace, `NAME.trace`, and its picture. The comment of a script says what to look
-for, at which tick, and which rule of IEEE 1003.1-2017 says so. In this order they make a short course on realtime scheduling.
+Each example is a script, `NAME.task`, with its trace, `NAME.trace`, and its picture. The text beside it says what to look for, at
+which tick, and which rule of IEEE 1003.1-2017 says so. In this order they make a short course on realtime scheduling.
 
 To run one and to look at it:
 
 ```
-bin/pse52 run 26 < examples/04_inversion.task
-bin/pse52 run 26 < examples/04_inversion.task | bin/pse52-view text
+bin/pse52 run 26 examples/04_inversion.task
+bin/pse52 run 26 examples/04_inversion.task | bin/pse52-view text
 ```
 
-The independent reference runs each of them too: `python3 tools/reference/simulate.py run 26 < examples/04_inversion.task`. The stage in
-the first line of a script names the forms that it needs, from `first` to `queues`.
+The independent reference runs each of them too: `python3 tools/reference/simulate.py run 26 < examples/04_inversion.task`. The first
+line of a script names the horizon, and the part of the language that it needs.
 
 `examples/sweeps` has a script that is run with many values; docs/SWEEP.md is its page.
 
@@ -58,6 +61,12 @@ class Example:
     title: str
     script: bytes
 
+    def comment(self) -> str:
+        """What the script's comment says behind its first line, as lines of the page."""
+        lines = self.script.decode().splitlines()[1:]
+        said = [line[1:].strip() for line in takewhile(lambda line: line.startswith("#"), lines)]
+        return textwrap.fill(" ".join(said), 128, break_long_words=False, break_on_hyphens=False)
+
     def trace(self) -> bytes:
         status, text = answer(self.script, self.horizon, checked=True)
         if status is not Status.DONE:
@@ -68,9 +77,13 @@ class Example:
         return text
 
 
+def place(path: Path) -> tuple[int, str]:
+    """Where an example stands: those by which a reader begins, in their order, and then the course."""
+    return (FIRST.index(path.stem) if path.stem in FIRST else len(FIRST)), path.name
+
+
 def examples() -> Iterator[Example]:
-    """Those without a number first, by which a reader begins, and then the course."""
-    for path in sorted(FOLDER.glob("*.task"), key=lambda path: (path.name[:1].isdigit(), path.name)):
+    for path in sorted(FOLDER.glob("*.task"), key=place):
         script = path.read_bytes()
         head = HEAD.fullmatch(script.decode().splitlines()[0])
         if head is None:
@@ -82,8 +95,9 @@ def gallery(shown: list[Example]) -> str:
     parts = [GALLERY]
     for example in shown:
         name = example.name
-        parts.append(f"## {name}\n\n{example.title} `run {example.horizon}`, stage `{example.stage}`: "
-                     f"[script]({name}.task), [trace]({name}.trace)\n\n![{name}]({name}.svg)\n\n")
+        comment = example.comment()
+        parts.append(f"## {name}\n\n{example.title} `run {example.horizon}`: [script]({name}.task), [trace]({name}.trace)\n\n"
+                     + (f"{comment}\n\n" if comment else "") + f"![{name}]({name}.svg)\n\n")
     return "".join(parts).rstrip("\n") + "\n"
 
 

@@ -1,0 +1,30 @@
+# Completion for fish: pse52, pse52-view, pse52-sweep.
+complete -c pse52 -f
+complete -c pse52 -n __fish_use_subcommand -a run -d 'run a script to tick N, and write its trace'
+complete -c pse52 -n __fish_use_subcommand -a check -d 'tell whether a trace is that of a script'
+complete -c pse52 -n __fish_use_subcommand -a audit -d 'tell whether the servers of a trace kept their budgets'
+complete -c pse52 -n __fish_use_subcommand -a rta -d 'tell least response times of periodic tasks'
+complete -c pse52 -n __fish_use_subcommand -a upgrade -d 'write a script as one of version 2'
+complete -c pse52 -n __fish_use_subcommand -a gen -d 'write the script that is made of a number'
+complete -c pse52 -n __fish_use_subcommand -a soak -d 'run the script of a number, and write its closing lines'
+complete -c pse52 -n __fish_use_subcommand -a explain -d 'tell every fault of a script'
+complete -c pse52 -n '__fish_seen_subcommand_from run check audit rta upgrade explain' -F
+complete -c pse52 -l explain -d 'show the faults of a script that is refused'
+complete -c pse52 -l prove -d 'prove and build the program'
+complete -c pse52 -l released -d 'run the program of the release'
+complete -c pse52 -l which -d 'print the path of the program'
+complete -c pse52 -l version -d 'print the version'
+complete -c pse52 -l help -d 'print the commands'
+
+complete -c pse52-view -f -n __fish_use_subcommand -a 'text svg html vcd perfetto'
+complete -c pse52-view -f -l width -x -d 'columns or pixels'
+complete -c pse52-view -f -l help -d 'print the formats'
+
+complete -c pse52-sweep -l jobs -x -d 'runs at once'
+complete -c pse52-sweep -l sshlogin -x -d 'machines'
+complete -c pse52-sweep -l plot -x -d 'column to draw'
+complete -c pse52-sweep -l over -x -d 'names that it is drawn over'
+complete -c pse52-sweep -l program -x -d 'what runs a script'
+complete -c pse52-sweep -l engine -x -a 'parallel xargs' -d 'engine'
+complete -c pse52-sweep -l anew -d 'forget the rows that are done'
+complete -c pse52-sweep -l help -d 'print the options'
