@@ -1,20 +1,20 @@
 #!/usr/bin/env bash
-# Tries what stands beside the program: the tests of the viewer and of the sweep, the manual pages, and the commands of the tutorial
+# Tries what stands beside the program: the tests of the viewer, of the measures and of the sweep, the manual pages, and the commands of the tutorial
 # and of the page on sweeps. Nothing is built. What a missing tool would have read is skipped, with a line that says so.
 set -u
 cd "$(dirname "$0")/.." || exit 1
 
 if ! command -v python3 >/dev/null 2>&1; then
-    echo "skipped: the viewer and the sweep, since python3 is not here"
+    echo "skipped: the viewer, the measures and the sweep, since python3 is not here"
     exit 0
 fi
 if ! python3 -c 'import sys; sys.exit(sys.version_info < (3, 11))'; then
-    echo "skipped: the viewer and the sweep, since this python3 is older than 3.11"
+    echo "skipped: the viewer, the measures and the sweep, since this python3 is older than 3.11"
     exit 0
 fi
 
 failed=0
-for folder in view sweep pages; do
+for folder in view measure sweep pages; do
     log=$(python3 -m unittest discover -s "tools/$folder/tests" -t tools 2>&1)
     if [ $? -eq 0 ]; then
         printf '%s\n' "$log" | grep -o 'skipped: .*' | sort -u

@@ -14,8 +14,10 @@ from view.source import NoSource, detail_of, horizon_of
 
 from .jobs import NamesNothing, SLEEP
 from .measures import Measure, WrongMeasure, measure_of
+from .rta import Analysis, remarks, rta_table
 from .seen import Seen
 from .tables import as_csv, as_text, jobs_table, share, tables_of
+from .tasks import NoTask
 
 TOOL = "pse52-measure"
 HELP = """Measures one trace or one detail of pse52: jobs and their response times, threads, waits, priorities, servers.
@@ -151,7 +153,13 @@ def measured(said: argparse.Namespace) -> str:
     for note in check(seen, measures):
         print(f"{TOOL}: {note}", file=sys.stderr)
     tables = list(tables_of(seen, measures))
-    return as_csv(tables) if said.csv else heading(seen) + as_text(tables)
+    if not said.rta:
+        return as_csv(tables) if said.csv else heading(seen) + as_text(tables)
+    analysis = Analysis(said.script.read_bytes(), {str(m.words["thread"]): m.words["deadline"] for m in measures if {"thread", "deadline"} <= set(m.words)})
+    analysis.prove()
+    analysis.look(seen, measures)
+    tables.append(rta_table(analysis))
+    return as_csv(tables) if said.csv else heading(seen) + as_text(tables) + remarks(analysis)
 
 
 def main(words: list[str]) -> Status:
@@ -165,7 +173,7 @@ def main(words: list[str]) -> Status:
     except NotATraceLine as wrong:
         print(f"{TOOL}: {wrong}", file=sys.stderr)
         return Status.REFUSED
-    except (NamesNothing, WrongMeasure, NoSource) as wrong:
+    except (NamesNothing, WrongMeasure, NoSource, NoTask) as wrong:
         print(f"{TOOL}: {wrong}", file=sys.stderr)
         return Status.REFUSED
     except OSError as error:

@@ -73,7 +73,7 @@ def clone(folder: Path) -> None:
         (folder / name).symlink_to(TOP / name)
     shutil.copytree(TOP / "examples", folder / "examples", ignore=shutil.ignore_patterns("*.rows"))
     (folder / "bin").mkdir()
-    for name in ("pse52-view", "pse52-sweep"):
+    for name in ("pse52-view", "pse52-sweep", "pse52-measure"):
         (folder / "bin" / name).symlink_to(TOP / "bin" / name)
     program = folder / "bin" / "pse52"
     program.write_text(f'''#!/bin/sh

@@ -16,6 +16,9 @@ USAGE, REFUSED = 1, 2
 HORIZON = re.compile(rb"\s*#\s*horizon (\d+)\b")
 
 
+_TOLD: set[str] = set()
+
+
 class NoSource(Exception):
     """Why there is no detail of a script."""
 
@@ -42,6 +45,8 @@ def answer(words: list[str], source: bytes, reference: Path, tool: str) -> bytes
     Raises NoSource where the command is refused or fails.
     """
     asked = programs(reference)
+    if len(asked) == 1:
+        _tell(f"{tool}: the program is not built, so the reference answers")
     for number, program in enumerate(asked):
         try:
             ended = subprocess.run([*program, *words], input=source, capture_output=True, check=False)
@@ -50,10 +55,17 @@ def answer(words: list[str], source: bytes, reference: Path, tool: str) -> bytes
         if ended.returncode == 0:
             return ended.stdout
         if ended.returncode == USAGE and number + 1 < len(asked):
-            print(f"{tool}: {Path(program[0]).name} does not know '{words[0]}'; the reference answers", file=sys.stderr)
+            _tell(f"{tool}: {Path(program[0]).name} does not know '{words[0]}'; the reference answers")
             continue
         raise NoSource(_why(ended))
     raise AssertionError(asked)
+
+
+def _tell(line: str) -> None:
+    """Says a line on standard error, once."""
+    if line not in _TOLD:
+        print(line, file=sys.stderr)
+        _TOLD.add(line)
 
 
 def _why(ended: subprocess.CompletedProcess[bytes]) -> str:
