@@ -1,12 +1,10 @@
 """The texts of `show N` and `detail N`: the facts of one instant, and a trace with the facts that change."""
 from __future__ import annotations
 
-from facts import Fact, Facts, number_lines
+from facts import Facts, number_lines
 from machine import Machine
 from script import Script, signal_text
 from trace import closing_lines, event_line
-
-Rows = list[list[Fact]]
 
 
 def show(script: Script, instant: int, checked: bool = False) -> str:
@@ -17,7 +15,7 @@ def show(script: Script, instant: int, checked: bool = False) -> str:
     lines = [f"{machine.now} state"]
     if machine.killed is not None:
         lines.append(f"killed {signal_text(machine.killed)}")
-    lines += [fact.text for row in Facts(script, machine).rows() for fact in row if fact.words]
+    lines += Facts(script, machine).texts()
     lines += [line for thread in machine.threads for line in number_lines(thread)]
     return "".join(line + "\n" for line in lines)
 
@@ -28,24 +26,19 @@ def detail(script: Script, horizon: int, checked: bool = False) -> str:
     facts = Facts(script, machine)
     lines: list[str] = []
     told = 0
-    before = list(facts.rows())
+    before = facts.rows()
     while machine.now < horizon and machine.killed is None:
         machine.handle_due_items()
         if machine.killed is not None:
             break
-        now, after = machine.now, list(facts.rows())
+        now, after = machine.now, facts.rows()
         machine.end_instant()
         events = machine.events[told:]
         here = [event for event in events if event.time == now]
         told += len(here)
         lines += [event_line(event) for event in here]
-        lines += [f"{now} {text}\n" for text in changed(before, after)]
+        lines += [f"{now} {text}\n" for text in facts.changes(before, after)]
         before = after
     lines += [event_line(event) for event in machine.events[told:]]
     return "".join(lines) + closing_lines(machine)
 
-
-def changed(before: Rows, after: Rows) -> list[str]:
-    """The facts that differ, in order."""
-    return [new.text for old_row, new_row in zip(before, after) if old_row != new_row
-            for old, new in zip(old_row, new_row) if old != new]

@@ -1,13 +1,12 @@
 """The facts of one instant: the lists, who waits for what, owners, messages, timers, and all that a trace does not tell.
 
-A fact has a subject, as `list 5` or `waiters m`, and words behind it. The facts of a state stand in one order, and there
-is always the same fact for the same subject, so that two states are compared fact by fact.
+A fact has a subject, as `list 5` or `waiters m`, and words behind it; one without words is empty. The facts of a state
+stand in rows, and each state of a run has the same subjects in the same order, so that two states are compared fact by
+fact. A row of a state is the words of its facts; the subjects are made once.
 """
 from __future__ import annotations
 
-from dataclasses import dataclass
 from itertools import groupby
-from typing import Iterator
 
 from forms import ObjectKind
 from kernel import Kernel
@@ -15,16 +14,11 @@ from script import Rr, Script, set_text, signal_text
 from state import Frame, FrameKind, Record, Thread, ThreadState, WaitKind
 
 
-@dataclass(frozen=True)
-class Fact:
-    """A subject, and what is told of it; a fact without words is empty."""
-
-    subject: str
-    words: str
-
-    @property
-    def text(self) -> str:
-        return f"{self.subject} {self.words}" if self.words else self.subject
+Rows = list[list[str]]
+PRIORITIES = range(255, 0, -1)
+WAITED = ((ObjectKind.MUTEX, (WaitKind.MUTEX, WaitKind.CONTENTION)), (ObjectKind.COND, (WaitKind.COND,)),
+          (ObjectKind.SEM, (WaitKind.SEM,)))
+THREAD_ROWS = ("thread", "frames", "mask", "cancelability", "cleanups", "pending")
 
 
 class Facts:
@@ -34,34 +28,53 @@ class Facts:
         self.kernel = kernel
         self.names = {kind: [named.name for named in script.objects(kind)] for kind in ObjectKind}
         self.exec_priorities: list[int] = []
+        self.subjects = self.all_subjects()
 
-    def rows(self) -> Iterator[list[Fact]]:
-        """The facts of the state as it is now, row by row."""
-        self.exec_priorities = self.kernel.exec_priorities()
-        threads = self.kernel.threads
-        yield [Fact(f"list {priority}", self.told(self.kernel.lists[priority])) for priority in range(255, 0, -1)]
-        yield [Fact(f"thread {thread.name}", self.standing(thread)) for thread in threads]
-        yield [Fact(f"frames {thread.name}", self.frames(thread)) for thread in threads]
-        yield [Fact(f"mask {thread.name}", self.mask(thread)) for thread in threads]
-        yield [Fact(f"cancelability {thread.name}", self.cancelability(thread)) for thread in threads]
-        yield [Fact(f"cleanups {thread.name}", self.cleanups(thread)) for thread in threads]
-        yield [Fact(f"pending {thread.name}", self.pending(thread)) for thread in threads]
-        yield from self.rows_of_objects()
+    def all_subjects(self) -> Rows:
+        def of(kind: ObjectKind, *words: str) -> list[str]:
+            return [f"{word} {name}" for name in self.names[kind] for word in words]
 
-    def rows_of_objects(self) -> Iterator[list[Fact]]:
-        names, kernel = self.names, self.kernel
-        yield [Fact(f"mutex {name}", self.owner(number)) for number, name in enumerate(names[ObjectKind.MUTEX])]
-        for kind, waits in ((ObjectKind.MUTEX, (WaitKind.MUTEX, WaitKind.CONTENTION)),
-                            (ObjectKind.COND, (WaitKind.COND,)), (ObjectKind.SEM, (WaitKind.SEM,))):
-            yield [Fact(f"waiters {name}", self.waiters(number, *waits)) for number, name in enumerate(names[kind])]
-        yield [Fact(f"sem {name}", str(kernel.sems[number])) for number, name in enumerate(names[ObjectKind.SEM])]
-        yield [Fact(f"messages {name}", self.messages(number)) for number, name in enumerate(names[ObjectKind.QUEUE])]
-        yield [Fact(f"{word} {name}", self.waiters(number, wait))
-               for number, name in enumerate(names[ObjectKind.QUEUE])
-               for word, wait in (("senders", WaitKind.SEND), ("receivers", WaitKind.RECEIVE))]
-        yield [Fact(f"notify {name}", self.notify(number)) for number, name in enumerate(names[ObjectKind.QUEUE])]
-        yield [Fact(f"timer {name}", self.timer(number)) for number, name in enumerate(names[ObjectKind.TIMER])]
-        yield self.signals()
+        return [
+            [f"list {priority}" for priority in PRIORITIES],
+            *[of(ObjectKind.THREAD, word) for word in THREAD_ROWS],
+            of(ObjectKind.MUTEX, "mutex"),
+            *[of(kind, "waiters") for kind, _ in WAITED],
+            of(ObjectKind.SEM, "sem"),
+            of(ObjectKind.QUEUE, "messages"), of(ObjectKind.QUEUE, "senders", "receivers"), of(ObjectKind.QUEUE, "notify"),
+            of(ObjectKind.TIMER, "timer"),
+            [f"signal {signal_text(signal)}" for signal in range(32)]]
+
+    def rows(self) -> Rows:
+        """The words of all facts of the state as it is now, in the order of their subjects."""
+        kernel, threads = self.kernel, self.kernel.threads
+        self.exec_priorities = kernel.exec_priorities()
+        queues = range(len(kernel.queues))
+        return [
+            [self.told(kernel.lists[priority]) if kernel.lists[priority] else "" for priority in PRIORITIES],
+            [self.standing(thread) for thread in threads],
+            [self.frames(thread) for thread in threads],
+            [self.mask(thread) for thread in threads],
+            [self.cancelability(thread) for thread in threads],
+            [self.cleanups(thread) for thread in threads],
+            [self.pending(thread) for thread in threads],
+            [self.owner(number) for number in range(len(kernel.mutexes))],
+            *[[self.waiters(number, *waits) for number in range(len(self.names[kind]))] for kind, waits in WAITED],
+            [str(value) for value in kernel.sems],
+            [self.messages(number) for number in queues],
+            [self.waiters(number, wait) for number in queues for wait in (WaitKind.SEND, WaitKind.RECEIVE)],
+            [self.notify(number) for number in queues],
+            [self.timer(number) for number in range(len(kernel.timers))],
+            self.signals()]
+
+    def texts(self) -> list[str]:
+        """The facts that are not empty, in order."""
+        return [fact_text(subject, words) for subjects, row in zip(self.subjects, self.rows())
+                for subject, words in zip(subjects, row) if words]
+
+    def changes(self, before: Rows, after: Rows) -> list[str]:
+        """The facts that differ between two states, in order."""
+        return [fact_text(subject, new) for subjects, old_row, new_row in zip(self.subjects, before, after)
+                if old_row != new_row for subject, old, new in zip(subjects, old_row, new_row) if old != new]
 
     # Threads
 
@@ -156,16 +169,20 @@ class Facts:
         timer = self.kernel.timers[number]
         return "" if timer.due is None else f"{timer.due} {timer.interval}"
 
-    def signals(self) -> list[Fact]:
+    def signals(self) -> list[str]:
         """Of each signal code, value and target of each pending record; a record for the process has the target `*`."""
         records = sorted(self.kernel.records, key=lambda record: (record.signal, record.serial))
         found = {signal: " ".join(self.record(record) for record in some)
                  for signal, some in groupby(records, key=lambda record: record.signal)}
-        return [Fact(f"signal {signal_text(signal)}", found.get(signal, "")) for signal in range(32)]
+        return [found.get(signal, "") for signal in range(32)]
 
     def record(self, record: Record) -> str:
         target = "*" if record.target is None else self.kernel.threads[record.target].name
         return f"{record.code.value} {record.value} {target}"
+
+
+def fact_text(subject: str, words: str) -> str:
+    return f"{subject} {words}" if words else subject
 
 
 def number_lines(thread: Thread) -> list[str]:
