@@ -94,7 +94,7 @@ def examples() -> list[str]:
     """The worked examples that are run, but those that take long."""
     names = [line.split()[0] for line in (WORKED / "INDEX.txt").read_text().splitlines() if not line.startswith("#")]
     return [name for name in names if name not in SLOW and (WORKED / f"{name}.horizon").exists()
-            and not (WORKED / f"{name}.refused").exists()
+            and any((WORKED / f"{name}.{form}").exists() for form in ("trace", "has"))
             and int((WORKED / f"{name}.horizon").read_text()) <= FARTHEST]
 
 

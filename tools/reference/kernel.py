@@ -32,6 +32,7 @@ class Kernel:
         self.handlers = [named.kind.body for named in script.objects(ObjectKind.HANDLER)]
         self.cleanups = [named.kind.body for named in script.objects(ObjectKind.CLEANUP)]
         self.mutexes = [Mutex(named.kind) for named in script.objects(ObjectKind.MUTEX)]
+        self.protecting = [mutex for mutex in self.mutexes if mutex.kind.ceiling is not None]
         self.sems = [named.kind.value for named in script.objects(ObjectKind.SEM)]
         self.queues = [Queue(named.kind) for named in script.objects(ObjectKind.QUEUE)]
         self.timers = [Timer(named.kind) for named in script.objects(ObjectKind.TIMER)]
@@ -61,8 +62,7 @@ class Kernel:
 
     def base(self, thread: Thread) -> int:
         """The greatest of the assigned priority and the ceilings of the mutexes that the thread owns."""
-        ceilings = [mutex.kind.ceiling for mutex in self.mutexes
-                    if mutex.owner == thread.number and mutex.kind.ceiling is not None]
+        ceilings = [mutex.kind.ceiling for mutex in self.protecting if mutex.owner == thread.number]
         return max([self.assigned(thread), *ceilings])
 
     def exec(self, thread: Thread) -> int:
@@ -71,11 +71,12 @@ class Kernel:
 
     def exec_priorities(self) -> list[int]:
         """Of each thread the greatest base of itself and of all that wait, along inherit mutexes, for it."""
-        found = [0] * len(self.threads)
+        bases = [self.base(thread) for thread in self.threads]
+        found = list(bases)
         for thread in self.threads:
-            base = self.base(thread)
-            for number in self.lends_to(thread):
-                found[number] = max(found[number], base)
+            if thread.wait is not None:
+                for number in self.lends_to(thread):
+                    found[number] = max(found[number], bases[thread.number])
         return found
 
     def lends_to(self, thread: Thread) -> list[int]:
@@ -109,12 +110,12 @@ class Kernel:
             self.direct.remove(thread.number)
         self.direct.append(thread.number)
 
-    def settle(self, before: Snapshot) -> None:
+    def settle(self, before: Snapshot) -> Snapshot:
         """Carries out the moves of what happened since `before`: direct ones, then those whose priority changed."""
         after = self.snapshot()
         if after == before and not self.direct:
-            return
-        for members in self.lists.values():
+            return after
+        for members in filter(None, self.lists.values()):
             members[:] = [number for number in members if after[number][0]]
         direct = [number for number in self.direct if after[number][0]]
         for number in direct:
@@ -125,6 +126,7 @@ class Kernel:
                 self.take_from_lists(number)
                 self.lists[new].insert(len(self.lists[new]) if new > old else 0, number)
         self.direct = []
+        return after
 
     def take_from_lists(self, number: int) -> None:
         for members in self.lists.values():

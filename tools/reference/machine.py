@@ -38,8 +38,11 @@ class Machine(Kernel):
 
     def tick(self) -> None:
         self.handle_due_items()
-        if self.killed is not None:
-            return
+        if self.killed is None:
+            self.end_instant()
+
+    def end_instant(self) -> None:
+        """What follows the due items of an instant: the dispatch, and one tick of the head."""
         head = self.dispatch()
         self.time = self.now + 1
         if head is not None:
@@ -130,8 +133,7 @@ class Machine(Kernel):
         before = self.snapshot()
         charged = self.charge(thread)
         self.run_unit(thread)
-        self.settle(before)
-        before = self.snapshot()
+        before = self.settle(before)
         self.end_tick(thread, charged)
         self.settle(before)
         sweep(self)

@@ -1,6 +1,8 @@
-"""The reference for `pse52 run N`: the same text and the same exit status.
+"""The reference for `pse52 run N`, and for `show N` and `detail N`: the same text and the same exit status.
 
     python3 tools/reference/simulate.py run N [--stage STAGE] [--check] < script
+    python3 tools/reference/simulate.py show N [--stage STAGE] [--check] < script
+    python3 tools/reference/simulate.py detail N [--stage STAGE] [--check] < script
 
 Exit status: 0 Done, 1 Usage, 2 Refused, 3 TooLong.
 """
@@ -8,10 +10,13 @@ from __future__ import annotations
 
 import sys
 from enum import IntEnum
+from typing import Callable
 
+from detail import detail, show
 from forms import GREATEST_NUMBER, Stage
 from machine import Machine
 from reader import read
+from script import Script
 from trace import trace
 
 GREATEST_TEXT = 1_048_576
@@ -24,24 +29,33 @@ class Status(IntEnum):
     TOO_LONG = 3
 
 
-def horizon_of(words: list[str]) -> int | None:
-    """The horizon that the words of a command name."""
-    if len(words) != 2 or words[0] != "run" or not (words[1].isascii() and words[1].isdigit()):
+def run(script: Script, horizon: int, checked: bool = False) -> str:
+    machine = Machine(script, checked)
+    machine.run_until(horizon)
+    return trace(machine)
+
+
+COMMANDS: dict[str, Callable[[Script, int, bool], str]] = {"run": run, "show": show, "detail": detail}
+
+
+def command_of(words: list[str]) -> tuple[str, int] | None:
+    """The command that the words are, with its number."""
+    if len(words) != 2 or words[0] not in COMMANDS or not (words[1].isascii() and words[1].isdigit()):
         return None
     digits = words[1].lstrip("0") or "0"
-    return int(digits) if len(digits) <= 19 and int(digits) <= GREATEST_NUMBER else None
+    is_number = len(digits) <= 19 and int(digits) <= GREATEST_NUMBER
+    return (words[0], int(digits)) if is_number else None
 
 
-def answer(text: bytes, horizon: int, stage: Stage = Stage.WHOLE, checked: bool = False) -> tuple[Status, bytes]:
-    """The status and the text of a run."""
+def answer(text: bytes, horizon: int, stage: Stage = Stage.WHOLE, checked: bool = False,
+           command: str = "run") -> tuple[Status, bytes]:
+    """The status and the text of a run, or of another command with that number."""
     if len(text) > GREATEST_TEXT:
         return Status.TOO_LONG, b"too long\n"
     script, fault = read(text, stage)
     if script is None:
         return Status.REFUSED, f"refused {fault.line} {fault.kind.value} {fault.kind.name}\n".encode()
-    machine = Machine(script, checked)
-    machine.run_until(horizon)
-    return Status.DONE, trace(machine).encode()
+    return Status.DONE, COMMANDS[command](script, horizon, checked).encode()
 
 
 def main(words: list[str]) -> Status:
@@ -51,11 +65,12 @@ def main(words: list[str]) -> Status:
         at = words.index("--stage")
         stage = Stage.named(words[at + 1])
         del words[at:at + 2]
-    horizon = horizon_of(words)
-    if horizon is None:
+    command = command_of(words)
+    if command is None:
         status, text = Status.USAGE, b"usage: pse52 COMMAND NUMBERS\n"
     else:
-        status, text = answer(sys.stdin.buffer.read(GREATEST_TEXT + 1), horizon, stage, checked)
+        word, number = command
+        status, text = answer(sys.stdin.buffer.read(GREATEST_TEXT + 1), number, stage, checked, word)
     sys.stdout.buffer.write(text)
     return status
 
