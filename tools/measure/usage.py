@@ -5,7 +5,7 @@ from collections import defaultdict
 from dataclasses import dataclass
 
 from view.lines import Activate, Exhaust, Exit, Refill
-from view.timeline import timeline_of
+from view.seen import timeline_of
 
 from .seen import Seen
 

@@ -22,7 +22,7 @@ LASTING = frozenset(("0", "1", "2", "3"))
 # What measures a trace.
 TOOLS = Path(__file__).parents[1]
 MEASURING = [*(TOOLS / "measure" / f"{name}.py" for name in ("measures", "jobs", "usage", "seen")),
-             *(TOOLS / "view" / f"{name}.py" for name in ("lines", "facts", "timeline"))]
+             *(TOOLS / "view" / f"{name}.py" for name in ("lines", "facts", "seen", "timeline", "tracks"))]
 
 
 class WrongSweep(Exception):

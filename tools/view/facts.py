@@ -1,4 +1,4 @@
-"""The reader of facts: the lines of `pse52 detail` that stand behind those of the trace. docs/TRACE.md says what each line is.
+"""The reader of facts: the lines of `pse52 detail` that stand behind those of the trace. docs/FACTS.md says what each is.
 
 A fact is told where it changes, and holds up to its next line. Before its first line it is what it is at the opening: all
 threads dormant, the semaphores at their declared values, and all others empty.

@@ -56,7 +56,7 @@ def _data(timeline: Timeline) -> dict[str, object]:
     return {
         "ticks": [str(tick) for tick in points.ticks], "places": points.places, "cuts": points.cuts,
         "threads": [_thread(thread, points) for thread in timeline.threads],
-        "colours": {str(priority): pair for priority, pair in colours_of(timeline.priorities).items()},
+        "colours": {str(priority): pair for priority, pair in colours_of(timeline.scale or timeline.priorities).items()},
         "lines": [line for _, line in events], "at": [points.number[event[0]] for event, _ in events],
         "closing": [line for event, line in zip(timeline.trace.events, timeline.trace.lines)
                     if isinstance(event, (Closing, End))],

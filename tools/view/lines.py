@@ -1,4 +1,5 @@
-"""The reader of trace lines, and of the facts between them. docs/TRACE.md says what each line is; this reader takes exactly those.
+"""The reader of trace lines, and of the facts between them. docs/TRACE.md and docs/FACTS.md
+say what each line is; this reader takes exactly those.
 
 Each line becomes one event: a named tuple with its time first. The closing lines become `End` and `Closing`. The facts of a
 detail are kept beside the events. Nothing here knows of pictures, so that whatever reads traces can stand on it.

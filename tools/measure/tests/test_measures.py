@@ -9,7 +9,8 @@ from measure.measures import WrongMeasure, jobs_of, measure_of, never_done
 from measure.seen import Seen
 from view.lines import Trace, read_trace
 from view.tests.details import trace_of
-from view.timeline import State, timeline_of
+from view.seen import timeline_of
+from view.timeline import State
 
 TOP = Path(__file__).resolve().parents[3]
 WORKED = TOP / "tests" / "worked"
