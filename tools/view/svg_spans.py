@@ -5,7 +5,7 @@ from dataclasses import dataclass
 
 from .axis import Axis
 from .kinds import CLEANUP, COLOURS, HANDLER, labels, sentence
-from .svg_writer import FAINT, INK, Writer
+from .svg_writer import FAINT, Writer, short
 from .timeline import Span, State, ThreadLine
 
 Colours = dict[int, tuple[str, str]]
@@ -79,22 +79,23 @@ class _Bin:
 
 
 def _draw_density(out: Writer, thread: ThreadLine, axis: Axis, colours: Colours, bar: float, high: float) -> None:
-    """How much of each column the thread ran, from below, by priority; above that white where it was ready, and pale where it waited."""
+    """How much of each column the thread ran, from below, in the colour at which it mostly did; above that where it was ready, and waited."""
+    ready, waits = [], []
     for column in _bins(thread, axis):
-        ticks = column.end - column.start
-        wide, base = column.right - column.left, bar + high
-        ran = sum(column.runs.values())
-        title = (f"{thread.name}, ticks {column.start} to {column.end}: runs for {ran}, is ready for {column.ready}, "
-                 f"waits for {column.waits}")
-        for priority in sorted(column.runs, reverse=True):
-            share = high * column.runs[priority] / ticks
-            base -= share
-            out.rect(column.left, base, wide, share, title=title, fill=colours[priority][0], class_="dense")
-        for count, fill in ((column.ready, "#eef0f4"), (column.waits, "#ccd1da")):
+        ticks, ran = column.end - column.start, sum(column.runs.values())
+        wide, base = column.right - column.left, bar + high * (1 - ran / ticks)
+        if ran:
+            mostly = max(column.runs, key=lambda priority: (column.runs[priority], priority))
+            title = f"{thread.name}, ticks {column.start} to {column.end}: runs for {ran}, is ready for {column.ready}, waits for {column.waits}"
+            out.rect(column.left, base, wide, high * ran / ticks, title=title, fill=colours[mostly][0], class_="dense")
+        for count, boxes in ((column.ready, ready), (column.waits, waits)):
             if count:
                 share = high * count / ticks
                 base -= share
-                out.rect(column.left, base, wide, share, title=title, fill=fill, class_="dense")
+                boxes.append(f"M{short(column.left)},{short(base)}h{short(wide)}v{short(share)}h-{short(wide)}z")
+    for boxes, fill, name in ((ready, "#e6e9ef", "dense-ready"), (waits, "#c3c9d4", "dense-wait")):
+        if boxes:
+            out.path("".join(boxes), fill=fill, class_=name)
 
 
 def _bins(thread: ThreadLine, axis: Axis) -> list[_Bin]:
@@ -141,7 +142,3 @@ def draw_frame_sample(out: Writer, cleanup: bool, x: float, y: float) -> None:
 def draw_low_sample(out: Writer, x: float, y: float) -> None:
     out.rect(x, y - 10, 20, 11, fill="#7a8aa8")
     out.rect(x, y - 10, 20, 11, fill="url(#low)")
-
-
-def ink_of(colours: Colours, priority: int) -> str:
-    return colours.get(priority, ("", INK))[1]
