@@ -21,7 +21,7 @@ def draw(timeline: Timeline) -> str:
     tick = timeline.tick or "1ns"
     dump = _Dump(timeline)
     unit = tick.lstrip("0123456789")
-    head = [f"$comment a run of pse52: one tick is {tick} $end", f"$timescale {_timescale(tick)}{unit} $end", "$scope module pse52 $end",
+    head = [f"$comment a run of pse52: one tick is {tick} $end", f"$timescale {_timescale(tick)} {unit} $end", "$scope module pse52 $end",
             *dump.head, "$upscope $end", "$enddefinitions $end"]
     return "\n".join(head + _dumped(dump.changes, timeline.start, timeline.end, _factor(tick))) + "\n"
 

@@ -26,6 +26,7 @@ const whole = () => AXIS + 18 + data.threads.reduce((sum, _, number) => sum + RO
 
 function readLook() {
   const style = getComputedStyle(document.documentElement);
+  look.dark = document.documentElement.classList.contains("dark");
   for (const name of ["ink", "faint", "line", "pale", "paper", "now", "held", "second", "cut", "blue", "owner", "contended", "dense-ready", "dense-wait", "arrow"]) look[name] = style.getPropertyValue("--" + name).trim();
 }
 function line(colour, wide, x, y, toX, toY, dashes = []) {
@@ -158,7 +159,7 @@ function drawSpans(thread, bar) {
     } else if (state === WAITING) {
       pen.globalAlpha = 0.2; pen.fillStyle = data.kinds[kind]; pen.fillRect(x, bar + sizes.bar * 0.25, wide, sizes.bar * 0.5); pen.globalAlpha = 1;
       line(data.kinds[kind], 1.6, x, bar + sizes.bar * 0.76, end, bar + sizes.bar * 0.76, [2, 2]);
-      label([(data.words[kind] + " " + what).trim() || call, what], x, end, bar + sizes.bar * 0.64, small - 1, kind === "sleep" ? look.faint : data.kinds[kind]);
+      label([(data.words[kind] + " " + what).trim() || call, what], x, end, bar + sizes.bar * 0.64, small - 1, kind === "sleep" ? look.faint : look.dark ? look.ink : data.kinds[kind]);
     } else line(look.faint, 1, x, bar + sizes.bar / 2, end, bar + sizes.bar / 2, [1, 5]);
     if (frame) { pen.fillStyle = data.frames[cleanup]; pen.fillRect(x, bar, wide, 3.6); }
   }

@@ -38,7 +38,7 @@ class AnyTrace(unittest.TestCase):
             seen = timeline_of_text(text)
             for name, draw in drawers.items():
                 try:
-                    self.assertTrue(draw(seen, 60 if name == "text" else None))
+                    self.assertTrue(draw(*([seen, 60] if name == "text" else [seen])))
                 except Exception as error:
                     raise AssertionError(f"{name}, seed {seed}:\n{text}") from error
 
@@ -47,7 +47,7 @@ class AnyTrace(unittest.TestCase):
                      "0 dispatch a 1\n", "3 killed rt1\n3 end\n", "0 end\nthread a ticks 0 high 0 init 1 refilled 0 capacity 1\n"):
             seen = timeline_of_text(text)
             for name in FORMATS:
-                self.assertTrue(import_module(f"view.{name}").draw(seen, None))
+                self.assertTrue(import_module(f"view.{name}").draw(seen))
 
 
 if __name__ == "__main__":

@@ -65,7 +65,7 @@ class Generated(unittest.TestCase):
         for seed in range(0, SCRIPTS, 4):
             seen = watched(seed)[1]
             for draw in drawers:
-                self.assertTrue(draw(seen, None), seed)
+                self.assertTrue(draw(seen), seed)
 
 
 if __name__ == "__main__":
