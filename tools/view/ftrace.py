@@ -1,4 +1,4 @@
-"""The text of Linux's ftrace, as `trace-cmd report` and /sys/kernel/tracing/trace print it: sched_switch, sched_waking, sched_wakeup
+"""The text of Linux's ftrace, as /sys/kernel/tracing/trace and `trace-cmd report` print it: sched_switch, sched_waking, sched_wakeup
 and sched_process_exit on one processor. A tick is written as a nanosecond, or as --tick says; times have nine digits behind the
 point.
 
@@ -7,13 +7,15 @@ A thread has the pid 1001 and so on in the order of declaration. Linux prints pr
 """
 from __future__ import annotations
 
+from bisect import bisect_left
 from collections.abc import Iterator
+from typing import NamedTuple
 
 from .perfetto import nanoseconds
 from .timeline import Span, State, ThreadLine, Timeline
 
-FIRST_PID = 1001
-IDLE = ("swapper/0", 0, 120)
+FIRST_PID, LONGEST_NAME = 1001, 15
+IDLE_TASK = ("swapper/0", 0, 120)
 HEAD = """\
 # tracer: nop
 #
@@ -27,19 +29,35 @@ HEAD = """\
 #           TASK-PID     CPU#  ||||   TIMESTAMP  FUNCTION
 #              | |         |   ||||      |         |
 """
-Line = tuple[int, int, str, str]
+FORMATS = {
+    "sched_switch": "prev_comm={prev_comm} prev_pid={prev_pid} prev_prio={prev_prio} prev_state={prev_state} ==> "
+                    "next_comm={next_comm} next_pid={next_pid} next_prio={next_prio}",
+    "sched_waking": "comm={comm} pid={pid} prio={prio} target_cpu={target_cpu:03d}",
+    "sched_wakeup": "comm={comm} pid={pid} prio={prio} target_cpu={target_cpu:03d}",
+    "sched_process_exit": "comm={comm} pid={pid} prio={prio}"}
+# At one instant who is woken stands before who ends, and the switch comes last.
+RANKS = {"sched_waking": 0, "sched_wakeup": 1, "sched_process_exit": 2, "sched_switch": 3}
+
+
+class Line(NamedTuple):
+    """An event: its time in ticks, its name, its fields, and the task that runs in it."""
+
+    time: int
+    event: str
+    fields: dict[str, str | int]
+    comm: str
+    pid: int
 
 
 def draw(timeline: Timeline) -> str:
-    events = sorted(_events(timeline), key=lambda line: line[:2])
-    runs = _Running(timeline)
-    factor = nanoseconds(timeline.tick)
-    lines = [f"{runs.before(time)} [000] d.... {_seconds(time * factor)}: {event}: {told}\n" for time, _, event, told in events]
-    return HEAD.format(count=len(lines)) + "".join(lines)
+    lines, factor = events_of(timeline), nanoseconds(timeline.tick)
+    return HEAD.format(count=len(lines)) + "".join(
+        f"{line.comm:>16}-{line.pid:<7} [000] d.... {_seconds(line.time * factor)}: {line.event}: {FORMATS[line.event].format(**line.fields)}\n"
+        for line in lines)
 
 
-def _seconds(nanoseconds_: int) -> str:
-    return f"{nanoseconds_ // 10**9:5d}.{nanoseconds_ % 10**9:09d}"
+def _seconds(time: int) -> str:
+    return f"{time // 10**9:5d}.{time % 10**9:09d}"
 
 
 def priority_of(priority: int) -> int:
@@ -47,62 +65,46 @@ def priority_of(priority: int) -> int:
     return max(0, 99 - priority)
 
 
-class _Running:
-    """Which task a line belongs to: the one that ran before it."""
-
-    def __init__(self, timeline: Timeline) -> None:
-        self._ends = {end: number for number, thread in enumerate(timeline.threads) for _, end in thread.runs}
-        self._spans = sorted((start, end, number) for number, thread in enumerate(timeline.threads) for start, end in thread.runs)
-        self._names = [thread.name for thread in timeline.threads]
-
-    def before(self, time: int) -> str:
-        number = self._ends.get(time, self._in_the_midst(time))
-        name, pid = (IDLE[0], IDLE[1]) if number is None else (self._names[number], FIRST_PID + number)
-        return f"{name[:15]:>16}-{pid:<7}"
-
-    def _in_the_midst(self, time: int) -> int | None:
-        low, high = 0, len(self._spans)
-        while low < high:
-            middle = (low + high) // 2
-            if self._spans[middle][0] < time:
-                low = middle + 1
-            else:
-                high = middle
-        return self._spans[low - 1][2] if low and self._spans[low - 1][1] >= time else None
+def events_of(timeline: Timeline) -> list[Line]:
+    """All events in their order, each with the task that ran up to it."""
+    tasks = [(thread.name[:LONGEST_NAME], FIRST_PID + number) for number, thread in enumerate(timeline.threads)]
+    runs = sorted((start, end, number) for number, thread in enumerate(timeline.threads) for start, end in thread.runs)
+    starts = [start for start, _, _ in runs]
+    lines = []
+    for time, event, fields in sorted(_events(timeline, tasks), key=lambda line: (line[0], RANKS[line[1]])):
+        at = bisect_left(starts, time) - 1
+        comm, pid = tasks[runs[at][2]] if at >= 0 and runs[at][1] >= time else IDLE_TASK[:2]
+        lines.append(Line(time, event, fields, comm, pid))
+    return lines
 
 
-def _events(timeline: Timeline) -> Iterator[Line]:
-    """Each event with its time and its rank at that time: who is woken stands before the switch."""
-    numbers = {thread.name: number for number, thread in enumerate(timeline.threads)}
-    for number, thread in enumerate(timeline.threads):
+def _events(timeline: Timeline, tasks: list[tuple[str, int]]) -> Iterator[tuple[int, str, dict[str, str | int]]]:
+    for thread, (comm, pid) in zip(timeline.threads, tasks):
         before: Span | None = None
         for span in thread.spans:
-            wakes = span.state in (State.READY, State.RUNNING) and (before is None or before.state in (State.WAITING, State.OFF))
-            if wakes:
-                told = f"comm={thread.name[:15]} pid={FIRST_PID + number} prio={priority_of(span.priority)} target_cpu=000"
-                yield span.start, 0, "sched_waking", told
-                yield span.start, 1, "sched_wakeup", told
+            if span.state in (State.READY, State.RUNNING) and (before is None or before.state in (State.WAITING, State.OFF)):
+                fields = {"comm": comm, "pid": pid, "prio": priority_of(span.priority), "target_cpu": 0}
+                yield span.start, "sched_waking", fields
+                yield span.start, "sched_wakeup", fields
             before = span
         if thread.ended is not None:
-            priority = priority_of(thread.spans[-1].priority if thread.spans else 0)
-            yield thread.ended, 2, "sched_process_exit", f"comm={thread.name[:15]} pid={FIRST_PID + number} prio={priority}"
-    yield from _switches(timeline, numbers)
+            yield thread.ended, "sched_process_exit", {"comm": comm, "pid": pid, "prio": priority_of(before.priority if before else 0)}
+    yield from _switches(timeline, tasks)
 
 
-def _switches(timeline: Timeline, numbers: dict[str, int]) -> Iterator[Line]:
-    changes = sorted([(start, thread.name) for thread in timeline.threads for start, _ in thread.runs] + [(start, "") for start, _ in timeline.idle])
-    threads = {thread.name: thread for thread in timeline.threads}
-    last = IDLE
-    last_thread: ThreadLine | None = None
-    for time, name in changes:
-        thread = threads.get(name)
-        if thread is last_thread and time > timeline.start:
+def _switches(timeline: Timeline, tasks: list[tuple[str, int]]) -> Iterator[tuple[int, str, dict[str, str | int]]]:
+    changes = sorted([(start, number) for number, thread in enumerate(timeline.threads) for start, _ in thread.runs]
+                     + [(start, -1) for start, _ in timeline.idle])
+    last, last_thread = IDLE_TASK, None
+    for time, number in changes:
+        thread = timeline.threads[number] if number >= 0 else None
+        if thread is last_thread:
             continue
-        state = "R" if last_thread is None else _left(last_thread, time)
-        priority = next((span.priority for span in thread.spans if span.start <= time < span.end), 0) if thread else 0
-        following = (name[:15], FIRST_PID + numbers[name], priority_of(priority)) if thread else IDLE
-        yield time, 3, "sched_switch", (f"prev_comm={last[0]} prev_pid={last[1]} prev_prio={last[2]} prev_state={state} ==> "
-                                        f"next_comm={following[0]} next_pid={following[1]} next_prio={following[2]}")
+        span = thread.span_at(time) if thread else None
+        following = (*tasks[number], priority_of(span.priority if span else 0)) if thread else IDLE_TASK
+        yield time, "sched_switch", {
+            "prev_comm": last[0], "prev_pid": last[1], "prev_prio": last[2], "prev_state": "R" if last_thread is None else _left(last_thread, time),
+            "next_comm": following[0], "next_pid": following[1], "next_prio": following[2]}
         last, last_thread = following, thread
 
 

@@ -20,7 +20,7 @@ from .timeline import Timeline
 from .window import NoWindow, window
 
 TOOL = "pse52-view"
-FORMATS = ("text", "svg", "html", "vcd", "perfetto", "ftrace")
+FORMATS = ("text", "svg", "html", "vcd", "perfetto", "ftrace", "trace.dat")
 WIDE, WITH_LISTS = ("text", "svg"), ("text", "svg")
 TICK = re.compile(r"([1-9][0-9]{0,5})(ns|us|ms|s)")
 HELP = """FORMAT is one of
@@ -30,6 +30,7 @@ HELP = """FORMAT is one of
   vcd       a value change dump, for GTKWave and other wave viewers
   perfetto  JSON of Chrome's trace event format, for ui.perfetto.dev
   ftrace    text of Linux's ftrace: sched_switch, sched_waking
+  trace.dat the same as a file that trace-cmd and KernelShark open
 
 What is drawn is FILE, or standard input: a trace, a detail, or a script. A script is run for as many ticks as --horizon says,
 or as its first line does, # horizon N. A trace alone does not tell why a thread does not run; a detail or a script does."""
@@ -83,7 +84,7 @@ def command_of(words: list[str]) -> argparse.Namespace:
     parser.add_argument("--to", dest="end", type=_number, metavar="N", help="end it at this one")
     parser.add_argument("--threads", type=lambda word: word.split(","), metavar="A,B", help="only these threads, in this order")
     parser.add_argument("--title", metavar="TEXT", help="a title; without it the name of the script")
-    parser.add_argument("--tick", type=_tick, metavar="1us", help="how long a tick is; vcd, perfetto and ftrace have no ticks, and without it 1 ns stands for one")
+    parser.add_argument("--tick", type=_tick, metavar="1us", help="how long a tick is; without it 1 ns in the formats that have no ticks")
     parser.add_argument("--lists", action="store_true", help="text and svg: also who stands on which list, head first")
     parser.add_argument("--width", type=_width, metavar="N", help="text and svg: columns or pixels")
     said = parser.parse_args(words)
@@ -96,8 +97,9 @@ def command_of(words: list[str]) -> argparse.Namespace:
     return said
 
 
-def drawer(name: str) -> Callable[..., str]:
-    return import_module(f".{name}", __package__).draw
+def drawer(name: str) -> Callable[..., str | bytes]:
+    """The function that draws in a format. Its module has the name of the format, without a point."""
+    return import_module(f".{name.replace('.', '')}", __package__).draw
 
 
 def terminal_width(name: str, width: int | None) -> int | None:
@@ -107,11 +109,11 @@ def terminal_width(name: str, width: int | None) -> int | None:
     return width
 
 
-def write(text: str) -> Status:
+def write(text: str | bytes) -> Status:
     try:
         if sys.stdout is None:
             raise OSError(9, os.strerror(9))
-        sys.stdout.buffer.write(text.encode())
+        sys.stdout.buffer.write(text if isinstance(text, bytes) else text.encode())
         sys.stdout.buffer.flush()
     except OSError as error:
         print(f"{TOOL}: the output was not written: {error.strerror}", file=sys.stderr)
@@ -141,8 +143,8 @@ def traced(said: argparse.Namespace, progress: Progress) -> tuple[Trace, str]:
     return read_trace(detail_of(script, horizon, TOOL), progress.lines), path.stem if path else ""
 
 
-def picture(said: argparse.Namespace, progress: Progress) -> str:
-    """The text that is written."""
+def picture(said: argparse.Namespace, progress: Progress) -> str | bytes:
+    """What is written."""
     trace, title = traced(said, progress)
     progress.say("putting the picture together")
     seen: Timeline = window(timeline_of(trace), said.start, said.end, said.threads)

@@ -65,7 +65,7 @@ class _Dump:
 
     def _number(self, name: str, bits: int, steps: list[tuple[int, int]], start: int) -> None:
         code = next(self._codes)
-        self.head.append(f"$var reg {bits} {code} {name} $end")
+        self.head.append(f"$var integer {bits} {code} {name} $end")
         if not steps or steps[0][0] > start:
             self.changes.append((start, f"b0 {code}"))
         self.changes += ((max(time, start), f"b{value:b} {code}") for time, value in steps)
