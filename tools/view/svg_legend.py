@@ -3,8 +3,8 @@ from __future__ import annotations
 
 from .axis import Axis
 from .svg_marks import draw_mark
-from .svg_objects import CONTENDED, MOST_ARROWS, OWNER
-from .svg_spans import draw_frame_sample, draw_low_sample, draw_wait_sample
+from .svg_objects import CONTENDED, OWNER, too_many
+from .svg_spans import draw_frame_sample, draw_low_sample, draw_wait_sample, is_dense
 from .svg_writer import FAINT, INK, Writer
 from .timeline import MarkKind, State, Timeline
 
@@ -42,7 +42,7 @@ def draw_legend(out: Writer, timeline: Timeline, axis: Axis, colours: dict[int, 
     states = {span.state for thread in timeline.threads for span in thread.spans}
     low = any(span.high is False for thread in timeline.threads for span in thread.spans)
     _states(out, flow, states, low)
-    _told(out, flow, timeline)
+    _told(out, flow, timeline, axis)
     kinds = {mark.kind for thread in timeline.threads for mark in thread.marks}
     for kind in (kind for kind in MarkKind if kind in kinds):
         at = flow.room(len(WHAT[kind]), 14)
@@ -91,7 +91,7 @@ def _states(out: Writer, flow: _Flow, states: set[State], low: bool) -> None:
         out.text(at + 24, flow.y, text, size=10.5, fill=INK)
 
 
-def _told(out: Writer, flow: _Flow, timeline: Timeline) -> None:
+def _told(out: Writer, flow: _Flow, timeline: Timeline, axis: Axis) -> None:
     """Waits by their kinds, frames, owners and wakes, as many as there are."""
     spans = [span for thread in timeline.threads for span in thread.spans]
     for kind in dict.fromkeys(span.kind for span in spans if span.state is State.WAITING):
@@ -110,5 +110,7 @@ def _told(out: Writer, flow: _Flow, timeline: Timeline) -> None:
             at = flow.room(len(text), 24)
             out.rect(at, flow.y - 9, 20, 10, fill=fill, stroke="#b08d4c", stroke_width="0.6")
             out.text(at + 24, flow.y, text, size=10.5, fill=INK)
-    if 0 < len(timeline.wakes) <= MOST_ARROWS:
-        _item(out, flow, "grey arrow: who wakes whom", FAINT)
+    if any(is_dense(thread, axis) for thread in timeline.threads):
+        _item(out, flow, "heights: how much of each small column a thread runs (in its colour), is ready (pale), waits (grey)", FAINT)
+    if timeline.wakes:
+        _item(out, flow, "who wakes whom is not drawn, since it is too much" if too_many(timeline.wakes, axis) else "grey arrow: who wakes whom", FAINT)

@@ -10,7 +10,8 @@ from .timeline import Mark, MarkKind, ThreadLine
 GREEN, RED, VIOLET, BLUE, INK = "#1f8a4c", "#c21f1f", "#7a3fb0", "#2b62a8", "#3c4454"
 MOST_TITLE_LINES = 6
 MOST_LEVELS = 4
-MANY = 1000
+# How far apart marks of one kind stand at least: further where they are many, each then for all that follow it up to there.
+CLOSE, APART = 3.0, 24.0
 LETTER = 5.4
 
 
@@ -77,7 +78,7 @@ def draw_mark(out: Writer, kind: MarkKind, x: float, y: float, r: float, title: 
 def place_marks(thread: ThreadLine, axis: Axis, r: float, right: float) -> Marks:
     """Where the marks of a thread stand: each at its tick, on the lowest level on which it and its label meet no other one."""
     placed = Marks()
-    apart = 3.0 if len(thread.marks) < MANY else 9.0
+    apart = CLOSE if len(thread.marks) * CLOSE * 2 < axis.right - axis.left else APART
     latest: dict[MarkKind, Group] = {}
     taken: list[list[tuple[float, float]]] = [[] for _ in range(MOST_LEVELS)]
     for mark in thread.marks:

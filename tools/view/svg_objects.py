@@ -8,7 +8,7 @@ from .timeline import Owned, Timeline, Wake
 HEIGHT, BAR, LIST = 22.0, 13.0, 17.0
 OWNER, CONTENDED = "#e8d9b5", "#eab676"
 ARROW = "#5c6675"
-MOST_ARROWS = 400
+LEAST_APART = 12.0
 
 
 def draw_mutex(out: Writer, mutex: Owned, axis: Axis, y: float) -> None:
@@ -28,9 +28,14 @@ def draw_mutex(out: Writer, mutex: Owned, axis: Axis, y: float) -> None:
             out.text((left + right) / 2, y + BAR - 3, owner, size=8.8, anchor="middle", fill=INK)
 
 
+def too_many(wakes: list[Wake], axis: Axis) -> bool:
+    """Whether the arrows would hide the picture."""
+    return len(wakes) * LEAST_APART > axis.right - axis.left
+
+
 def draw_wakes(out: Writer, wakes: list[Wake], axis: Axis, bars: dict[str, tuple[float, float]]) -> None:
-    """An arrow from the bar of who wakes to the bar of who is woken, at the instant of the wake."""
-    if len(wakes) > MOST_ARROWS:
+    """An arrow from the bar of who wakes to the bar of who is woken, at the instant of the wake; none where there are too many."""
+    if too_many(wakes, axis):
         return
     for wake in wakes:
         x = axis.at(wake.time)

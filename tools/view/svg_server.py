@@ -8,7 +8,8 @@ from .svg_writer import FAINT, Writer, short
 from .timeline import Capacity, MarkKind, Planned, ThreadLine
 
 LEAST_STEP = 2.5
-MOST_ARROWS = 300
+# How far apart plans stand at least for each to be drawn with its amount, and else those that are drawn.
+LEAST_APART, FAR_APART = 8, 24
 
 
 def draw_server(out: Writer, thread: ThreadLine, axis: Axis, top: float, high: float, start: int, end: int) -> None:
@@ -23,7 +24,7 @@ def draw_server(out: Writer, thread: ThreadLine, axis: Axis, top: float, high: f
         area = f"{data}V{short(base)}H{short(axis.at(first.start))}Z"
         out.path(area, fill="#5b93d6", fill_opacity="0.22", class_="capacity-area")
         out.path(data, title=f"the capacity of {thread.name}, from {first.value} to {last.last} ticks", fill="none",
-                 stroke=BLUE, stroke_width="1.4", class_="capacity")
+                 stroke=BLUE, stroke_width="1.4" if len(thread.capacity) * 2 < axis.right - axis.left else "0.5", class_="capacity")
     _draw_plans(out, thread, axis, top, base, start, end)
 
 
@@ -68,14 +69,14 @@ def _draw_plans(out: Writer, thread: ThreadLine, axis: Axis, top: float, base: f
 
     The amount stands at the refill. Of one that is due behind the picture it stands at the plan, with the due tick.
     """
-    few = len(thread.plans) <= MOST_ARROWS
+    few = len(thread.plans) * LEAST_APART <= axis.right - axis.left
     free, label_free = -99.0, -99.0
     labels: list[tuple[float, str]] = []
     for planned in thread.plans:
         x = axis.at(max(planned.time, start))
         if x < free:
             continue
-        free = x + (3 if few else 12)
+        free = x + (3 if few else FAR_APART)
         title = _title(thread.name, planned)
         beyond = planned.due > end
         target = axis.right if beyond else axis.at(max(planned.due, planned.time))
@@ -92,7 +93,7 @@ def _draw_plans(out: Writer, thread: ThreadLine, axis: Axis, top: float, base: f
             label_free = place + width + 2
     last = -99.0
     for planned in thread.plans:
-        if planned.refilled is not None and start <= planned.refilled <= end and axis.at(planned.refilled) - last >= 3:
+        if planned.refilled is not None and start <= planned.refilled <= end and axis.at(planned.refilled) - last >= (3 if few else FAR_APART):
             last = axis.at(planned.refilled)
             draw_mark(out, MarkKind.REFILL, last, base, 3.2, _title(thread.name, planned))
 

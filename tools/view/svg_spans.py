@@ -16,13 +16,18 @@ WAIT_LETTER = 0.58
 
 def draw_spans(out: Writer, thread: ThreadLine, axis: Axis, colours: Colours, bar: float, high: float, text: float) -> None:
     """Each stretch by itself, or where a third of them and more would be too narrow the share of each state in small columns."""
-    narrow = sum((span.end - span.start) * axis.scale < NARROW for span in thread.spans)
-    if len(thread.spans) > 200 and 3 * narrow > len(thread.spans):
+    if is_dense(thread, axis):
         _draw_density(out, thread, axis, colours, bar, high)
         return
     order = {State.OFF: 0, State.WAITING: 1, State.READY: 2, State.RUNNING: 3}
     for span in sorted(thread.spans, key=lambda span: order[span.state]):
         _draw_span(out, thread.name, span, axis, colours, bar, high, text)
+
+
+def is_dense(thread: ThreadLine, axis: Axis) -> bool:
+    """Whether too many stretches would be too narrow to be told apart."""
+    narrow = sum((span.end - span.start) * axis.scale < NARROW for span in thread.spans)
+    return len(thread.spans) > 200 and 3 * narrow > len(thread.spans)
 
 
 def _draw_span(out: Writer, name: str, span: Span, axis: Axis, colours: Colours, bar: float, high: float, text: float) -> None:

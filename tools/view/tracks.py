@@ -176,10 +176,13 @@ class Builder:
         return track.line.name in self.strict
 
     def refill(self, event: Refill) -> None:
+        """A strict server may join several plans in one refill: as many as its amount is the sum of."""
         track = self.mark(event, MarkKind.REFILL, f"+{event.amount}")
         track.set_capacity(event.time, event.capacity)
-        if track.next_refill < len(track.line.plans):
-            track.line.plans[track.next_refill].refilled = event.time
+        left = event.amount
+        while left > 0 and track.next_refill < len(track.line.plans):
+            plan = track.line.plans[track.next_refill]
+            plan.refilled, left = event.time, left - plan.amount
             track.next_refill += 1
 
     def ends(self, event: End) -> None:

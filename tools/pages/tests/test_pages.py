@@ -69,7 +69,7 @@ class Editors(unittest.TestCase):
         with tempfile.TemporaryDirectory() as folder:
             seen = Path(folder) / "seen"
             script = [f"set rtp^={TOP}/editors/vim", "syntax on", f"edit {TOP}/examples/20_controller.task", "setfiletype pse52",
-                      f"call writefile([synIDattr(synID(11,1,1),'name'), synIDattr(synID(1,1,1),'name'), &filetype], '{seen}')", "qa!"]
+                      f"call writefile([synIDattr(synID(12,1,1),'name'), synIDattr(synID(1,1,1),'name'), &filetype], '{seen}')", "qa!"]
             subprocess.run([vim, "-u", "NONE", "-N", "-n", "-es", *(word for line in script for word in ("-c", line))],
                            stdin=subprocess.DEVNULL, capture_output=True, timeout=60, check=False)
             self.assertEqual(seen.read_text().split(), ["pse52Declaration", "pse52Comment", "pse52"])

@@ -170,6 +170,7 @@ function drawDensity(thread, bar) {
   for (let x = gutter; x < width; x += BIN) {
     const from = placeOf(x), to = placeOf(x + BIN), shares = [0, 0, 0, 0];
     let most = 0, mostly = 0;
+    i = Math.min(i, thread.spans.length - 1);
     while (i > 0 && places[thread.spans[i][0]] > from) i--;
     for (; i < thread.spans.length && places[thread.spans[i][0]] < to; i++) {
       const [start, end, state, priority] = thread.spans[i], part = Math.min(places[end], to) - Math.max(places[start], from);
@@ -187,11 +188,12 @@ function drawDensity(thread, bar) {
 function drawMarks(thread, bar) {
   const r = radius();
   let lastX = -99, level = 0, labelFree = [];
+  const seen = lastAtMost(thread.marks.length, (i) => places[thread.marks[i][0]], placeOf(width)) - firstFrom(thread.marks), apart = seen * 6 > width - gutter ? 16 : 2;
   for (let i = firstFrom(thread.marks); i < thread.marks.length; i++) {
     const [point, kind, text] = thread.marks[i], x = xOf(places[point]);
     if (x > width + 4) break;
     if (!(kind in SHAPES)) continue;
-    if (x - lastX < 2 && x !== lastX) continue;
+    if (x - lastX < apart && x !== lastX) continue;
     level = x === lastX ? level + 1 : 0; lastX = x;
     if (level >= MOST_LEVELS) continue;
     const [colour, corners] = SHAPES[kind], y = bar - r - 2 - level * (2 * r + 2);
@@ -226,13 +228,15 @@ function drawServer(thread, top, high) {
     const area = new Path2D(steps);
     area.lineTo(end, base); area.lineTo(first, base);
     pen.fillStyle = "rgba(91,147,214,0.22)"; pen.fill(area);
-    pen.strokeStyle = look.blue; pen.lineWidth = 1.4; pen.stroke(steps);
+    pen.strokeStyle = look.blue; pen.lineWidth = isDense(thread) ? 0.5 : 1.4; pen.stroke(steps);
   }
   drawPlans(thread, base, high);
 }
 // From each plan an arrow to its refill, where the amount stands; of one that is due behind the run the due tick stands at the plan.
 function drawPlans(thread, base, high) {
-  let free = -99;
+  let free = -99, told = -99;
+  const from = thread.plans.findIndex(([point]) => xOf(places[point]) >= 0), to = thread.plans.filter(([point]) => xOf(places[point]) <= width).length;
+  const apart = (to - Math.max(0, from)) * 8 > width - gutter ? 24 : 4;
   for (const [point, amount, due, duePoint, refilled] of thread.plans) {
     const x = xOf(places[point]);
     if (x > width) break;
@@ -240,7 +244,7 @@ function drawPlans(thread, base, high) {
     const beyond = BigInt(due) > ticks[last];
     const end = beyond ? xOf(total) : duePoint >= 0 ? xOf(places[duePoint]) : Math.max(x, xOf(placeOfTick(BigInt(due))));
     if (end < gutter) continue;
-    free = x + 4;
+    free = x + apart;
     const lift = Math.min(high, 10 + (end - x) * 0.12);
     if (end - x > 4) {
       pen.strokeStyle = look.blue; pen.lineWidth = 1; pen.setLineDash([3, 2]);
@@ -249,8 +253,8 @@ function drawPlans(thread, base, high) {
     }
     ring(x, base, look.paper);
     if (refilled >= 0) ring(xOf(places[refilled]), base, look.blue);
-    if (beyond) write("+" + amount + " due " + due, x + 5, base + 11, 9, look.blue);
-    else write("+" + amount, end, base + 11, 9, look.blue, "center");
+    const text = "+" + amount + (beyond ? " due " + due : ""), where = beyond ? x + 5 : end - text.length * 2.6;
+    if (where > told && apart < 24) { write(text, where, base + 11, 9, look.blue); told = where + text.length * 5.6; }
   }
 }
 function ring(x, y, fill) {

@@ -164,6 +164,19 @@ class Page(unittest.TestCase):
         self.assertEqual(said[7], "999999999999999999 · c runs at priority 1, from 600000000000000003 to 1000000000000000000")
         self.assertEqual(self.does("data.cuts.length"), 3)
 
+    def test_a_long_run_is_drawn_as_density(self) -> None:
+        script = b"quantum 3\nthread a rr 5 at 0\nforever\nrun 90\nend\nend\nthread b rr 5 at 0\nforever\nrun 90\nend\nend\n"
+        self.open(drawer("html")(timeline_of(read_trace(detail_of(script, 6000).splitlines(keepends=True)))))
+        self.assertTrue(self.does("data.threads.every(isDense)"))
+        # Each runs half of the time: half of its bar is coloured at any place.
+        share = self.does("""(() => { const x = Math.round(gutter + 100), y = AXIS + 6 + room(0), dots = devicePixelRatio, high = sizes.bar;
+            const dots_ = pen.getImageData(x * dots, y * dots, 300 * dots, high * dots).data; let coloured = 0, all = 0;
+            for (let i = 0; i < dots_.length; i += 4) { all++; coloured += Math.abs(dots_[i] - dots_[i + 2]) > 60; } return coloured / all; })()""")
+        self.assertAlmostEqual(share, 0.5, delta=0.12)
+        self.shot("dense")
+        self.does('(showAll(), zoom(200, gutter + 300))')
+        self.assertFalse(self.does("isDense(data.threads[0])"))
+
     def test_every_example_opens(self) -> None:
         for file in sorted((TOP / "examples").glob("*.task")):
             horizon = int(file.read_text().split()[2].rstrip(","))
