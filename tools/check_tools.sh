@@ -1,6 +1,6 @@
 #!/usr/bin/env bash
-# Tries what stands beside the program: the tests of the viewer and of the sweep, the manual pages, and the commands of the tutorial
-# and of the page on sweeps. Nothing is built. What a missing tool would have read is skipped, with a line that says so.
+# Tries what stands beside the program: the tests of the viewer, of the sweep and of the converter of ftrace, the manual pages, and the
+# commands of the pages that a reader types along. Nothing is built. What a missing tool would have read is skipped, with a line that says so.
 set -u
 cd "$(dirname "$0")/.." || exit 1
 
@@ -14,7 +14,7 @@ if ! python3 -c 'import sys; sys.exit(sys.version_info < (3, 11))'; then
 fi
 
 failed=0
-for folder in view sweep pages; do
+for folder in view sweep pages ftrace; do
     log=$(python3 -m unittest discover -s "tools/$folder/tests" -t tools 2>&1)
     if [ $? -eq 0 ]; then
         printf '%s\n' "$log" | grep -o 'skipped: .*' | sort -u

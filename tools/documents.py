@@ -4,7 +4,7 @@
 
 The code's table (crates/script_table/src/table.rt) says which patterns the language has. By it: README.md's table of
 the language, and the patterns of docs/SCRIPT.md, which lists each and no other. The reference says what the examples
-of docs/SCRIPT.md answer, and what the commands of docs/FACTS.md print. Each function that docs/WALK.md names stands in the file that it names, and docs/WALK.md has
+of docs/SCRIPT.md answer. Each function that docs/WALK.md names stands in the file that it names, and docs/WALK.md has
 lines of the trace of its script. Without --write prints what differs, with exit status 1; with it mends README's table.
 """
 from __future__ import annotations
@@ -131,19 +131,6 @@ def wrong_runs(name: str, text: str) -> list[str]:
     return [f"{name}: the trace is\n{have}" for _, have, trace in answers if have != trace]
 
 
-def wrong_commands(name: str, text: str) -> list[str]:
-    """The commands of the reference with the lines that they print, of which some print others."""
-    shape = r"(?m)^\$ python3 tools/reference/simulate\.py (\w+) (\d+) < (\S+)(?: \| sed -n '/\^(\d+) /p')?\n((?:[^`].*\n)*)```"
-    commands = re.findall(shape, text)
-    wrong = [] if commands else [f"{name} has no command of the reference"]
-    for word, number, file, instant, lines in commands:
-        have = answer((TOP / file).read_bytes(), int(number), Stage.WHOLE, command=word)[1].decode()
-        if instant:
-            have = "".join(line for line in have.splitlines(True) if line.startswith(f"{instant} "))
-        wrong += [] if have == lines else [f"{name}: {word} {number} < {file} prints\n{have}"]
-    return wrong
-
-
 def wrong_places(text: str) -> list[str]:
     """The functions of docs/WALK.md that do not stand in the files beside them, and lines that its trace does not have."""
     places = re.findall(r"`(\w+/src/\w+\.rt)` `(\w+)`", text)
@@ -174,7 +161,6 @@ def main() -> int:
         wrong.append("README.md has another language than the code: python3 tools/documents.py --write")
     for name in ("README.md", "docs/SCRIPT.md", "docs/TRACE.md", "docs/MACHINE.md"):
         wrong += wrong_runs(name, (TOP / name).read_text())
-    wrong += wrong_commands("docs/FACTS.md", (TOP / "docs/FACTS.md").read_text())
     language = (TOP / "docs/SCRIPT.md").read_text()
     wrong += wrong_patterns(language) + wrong_faults(language)
     wrong += wrong_places((TOP / "docs/WALK.md").read_text())

@@ -73,11 +73,11 @@ def clone(folder: Path) -> None:
         (folder / name).symlink_to(TOP / name)
     shutil.copytree(TOP / "examples", folder / "examples", ignore=shutil.ignore_patterns("*.rows"))
     (folder / "bin").mkdir()
-    for name in ("pse52-view", "pse52-sweep"):
+    for name in ("pse52-view", "pse52-sweep", "pse52-from-ftrace"):
         (folder / "bin" / name).symlink_to(TOP / "bin" / name)
     program = folder / "bin" / "pse52"
     program.write_text(f'''#!/bin/sh
-case $1 in rta) name=response_times ;; gen|soak) name=load ;; *) name=simulate ;; esac
+case $1 in rta) name=response_times ;; gen|soak) name=load ;; audit) name=audits ;; *) name=simulate ;; esac
 exec python3 {TOP}/tools/reference/$name.py "$@"
 ''')
     program.chmod(0o755)

@@ -110,7 +110,7 @@ def time_of(line: str) -> float:
 def main() -> int:
     parser = argparse.ArgumentParser(description="Checks the facts of generated scripts.")
     parser.add_argument("--first", type=int, default=0)
-    parser.add_argument("--count", type=int, default=500)
+    parser.add_argument("--count", type=int, default=100)
     parser.add_argument("--stage", default="whole")
     arguments = parser.parse_args()
     stage, wrong = Stage.named(arguments.stage), 0

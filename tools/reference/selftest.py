@@ -8,6 +8,7 @@ of its fault; NAME.show and NAME.detail, the whole text of that command;
 NAME.canonical, its canonical text. NAME.horizon is the number of the command.
 Examples whose horizon is too far for a machine that ticks are passed over. Where
 the horizon is at most 10,000 each state of the run is checked too.
+Each example of AUDITS.txt is an input of `audit`, NAME.audit, and its answer, NAME.verdict.
 The facts of some generated scripts are held against their traces (check_facts.py).
 With --generated, N generated scripts of each stage run with all checks on, and
 their canonical texts are read again. Exit status 1 where something differs.
@@ -20,6 +21,7 @@ import sys
 
 import check_facts
 import generate
+from audits import audit
 from forms import Stage
 from reader import read
 from script import canonical_text
@@ -91,6 +93,15 @@ def generated_differ(count: int) -> int:
     return found
 
 
+def audits_wrong() -> list[str]:
+    """The worked audits that get another answer."""
+    lines = (WORKED / "AUDITS.txt").read_text().splitlines()
+    names = [line.split()[0] for line in lines if not line.startswith("#")]
+    answers = {name: audit((WORKED / f"{name}.audit").read_bytes())[1] for name in names}
+    return [f"{name}: the reference gives {have!r}" for name, have in answers.items()
+            if have != (WORKED / f"{name}.verdict").read_bytes()]
+
+
 def facts_wrong(count: int) -> list[str]:
     """What is wrong with the facts of generated scripts; `show` is asked at each fifth instant."""
     found = []
@@ -117,7 +128,8 @@ def main() -> int:
     for words in no_commands():
         compared += 1
         wrong += [f"{words} is taken for a command"] if command_of(words) is not None else []
-    compared += FACTS_OF
+    compared += FACTS_OF + len(list(WORKED.glob("*.audit")))
+    wrong += audits_wrong()
     wrong += facts_wrong(FACTS_OF)
     wrong += ["a canonical text is not read as itself"] * generated_differ(arguments.generated)
     print(*wrong, f"{compared} compared, {len(wrong)} differ", sep="\n")
