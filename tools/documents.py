@@ -23,7 +23,7 @@ from simulate import answer  # noqa: E402
 
 TWO_WORDS = ("thread", "mutex", "setsched")
 SUBJECTS = {
-    "threads": r"Quantum|Body\(BodyForm::(Fifo|Rr|Sporadic)",
+    "threads": r"Quantum|Body\(BodyForm::(Fifo|Rr|Sporadic|Strict)",
     "handlers and actions": r"Body\(BodyForm::(Handler|Cleanup)|Action",
     "objects": "Object",
     "steps and blocks": "Step|Block|Close",
@@ -57,7 +57,7 @@ def patterns() -> list[Pattern]:
     for form, places in re.findall(r"pattern!\(Form::(.*), \w+ => (.*)\),", text):
         words = tuple(keyword or None for keyword, _ in re.findall(r'b"(\w+)"|(\([^)]*\)|\w+)', places))
         found.append(Pattern(form, words))
-    assert len(found) == 79, f"{len(found)} patterns in the table"
+    assert len(found) == 82, f"{len(found)} patterns in the table"
     return found
 
 

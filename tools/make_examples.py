@@ -41,7 +41,7 @@ bin/pse52 run 26 < examples/04_inversion.task | bin/pse52-view text
 ```
 
 The independent reference runs each of them too: `python3 tools/reference/simulate.py run 26 < examples/04_inversion.task`. The stage in
-the first line of a script names the forms that it needs, from `first` to `queues`.
+the first line of a script names the forms that it needs, from `first` to `whole`, which alone has scripts of version 2.
 
 `examples/sweeps` has a script that is run with many values; docs/SWEEP.md is its page.
 
