@@ -34,6 +34,12 @@ class Pages(unittest.TestCase):
     def test_the_page_on_response_times(self) -> None:
         self.check("RTA.md")
 
+    def test_the_page_on_facts(self) -> None:
+        self.check("FACTS.md")
+
+    def test_the_page_on_audits(self) -> None:
+        self.check("AUDIT.md")
+
     def test_the_examples_of_the_manual_pages(self) -> None:
         for page in sorted((TOP / "docs").glob("*.1")):
             commands = re.findall(r"^\.Dl (bin/.*?)(?: && gtkwave .*)?$", page.read_text(), re.M)
