@@ -9,7 +9,7 @@ import sys
 from pathlib import Path
 
 REFERENCE = Path(__file__).resolve().parents[1] / "reference"
-FILES = {"rta": "response_times.py", "gen": "load.py", "soak": "load.py"}
+FILES = {"rta": "response_times.py", "gen": "load.py", "soak": "load.py", "audit": "audits.py"}
 
 
 def main(words: list[str]) -> int:
