@@ -124,7 +124,7 @@ turn() {
 }
 
 if ! command -v rt >/dev/null 2>&1; then
-    say "a proof needs the toolchain, and its command rt is not on the path"
+    say "a proof needs the toolchain, and its command rt is not on the path (README.md, What it needs)"
     exit 70
 fi
 mkdir -p "$top/crates/pse52/out" || exit 70
