@@ -1,6 +1,7 @@
 #!/usr/bin/env bash
 # Runs each example of examples/, and each worked example of tests/worked/, to its horizon or by its command, and compares what is
-# printed with the text beside it; those of show and detail wait for the program to have these commands. The program is built without a second proof: the gate has proved it before.
+# printed with the text beside it; those of show and detail wait for the program to have these commands. The program is built without
+# a second proof: the gate has proved it before.
 # Before all that, and without a build, each trace and picture of examples/ is compared with what tools/reference makes of its script.
 set -u
 cd "$(dirname "$0")/.." || exit 1
