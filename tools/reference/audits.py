@@ -15,8 +15,9 @@ from bisect import bisect_left, bisect_right
 from dataclasses import dataclass
 
 from forms import GREATEST_NUMBER
-from reader import GREATEST_LIMIT, Fault, FaultKind, has_bad_byte, is_name, is_number, lines_of, number_of, words_of
+from reader import GREATEST_LIMIT, Fault, FaultKind
 from trace_lines import BUDGET_LINE, TraceLine, read_line
+from words import has_bad_byte, is_name, is_number, lines_of, number_of, words_of
 
 GREATEST_INPUT = 67_108_864
 GREATEST_SERVERS = 256

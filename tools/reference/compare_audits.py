@@ -26,6 +26,7 @@ from script import Script, Sporadic, Strict
 from simulate import answer
 
 SECONDS = 120
+JUDGED = (b"start", b"dispatch", b"activate", b"exhaust", b"plan", b"refill", b"exit")
 STRANGE_HEADS = (
     b"server a 10 3 4\nserver a 10 3 4\n", b"server a 2 3 4\n", b"server a 10 0 4\n", b"server a 10 3 17\n", b"server a 10 3 0\n",
     b"server a 10 3\n", b"serve a 10 3 4\n", b"server 1a x 3 4\n", b"server 1a 10 3 4\n", b"server a\x01 10 3 4\n", b"",
@@ -68,11 +69,16 @@ def changed_line(line: bytes, names: list[bytes], rng: random.Random) -> bytes:
     return b" ".join(words)
 
 
+def is_judged(words: list[bytes], servers: list[bytes]) -> bool:
+    """Whether a line is about a server's schedule, or closes its thread."""
+    return words[1] in JUDGED and words[2] in servers or words[0] == b"thread" and words[1] in servers
+
+
 def changed(trace: bytes, servers: list[bytes], rng: random.Random) -> bytes:
     """A trace that is changed in one line, mostly in one about a server."""
     lines = trace.split(b"\n")[:-1]
-    near = [place for place, line in enumerate(lines) if any(name in line.split(b" ") for name in servers)]
-    place = rng.choice(near) if near and rng.random() < 0.8 else rng.randrange(len(lines))
+    near = [place for place, line in enumerate(lines) if is_judged(line.split(b" "), servers)]
+    place = rng.choice(near) if near and rng.random() < 0.9 else rng.randrange(len(lines))
     line, after = lines[place], lines[place + 1:]
     match rng.randrange(7):
         case 0 | 1:

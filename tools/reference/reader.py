@@ -6,17 +6,17 @@ answered is the least by phase, then line, then kind.
 """
 from __future__ import annotations
 
-import re
 from dataclasses import dataclass
 from enum import IntEnum
 
 from forms import (
-    BARRED_FROM_HANDLERS, BARRED_FROM_HANDLERS_AND_CLEANUPS, DECLARED, GREATEST_NUMBER, OPERAND, RANGES,
+    BARRED_FROM_HANDLERS, BARRED_FROM_HANDLERS_AND_CLEANUPS, DECLARED, OPERAND, RANGES,
     SERVER_WORDS, SIGNAL, SIGNAL_SET, USES, Form, ObjectKind, Role, Stage, built_forms, is_place)
 from script import (
-    ALL_SIGNALS, Action, AddRegister, Block, Call, CleanupKind, CondKind, Fifo, Guard, HandlerKind, Kind, Loop,
+    Action, AddRegister, Block, Call, CleanupKind, CondKind, Fifo, Guard, HandlerKind, Kind, Loop,
     MutexKind, Named, Operand, Policy, QueueKind, Res, Rr, Run, Script, SemKind, SetRegister, Sporadic, Step,
     Strict, TakeValue, Test, ThreadKind, TimerKind)
+from words import has_bad_byte, is_name, is_number, is_signal, lines_of, number_of, signals_of, words_of
 
 GREATEST_DEPTH = 16
 GREATEST_PUSHES = 8
@@ -28,11 +28,6 @@ _GROUPS: dict[ObjectKind, str] = {
 LIMITS: dict[str, int] = {"thread": 64, "mutex": 64, "cond": 64, "sem": 64, "queue": 16, "timer": 32, _BODIES: 64}
 LIMITS_OF_VERSION: dict[int, dict[str, int]] = {
     1: LIMITS, 2: LIMITS | dict.fromkeys(("thread", "mutex", "cond", "sem"), 256)}
-
-_BAD_BYTE = re.compile(rb"[^\t -~]")
-_NAME = re.compile(r"[a-z][a-z0-9_]{0,31}\Z")
-_NUMBER = re.compile(r"[0-9]+\Z")
-_SIGNAL = re.compile(r"rt([0-9]|[12][0-9]|3[01])\Z")
 
 
 class FaultKind(IntEnum):
@@ -113,47 +108,6 @@ def heading_of(lines: list[bytes]) -> Heading:
     return Heading()
 
 
-def lines_of(text: bytes) -> list[bytes]:
-    lines = text.split(b"\n")
-    return lines[:-1] if lines[-1] == b"" else lines
-
-
-def has_bad_byte(line: bytes) -> bool:
-    """Whether the line has a byte other than a tab and the printing characters."""
-    return _BAD_BYTE.search(line) is not None
-
-
-def words_of(line: bytes) -> list[str]:
-    """The words before the comment; a bad byte parts words, and the line is faulty anyway."""
-    return [word.decode("ascii") for word in re.findall(rb"[!-~]+", line.split(b"#")[0])]
-
-
-def is_number(word: str) -> bool:
-    return _NUMBER.match(word) is not None
-
-
-def is_name(word: str) -> bool:
-    return _NAME.match(word) is not None
-
-
-def number_of(word: str) -> int:
-    """The value of a number; one that lies far above every range is given as the least number above them."""
-    digits = word.lstrip("0")
-    return int(digits or "0") if len(digits) <= 19 else GREATEST_NUMBER + 1
-
-
-def signals_of(word: str) -> int | None:
-    """The bits of a set of signals."""
-    if word in ("all", "none"):
-        return ALL_SIGNALS if word == "all" else 0
-    bits = 0
-    for part in word.split(","):
-        if not _SIGNAL.match(part):
-            return None
-        bits |= 1 << int(part[2:])
-    return bits
-
-
 # Phase 1: each line by itself, and the pairing of blocks
 
 
@@ -199,7 +153,7 @@ def operand_fault(place: str, word: str) -> FaultKind | None:
         fits = is_number(word) or (place == OPERAND and word == "reg")
         return None if fits else FaultKind.BadNumber
     if place == SIGNAL:
-        fits = bool(_SIGNAL.match(word))
+        fits = is_signal(word)
     elif place == SIGNAL_SET:
         fits = signals_of(word) is not None
     else:
