@@ -31,6 +31,9 @@ class Pages(unittest.TestCase):
     def test_the_page_on_sweeps(self) -> None:
         self.check("SWEEP.md")
 
+    def test_the_page_on_measures(self) -> None:
+        self.check("MEASURE.md")
+
     def test_the_page_on_response_times(self) -> None:
         self.check("RTA.md")
 

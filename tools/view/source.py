@@ -1,0 +1,81 @@
+"""Where a detail comes from: the program of this repository, or the reference where the program is not built or has no `detail`."""
+from __future__ import annotations
+
+import os
+import re
+import shlex
+import subprocess
+import sys
+from pathlib import Path
+
+TOP = Path(__file__).resolve().parents[2]
+BUILT = TOP / "crates" / "pse52" / "out" / "pse52"
+REFERENCE = TOP / "tools" / "reference" / "simulate.py"
+RESPONSE_TIMES = TOP / "tools" / "reference" / "response_times.py"
+USAGE, REFUSED = 1, 2
+HORIZON = re.compile(rb"\s*#\s*horizon (\d+)\b")
+
+
+_TOLD: set[str] = set()
+
+
+class NoSource(Exception):
+    """Why there is no detail of a script."""
+
+
+def horizon_of(script: bytes) -> int | None:
+    """The horizon that the first line of a script names, as `# horizon 40`."""
+    found = HORIZON.match(script)
+    return int(found[1]) if found else None
+
+
+def programs(reference: Path) -> list[list[str]]:
+    """The programs that are asked, in their order: that of PSE52 in the environment or the one that is built here, and a reference.
+
+    A program that is not built yet is not asked, since its proof takes long.
+    """
+    said = os.environ.get("PSE52")
+    first = [shlex.split(said)] if said else [[str(BUILT)]] if os.access(BUILT, os.X_OK) else []
+    return [*first, [sys.executable, str(reference)]]
+
+
+def answer(words: list[str], source: bytes, reference: Path, tool: str) -> bytes:
+    """What the first program that knows the command writes. Says on standard error where it is not the first one.
+
+    Raises NoSource where the command is refused or fails.
+    """
+    asked = programs(reference)
+    if len(asked) == 1:
+        _tell(f"{tool}: the program is not built, so the reference answers")
+    for number, program in enumerate(asked):
+        try:
+            ended = subprocess.run([*program, *words], input=source, capture_output=True, check=False)
+        except OSError as error:
+            raise NoSource(f"{program[0]} cannot be started: {error.strerror}") from None
+        if ended.returncode == 0:
+            return ended.stdout
+        if ended.returncode == USAGE and number + 1 < len(asked):
+            _tell(f"{tool}: {Path(program[0]).name} does not know '{words[0]}'; the reference answers")
+            continue
+        raise NoSource(_why(ended))
+    raise AssertionError(asked)
+
+
+def _tell(line: str) -> None:
+    """Says a line on standard error, once."""
+    if line not in _TOLD:
+        print(line, file=sys.stderr)
+        _TOLD.add(line)
+
+
+def _why(ended: subprocess.CompletedProcess[bytes]) -> str:
+    said = (ended.stdout or ended.stderr).decode("ascii", "backslashreplace").strip().splitlines()
+    if ended.returncode == REFUSED and said:
+        number, kind = said[0].split(" ")[1::2]
+        return f"the script is refused at line {number}: {kind} (docs/SCRIPT.md, Faults, says what to do)"
+    return f"the program ended with the status {ended.returncode}" + (f": {said[-1]}" if said else "")
+
+
+def detail_of(script: bytes, horizon: int, tool: str) -> list[bytes]:
+    """The lines of the detail of a script."""
+    return answer(["detail", str(horizon)], script, REFERENCE, tool).splitlines(keepends=True)
