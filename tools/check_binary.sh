@@ -1,9 +1,10 @@
 #!/usr/bin/env bash
 # Tries the built program by hand's measure: the exit status and the first line of standard output for a script, an empty input, a
-# text that is too long, words that are no command, traces beside a script, a closed standard output and a full device. Outside the gate, since bin/pse52
-# proves and builds the program where it must.
+# text that is too long, words that are no command, traces beside a script, a closed standard output and a full device.
+# Usage: tools/check_binary.sh [PROGRAM], which is the one that bin/pse52 would run if none is named.
 set -u
 cd "$(dirname "$0")/.." || exit 1
+program=${1:-$(bin/pse52 --which)} || exit 1
 
 failed=0
 passed=0
@@ -22,7 +23,7 @@ try() {
     local what=$1 status=$2 line=$3
     shift 3
     local text
-    text=$(bin/pse52 "$@")
+    text=$("$program" "$@")
     expect "$what" $? "$status" "$(printf '%s\n' "$text" | head -n 1)" "$line"
 }
 
@@ -71,10 +72,10 @@ try 'no trace' 8 'no trace' check 10 <examples/one_thread.task
 try 'a script and a trace of the greatest length' 7 'differs 7' check 10 < <(beside line_ends 67108864)
 try 'a script and a trace of one byte more' 3 'too long' check 10 < <(beside line_ends 67108865)
 
-bin/pse52 run 10 <examples/one_thread.task >&-
+"$program" run 10 <examples/one_thread.task >&-
 expect 'a closed standard output' $? 5 '' ''
 if [ -e /dev/full ]; then
-    bin/pse52 run 10 <examples/one_thread.task >/dev/full
+    "$program" run 10 <examples/one_thread.task >/dev/full
     expect 'a full device' $? 5 '' ''
 fi
 

@@ -1,6 +1,7 @@
 #!/usr/bin/env bash
-# Tries what stands beside the program: the tests of the viewer, of the measures and of the sweep, the manual pages, and the commands of the tutorial
-# and of the page on sweeps. Nothing is built. What a missing tool would have read is skipped, with a line that says so.
+# Tries what stands beside the program: the tests of the wrapper, the viewer, the measures, the sweep, the converter of ftrace and the
+# explanation of faults, the manual pages, and the pages that a reader types along, with the program that was built here, or else the
+# reference. Nothing is built. What a missing tool would have read is skipped, with a line that says so.
 set -u
 cd "$(dirname "$0")/.." || exit 1
 
@@ -13,8 +14,12 @@ if ! python3 -c 'import sys; sys.exit(sys.version_info < (3, 11))'; then
     exit 0
 fi
 
+if [ -x crates/pse52/out/pse52 ]; then
+    PSE52_PROGRAM=$PWD/crates/pse52/out/pse52
+    export PSE52_PROGRAM
+fi
 failed=0
-for folder in view measure sweep pages; do
+for folder in view measure sweep ftrace explain wrapper pages; do
     log=$(python3 -m unittest discover -s "tools/$folder/tests" -t tools 2>&1)
     if [ $? -eq 0 ]; then
         printf '%s\n' "$log" | grep -o 'skipped: .*' | sort -u

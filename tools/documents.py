@@ -1,39 +1,28 @@
-"""Holds the documents to the table of patterns in the code, and to the reference.
+"""Holds the documents to the code, to the reference, and to one another.
 
-    python3 tools/documents.py [--write]
+    python3 tools/documents.py
 
-The code's table (crates/script_table/src/table.rt) says which patterns the language has. By it: README.md's table of
-the language, and the patterns of docs/SCRIPT.md, which lists each and no other. The reference says what the examples
-of docs/SCRIPT.md answer, and what the commands of docs/FACTS.md print. Each function that docs/WALK.md names stands in the file that it names, and docs/WALK.md has
-lines of the trace of its script. Without --write prints what differs, with exit status 1; with it mends README's table.
+The code's table (crates/script_table/src/table.rt) says which patterns the language has: docs/SCRIPT.md lists each and no other. The
+reference says what the examples of the pages answer, and what each call of docs/CALLS.md does. Each function that a page names stands
+in the file that it names, docs/WALK.md has lines of the trace of its script, and each page that a page names is there. README says what
+the proof takes as bin/pse52 does, and no line of a page is too long. Prints what differs, with exit status 1.
 """
 from __future__ import annotations
 
-import argparse
 import re
 import sys
 from dataclasses import dataclass
 from pathlib import Path
 
 TOP = Path(__file__).resolve().parent.parent
-sys.path.insert(0, str(TOP / "tools" / "reference"))
+sys.path[:0] = [str(TOP / "tools"), str(TOP / "tools" / "reference")]
 
 from forms import Stage  # noqa: E402
+from pages import calls  # noqa: E402
+from pages.wrap import too_long  # noqa: E402
 from simulate import answer  # noqa: E402
 
 TWO_WORDS = ("thread", "mutex", "setsched")
-SUBJECTS = {
-    "threads": r"Quantum|Body\(BodyForm::(Fifo|Rr|Sporadic)",
-    "handlers and actions": r"Body\(BodyForm::(Handler|Cleanup)|Action",
-    "objects": "Object",
-    "steps and blocks": "Step|Block|Close",
-    "calls of threads": r"Call\(CallForm::Thread",
-    "calls of mutexes and conditions": r"Call\(CallForm::Mutex",
-    "calls of semaphores": r"Call\(CallForm::Sem",
-    "calls of time": r"Call\(CallForm::Time",
-    "calls of signals": r"Call\(CallForm::Signal",
-    "calls of message queues": r"Call\(CallForm::Message",
-}
 LAST_WORDS = ("recursive", "nonblock")  # told beside a pattern, and not as one of its own
 
 
@@ -57,25 +46,11 @@ def patterns() -> list[Pattern]:
     for form, places in re.findall(r"pattern!\(Form::(.*), \w+ => (.*)\),", text):
         words = tuple(keyword or None for keyword, _ in re.findall(r'b"(\w+)"|(\([^)]*\)|\w+)', places))
         found.append(Pattern(form, words))
-    assert len(found) == 79, f"{len(found)} patterns in the table"
+    assert len(found) >= 79, f"{len(found)} patterns in the table"
     return found
 
 
 ALL = patterns()
-
-
-def table() -> str:
-    """The language, subject by subject."""
-    lines = ["| | |", "|---|---|"]
-    for subject, forms in SUBJECTS.items():
-        labels = dict.fromkeys(pattern.label for pattern in ALL if re.match(forms, pattern.form))
-        lines.append(f"| {subject} | {', '.join(f'`{label}`' for label in labels)} |")
-    return "\n".join(lines) + "\n"
-
-
-def with_table(text: str) -> str:
-    """README with its table as the code has it."""
-    return re.sub(r"(?<=\n)\| \| \|\n(\|.*\n)*", lambda _: table(), text, count=1)
 
 
 def agrees(words: list[str], pattern: Pattern) -> bool:
@@ -131,19 +106,6 @@ def wrong_runs(name: str, text: str) -> list[str]:
     return [f"{name}: the trace is\n{have}" for _, have, trace in answers if have != trace]
 
 
-def wrong_commands(name: str, text: str) -> list[str]:
-    """The commands of the reference with the lines that they print, of which some print others."""
-    shape = r"(?m)^\$ python3 tools/reference/simulate\.py (\w+) (\d+) < (\S+)(?: \| sed -n '/\^(\d+) /p')?\n((?:[^`].*\n)*)```"
-    commands = re.findall(shape, text)
-    wrong = [] if commands else [f"{name} has no command of the reference"]
-    for word, number, file, instant, lines in commands:
-        have = answer((TOP / file).read_bytes(), int(number), Stage.WHOLE, command=word)[1].decode()
-        if instant:
-            have = "".join(line for line in have.splitlines(True) if line.startswith(f"{instant} "))
-        wrong += [] if have == lines else [f"{name}: {word} {number} < {file} prints\n{have}"]
-    return wrong
-
-
 def wrong_places(text: str) -> list[str]:
     """The functions of docs/WALK.md that do not stand in the files beside them, and lines that its trace does not have."""
     places = re.findall(r"`(\w+/src/\w+\.rt)` `(\w+)`", text)
@@ -162,22 +124,50 @@ def has_function(file: str, name: str) -> bool:
     return path.exists() and re.search(rf"\bfn {name}\b", path.read_text()) is not None
 
 
-def main() -> int:
-    parser = argparse.ArgumentParser(description="Holds the documents to the code's table and to the reference.")
-    parser.add_argument("--write", action="store_true")
-    writes = parser.parse_args().write
+def wrong_files(name: str, text: str) -> list[str]:
+    """The files of crates, and the functions in them, that a page names as `crate` `file.rt` `function` and that are not there."""
     wrong = []
-    readme = (TOP / "README.md").read_text()
-    if writes:
-        (TOP / "README.md").write_text(with_table(readme))
-    elif with_table(readme) != readme:
-        wrong.append("README.md has another language than the code: python3 tools/documents.py --write")
-    for name in ("README.md", "docs/SCRIPT.md", "docs/TRACE.md", "docs/MACHINE.md"):
-        wrong += wrong_runs(name, (TOP / name).read_text())
-    wrong += wrong_commands("docs/FACTS.md", (TOP / "docs/FACTS.md").read_text())
+    for crate, file, function in re.findall(r"`(\w+)`\s+`(\w+\.rt)`(?:\s+`(\w+)`)?", text):
+        found = list((TOP / "crates" / crate / "src").rglob(file))
+        if not found or function and not any(re.search(rf"\b{function}\b", path.read_text()) for path in found):
+            wrong.append(f"{name}: crates/{crate} has no {file}" + (f" with {function}" if function else ""))
+    return wrong
+
+
+def wrong_names(name: str, text: str) -> list[str]:
+    """The pages and tools that a page names and that are not there."""
+    named = re.findall(r"(?<![\w/.-])((?:docs|tools|bin|editors|examples|completions|release)/[\w./-]*\w)", text)
+    made = ("release/", "examples/sweeps/server_budget")
+    return [f"{name}: {path} is not there" for path in dict.fromkeys(named)
+            if not (TOP / path).exists() and not path.startswith(made) and not path.endswith((".csv", ".rows"))]
+
+
+def wrong_cost() -> list[str]:
+    """README says in how many minutes the program is proved as bin/pse52 says it."""
+    told = re.search(r"in (some \d+ minutes on four cores)", (TOP / "tools" / "wrapper" / "cost.sh").read_text())[1]
+    readme = " ".join((TOP / "README.md").read_text().split())
+    return [] if told in readme else [f"README.md does not say that a proof takes {told}, as tools/wrapper/cost.sh does"]
+
+
+def pages() -> list[Path]:
+    """Every page of the repository."""
+    return sorted([*TOP.glob("*.md"), *TOP.glob("docs/*.md"), *TOP.glob("examples/*.md"), *TOP.glob("editors/*.md"), *TOP.glob("tools/*/*.md")])
+
+
+def main() -> int:
+    if len(sys.argv) > 1:
+        print(__doc__, file=sys.stderr)
+        return 2
+    wrong = []
+    for page in pages():
+        name, text = str(page.relative_to(TOP)), page.read_text()
+        wrong += wrong_runs(name, text) + wrong_files(name, text)
+        wrong += wrong_names(name, text) if name != "CHANGELOG.md" else []  # which tells of what is gone
     language = (TOP / "docs/SCRIPT.md").read_text()
     wrong += wrong_patterns(language) + wrong_faults(language)
     wrong += wrong_places((TOP / "docs/WALK.md").read_text())
+    wrong += calls.faults_of(calls.PAGE.read_text(), calls.by_reference)
+    wrong += wrong_cost() + too_long(pages())
     print(*wrong, f"documents: {len(wrong)} differ", sep="\n")
     return 1 if wrong else 0
 

@@ -68,18 +68,23 @@ def _commands(block: list[str], start: int) -> Iterator[Command]:
 
 
 def clone(folder: Path) -> None:
-    """A folder that looks like a fresh clone whose program is the reference, so that nothing has to be built."""
-    for name in ("docs", "tools"):
+    """A folder that looks like an installed release, whose program is that of PSE52_PROGRAM, or else the reference: nothing is built."""
+    for name in ("docs", "tools", "editors", "completions"):
         (folder / name).symlink_to(TOP / name)
     shutil.copytree(TOP / "examples", folder / "examples", ignore=shutil.ignore_patterns("*.rows"))
+    shutil.copy(TOP / "VERSION", folder / "VERSION")
     (folder / "bin").mkdir()
-    for name in ("pse52-view", "pse52-sweep", "pse52-measure"):
-        (folder / "bin" / name).symlink_to(TOP / "bin" / name)
-    program = folder / "bin" / "pse52"
-    program.write_text(f'''#!/bin/sh
-case $1 in rta) name=response_times ;; gen|soak) name=load ;; *) name=simulate ;; esac
-exec python3 {TOP}/tools/reference/$name.py "$@"
-''')
+    shutil.copy(TOP / "bin" / "pse52", folder / "bin" / "pse52")
+    for path in (TOP / "bin").iterdir():
+        if path.name != "pse52":
+            (folder / "bin" / path.name).symlink_to(path)
+    (folder / "release").mkdir()
+    program = folder / "release" / "pse52"
+    named = os.environ.get("PSE52_PROGRAM")
+    if named:
+        shutil.copy(named, program)
+        return
+    program.write_text(f'#!/bin/sh\nexec python3 {TOP}/tools/pages/stand_in.py "$@"\n')
     program.chmod(0o755)
 
 

@@ -2,9 +2,9 @@
 
     python3 tools/reference/check_facts.py [--first N] [--count N] [--stage STAGE]
 
-Of each script: the lines of `detail` that are no facts are the trace; whoever keeps the last of each fact knows the facts
-that `show` tells of each instant before the end of the run; no fact is told that did not change; and whoever is
-dispatched is the first of the first list that is told. Prints each script where one of these fails, and a last line
+Of each script: `detail` without its facts is the trace; each fact written over the one before it gives what `show` tells, at
+each instant before the end of the run; no fact is told that did not change; and the first of the first list that is
+told is who is dispatched. Prints each script where one of these fails, and a last line
 'N checked, M wrong'. Exit status 1 where something is wrong.
 """
 from __future__ import annotations
@@ -110,7 +110,7 @@ def time_of(line: str) -> float:
 def main() -> int:
     parser = argparse.ArgumentParser(description="Checks the facts of generated scripts.")
     parser.add_argument("--first", type=int, default=0)
-    parser.add_argument("--count", type=int, default=500)
+    parser.add_argument("--count", type=int, default=100)
     parser.add_argument("--stage", default="whole")
     arguments = parser.parse_args()
     stage, wrong = Stage.named(arguments.stage), 0

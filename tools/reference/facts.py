@@ -151,13 +151,13 @@ class Facts:
         return "" if mutex.owner is None else f"{self.kernel.threads[mutex.owner].name} {mutex.count}"
 
     def waiters(self, target: int, *kinds: WaitKind) -> str:
-        """Those that wait for an object, in the order in which they would be served."""
+        """Those that wait for an object, in the order of service."""
         waiting = [thread for thread in self.kernel.threads if thread.waits_in(*kinds) and thread.wait.target == target]
         waiting.sort(key=lambda thread: (-self.exec_priorities[thread.number], thread.wait.serial))
         return self.told([thread.number for thread in waiting])
 
     def messages(self, number: int) -> str:
-        """Message priority and value of each message, in the order in which they would be received."""
+        """Message priority and value of each message, the one that is received next first."""
         held = sorted(self.kernel.queues[number].messages, key=lambda message: -message.urgency)
         return " ".join(f"{message.urgency} {message.value}" for message in held)
 

@@ -21,7 +21,6 @@ from .plot import NoPlot, draw, gnuplot
 from .table import Kept, read_table, table
 
 TOP = Path(__file__).resolve().parents[2]
-BUILT = TOP / "crates" / "pse52" / "out" / "pse52"
 
 
 class Status(IntEnum):
@@ -63,17 +62,16 @@ def words_of(words: list[str]) -> argparse.Namespace:
 
 
 def program_of(said: str | None) -> list[str]:
-    """The words of the program. That of this repository is built where it must be, once, and then started without its wrapper."""
+    """The words of the program. That of this repository is started without its wrapper; where there is none, the wrapper says why."""
     if said:
         words = shlex.split(said)
         if not words or shutil.which(words[0]) is None:
             raise NoProgram(f"'{said}' is no program that can be started")
         return [str(Path(word).resolve()) if os.sep in word and Path(word).exists() else word for word in words]
-    wrapper = str(TOP / "bin" / "pse52")
-    ended = subprocess.run([wrapper, "gen", "0"], stdin=subprocess.DEVNULL, stdout=subprocess.DEVNULL, check=False)
+    ended = subprocess.run([str(TOP / "bin" / "pse52"), "--which"], stdout=subprocess.PIPE, text=True, check=False)
     if ended.returncode != 0:
-        raise NoProgram(f"bin/pse52 could not be built; --program 'python3 {TOP / 'tools' / 'reference' / 'simulate.py'}' runs the reference")
-    return [str(BUILT) if BUILT.exists() else wrapper]
+        raise NoProgram("--program names another one, as 'python3 tools/reference/simulate.py'")
+    return [ended.stdout.rstrip("\n")]
 
 
 class Progress:

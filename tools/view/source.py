@@ -9,7 +9,6 @@ import sys
 from pathlib import Path
 
 TOP = Path(__file__).resolve().parents[2]
-BUILT = TOP / "crates" / "pse52" / "out" / "pse52"
 REFERENCE = TOP / "tools" / "reference" / "simulate.py"
 RESPONSE_TIMES = TOP / "tools" / "reference" / "response_times.py"
 USAGE, REFUSED = 1, 2
@@ -30,12 +29,16 @@ def horizon_of(script: bytes) -> int | None:
 
 
 def programs(reference: Path) -> list[list[str]]:
-    """The programs that are asked, in their order: that of PSE52 in the environment or the one that is built here, and a reference.
+    """The programs that are asked, in their order: that of PSE52 in the environment or of bin/pse52, and a reference.
 
-    A program that is not built yet is not asked, since its proof takes long.
+    Where no proved program is here, none is proved for a picture: that takes long.
     """
     said = os.environ.get("PSE52")
-    first = [shlex.split(said)] if said else [[str(BUILT)]] if os.access(BUILT, os.X_OK) else []
+    if said:
+        first = [shlex.split(said)]
+    else:
+        which = subprocess.run([str(TOP / "bin" / "pse52"), "--which"], stdin=subprocess.DEVNULL, capture_output=True, text=True, check=False)
+        first = [[which.stdout.rstrip("\n")]] if which.returncode == 0 else []
     return [*first, [sys.executable, str(reference)]]
 
 
@@ -46,7 +49,7 @@ def answer(words: list[str], source: bytes, reference: Path, tool: str) -> bytes
     """
     asked = programs(reference)
     if len(asked) == 1:
-        _tell(f"{tool}: the program is not built, so the reference answers")
+        _tell(f"{tool}: no proved program is here, so the reference answers")
     for number, program in enumerate(asked):
         try:
             ended = subprocess.run([*program, *words], input=source, capture_output=True, check=False)

@@ -1,1 +1,2 @@
-autocmd BufRead,BufNewFile *.task setfiletype pse52
+" Vim's own filetype.vim takes *.task for another program's files, and setfiletype would leave that as it is.
+autocmd BufRead,BufNewFile *.task,*.task.in set filetype=pse52

@@ -2,6 +2,7 @@
 from __future__ import annotations
 
 import json
+import os
 import re
 import shutil
 import subprocess
@@ -21,6 +22,12 @@ class Pages(unittest.TestCase):
     def test_the_tutorial(self) -> None:
         self.check("TUTORIAL.md")
 
+    def test_the_first_page(self) -> None:
+        self.check("../README.md")
+
+    def test_the_page_on_commands(self) -> None:
+        self.check("COMMANDS.md")
+
     def test_the_page_on_sweeps(self) -> None:
         self.check("SWEEP.md")
 
@@ -30,6 +37,12 @@ class Pages(unittest.TestCase):
     def test_the_page_on_response_times(self) -> None:
         self.check("RTA.md")
 
+    def test_the_page_on_facts(self) -> None:
+        self.check("FACTS.md")
+
+    def test_the_page_on_audits(self) -> None:
+        self.check("AUDIT.md")
+
     def test_the_examples_of_the_manual_pages(self) -> None:
         for page in sorted((TOP / "docs").glob("*.1")):
             commands = re.findall(r"^\.Dl (bin/.*?)(?: && gtkwave .*)?$", page.read_text(), re.M)
@@ -38,7 +51,9 @@ class Pages(unittest.TestCase):
                 command = command.replace(" 1000000", " 1000")  # the reference takes an hour for a million ticks
                 with tempfile.TemporaryDirectory() as folder:
                     clone(Path(folder))
-                    ended = subprocess.run(["bash", "-o", "pipefail", "-c", command], cwd=folder, capture_output=True, check=False)
+                    stand_in = f"{sys.executable} {TOP}/tools/pages/stand_in.py"
+                    ended = subprocess.run(["bash", "-o", "pipefail", "-c", command], cwd=folder, capture_output=True, check=False,
+                                           env=dict(os.environ, PSE52=os.environ.get("PSE52_PROGRAM", stand_in)))
                     self.assertEqual((ended.returncode, ended.stderr), (0, b""), command)
 
 
@@ -55,24 +70,35 @@ class Editors(unittest.TestCase):
         text = (TOP / "editors" / "vim" / "syntax" / "pse52.vim").read_text()
         self.assertEqual(self.words() - set(re.findall(r"\w+", text)), set())
 
-    def test_textmate(self) -> None:
-        grammar = json.loads((TOP / "editors" / "textmate" / "pse52.tmLanguage.json").read_text())
+    def test_vscode(self) -> None:
+        folder = TOP / "editors" / "vscode"
+        package = json.loads((folder / "package.json").read_text())["contributes"]
+        for path in (package["languages"][0]["configuration"], package["grammars"][0]["path"]):
+            json.loads((folder / path).read_text())
+        grammar = json.loads((folder / package["grammars"][0]["path"]).read_text())
+        self.assertEqual(grammar["scopeName"], package["grammars"][0]["scopeName"])
         patterns = [re.compile(pattern["match"]) for pattern in grammar["patterns"]]
         for word in self.words():
             self.assertTrue(any(pattern.search(word) for pattern in patterns), word)
 
-    def test_vim_reads_its_file(self) -> None:
+    def test_vim_as_it_is_installed(self) -> None:
+        """Vim's own filetype.vim has another type for *.task; the installed files come first."""
         vim = shutil.which("vim")
         if vim is None:
-            print("skipped: the file for Vim in Vim, since vim is not here", file=sys.stderr)
+            print("skipped: the files for Vim in Vim, since vim is not here", file=sys.stderr)
             self.skipTest("no vim")
         with tempfile.TemporaryDirectory() as folder:
-            seen = Path(folder) / "seen"
-            script = [f"set rtp^={TOP}/editors/vim", "syntax on", f"edit {TOP}/examples/20_controller.task", "setfiletype pse52",
-                      f"call writefile([synIDattr(synID(12,1,1),'name'), synIDattr(synID(1,1,1),'name'), &filetype], '{seen}')", "qa!"]
-            subprocess.run([vim, "-u", "NONE", "-N", "-n", "-es", *(word for line in script for word in ("-c", line))],
-                           stdin=subprocess.DEVNULL, capture_output=True, timeout=60, check=False)
-            self.assertEqual(seen.read_text().split(), ["pse52Declaration", "pse52Comment", "pse52"])
+            home, seen, script = Path(folder), Path(folder) / "seen", Path(folder) / "first.task"
+            shutil.copytree(TOP / "editors" / "vim", home / ".vim")
+            (home / ".vimrc").write_text("filetype plugin indent on\nsyntax on\n")
+            script.write_text("# comment\nthread a fifo 5 at 0\nloop 2\nrun 1\nend\nend\n")
+            lines = ["normal gg=G", "let text = join(getline(1, '$'), '/')",
+                     f"call writefile([&filetype, &commentstring, &makeprg, synIDattr(synID(2,1,1),'name'), text], '{seen}')", "qa!"]
+            subprocess.run([vim, "-N", "-n", "-u", str(home / ".vimrc"), "-es", str(script), *(word for line in lines for word in ("-c", line))], cwd=folder,
+                           env=dict(os.environ, HOME=folder), stdin=subprocess.DEVNULL, capture_output=True, timeout=60, check=False)
+            self.assertEqual(seen.read_text().splitlines(), [
+                "pse52", "# %s", "pse52 explain --lines %:S", "pse52Declaration",
+                "# comment/thread a fifo 5 at 0/    loop 2/        run 1/    end/end"])
 
 
 class Reading(unittest.TestCase):

@@ -1,0 +1,44 @@
+# Completion for bash: pse52 and the commands beside it.
+_pse52() {
+    local word=${COMP_WORDS[COMP_CWORD]} command='' at
+    for ((at = 1; at < COMP_CWORD; at++)); do
+        case ${COMP_WORDS[at]} in -*) ;; *) command=${COMP_WORDS[at]}; break ;; esac
+    done
+    case $word in
+        -*) mapfile -t COMPREPLY < <(compgen -W '--explain --prove --released --which --version --help' -- "$word"); return ;;
+    esac
+    case $command in
+        '') mapfile -t COMPREPLY < <(compgen -W 'run check audit rta upgrade gen soak explain' -- "$word") ;;
+        explain | upgrade | audit | check) mapfile -t COMPREPLY < <(compgen -f -- "$word") ;;
+        run | rta) ((COMP_CWORD > at + 1)) && mapfile -t COMPREPLY < <(compgen -f -- "$word") ;;
+    esac
+}
+_pse52_view() {
+    local word=${COMP_WORDS[COMP_CWORD]}
+    local options='--script --horizon --from --to --threads --title --tick --lists --width --help'
+    if [[ $word == -* ]]; then
+        mapfile -t COMPREPLY < <(compgen -W "$options" -- "$word")
+    elif [ "$COMP_CWORD" -eq 1 ]; then
+        mapfile -t COMPREPLY < <(compgen -W 'text svg html vcd perfetto ftrace trace.dat' -- "$word")
+    else
+        mapfile -t COMPREPLY < <(compgen -f -- "$word")
+    fi
+}
+_pse52_measure() {
+    local word=${COMP_WORDS[COMP_CWORD]}
+    case $word in
+        -*) mapfile -t COMPREPLY < <(compgen -W '--script --horizon --jobs --measures --csv --rta --help' -- "$word") ;;
+        *) mapfile -t COMPREPLY < <(compgen -f -- "$word") ;;
+    esac
+}
+_pse52_sweep() {
+    local word=${COMP_WORDS[COMP_CWORD]}
+    case $word in
+        -*) mapfile -t COMPREPLY < <(compgen -W '--jobs --sshlogin --output --by --plot --over --program --engine --anew --help' -- "$word") ;;
+        *) mapfile -t COMPREPLY < <(compgen -f -X '!*.toml' -- "$word"; compgen -d -- "$word") ;;
+    esac
+}
+complete -o filenames -F _pse52 pse52
+complete -o filenames -F _pse52_view pse52-view
+complete -o filenames -F _pse52_measure pse52-measure
+complete -o filenames -F _pse52_sweep pse52-sweep

@@ -1,0 +1,221 @@
+"""The faults of a line by itself: its bytes, its pattern, and the words at its places."""
+from __future__ import annotations
+
+import re
+
+from forms import DECLARED, GREATEST_NUMBER, OPERAND, RANGES, RESULTS, SERVER_WORDS, SIGNAL, SIGNAL_SET, is_place
+from reader import Entry, FaultKind, is_number, operand_fault, read_line
+
+from .found import Found, Word, listed, words_in
+from .patterns import LETTERS, MEANT, SERVER, Forms, best_form, meant_by, nearest, pattern_of
+
+_BYTES = {0: "a byte 0", 11: "a vertical tab", 12: "a form feed", 13: "a Windows line end", 27: "an escape", 127: "a delete"}
+
+
+def bad_byte(number: int, line: bytes) -> Found:
+    """The first byte of a line that no text may have."""
+    at = re.search(rb"[^\t -~]", line).start()
+    byte, word = line[at], Word(" ", at + 1)
+    if byte == 13 and at == len(line) - 1:
+        return Found(1, number, FaultKind.BadByte, word, f"byte {at + 1} is 13, a Windows line end",
+                     "end lines with byte 10 alone, as by: tr -d '\\r' < OLD > NEW")
+    if number == 1 and line.startswith((b"\xef\xbb\xbf", b"\xff\xfe", b"\xfe\xff")):
+        return Found(1, number, FaultKind.BadByte, word, "the text begins with a byte order mark", "save it as plain ASCII, without a mark")
+    if byte >= 128:
+        letter = line[at:at + 4].decode("utf-8", "ignore")[:1] or line[at:at + 1].decode("latin-1")
+        return Found(1, number, FaultKind.BadByte, word, f"byte {at + 1} begins the letter '{letter}', which is not ASCII",
+                     "write it in ASCII, also in a comment")
+    return Found(1, number, FaultKind.BadByte, word, f"byte {at + 1} is {_BYTES.get(byte, f'a control byte, {byte}')}", "remove it")
+
+
+def bad_version(number: int, words: list[Word]) -> Found:
+    """A first line that asks for a version that is not there."""
+    wrong = words[1] if len(words) == 2 else words[0]
+    return Found(1, number, FaultKind.BadVersion, wrong, f"there is no version '{' '.join(word.text for word in words[1:])}'",
+                 "write `version 2`, or leave the line out for version 1")
+
+
+def line_fault(number: int, line: bytes, forms: Forms) -> tuple[Entry | None, Found | None]:
+    """The entry of a line with words, as far as it can be told, and its fault by itself."""
+    words = words_in(line)
+    texts = [word.text for word in words]
+    entry, kind = read_line(number, texts, forms)
+    if kind is None:
+        return entry, None
+    if kind is FaultKind.UnknownWord:
+        return _guess(number, texts, forms), _unknown_word(number, words, forms)
+    if kind is FaultKind.WordCount:
+        return _guess(number, texts, forms), _word_count(number, words, forms)
+    places = [(place, word) for want, word in zip(entry.form.words, words) if is_place(place := want)]
+    place, word = next((place, word) for place, word in places if operand_fault(place, word.text) is kind)
+    wrong, mend = _number(place, word.text) if kind is FaultKind.BadNumber else _name(place, word.text)
+    return entry, Found(1, number, kind, word, wrong, f"{mend} (the pattern is `{pattern_of(entry.form)}`)")
+
+
+def _guess(number: int, texts: list[str], forms: Forms) -> Entry | None:
+    """A line that has no pattern, as the one that it was to be, so that what it opens, closes and declares counts."""
+    head = texts[0] if texts[0] in forms else meant_by(texts[0])
+    form = best_form([head, *texts[1:]], forms) if head else None
+    if form is None:
+        return None
+    operands = tuple(have for want, have in zip(form.words, texts) if is_place(want))
+    return Entry(number, form, operands + ("",) * (len(form.places) - len(operands)))
+
+
+def _unknown_word(number: int, words: list[Word], forms: Forms) -> Found:
+    first, texts = words[0], [word.text for word in words]
+    if first.text == "version":
+        return Found(1, number, FaultKind.UnknownWord, first, "`version` stands on the first line with words alone", "move it there")
+    if "strict" in texts and not any("strict" in form.words for form in forms["thread"]):
+        return Found(1, number, FaultKind.UnknownWord, words[texts.index("strict")], "`strict` is a policy of version 2",
+                     "write `version 2` as the first line, or `sporadic`")
+    if first.text not in forms:
+        if first.text.startswith("//") or first.text.startswith(";") or first.text.startswith("--"):
+            return Found(1, number, FaultKind.UnknownWord, first, f"'{first.text}' begins no line", "a comment begins with `#`")
+        if first.text.lower() in ("else", "elif", "elseif"):
+            return Found(1, number, FaultKind.UnknownWord, first, "there is no `else`",
+                         "end the block of `if R`, and open one of `unless R` with the same R behind it")
+        meant = meant_by(first.text)
+        known = f"`{meant}` is what does it here" if first.text.lower() in MEANT else f"did you mean `{meant}`?"
+        return Found(1, number, FaultKind.UnknownWord, first, f"'{first.text}' begins no line of a script",
+                     f"{known} {_patterns(meant, forms)}" if meant else "docs/SCRIPT.md, Patterns, has every line that there is")
+    if (server := _server(texts)) is not None:
+        return Found(1, number, FaultKind.UnknownWord, _policy(words), *server)
+    form = best_form(texts, forms)
+    at, expected = _first_difference(texts, forms)
+    near = nearest(texts[at], expected)
+    behind = " ".join(texts[:at])
+    if texts[0] in ("if", "unless"):
+        expected = list(RESULTS)
+    return Found(1, number, FaultKind.UnknownWord, words[at], f"'{texts[at]}' may not stand behind `{behind}`",
+                 f"did you mean `{near}`?" if near else f"there stands {listed(expected)}; the nearest pattern is `{pattern_of(form)}`")
+
+
+def _first_difference(texts: list[str], forms: Forms) -> tuple[int, list[str]]:
+    """The first word with which no pattern agrees any more, and the keywords that may stand there."""
+    left = list(forms[texts[0]])
+    for at in range(1, len(texts)):
+        agreeing = [form for form in left if form.agrees(texts[:at + 1])]
+        if not agreeing:
+            return at, list(dict.fromkeys(form.words[at] for form in left if len(form.words) > at and not is_place(form.words[at])))
+        left = agreeing
+    raise AssertionError(texts)
+
+
+def _patterns(head: str, forms: Forms) -> str:
+    found = [pattern_of(form) for form in forms[head]]
+    return f"({listed(found)})" if len(found) <= 3 else f"({listed(found[:2], 'and')}, and {len(found) - 2} more)"
+
+
+def _policy(words: list[Word]) -> Word:
+    """The word of a line that says its policy has a server."""
+    return next(word for word in words if word.text in SERVER_WORDS)
+
+
+def _server(texts: list[str]) -> tuple[str, str] | None:
+    """Of the parameters of a sporadic server with a number too few or too many: what is wrong, and which number is missing."""
+    policy = next((text for text in texts if text in SERVER_WORDS), None)
+    if policy is None:
+        return None
+    behind = texts[texts.index(policy) + 1:]
+    numbers = [int(text) for text in behind[:next((i for i, text in enumerate(behind) if not is_number(text)), len(behind))]]
+    five = "high priority, low priority, period, budget, and how many replenishments may be pending"
+    if len(numbers) == 5 or len(numbers) == 0:
+        return None
+    wrong = f"behind `{policy}` come five numbers, and there are {len(numbers)}"
+    if len(numbers) != 4:
+        return wrong, f"they are: {five}"
+    missing = [at for at in (4, 1, 3, 2, 0) if _fits(numbers, at)]
+    if not missing:
+        return wrong, f"they are: {five}"
+    names = " or ".join(SERVER[at] for at in missing)
+    return wrong, f"missing is {names}: the five are {five}"
+
+
+def _fits(numbers: list[int], missing: int) -> bool:
+    """Whether four numbers are those of a server without the one that is missing."""
+    high, low, period, budget, limit = numbers[:missing] + [None] + numbers[missing:]
+    return ((high is None or 1 <= high <= 255) and (low is None or 1 <= low <= 255) and (limit is None or 1 <= limit <= 16)
+            and (high is None or low is None or low < high) and (budget is None or period is None or 1 <= budget <= period))
+
+
+def _word_count(number: int, words: list[Word], forms: Forms) -> Found:
+    texts = [word.text for word in words]
+    comment = next((word for word in words if word.text.startswith(("//", ";", "--"))), None)
+    if comment is not None:
+        return Found(1, number, FaultKind.WordCount, comment, f"'{comment.text}' is a word too many", "a comment begins with `#`")
+    if (server := _server(texts)) is not None:
+        return Found(1, number, FaultKind.WordCount, _policy(words), *server)
+    agreeing = [form for form in forms[texts[0]] if form.agrees(texts)]
+    form = min(agreeing, key=lambda form: abs(len(form.words) - len(texts)))
+    wants = f"write `{pattern_of(form)}`" if len(agreeing) == 1 else f"write {listed([pattern_of(form) for form in agreeing])}"
+    longest = max(len(form.words) for form in agreeing)
+    if len(texts) > longest:
+        if all(text.startswith(",") or text.endswith(",") or "," in text for text in texts[longest - 1:longest]):
+            wants += "; a set has no blanks round its commas"
+        return Found(1, number, FaultKind.WordCount, words[longest], f"'{texts[longest]}' is a word too many", wants)
+    end = Word(" ", words[-1].column + len(words[-1].text) + 1)
+    missing = [_what(place) for place in form.words[len(texts):]]
+    wrong = f"the line ends too early: {' '.join(missing)} is missing" if len(agreeing) == 1 else "the line ends too early"
+    return Found(1, number, FaultKind.WordCount, end, wrong, wants)
+
+
+def _what(place: str) -> str:
+    return LETTERS.get(place, "N") if is_place(place) else f"`{place}`"
+
+
+def _number(place: str, text: str) -> tuple[str, str]:
+    """What is wrong with a word at the place of a number."""
+    if text == "reg":
+        return "`reg` may not stand here", "a number stands here: only where a pattern has V may the register stand"
+    wrong = f"'{text}' is no number"
+    if re.fullmatch(r"[0-9]+\.[0-9]+", text):
+        return wrong, "ticks are whole numbers: choose a shorter tick"
+    if re.fullmatch(r"-[0-9]+", text):
+        return wrong, "no number is negative"
+    if re.fullmatch(r"0[xX][0-9a-fA-F]+", text):
+        return wrong, f"write it in decimal: {int(text, 16)}"
+    if (unit := re.fullmatch(r"([0-9]+)([a-zA-Z]+)", text)) is not None:
+        return wrong, f"write digits without a unit, as {unit[1]}: all times are in ticks"
+    if re.fullmatch(r"[0-9]+[_,'][0-9_,']+|[0-9]+[eE][0-9]+", text):
+        return wrong, "write all its digits, and nothing between them"
+    return wrong, "digits stand here, or `reg`" if place == OPERAND else "digits stand here"
+
+
+def _name(place: str, text: str) -> tuple[str, str]:
+    """What is wrong with a word at the place of a name, a signal or a set."""
+    if place == SIGNAL:
+        return f"'{text}' is no signal", "signals are `rt0` to `rt31`"
+    if place == SIGNAL_SET:
+        return f"'{text}' is no set of signals", "a set is `all`, `none`, or signals between commas, as `rt1,rt5`"
+    if len(text) > 32:
+        return f"the name has {len(text)} bytes", "a name has at most 32"
+    if re.fullmatch(r"[A-Za-z][A-Za-z0-9_]*", text):
+        return f"'{text}' is no name, since it has capital letters", f"write `{text.lower()}`"
+    if (strange := re.search(r"[^a-z0-9_]", text)) is not None:
+        return f"'{text}' is no name, since it has '{strange[0]}'", "a name has small letters, digits and `_` alone"
+    return f"'{text}' is no name, since it begins with '{text[:1]}'", "a name begins with a small letter"
+
+
+def number_fault(entry: Entry, words: list[Word]) -> tuple[Word, str] | None:
+    """The first number of a line that is out of its range, and what is wrong with it."""
+    for want, word in zip(entry.form.words, words):
+        if want in RANGES and word.text != "reg":
+            least, most = RANGES[want]
+            value = int(word.text) if len(word.text.lstrip("0")) <= 19 else GREATEST_NUMBER + 1
+            if not least <= value <= most:
+                bound = "10^18" if most == GREATEST_NUMBER else most
+                return word, f"{word.text} is out of the range of this number, {least} to {bound}"
+    return None
+
+
+def declared_word(entry: Entry, words: list[Word]) -> Word:
+    """The word that a line declares: its name, or the signal of an action."""
+    at = next((at for at, want in enumerate(entry.form.words) if want in (DECLARED, SIGNAL)), 0)
+    return words[at]
+
+
+def used_words(entry: Entry, words: list[Word]) -> list[tuple[str, Word]]:
+    """The places of a line that name something, with their words."""
+    return [(want, word) for want, word in zip(entry.form.words, words) if is_place(want)]
+

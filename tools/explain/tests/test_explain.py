@@ -1,0 +1,135 @@
+"""What is told of the faults of a script."""
+from __future__ import annotations
+
+import subprocess
+import sys
+import tempfile
+import unittest
+from pathlib import Path
+
+from explain import TOP
+from explain.show import shown
+from explain.text import faults_of
+
+sys.path.insert(0, str(TOP / "tools" / "reference"))
+from forms import Stage  # noqa: E402
+from mutate import refused  # noqa: E402
+from reader import read  # noqa: E402
+from writer import accepted  # noqa: E402
+
+BODY = "thread a fifo 5 at 0\n{}\nend\n"
+
+# A script, the line and column of its one fault, its kind, and a part of what is told.
+CASES = [
+    (BODY.format("sleep 3"), 2, 1, "UnknownWord", "`nanosleep` is what does it here"),
+    (BODY.format("pthread_mutex_lock m"), 2, 1, "UnknownWord", "`lock`"),
+    (BODY.format("  rum 3"), 2, 3, "UnknownWord", "did you mean `run`?"),
+    (BODY.format("else"), 2, 1, "UnknownWord", "there is no `else`"),
+    (BODY.format("if ENOENT\nend"), 2, 4, "UnknownWord", "`EAGAIN`"),
+    (BODY.format("run 1 // hi"), 2, 7, "WordCount", "a comment begins with `#`"),
+    (BODY.format("run"), 2, 5, "WordCount", "N is missing"),
+    (BODY.format("run 2.5"), 2, 5, "BadNumber", "whole numbers"),
+    (BODY.format("run 5ms"), 2, 5, "BadNumber", "without a unit, as 5"),
+    (BODY.format("set -1"), 2, 5, "BadNumber", "no number is negative"),
+    (BODY.format("run 0x10"), 2, 5, "BadNumber", "in decimal: 16"),
+    (BODY.format("run reg"), 2, 5, "BadNumber", "only where a pattern has V"),
+    (BODY.format("kill SIGUSR1"), 2, 6, "BadName", "`rt0` to `rt31`"),
+    (BODY.format("lock m"), 2, 6, "UnknownName", "`mutex m inherit`"),
+    (BODY.format("lock a"), 2, 6, "WrongKind", "`a` is a thread, and a mutex belongs here"),
+    (BODY.format("loop 0\nend"), 2, 6, "NumberRange", "1 to 10^18"),
+    ("Thread a fifo 5 at 0\nrun 1\nend\n", 1, 1, "UnknownWord", "did you mean `thread`?"),
+    ("thread s sporadic 20 40 10 4 at 0\nend\n", 1, 10, "UnknownWord", "missing is the low priority or the high priority"),
+    ("thread s sporadic 20 2 40 at 0\nend\n", 1, 10, "WordCount", "there are 3"),
+    ("thread s sporadic 5 5 10 3 4 at 0\nend\n", 1, 21, "ServerRange", "low priority 5 is not below the high one, 5"),
+    ("thread s sporadic 5 2 10 30 4 at 0\nend\n", 1, 26, "ServerRange", "budget 30 is above the period, 10"),
+    ("thread a fifo 5 at 0\r\nend\n", 1, 21, "BadByte", "a Windows line end"),
+    ("# caf\xc3\xa9\n" + BODY.format("run 1"), 1, 6, "BadByte", "not ASCII"),
+    ("\xef\xbb\xbf" + BODY.format("run 1"), 1, 1, "BadByte", "byte order mark"),
+    ("mutex m none\nmutex m none\n" + BODY.format("run 1"), 2, 7, "DuplicateName", "declared here first"),
+    (BODY.format("run 1") + "end\n", 4, 1, "StrayClose", "closes nothing"),
+    ("cleanup u\nend\n" + BODY.format("push u\nend"), 5, 1, "StrayClose", "`pop 1` or `pop 0`"),
+    ("cleanup u\nlock m\nend\nmutex m none\n" + BODY.format("run 1"), 2, 1, "NotHere", "may not stand in a cleanup handler"),
+    ("version 3\n" + BODY.format("run 1"), 1, 9, "BadVersion", "write `version 2`"),
+    (BODY.format("version 2"), 2, 1, "UnknownWord", "first line"),
+    ("thread s strict 9 2 10 3 4 at 0\nend\n", 1, 10, "UnknownWord", "policy of version 2"),
+    ("version 2\nthread s strict 9 2 10 30 4 at 0\nend\n", 2, 24, "ServerRange", "budget 30 is above the period, 10"),
+    ("quantum 5\nquantum 5\n" + BODY.format("run 1"), 2, 1, "TooMany", "said twice"),
+]
+
+
+def text_of(script: str) -> bytes:
+    return script.encode("latin-1")
+
+
+class Faults(unittest.TestCase):
+    def test_each_mistake_is_told_at_its_word(self) -> None:
+        for script, line, column, kind, part in CASES:
+            faults = faults_of(text_of(script))
+            told = shown(text_of(script), faults)
+            self.assertEqual([(fault.line, fault.word.column, fault.kind.name) for fault in faults], [(line, column, kind)], told)
+            self.assertIn(part, told)
+
+    def test_a_forgotten_end_is_named_where_it_was_forgotten(self) -> None:
+        script = b"thread a fifo 5 at 0\n    loop 2\n        run 1\nend\nthread b fifo 5 at 0\n    run 1\nend\n"
+        told = shown(script, faults_of(script))
+        self.assertIn("line 5, column 1: NotHere", told)
+        self.assertIn("the `loop` of line 2 was not closed: write `end` before line 4", told)
+
+    def test_a_block_that_ends_by_its_indentation(self) -> None:
+        script = b"thread a fifo 5 at 0\n    loop 2\n        run 1\n    run 2\nend\n"
+        told = shown(script, faults_of(script))
+        self.assertIn("Unclosed", told)
+        self.assertIn("write `end` before line 4", told)
+
+    def test_all_faults_at_once(self) -> None:
+        script = text_of(BODY.format("rum 1\nrun x\nlock m") + "thread a fifo 300 at 0\nend\n")
+        self.assertEqual([(fault.line, fault.kind.name) for fault in faults_of(script)],
+                         [(2, "UnknownWord"), (3, "BadNumber"), (4, "UnknownName"), (6, "DuplicateName"), (6, "NumberRange")])
+        self.assertIn("5 faults; the program answers that of line 2, UnknownWord", shown(script, faults_of(script)))
+
+    def test_windows_line_ends_are_told_once(self) -> None:
+        script = BODY.format("\n".join(["run 1"] * 20)).replace("\n", "\r\n").encode()
+        told = shown(script, faults_of(script))
+        self.assertEqual(told.count("a Windows line end"), 1)
+        self.assertIn("the same in 21 lines more", told)
+
+
+class Agreement(unittest.TestCase):
+    """The least fault is the one that the reference answers, and an accepted script has none."""
+
+    def test_refused(self) -> None:
+        for seed in range(400):
+            text = refused(seed, (Stage.WHOLE, Stage.VERSION2)[seed % 2])
+            fault = read(text)[1]
+            faults = faults_of(text)
+            self.assertEqual(min(found.rank for found in faults), (fault.phase, fault.line, fault.kind.value), f"seed {seed}")
+            shown(text, faults)
+
+    def test_accepted(self) -> None:
+        for seed in range(100):
+            self.assertEqual(faults_of(accepted(seed, (Stage.WHOLE, Stage.VERSION2)[seed % 2])[0]), [], f"seed {seed}")
+
+    def test_worked(self) -> None:
+        for path in sorted((TOP / "tests" / "worked").glob("*.task")):
+            text = path.read_bytes()
+            fault, faults = read(text)[1], faults_of(text)
+            self.assertEqual(min((found.rank for found in faults), default=None),
+                             fault and (fault.phase, fault.line, fault.kind.value), path.name)
+
+
+class Command(unittest.TestCase):
+    def run_on(self, text: bytes) -> tuple[int, str]:
+        with tempfile.TemporaryDirectory() as folder:
+            script = Path(folder) / "s.task"
+            script.write_bytes(text)
+            ended = subprocess.run([sys.executable, str(TOP / "tools/explain/main.py"), str(script)], capture_output=True, text=True, check=False)
+            return ended.returncode, ended.stdout
+
+    def test_statuses(self) -> None:
+        self.assertEqual(self.run_on(text_of(BODY.format("run 1"))), (0, "no fault\n"))
+        self.assertEqual(self.run_on(b"")[0], 2)
+        self.assertEqual(self.run_on(b"\n" * 1_048_577)[0], 3)
+
+
+if __name__ == "__main__":
+    unittest.main()

@@ -1,0 +1,72 @@
+#!/bin/sh
+# Installs the program that bin/pse52 runs here, and what stands beside it, or removes that again.
+#
+#   tools/install.sh [--remove] DESTDIR PREFIX
+#
+# PREFIX/lib/pse52 gets the program, its manifest, the wrapper and the Python tools; PREFIX/bin links to them.
+set -u
+remove=
+if [ "${1-}" = --remove ]; then
+    remove=yes
+    shift
+fi
+[ "$#" -eq 2 ] && [ -n "$2" ] || { echo "usage: tools/install.sh [--remove] DESTDIR PREFIX" >&2; exit 1; }
+top=$(cd "$(dirname "$0")/.." && pwd) || exit 1
+cd "$top" || exit 1
+root=$1$2
+lib=$root/lib/pse52
+doc=$root/share/doc/pse52
+commands=$(cd bin && echo *)
+
+if [ -n "$remove" ]; then
+    for command in $commands; do
+        rm -f "$root/bin/$command" "$root/share/bash-completion/completions/$command"
+    done
+    for page in docs/*.1; do
+        rm -f "$root/share/man/man1/${page#docs/}"
+    done
+    rm -f "$root/share/zsh/site-functions/_pse52" "$root/share/fish/vendor_completions.d/pse52.fish"
+    rm -rf "$lib" "$doc"
+    exit 0
+fi
+
+program=$(bin/pse52 --which) || exit 1
+mkdir -p "$lib/release" "$lib/tools" "$lib/bin" "$doc" "$root/bin" "$root/share/man/man1" \
+    "$root/share/bash-completion/completions" "$root/share/zsh/site-functions" "$root/share/fish/vendor_completions.d" || exit 1
+install -m 755 "$program" "$lib/release/pse52" || exit 1
+case $program in
+    */release/pse52) install -m 644 release/MANIFEST "$lib/release/MANIFEST" ;;
+    *)
+        {
+            echo "version $(cat VERSION)"
+            echo "date $(date -u +%Y-%m-%d)"
+            echo "machine $(uname -sm)"
+            cat "$program.record"
+        } >"$lib/release/MANIFEST" ;;
+esac
+install -m 644 VERSION "$lib/VERSION"
+for command in $commands; do
+    install -m 755 "bin/$command" "$lib/bin/$command" || exit 1
+    ln -sf "../lib/pse52/bin/$command" "$root/bin/$command" || exit 1
+done
+for folder in tools/*/; do
+    folder=${folder#tools/}
+    folder=${folder%/}
+    case $folder in bench | machine_rows | memory | turned | pages) continue ;; esac
+    mkdir -p "$lib/tools/$folder"
+    (cd "tools/$folder" && find . -name tests -prune -o -name __pycache__ -prune -o -type f -print) | while read -r file; do
+        mkdir -p "$lib/tools/$folder/$(dirname "$file")"
+        install -m 644 "tools/$folder/$file" "$lib/tools/$folder/$file"
+    done
+done
+install -m 644 docs/*.1 "$root/share/man/man1/"
+install -m 644 README.md LICENSE LICENSE-MIT LICENSE-APACHE NOTICE CHANGELOG.md docs/*.md "$doc/"
+install -m 644 crates/raw_links/LICENSE-circular-buffer "$doc/"
+mkdir -p "$doc/examples"
+install -m 644 examples/*.task examples/*.rta "$doc/examples/"
+for command in $commands; do
+    install -m 644 completions/pse52.bash "$root/share/bash-completion/completions/$command"
+done
+install -m 644 completions/_pse52 "$root/share/zsh/site-functions/_pse52"
+install -m 644 completions/pse52.fish "$root/share/fish/vendor_completions.d/pse52.fish"
+echo "installed pse52 $(cat VERSION) in $root"

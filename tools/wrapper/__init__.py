@@ -1,0 +1,1 @@
+"""What bin/pse52 is made of, in sh; here for its tests."""

@@ -1,0 +1,65 @@
+# Sourced by bin/pse52: runs the program for somebody who looks on, and says on standard error what a status other than 0 means.
+
+# Runs the program. A script that comes through a pipe is kept beside, so that its faults can be shown.
+run_and_explain() {
+    kept_script=
+    writes_to_pipe=
+    [ ! -p /dev/stdout ] || writes_to_pipe=yes
+    case $1 in
+        gen | soak) "$program" "$@"; status=$? ;;
+        *)
+            if [ -n "$input" ]; then
+                kept_script=$input
+                "$program" "$@" <"$input"
+                status=$?
+            elif [ -f /dev/stdin ]; then
+                kept_script=/dev/stdin
+                "$program" "$@"
+                status=$?
+            elif [ "$1" != check ] && [ "$1" != audit ] && folder=$(mktemp -d 2>/dev/null); then
+                [ ! -t 0 ] || say "the script is read from this terminal, up to Ctrl-D at a line's beginning; or name a file: pse52 $* FILE"
+                kept_script=$folder/script
+                trap 'rm -rf "$folder"' EXIT
+                tee "$kept_script" 2>/dev/null | "$program" "$@"
+                status=$?
+            else
+                "$program" "$@"
+                status=$?
+            fi ;;
+    esac
+    explain_status "$@" >&2
+}
+
+# The faults of the script, as tools/explain shows them. Of another text, or where that cannot, the line that is refused.
+explain_refusal() {
+    case $1 in rta) page=docs/RTA.md ;; audit) page=docs/AUDIT.md ;; *) page=docs/SCRIPT.md ;; esac
+    if [ -z "$kept_script" ]; then
+        say "the text is refused: standard output has its line and the kind of its fault, which $page explains"
+        return
+    fi
+    if [ "$1" = run ] || [ "$1" = upgrade ]; then
+        python3 "$top/tools/explain/main.py" "$kept_script" 2>/dev/null
+        [ $? -ne 2 ] || return 0
+    fi
+    refusal=$("$program" "$@" <"$kept_script" 2>/dev/null | head -n 1)
+    line=$(printf '%s\n' "$refusal" | cut -d ' ' -f 2)
+    words=$(sed -n "${line}p" "$kept_script" | tr -cd ' -~' | cut -c 1-60)
+    say "line $line is refused, $(printf '%s\n' "$refusal" | cut -d ' ' -f 4): '$words' ($page, faults)"
+}
+
+# One line for a status that is not 0.
+explain_status() {
+    case $status in
+        0) ;;
+        1) say "the program does not know these words: it is older than the commands of 'pse52 --help'" ;;
+        2) explain_refusal "$@" ;;
+        3) say 'the text has more bytes than the command reads: 1048576 of a script, 67108864 of tasks or with a trace' ;;
+        4) say 'the text could not be read' ;;
+        5) [ -n "$writes_to_pipe" ] || say 'standard output could not be written' ;; # else its reader had enough
+        6) say 'there was not enough memory; nothing was written' ;;
+        7) say "the trace is not the script's: standard output has the first line that differs, what is due there, and what stands there" ;;
+        8) say 'no line %% stands between the script and the trace' ;;
+        9) say 'the trace breaks a rule of budgets: standard output has the line and the rule (docs/AUDIT.md)' ;;
+        *) say "the program ended with the status $status" ;;
+    esac
+}

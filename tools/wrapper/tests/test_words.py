@@ -1,0 +1,149 @@
+"""What bin/pse52 answers to words."""
+from __future__ import annotations
+
+import os
+import pty
+import subprocess
+import tempfile
+import unittest
+from pathlib import Path
+
+from .scratch import SCRIPT, Checkout
+
+# Words that are no command, and a part of what is said of them.
+WRONG = [
+    ("run", "needs a number of ticks"), ("run 1e3", "as in 1000"), ("run 1_000", "as in 1000"), ("run 10k", "as in 1000"),
+    ("run -5", "no number is negative"), ("run 2.5", "ticks are whole numbers"), ("run 10ms", "without a unit"),
+    ("run s.task", "pse52 run 100 s.task"), ("run s.task 20", "pse52 run 20 s.task"), ("run 1000000000000000001", "10^18"),
+    ("run 1 s.task s.task", "a word too many"), ("rta 100000001", "100000000"), ("7", "a command comes before its numbers"),
+    ("s.task", "pse52 run 100 s.task"), ("rum 7", "did you mean 'run'?"), ("frobnicate", "--help"), ("--frob", "no option"),
+    ("soak 7", "needs two numbers"), ("gen", "pse52 gen S"), ("gen x", "a number from 0 to 10^18"), ("check 7 s.task", "a script and a trace"),
+    ("upgrade 3", "takes no number"), ("audit 3", "takes no number"), ("explain s.task s.task", "one script")]
+
+
+class Words(unittest.TestCase):
+    def setUp(self) -> None:
+        self.folder = tempfile.TemporaryDirectory()
+        self.addCleanup(self.folder.cleanup)
+        self.checkout = Checkout.make(Path(self.folder.name))
+
+    def test_wrong_words_are_answered_without_a_program(self) -> None:
+        for words, part in WRONG:
+            ended = self.checkout.run(*words.split())
+            self.assertEqual((ended.status, ended.out, ended.err.count("\n")), (1, "", 1), words)
+            self.assertIn(part, ended.err, words)
+
+    def test_empty_words(self) -> None:
+        self.assertEqual(self.checkout.run("").status, 1)
+        self.assertEqual(self.checkout.run("run", "").status, 1)
+
+    def test_help_and_version(self) -> None:
+        for word in ("--help", "-h", "help"):
+            ended = self.checkout.run(word)
+            self.assertEqual((ended.status, ended.err), (0, ""))
+            for command in ("run N", "check N", "rta N", "gen S", "soak S N", "upgrade", "audit", "explain", "--prove", "--released"):
+                self.assertIn(f"\n  {command}", ended.out)
+        self.assertEqual(self.checkout.run().err, self.checkout.run("--help").out)
+        self.assertEqual(self.checkout.run().status, 1)
+        self.assertEqual(self.checkout.run("--version").out, "pse52 1.2.3\n")
+        self.checkout.put_release()
+        self.assertIn("release 1.2.3 of 2026-01-02", self.checkout.run("-V").out)
+        self.assertIn("usage", self.checkout.run("run", "1", "--help").out)
+
+    def test_commands_reach_the_program_as_they_are(self) -> None:
+        self.checkout.put_release()
+        for words in ("run 000", "run 1000000000000000000", "rta 100000000", "check 7", "upgrade", "audit"):
+            self.assertEqual(self.checkout.run(*words.split(), text="x\n").out, f"release: {words}\nx\n", words)
+        self.assertEqual(self.checkout.run("gen", "7").out, "release: gen 7\n")
+        self.assertEqual(self.checkout.run("soak", "7", "9").status, 5)
+
+    def test_files(self) -> None:
+        self.checkout.put_release()
+        self.checkout.write("t.trace", "trace\n")
+        self.assertEqual(self.checkout.run("run", "7", "s.task").out, "release: run 7\n" + SCRIPT)
+        self.assertEqual(self.checkout.run("run", "7", "-", text="x\n").out, "release: run 7\nx\n")
+        self.assertEqual(self.checkout.run("upgrade", "s.task").out, "release: upgrade\n" + SCRIPT)
+        self.assertEqual(self.checkout.run("check", "7", "s.task", "t.trace").out, f"release: check 7\n{SCRIPT}%%\ntrace\n")
+        self.assertEqual(self.checkout.run("audit", "s.task", "t.trace").out, f"release: audit\n{SCRIPT}%%\ntrace\n")
+        for words, part in (("run 7 none.task", "no file"), ("run 7 bin", "folder"), ("check 7 s.task none", "no file")):
+            ended = self.checkout.run(*words.split())
+            self.assertEqual((ended.status, ended.out), (4, ""), words)
+            self.assertIn(part, ended.err)
+
+    def test_a_line_that_differs_is_shown(self) -> None:
+        self.checkout.put_built()
+        self.checkout.write("crates/pse52/out/pse52", "#!/bin/sh\nprintf 'differs 2\\nwant x\\nhave text\\n'\nexit 7\n")
+        subprocess.run(["sh", str(self.checkout.top / "tools/wrapper/record.sh"), self.checkout.sum("sources")], check=True)
+        self.checkout.write("t.trace", "one\ntwo\n")
+        ended = self.checkout.run("check", "7", "s.task", "t.trace", "--explain")
+        self.assertEqual((ended.status, ended.out), (7, "differs 2\nwant x\nhave text\n"))
+        self.assertIn("line 2 of t.trace: two\n", ended.err)
+        self.assertEqual(self.checkout.run("check", "7", "s.task", "t.trace").err, "")
+
+    def test_which(self) -> None:
+        self.checkout.put_built()
+        self.assertEqual(self.checkout.run("--which").out, f"{self.checkout.top.resolve()}/crates/pse52/out/pse52\n")
+
+
+class Explanations(unittest.TestCase):
+    """The reference stands in for the program."""
+
+    def setUp(self) -> None:
+        self.folder = tempfile.TemporaryDirectory()
+        self.addCleanup(self.folder.cleanup)
+        self.checkout = Checkout.make(Path(self.folder.name))
+        self.checkout.put_built()
+        self.checkout.write("crates/pse52/out/pse52", f'#!/bin/sh\nexec python3 {self.checkout.top}/tools/reference/simulate.py "$@"\n')
+        subprocess.run(["sh", str(self.checkout.top / "tools/wrapper/record.sh"), self.checkout.sum("sources")], check=True)
+        self.wrong = "thread a fifo 5 at 0\nrum 3\nend\n"
+        self.checkout.write("wrong.task", self.wrong)
+
+    def test_explain_needs_no_program(self) -> None:
+        (self.checkout.top / "crates/pse52/out/pse52.record").unlink()
+        self.assertEqual(self.checkout.run("explain", "s.task").out, "no fault\n")
+        for ended in (self.checkout.run("explain", "wrong.task"), self.checkout.run("explain", text=self.wrong)):
+            self.assertEqual(ended.status, 2)
+            self.assertIn("line 2, column 1: UnknownWord", ended.out)
+        lines = self.checkout.run("explain", "--lines", "wrong.task").out
+        self.assertTrue(lines.startswith("wrong.task:2:1: UnknownWord: "), lines)
+
+    def test_by_a_flag(self) -> None:
+        for words, text in ((("--explain", "run", "7"), self.wrong), (("run", "7", "wrong.task", "--explain"), "")):
+            ended = self.checkout.run(*words, text=text)
+            self.assertEqual((ended.status, ended.out), (2, "refused 2 2 UnknownWord\n"))
+            self.assertIn("did you mean `run`?", ended.err)
+
+    def test_without_a_flag_standard_error_stays_empty(self) -> None:
+        ended = self.checkout.run("run", "7", "wrong.task")
+        self.assertEqual((ended.status, ended.out, ended.err), (2, "refused 2 2 UnknownWord\n", ""))
+
+    def on_a_terminal(self, words: str) -> str:
+        """What a shell's words write on a terminal."""
+        leader, follower = pty.openpty()
+        process = subprocess.Popen(["sh", "-c", words], stdin=subprocess.DEVNULL, stdout=follower, stderr=follower, cwd=self.checkout.top)
+        os.close(follower)
+        told = b""
+        try:
+            while block := os.read(leader, 4096):
+                told += block
+        except OSError:
+            pass
+        os.close(leader)
+        process.wait()
+        return told.decode().replace("\r\n", "\n")
+
+    def test_on_a_terminal(self) -> None:
+        for words in ("bin/pse52 run 7 wrong.task", "bin/pse52 run 7 < wrong.task", "cat wrong.task | bin/pse52 run 7"):
+            told = self.on_a_terminal(words)
+            self.assertIn("refused 2 2 UnknownWord\n", told)
+            self.assertIn("did you mean `run`?", told, words)
+
+    def test_a_reader_that_has_gone_is_no_complaint(self) -> None:
+        self.checkout.write("crates/pse52/out/pse52", "#!/bin/sh\nexit 5\n")
+        subprocess.run(["sh", str(self.checkout.top / "tools/wrapper/record.sh"), self.checkout.sum("sources")], check=True)
+        self.assertEqual(self.on_a_terminal("bin/pse52 gen 7 | cat"), "")
+        self.assertIn("could not be written", self.on_a_terminal("bin/pse52 gen 7"))
+
+
+if __name__ == "__main__":
+    unittest.main()
