@@ -3,17 +3,16 @@ from __future__ import annotations
 
 import argparse
 import os
-import shlex
 import sys
 import tomllib
 from enum import IntEnum
 from pathlib import Path
 
 from view.lines import NotATraceLine, read_trace
-from view.source import NoSource, detail_of, horizon_of
+from view.source import TOP, NoSource, detail_of, horizon_of
 
 from .jobs import NamesNothing, SLEEP
-from .measures import Measure, WrongMeasure, measure_of
+from .measures import Measure, WrongMeasure, measure_of, measure_of_words
 from .rta import Analysis, remarks, rta_table
 from .seen import Seen
 from .tables import as_csv, as_text, jobs_table, share, tables_of
@@ -50,6 +49,7 @@ class _Parser(argparse.ArgumentParser):
 
 def words_of(words: list[str]) -> argparse.Namespace:
     parser = _Parser(prog=TOOL, description=HELP, formatter_class=argparse.RawDescriptionHelpFormatter, allow_abbrev=False)
+    parser.add_argument("--version", action="version", version=f"{TOOL} {(TOP / 'VERSION').read_text().strip()}")
     parser.add_argument("--script", type=Path, metavar="FILE", help="run this script, in place of a trace on standard input")
     parser.add_argument("--horizon", type=int, metavar="N", help="for so many ticks; without it as a comment '# horizon N' on line 1 says")
     parser.add_argument("--jobs", action="append", default=[], metavar="WORDS", help="measure jobs; it may come several times")
@@ -66,7 +66,7 @@ def words_of(words: list[str]) -> argparse.Namespace:
 
 def measures_of(said: argparse.Namespace) -> list[Measure]:
     """The measures of jobs that the words and the file name."""
-    measures = [measure_of(_table_of(words)) for words in said.jobs]
+    measures = [measure_of_words(words) for words in said.jobs]
     if said.measures:
         try:
             tables = tomllib.loads(said.measures.read_bytes().decode()).get("measure", [])
@@ -74,19 +74,6 @@ def measures_of(said: argparse.Namespace) -> list[Measure]:
             raise WrongMeasure(f"{said.measures}: {wrong}") from None
         measures += [measure for measure in map(measure_of, tables) if measure.words["kind"] in ("periodic", "response")]
     return measures
-
-
-def _table_of(words: str) -> dict[str, object]:
-    """A table of words KEY=VALUE. Its name is that of the thread where none is said, and its kind follows from its keys."""
-    table: dict[str, object] = {}
-    for word in shlex.split(words):
-        key, equals, value = word.partition("=")
-        if not equals:
-            raise WrongMeasure(f"--jobs has words KEY=VALUE, and '{word}' is none")
-        table[key] = int(value) if value.isascii() and value.isdigit() else value
-    table.setdefault("kind", "periodic" if "period" in table else "response")
-    table.setdefault("name", table.get("thread", "jobs"))
-    return table
 
 
 def seen_of(said: argparse.Namespace) -> Seen:

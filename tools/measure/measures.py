@@ -5,6 +5,7 @@ A column without a figure, as the greatest of no times, is empty. A measure that
 from __future__ import annotations
 
 import re
+import shlex
 from collections.abc import Callable, Iterable
 from dataclasses import dataclass
 from fractions import Fraction
@@ -213,6 +214,19 @@ def measure_of(table: Table) -> Measure:
     columns = tuple(f"{name}_{ending}" if ending else name for ending in row.endings(table))
     calls = kind == "periodic" and str(table.get("to", SLEEP)).startswith("call ")
     return Measure(dict(table), columns, row.needs_detail or calls, row.read)
+
+
+def measure_of_words(said: str) -> Measure:
+    """The measure of jobs that words KEY=VALUE say. Its name is that of the thread where none is said, and its kind follows from its keys."""
+    table: Table = {}
+    for word in shlex.split(said):
+        key, equals, value = word.partition("=")
+        if not equals:
+            raise WrongMeasure(f"--jobs has words KEY=VALUE, and '{word}' is none")
+        table[key] = int(value) if value.isascii() and value.isdigit() else value
+    table.setdefault("kind", "periodic" if "period" in table else "response")
+    table.setdefault("name", table.get("thread", "jobs"))
+    return measure_of(table)
 
 
 def _check_value(name: str, key: str, value: object) -> None:

@@ -43,6 +43,7 @@ def words_of(words: list[str]) -> argparse.Namespace:
     parser = argparse.ArgumentParser(
         prog="pse52-sweep", allow_abbrev=False,
         description="Runs one script with many values, and writes a table SWEEP.csv with a line for each run.")
+    parser.add_argument("--version", action="version", version=f"pse52-sweep {(TOP / 'VERSION').read_text().strip()}")
     parser.add_argument("sweep", type=Path, metavar="SWEEP.toml")
     parser.add_argument("--jobs", type=int, default=os.cpu_count() or 1, metavar="N", help="runs at once, on each machine")
     parser.add_argument("--sshlogin", metavar="HOSTS", help="machines, as GNU parallel takes them; ':' is this one")

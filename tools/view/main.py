@@ -12,9 +12,13 @@ from enum import IntEnum
 from importlib import import_module
 from pathlib import Path
 
+from measure.jobs import NamesNothing
+from measure.measures import WrongMeasure, measure_of_words
+
 from .lines import NotATraceLine, Trace, read_trace
 from .progress import Progress
-from .source import NoSource, detail_of, horizon_of
+from .releases import mark_jobs
+from .source import TOP, NoSource, detail_of, horizon_of
 from .seen import timeline_of
 from .timeline import Timeline
 from .window import NoWindow, window
@@ -76,6 +80,7 @@ def _tick(word: str) -> str:
 def command_of(words: list[str]) -> argparse.Namespace:
     """What the words ask for. Raises Usage."""
     parser = _Parser(prog=TOOL, description=HELP, formatter_class=argparse.RawDescriptionHelpFormatter, allow_abbrev=False)
+    parser.add_argument("--version", action="version", version=f"{TOOL} {(TOP / 'VERSION').read_text().strip()}")
     parser.add_argument("format", choices=FORMATS, metavar="FORMAT")
     parser.add_argument("file", nargs="?", type=Path, metavar="FILE")
     parser.add_argument("--script", type=Path, metavar="FILE", help="a script to run, in place of FILE")
@@ -85,6 +90,8 @@ def command_of(words: list[str]) -> argparse.Namespace:
     parser.add_argument("--threads", type=lambda word: word.split(","), metavar="A,B", help="only these threads, in this order")
     parser.add_argument("--title", metavar="TEXT", help="a title; without it the name of the script")
     parser.add_argument("--tick", type=_tick, metavar="1us", help="how long a tick is; without it 1 ns in the formats that have no ticks")
+    parser.add_argument("--jobs", action="append", default=[], metavar="WORDS",
+                        help="mark releases and missed deadlines, as 'thread=lo period=20 deadline=15'; the words are those of pse52-measure")
     parser.add_argument("--lists", action="store_true", help="text and svg: also who stands on which list, head first")
     parser.add_argument("--width", type=_width, metavar="N", help="text and svg: columns or pixels")
     said = parser.parse_args(words)
@@ -147,7 +154,9 @@ def picture(said: argparse.Namespace, progress: Progress) -> str | bytes:
     """What is written."""
     trace, title = traced(said, progress)
     progress.say("putting the picture together")
-    seen: Timeline = window(timeline_of(trace), said.start, said.end, said.threads)
+    seen: Timeline = timeline_of(trace)
+    mark_jobs(seen, [measure_of_words(words) for words in said.jobs])
+    seen = window(seen, said.start, said.end, said.threads)
     seen.title, seen.tick = title if said.title is None else said.title, said.tick or ""
     if said.format in WITH_LISTS:
         return drawer(said.format)(seen, terminal_width(said.format, said.width), said.lists)
@@ -164,7 +173,7 @@ def main(words: list[str]) -> Status:
         return Status.DONE if ended.code == 0 else Status.USAGE
     except Usage as wrong:
         return _refused(progress, f"{wrong}; --help tells all", Status.USAGE)
-    except (NotATraceLine, NoSource, NoWindow) as wrong:
+    except (NotATraceLine, NoSource, NoWindow, NamesNothing, WrongMeasure) as wrong:
         return _refused(progress, str(wrong), Status.REFUSED)
     except OSError as error:
         return _refused(progress, f"{error.filename or 'the trace'} was not read: {error.strerror}", Status.READ_FAULT)

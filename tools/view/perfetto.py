@@ -74,9 +74,12 @@ class _Events:
         return f'{head},"cat":"{span.state.value}","cname":"{COLOURS[span.state]}","name":"{name}","args":{args}}}'
 
     def _instant(self, mark: Mark, number: int) -> str:
-        line = self._seen.trace.lines[mark.line]
+        line = mark.told(self._seen.trace.lines)
         what = line.split(" ")
-        name = " ".join([what[1], *what[3:5]]) if mark.kind in (MarkKind.RETURN, MarkKind.ERROR) else " ".join([what[1], *what[3:]])
+        if mark.sentence:
+            name = mark.kind.value
+        else:
+            name = " ".join([what[1], *(what[3:5] if mark.kind in (MarkKind.RETURN, MarkKind.ERROR) else what[3:])])
         return (f'{self._head("i", number, mark.time)},"s":"t","name":{json.dumps(name)},"cat":"{mark.kind.value}",'
                 f'"args":{{"line":{json.dumps(line)}}}}}')
 

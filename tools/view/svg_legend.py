@@ -11,7 +11,8 @@ from .timeline import MarkKind, State, Timeline
 WHAT: dict[MarkKind, str] = {
     MarkKind.START: "start", MarkKind.EXIT: "exit", MarkKind.RETURN: "a call returns 0",
     MarkKind.ERROR: "a call returns an error", MarkKind.CANCEL: "cancel", MarkKind.DELIVER: "a signal is delivered",
-    MarkKind.ACTIVATE: "activate", MarkKind.EXHAUST: "exhaust", MarkKind.PLAN: "plan", MarkKind.REFILL: "refill"}
+    MarkKind.ACTIVATE: "activate", MarkKind.EXHAUST: "exhaust", MarkKind.PLAN: "plan", MarkKind.REFILL: "refill",
+    MarkKind.RELEASE: "a job is released", MarkKind.LATE: "its deadline, missed"}
 MOST_COLOURS = 24
 LINE = 18
 

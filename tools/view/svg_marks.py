@@ -36,6 +36,11 @@ def shape(kind: MarkKind, x: float, y: float, r: float) -> tuple[str, dict[str, 
             return _ring(x, y, r), {"fill": "#ffffff", "stroke": BLUE, "stroke-width": "1.2"}
         case MarkKind.REFILL:
             return _ring(x, y, r), {"fill": BLUE}
+        case MarkKind.RELEASE:
+            return f"M{mx},{d}V{c}M{short(x - r * 0.7)},{short(y - r * 0.3)}L{mx},{c}L{short(x + r * 0.7)},{short(y - r * 0.3)}", {
+                "stroke": INK, "stroke-width": "1.1", "fill": "none"}
+        case MarkKind.LATE:
+            return f"M{mx},{d}V{c}L{short(x + 1.6 * r)},{short(y - r / 2)}L{mx},{my}", {"stroke": RED, "stroke-width": "1", "fill": RED}
         case MarkKind.ERROR:
             return f"M{mx},{c}V{d}", {"stroke": RED, "stroke-width": "2", "fill": "none"}
         case _:
@@ -48,7 +53,7 @@ def _ring(x: float, y: float, r: float) -> str:
 
 
 IN_THE_LANE = frozenset((MarkKind.PLAN, MarkKind.REFILL))
-LABELLED = frozenset((MarkKind.DELIVER, MarkKind.ERROR))
+LABELLED = frozenset((MarkKind.DELIVER, MarkKind.ERROR, MarkKind.LATE))
 
 
 @dataclass
@@ -124,11 +129,11 @@ def draw_marks(out: Writer, placed: Marks, lines: list[str], bar: float, high: f
             wide = r + 3 + len(group.label) * LETTER
             left = group.x + wide > right
             out.text(group.x + (-r - 2 if left else r + 2), y + 3, group.label, size=8.5, anchor="end" if left else "start",
-                     fill=RED if group.kind is MarkKind.ERROR else VIOLET)
+                     fill=VIOLET if group.kind is MarkKind.DELIVER else RED)
 
 
 def _title(marks: list[Mark], lines: list[str]) -> str:
-    shown = [lines[mark.line] for mark in marks[:MOST_TITLE_LINES]]
+    shown = [mark.told(lines) for mark in marks[:MOST_TITLE_LINES]]
     if len(marks) > MOST_TITLE_LINES:
         shown.append(f"and {len(marks) - MOST_TITLE_LINES} more, up to tick {marks[-1].time}")
     return "\n".join(shown)

@@ -18,7 +18,7 @@ MARKS: dict[MarkKind, tuple[str, str]] = {
     MarkKind.START: (">", "start"), MarkKind.EXIT: ("x", "exit"), MarkKind.CANCEL: ("c", "cancel"),
     MarkKind.DELIVER: ("s", "deliver"), MarkKind.ERROR: ("e", "an error is returned"),
     MarkKind.ACTIVATE: ("^", "activate"), MarkKind.EXHAUST: ("!", "exhaust"), MarkKind.PLAN: ("p", "plan"),
-    MarkKind.REFILL: ("+", "refill")}
+    MarkKind.REFILL: ("+", "refill"), MarkKind.RELEASE: ("r", "release of a job"), MarkKind.LATE: ("L", "a deadline is missed")}
 MANY = "&"
 # What stands where a thread does not run: its state, and of a wait what it is for.
 SIGNS: dict[tuple[State, str], tuple[str, str]] = {

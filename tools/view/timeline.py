@@ -36,6 +36,8 @@ class MarkKind(Kind):
     EXHAUST = "exhaust"
     PLAN = "plan"
     REFILL = "refill"
+    RELEASE = "release"
+    LATE = "late"
 
 
 @dataclass(slots=True)
@@ -63,12 +65,20 @@ class Span:
 
 @dataclass(slots=True)
 class Mark:
-    """An event of one thread: when, of which kind, a short label, and the number of its line, from 0."""
+    """An event of one thread: when, of which kind, a short label, and the number of its line, from 0.
+
+    The release of a job and the deadline that it missed have no line, and a sentence in its place.
+    """
 
     time: int
     kind: MarkKind
     label: str
     line: int
+    sentence: str = ""
+
+    def told(self, lines: list[str]) -> str:
+        """What a title says of it."""
+        return self.sentence or lines[self.line]
 
 
 @dataclass(slots=True)

@@ -11,10 +11,12 @@ from collections.abc import Iterator
 from .ftrace import FIRST_PID, Line, events_of
 from .perfetto import nanoseconds
 from .timeline import Timeline
+from .window import NoWindow
 
 PAGE, PAGE_HEAD = 4096, 16
-MOST_DELTA = 2**27 - 1
+MOST_DELTA, GREATEST_DELTA = 2**27 - 1, 2**59
 EXTENDS_TIME = 30
+GREATEST_TIME = 2**63
 HEADER_PAGE = """\
 \tfield: u64 timestamp;\toffset:0;\tsize:8;\tsigned:0;
 \tfield: local_t commit;\toffset:8;\tsize:8;\tsigned:1;
@@ -49,6 +51,8 @@ STATES = {"R": 0, "S": 1, "D": 2, "X": 16}
 
 
 def draw(timeline: Timeline) -> bytes:
+    if timeline.end * nanoseconds(timeline.tick) >= GREATEST_TIME:
+        raise NoWindow(f"a file of trace-cmd has times of less than {GREATEST_TIME} ns: --to ends the picture sooner, --tick makes a tick shorter")
     lines = events_of(timeline)
     pages = b"".join(_pages(lines, nanoseconds(timeline.tick)))
     tasks = "".join(f"{FIRST_PID + number} {thread.name[:15]}\n" for number, thread in enumerate(timeline.threads))
@@ -81,8 +85,8 @@ def _pages(lines: list[Line], factor: int) -> Iterator[bytes]:
     for line in lines:
         time, event = line.time * factor, _event(line)
         delta = time - last if page else 0
-        entry = (_extended(delta) if delta > MOST_DELTA else b"") + _entry(event, 0 if delta > MOST_DELTA else delta)
-        if page and PAGE_HEAD + len(page) + len(entry) > PAGE:
+        entry = _extended(delta) + _entry(event, 0) if delta > MOST_DELTA else _entry(event, delta)
+        if page and (PAGE_HEAD + len(page) + len(entry) > PAGE or delta >= GREATEST_DELTA):
             yield _page(start, page)
             page, entry = b"", _entry(event, 0)
         if not page:
@@ -102,7 +106,7 @@ def _entry(event: bytes, delta: int) -> bytes:
 
 def _extended(delta: int) -> bytes:
     """What stands before an event that comes too long behind the one before."""
-    return struct.pack("<II", EXTENDS_TIME | (delta & MOST_DELTA) << 5, delta >> 27)
+    return struct.pack("<II", EXTENDS_TIME | (delta & MOST_DELTA) << 5, delta >> 27 & 0xFFFFFFFF)
 
 
 def _event(line: Line) -> bytes:

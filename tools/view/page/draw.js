@@ -13,6 +13,8 @@ const SHAPES = {
   activate: ["#2b7bd0", [[0, -1], [1, 1], [-1, 1]], "activate"], exhaust: ["#d93a3a", [[-1, -1], [1, -1], [0, 1]], "exhaust"],
   deliver: ["#8b4fc2", [[0, -1], [1, 0], [0, 1], [-1, 0]], "a signal is delivered"], cancel: ["#d93a3a", [[-1, -1], [0, -0.3], [1, -1], [0.3, 0], [1, 1], [0, 0.3], [-1, 1], [-0.3, 0]], "cancel"],
   error: ["#d93a3a", [[-0.3, -1], [0.3, -1], [0.3, 1], [-0.3, 1]], "a call returns an error"],
+  release: ["#808a9c", [[-0.15, 1], [-0.15, -0.2], [-0.8, -0.2], [0, -1], [0.8, -0.2], [0.15, -0.2], [0.15, 1]], "a job is released"],
+  late: ["#d93a3a", [[0, 1], [0, -1], [1.6, -0.5], [0.2, 0], [0.2, 1]], "its deadline, missed"],
 };
 const levels = data.threads.map((thread) => {
   let most = 1, point = -1, count = 0;
@@ -200,7 +202,7 @@ function drawMarks(thread, bar) {
     pen.fillStyle = colour; pen.beginPath();
     corners.forEach(([dx, dy], n) => pen[n ? "lineTo" : "moveTo"](x + dx * r, y + dy * r));
     pen.closePath(); pen.fill();
-    if ((kind === "deliver" || kind === "error") && x + r > (labelFree[level] || -99) && sizes.marks >= 12) {
+    if ((kind === "deliver" || kind === "error" || kind === "late") && x + r > (labelFree[level] || -99) && sizes.marks >= 12) {
       const wide = r + 3 + text.length * 6, inside = x + wide < width;
       write(text, inside ? x + r + 2 : x - r - 2, y + 3, 9, colour, inside ? "left" : "right");
       labelFree[level] = x + wide;

@@ -6,8 +6,10 @@ import sys
 import unittest
 import xml.etree.ElementTree as ElementTree
 
+from measure.measures import measure_of_words
 from view.lines import read_trace
 from view.main import FORMATS, drawer
+from view.releases import mark_jobs
 from view.seen import timeline_of
 from view.timeline import Span, State, Timeline
 from view.window import NoWindow, window
@@ -196,6 +198,18 @@ class Pictures(unittest.TestCase):
         for start, end, names in ((60, 40, None), (None, None, ["nobody"]), (500, None, None)):
             with self.assertRaises(NoWindow):
                 window(whole, start, end, names)
+
+    def test_releases_and_missed_deadlines(self) -> None:
+        """hog takes 12 of 20 ticks, lo needs 13: its jobs of 0, 20 and 40 are late, and the picture marks their deadlines at 20, 40, 60."""
+        job = "forever\nrun 10\nadd 20\nclock_nanosleep reg\nend\nend\n"
+        seen = seen_of(detail_of(f"thread hog fifo 50 at 0\nset 0\n{job}thread lo fifo 10 at 0\nset 0\n{job}".encode(), 80))
+        mark_jobs(seen, [measure_of_words("thread=lo period=20"), measure_of_words("thread=hog period=20")])
+        marks = {thread.name: [(mark.time, mark.kind.value) for mark in thread.marks if mark.sentence] for thread in seen.threads}
+        self.assertEqual(marks["hog"], [(0, "release"), (20, "release"), (40, "release"), (60, "release")])
+        self.assertEqual(marks["lo"], [(0, "release"), (20, "late"), (20, "release"), (40, "late"), (40, "release"), (60, "late"), (60, "release")])
+        for name in FORMATS:
+            self.assertTrue(drawer(name)(seen), name)
+        self.assertIn("the deadline of job 0: job 0 is released at 0; done at 34, 34 ticks", drawer("svg")(seen))
 
     def test_lists(self) -> None:
         titles = [rect.find(f"{SVG}title").text for rect in self.svg("01_fifo", lists=True).iter(f"{SVG}rect") if rect.get("class") == "list"]
