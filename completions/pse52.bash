@@ -15,7 +15,7 @@ _pse52() {
 }
 _pse52_view() {
     local word=${COMP_WORDS[COMP_CWORD]}
-    local options='--script --horizon --from --to --threads --title --tick --lists --width --help'
+    local options='--script --horizon --from --to --threads --title --tick --jobs --lists --width --version --help'
     if [[ $word == -* ]]; then
         mapfile -t COMPREPLY < <(compgen -W "$options" -- "$word")
     elif [ "$COMP_CWORD" -eq 1 ]; then
@@ -27,14 +27,14 @@ _pse52_view() {
 _pse52_measure() {
     local word=${COMP_WORDS[COMP_CWORD]}
     case $word in
-        -*) mapfile -t COMPREPLY < <(compgen -W '--script --horizon --jobs --measures --csv --rta --help' -- "$word") ;;
+        -*) mapfile -t COMPREPLY < <(compgen -W '--script --horizon --jobs --measures --csv --rta --version --help' -- "$word") ;;
         *) mapfile -t COMPREPLY < <(compgen -f -- "$word") ;;
     esac
 }
 _pse52_sweep() {
     local word=${COMP_WORDS[COMP_CWORD]}
     case $word in
-        -*) mapfile -t COMPREPLY < <(compgen -W '--jobs --sshlogin --output --by --plot --over --program --engine --anew --help' -- "$word") ;;
+        -*) mapfile -t COMPREPLY < <(compgen -W '--jobs --sshlogin --output --by --columns --plot --over --program --engine --anew --help' -- "$word") ;;
         *) mapfile -t COMPREPLY < <(compgen -f -X '!*.toml' -- "$word"; compgen -d -- "$word") ;;
     esac
 }
