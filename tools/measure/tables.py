@@ -11,9 +11,6 @@ from .measures import Measure, job_figures, jobs_of, shown
 from .seen import Seen
 from .usage import at_priorities, capacity_of, is_server, ready_ticks, stops_of, ticks_of, waits_of
 
-CALL = "call"
-
-
 @dataclass
 class Table:
     """A table: its name, the names of the columns, how many of them say what the row is of, and the rows."""
@@ -61,7 +58,7 @@ def threads_table(seen: Seen) -> Table:
 
 
 def waits_table(seen: Seen) -> Table:
-    table = Table("waits", ["thread", CALL, "for", "times", "ticks", "longest", "open"], 3)
+    table = Table("waits", ["thread", "call", "for", "times", "ticks", "longest", "open"], 3)
     for name in seen.closing:
         for wait in waits_of(seen, name):
             table.rows.append([name, wait.call, wait.on, str(wait.times), str(wait.ticks), str(wait.longest), str(int(wait.open))])

@@ -12,6 +12,8 @@ TOP = Path(__file__).resolve().parents[2]
 REFERENCE = TOP / "tools" / "reference" / "simulate.py"
 RESPONSE_TIMES = TOP / "tools" / "reference" / "response_times.py"
 USAGE, REFUSED = 1, 2
+# The reference takes one tick after another: what it would be asked for beyond that takes minutes.
+MOST_TICKS = 10_000_000
 HORIZON = re.compile(rb"\s*#\s*horizon (\d+)\b")
 
 
@@ -51,6 +53,8 @@ def answer(words: list[str], source: bytes, reference: Path, tool: str) -> bytes
     if len(asked) == 1:
         _tell(f"{tool}: no proved program is here, so the reference answers")
     for number, program in enumerate(asked):
+        if number + 1 == len(asked) and words[0] == "detail" and int(words[1]) > MOST_TICKS:
+            raise NoSource(f"the reference takes a tick at a time, and {words[1]} ticks would take it too long; --horizon {MOST_TICKS} is the most")
         try:
             ended = subprocess.run([*program, *words], input=source, capture_output=True, check=False)
         except OSError as error:
