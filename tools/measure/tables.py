@@ -11,6 +11,7 @@ from .measures import Measure, job_figures, jobs_of, shown
 from .seen import Seen
 from .usage import at_priorities, capacity_of, is_server, ready_ticks, stops_of, ticks_of, waits_of
 
+
 @dataclass
 class Table:
     """A table: its name, the names of the columns, how many of them say what the row is of, and the rows."""
