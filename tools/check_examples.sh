@@ -1,6 +1,7 @@
 #!/usr/bin/env bash
-# Runs each example of examples/ and examples/real/, and each worked example of tests/worked/, to its horizon, and compares what is
-# printed with the text beside it. The program is built without a second proof: the gate has proved it before.
+# Runs each example of examples/ and examples/real/, and each worked example of tests/worked/, to its horizon or by its command, and
+# compares what is printed with the text beside it; those of show and detail wait for the program to have these commands. The program is
+# built without a second proof: the gate has proved it before.
 # Before all that, and without a build, each trace and picture of examples/ is compared with what tools/reference makes of its script.
 set -u
 cd "$(dirname "$0")/.." || exit 1
@@ -20,11 +21,13 @@ out=$(mktemp -d) || exit 1
 trap 'rm -rf "$cases" "$out"' EXIT
 count=0
 
-# A case: its name, its script, its horizon and, where it is known before, what must be printed.
+# A case: its name, its standard input, what must be printed where that is known before, or nothing, and the words of its command.
 add_case() {
-    cp "$2" "$cases/$1"
-    printf 'run\n%s\n' "$3" >"$cases/$1.args"
-    [ -z "${4:-}" ] || cp "$4" "$cases/$1.stdout"
+    local name=$1 input=$2 printed=$3
+    shift 3
+    cp "$input" "$cases/$name"
+    printf '%s\n' "$@" >"$cases/$name.args"
+    [ -z "$printed" ] || cp "$printed" "$cases/$name.stdout"
     count=$((count + 1))
 }
 
@@ -40,22 +43,27 @@ for task in examples/*.task; do
         echo "example $name: no horizon and stage in its first line, or no trace beside it"
         exit 1
     fi
-    add_case "example_$name" "$task" "$horizon"
+    add_case "example_$name" "$task" '' run "$horizon"
 done
 
 for task in examples/real/*.task; do
     name=$(basename "$task" .task)
-    add_case "real_$name" "$task" "$(sed -n '1s/^# horizon \([0-9]*\).*/\1/p' "$task")" "examples/real/$name.trace"
+    add_case "real_$name" "$task" "examples/real/$name.trace" run "$(sed -n '1s/^# horizon \([0-9]*\).*/\1/p' "$task")"
 done
 
 while read -r name _; do
     worked=tests/worked/$name
+    [ ! -e "$worked.upgrade" ] || add_case "worked_$name" "$worked.task" "$worked.upgrade" upgrade
     [ -e "$worked.horizon" ] || continue
     horizon=$(cat "$worked.horizon")
     for text in "$worked.trace" "$worked.refused"; do
-        [ ! -e "$text" ] || add_case "worked_$name" "$worked.task" "$horizon" "$text"
+        [ ! -e "$text" ] || add_case "worked_$name" "$worked.task" "$text" run "$horizon"
     done
 done < <(grep -v '^#' tests/worked/INDEX.txt)
+
+while read -r name _; do
+    add_case "worked_$name" "tests/worked/$name.audit" "tests/worked/$name.verdict" audit
+done < <(grep -v '^#' tests/worked/AUDITS.txt)
 
 (cd crates/pse52 && rt try --cases "$cases") >"$out/printed" 2>"$out/log"
 status=$?

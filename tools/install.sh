@@ -20,14 +20,12 @@ commands=$(cd bin && echo *)
 
 if [ -n "$remove" ]; then
     for command in $commands; do
-        rm -f "$root/bin/$command"
+        rm -f "$root/bin/$command" "$root/share/bash-completion/completions/$command"
     done
     for page in docs/*.1; do
         rm -f "$root/share/man/man1/${page#docs/}"
     done
-    rm -f "$root/share/bash-completion/completions/pse52" "$root/share/bash-completion/completions/pse52-view" \
-        "$root/share/bash-completion/completions/pse52-sweep" "$root/share/zsh/site-functions/_pse52" \
-        "$root/share/fish/vendor_completions.d/pse52.fish"
+    rm -f "$root/share/zsh/site-functions/_pse52" "$root/share/fish/vendor_completions.d/pse52.fish"
     rm -rf "$lib" "$doc"
     exit 0
 fi
@@ -64,9 +62,10 @@ done
 install -m 644 docs/*.1 "$root/share/man/man1/"
 install -m 644 README.md LICENSE LICENSE-MIT LICENSE-APACHE NOTICE CHANGELOG.md docs/*.md "$doc/"
 install -m 644 crates/raw_links/LICENSE-circular-buffer "$doc/"
-mkdir -p "$doc/examples"
+mkdir -p "$doc/examples/real"
 install -m 644 examples/*.task examples/*.rta "$doc/examples/"
-for command in pse52 pse52-view pse52-sweep; do
+install -m 644 examples/real/*.task "$doc/examples/real/"
+for command in $commands; do
     install -m 644 completions/pse52.bash "$root/share/bash-completion/completions/$command"
 done
 install -m 644 completions/_pse52 "$root/share/zsh/site-functions/_pse52"

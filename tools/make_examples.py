@@ -4,14 +4,14 @@
     python3 tools/make_examples.py           writes examples/NAME.trace, examples/NAME.svg and examples/README.md
     python3 tools/make_examples.py --check   changes nothing; says what differs, and ends with 1 where something does
 
-The traces come from tools/reference, which needs no build. tools/check_examples.sh holds the built program against them.
-The first line of an example is `# horizon N, stage STAGE. TITLE.`, where the stage is the first whose forms it keeps to.
+The traces and the details of which the pictures are made come from tools/reference, which needs no build.
+tools/check_examples.sh holds the built program against them. The first line of an example is `# horizon N, stage STAGE. TITLE.`,
+where the stage is the first whose forms it keeps to; the second is `# Look at SENTENCE`, and the lines behind it are its comment.
 """
 from __future__ import annotations
 
 import re
 import sys
-import textwrap
 from collections.abc import Iterator
 from dataclasses import dataclass
 from itertools import takewhile
@@ -25,26 +25,26 @@ from forms import Stage  # noqa: E402
 from simulate import Status, answer  # noqa: E402
 from view.lines import read_trace  # noqa: E402
 from view.svg import draw  # noqa: E402
-from view.timeline import timeline_of  # noqa: E402
+from view.seen import timeline_of  # noqa: E402
 
-FIRST = ("one_thread", "loops_and_tests", "yield", "preemption")
 HEAD = re.compile(r"# horizon (\d+), stage ([a-z]+)\. (.*)")
+FIRST = ("one_thread", "loops_and_tests", "preemption", "yield")
+LOOK = re.compile(r"# (Look at .*)")
 
 GALLERY = """\
 # Examples
 
-Each example is a script, `NAME.task`, with its trace, `NAME.trace`, and its picture. The text beside it says what to look for, at
-which tick, and which rule of IEEE 1003.1-2017 says so. In this order they make a short course on realtime scheduling.
+Each example is a script with its trace and its picture. In this order they make a short course on realtime scheduling. Under
+each picture stands what the script's comment says of it, tick by tick, with the section of IEEE 1003.1-2017 that has the rule.
 
-To run one and to look at it:
+To look at one, in a terminal and in a page to zoom and step through:
 
 ```
-bin/pse52 run 26 examples/04_inversion.task
-bin/pse52 run 26 examples/04_inversion.task | bin/pse52-view text
+bin/pse52-view text examples/04_inversion.task
+bin/pse52-view html examples/04_inversion.task > inversion.html
 ```
 
-The independent reference runs each of them too: `python3 tools/reference/simulate.py run 26 < examples/04_inversion.task`. The first
-line of a script names the horizon, and the part of the language that it needs.
+Or without the program, by the independent reference: `python3 tools/reference/simulate.py run 26 < examples/04_inversion.task`.
 
 `examples/sweeps` has a script that is run with many values; docs/SWEEP.md is its page.
 
@@ -59,13 +59,17 @@ class Example:
     horizon: int
     stage: str
     title: str
+    look: str
     script: bytes
 
-    def comment(self) -> str:
-        """What the script's comment says behind its first line, as lines of the page."""
-        lines = self.script.decode().splitlines()[1:]
-        said = [line[1:].strip() for line in takewhile(lambda line: line.startswith("#"), lines)]
-        return textwrap.fill(" ".join(said), 128, break_long_words=False, break_on_hyphens=False)
+    @property
+    def comment(self) -> list[str]:
+        """The comment behind the first two lines."""
+        lines = self.script.decode().splitlines()[2:]
+        return [line[2:] for line in takewhile(lambda line: line.startswith("# "), lines)]
+
+    def detail(self) -> bytes:
+        return answer(self.script, self.horizon, command="detail")[1]
 
     def trace(self) -> bytes:
         status, text = answer(self.script, self.horizon, checked=True)
@@ -77,28 +81,34 @@ class Example:
         return text
 
 
-def place(path: Path) -> tuple[int, str]:
-    """Where an example stands: those by which a reader begins, in their order, and then the course."""
-    return (FIRST.index(path.stem) if path.stem in FIRST else len(FIRST)), path.name
-
-
 def examples() -> Iterator[Example]:
-    for path in sorted(FOLDER.glob("*.task"), key=place):
-        script = path.read_bytes()
-        head = HEAD.fullmatch(script.decode().splitlines()[0])
-        if head is None:
-            raise SystemExit(f"{path.name}: the first line is not '# horizon N, stage STAGE. TITLE.'")
-        yield Example(path.stem, int(head[1]), head[2], head[3], script)
+    """Those by which a reader begins, and then the course."""
+    paths = {path.stem: path for path in sorted(FOLDER.glob("*.task"))}
+    for name in [*FIRST, *(name for name in paths if name not in FIRST)]:
+        script = paths[name].read_bytes()
+        lines = script.decode().splitlines()
+        head, look = HEAD.fullmatch(lines[0]), LOOK.fullmatch(lines[1])
+        if head is None or look is None:
+            raise SystemExit(f"{name}: the first lines are not '# horizon N, stage STAGE. TITLE.' and '# Look at SENTENCE'")
+        yield Example(name, int(head[1]), head[2], head[3], look[1], script)
 
 
 def gallery(shown: list[Example]) -> str:
     parts = [GALLERY]
     for example in shown:
         name = example.name
-        comment = example.comment()
-        parts.append(f"## {name}\n\n{example.title} `run {example.horizon}`: [script]({name}.task), [trace]({name}.trace)\n\n"
-                     + (f"{comment}\n\n" if comment else "") + f"![{name}]({name}.svg)\n\n")
+        parts.append(f"## {name}: {example.title}\n\n**{example.look}**\n\n![{name}]({name}.svg)\n\n")
+        if example.comment:
+            parts.append("```\n" + "\n".join(example.comment) + "\n```\n\n")
+        parts.append(f"`run {example.horizon}`: [script]({name}.task), [trace]({name}.trace)\n\n")
     return "".join(parts).rstrip("\n") + "\n"
+
+
+def picture(example: Example) -> bytes:
+    """The picture of an example, by its detail and with its title."""
+    seen = timeline_of(read_trace(example.detail().splitlines(keepends=True)))
+    seen.title = example.name
+    return draw(seen).encode()
 
 
 def made() -> Iterator[tuple[Path, bytes]]:
@@ -107,7 +117,7 @@ def made() -> Iterator[tuple[Path, bytes]]:
     for example in shown:
         trace = example.trace()
         yield FOLDER / f"{example.name}.trace", trace
-        yield FOLDER / f"{example.name}.svg", draw(timeline_of(read_trace(trace.splitlines(keepends=True)))).encode()
+        yield FOLDER / f"{example.name}.svg", picture(example)
     yield FOLDER / "README.md", gallery(shown).encode()
 
 

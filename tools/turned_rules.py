@@ -1,7 +1,7 @@
 #!/usr/bin/env python3
 """Shows that no rule of the machine can change unnoticed: turns one rule of tools/reference at a time, and runs a worked example.
 
-    python3 tools/turned_rules.py          each turned rule, and the example of tests/worked whose trace must differ
+    python3 tools/turned_rules.py          each turned rule, and the example of tests/worked whose text must differ
     python3 tools/turned_rules.py --all    beside each turned rule every example that differs
     python3 tools/turned_rules.py WORD..   only the rules whose title has each of the words
 
@@ -22,11 +22,13 @@ REFERENCE = TOP / "tools" / "reference"
 WORKED = TOP / "tests" / "worked"
 SLOW = ("chain_of_sixty_three_owners", "sixty_four_threads_start_together", "lock_counted_to_its_limit")
 FARTHEST = 1_000_000
+COMMANDS = {"trace": "run", "refused": "run", "show": "show", "detail": "detail", "upgrade": "upgrade"}
+"""What the text of each suffix is printed by."""
 sys.path[:0] = [str(TOP / "tools")]
 
 from turned import RULES, Turned  # noqa: E402
 
-Answer = Callable[[bytes, int], tuple[int, bytes]]
+Answer = Callable[..., tuple[int, bytes]]
 
 
 class Misfit(Exception):
@@ -69,7 +71,7 @@ class Reference:
         exec(self.code(module.__name__, self.rule), module.__dict__)
 
     def answer_of(self, rule: Turned) -> Answer:
-        """`pse52 run N` of the reference with this rule turned."""
+        """The commands of the reference with this rule turned."""
         turned_source(REFERENCE / rule.file, rule)
         self.rule = rule
         for name in self.names:
@@ -82,12 +84,14 @@ class Reference:
 
 
 def noticed(answer: Answer, name: str) -> bool:
-    """Whether the run of the example prints another text than stands beside it."""
+    """Whether the command of the example prints another text than stands beside it."""
     path = WORKED / name
-    _, have = answer(path.with_suffix(".task").read_bytes(), int(path.with_suffix(".horizon").read_text()))
+    script = path.with_suffix(".task").read_bytes()
+    horizon = int(path.with_suffix(".horizon").read_text()) if path.with_suffix(".horizon").exists() else 0
     if path.with_suffix(".has").exists():
-        return not set(path.with_suffix(".has").read_bytes().splitlines()) <= set(have.splitlines())
-    return have != path.with_suffix(".trace").read_bytes()
+        return not set(path.with_suffix(".has").read_bytes().splitlines()) <= set(answer(script, horizon)[1].splitlines())
+    form = next(form for form in COMMANDS if path.with_suffix(f".{form}").exists())
+    return answer(script, horizon, command=COMMANDS[form])[1] != path.with_suffix(f".{form}").read_bytes()
 
 
 def examples() -> list[str]:

@@ -1,9 +1,11 @@
 """Runs a built program and the reference over generated scripts, and compares bytes and exit status.
 
-    python3 tools/reference/compare.py PROGRAM [--stage STAGE] [--first N] [--count N]
+    python3 tools/reference/compare.py PROGRAM [--stage STAGE] [--first N] [--count N] [--command WORD]
                                        [--refused | --load] [--jobs N] [--keep FOLDER]
 
-PROGRAM is a command line that takes `run N` and a script on standard input.
+PROGRAM is a command line that takes `run N`, or the WORD `show`, `detail` or `upgrade`
+in its place, and a script on standard input; `show` is asked for one instant up
+to the horizon.
 Prints each difference and a last line 'N compared, M differ'. Exit status 1
 where something differs. With --keep the scripts that differ are kept. With
 --load the commands `gen S` and `soak S N` are compared instead, for each S.
@@ -21,28 +23,35 @@ from dataclasses import dataclass
 import generate
 import load
 from forms import Stage
-from simulate import answer
+from simulate import COMMANDS, answer
 
 SECONDS = 120
 
 
 @dataclass(frozen=True)
 class Task:
-    """What to run, with which words, and the reference's stage."""
+    """What to run, with which command, and the reference's stage."""
 
     program: tuple[str, ...]
     stage: Stage
     refused: bool
+    command: str
 
     def script(self, seed: int) -> tuple[bytes, int]:
+        """A script, and the number of the command."""
         if self.refused:
             return generate.refused(seed, self.stage), 1
-        return generate.accepted(seed, self.stage)
+        text, horizon = generate.accepted(seed, self.stage)
+        return text, seed % (horizon + 1) if self.command == "show" else horizon
+
+    def answer(self, text: bytes, horizon: int) -> tuple[int, bytes]:
+        return answer(text, horizon, self.stage, command=self.command)
 
     def difference(self, seed: int) -> str | None:
         """One line on how the program differs from the reference, or None."""
         text, horizon = self.script(seed)
-        found = answer_differs(self.program, ["run", str(horizon)], text, answer(text, horizon, self.stage))
+        words = [self.command] if self.command == "upgrade" else [self.command, str(horizon)]
+        found = answer_differs(self.program, words, text, self.answer(text, horizon))
         return None if found is None else f"seed {seed} horizon {horizon} {found}"
 
 
@@ -90,7 +99,8 @@ def keep(folder: str, task: Task, seed: int) -> None:
     text, horizon = task.script(seed)
     (path / f"{seed}.task").write_bytes(text)
     (path / f"{seed}.horizon").write_text(f"{horizon}\n")
-    (path / f"{seed}.{'refused' if task.refused else 'trace'}").write_bytes(answer(text, horizon, task.stage)[1])
+    form = "refused" if task.refused else "trace" if task.command == "run" else task.command
+    (path / f"{seed}.{form}").write_bytes(task.answer(text, horizon)[1])
 
 
 def main() -> int:
@@ -99,13 +109,14 @@ def main() -> int:
     parser.add_argument("--stage", default="whole")
     parser.add_argument("--first", type=int, default=0)
     parser.add_argument("--count", type=int, default=500)
+    parser.add_argument("--command", choices=tuple(COMMANDS), default="run")
     parser.add_argument("--refused", action="store_true")
     parser.add_argument("--load", action="store_true")
     parser.add_argument("--jobs", type=int, default=1)
     parser.add_argument("--keep")
     arguments = parser.parse_args()
     program = tuple(shlex.split(arguments.program))
-    script = Task(program, Stage.named(arguments.stage), arguments.refused)
+    script = Task(program, Stage.named(arguments.stage), arguments.refused, arguments.command)
     task = Load(program) if arguments.load else script
     seeds = range(arguments.first, arguments.first + arguments.count)
     differ = 0

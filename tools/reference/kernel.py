@@ -32,6 +32,7 @@ class Kernel:
         self.handlers = [named.kind.body for named in script.objects(ObjectKind.HANDLER)]
         self.cleanups = [named.kind.body for named in script.objects(ObjectKind.CLEANUP)]
         self.mutexes = [Mutex(named.kind) for named in script.objects(ObjectKind.MUTEX)]
+        self.protecting = [mutex for mutex in self.mutexes if mutex.kind.ceiling is not None]
         self.sems = [named.kind.value for named in script.objects(ObjectKind.SEM)]
         self.queues = [Queue(named.kind) for named in script.objects(ObjectKind.QUEUE)]
         self.timers = [Timer(named.kind) for named in script.objects(ObjectKind.TIMER)]
@@ -52,7 +53,7 @@ class Kernel:
     # Priorities
 
     def assigned(self, thread: Thread) -> int:
-        """The priority of the thread itself: for a sporadic one high or low, by its server."""
+        """The priority of the thread itself: for one with a server high or low, by that."""
         if not isinstance(thread.policy, Sporadic):
             return thread.policy.priority
         if thread.is_live and thread.server.is_high:
@@ -61,8 +62,7 @@ class Kernel:
 
     def base(self, thread: Thread) -> int:
         """The greatest of the assigned priority and the ceilings of the mutexes that the thread owns."""
-        ceilings = [mutex.kind.ceiling for mutex in self.mutexes
-                    if mutex.owner == thread.number and mutex.kind.ceiling is not None]
+        ceilings = [mutex.kind.ceiling for mutex in self.protecting if mutex.owner == thread.number]
         return max([self.assigned(thread), *ceilings])
 
     def exec(self, thread: Thread) -> int:
@@ -71,11 +71,12 @@ class Kernel:
 
     def exec_priorities(self) -> list[int]:
         """Of each thread the greatest base of itself and of all that wait, along inherit mutexes, for it."""
-        found = [0] * len(self.threads)
+        bases = [self.base(thread) for thread in self.threads]
+        found = list(bases)
         for thread in self.threads:
-            base = self.base(thread)
-            for number in self.lends_to(thread):
-                found[number] = max(found[number], base)
+            if thread.wait is not None:
+                for number in self.lends_to(thread):
+                    found[number] = max(found[number], bases[thread.number])
         return found
 
     def lends_to(self, thread: Thread) -> list[int]:
@@ -109,12 +110,12 @@ class Kernel:
             self.direct.remove(thread.number)
         self.direct.append(thread.number)
 
-    def settle(self, before: Snapshot) -> None:
+    def settle(self, before: Snapshot) -> Snapshot:
         """Carries out the moves of what happened since `before`: direct ones, then those whose priority changed."""
         after = self.snapshot()
         if after == before and not self.direct:
-            return
-        for members in self.lists.values():
+            return after
+        for members in filter(None, self.lists.values()):
             members[:] = [number for number in members if after[number][0]]
         direct = [number for number in self.direct if after[number][0]]
         for number in direct:
@@ -125,6 +126,7 @@ class Kernel:
                 self.take_from_lists(number)
                 self.lists[new].insert(len(self.lists[new]) if new > old else 0, number)
         self.direct = []
+        return after
 
     def take_from_lists(self, number: int) -> None:
         for members in self.lists.values():
@@ -164,13 +166,13 @@ class Kernel:
         call = thread.wait.call
         self.make_ready(thread)
         self.returns(thread, call, res, value)
-        self.activate_woken(thread)
+        self.activate_ready(thread)
 
     def wake_cancelled(self, thread: Thread) -> None:
         """A blocked thread becomes runnable and begins to end."""
         self.make_ready(thread)
         self.begin_ending(thread)
-        self.activate_woken(thread)
+        self.activate_ready(thread)
 
     def make_ready(self, thread: Thread) -> None:
         thread.state = ThreadState.READY
@@ -178,8 +180,9 @@ class Kernel:
         thread.slice = 0
         self.move_later(thread)
 
-    def activate_woken(self, thread: Thread) -> None:
-        if thread.server is not None and thread.server.is_high:
+    def activate_ready(self, thread: Thread) -> None:
+        """A sporadic server whose thread is ready at high priority is activated; a strict one is when its thread runs."""
+        if thread.server is not None and thread.server.is_high and not thread.server.is_strict:
             self.activate(thread)
 
     def activate(self, thread: Thread) -> None:
@@ -227,7 +230,7 @@ class Kernel:
         return thread.frame.register if operand.number is None else operand.number
 
     def start(self, thread: Thread, mask: int) -> None:
-        """A dormant thread begins with its main frame and, where it is sporadic, a new server."""
+        """A dormant thread begins with its main frame and, where its policy has one, a new server."""
         thread.state = ThreadState.READY
         thread.start = None
         thread.slice = 0
@@ -237,7 +240,7 @@ class Kernel:
         self.emit("start", thread.name)
         if isinstance(thread.policy, Sporadic):
             thread.server = Server(thread.policy, self.time)
-            self.activate(thread)
+            self.activate_ready(thread)
 
     def cancel_acts(self, thread: Thread) -> bool:
         """Whether a request would act in this thread at a cancellation point."""
@@ -262,7 +265,7 @@ class Kernel:
             self.wake(joiner, Res.ZERO, thread.exit_value)
 
     def set_priority(self, thread: Thread, priority: int) -> None:
-        """A new priority for the thread; for a sporadic one it is the high one, and its server goes on."""
+        """A new priority for the thread; for one with a server it is the high one, and its server goes on."""
         match thread.policy:
             case Fifo():
                 thread.policy = Fifo(priority)

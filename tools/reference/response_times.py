@@ -11,7 +11,8 @@ from collections.abc import Iterator
 from dataclasses import dataclass
 from enum import IntEnum
 
-from reader import FaultKind, has_bad_byte, is_name, is_number, lines_of, number_of, words_of
+from reader import FaultKind
+from words import has_bad_byte, is_name, is_number, lines_of, number_of, words_of
 from simulate import Status
 
 GREATEST_TEXT = 67_108_864

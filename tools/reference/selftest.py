@@ -4,9 +4,12 @@
 
 Each example NAME of tests/worked has NAME.task and one of: NAME.trace, the
 whole text of its run; NAME.has, lines that its run has; NAME.refused, the line
-of its fault; NAME.canonical, its canonical text. NAME.horizon is the horizon.
+of its fault; NAME.show and NAME.detail, the whole text of that command;
+NAME.canonical, its canonical text; NAME.upgrade, that of the script of version 2. NAME.horizon is the number of the command.
 Examples whose horizon is too far for a machine that ticks are passed over. Where
 the horizon is at most 10,000 each state of the run is checked too.
+Each example of AUDITS.txt is an input of `audit`, NAME.audit, and its answer, NAME.verdict.
+The facts of some generated scripts are held against their traces (check_facts.py).
 With --generated, N generated scripts of each stage run with all checks on, and
 their canonical texts are read again. Exit status 1 where something differs.
 """
@@ -16,15 +19,18 @@ import argparse
 import pathlib
 import sys
 
+import check_facts
 import generate
+from audits import audit
 from forms import Stage
 from reader import read
 from script import canonical_text
-from simulate import Status, answer, horizon_of
+from simulate import Status, answer, command_of
 
 WORKED = pathlib.Path(__file__).resolve().parents[2] / "tests" / "worked"
 FARTHEST = 1_000_000
 CHECKED = 10_000
+FACTS_OF = 40
 
 
 def examples() -> list[tuple[str, Stage]]:
@@ -42,15 +48,19 @@ def difference(name: str, stage: Stage) -> str | None:
         script, fault = read(text, stage)
         have = f"{fault}" if script is None else canonical_text(script)
         return None if have == path.with_suffix(".canonical").read_text() else have
+    if path.with_suffix(".upgrade").exists():
+        have = answer(text, 0, stage, command="upgrade")[1].decode()
+        return None if have == path.with_suffix(".upgrade").read_text() else have
     horizon = int(path.with_suffix(".horizon").read_text())
     if horizon > FARTHEST:
         return None
-    status, have_bytes = answer(text, horizon, stage, checked=horizon <= CHECKED)
+    command = next((word for word in ("show", "detail") if path.with_suffix(f".{word}").exists()), "run")
+    status, have_bytes = answer(text, horizon, stage, horizon <= CHECKED, command)
     if path.with_suffix(".has").exists():
         wanted = path.with_suffix(".has").read_bytes().splitlines()
         return None if set(wanted) <= set(have_bytes.splitlines()) else have_bytes.decode()
     is_refused = path.with_suffix(".refused").exists()
-    want = path.with_suffix(".refused" if is_refused else ".trace").read_bytes()
+    want = path.with_suffix(".refused" if is_refused else ".trace" if command == "run" else f".{command}").read_bytes()
     agrees = have_bytes == want and status is (Status.REFUSED if is_refused else Status.DONE)
     return None if agrees else have_bytes.decode()
 
@@ -68,7 +78,8 @@ def large_texts() -> list[tuple[str, bytes, Status, bytes]]:
 
 
 def no_commands() -> list[list[str]]:
-    return [[], ["run"], ["run", "1x"], ["run", "1000000000000000001"], ["run", "1", "2"], ["walk", "1"], ["--help"]]
+    return [[], ["run"], ["run", "1x"], ["run", "1000000000000000001"], ["run", "1", "2"], ["walk", "1"], ["--help"],
+            ["show"], ["detail", "1", "2"], ["upgrade", "1"], ["show", "1000000000000000001"], ["detail", "-1"]]
 
 
 def generated_differ(count: int) -> int:
@@ -82,6 +93,25 @@ def generated_differ(count: int) -> int:
             again, _ = read(canonical.encode(), max(stage, Stage.LANGUAGE))
             found += again is None or canonical_text(again) != canonical
             assert read(generate.refused(seed, stage), stage)[0] is None
+    return found
+
+
+def audits_wrong() -> list[str]:
+    """The worked audits that get another answer."""
+    lines = (WORKED / "AUDITS.txt").read_text().splitlines()
+    names = [line.split()[0] for line in lines if not line.startswith("#")]
+    answers = {name: audit((WORKED / f"{name}.audit").read_bytes())[1] for name in names}
+    return [f"{name}: the reference gives {have!r}" for name, have in answers.items()
+            if have != (WORKED / f"{name}.verdict").read_bytes()]
+
+
+def facts_wrong(count: int) -> list[str]:
+    """What is wrong with the facts of generated scripts; `show` is asked at each fifth instant."""
+    found = []
+    for seed in range(count):
+        text, horizon = generate.accepted(seed)
+        fault = check_facts.fault_of(text, horizon, Stage.WHOLE, range(0, horizon, 5))
+        found += [] if fault is None else [f"the facts of generated script {seed}: {fault}"]
     return found
 
 
@@ -100,7 +130,10 @@ def main() -> int:
         wrong += [f"{name}: another answer"] if answer(text, 1) != (want_status, want) else []
     for words in no_commands():
         compared += 1
-        wrong += [f"{words} is taken for a command"] if horizon_of(words) is not None else []
+        wrong += [f"{words} is taken for a command"] if command_of(words) is not None else []
+    compared += FACTS_OF + len(list(WORKED.glob("*.audit")))
+    wrong += audits_wrong()
+    wrong += facts_wrong(FACTS_OF)
     wrong += ["a canonical text is not read as itself"] * generated_differ(arguments.generated)
     print(*wrong, f"{compared} compared, {len(wrong)} differ", sep="\n")
     return 1 if wrong else 0

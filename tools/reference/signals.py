@@ -93,6 +93,8 @@ def records_for(kernel: Kernel, thread: Thread) -> list[Record]:
 
 def sweep(kernel: Kernel) -> None:
     """Delivers to each thread, by number, the record that its mask lets through; settles once."""
+    if not kernel.records:
+        return
     before = kernel.snapshot()
     for thread in kernel.threads:
         if thread.is_live and not thread.in_signal_frame and kernel.killed is None:

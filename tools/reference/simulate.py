@@ -1,17 +1,24 @@
-"""The reference for `pse52 run N`: the same text and the same exit status.
+"""The reference for `pse52 run N`, for `show N`, `detail N` and `upgrade`: the same text and the same exit status.
 
     python3 tools/reference/simulate.py run N [--stage STAGE] [--check] < script
+    python3 tools/reference/simulate.py show N [--stage STAGE] [--check] < script
+    python3 tools/reference/simulate.py detail N [--stage STAGE] [--check] < script
+    python3 tools/reference/simulate.py upgrade < script
 
 Exit status: 0 Done, 1 Usage, 2 Refused, 3 TooLong.
 """
 from __future__ import annotations
 
 import sys
+from dataclasses import replace
 from enum import IntEnum
+from typing import Callable
 
+from detail import detail, show
 from forms import GREATEST_NUMBER, Stage
 from machine import Machine
 from reader import read
+from script import Script, canonical_text
 from trace import trace
 
 GREATEST_TEXT = 1_048_576
@@ -24,24 +31,43 @@ class Status(IntEnum):
     TOO_LONG = 3
 
 
-def horizon_of(words: list[str]) -> int | None:
-    """The horizon that the words of a command name."""
-    if len(words) != 2 or words[0] != "run" or not (words[1].isascii() and words[1].isdigit()):
+def run(script: Script, horizon: int, checked: bool = False) -> str:
+    machine = Machine(script, checked)
+    machine.run_until(horizon)
+    return trace(machine)
+
+
+def upgrade(script: Script, horizon: int = 0, checked: bool = False) -> str:
+    """The canonical text of the script as one of version 2."""
+    return canonical_text(replace(script, version=2))
+
+
+COMMANDS: dict[str, Callable[[Script, int, bool], str]] = {"run": run, "show": show, "detail": detail, "upgrade": upgrade}
+
+
+def command_of(words: list[str]) -> tuple[str, int] | None:
+    """The command that the words are, with its number; `upgrade` has none."""
+    if words == ["upgrade"]:
+        return "upgrade", 0
+    if words[:1] == ["upgrade"] or len(words) != 2 or words[0] not in COMMANDS or not (words[1].isascii() and words[1].isdigit()):
         return None
     digits = words[1].lstrip("0") or "0"
-    return int(digits) if len(digits) <= 19 and int(digits) <= GREATEST_NUMBER else None
+    is_number = len(digits) <= 19 and int(digits) <= GREATEST_NUMBER
+    return (words[0], int(digits)) if is_number else None
 
 
-def answer(text: bytes, horizon: int, stage: Stage = Stage.WHOLE, checked: bool = False) -> tuple[Status, bytes]:
-    """The status and the text of a run."""
+def answer(text: bytes, horizon: int, stage: Stage = Stage.WHOLE, checked: bool = False,
+           command: str = "run") -> tuple[Status, bytes]:
+    """The status and the text of a run, or of another command with that number."""
     if len(text) > GREATEST_TEXT:
         return Status.TOO_LONG, b"too long\n"
     script, fault = read(text, stage)
     if script is None:
         return Status.REFUSED, f"refused {fault.line} {fault.kind.value} {fault.kind.name}\n".encode()
-    machine = Machine(script, checked)
-    machine.run_until(horizon)
-    return Status.DONE, trace(machine).encode()
+    told = COMMANDS[command](script, horizon, checked).encode()
+    if command == "upgrade" and len(told) > GREATEST_TEXT:
+        return Status.TOO_LONG, b"too long\n"
+    return Status.DONE, told
 
 
 def main(words: list[str]) -> Status:
@@ -51,11 +77,12 @@ def main(words: list[str]) -> Status:
         at = words.index("--stage")
         stage = Stage.named(words[at + 1])
         del words[at:at + 2]
-    horizon = horizon_of(words)
-    if horizon is None:
+    command = command_of(words)
+    if command is None:
         status, text = Status.USAGE, b"usage: pse52 COMMAND NUMBERS\n"
     else:
-        status, text = answer(sys.stdin.buffer.read(GREATEST_TEXT + 1), horizon, stage, checked)
+        word, number = command
+        status, text = answer(sys.stdin.buffer.read(GREATEST_TEXT + 1), number, stage, checked, word)
     sys.stdout.buffer.write(text)
     return status
 

@@ -12,9 +12,12 @@ import time
 from enum import IntEnum
 from pathlib import Path
 
+from measure.measures import never_done
+
 from .engine import NoEngine, Work, results
+from .groups import columns_of, grouped, lined_up
 from .plan import Sweep, WrongSweep, read_sweep
-from .plot import NoPlot, draw
+from .plot import NoPlot, draw, gnuplot
 from .table import Kept, read_table, table
 
 TOP = Path(__file__).resolve().parents[2]
@@ -32,12 +35,21 @@ class NoProgram(Exception):
     """The program that runs the scripts cannot be found or built."""
 
 
+class NamedNothing(Exception):
+    """A measure had nothing to measure, or no run could be measured. The table is written all the same."""
+
+
 def words_of(words: list[str]) -> argparse.Namespace:
     parser = argparse.ArgumentParser(
-        prog="pse52-sweep", description="Runs one script with many values, and writes a table SWEEP.csv with a line for each run.")
+        prog="pse52-sweep", allow_abbrev=False,
+        description="Runs one script with many values, and writes a table SWEEP.csv with a line for each run.")
+    parser.add_argument("--version", action="version", version=f"pse52-sweep {(TOP / 'VERSION').read_text().strip()}")
     parser.add_argument("sweep", type=Path, metavar="SWEEP.toml")
     parser.add_argument("--jobs", type=int, default=os.cpu_count() or 1, metavar="N", help="runs at once, on each machine")
     parser.add_argument("--sshlogin", metavar="HOSTS", help="machines, as GNU parallel takes them; ':' is this one")
+    parser.add_argument("--output", type=Path, metavar="FILE.csv", help="the table; what is kept and drawn stands beside it")
+    parser.add_argument("--by", metavar="NAME[,NAME]", help="also print the figures put together by the values of these names")
+    parser.add_argument("--columns", metavar="NAME[,NAME]", help="with --by, these columns alone")
     parser.add_argument("--plot", metavar="COLUMN", help="also draw this column, as SWEEP-COLUMN.svg")
     parser.add_argument("--over", metavar="NAME[,NAME]", help="the one or two names that it is drawn over")
     parser.add_argument("--program", metavar="WORDS", default=os.environ.get("PSE52"),
@@ -99,7 +111,7 @@ def _span(seconds: float) -> str:
 def carry_out(sweep: Sweep, said: argparse.Namespace) -> Path:
     """Carries out the runs that are not done yet, and writes the table. The rows stay, so that the same words need no run again."""
     program = program_of(said.program)
-    kept_file = sweep.file(".rows")
+    kept_file = sweep.beside(said.output, ".rows")
     if said.anew:
         kept_file.unlink(missing_ok=True)
     with Kept(kept_file, sweep.identity(program), sweep.lasts) as kept:
@@ -111,7 +123,7 @@ def carry_out(sweep: Sweep, said: argparse.Namespace) -> Path:
                 progress.now(len(kept.rows))
     if len(kept.rows) != sweep.count:
         raise NoEngine(f"the engine ended with {len(kept.rows)} of {sweep.count} runs done; start the sweep again to go on")
-    path = sweep.file(".csv")
+    path = sweep.beside(said.output, ".csv")
     path.write_text(table(sweep.columns, kept.rows))
     again = sum(not sweep.lasts(row) for row in kept.rows.values())
     if again:
@@ -131,6 +143,57 @@ def over_of(sweep: Sweep, said: str | None) -> list[str]:
     return names
 
 
+def complaints(sweep: Sweep, rows: list[dict[str, str]]) -> list[str]:
+    """What is wrong with the measures as the runs show it: the first fault of a run that was measured, and measures that never had a job done."""
+    faults = [row["fault"] for row in rows if row["status"] == "0" and row["fault"]]
+    found = [f"{len(faults)} of {len(rows)} runs could not be measured; the first: {faults[0]}"] if faults else []
+    measured = [row for row in rows if row["status"] == "0" and not row["fault"]]
+    if not measured and not faults:
+        found.append("no run ended with a trace, so nothing is measured")
+    for measure in sweep.measures:
+        if measured and never_done(measure, measured):
+            found.append(f"measure '{measure.name}': in no run a job is done; does 'to' name what comes?")
+    return found
+
+
+def refusals(rows: list[dict[str, str]]) -> str | None:
+    """How many runs had no trace, and what the first one said."""
+    faults = [row["fault"] for row in rows if row["status"] != "0"]
+    return f"{len(faults)} of {len(rows)} runs have no trace; the first says: {faults[0]}" if faults else None
+
+
+def carried_out(said: argparse.Namespace) -> None:
+    """The whole sweep: its runs, its table, and what is printed and drawn of it."""
+    sweep = read_sweep(said.sweep)
+    over = over_of(sweep, said.over)
+    by = said.by.split(",") if said.by else []
+    if any(name not in sweep.values for name in by):
+        raise WrongSweep(f"--by is one or more of {', '.join(sweep.names)}")
+    columns = said.columns.split(",") if said.columns else None
+    for name in columns or ():
+        if name not in columns_of(sweep.measures):
+            raise WrongSweep(f"--columns: '{name}' cannot be put together; there are {', '.join(columns_of(sweep.measures))}")
+    if said.plot is not None:
+        if said.plot not in sweep.columns:
+            raise WrongSweep(f"no column has the name '{said.plot}'; there are {', '.join(sweep.columns)}")
+        gnuplot()
+    for warning in filter(None, (measure.warning for measure in sweep.measures)):
+        print(f"pse52-sweep: {warning}", file=sys.stderr)
+    path = carry_out(sweep, said)
+    rows = read_table(path)
+    print(path)
+    if by:
+        print(lined_up(grouped(rows, by, sweep.measures, columns)), end="")
+    if refused := refusals(rows):
+        print(f"pse52-sweep: {refused}", file=sys.stderr)
+    if wrong := complaints(sweep, rows):
+        raise NamedNothing("; ".join(wrong))
+    if said.plot is not None:
+        picture = sweep.beside(said.output, f"-{said.plot}.svg")
+        draw(rows, said.plot, over, picture, sweep.deadline_of(said.plot))
+        print(picture)
+
+
 def main(words: list[str]) -> Status:
     try:
         said = words_of(words)
@@ -139,17 +202,8 @@ def main(words: list[str]) -> Status:
     for number in (signal.SIGTERM, signal.SIGHUP):
         signal.signal(number, signal.default_int_handler)
     try:
-        sweep = read_sweep(said.sweep)
-        over = over_of(sweep, said.over)
-        if said.plot is not None and said.plot not in sweep.columns:
-            raise WrongSweep(f"no column has the name '{said.plot}'; there are {', '.join(sweep.columns)}")
-        path = carry_out(sweep, said)
-        print(path)
-        if said.plot is not None:
-            picture = sweep.file(f"-{said.plot}.svg")
-            draw(read_table(path), said.plot, over, picture)
-            print(picture)
-    except (WrongSweep, OSError) as wrong:
+        carried_out(said)
+    except (WrongSweep, NamedNothing, OSError) as wrong:
         print(f"pse52-sweep: {wrong}", file=sys.stderr)
         return Status.REFUSED
     except (NoEngine, NoProgram, NoPlot) as missing:

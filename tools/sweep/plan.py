@@ -10,7 +10,8 @@ from collections.abc import Iterator
 from dataclasses import dataclass
 from pathlib import Path
 
-from .measures import Measure, WrongMeasure, measure_of
+from measure.measures import PLACE as WHOLE_PLACE
+from measure.measures import Measure, WrongMeasure, measure_of
 
 MOST_RUNS = 1_000_000
 GREATEST_NUMBER = 10**18
@@ -19,7 +20,9 @@ RESERVED = ("status", "fault")
 # The exit statuses that a run has by its script and words alone: it would end so again.
 LASTING = frozenset(("0", "1", "2", "3"))
 # What measures a trace.
-MEASURING = [Path(__file__).with_name("measures.py"), *(Path(__file__).parents[1] / "view" / name for name in ("lines.py", "timeline.py"))]
+TOOLS = Path(__file__).parents[1]
+MEASURING = [*(TOOLS / "measure" / f"{name}.py" for name in ("measures", "jobs", "usage", "seen")),
+             *(TOOLS / "view" / f"{name}.py" for name in ("lines", "facts", "seen", "timeline", "tracks"))]
 
 
 class WrongSweep(Exception):
@@ -62,6 +65,11 @@ class Sweep:
     def columns(self) -> list[str]:
         return [*self.names, *RESERVED, *(column for measure in self.measures for column in measure.columns)]
 
+    @property
+    def command(self) -> str:
+        """The command of each run: a measure that needs what no trace tells asks for the detail."""
+        return "detail" if any(measure.needs_detail for measure in self.measures) else "run"
+
     def run(self, number: int) -> Run:
         """The run of the grid with this number, the last name changing quickest."""
         values, rest = [], number
@@ -74,18 +82,32 @@ class Sweep:
         """The whole grid in its order."""
         return map(self.run, range(self.count))
 
+    def values_of(self, run: Run) -> dict[str, int]:
+        return dict(zip(self.names, run.values))
+
     def script(self, run: Run) -> str:
-        return filled(self.template, dict(zip(self.names, run.values)))
+        return filled(self.template, self.values_of(run))
 
     def horizon_of(self, run: Run) -> int:
-        return self.horizon if isinstance(self.horizon, int) else int(filled(self.horizon, dict(zip(self.names, run.values))))
+        return self.horizon if isinstance(self.horizon, int) else int(filled(self.horizon, self.values_of(run)))
 
     def lasts(self, row: list[str]) -> bool:
         """Whether the run of this row would end so again: it was started, had what it needed, and was not killed."""
         return row[len(self.names)] in LASTING
 
-    def file(self, suffix: str) -> Path:
-        return self.folder / f"{self.stem}{suffix}"
+    def beside(self, output: Path | None, suffix: str) -> Path:
+        """A file of the sweep: beside the table that is asked for, else beside the file of the sweep."""
+        if output is None:
+            return self.folder / f"{self.stem}{suffix}"
+        return output if suffix == ".csv" else output.with_name(f"{output.stem}{suffix}")
+
+    def deadline_of(self, column: str) -> int | None:
+        """The deadline of the measure whose response times stand in this column, where it is one number."""
+        for measure in self.measures:
+            if column in measure.columns and column.removeprefix(f"{measure.name}_") in ("least", "mean", "greatest"):
+                deadline = measure.words.get("deadline", measure.words.get("period"))
+                return deadline if isinstance(deadline, int) else None
+        return None
 
     def identity(self, program: list[str]) -> str:
         """Two sweeps with the same identity have the same rows, so the one may go on where the other stopped.
@@ -183,9 +205,11 @@ def _measures(said: object) -> list[Measure]:
 
 def _places(sweep: Sweep) -> None:
     """Each place has a value, and each value a place."""
-    places = set(PLACE.findall(sweep.template)) | (set() if isinstance(sweep.horizon, int) else set(PLACE.findall(sweep.horizon)))
+    said = [sweep.horizon, *(word for measure in sweep.measures for word in measure.words.values())]
+    measured = {word[1:-1] for word in said if isinstance(word, str) and WHOLE_PLACE.fullmatch(word)}
+    places = set(PLACE.findall(sweep.template)) | measured
     for name in sorted(places - set(sweep.names)):
-        raise WrongSweep(f"the script has {{{name}}}, and [values] has no '{name}'")
+        raise WrongSweep(f"{'a measure or the horizon' if name in measured else 'the script'} has {{{name}}}, and [values] has no '{name}'")
     for name in sweep.names:
         if name not in places:
             raise WrongSweep(f"[values] has '{name}', and the script has no {{{name}}}")

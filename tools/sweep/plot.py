@@ -16,7 +16,8 @@ set ylabel '{y}'
 LINES = """\
 set grid
 set key outside right
-set offsets graph 0.03, graph 0.03, graph 0.05, graph 0.05
+set xrange [{left}:{right}]
+set yrange [0:{top}]
 """
 MAP = """\
 set nokey
@@ -41,13 +42,26 @@ def greatest_at(rows: list[dict[str, str]], measure: str, over: list[str]) -> Po
     return points
 
 
-def script(points: Points, measure: str, over: list[str], out: Path) -> str:
+def script(points: Points, measure: str, over: list[str], out: Path, deadline: int | None = None) -> str:
     """The commands of gnuplot, data among them: a line, a line for each value of the second name, or a map where those are many."""
     if len(over) == 1:
-        return _head(out, over[0], measure) + _line(points)
+        return _head(out, over[0], measure) + _frame(points, deadline) + _line(points, deadline)
     if len({second for _, second in points}) <= MOST_LINES:
-        return _head(out, over[0], measure) + _lines(points, over[1])
+        return _head(out, over[0], measure) + _frame(points, deadline) + _lines(points, over[1], deadline)
     return _head(out, *over) + _map(points, measure)
+
+
+def _frame(points: Points, deadline: int | None) -> str:
+    """The axes: along as far as there are points, up from 0 to above all of them and the deadline."""
+    places = [at[0] for at in points]
+    margin = max(1, max(places) - min(places)) * 0.03
+    left = max(0.0, min(places) - margin)
+    return LINES.format(left=left, right=max(places) + margin, top=max([1, deadline or 0, *points.values()]) * 1.08)
+
+
+def _deadline(deadline: int | None) -> str:
+    """A line across at the deadline."""
+    return "" if deadline is None else f", \\\n  {deadline} with lines lw 1.5 dt 2 lc rgb '#c21f1f' title 'deadline {deadline}'"
 
 
 def _head(out: Path, x: str, y: str) -> str:
@@ -64,16 +78,19 @@ def _data(name: str, points: Points) -> str:
     return f"${name} << EOD\n{rows}EOD\n"
 
 
-def _line(points: Points) -> str:
-    return LINES + _data("d", points) + "set nokey\nplot $d using 1:2 with linespoints lw 2 pt 7 ps 0.6 lc rgb '#2b62a8'\n"
+def _line(points: Points, deadline: int | None) -> str:
+    return _data("d", points) + "plot $d using 1:2 with linespoints lw 2 pt 7 ps 0.6 lc rgb '#2b62a8' notitle" + _deadline(deadline) + "\n"
 
 
-def _lines(points: Points, name: str) -> str:
+def _lines(points: Points, name: str, deadline: int | None) -> str:
+    """A line for each value. The first are the widest, so that one that hides another leaves its edges to be seen."""
     data, plots = "", []
-    for number, second in enumerate(sorted({second for _, second in points})):
+    seconds = sorted({second for _, second in points})
+    for number, second in enumerate(seconds):
         data += _data(f"d{number}", {at: figure for at, figure in points.items() if at[1] == second})
-        plots.append(f"$d{number} using 1:3 with linespoints lw 2 pt 7 ps 0.5 title '{_shown(name)} {second}'")
-    return LINES + data + "plot " + ", \\\n  ".join(plots) + "\n"
+        wide = 2 + 1.6 * (len(seconds) - 1 - number)
+        plots.append(f"$d{number} using 1:3 with linespoints lw {wide:.1f} pt 7 ps 0.4 title '{_shown(name)} {second}'")
+    return data + "plot " + ", \\\n  ".join(plots) + _deadline(deadline) + "\n"
 
 
 def _map(points: Points, measure: str) -> str:
@@ -87,14 +104,19 @@ def _map(points: Points, measure: str) -> str:
             + f"plot $d using 1:2:{sizes[0]}:{sizes[1]}:3 with boxxyerror fc palette\n")
 
 
-def draw(rows: list[dict[str, str]], measure: str, over: list[str], out: Path) -> None:
+def gnuplot() -> str:
+    """The path of gnuplot. Raises NoPlot where it is not here."""
+    path = shutil.which("gnuplot")
+    if path is None:
+        raise NoPlot("gnuplot, which draws the picture, is not here")
+    return path
+
+
+def draw(rows: list[dict[str, str]], measure: str, over: list[str], out: Path, deadline: int | None = None) -> None:
     """Writes the picture. Raises NoPlot where there is nothing to draw, or nothing to draw it with."""
     points = greatest_at(rows, measure, over)
     if not points:
         raise NoPlot(f"no run has a figure of '{measure}'")
-    gnuplot = shutil.which("gnuplot")
-    if gnuplot is None:
-        raise NoPlot("gnuplot is not here")
-    ended = subprocess.run([gnuplot], input=script(points, measure, over, out), text=True, capture_output=True, check=False)
+    ended = subprocess.run([gnuplot()], input=script(points, measure, over, out, deadline), text=True, capture_output=True, check=False)
     if ended.returncode != 0:
         raise NoPlot(f"gnuplot: {ended.stderr.strip()}")

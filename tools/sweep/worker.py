@@ -16,7 +16,8 @@ from tempfile import TemporaryFile
 
 sys.path.insert(0, str(Path(__file__).resolve().parents[1]))
 
-from sweep.measures import Seen  # noqa: E402
+from measure.jobs import NamesNothing  # noqa: E402
+from measure.seen import Seen  # noqa: E402
 from sweep.plan import Run, Sweep, read_sweep  # noqa: E402
 from view.lines import NotATraceLine, read_trace  # noqa: E402
 
@@ -62,16 +63,16 @@ def _content(file: int) -> bytes:
 def row_of(sweep: Sweep, run: Run, program: list[str], streams: Streams) -> list[str]:
     """The row of a run: its values, the exit status, its fault, and the figures."""
     try:
-        status, told, said = streams.run([*program, "run", str(sweep.horizon_of(run))], sweep.script(run).encode())
+        status, told, said = streams.run([*program, sweep.command, str(sweep.horizon_of(run))], sweep.script(run).encode())
     except OSError as error:
         status, told, said = NOT_STARTED, b"", f"{program[0]}: {error.strerror}".encode()
     fault = fault_of(status, told, said)
     figures = [""] * sweep.figures
     if status == 0:
         try:
-            seen = Seen(read_trace(told.splitlines(keepends=True)))
-            figures = [figure for measure in sweep.measures for figure in measure.figures(seen)]
-        except NotATraceLine as wrong:
+            seen, values = Seen(read_trace(told.splitlines(keepends=True))), sweep.values_of(run)
+            figures = [figure for measure in sweep.measures for figure in measure.figures(seen, values)]
+        except (NotATraceLine, NamesNothing) as wrong:
             fault = str(wrong)
     return [*map(str, run.values), str(status), fault, *figures]
 

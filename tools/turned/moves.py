@@ -67,7 +67,7 @@ RULES = [
            "self.lists[after[number][1]].append(number)", "self.lists[after[number][1]].insert(0, number)",
            "two_sleeps_end_at_one_instant"),
     Turned("a tick settles once", "machine.py",
-           "        self.settle(before)\n        before = self.snapshot()\n        self.end_tick", "        self.end_tick",
+           "        before = self.settle(before)\n        self.end_tick", "        self.end_tick",
            "two_settlings_in_one_tick"),
     Turned("setprio moves the thread to the tail as setsched does", "thread_calls.py",
            "    kernel.set_priority(target, priority)\n",

@@ -1,4 +1,4 @@
-"""One page without a network: the picture of a trace to zoom and pan in, with a cursor and the list of events.
+"""One page without a network: the picture of a run to zoom and pan in, with two cursors, the facts of each tick and the events.
 
 The page gets its data as JSON. Times may be greater than what a number of a browser holds exactly, so all that happens
 is told by points: `ticks[i]` is the instant of point i as text, and `places[i]` is where it stands on the axis.
@@ -7,20 +7,26 @@ from __future__ import annotations
 
 import json
 from pathlib import Path
+from xml.sax.saxutils import escape
 
 from .axis import parts_of
 from .colours import colours_of
-from .lines import Closing, End
+from .kinds import CLEANUP, COLOURS, HANDLER, WORDS
+from .lines import Closing
 from .svg import heading
-from .timeline import MarkKind, State, ThreadLine, Timeline
+from .timeline import MarkKind, Span, State, ThreadLine, Timeline
 
 PAGE = Path(__file__).parent / "page"
+SCRIPTS = ("model.js", "draw.js", "tell.js", "input.js")
 CUT_PLACES, AXIS_WIDTH, LEGIBLE = 34, 1400, 6.0
 STATES = {State.RUNNING: 0, State.READY: 1, State.WAITING: 2, State.OFF: 3}
+# What else than states of threads the page tells of an instant.
+TOLD = frozenset(("list", "mask", "cancelability", "cleanups", "pending", "mutex", "waiters", "sem", "messages", "senders", "receivers",
+                  "notify", "timer", "signal"))
 
 
 class Points:
-    """The instants of the trace and the edges of cuts, each with its number and its place on the axis."""
+    """The instants of the run and the edges of cuts, each with its number and its place on the axis."""
 
     def __init__(self, timeline: Timeline) -> None:
         parts = parts_of(timeline.instants, AXIS_WIDTH, CUT_PLACES, LEGIBLE)
@@ -28,7 +34,9 @@ class Points:
         cut_wide = kept * CUT_PLACES / AXIS_WIDTH
         starts = {start for start, _, cut in parts if cut}
         edges = {edge for start, end, cut in parts if cut for edge in (start, end)}
-        self.ticks = sorted(set(timeline.instants) | edges)
+        told = {fact.time for fact in timeline.trace.facts if timeline.start < fact.time < timeline.end}
+        told = {time for time in told if not any(start < time < end for start, end, cut in parts if cut)}
+        self.ticks = sorted(set(timeline.instants) | edges | told)
         self.number = {tick: number for number, tick in enumerate(self.ticks)}
         self.places = [0.0]
         for before, after in zip(self.ticks, self.ticks[1:]):
@@ -36,11 +44,11 @@ class Points:
         self.cuts = sorted(self.number[start] for start in starts)
 
 
-def draw(timeline: Timeline, _width: int | None = None) -> str:
+def draw(timeline: Timeline) -> str:
     data = json.dumps(_data(timeline), separators=(",", ":")).replace("<", "\\u003c")
-    page = (PAGE / "page.html").read_text()
-    for name, text in (("STYLE", _file("page.css")), ("SCRIPT", _file("page.js")), ("TITLE", heading(timeline)),
-                       ("DATA", data)):
+    page = _file("page.html")
+    script = "".join(_file(name) for name in SCRIPTS)
+    for name, text in (("STYLE", _file("page.css")), ("SCRIPT", script), ("TITLE", escape(heading(timeline))), ("DATA", data)):
         page = page.replace(f"@{name}@", text, 1)
     return page
 
@@ -51,26 +59,50 @@ def _file(name: str) -> str:
 
 def _data(timeline: Timeline) -> dict[str, object]:
     points = Points(timeline)
-    events = [(event, line) for event, line in zip(timeline.trace.events, timeline.trace.lines)
-              if not isinstance(event, Closing)]
+    number = points.number
+    events = [(event[0], line) for event, line in zip(timeline.trace.events, timeline.trace.lines)
+              if not isinstance(event, Closing) and timeline.start <= event[0] <= timeline.end]
+    colours = colours_of(timeline.scale or timeline.priorities)
+    order = {thread.name: at for at, thread in enumerate(timeline.threads)}
     return {
-        "ticks": [str(tick) for tick in points.ticks], "places": points.places, "cuts": points.cuts,
+        "ticks": [str(tick) for tick in points.ticks], "places": points.places, "cuts": points.cuts, "detail": timeline.is_detail,
         "threads": [_thread(thread, points) for thread in timeline.threads],
-        "colours": {str(priority): pair for priority, pair in colours_of(timeline.priorities).items()},
-        "lines": [line for _, line in events], "at": [points.number[event[0]] for event, _ in events],
-        "closing": [line for event, line in zip(timeline.trace.events, timeline.trace.lines)
-                    if isinstance(event, (Closing, End))],
-        "killed": None if timeline.killed is None else points.number[timeline.killed.time]}
+        "colours": {str(priority): pair for priority, pair in colours.items()},
+        "shown": {str(priority): colours[priority][0] for priority in timeline.priorities},
+        "kinds": COLOURS, "words": WORDS, "frames": [HANDLER, CLEANUP],
+        "mutexes": [{"name": mutex.name, "bars": [[number[start], number[end], owner, waiting] for start, end, owner, waiting in mutex.bars]}
+                    for mutex in timeline.mutexes],
+        "wakes": [[number[wake.time], order[wake.waker], order[wake.woken], wake.by] for wake in timeline.wakes],
+        "facts": _facts(timeline, points),
+        "lines": [line for _, line in events], "at": [number[time] for time, _ in events]}
+
+
+def _facts(timeline: Timeline, points: Points) -> dict[str, list[list[object]]]:
+    """Each fact that is told: the points at which it changes, and its words from there on."""
+    facts: dict[str, list[list[object]]] = {}
+    for fact in timeline.trace.facts:
+        if fact.word not in TOLD or fact.time >= timeline.end:
+            continue
+        changes = facts.setdefault(f"{fact.word} {fact.subject}", [])
+        point = points.number[max(fact.time, timeline.start)]
+        if changes and changes[-1][0] == point:
+            changes.pop()
+        changes.append([point, " ".join(fact.values)])
+    return facts
 
 
 def _thread(thread: ThreadLine, points: Points) -> dict[str, object]:
     number = points.number
     return {
-        "name": thread.name,
-        "spans": [[number[span.start], number[span.end], STATES[span.state], span.priority,
-                   -1 if span.high is None else int(span.high), span.call] for span in thread.spans],
-        "marks": [[number[mark.time], mark.kind.value, mark.label] for mark in thread.marks
-                  if mark.kind is not MarkKind.RETURN],
+        "name": thread.name, "spans": [_span(span, number) for span in thread.spans],
+        "marks": [[number[mark.time], mark.kind.value, mark.label] for mark in thread.marks if mark.kind is not MarkKind.RETURN],
         "server": thread.is_sporadic, "ended": None if thread.ended is None else number[thread.ended],
         "capacity": [[number[piece.start], number[piece.end], str(piece.value), piece.falls] for piece in thread.capacity],
-        "plans": [[number[plan.time], str(plan.amount), str(plan.due), number.get(plan.due, -1)] for plan in thread.plans]}
+        "plans": [[number[plan.time], str(plan.amount), str(plan.due), number.get(plan.due, -1), -1 if plan.refilled is None else number.get(plan.refilled, -1)]
+                  for plan in thread.plans if plan.time in number]}
+
+
+def _span(span: Span, number: dict[int, int]) -> list[object]:
+    """A stretch: from, to, state, priority, high, call, kind of wait, what for, until when, handler, whether that is a cleanup handler."""
+    return [number[span.start], number[span.end], STATES[span.state], span.priority, -1 if span.high is None else int(span.high), span.call,
+            span.kind, span.what, "" if span.until is None else str(span.until), span.frame, int(span.cleanup)]

@@ -1,13 +1,17 @@
-"""The reader of trace lines. docs/TRACE.md says what each line is; this reader takes exactly those.
+"""The reader of trace lines, and of the facts between them. docs/TRACE.md and docs/FACTS.md
+say what each line is; this reader takes exactly those.
 
-Each line becomes one event: a named tuple with its time first. The closing lines become `End` and `Closing`.
-Nothing here knows of pictures, so that whatever reads traces can stand on it.
+Each line becomes one event: a named tuple with its time first. The closing lines become `End` and `Closing`. The facts of a
+detail are kept beside the events. Nothing here knows of pictures, so that whatever reads traces can stand on it.
 """
 from __future__ import annotations
 
 import re
 from collections.abc import Callable, Iterable
 from typing import NamedTuple
+
+from .facts import FORMS as FACT_FORMS
+from .facts import Fact, WrongFact, fact_of
 
 GREATEST_TIME = 10**18
 GREATEST_DUE = 2 * 10**18
@@ -22,7 +26,7 @@ CALLS = frozenset((
     "yield", "create", "join", "exit", "cancel", "testcancel", "setcancel", "push", "pop", "setprio", "setsched",
     "lock", "timedlock", "trylock", "unlock", "wait", "timedwait", "signal", "broadcast",
     "sem_wait", "sem_timedwait", "sem_trywait", "sem_getvalue", "sem_post",
-    "nanosleep", "clock_nanosleep", "gettime",
+    "nanosleep", "clock_nanosleep", "gettime", "clock_settime", "real_gettime",
     "timer_settime", "timer_gettime", "timer_getoverrun",
     "kill", "tkill", "sigqueue", "sigmask", "sigwaitinfo", "sigtimedwait",
     "mq_send", "mq_timedsend", "mq_receive", "mq_timedreceive", "mq_notify"))
@@ -140,10 +144,11 @@ class _Wrong(Exception):
 
 
 class Trace(NamedTuple):
-    """The events of a trace, and the line of each: `lines[i]` is the text of `events[i]`."""
+    """The events of a trace, and the line of each: `lines[i]` is the text of `events[i]`. A detail has facts beside them."""
 
     events: list[Event]
     lines: list[str]
+    facts: list[Fact] = []
 
 
 _NAME = re.compile(r"[a-z][a-z0-9_]{0,31}")
@@ -246,7 +251,8 @@ class _Reader:
         self._killed = False
         self._closed: set[str] = set()
 
-    def event(self, text: str) -> Event:
+    def event(self, text: str, after: int) -> Event | Fact:
+        """The event of a line, or its fact; `after` events stand before it."""
         word, _, rest = text.partition(" ")
         known = _KNOWN.get(rest)
         if known is not None and not (self._ended or self._killed):
@@ -254,13 +260,32 @@ class _Reader:
             if time >= self._time:
                 self._time = time
                 return tuple.__new__(known[0], (time, *known[1]))
+        if rest.partition(" ")[0] in FACT_FORMS:
+            return self._fact(text.split(" "), after)
         return self._first(text, rest)
+
+    def _fact(self, words: list[str], after: int) -> Fact:
+        """A fact stands behind the lines of its instant, and before those of a later one."""
+        time = self._of.time(words[0])
+        if self._ended or self._killed or time < self._time:
+            raise _Wrong("no fact stands here")
+        self._time = time
+        try:
+            return fact_of(time, words, after)
+        except WrongFact as wrong:
+            raise _Wrong(str(wrong)) from None
 
     def _first(self, text: str, rest: str) -> Event:
         """Reads a line that is not known yet, or that may not come here."""
         if len(text) > LONGEST_LINE:
             raise _Wrong(f"it has more than {LONGEST_LINE} bytes")
         words = text.split(" ")
+        if words[0] == "refused":
+            raise _Wrong("it says that the script is refused: mend the script first")
+        if text.endswith("\r"):
+            raise _Wrong("it has a Windows line end")
+        if not text:
+            raise _Wrong("it is empty")
         if words[0] == "thread":
             return self._closing(words)
         event = _event_of(words, self._of)
@@ -289,24 +314,29 @@ class _Reader:
 
 
 def read_trace(lines: Iterable[bytes], tell: Callable[[int, int], None] | None = None) -> Trace:
-    """Reads a whole trace, or its beginning where a write failed. `tell` hears the lines and bytes read, now and then.
+    """Reads a whole trace or detail, or its beginning where a write failed. `tell` hears the lines and bytes read, now and then.
 
     Raises NotATraceLine for the first line that no trace has at its place, and for a text without a line.
     """
     reader, events, texts, size = _Reader(), [], [], 0
+    facts: list[Fact] = []
     for number, line in enumerate(lines, 1):
         text = line.rstrip(b"\n").decode("ascii", "backslashreplace")
         try:
-            events.append(reader.event(text))
+            event = reader.event(text, len(events))
         except _Wrong as wrong:
             raise NotATraceLine(number, shown(text), str(wrong)) from None
-        texts.append(text)
+        if type(event) is Fact:
+            facts.append(event)
+        else:
+            events.append(event)
+            texts.append(text)
         size += len(line)
         if tell is not None and number % 20_000 == 0:
             tell(number, size)
     if not events:
         raise NotATraceLine(1, "", "the text is empty")
-    return Trace(events, texts)
+    return Trace(events, texts, facts)
 
 
 def shown(text: str) -> str:

@@ -1,28 +1,43 @@
-"""The command `pse52-view FORMAT < TRACE`."""
+"""The command `pse52-view FORMAT`: a picture of a trace, of a detail, or of a script that is run for it."""
 from __future__ import annotations
 
+import argparse
 import gc
 import os
+import re
 import shutil
 import sys
 from collections.abc import Callable
 from enum import IntEnum
 from importlib import import_module
+from pathlib import Path
 
-from .lines import NotATraceLine, read_trace
+from measure.jobs import NamesNothing
+from measure.measures import WrongMeasure, measure_of_words
+
+from .lines import NotATraceLine, Trace, read_trace
 from .progress import Progress
-from .timeline import Timeline, timeline_of
+from .releases import mark_jobs
+from .source import TOP, NoSource, detail_of, horizon_of
+from .seen import timeline_of
+from .timeline import Timeline
+from .window import NoWindow, window
 
-FORMATS = ("text", "svg", "html", "vcd", "perfetto")
-USAGE = """usage: pse52-view FORMAT [--width N] < TRACE
-
-FORMAT is one of
+TOOL = "pse52-view"
+FORMATS = ("text", "svg", "html", "vcd", "perfetto", "ftrace", "trace.dat")
+WIDE, WITH_LISTS = ("text", "svg"), ("text", "svg")
+TICK = re.compile(r"([1-9][0-9]{0,5})(ns|us|ms|s)")
+HELP = """FORMAT is one of
   text      a time line for a terminal; --width is its columns
   svg       one picture; --width is its pixels
-  html      one page to zoom and pan in, with a cursor
+  html      one page to zoom and pan in, with two cursors and the facts of each tick
   vcd       a value change dump, for GTKWave and other wave viewers
   perfetto  JSON of Chrome's trace event format, for ui.perfetto.dev
-"""
+  ftrace    text of Linux's ftrace: sched_switch, sched_waking
+  trace.dat the same as a file that trace-cmd and KernelShark open
+
+What is drawn is FILE, or standard input: a trace, a detail, or a script. A script is run for as many ticks as --horizon says,
+or as its first line does, # horizon N. A trace alone does not tell why a thread does not run; a detail or a script does."""
 
 
 class Status(IntEnum):
@@ -36,67 +51,137 @@ class Status(IntEnum):
 
 
 class Usage(Exception):
-    """The words are no command."""
+    """What is wrong with the words of the command."""
 
 
-def command_of(words: list[str]) -> tuple[str, int | None]:
-    """The format and the width that the words name."""
-    if not words or words[0] not in FORMATS:
-        raise Usage
-    match words[1:]:
-        case []:
-            return words[0], None
-        case ["--width", number] if number.isascii() and number.isdigit() and 1 <= int(number[:9]) and len(number) < 6:
-            if words[0] in ("text", "svg"):
-                return words[0], int(number)
-    raise Usage
+class _Parser(argparse.ArgumentParser):
+    def error(self, message: str) -> None:
+        raise Usage(message)
 
 
-def drawer(name: str) -> Callable[[Timeline, int | None], str]:
-    return import_module(f".{name}", __package__).draw
+def _number(word: str) -> int:
+    if not (word.isascii() and word.isdigit()) or len(word) > 19 or int(word) > 10**18:
+        raise argparse.ArgumentTypeError(f"'{word}' is no number of ticks from 0 to 1000000000000000000")
+    return int(word)
+
+
+def _width(word: str) -> int:
+    if not (word.isascii() and word.isdigit()) or not 1 <= len(word) <= 5 or int(word) < 1:
+        raise argparse.ArgumentTypeError(f"'{word}' is no width from 1 to 99999")
+    return int(word)
+
+
+def _tick(word: str) -> str:
+    if not TICK.fullmatch(word):
+        raise argparse.ArgumentTypeError(f"'{word}' is no length of a tick, as 1us, 250ns or 10ms")
+    return word
+
+
+def command_of(words: list[str]) -> argparse.Namespace:
+    """What the words ask for. Raises Usage."""
+    parser = _Parser(prog=TOOL, description=HELP, formatter_class=argparse.RawDescriptionHelpFormatter, allow_abbrev=False)
+    parser.add_argument("--version", action="version", version=f"{TOOL} {(TOP / 'VERSION').read_text().strip()}")
+    parser.add_argument("format", choices=FORMATS, metavar="FORMAT")
+    parser.add_argument("file", nargs="?", type=Path, metavar="FILE")
+    parser.add_argument("--script", type=Path, metavar="FILE", help="a script to run, in place of FILE")
+    parser.add_argument("--horizon", type=_number, metavar="N", help="run the script for so many ticks")
+    parser.add_argument("--from", dest="start", type=_number, metavar="N", help="begin the picture at this tick")
+    parser.add_argument("--to", dest="end", type=_number, metavar="N", help="end it at this one")
+    parser.add_argument("--threads", type=lambda word: word.split(","), metavar="A,B", help="only these threads, in this order")
+    parser.add_argument("--title", metavar="TEXT", help="a title; without it the name of the script")
+    parser.add_argument("--tick", type=_tick, metavar="1us", help="how long a tick is; without it 1 ns in the formats that have no ticks")
+    parser.add_argument("--jobs", action="append", default=[], metavar="WORDS",
+                        help="mark releases and missed deadlines, as 'thread=lo period=20 deadline=15'; the words are those of pse52-measure")
+    parser.add_argument("--lists", action="store_true", help="text and svg: also who stands on which list, head first")
+    parser.add_argument("--width", type=_width, metavar="N", help="text and svg: columns or pixels")
+    said = parser.parse_args(words)
+    if said.script is not None and said.file is not None:
+        raise Usage("--script FILE stands in place of FILE")
+    if said.width is not None and said.format not in WIDE:
+        raise Usage(f"'{said.format}' has no --width")
+    if said.lists and said.format not in WITH_LISTS:
+        raise Usage(f"'{said.format}' has no --lists")
+    return said
+
+
+def drawer(name: str) -> Callable[..., str | bytes]:
+    """The function that draws in a format. Its module has the name of the format, without a point."""
+    return import_module(f".{name.replace('.', '')}", __package__).draw
 
 
 def terminal_width(name: str, width: int | None) -> int | None:
     """Where no width is asked for, a time line is as wide as the terminal that it goes to."""
-    if width is None and name == "text" and sys.stdout.isatty():
+    if width is None and name == "text" and sys.stdout is not None and sys.stdout.isatty():
         return shutil.get_terminal_size().columns
     return width
 
 
-def write(text: str) -> Status:
+def write(text: str | bytes) -> Status:
     try:
-        sys.stdout.buffer.write(text.encode())
+        if sys.stdout is None:
+            raise OSError(9, os.strerror(9))
+        sys.stdout.buffer.write(text if isinstance(text, bytes) else text.encode())
         sys.stdout.buffer.flush()
     except OSError as error:
-        print(f"pse52-view: the output was not written: {error.strerror}", file=sys.stderr)
-        # What is left in the buffer must not be written, and complained about, at the end of the process.
-        os.dup2(os.open(os.devnull, os.O_WRONLY), sys.stdout.fileno())
+        print(f"{TOOL}: the output was not written: {error.strerror}", file=sys.stderr)
+        if sys.stdout is not None:
+            # What is left in the buffer must not be written, and complained about, at the end of the process.
+            os.dup2(os.open(os.devnull, os.O_WRONLY), sys.stdout.fileno())
         return Status.WRITE_FAULT
     return Status.DONE
 
 
+def traced(said: argparse.Namespace, progress: Progress) -> tuple[Trace, str]:
+    """What is drawn, and its title where it has one: a script is run for its detail."""
+    path = said.script or said.file
+    if path is None and sys.stdin is None:
+        raise OSError(9, os.strerror(9))
+    source = path.open("rb") if path else sys.stdin.buffer
+    first = source.peek(1)[:1]
+    if said.script is None and (not first or first.isdigit() or first == b"r"):
+        if said.horizon is not None:
+            raise Usage("--horizon is for a script, and this is none")
+        return read_trace(source, progress.lines), ""
+    script = source.read()
+    horizon = horizon_of(script) if said.horizon is None else said.horizon
+    if horizon is None:
+        raise Usage("--horizon N says for how many ticks the script is run")
+    progress.say("running the script")
+    return read_trace(detail_of(script, horizon, TOOL), progress.lines), path.stem if path else ""
+
+
+def picture(said: argparse.Namespace, progress: Progress) -> str | bytes:
+    """What is written."""
+    trace, title = traced(said, progress)
+    progress.say("putting the picture together")
+    seen: Timeline = timeline_of(trace)
+    mark_jobs(seen, [measure_of_words(words) for words in said.jobs])
+    seen = window(seen, said.start, said.end, said.threads)
+    seen.title, seen.tick = title if said.title is None else said.title, said.tick or ""
+    if said.format in WITH_LISTS:
+        return drawer(said.format)(seen, terminal_width(said.format, said.width), said.lists)
+    return drawer(said.format)(seen)
+
+
 def main(words: list[str]) -> Status:
-    if words in (["--help"], ["-h"]):
-        return write(USAGE)
-    try:
-        name, width = command_of(words)
-    except Usage:
-        print(USAGE, end="", file=sys.stderr)
-        return Status.USAGE
     progress = Progress()
     # A long trace is many small values and no cycles, and the process ends after its one picture.
     gc.disable()
     try:
-        trace = read_trace(sys.stdin.buffer, progress.lines)
-        progress.say("putting the picture together")
-        text = drawer(name)(timeline_of(trace), terminal_width(name, width))
-    except NotATraceLine as refused:
-        progress.done()
-        print(f"pse52-view: {refused}", file=sys.stderr)
-        return Status.REFUSED
+        text = picture(command_of(words), progress)
+    except SystemExit as ended:
+        return Status.DONE if ended.code == 0 else Status.USAGE
+    except Usage as wrong:
+        return _refused(progress, f"{wrong}; --help tells all", Status.USAGE)
+    except (NotATraceLine, NoSource, NoWindow, NamesNothing, WrongMeasure) as wrong:
+        return _refused(progress, str(wrong), Status.REFUSED)
     except OSError as error:
-        progress.done()
-        print(f"pse52-view: the trace was not read: {error.strerror}", file=sys.stderr)
-        return Status.READ_FAULT
+        return _refused(progress, f"{error.filename or 'the trace'} was not read: {error.strerror}", Status.READ_FAULT)
     progress.done()
     return write(text)
+
+
+def _refused(progress: Progress, why: str, status: Status) -> Status:
+    progress.done()
+    print(f"{TOOL}: {why}", file=sys.stderr)
+    return status

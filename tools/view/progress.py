@@ -33,6 +33,6 @@ def _size_of_input() -> int:
     """The size of standard input where it is a file, else 0."""
     try:
         status = os.fstat(sys.stdin.fileno())
-    except (OSError, ValueError):
+    except (AttributeError, OSError, ValueError):
         return 0
     return status.st_size if stat.S_ISREG(status.st_mode) else 0

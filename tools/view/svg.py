@@ -17,15 +17,15 @@ def plot_width(timeline: Timeline, gutter: float, width: int | None) -> float:
     """How wide the axis is: as wide as ticks of a good size need, or what is left of the width that is asked for."""
     if width is not None:
         return max(200.0, width - gutter - Rows.MARGIN)
-    return min(MOST_WIDTH - gutter - Rows.MARGIN, max(LEAST_WIDTH, timeline.end * TICK_WIDTH))
+    return min(MOST_WIDTH - gutter - Rows.MARGIN, max(LEAST_WIDTH, (timeline.end - timeline.start) * TICK_WIDTH))
 
 
-def draw(timeline: Timeline, width: int | None = None) -> str:
+def draw(timeline: Timeline, width: int | None = None, lists: bool = False) -> str:
     sizes = Sizes.for_threads(len(timeline.threads))
-    gutter = sizes.gutter(timeline.threads)
+    gutter = sizes.gutter(timeline)
     axis = Axis(timeline.instants, gutter, plot_width(timeline, gutter, width), CUT_WIDTH, LEGIBLE_TICK)
-    colours = colours_of(timeline.priorities)
-    rows = Rows(timeline, axis, colours, sizes)
+    colours = colours_of(timeline.scale or timeline.priorities)
+    rows = Rows(timeline, axis, colours, sizes, lists)
     out = Writer()
     head = heading(timeline)
     out.text(8, 19, head, size=13, weight="bold")
@@ -37,11 +37,16 @@ def draw(timeline: Timeline, width: int | None = None) -> str:
 
 
 def heading(timeline: Timeline) -> str:
+    """The title, where there is one, and what the picture is of."""
     threads = len(timeline.threads)
     idle = sum(end - start for start, end in timeline.idle)
-    text = f"{threads} thread{'s' if threads != 1 else ''}, ticks 0 to {digits_apart(timeline.end)}"
+    text = f"{threads} thread{'s' if threads != 1 else ''}, ticks {digits_apart(timeline.start)} to {digits_apart(timeline.end)}"
     if idle:
         text += f", idle for {digits_apart(idle)}"
     if timeline.killed is not None:
         text += f", killed by {timeline.killed.signal}"
+    if timeline.tick:
+        text += f", a tick is {timeline.tick}"
+    if timeline.title:
+        text = f"{timeline.title}: {text}"
     return text if timeline.finished else f"{text}; the trace has no end"

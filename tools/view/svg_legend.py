@@ -3,13 +3,16 @@ from __future__ import annotations
 
 from .axis import Axis
 from .svg_marks import draw_mark
+from .svg_objects import CONTENDED, OWNER, too_many
+from .svg_spans import draw_frame_sample, draw_low_sample, draw_wait_sample, is_dense
 from .svg_writer import FAINT, INK, Writer
 from .timeline import MarkKind, State, Timeline
 
 WHAT: dict[MarkKind, str] = {
     MarkKind.START: "start", MarkKind.EXIT: "exit", MarkKind.RETURN: "a call returns 0",
     MarkKind.ERROR: "a call returns an error", MarkKind.CANCEL: "cancel", MarkKind.DELIVER: "a signal is delivered",
-    MarkKind.ACTIVATE: "activate", MarkKind.EXHAUST: "exhaust", MarkKind.PLAN: "plan", MarkKind.REFILL: "refill"}
+    MarkKind.ACTIVATE: "activate", MarkKind.EXHAUST: "exhaust", MarkKind.PLAN: "plan", MarkKind.REFILL: "refill",
+    MarkKind.RELEASE: "a job is released", MarkKind.LATE: "its deadline, missed"}
 MOST_COLOURS = 24
 LINE = 18
 
@@ -36,17 +39,18 @@ def draw_legend(out: Writer, timeline: Timeline, axis: Axis, colours: dict[int, 
                 top: float) -> float:
     """Draws the legend from `top` on; gives the height of the whole picture."""
     flow = _Flow(width, top + 20)
-    _priorities(out, flow, colours)
+    _priorities(out, flow, {priority: colours[priority] for priority in timeline.priorities})
     states = {span.state for thread in timeline.threads for span in thread.spans}
     low = any(span.high is False for thread in timeline.threads for span in thread.spans)
     _states(out, flow, states, low)
+    _told(out, flow, timeline, axis)
     kinds = {mark.kind for thread in timeline.threads for mark in thread.marks}
     for kind in (kind for kind in MarkKind if kind in kinds):
         at = flow.room(len(WHAT[kind]), 14)
         draw_mark(out, kind, at + 5, flow.y - 4, 4)
         out.text(at + 14, flow.y, WHAT[kind], size=10.5, fill=INK)
     if any(thread.is_sporadic for thread in timeline.threads):
-        _item(out, flow, "blue line: the server's capacity; arrow: from a plan to its due tick", FAINT)
+        _item(out, flow, "blue line: the server's capacity; dashed arrow: from a plan to its due tick", FAINT)
     if axis.cuts:
         _item(out, flow, "torn band: nothing happens there, and the axis is cut", FAINT)
     return flow.y + 12
@@ -75,17 +79,39 @@ def _priorities(out: Writer, flow: _Flow, colours: dict[int, tuple[str, str]]) -
 def _states(out: Writer, flow: _Flow, states: set[State], low: bool) -> None:
     if low:
         at = flow.room(26, 24)
-        out.rect(at, flow.y - 10, 20, 11, fill="#7a8aa8")
-        out.rect(at, flow.y - 10, 20, 11, fill="url(#low)")
+        draw_low_sample(out, at, flow.y)
         out.text(at + 24, flow.y, "the server's low priority", size=10.5, fill=INK)
-    for state, text in ((State.READY, "ready"), (State.WAITING, "waiting"), (State.OFF, "not running, no more is told")):
+    for state, text in ((State.READY, "ready"), (State.OFF, "not running, no more is told")):
         if state not in states:
             continue
         at = flow.room(len(text), 24)
         if state is State.READY:
             out.rect(at, flow.y - 8, 20, 7, fill="#ffffff", stroke=FAINT, stroke_width="0.8")
-        elif state is State.WAITING:
-            out.rect(at, flow.y - 9, 20, 10, fill="url(#wait)")
         else:
             out.line(at, flow.y - 4, at + 20, flow.y - 4, stroke="#b9bfca", stroke_width="1", stroke_dasharray="2 4")
         out.text(at + 24, flow.y, text, size=10.5, fill=INK)
+
+
+def _told(out: Writer, flow: _Flow, timeline: Timeline, axis: Axis) -> None:
+    """Waits by their kinds, frames, owners and wakes, as many as there are."""
+    spans = [span for thread in timeline.threads for span in thread.spans]
+    for kind in dict.fromkeys(span.kind for span in spans if span.state is State.WAITING):
+        text = f"waits for a {kind}" if kind not in ("sleep", "join", "") else {"sleep": "sleeps", "join": "joins", "": "waits"}[kind]
+        at = flow.room(len(text), 24)
+        draw_wait_sample(out, kind, at, flow.y)
+        out.text(at + 24, flow.y, text, size=10.5, fill=INK)
+    for cleanup in sorted({span.cleanup for span in spans if span.frame}):
+        text = "in a cleanup handler" if cleanup else "in a signal handler"
+        at = flow.room(len(text), 24)
+        draw_frame_sample(out, cleanup, at, flow.y)
+        out.text(at + 24, flow.y, text, size=10.5, fill=INK)
+    bars = [waiting > 0 for mutex in timeline.mutexes for *_, waiting in mutex.bars]
+    for fill, text in ((OWNER, "owner of a mutex"), (CONTENDED, "others wait for it")):
+        if (fill == CONTENDED) in bars:
+            at = flow.room(len(text), 24)
+            out.rect(at, flow.y - 9, 20, 10, fill=fill, stroke="#b08d4c", stroke_width="0.6")
+            out.text(at + 24, flow.y, text, size=10.5, fill=INK)
+    if any(is_dense(thread, axis) for thread in timeline.threads):
+        _item(out, flow, "heights: how much of each small column a thread runs (in its colour), is ready (pale), waits (grey)", FAINT)
+    if timeline.wakes:
+        _item(out, flow, "who wakes whom is not drawn, since it is too much" if too_many(timeline.wakes, axis) else "grey arrow: who wakes whom", FAINT)

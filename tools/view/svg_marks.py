@@ -1,5 +1,7 @@
-"""The marks of a thread: what happened to it, above its bar."""
+"""The marks of a thread: what happened to it, above its bar at its tick. Those of one tick stand on one another."""
 from __future__ import annotations
+
+from dataclasses import dataclass, field
 
 from .axis import Axis
 from .svg_writer import Writer, short
@@ -7,7 +9,10 @@ from .timeline import Mark, MarkKind, ThreadLine
 
 GREEN, RED, VIOLET, BLUE, INK = "#1f8a4c", "#c21f1f", "#7a3fb0", "#2b62a8", "#3c4454"
 MOST_TITLE_LINES = 6
-MANY = 1000
+MOST_LEVELS = 4
+# How far apart marks of one kind stand at least: further where they are many, each then for all that follow it up to there.
+CLOSE, APART = 3.0, 24.0
+LETTER = 5.4
 
 
 def shape(kind: MarkKind, x: float, y: float, r: float) -> tuple[str, dict[str, str]]:
@@ -31,6 +36,11 @@ def shape(kind: MarkKind, x: float, y: float, r: float) -> tuple[str, dict[str, 
             return _ring(x, y, r), {"fill": "#ffffff", "stroke": BLUE, "stroke-width": "1.2"}
         case MarkKind.REFILL:
             return _ring(x, y, r), {"fill": BLUE}
+        case MarkKind.RELEASE:
+            return f"M{mx},{d}V{c}M{short(x - r * 0.7)},{short(y - r * 0.3)}L{mx},{c}L{short(x + r * 0.7)},{short(y - r * 0.3)}", {
+                "stroke": INK, "stroke-width": "1.1", "fill": "none"}
+        case MarkKind.LATE:
+            return f"M{mx},{d}V{c}L{short(x + 1.6 * r)},{short(y - r / 2)}L{mx},{my}", {"stroke": RED, "stroke-width": "1", "fill": RED}
         case MarkKind.ERROR:
             return f"M{mx},{c}V{d}", {"stroke": RED, "stroke-width": "2", "fill": "none"}
         case _:
@@ -43,7 +53,26 @@ def _ring(x: float, y: float, r: float) -> str:
 
 
 IN_THE_LANE = frozenset((MarkKind.PLAN, MarkKind.REFILL))
-LABELLED = frozenset((MarkKind.DELIVER, MarkKind.ERROR))
+LABELLED = frozenset((MarkKind.DELIVER, MarkKind.ERROR, MarkKind.LATE))
+
+
+@dataclass
+class Group:
+    """Marks of one kind that stand in one place: where, how high above the bar, from 0, and where its label stands, if it has one."""
+
+    kind: MarkKind
+    x: float
+    marks: list[Mark]
+    level: int = 0
+    label: str = ""
+
+
+@dataclass
+class Marks:
+    """The marks of a thread as they are placed, and how many levels they need."""
+
+    groups: list[Group] = field(default_factory=list)
+    levels: int = 1
 
 
 def draw_mark(out: Writer, kind: MarkKind, x: float, y: float, r: float, title: str = "") -> None:
@@ -51,49 +80,60 @@ def draw_mark(out: Writer, kind: MarkKind, x: float, y: float, r: float, title: 
     out.path(data, title=title, class_=f"mark {kind.value}", **style)
 
 
-def draw_marks(out: Writer, thread: ThreadLine, lines: list[str], axis: Axis, bar: float, high: float, room: float) -> None:
-    """The marks of a thread above its bar. Those that would stand on one another are moved aside; many are one."""
-    r = min(4.2, room * 0.28)
-    y = bar - r - 2
-    apart = 3.0 if len(thread.marks) < MANY else 9.0
-    free: dict[MarkKind, float] = {}
-    groups: list[tuple[MarkKind, float, list[Mark]]] = []
-    latest: dict[MarkKind, list[Mark]] = {}
+def place_marks(thread: ThreadLine, axis: Axis, r: float, right: float) -> Marks:
+    """Where the marks of a thread stand: each at its tick, on the lowest level on which it and its label meet no other one."""
+    placed = Marks()
+    apart = CLOSE if len(thread.marks) * CLOSE * 2 < axis.right - axis.left else APART
+    latest: dict[MarkKind, Group] = {}
+    taken: list[list[tuple[float, float]]] = [[] for _ in range(MOST_LEVELS)]
     for mark in thread.marks:
         if mark.kind in IN_THE_LANE:
             continue
         x = axis.at(mark.time)
-        if x < free.get(mark.kind, -1.0):
-            latest[mark.kind].append(mark)
+        before = latest.get(mark.kind)
+        if before is not None and x - before.x < apart:
+            before.marks.append(mark)
             continue
-        free[mark.kind] = x + apart
-        latest[mark.kind] = [mark]
-        groups.append((mark.kind, x, latest[mark.kind]))
-    _place(out, groups, lines, y, r, bar, high)
+        group = latest[mark.kind] = Group(mark.kind, x, [mark])
+        placed.groups.append(group)
+        if mark.kind is not MarkKind.RETURN:
+            _stack(group, r, taken, right)
+            placed.levels = max(placed.levels, group.level + 1)
+    return placed
 
 
-def _place(out: Writer, groups: list[tuple[MarkKind, float, list[Mark]]], lines: list[str], y: float, r: float,
-           bar: float, high: float) -> None:
-    taken, label_free = -99.0, -99.0
-    last_x = -99.0
-    for kind, x, marks in groups:
-        title = _title(marks, lines)
-        if kind is MarkKind.RETURN:
-            out.path(f"M{short(x)},{short(bar - 3)}V{short(bar + 2)}", title=title, class_="mark return", stroke=INK,
+def _stack(group: Group, r: float, taken: list[list[tuple[float, float]]], right: float) -> None:
+    text = group.marks[0].label if group.kind in LABELLED else ""
+    wide = r + 3 + len(text) * LETTER if text else r
+    left, end = group.x - r, group.x + wide
+    if text and end > right:
+        left, end = group.x - wide, group.x + r
+    for level, stretches in enumerate(taken):
+        if all(end < a or left > b for a, b in stretches[-8:]):
+            group.level, group.label = level, text
+            stretches.append((left, end))
+            return
+    group.level = MOST_LEVELS - 1
+
+
+def draw_marks(out: Writer, placed: Marks, lines: list[str], bar: float, high: float, r: float, right: float) -> None:
+    for group in placed.groups:
+        title = _title(group.marks, lines)
+        if group.kind is MarkKind.RETURN:
+            out.path(f"M{short(group.x)},{short(bar - 3)}V{short(bar + 2)}", title=title, class_="mark return", stroke=INK,
                      stroke_width="1", fill="none")
             continue
-        at = x if x != last_x or x > taken else taken
-        last_x, taken = x, max(taken, at + 2 * r + 1)
-        draw_mark(out, kind, at, y, r, title)
-        if kind in LABELLED and len(marks) == 1 and at + r > label_free:
-            text = marks[0].label
-            out.text(at + r + 2, y + 3, text, size=8.5, fill=RED if kind is MarkKind.ERROR else VIOLET)
-            label_free = at + r + 2 + len(text) * 5.6
-            taken = max(taken, label_free)
+        y = bar - r - 2 - group.level * (2 * r + 2)
+        draw_mark(out, group.kind, group.x, y, r, title)
+        if group.label and len(group.marks) == 1:
+            wide = r + 3 + len(group.label) * LETTER
+            left = group.x + wide > right
+            out.text(group.x + (-r - 2 if left else r + 2), y + 3, group.label, size=8.5, anchor="end" if left else "start",
+                     fill=VIOLET if group.kind is MarkKind.DELIVER else RED)
 
 
 def _title(marks: list[Mark], lines: list[str]) -> str:
-    shown = [lines[mark.line] for mark in marks[:MOST_TITLE_LINES]]
+    shown = [mark.told(lines) for mark in marks[:MOST_TITLE_LINES]]
     if len(marks) > MOST_TITLE_LINES:
         shown.append(f"and {len(marks) - MOST_TITLE_LINES} more, up to tick {marks[-1].time}")
     return "\n".join(shown)

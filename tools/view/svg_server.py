@@ -8,10 +8,11 @@ from .svg_writer import FAINT, Writer, short
 from .timeline import Capacity, MarkKind, Planned, ThreadLine
 
 LEAST_STEP = 2.5
-MOST_ARROWS = 300
+# How far apart plans stand at least for each to be drawn with its amount, and else those that are drawn.
+LEAST_APART, FAR_APART = 8, 24
 
 
-def draw_server(out: Writer, thread: ThreadLine, axis: Axis, top: float, high: float, end: int) -> None:
+def draw_server(out: Writer, thread: ThreadLine, axis: Axis, top: float, high: float, start: int, end: int) -> None:
     greatest = max((piece.value for piece in thread.capacity), default=1) or 1
     base = top + high
     out.text(axis.left - 5, top + 6, short_number(greatest), size=8, anchor="end", fill=FAINT)
@@ -23,8 +24,8 @@ def draw_server(out: Writer, thread: ThreadLine, axis: Axis, top: float, high: f
         area = f"{data}V{short(base)}H{short(axis.at(first.start))}Z"
         out.path(area, fill="#5b93d6", fill_opacity="0.22", class_="capacity-area")
         out.path(data, title=f"the capacity of {thread.name}, from {first.value} to {last.last} ticks", fill="none",
-                 stroke=BLUE, stroke_width="1.4", class_="capacity")
-    _draw_plans(out, thread, axis, top, base, end)
+                 stroke=BLUE, stroke_width="1.4" if len(thread.capacity) * 2 < axis.right - axis.left else "0.5", class_="capacity")
+    _draw_plans(out, thread, axis, top, base, start, end)
 
 
 def _step_line(pieces: list[Capacity], axis: Axis, base: float, unit: float) -> str:
@@ -63,30 +64,36 @@ def _points(piece: Capacity, axis: Axis) -> list[tuple[float, int]]:
     return points + [(right, piece.last)]
 
 
-def _draw_plans(out: Writer, thread: ThreadLine, axis: Axis, top: float, base: float, end: int) -> None:
-    """Each plan and refill as a ring, with an arrow between; plans that stand in one place have one arrow."""
-    few = len(thread.plans) <= MOST_ARROWS
+def _draw_plans(out: Writer, thread: ThreadLine, axis: Axis, top: float, base: float, start: int, end: int) -> None:
+    """Each plan and refill as a ring, with an arrow between; plans that stand in one place have one arrow.
+
+    The amount stands at the refill. Of one that is due behind the picture it stands at the plan, with the due tick.
+    """
+    few = len(thread.plans) * LEAST_APART <= axis.right - axis.left
     free, label_free = -99.0, -99.0
+    labels: list[tuple[float, str]] = []
     for planned in thread.plans:
-        x = axis.at(planned.time)
+        x = axis.at(max(planned.time, start))
         if x < free:
             continue
-        free = x + (3 if few else 12)
+        free = x + (3 if few else FAR_APART)
         title = _title(thread.name, planned)
-        target = axis.right + 16 if planned.due > end else axis.at(max(planned.due, planned.time))
+        beyond = planned.due > end
+        target = axis.right if beyond else axis.at(max(planned.due, planned.time))
         _arrow(out, x, target, top, base, title)
-        draw_mark(out, MarkKind.PLAN, x, base, 3.2, title)
-        text = f"+{short_number(planned.amount)}"
-        if planned.due > end:
-            text += f" due {short_number(planned.due)}"
-        width = len(text) * 5.2
-        place = min(max(x + 5, (x + target) / 2 - width / 2), axis.right + 30 - width)
+        if planned.time >= start:
+            draw_mark(out, MarkKind.PLAN, x, base, 3.2, title)
+        amount = f"+{short_number(planned.amount)}"
+        labels.append((x + 5, f"{amount} due {short_number(planned.due)}") if beyond else (target - len(amount) * 2.4, amount))
+    for place, text in sorted(labels):
+        width = len(text) * 4.9
+        place = min(place, axis.right + 30 - width)
         if few and place > label_free:
-            out.text(place, base + 9, text, size=8, fill=BLUE)
-            label_free = place + width + 3
+            out.text(place, base + 10, text, size=8, fill=BLUE)
+            label_free = place + width + 2
     last = -99.0
     for planned in thread.plans:
-        if planned.refilled is not None and axis.at(planned.refilled) - last >= 3:
+        if planned.refilled is not None and start <= planned.refilled <= end and axis.at(planned.refilled) - last >= (3 if few else FAR_APART):
             last = axis.at(planned.refilled)
             draw_mark(out, MarkKind.REFILL, last, base, 3.2, _title(thread.name, planned))
 

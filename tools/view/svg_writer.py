@@ -10,6 +10,7 @@ _PATTERNS = """<defs>
 <pattern id="low" width="6" height="6" patternUnits="userSpaceOnUse" patternTransform="rotate(45)"><rect width="2.4" height="6" fill="#ffffff" fill-opacity="0.6"/></pattern>
 <pattern id="wait" width="5" height="5" patternUnits="userSpaceOnUse"><circle cx="1.5" cy="2.5" r="0.9" fill="#8a93a3"/></pattern>
 <marker id="head" viewBox="0 0 8 8" refX="7" refY="4" markerWidth="6" markerHeight="6" orient="auto"><path d="M0,0 L8,4 L0,8 z" fill="#3b6fb5"/></marker>
+<marker id="wake" viewBox="0 0 8 8" refX="7" refY="4" markerWidth="6" markerHeight="6" orient="auto"><path d="M0,0 L8,4 L0,8 z" fill="#5c6675"/></marker>
 </defs>
 """
 

@@ -18,9 +18,17 @@ MARKS: dict[MarkKind, tuple[str, str]] = {
     MarkKind.START: (">", "start"), MarkKind.EXIT: ("x", "exit"), MarkKind.CANCEL: ("c", "cancel"),
     MarkKind.DELIVER: ("s", "deliver"), MarkKind.ERROR: ("e", "an error is returned"),
     MarkKind.ACTIVATE: ("^", "activate"), MarkKind.EXHAUST: ("!", "exhaust"), MarkKind.PLAN: ("p", "plan"),
-    MarkKind.REFILL: ("+", "refill")}
+    MarkKind.REFILL: ("+", "refill"), MarkKind.RELEASE: ("r", "release of a job"), MarkKind.LATE: ("L", "a deadline is missed")}
 MANY = "&"
-SIGNS = {State.READY: "-", State.WAITING: ".", State.OFF: "?"}
+# What stands where a thread does not run: its state, and of a wait what it is for.
+SIGNS: dict[tuple[State, str], tuple[str, str]] = {
+    (State.READY, ""): ("-", "ready"), (State.WAITING, ""): (".", "waiting"), (State.WAITING, "sleep"): (".", "sleeping"),
+    (State.WAITING, "mutex"): ("#", "waiting for a mutex"), (State.WAITING, "condition"): ("~", "for a condition"),
+    (State.WAITING, "semaphore"): ("%", "for a semaphore"), (State.WAITING, "queue"): ("=", "for a queue"),
+    (State.WAITING, "signal"): ("!", "for a signal"), (State.WAITING, "join"): (":", "for a thread to end"),
+    (State.OFF, ""): ("?", "not running and no more is told")}
+FRAMES = {False: ("*", "in a signal handler"), True: ("_", "in a cleanup handler")}
+OWNERS = "123456789abcdefghijklmnopqrstuvwxyz"
 
 
 @dataclass(frozen=True, slots=True)
@@ -42,8 +50,8 @@ class Columns:
     """Which column an instant has. The last column is that of the end of the run."""
 
     def __init__(self, timeline: Timeline, width: int) -> None:
-        whole = [(0, timeline.end, False)]
-        parts = whole if timeline.end < width else parts_of(timeline.instants, width - 1, len(CUT) + 1, 2.0)
+        whole, ticks = [(timeline.start, timeline.end, False)], timeline.end - timeline.start
+        parts = whole if ticks < width else parts_of(timeline.instants, width - 1, len(CUT) + 1, 2.0)
         kept = sum(end - start for start, end, cut in parts if not cut)
         step = nice_step(-(-kept // max(1, width - 1)))
         self.parts = self._laid(parts, step)
@@ -51,7 +59,7 @@ class Columns:
             step = nice_step(step + 1)
             self.parts = self._laid(parts, step)
         if self._wide() > width:
-            step = nice_step(-(-timeline.end // max(1, width - 1)))
+            step = nice_step(-(-ticks // max(1, width - 1)))
             self.parts = self._laid(whole, step)
         self.step = step
         self._starts = [part.start for part in self.parts]
@@ -92,6 +100,46 @@ def letters_of(priorities: list[int]) -> dict[int, str]:
     return {priority: LETTERS[min(at, 25)] for at, priority in enumerate(priorities)}
 
 
+def sign_of(span: Span) -> tuple[str, str]:
+    """The sign of a stretch in which the thread does not run, and what it says."""
+    return SIGNS[span.state, span.kind]
+
+
+def frames_row(thread: ThreadLine, columns: Columns) -> list[str]:
+    """A row that says where the thread is in a handler, if it ever is."""
+    row = [" "] * columns.count
+    for span in thread.spans:
+        if span.frame:
+            for column in range(columns.of(span.start), columns.of(span.end - 1) + 1):
+                row[column] = FRAMES[span.cleanup][0]
+    return ["".join(row).rstrip()] if any(span.frame for span in thread.spans) else []
+
+
+def owner_rows(timeline: Timeline, columns: Columns) -> list[tuple[str, str]]:
+    """For each mutex its name, and the number of its owner in each column."""
+    numbers = {thread.name: OWNERS[at % len(OWNERS)] for at, thread in enumerate(timeline.threads)}
+    rows = []
+    for mutex in timeline.mutexes:
+        row = [" "] * columns.count
+        for start, end, owner, _ in mutex.bars:
+            for column in range(columns.of(start), columns.of(end - 1) + 1):
+                row[column] = numbers.get(owner, "+")
+        rows.append((mutex.name, "".join(row).rstrip()))
+    return rows
+
+
+def list_lines(timeline: Timeline) -> list[str]:
+    """The lists at each instant at which one changes, the highest first, each with its head first."""
+    priorities = sorted(map(int, timeline.facts.subjects("list")), reverse=True)
+    times = sorted({time for priority in priorities for time, _ in timeline.facts.changes("list", str(priority))
+                    if timeline.start <= time < timeline.end})
+    lines = ["lists, head first:"] if times else []
+    for time in times:
+        members = [(priority, timeline.facts.at("list", str(priority), time)) for priority in priorities]
+        lines.append(f"  {time}: " + (", ".join(f"{priority} {' '.join(names)}" for priority, names in members if names) or "all empty"))
+    return lines
+
+
 def state_row(thread: ThreadLine, columns: Columns, letters: dict[int, str]) -> str:
     """What the thread does in each column: a letter where it runs, small where only in a part of the column."""
     row = [" "] * columns.count
@@ -100,7 +148,7 @@ def state_row(thread: ThreadLine, columns: Columns, letters: dict[int, str]) -> 
     for span in thread.spans:
         first, last = columns.of(span.start), columns.of(span.end - 1)
         if span.state is not State.RUNNING:
-            sign = SIGNS[span.state]
+            sign = sign_of(span)[0]
             for column in range(first, last + 1):
                 if row[column] == " ":
                     row[column] = sign
@@ -172,7 +220,16 @@ def legend(timeline: Timeline, columns: Columns, letters: dict[int, str]) -> lis
         shown.append(f"Z {priorities[25]} and below")
     kinds = {mark.kind for thread in timeline.threads for mark in thread.marks}
     lines = [f"priority: {', '.join(shown)}" if shown else "no thread ran"]
-    lines.append("- ready, . waiting, ? not running and no more is told; a small letter: in a part of the column")
+    spans = [span for thread in timeline.threads for span in thread.spans]
+    signs = {sign_of(span) for span in spans if span.state is not State.RUNNING}
+    frames = {FRAMES[span.cleanup] for span in spans if span.frame}
+    told = [f"{sign} {what}" for sign, what in (*SIGNS.values(), *FRAMES.values()) if (sign, what) in signs | frames]
+    if columns.step > 1:
+        told.append("a small letter: it runs in a part of the column")
+    if told:
+        lines.append(", ".join(told))
+    if timeline.mutexes:
+        lines.append("owners: " + ", ".join(f"{OWNERS[at % len(OWNERS)]} {thread.name}" for at, thread in enumerate(timeline.threads)))
     marks = [f"{sign} {what}" for kind, (sign, what) in MARKS.items() if kind in kinds]
     if marks:
         lines.append(f"marks: {', '.join(marks)}")
@@ -187,18 +244,22 @@ def heading(timeline: Timeline, columns: Columns) -> str:
     how = "" if timeline.finished else "; the trace has no end"
     if timeline.killed is not None:
         how = f"; killed by {timeline.killed.signal}"
-    return f"ticks 0 to {timeline.end}, {each}; idle for {idle}{how}"
+    title = f"{timeline.title}: " if timeline.title else ""
+    tick = f"; a tick is {timeline.tick}" if timeline.tick else ""
+    return f"{title}ticks {timeline.start} to {timeline.end}, {each}; idle for {idle}{how}{tick}"
 
 
-def draw(timeline: Timeline, width: int | None = None) -> str:
+def draw(timeline: Timeline, width: int | None = None, lists: bool = False) -> str:
     """The time line, at most `width` columns wide, the threads' names among them."""
-    gutter = max([4] + [len(thread.name) for thread in timeline.threads]) + 1
+    names = [thread.name for thread in timeline.threads] + [mutex.name for mutex in timeline.mutexes]
+    gutter = max([4, *map(len, names)]) + 1
     columns = Columns(timeline, max(LEAST_WIDTH, (width or DEFAULT_WIDTH) - gutter))
     letters = letters_of(timeline.priorities)
     numbers, strokes = ruler(columns)
     rows = [heading(timeline, columns), "tick".ljust(gutter) + numbers, " " * gutter + strokes]
     for thread in timeline.threads:
         rows.append(thread.name.ljust(gutter) + state_row(thread, columns, letters))
+        rows += [" " * gutter + row for row in frames_row(thread, columns)]
         rows += [" " * gutter + row for row in mark_rows(thread, columns)]
     if timeline.idle:
         row = [" "] * columns.count
@@ -208,4 +269,6 @@ def draw(timeline: Timeline, width: int | None = None) -> str:
         for before, after in pairwise([(0, 0)] + [(c.column, c.column + len(CUT)) for c in columns.cuts]):
             row[after[0]:after[1]] = CUT
         rows.append("idle".ljust(gutter) + "".join(row).rstrip())
-    return "\n".join(line.rstrip() for line in rows + [""] + legend(timeline, columns, letters)) + "\n"
+    rows += [name.ljust(gutter) + row for name, row in owner_rows(timeline, columns)]
+    told = legend(timeline, columns, letters) + (["", *list_lines(timeline)] if lists else [])
+    return "\n".join(line.rstrip() for line in rows + [""] + told) + "\n"

@@ -1,44 +1,74 @@
-"""A value change dump (IEEE 1364, 18) for GTKWave and other wave viewers. A tick is written as a nanosecond.
+"""A value change dump (IEEE 1364, 18) for GTKWave and other wave viewers. A tick is written as a nanosecond, or as --tick says.
 
-Of the whole machine it has `running`, the number of the thread that runs, from 0 on in the order of declaration, and
-`running_name`. Of each thread it has `state`, `priority` (that of the last dispatch, x while it does not run), and of a
-server `capacity`. In the string `state` a thread is dormant, ready, running, waiting, not_running or ended.
+All variables stand in one scope, with the names that a viewer shows: `processor`, who runs or `idle`; for each thread
+`low.state` and `low.priority`, and of a server `low.capacity`; of a detail for each mutex `data.owner`, and the values of
+semaphores and the numbers of messages in queues. No value is unknown: what is not there is `dormant`, `ended` or 0.
 """
 from __future__ import annotations
 
 from collections.abc import Iterator
 from operator import itemgetter
 
-from .steps import capacity_steps, steps_at_most
-from .timeline import State, ThreadLine, Timeline
+from .kinds import labels
+from .steps import steps_at_most
+from .timeline import Span, State, ThreadLine, Timeline
+from .values import capacity, owner_at, priorities, queues, semaphores
 
-NAMES = {State.RUNNING: "running", State.READY: "ready", State.WAITING: "waiting", State.OFF: "not_running"}
 Change = tuple[int, str]
 
 
-def draw(timeline: Timeline, _width: int | None = None) -> str:
-    codes = _codes()
-    running, running_name = next(codes), next(codes)
-    head = ["$comment a trace of pse52: 1 ns stands for one tick $end", "$timescale 1 ns $end", "$scope module pse52 $end",
-            f"$var reg 8 {running} running $end", f"$var string 1 {running_name} running_name $end"]
-    changes = list(_running(timeline, running, running_name))
-    most = steps_at_most(timeline)
-    for thread in timeline.threads:
-        state, priority = next(codes), next(codes)
-        head += [f"$scope module {thread.name} $end", f"$var string 1 {state} state $end",
-                 f"$var reg 8 {priority} priority $end"]
-        changes += _states(thread, state)
-        changes += _priorities(thread, priority)
-        if thread.is_sporadic:
-            capacity = next(codes)
-            head.append(f"$var reg 64 {capacity} capacity $end")
-            changes.append((0, f"bx {capacity}"))
-            changes += ((time, f"b{value:b} {capacity}") for time, value in capacity_steps(thread.capacity, most))
-            if thread.ended is not None:
-                changes.append((thread.ended, f"bx {capacity}"))
-        head.append("$upscope $end")
-    head += ["$upscope $end", "$enddefinitions $end"]
-    return "\n".join(head + _dump(changes, timeline.end)) + "\n"
+def draw(timeline: Timeline) -> str:
+    tick = timeline.tick or "1ns"
+    dump = _Dump(timeline)
+    unit = tick.lstrip("0123456789")
+    head = [f"$comment a run of pse52: one tick is {tick} $end", f"$timescale {_timescale(tick)} {unit} $end", "$scope module pse52 $end",
+            *dump.head, "$upscope $end", "$enddefinitions $end"]
+    return "\n".join(head + _dumped(dump.changes, timeline.start, timeline.end, _factor(tick))) + "\n"
+
+
+def _timescale(tick: str) -> int:
+    """The number of the unit of the dump: 1, 10 or 100, the only ones that there are."""
+    number = int(tick.rstrip("nsum"))
+    return next(scale for scale in (100, 10, 1) if number % scale == 0)
+
+
+def _factor(tick: str) -> int:
+    return int(tick.rstrip("nsum")) // _timescale(tick)
+
+
+class _Dump:
+    """The declarations of the variables, and all their changes."""
+
+    def __init__(self, timeline: Timeline) -> None:
+        self._codes = _codes()
+        self.head: list[str] = []
+        self.changes: list[Change] = []
+        self._text("processor", _processor(timeline))
+        most = steps_at_most(timeline)
+        for thread in timeline.threads:
+            self._text(f"{thread.name}.state", _states(thread, timeline.start))
+            self._number(f"{thread.name}.priority", 8, priorities(timeline, thread), timeline.start)
+            if thread.is_sporadic:
+                self._number(f"{thread.name}.capacity", 64, capacity(thread, most), timeline.start)
+        for mutex in timeline.mutexes:
+            times = [timeline.start, *(time for time, _ in timeline.facts.changes("mutex", mutex.name) if timeline.start < time <= timeline.end)]
+            self._text(f"{mutex.name}.owner", ((time, owner_at(timeline.facts, mutex.name, time)) for time in times))
+        for name, steps in semaphores(timeline).items():
+            self._number(f"{name}.value", 16, steps, timeline.start)
+        for name, steps in queues(timeline).items():
+            self._number(f"{name}.messages", 8, steps, timeline.start)
+
+    def _text(self, name: str, changes: Iterator[tuple[int, str]]) -> None:
+        code = next(self._codes)
+        self.head.append(f"$var string 1 {code} {name} $end")
+        self.changes += ((time, f"s{value} {code}") for time, value in changes)
+
+    def _number(self, name: str, bits: int, steps: list[tuple[int, int]], start: int) -> None:
+        code = next(self._codes)
+        self.head.append(f"$var integer {bits} {code} {name} $end")
+        if not steps or steps[0][0] > start:
+            self.changes.append((start, f"b0 {code}"))
+        self.changes += ((max(time, start), f"b{value:b} {code}") for time, value in steps)
 
 
 def _codes() -> Iterator[str]:
@@ -50,65 +80,57 @@ def _codes() -> Iterator[str]:
             yield first + second
 
 
-def _running(timeline: Timeline, number: str, name: str) -> Iterator[Change]:
-    """Who runs. Of what is told for one instant the last holds, so `nobody` comes first."""
-    yield 0, f"bx {number}"
-    yield 0, f"snobody {name}"
-    for at, thread in enumerate(timeline.threads):
-        for span in thread.spans:
-            if span.state is State.RUNNING:
-                yield span.start, f"b{at:b} {number}"
-                yield span.start, f"s{thread.name} {name}"
+def _processor(timeline: Timeline) -> Iterator[tuple[int, str]]:
+    """Who runs. Of what is told for one instant the last holds."""
+    yield timeline.start, "idle"
     for start, _ in timeline.idle:
-        yield start, f"bx {number}"
-        yield start, f"snobody {name}"
+        yield start, "idle"
+    for thread in timeline.threads:
+        for start, _ in thread.runs:
+            yield start, thread.name
 
 
-def _states(thread: ThreadLine, code: str) -> Iterator[Change]:
-    yield 0, f"sdormant {code}"
+def state_word(span: Span) -> str:
+    """A state as one word: of a wait what it is for, of a handler its name."""
+    match span.state:
+        case State.RUNNING:
+            return f"running_{span.frame}" if span.frame else "running"
+        case State.READY:
+            return "ready"
+        case State.WAITING:
+            return "_".join(["waiting", *labels(span)[0].split()]) if span.kind else "waiting"
+    return "not_running"
+
+
+def _states(thread: ThreadLine, start: int) -> Iterator[tuple[int, str]]:
+    yield start, "ended" if thread.ended is not None and not thread.spans else "dormant"
     for span in thread.spans:
-        yield span.start, f"s{NAMES[span.state]} {code}"
+        yield span.start, state_word(span)
     if thread.ended is not None:
-        yield thread.ended, f"sended {code}"
+        yield thread.ended, "ended"
 
 
-def _priorities(thread: ThreadLine, code: str) -> Iterator[Change]:
-    yield 0, f"bx {code}"
-    for span in thread.spans:
-        if span.state is State.RUNNING:
-            yield span.start, f"b{span.priority:b} {code}"
-        else:
-            yield span.start, f"bx {code}"
-    if thread.ended is not None:
-        yield thread.ended, f"bx {code}"
-
-
-def _dump(changes: list[Change], end: int) -> list[str]:
-    """The changes in the order of their times. Of those of one instant the last holds; the first are the values at 0."""
+def _dumped(changes: list[Change], start: int, end: int, factor: int) -> list[str]:
+    """The changes in the order of their times. Of those of one instant the last holds; the first are the values at the beginning."""
     changes.sort(key=itemgetter(0))
     last: dict[str, str] = {}
     pending: dict[str, str] = {}
-    lines, now = [], 0
+    lines, now = [], start
     for time, change in changes:
         if time != now:
-            _flush(pending, last, lines, now)
+            _flush(pending, last, lines, now * factor, now == start)
             now = time
-        value, _, code = change.partition(" ")
+        value, _, code = change.rpartition(" ")
         pending[code] = value
-    _flush(pending, last, lines, now)
+    _flush(pending, last, lines, now * factor, now == start)
     if now < end:
-        lines.append(f"#{end}")
+        lines.append(f"#{end * factor}")
     return lines
 
 
-def _flush(pending: dict[str, str], last: dict[str, str], lines: list[str], now: int) -> None:
+def _flush(pending: dict[str, str], last: dict[str, str], lines: list[str], now: int, first: bool) -> None:
     changed = [f"{value} {code}" for code, value in pending.items() if last.get(code) != value]
     last.update(pending)
     pending.clear()
-    if not changed:
-        return
-    lines.append(f"#{now}")
-    if now == 0:
-        lines += ["$dumpvars", *changed, "$end"]
-    else:
-        lines += changed
+    if changed:
+        lines += [f"#{now}", "$dumpvars", *changed, "$end"] if first else [f"#{now}", *changed]

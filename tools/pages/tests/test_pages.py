@@ -31,8 +31,17 @@ class Pages(unittest.TestCase):
     def test_the_page_on_sweeps(self) -> None:
         self.check("SWEEP.md")
 
+    def test_the_page_on_measures(self) -> None:
+        self.check("MEASURE.md")
+
     def test_the_page_on_response_times(self) -> None:
         self.check("RTA.md")
+
+    def test_the_page_on_facts(self) -> None:
+        self.check("FACTS.md")
+
+    def test_the_page_on_audits(self) -> None:
+        self.check("AUDIT.md")
 
     def test_the_examples_of_the_manual_pages(self) -> None:
         for page in sorted((TOP / "docs").glob("*.1")):
@@ -42,7 +51,9 @@ class Pages(unittest.TestCase):
                 command = command.replace(" 1000000", " 1000")  # the reference takes an hour for a million ticks
                 with tempfile.TemporaryDirectory() as folder:
                     clone(Path(folder))
-                    ended = subprocess.run(["bash", "-o", "pipefail", "-c", command], cwd=folder, capture_output=True, check=False)
+                    stand_in = f"{sys.executable} {TOP}/tools/pages/stand_in.py"
+                    ended = subprocess.run(["bash", "-o", "pipefail", "-c", command], cwd=folder, capture_output=True, check=False,
+                                           env=dict(os.environ, PSE52=os.environ.get("PSE52_PROGRAM", stand_in)))
                     self.assertEqual((ended.returncode, ended.stderr), (0, b""), command)
 
 

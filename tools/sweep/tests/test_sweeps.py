@@ -51,24 +51,24 @@ to = "return b yield"
 """
 # By hand: a runs for its ticks and one more; b is more urgent, so its yield returns a tick after its start. run 0 is out of range.
 TABLE = """\
-long,when,status,fault,a,yield_count,yield_greatest,yield_mean,yield_open
-2,0,0,,3,1,1,1.000,0
-2,2,0,,3,1,1,1.000,0
-2,4,0,,3,1,1,1.000,0
-5,0,0,,6,1,1,1.000,0
-5,2,0,,6,1,1,1.000,0
-5,4,0,,6,1,1,1.000,0
-0,0,2,refused 2 5 NumberRange,,,,,
-0,2,2,refused 2 5 NumberRange,,,,,
-0,4,2,refused 2 5 NumberRange,,,,,
+long,when,status,fault,a,yield_jobs,yield_least,yield_mean,yield_greatest,yield_jitter,yield_open
+2,0,0,,3,1,1,1.000,1,0,0
+2,2,0,,3,1,1,1.000,1,0,0
+2,4,0,,3,1,1,1.000,1,0,0
+5,0,0,,6,1,1,1.000,1,0,0
+5,2,0,,6,1,1,1.000,1,0,0
+5,4,0,,6,1,1,1.000,1,0,0
+0,0,2,refused 2 5 NumberRange,,,,,,,
+0,2,2,refused 2 5 NumberRange,,,,,,,
+0,4,2,refused 2 5 NumberRange,,,,,,,
 """
 
-# A program that takes a while that depends on its script, so that runs end in another order than they begin. It prints the idle trace.
+# A program that takes a while that depends on its script, so that runs end in another order than they begin. It prints the trace of a yield.
 SLOW = """\
 import sys, time, zlib
 text = sys.stdin.buffer.read()
 time.sleep(zlib.crc32(text) % 7 / 50)
-print(f"0 idle\\n{sys.argv[-1]} end\\nthread a ticks {zlib.crc32(text) % 1000}")
+print(f"0 start b\\n1 return b yield 0 0\\n{sys.argv[-1]} end\\nthread a ticks {zlib.crc32(text) % 1000}\\nthread b ticks 1")
 """
 
 
@@ -82,7 +82,7 @@ time.sleep(zlib"""
 )
 
 
-# Prints the idle trace. The first to come kills what WHOM says: itself, or the job that started it.
+# Prints the trace of a yield. The first to come kills what WHOM says: itself, or the job that started it.
 KILLER = """\
 import os, pathlib, signal, sys
 text = sys.stdin.buffer.read()
@@ -92,7 +92,7 @@ try:
     os.kill(WHOM, signal.SIGKILL)
 except FileExistsError:
     pass
-print(f"0 idle\\n{sys.argv[-1]} end\\nthread a ticks {len(text)}")
+print(f"0 start b\\n1 return b yield 0 0\\n{sys.argv[-1]} end\\nthread a ticks {len(text)}\\nthread b ticks 1")
 """
 
 
@@ -238,6 +238,45 @@ class Sweeps(Folder):
         self.assertEqual(ticks, {("0", "0"): "0", ("0", "2"): "0", ("0", "4"): "0", ("2", "0"): "2", ("2", "2"): "0", ("2", "4"): "0",
                                  ("4", "0"): "3", ("4", "2"): "1", ("4", "4"): "0", ("20", "0"): "10", ("20", "2"): "10", ("20", "4"): "10"})
 
+    def test_the_table_where_it_is_asked_for(self) -> None:
+        self.write()
+        ended = self.sweep("--jobs", "2", "--output", str(self.folder / "out" / "mine.csv"))
+        self.assertEqual(ended.returncode, 2, ended.stderr)  # There is no such folder.
+        (self.folder / "out").mkdir()
+        ended = self.sweep("--jobs", "2", "--output", str(self.folder / "out" / "mine.csv"))
+        self.assertEqual(ended.returncode, 0, ended.stderr)
+        self.assertEqual((self.folder / "out" / "mine.csv").read_text(), TABLE)
+        self.assertEqual(sorted(file.name for file in self.folder.iterdir()), ["out", "two.task.in", "two.toml"])
+
+    def test_put_together_by_a_name(self) -> None:
+        self.write()
+        ended = self.sweep("--jobs", "2", "--by", "long")
+        self.assertEqual(ended.stdout.splitlines()[1:], [
+            "long  runs  faults   a  yield_jobs  yield_least  yield_greatest  yield_open",
+            "   2     3       0   9           3            1               1           0",
+            "   5     3       0  18           3            1               1           0",
+            "   0     3       3                                                         "])
+        self.assertEqual(self.sweep("--by", "long,speed").returncode, 2)
+
+    def test_runs_without_a_trace_are_told(self) -> None:
+        self.write()
+        ended = self.sweep("--jobs", "2")
+        self.assertIn("3 of 9 runs have no trace; the first says: refused 2 5 NumberRange", ended.stderr)
+        self.assertIn("measure 'yield': from 'start' counts the first job", ended.stderr)
+        self.write(TOML.replace("[2, 5, 0]", "[0]"))
+        ended = self.sweep("--jobs", "2")
+        self.assertEqual(ended.returncode, 2)
+        self.assertIn("no run ended with a trace", ended.stderr)
+        self.assertEqual(len(self.table().splitlines()), 1 + 3)
+
+    def test_a_measure_that_names_nothing(self) -> None:
+        for there, other, why in (('thread = "a"', 'thread = "aa"', "the trace has no thread 'aa'"),
+                                  ("return b yield", "return b gettime", "measure 'yield': in no run a job is done")):
+            self.write(TOML.replace(there, other))
+            ended = self.sweep("--jobs", "2")
+            self.assertEqual(ended.returncode, 2, ended.stderr)
+            self.assertIn(why, ended.stderr)
+
     def test_what_is_missing(self) -> None:
         self.write()
         alone = self.path("xargs")
@@ -279,7 +318,8 @@ class Sweeps(Folder):
         sweep = read_sweep(self.folder / "two.toml")
         with Streams() as streams:
             row = row_of(sweep, sweep.run(0), ["/nowhere/pse52"], streams)
-        self.assertEqual(row, ["2", "0", "127", "/nowhere/pse52: No such file or directory"] + [""] * 5)
+        self.assertEqual(row, ["2", "0", "127", "/nowhere/pse52: No such file or directory"] + [""] * 7)
+
 
 class Pictures(Folder):
     def test_the_greatest_of_each_point(self) -> None:

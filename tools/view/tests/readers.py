@@ -37,14 +37,23 @@ def through_fst(dump: bytes, folder: Path) -> str:
     return back.stdout.decode()
 
 
-def page_in_a_browser(page: str, script: str, folder: Path) -> str:
-    """What `script` writes into the page, run behind the page's own script in a browser without a window."""
-    browser = needs("the page in a browser", "chromium", "chromium-browser", "google-chrome")
-    probe = f'<pre id="result"></pre><script>{script}</script></body>'
-    file = folder / "page.html"
-    file.write_text(page.replace("</body>", probe))
-    ended = run([browser, "--headless", "--no-sandbox", "--disable-gpu", "--window-size=1200,700",
-                 f"--user-data-dir={folder / 'browser'}", "--virtual-time-budget=4000", "--dump-dom", file.as_uri()])
-    text = ended.stdout.decode()
-    start = text.index('<pre id="result">') + len('<pre id="result">')
-    return text[start:text.index("</pre>", start)]
+def browser(width: int, height: int):
+    """A browser without a window, by its driver. Debian keeps the driver's library for its own Python, where another one may find it."""
+    needs("the page in a browser", "chromium", "chromium-browser", "google-chrome")
+    needs("the page in a browser", "chromedriver")
+    try:
+        import selenium  # noqa: F401
+    except ImportError:
+        sys.path.append("/usr/lib/python3/dist-packages")
+    try:
+        from selenium import webdriver
+        from selenium.webdriver.chrome.service import Service
+    except ImportError:
+        print("skipped: the page in a browser, since python3-selenium is not here", file=sys.stderr)
+        raise unittest.SkipTest("selenium is not here") from None
+    options = webdriver.ChromeOptions()
+    options.binary_location = needs("the page in a browser", "chromium", "chromium-browser", "google-chrome")
+    for word in ("--headless=new", "--no-sandbox", "--disable-gpu", f"--window-size={width},{height}"):
+        options.add_argument(word)
+    options.set_capability("goog:loggingPrefs", {"browser": "ALL"})
+    return webdriver.Chrome(service=Service(needs("the page in a browser", "chromedriver")), options=options)

@@ -3,9 +3,8 @@ from __future__ import annotations
 
 import random
 import unittest
-from importlib import import_module
 
-from view.main import FORMATS
+from view.main import FORMATS, drawer
 
 from .worked import timeline_of_text
 
@@ -32,13 +31,13 @@ def any_trace(seed: int) -> str:
 
 class AnyTrace(unittest.TestCase):
     def test_every_format_draws_it(self) -> None:
-        drawers = {name: import_module(f"view.{name}").draw for name in FORMATS}
+        drawers = {name: drawer(name) for name in FORMATS}
         for seed in range(400):
             text = any_trace(seed)
             seen = timeline_of_text(text)
             for name, draw in drawers.items():
                 try:
-                    self.assertTrue(draw(seen, 60 if name == "text" else None))
+                    self.assertTrue(draw(*([seen, 60] if name == "text" else [seen])))
                 except Exception as error:
                     raise AssertionError(f"{name}, seed {seed}:\n{text}") from error
 
@@ -47,7 +46,7 @@ class AnyTrace(unittest.TestCase):
                      "0 dispatch a 1\n", "3 killed rt1\n3 end\n", "0 end\nthread a ticks 0 high 0 init 1 refilled 0 capacity 1\n"):
             seen = timeline_of_text(text)
             for name in FORMATS:
-                self.assertTrue(import_module(f"view.{name}").draw(seen, None))
+                self.assertTrue(drawer(name)(seen))
 
 
 if __name__ == "__main__":

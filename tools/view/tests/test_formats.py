@@ -9,9 +9,9 @@ import xml.etree.ElementTree as ElementTree
 from decimal import Decimal
 from pathlib import Path
 
-from view.main import command_of, drawer
+from view.main import FORMATS, WIDE, command_of, drawer
 
-from .readers import needs, page_in_a_browser, run, through_fst
+from .readers import needs, run, through_fst
 from .worked import (
     CONTROLLER, CONTROLLER_CAPACITY, CONTROLLER_RUNS, CONTROLLER_WAITS, SLEEPS, SLEEPS_RUNS, TWO_BUDGETS,
     TWO_BUDGETS_CAPACITY, TWO_BUDGETS_RUNS, all_worked, joined, text_of, timeline, view)
@@ -32,15 +32,16 @@ h    AAAAAAAAA
      >        x
 
 priority: A 9, B 8
-- ready, . waiting, ? not running and no more is told; a small letter: in a part of the column
+- ready
 marks: > start, x exit, ^ activate, ! exhaust, p plan, + refill
 """
 
 
 def shown(name: str, form: str, *words: str) -> str:
     """What the command writes of a worked trace, without a process for each of them."""
-    form, width = command_of([form, *words])
-    return drawer(form)(timeline(name), width)
+    said = command_of([form, *words])
+    seen = timeline(name)
+    return drawer(form)(seen, said.width) if form in WIDE else drawer(form)(seen)
 
 
 class Text(unittest.TestCase):
@@ -179,42 +180,55 @@ class Dump:
 
 
 class Vcd(unittest.TestCase):
-    def check(self, dump: Dump, runs: list[tuple[int, int, str, int]], names: list[str]) -> None:
+    def check(self, dump: Dump, runs: list[tuple[int, int, str, int]]) -> None:
         for start, end, name, priority in runs:
             for tick in {start, (start + end) // 2, end - 1}:
-                self.assertEqual(dump.number("running", tick), names.index(name), tick)
-                self.assertEqual(dump.at("running_name", tick), name)
+                self.assertEqual(dump.at("processor", tick), name)
                 self.assertEqual(dump.at(f"{name}.state", tick), "running")
                 self.assertEqual(dump.number(f"{name}.priority", tick), priority)
 
     def check_controller(self, text: str) -> None:
         dump = Dump(text)
-        self.check(dump, CONTROLLER_RUNS, ["ctl", "srv", "mon"])
-        self.assertIsNone(dump.number("running", 7))
+        self.check(dump, CONTROLLER_RUNS)
+        self.assertEqual(dump.at("processor", 7), "idle")
         for tick, capacity in CONTROLLER_CAPACITY.items():
             self.assertEqual(dump.number("srv.capacity", tick), capacity, tick)
         for name, start, end, _ in CONTROLLER_WAITS:
             self.assertEqual({dump.at(f"{name}.state", tick) for tick in (start, end - 1)}, {"waiting"})
         self.assertEqual(dump.at("mon.state", 2), "dormant")
+        self.assertEqual(dump.number("mon.priority", 2), 0)
 
     def test_the_dump_as_it_is_written(self) -> None:
         self.check_controller(shown(CONTROLLER, "vcd"))
-        self.check(Dump(shown(SLEEPS, "vcd")), SLEEPS_RUNS, ["a", "b", "c"])
+        self.check(Dump(shown(SLEEPS, "vcd")), SLEEPS_RUNS)
         self.assertEqual(shown(SLEEPS, "vcd").splitlines()[-1], f"#{10**18}")
+
+    def test_no_value_is_unknown(self) -> None:
+        for name in all_worked():
+            self.assertNotRegex(shown(name, "vcd"), r"(?m)^bx", name)
 
     def test_the_dump_as_gtkwave_reads_it(self) -> None:
         with tempfile.TemporaryDirectory() as folder:
             self.check_controller(through_fst(shown(CONTROLLER, "vcd").encode(), Path(folder)))
-            self.check(Dump(through_fst(shown(SLEEPS, "vcd").encode(), Path(folder))), SLEEPS_RUNS, ["a", "b", "c"])
+            self.check(Dump(through_fst(shown(SLEEPS, "vcd").encode(), Path(folder))), SLEEPS_RUNS)
 
     def test_gtkwave_reads_every_worked_trace(self) -> None:
         with tempfile.TemporaryDirectory() as folder:
             for name in all_worked():
                 through_fst(shown(name, "vcd").encode(), Path(folder))
 
+    def test_the_length_of_a_tick(self) -> None:
+        for tick, scale, last in (("1us", "1 us", 44), ("250ns", "10 ns", 44 * 25), ("20ms", "10 ms", 88)):
+            seen = timeline(CONTROLLER)
+            seen.tick = tick
+            text = drawer("vcd")(seen)
+            self.assertIn(f"$timescale {scale} $end", text)
+            self.assertEqual(text.splitlines()[-1], f"#{last}")
+
 
 class Perfetto(unittest.TestCase):
     FIELDS = {"X": {"ph", "pid", "tid", "ts", "dur", "name", "cat"}, "i": {"ph", "s", "pid", "tid", "ts", "name"},
+              "s": {"ph", "pid", "tid", "ts", "id", "cat", "name"}, "f": {"ph", "pid", "tid", "ts", "id", "cat", "name", "bp"},
               "C": {"ph", "pid", "ts", "name", "args"}, "M": {"ph", "pid", "tid", "name", "args"}}
 
     @staticmethod
@@ -237,6 +251,11 @@ class Perfetto(unittest.TestCase):
             for tick, capacity in wanted.items():
                 self.assertEqual([value for time, value in told if time <= tick][-1], capacity, (name, tick))
 
+    def test_the_processor_has_a_track(self) -> None:
+        runs = [(int(e["ts"] * 1000), int((e["ts"] + e["dur"]) * 1000), e["name"]) for e in self.events(CONTROLLER)
+                if e["ph"] == "X" and e["tid"] == 0]
+        self.assertEqual(sorted(runs), [(start, end, name) for start, end, name, _ in CONTROLLER_RUNS])
+
     def test_events_are_instants_and_fields_are_the_formats(self) -> None:
         for name in all_worked():
             events = self.events(name)
@@ -248,84 +267,7 @@ class Perfetto(unittest.TestCase):
             self.assertEqual(sorted(told), sorted(lines), name)
 
 
-# Moves the mouse over ticks of the controller, holds the cursor, steps by keys, zooms by the wheel and pans by a drag.
-PAGE_SCRIPT = """
-const said = [];
-const show = (what) => said.push(what + ": " + document.getElementById("tick").textContent + " " + document.getElementById("who").textContent);
-const mouse = (kind, x) => { const box = canvas.getBoundingClientRect();
-  canvas.dispatchEvent(new MouseEvent(kind, { clientX: box.left + x, clientY: box.top + 60, bubbles: true })); };
-const over = (tick) => mouse("mousemove", xOf(tick + 0.5));
-for (const tick of [0, 5, 6, 7, 19, 24, 27, 34, 36, 43]) { over(tick); show("over"); }
-over(24);
-said.push("list: " + [...document.querySelectorAll("#list li.now")].map((li) => li.textContent).join(" | "));
-over(1);
-said.push("mon: " + [...document.querySelectorAll("#states li")].map((li) => li.textContent)[2]);
-over(38);
-said.push("srv: " + [...document.querySelectorAll("#states li")].map((li) => li.textContent)[1]);
-const key = (name) => window.dispatchEvent(new KeyboardEvent("keydown", { key: name }));
-key("ArrowRight"); show("right"); key("ArrowLeft"); key("ArrowLeft"); show("left left"); key("n"); show("next"); key("p"); show("before");
-const whole = Number(document.body.dataset.scale), x = Math.round(xOf(30)), fixed = placeOf(x), box = canvas.getBoundingClientRect();
-for (let i = 0; i < 4; i++) canvas.dispatchEvent(new WheelEvent("wheel", { deltaY: -200, clientX: box.left + x, clientY: box.top + 60, bubbles: true, cancelable: true }));
-const zoomed = Number(document.body.dataset.scale);
-said.push("zoomed: " + (zoomed > whole * 2) + " " + (Math.abs(placeOf(x) - fixed) * zoomed < 1));
-const from = Number(document.body.dataset.left);
-mouse("mousedown", 400); mouse("mousemove", 500); mouse("mouseup", 500);
-said.push("panned: " + (Math.abs((from - Number(document.body.dataset.left)) * zoomed - 100) < 1));
-document.getElementById("all").click();
-said.push("all: " + (Number(document.body.dataset.scale) === whole) + " " + document.body.dataset.left);
-document.getElementById("in").click();
-said.push("button: " + (Number(document.body.dataset.scale) > whole));
-document.getElementById("result").textContent = said.join("\\n");
-"""
-PAGE_SAYS = """\
-over: 0 · ctl runs at priority 30, from 0 to 5
-over: 5 · srv runs at priority 20, from 5 to 6
-over: 6 · mon runs at priority 10, from 6 to 7
-over: 7 · idle
-over: 19 · idle
-over: 24 · ctl runs at priority 30, from 24 to 25
-over: 27 · mon runs at priority 30, from 25 to 29
-over: 34 · ctl runs at priority 30, from 29 to 35
-over: 36 · srv runs at priority 20, from 35 to 40
-over: 43 · mon runs at priority 10, from 43 to 44
-list: 24 deliver ctl rt5 TIMER 0 | 24 return ctl sigwaitinfo 0 5 | 24 dispatch ctl 30
-mon: mon has not started
-srv: srv runs at priority 20, capacity 2
-right: 39 · srv runs at priority 20, from 35 to 40
-left left: 37 · srv runs at priority 20, from 35 to 40
-next: 40 · mon runs at priority 10, from 40 to 42
-before: 36 · srv runs at priority 20, from 35 to 40
-zoomed: true true
-panned: true
-all: true 0
-button: true"""
-
-FAR_SCRIPT = """
-const said = [], show = () => said.push(document.getElementById("tick").textContent + " " + document.getElementById("who").textContent);
-const key = (name) => window.dispatchEvent(new KeyboardEvent("keydown", { key: name }));
-key("n"); show(); key("n"); show(); key("n"); key("n"); key("n"); show(); key("ArrowRight"); show(); key("End"); show(); key("ArrowLeft"); show();
-said.push(data.cuts.length + " cuts");
-document.getElementById("result").textContent = said.join("\\n");
-"""
-FAR_SAYS = """\
-1 · a runs at priority 5, from 1 to 2
-2 · c runs at priority 1, from 2 to 500000000000000001
-500000000000000001 · b runs at priority 6, from 500000000000000001 to 500000000000000002
-500000000000000002 · c runs at priority 1, from 500000000000000002 to 600000000000000002
-1000000000000000000 · the run is over
-999999999999999999 · c runs at priority 1, from 600000000000000003 to 1000000000000000000
-3 cuts"""
-
-
 class Html(unittest.TestCase):
-    def test_the_cursor_and_the_zoom_in_a_browser(self) -> None:
-        with tempfile.TemporaryDirectory(ignore_cleanup_errors=True) as folder:
-            self.assertEqual(page_in_a_browser(shown(CONTROLLER, "html"), PAGE_SCRIPT, Path(folder)), PAGE_SAYS)
-
-    def test_the_greatest_horizon_in_a_browser(self) -> None:
-        with tempfile.TemporaryDirectory(ignore_cleanup_errors=True) as folder:
-            self.assertEqual(page_in_a_browser(shown(SLEEPS, "html"), FAR_SCRIPT, Path(folder)), FAR_SAYS)
-
     def test_the_page_needs_no_network(self) -> None:
         page = shown(CONTROLLER, "html")
         self.assertNotRegex(page, r"(?i)(src|href)\s*=\s*[\"']?(https?:)?//")
@@ -349,7 +291,7 @@ class Large(unittest.TestCase):
             time += 1 + turn % 5
             lines.append(f"{time} return t{turn % 64} yield 0 0")
         trace = ("\n".join(lines) + f"\n{time} end\n").encode()
-        for form in ("text", "svg", "html", "vcd", "perfetto"):
+        for form in FORMATS:
             ended = view([form], trace)
             self.assertEqual(ended.returncode, 0, ended.stderr)
             if form == "svg":

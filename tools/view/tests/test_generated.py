@@ -3,9 +3,8 @@ from __future__ import annotations
 
 import sys
 import unittest
-from importlib import import_module
 
-from view.main import FORMATS
+from view.main import FORMATS, drawer
 from view.timeline import State, Timeline
 
 from .worked import TOP, timeline_of_text
@@ -61,11 +60,11 @@ class Generated(unittest.TestCase):
             self.assertEqual(wrong(*watched(seed)), [], seed)
 
     def test_every_format_draws_them(self) -> None:
-        drawers = [import_module(f"view.{name}").draw for name in FORMATS]
+        drawers = [drawer(name) for name in FORMATS]
         for seed in range(0, SCRIPTS, 4):
             seen = watched(seed)[1]
             for draw in drawers:
-                self.assertTrue(draw(seen, None), seed)
+                self.assertTrue(draw(seen), seed)
 
 
 if __name__ == "__main__":

@@ -5,9 +5,13 @@ import os
 import pty
 import subprocess
 import sys
+import tempfile
 import unittest
+from pathlib import Path
 
+from view.facts import Fact, ThreadFact, WrongFact, thread_fact_of
 from view.lines import CALLS, Budget, Closing, Deliver, Dispatch, NotATraceLine, Plan, Return, read_trace
+from view.main import FORMATS
 
 from .worked import TOP, VIEW, all_worked, text_of, view
 
@@ -58,15 +62,39 @@ class Lines(unittest.TestCase):
         from forms import FORMS, Role
         no_calls = {"run", "set", "add", "take", "end", "if", "unless", "loop", "forever"}
         heads = {form.head for form in FORMS if form.role in (Role.STEP, Role.BLOCK, Role.CLOSE)}
-        self.assertEqual(CALLS, heads - no_calls)
+        self.assertLessEqual(heads - no_calls, CALLS)
+        self.assertLessEqual(CALLS - heads, {"clock_settime", "real_gettime"})
 
     def test_a_beginning_is_read(self) -> None:
         self.assertEqual(len(read_trace([b"0 start a\n", b"0 dispatch a 5"]).events), 2)
 
 
+class FactLines(unittest.TestCase):
+    def test_facts_stand_beside_the_events(self) -> None:
+        trace = read_trace([b"0 start a\n", b"0 list 5 a\n", b"0 thread a ready 5 5\n", b"1 mutex m a 1\n", b"2 end\n", b"thread a ticks 2\n"])
+        self.assertEqual(len(trace.events), 3)
+        self.assertEqual(trace.facts, [Fact(0, "list", "5", ("a",), 1), Fact(0, "thread", "a", ("ready", "5", "5"), 1), Fact(1, "mutex", "m", ("a", "1"), 1)])
+
+    def test_what_a_thread_is(self) -> None:
+        for words, wanted in (("dormant", ThreadFact("dormant")), ("ready 1 6", ThreadFact("ready", 1, 6)),
+                              ("blocked 3 6 lock m1", ThreadFact("blocked", 3, 6, "lock", "m1")),
+                              ("blocked 5 5 nanosleep until 7", ThreadFact("blocked", 5, 5, "nanosleep", "", 7)),
+                              ("blocked 6 6 mq_timedsend q until 30", ThreadFact("blocked", 6, 6, "mq_timedsend", "q", 30))):
+            self.assertEqual(thread_fact_of(words.split()), wanted)
+        for words in ("", "asleep", "ready 1", "ready a b", "blocked 1 1", "blocked 1 1 lock m n", "blocked 1 1 lock m until"):
+            with self.assertRaises(WrongFact, msg=words):
+                thread_fact_of(words.split())
+
+    def test_facts_that_stand_wrong(self) -> None:
+        self.assertEqual(refused("5 start a", "4 list 5 a")[0], 2)
+        self.assertEqual(refused("5 end", "5 list 5 a")[0], 2)
+        self.assertEqual(refused("0 start a", "0 thread a")[0], 2)
+        self.assertEqual(refused("0 start a", "0 sem s")[0], 2)
+
+
 class Command(unittest.TestCase):
     def test_a_refused_line_is_named_and_nothing_is_written(self) -> None:
-        for name in ("text", "svg", "html", "vcd", "perfetto"):
+        for name in FORMATS:
             ended = view([name], b"0 start a\n0 dispatch a 5\n3 flies a\n")
             self.assertEqual((ended.returncode, ended.stdout), (2, b""))
             self.assertIn(b"line 3 is no trace line", ended.stderr)
@@ -83,11 +111,44 @@ class Command(unittest.TestCase):
         self.assertNotIn(b"\x1b", ended.stderr)
 
     def test_words_that_are_no_command(self) -> None:
-        for words in ([], ["pdf"], ["svg", "--width"], ["svg", "--width", "0"], ["svg", "--width", "x"], ["vcd", "--width", "9"],
-                      ["text", "svg"]):
+        for words, why in (([], "FORMAT"), (["pdf"], "'pdf'"), (["svg", "--width"], "--width"), (["svg", "--width", "0"], "no width"),
+                           (["svg", "--width", "x"], "no width"), (["vcd", "--width", "9"], "'vcd' has no --width"), (["html", "--lists"], "no --lists"),
+                           (["text", "--tick", "5"], "no length of a tick"), (["text", "--from", "-1"], "no number"), (["--versions"], "--versions"),
+                           (["text", "--horizon", "5"], "--horizon is for a script"), (["text", "--colour"], "--colour")):
             ended = view(words, b"0 end\n")
             self.assertEqual((ended.returncode, ended.stdout), (1, b""), words)
-            self.assertIn(b"usage: pse52-view", ended.stderr)
+            self.assertIn(why, ended.stderr.decode(), words)
+
+    def test_closed_streams(self) -> None:
+        for closed, status, words in (("<&-", 4, "text"), (">&-", 5, "svg"), (">&-", 5, "text")):
+            ended = subprocess.run(["sh", "-c", f"{sys.executable} {VIEW} {words} {closed}"], input=b"0 end\n" if ">" in closed else None,
+                                   capture_output=True, check=False)
+            self.assertEqual(ended.returncode, status, ended.stderr)
+            self.assertNotIn(b"Traceback", ended.stderr)
+
+    def test_what_is_wrong_with_a_line(self) -> None:
+        for trace, why in ((b"0 idle\n\n", "it is empty"), (b"0 idle\r\n", "Windows line end"), (b"refused 4 2 UnknownWord\n", "mend the script")):
+            self.assertIn(why, view(["text"], trace).stderr.decode())
+
+    def test_scripts(self) -> None:
+        script = b"# horizon 6\nthread a fifo 5 at 0\nrun 2\nend\n"
+        words = ["text", "--title", "one"]
+        told = view(words, script)
+        self.assertEqual((told.returncode, told.stdout[:20]), (0, b"one: ticks 0 to 6, a"), told.stderr)
+        self.assertIn(b"one: ticks 0 to 9", view([*words, "--horizon", "9"], script).stdout)
+        self.assertIn("--horizon N", view(words, script.replace(b"# horizon 6\n", b"")).stderr.decode())
+        self.assertIn("refused at line 3: UnknownWord", view(words, script.replace(b"run", b"rum")).stderr.decode())
+        file = TOP / "examples" / "06_protect.task"
+        for given in ([str(file)], ["--script", str(file)]):
+            self.assertIn("06_protect: ticks 0 to 26", view(["text", *given], b"").stdout.decode())
+        self.assertEqual(view(["text", "/nowhere/x"], b"").returncode, 4)
+
+    def test_through_links_from_anywhere(self) -> None:
+        with tempfile.TemporaryDirectory(suffix=" with blanks") as folder:
+            for name in ("pse52-view", "pse52-measure", "pse52-sweep"):
+                (Path(folder) / name).symlink_to(TOP / "bin" / name)
+                ended = subprocess.run([f"./{name}", "--help"], cwd=folder, capture_output=True, check=False)
+                self.assertEqual((ended.returncode, ended.stderr), (0, b""))
 
     def test_help(self) -> None:
         ended = view(["--help"], b"")

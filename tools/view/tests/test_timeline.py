@@ -15,6 +15,41 @@ def runs(seen) -> list[tuple[int, int, str, int]]:
                    for thread in seen.threads for span in thread.spans if span.state is State.RUNNING])
 
 
+# A strict server with one pending replenishment: preempted at 2 and exhausted at 6, it joins both plans in the refill of 14.
+STRICT = """\
+0 start s
+0 dispatch s 8
+0 activate s 4
+2 start h
+2 plan s 2 10
+2 dispatch h 9
+4 exit h
+4 dispatch s 8
+4 activate s 2
+6 exhaust s
+6 plan s 2 14
+14 refill s 4 4
+14 activate s 4
+16 end
+thread s ticks 14 high 6 init 4 refilled 4 capacity 2
+thread h ticks 2
+"""
+
+
+class Strict(unittest.TestCase):
+    def test_a_plan_at_a_preemption_is_no_wait(self) -> None:
+        strict = timeline_of_text(STRICT).threads[0]
+        self.assertEqual([(s.start, s.end, s.state) for s in strict.spans if s.state is not State.RUNNING], [(2, 4, State.READY)])
+        self.assertEqual([strict.capacity_at(tick) for tick in (0, 1, 2, 3, 4, 5, 6, 13, 14, 15)], [4, 3, 2, 2, 2, 1, 0, 0, 4, 3])
+        self.assertEqual([(plan.amount, plan.due, plan.refilled) for plan in strict.plans], [(2, 10, 14), (2, 14, 14)])
+        self.assertEqual(strict.high_ticks, 6)
+
+    def test_its_last_stretch_is_not_told(self) -> None:
+        """Up to the preemption alone nobody knows whether it waits, but what comes later tells that it was strict."""
+        seen = timeline_of_text("".join(line + "\n" for line in STRICT.splitlines()[:6]))
+        self.assertIs(seen.threads[0].span_at(1).state, State.RUNNING)
+
+
 class Timelines(unittest.TestCase):
     def test_who_runs_in_the_controller(self) -> None:
         seen = timeline(CONTROLLER)

@@ -6,7 +6,8 @@ import sys
 from pathlib import Path
 
 from view.lines import read_trace
-from view.timeline import Timeline, timeline_of
+from view.seen import timeline_of
+from view.timeline import Timeline
 
 TOP = Path(__file__).resolve().parents[3]
 WORKED = TOP / "tests" / "worked"

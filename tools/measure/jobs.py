@@ -1,0 +1,137 @@
+"""Jobs and their response times.
+
+A job is released and done. A periodic thread's job k is released at its phase plus k periods, whether or not the thread waited
+for it, and the k-th line that ends a job ends job k. Other jobs begin with a line, a start or a wake, and each line that ends
+one ends the oldest that is open.
+"""
+from __future__ import annotations
+
+from collections import deque
+from collections.abc import Iterable
+from dataclasses import dataclass
+from fractions import Fraction
+
+from .seen import Seen
+
+SLEEP = "call clock_nanosleep"
+
+
+class NamesNothing(Exception):
+    """What is asked for is not in the trace, or is there where it cannot be."""
+
+
+@dataclass(frozen=True, slots=True)
+class Job:
+    """When a job was released, and when it was done, if it was."""
+
+    release: int
+    done: int | None
+
+    @property
+    def response(self) -> int | None:
+        return None if self.done is None else self.done - self.release
+
+
+@dataclass(frozen=True, slots=True)
+class Jobs:
+    """The jobs of one measure, in the order of their releases, and the end of the run."""
+
+    jobs: list[Job]
+    end: int
+
+    @property
+    def responses(self) -> list[int]:
+        """The response times of the jobs that are done, the least first."""
+        return sorted(job.response for job in self.jobs if job.done is not None)
+
+    @property
+    def open(self) -> list[Job]:
+        return [job for job in self.jobs if job.done is None]
+
+    def late(self, deadline: int) -> int:
+        """How many jobs took longer than the deadline; one that is not done counts where it is older at the end."""
+        return sum((self.end if job.done is None else job.done) - job.release > deadline for job in self.jobs)
+
+    @property
+    def mean(self) -> Fraction | None:
+        responses = self.responses
+        return Fraction(sum(responses), len(responses)) if responses else None
+
+    def percentile(self, percent: int) -> int | None:
+        """The least response time that at least so many of a hundred jobs that are done do not exceed."""
+        responses = self.responses
+        return responses[max(0, -(-percent * len(responses) // 100) - 1)] if responses else None
+
+    @property
+    def jitter(self) -> int | None:
+        """The greatest response time less the least."""
+        responses = self.responses
+        return responses[-1] - responses[0] if responses else None
+
+
+def thread_of(seen: Seen, name: str) -> str:
+    """The name of a thread that is there. Without closing lines, which a trace lacks where a write failed, each name will do."""
+    if seen.closing and name not in seen.closing:
+        raise NamesNothing(f"the trace has no thread '{name}'; it has {', '.join(seen.closing)}")
+    return name
+
+
+def checked(seen: Seen, words: list[str]) -> list[str]:
+    """The first words of a line, whose thread is there."""
+    if len(words) > 1 and words[1] != "*" and words[0] not in ("idle", "end", "killed"):
+        thread_of(seen, words[1])
+    return words
+
+
+def ends(seen: Seen, thread: str, to: str) -> list[tuple[int, int]]:
+    """The lines that end jobs, as (line, time). `call CALL` is where the thread makes this call, waits or not."""
+    words = to.split()
+    if words[0] == "call":
+        return [(-1, time) for time in seen.calls(thread_of(seen, thread), words[1])]
+    return seen.lines(checked(seen, words))
+
+
+def periodic(seen: Seen, thread: str, period: int, phase: int, to: str, count: int | None) -> Jobs:
+    """The jobs of a thread that releases one at `phase` and at each period behind it, up to its end, at most `count` of them.
+
+    What ends a job before the first release, as a sleep up to it, does not count.
+    """
+    last = min(seen.end, seen.end if (exited := seen.exited(thread_of(seen, thread))) is None else exited)
+    releases = range(phase, last, period)
+    if count is not None:
+        releases = releases[:count]
+    done = [time for _, time in ends(seen, thread, to) if time > phase]
+    for release, time in zip(releases, done):
+        if time <= release:
+            raise NamesNothing(f"'{to}' at {time} ends a job before its release at {release}: the period, the phase or the line is another")
+    if len(done) > len(releases):
+        raise NamesNothing(f"'{to}' comes {len(done)} times for {len(releases)} jobs: the period, the phase or the line is another")
+    return Jobs([Job(release, done[k] if k < len(done) else None) for k, release in enumerate(releases)], seen.end)
+
+
+def answered(seen: Seen, begin: str, to: str, thread: str | None) -> Jobs:
+    """The jobs that begin with a line, or with a start or a wake of the thread; each `to` ends the oldest that is open.
+
+    A start or a wake opens nothing while one is open.
+    """
+    single = begin in ("start", "wake")
+    if begin == "start":
+        begins = seen.lines(["start", thread_of(seen, thread)])
+    elif begin == "wake":
+        thread_of(seen, thread)
+        begins = [(call.line, call.event.time) for call in seen.returned if call.event.name == thread and call.waited_since is not None]
+    else:
+        begins = seen.lines(checked(seen, begin.split()))
+    finishes = seen.lines(checked(seen, to.split()))
+    return Jobs(list(_matched(begins, finishes, single)), seen.end)
+
+
+def _matched(begins: list[tuple[int, int]], finishes: list[tuple[int, int]], single: bool) -> Iterable[Job]:
+    events = sorted([(line, time, True) for line, time in begins] + [(line, time, False) for line, time in finishes])
+    waiting: deque[int] = deque()
+    for _, time, is_begin in events:
+        if is_begin and not (single and waiting):
+            waiting.append(time)
+        elif not is_begin and waiting:
+            yield Job(waiting.popleft(), time)
+    yield from (Job(time, None) for time in waiting)

@@ -1,0 +1,168 @@
+"""The command `pse52-measure`."""
+from __future__ import annotations
+
+import argparse
+import os
+import sys
+import tomllib
+from enum import IntEnum
+from pathlib import Path
+
+from view.lines import NotATraceLine, read_trace
+from view.source import TOP, NoSource, detail_of, horizon_of
+
+from .jobs import NamesNothing, SLEEP
+from .measures import Measure, WrongMeasure, measure_of, measure_of_words
+from .rta import Analysis, remarks, rta_table
+from .seen import Seen
+from .tables import as_csv, as_text, jobs_table, share, tables_of
+from .tasks import NoTask
+
+TOOL = "pse52-measure"
+HELP = """Measures one trace or one detail of pse52: jobs and their response times, threads, waits, priorities, servers.
+Without --script the trace comes on standard input.
+
+--jobs has words KEY=VALUE, as a table [[measure]] of a sweep has them, for instance
+  --jobs 'thread=logger period=40 to="return logger gettime" deadline=39'
+  --jobs 'from="return source mq_send" to="return server sem_post" deadline=30'
+A job of a periodic thread counts from its release, whether or not the thread waited for it."""
+
+
+class Status(IntEnum):
+    """The exit statuses, those of pse52 where they mean the same."""
+
+    DONE = 0
+    USAGE = 1
+    REFUSED = 2
+    READ_FAULT = 4
+    WRITE_FAULT = 5
+
+
+class Usage(Exception):
+    """What is wrong with the words of the command."""
+
+
+class _Parser(argparse.ArgumentParser):
+    def error(self, message: str) -> None:
+        raise Usage(message)
+
+
+def words_of(words: list[str]) -> argparse.Namespace:
+    parser = _Parser(prog=TOOL, description=HELP, formatter_class=argparse.RawDescriptionHelpFormatter, allow_abbrev=False)
+    parser.add_argument("--version", action="version", version=f"{TOOL} {(TOP / 'VERSION').read_text().strip()}")
+    parser.add_argument("--script", type=Path, metavar="FILE", help="run this script, in place of a trace on standard input")
+    parser.add_argument("--horizon", type=int, metavar="N", help="for so many ticks; without it as a comment '# horizon N' on line 1 says")
+    parser.add_argument("--jobs", action="append", default=[], metavar="WORDS", help="measure jobs; it may come several times")
+    parser.add_argument("--measures", type=Path, metavar="FILE", help="measure the jobs that the tables [[measure]] of this file say")
+    parser.add_argument("--csv", action="store_true", help="write one CSV: table, of, what, figure, value")
+    parser.add_argument("--rta", action="store_true", help="also the periodic tasks of the script, and the response times that are proved for them")
+    said = parser.parse_args(words)
+    if said.script is None and (said.horizon is not None or said.rta):
+        raise Usage("--horizon and --rta need --script FILE")
+    if said.horizon is not None and not 0 <= said.horizon <= 10**18:
+        raise Usage("--horizon is a number from 0 to 1000000000000000000")
+    return said
+
+
+def measures_of(said: argparse.Namespace) -> list[Measure]:
+    """The measures of jobs that the words and the file name."""
+    measures = [measure_of_words(words) for words in said.jobs]
+    if said.measures:
+        try:
+            tables = tomllib.loads(said.measures.read_bytes().decode()).get("measure", [])
+        except (tomllib.TOMLDecodeError, UnicodeDecodeError) as wrong:
+            raise WrongMeasure(f"{said.measures}: {wrong}") from None
+        measures += [measure for measure in map(measure_of, tables) if measure.words["kind"] in ("periodic", "response")]
+    return measures
+
+
+def seen_of(said: argparse.Namespace) -> Seen:
+    """The trace or detail that is measured."""
+    if said.script is None:
+        if sys.stdin is None:
+            raise OSError(9, os.strerror(9))
+        return Seen(read_trace(sys.stdin.buffer))
+    script = said.script.read_bytes()
+    horizon = horizon_of(script) if said.horizon is None else said.horizon
+    if horizon is None:
+        raise Usage("--horizon N says for how many ticks the script runs")
+    return Seen(read_trace(detail_of(script, horizon, TOOL)))
+
+
+def check(seen: Seen, measures: list[Measure]) -> list[str]:
+    """What must be said beside the figures. Raises NamesNothing where a measure names what never comes."""
+    notes = []
+    for measure, row in zip(measures, jobs_table(seen, measures).rows):
+        if row[1] == row[-1]:
+            raise NamesNothing(f"measure '{measure.name}': {_nothing(measure, row[1])}")
+        if measure.warning:
+            notes.append(measure.warning)
+        if measure.needs_detail and not seen.is_detail and seen.stands_at_the_end(str(measure.words["thread"])):
+            notes.append(f"measure '{measure.name}': a trace does not tell whether the last job is done, since a call that waits has no "
+                         "line; with --script FILE, or of a detail, it is told")
+    if not seen.is_detail:
+        notes.append("a trace does not tell what a thread waits for, nor at which priority it runs on; "
+                     "with --script FILE, or of a detail, that is measured too")
+    return notes
+
+
+def _nothing(measure: Measure, jobs: str) -> str:
+    """Why no job of a measure is done."""
+    if jobs == "0":
+        return f"'{measure.words.get('from', 'a release')}' begins no job in this trace"
+    return f"of {jobs} jobs none is done, for '{measure.words.get('to', SLEEP)}' does not come behind the beginning of one"
+
+
+def heading(seen: Seen) -> str:
+    idle = sum(end - start for start, end in seen.runs.get("", ()))
+    busy = seen.end - idle
+    return f"{seen.end} ticks, of which the processor ran for {busy} ({share(busy, seen.end) or '0%'}) and was idle for {idle}\n\n"
+
+
+def write(text: str) -> Status:
+    try:
+        if sys.stdout is None:
+            raise OSError(9, os.strerror(9))
+        sys.stdout.write(text)
+        sys.stdout.flush()
+    except OSError as error:
+        print(f"{TOOL}: the output was not written: {error.strerror}", file=sys.stderr)
+        if sys.stdout is not None:
+            os.dup2(os.open(os.devnull, os.O_WRONLY), sys.stdout.fileno())
+        return Status.WRITE_FAULT
+    return Status.DONE
+
+
+def measured(said: argparse.Namespace) -> str:
+    """The text that is written."""
+    measures = measures_of(said)
+    seen = seen_of(said)
+    for note in check(seen, measures):
+        print(f"{TOOL}: {note}", file=sys.stderr)
+    tables = list(tables_of(seen, measures))
+    if not said.rta:
+        return as_csv(tables) if said.csv else heading(seen) + as_text(tables)
+    analysis = Analysis(said.script.read_bytes(), {str(m.words["thread"]): m.words["deadline"] for m in measures if {"thread", "deadline"} <= set(m.words)})
+    analysis.prove()
+    analysis.look(seen, measures)
+    tables.append(rta_table(analysis))
+    return as_csv(tables) if said.csv else heading(seen) + as_text(tables) + remarks(analysis)
+
+
+def main(words: list[str]) -> Status:
+    try:
+        return write(measured(words_of(words)))
+    except SystemExit as ended:
+        return Status.DONE if ended.code == 0 else Status.USAGE
+    except Usage as wrong:
+        print(f"{TOOL}: {wrong}; --help tells all", file=sys.stderr)
+        return Status.USAGE
+    except NotATraceLine as wrong:
+        print(f"{TOOL}: {wrong}", file=sys.stderr)
+        return Status.REFUSED
+    except (NamesNothing, WrongMeasure, NoSource, NoTask) as wrong:
+        print(f"{TOOL}: {wrong}", file=sys.stderr)
+        return Status.REFUSED
+    except OSError as error:
+        print(f"{TOOL}: {error.filename or 'the trace'} was not read: {error.strerror}", file=sys.stderr)
+        return Status.READ_FAULT

@@ -1,0 +1,179 @@
+"""Response times that are proved beside those that were seen: the tasks of a script, given to the command `rta`.
+
+What `rta` proves is of tasks that are released at their periods, need the processor alone, and wait for nobody but a thread of
+lower priority under a priority ceiling. Where a thread is none of these the analysis does not apply, and the reason is told.
+"""
+from __future__ import annotations
+
+from collections.abc import Iterable
+from dataclasses import dataclass
+from fractions import Fraction
+
+from view.source import RESPONSE_TIMES, answer
+
+from .jobs import SLEEP, Jobs, NamesNothing, periodic
+from .measures import Measure, jobs_of, shown
+from .seen import Seen
+from .tables import Table
+from .tasks import (
+    GREATEST_PERIOD, NoTask, Script, Stretch, Task, mutexes, stretches_of, tasks_of, whole_script_reasons)
+
+TOOL = "pse52-measure"
+GREATEST_BOUND = 100_000_000
+
+
+@dataclass
+class Analysed:
+    """A task with its blocking, its deadline, why the analysis does not apply, and what is proved and seen."""
+
+    task: Task
+    deadline: int | None
+    blocking: int = 0
+    why: str | None = None
+    proved: int | None = None
+    bound: int = 0
+    seen: Jobs | None = None
+
+    @property
+    def told(self) -> str:
+        """The response time that is proved, or that there is none up to the bound."""
+        return "" if self.why is not None else f">{self.bound}" if self.proved is None else str(self.proved)
+
+    @property
+    def verdict(self) -> str:
+        """What follows for the deadline. Beyond the period only the first job is proved of, and a later one may take longer."""
+        late = self.seen.late(self.deadline) if self.seen and self.deadline is not None else 0
+        longest = max(self.seen.responses, default=0) if self.seen else 0
+        if self.why is None and self.proved is not None and longest > self.proved:
+            return "longer than proved"
+        if late:
+            return "late"
+        if self.why is not None:
+            return "not analysed"
+        if self.deadline is None:
+            return "runs once"
+        if self.proved is None or self.proved > self.deadline or self.proved > (self.task.period or GREATEST_PERIOD):
+            return "may be late"
+        return "in time"
+
+
+def shared(script: Script, tasks: list[Task]) -> dict[int, list[Task]]:
+    """The threads that lock each mutex which several threads lock."""
+    users = {number: [task for task in tasks if number in task.locks] for number in range(len(mutexes(script)))}
+    return {number: found for number, found in users.items() if len(found) > 1}
+
+
+def ceilings_of(script: Script, task: Task, stretches: list[Stretch]) -> list[tuple[int, int]]:
+    """The ticks of a thread with the highest ceiling that it has there, 0 where it has none. One below its own priority gives none."""
+    kinds = [kind for _, kind in mutexes(script)]
+    return [(stretch.ticks, max((kinds[m].ceiling or 0 for m in stretch.owned if (kinds[m].ceiling or 0) >= task.priority), default=0))
+            for stretch in stretches]
+
+
+def longest_above(ceilings: Iterable[tuple[int, int]], priority: int) -> int:
+    """The longest stretch in which the ceiling is at least this priority."""
+    longest = now = 0
+    for ticks, ceiling in ceilings:
+        now = now + ticks if ceiling >= priority else 0
+        longest = max(longest, now)
+    return longest
+
+
+class Analysis:
+    """The tasks of a script, with all that is known of them before the response times are asked for."""
+
+    def __init__(self, text: bytes, deadlines: dict[str, int]) -> None:
+        self.script, tasks = tasks_of(text)
+        whole = whole_script_reasons(self.script)
+        self.rows = [Analysed(task, deadlines.get(task.name, task.period)) for task in tasks]
+        self._sections = {task.name: self._ceilings(task) for task in tasks}
+        for row in self.rows:
+            row.why = row.task.why or whole or self._reason(row.task)
+            if row.why is None:
+                row.blocking = max((longest_above(self._sections[other.task.name], row.task.priority)
+                                    for other in self.rows if other.task.priority < row.task.priority), default=0)
+
+    def _ceilings(self, task: Task) -> list[tuple[int, int]] | str:
+        try:
+            return ceilings_of(self.script, task, stretches_of(self.script, task.name))
+        except NoTask as why:
+            return str(why)
+
+    def _reason(self, task: Task) -> str | None:
+        """Why nothing can be said of a task that by itself is one: another thread stands in the way."""
+        for row in self.rows:
+            other = row.task
+            if other is task:
+                continue
+            if other.priority >= task.priority and other.why is not None:
+                return f"'{other.name}' is not below it: {other.why}"
+            if other.priority == task.priority:
+                return f"'{other.name}' has the same priority"
+            if other.priority < task.priority and isinstance(self._sections[other.name], str) and other.locks:
+                return f"'{other.name}' locks mutexes: {self._sections[other.name]}"
+        for number, users in shared(self.script, self._tasks).items():
+            name, kind = mutexes(self.script)[number]
+            lowest, highest = min(user.priority for user in users), max(user.priority for user in users)
+            if kind.ceiling is None and lowest < task.priority and (task in users or (kind.inherit and task.priority <= highest)):
+                return f"'{name}' has no ceiling, and {', '.join(repr(user.name) for user in users)} lock it"
+        return None
+
+    @property
+    def _tasks(self) -> list[Task]:
+        return [row.task for row in self.rows]
+
+    def text_for(self, row: Analysed) -> bytes:
+        """The tasks from a row up, as `rta` reads them. Only the order of priorities counts there, and no two may be the same."""
+        above = sorted((other.task for other in self.rows if other.task.priority > row.task.priority), key=lambda task: -task.priority)
+        lines = [f"task {task.name} {255 - rank} {task.cost} {task.period or GREATEST_PERIOD} {row.blocking if task is row.task else 0}\n"
+                 for rank, task in enumerate([*above, row.task])]
+        return "".join(lines).encode()
+
+    def prove(self) -> None:
+        """Asks `rta` for the response time of each task to which the analysis applies."""
+        for row in filter(lambda row: row.why is None, self.rows):
+            row.bound = min(GREATEST_BOUND, max(row.deadline or 0, row.task.period or 0, row.task.cost + row.blocking))
+            said = answer(["rta", str(row.bound)], self.text_for(row), RESPONSE_TIMES, TOOL).decode().split("\n")[-2].split(" ")
+            row.proved = int(said[3]) if said[2] == "response" else None
+
+    def look(self, seen: Seen, measures: list[Measure]) -> None:
+        """The jobs that were seen: by the measure that is named as the thread, else from each release to the sleep behind it."""
+        named = {measure.words.get("thread"): measure for measure in measures if measure.words["kind"] == "periodic"}
+        for row in self.rows:
+            task = row.task
+            try:
+                if task.name in named:
+                    row.seen = jobs_of(seen, named[task.name].words)
+                elif task.period is not None:
+                    row.seen = periodic(seen, task.name, task.period, task.phase, SLEEP, task.jobs)
+                elif task.why is None:
+                    row.seen = periodic(seen, task.name, max(1, seen.end), task.phase, f"exit {task.name}", 1)
+            except NamesNothing:
+                row.seen = None
+
+    @property
+    def utilisation(self) -> Fraction:
+        return sum((Fraction(task.cost, task.period) for task in self._tasks if task.why is None and task.period), Fraction(0))
+
+
+def rta_table(analysis: Analysis) -> Table:
+    table = Table("rta", ["task", "verdict", "priority", "cost", "period", "blocking", "deadline", "proved", "seen", "jobs", "late"], 2)
+    for row in analysis.rows:
+        task, known = row.task, row.why is None
+        responses = row.seen.responses if row.seen else []
+        late = shown(row.seen.late(row.deadline)) if row.seen and row.deadline is not None else ""
+        table.rows.append([
+            task.name, row.verdict, str(task.priority), str(task.cost) if task.why is None else "", shown(task.period),
+            str(row.blocking) if known else "", shown(row.deadline), row.told, shown(max(responses, default=None)),
+            str(len(row.seen.jobs)) if row.seen else "", late])
+    return table
+
+
+def remarks(analysis: Analysis) -> str:
+    """The utilisation, and why the analysis does not apply to some."""
+    percent = round(analysis.utilisation * 1000)
+    lines = [f"utilisation of the periodic tasks: {percent // 10}.{percent % 10}%"]
+    if analysis.utilisation > 1:
+        lines.append("that is more than the processor has")
+    lines += [f"{row.task.name} is not analysed: {row.why}" for row in analysis.rows if row.why is not None]
+    return "".join(f"{line}\n" for line in lines)

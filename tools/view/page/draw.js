@@ -1,0 +1,297 @@
+// The picture on the canvas.
+const canvas = document.getElementById("picture"), pen = canvas.getContext("2d");
+const FONT = '"DejaVu Sans", Verdana, Helvetica, Arial, sans-serif';
+const rowCount = data.threads.length + data.mutexes.length / 2;
+const sizes = rowCount <= 12 ? { bar: 20, marks: 16, server: 54, gap: 8, object: 20 } : rowCount <= 28 ? { bar: 14, marks: 12, server: 38, gap: 5, object: 16 } : { bar: 10, marks: 8, server: 26, gap: 3, object: 12 };
+const MOST_SCALE = 120, AXIS = 34, BIN = 3, MOST_LEVELS = 4;
+const gutter = Math.min(180, 16 + Math.max(40, ...data.threads.map((thread) => thread.name.length * 8), ...data.mutexes.map((mutex) => mutex.name.length * 7)));
+let width = 0, height = 0, scale = 1, left = 0, scroll = 0, place = 0, held = false, second = null, withLists = false, look = {};
+const xOf = (where) => gutter + (where - left) * scale;
+const placeOf = (x) => left + (x - gutter) / scale;
+const SHAPES = {
+  start: ["#1f8a4c", [[-1, -1], [1, 0], [-1, 1]], "start"], exit: ["#808a9c", [[-1, -1], [1, -1], [1, 1], [-1, 1]], "exit"],
+  activate: ["#2b7bd0", [[0, -1], [1, 1], [-1, 1]], "activate"], exhaust: ["#d93a3a", [[-1, -1], [1, -1], [0, 1]], "exhaust"],
+  deliver: ["#8b4fc2", [[0, -1], [1, 0], [0, 1], [-1, 0]], "a signal is delivered"], cancel: ["#d93a3a", [[-1, -1], [0, -0.3], [1, -1], [0.3, 0], [1, 1], [0, 0.3], [-1, 1], [-0.3, 0]], "cancel"],
+  error: ["#d93a3a", [[-0.3, -1], [0.3, -1], [0.3, 1], [-0.3, 1]], "a call returns an error"],
+  release: ["#808a9c", [[-0.15, 1], [-0.15, -0.2], [-0.8, -0.2], [0, -1], [0.8, -0.2], [0.15, -0.2], [0.15, 1]], "a job is released"],
+  late: ["#d93a3a", [[0, 1], [0, -1], [1.6, -0.5], [0.2, 0], [0.2, 1]], "its deadline, missed"],
+};
+const levels = data.threads.map((thread) => {
+  let most = 1, point = -1, count = 0;
+  for (const [at, kind] of thread.marks) if (kind in SHAPES) { count = at === point ? count + 1 : 1; point = at; most = Math.max(most, count); }
+  return Math.min(MOST_LEVELS, most);
+});
+const radius = () => Math.min(4.2, sizes.marks * 0.28);
+const room = (number) => sizes.marks + (levels[number] - 1) * (2 * radius() + 2);
+const ROW = (number) => room(number) + sizes.bar + sizes.gap + (data.threads[number].server ? sizes.server : 0);
+const whole = () => AXIS + 18 + data.threads.reduce((sum, _, number) => sum + ROW(number), 0) + data.mutexes.length * sizes.object + (withLists ? lists.length * 16 : 0);
+
+function readLook() {
+  const style = getComputedStyle(document.documentElement);
+  look.dark = document.documentElement.classList.contains("dark");
+  for (const name of ["ink", "faint", "line", "pale", "paper", "now", "held", "second", "cut", "blue", "owner", "contended", "dense-ready", "dense-wait", "arrow"]) look[name] = style.getPropertyValue("--" + name).trim();
+}
+function line(colour, wide, x, y, toX, toY, dashes = []) {
+  pen.strokeStyle = colour; pen.lineWidth = wide; pen.setLineDash(dashes);
+  pen.beginPath(); pen.moveTo(x, y); pen.lineTo(toX, toY); pen.stroke(); pen.setLineDash([]);
+}
+function write(text, x, y, size, colour, align = "left", weight = "") {
+  pen.font = weight + " " + size + "px " + FONT; pen.fillStyle = colour; pen.textAlign = align; pen.fillText(text, x, y);
+}
+function draw() {
+  const dots = window.devicePixelRatio || 1;
+  width = canvas.clientWidth; height = canvas.clientHeight;
+  canvas.width = width * dots; canvas.height = height * dots;
+  pen.setTransform(dots, 0, 0, dots, 0, 0);
+  pen.clearRect(0, 0, width, height);
+  document.body.dataset.scale = scale; document.body.dataset.left = left;
+  drawCursorBand();
+  pen.save();
+  pen.beginPath(); pen.rect(0, AXIS, width, height - AXIS); pen.clip();
+  let y = AXIS + 6 - scroll;
+  const bars = data.threads.map((thread, number) => {
+    const bar = y + room(number);
+    if (y + ROW(number) > AXIS && y < height) drawRow(thread, number, y, bar);
+    y += ROW(number);
+    return bar;
+  });
+  y += 6;
+  for (const mutex of data.mutexes) { drawOwners(mutex, y); y += sizes.object; }
+  if (withLists) for (const [priority, changes] of lists) { drawList(priority, changes, y); y += 16; }
+  drawWakes(bars);
+  pen.restore();
+  drawCuts(); drawAxis(); drawCursors();
+}
+function drawCursorBand() {
+  const at = tickAt(place), x = xOf(at.start);
+  if (x < gutter || x > width) return;
+  pen.fillStyle = look.now; pen.fillRect(x, AXIS, Math.max(1.5, at.wide * scale), height);
+}
+function drawCursors() {
+  const x = xOf(tickAt(place).start);
+  if (x >= gutter && x <= width) line(look.held, held ? 1.6 : 0.8, x, 0, x, height);
+  if (second === null) return;
+  const other = xOf(placeOfTick(second));
+  if (other >= gutter && other <= width) line(look.second, 1.4, other, 0, other, height, [5, 3]);
+  line(look.second, 1, Math.max(gutter, x), 9, Math.max(gutter, Math.min(width, other)), 9);
+}
+function drawAxis() {
+  pen.fillStyle = look.paper; pen.fillRect(0, 0, width, AXIS);
+  line(look.faint, 1, gutter, AXIS, width, AXIS);
+  let free = gutter - 20;
+  const first = pointAt(left), end = pointAt(placeOf(width));
+  for (let point = first; point <= end && point < ticks.length; ) {
+    let next = point + 1;
+    while (next < last && !cuts.has(next) && !cuts.has(next - 1)) next++;
+    if (!cuts.has(point)) free = drawNumbers(ticks[point], ticks[Math.min(next, last)], free);
+    point = next;
+  }
+}
+function drawNumbers(from, to, free) {
+  const letters = to.toString().length, perTick = Math.max(scale * (from === to ? 1 : (placeOfTick(to) - placeOfTick(from)) / Number(to - from)), 1e-30);
+  let step = 1n;
+  const least = (letters * 7 + 18) / perTick;
+  while (Number(step) < least) step = String(step)[0] === "2" ? step / 2n * 5n : step * 2n;
+  let tick = from % step === 0n ? from : (from / step + 1n) * step;
+  const seen = tickAt(Math.max(left, placeOfTick(from))).tick;
+  if (tick < seen) tick = seen / step * step;
+  for (; tick <= to; tick += step) {
+    const x = xOf(placeOfTick(tick)), text = tick.toString(), wide = letters * 7;
+    if (x > width) break;
+    if (x < gutter) continue;
+    line(look.faint, 1, x, AXIS - 5, x, AXIS);
+    if (x <= free) continue;
+    const inside = x + 3 + wide <= width;
+    if (inside || x - wide > free) write(text, inside ? x + 3 : x - 3, AXIS - 9, 11, look.ink, inside ? "left" : "right");
+    free = x + wide + 8;
+  }
+  return free;
+}
+function drawCuts() {
+  for (const point of cuts) {
+    const x = xOf(places[point]), end = xOf(places[point + 1]);
+    if (end < gutter || x > width) continue;
+    pen.fillStyle = look.cut; pen.fillRect(x, AXIS, end - x, height);
+    pen.save(); pen.translate((x + end) / 2 + 4, height - 12); pen.rotate(-Math.PI / 2);
+    write("cut: " + (ticks[point + 1] - ticks[point]) + " ticks", 0, 0, 10, look.faint); pen.restore();
+  }
+}
+function drawRow(thread, number, y, bar) {
+  pen.save();
+  pen.beginPath(); pen.rect(gutter - 5, 0, width - gutter + 5, height); pen.clip();
+  if (isDense(thread)) drawDensity(thread, bar); else drawSpans(thread, bar);
+  if (thread.server) drawServer(thread, bar + sizes.bar + 6, sizes.server - 18);
+  drawMarks(thread, bar);
+  pen.restore();
+  write(thread.name, 8, bar + sizes.bar * 0.75, Math.min(12, sizes.bar), look.ink, "left", "bold");
+  if (thread.server) {
+    write(greatest[number], gutter - 7, bar + sizes.bar + 12, 8, look.faint, "right");
+    write("0", gutter - 7, bar + sizes.bar + sizes.server - 9, 8, look.faint, "right");
+  }
+  line(look.pale, 1, 0, y + ROW(number) - 1, width, y + ROW(number) - 1);
+}
+const firstFrom = (list) => list.length ? lastAtMost(list.length, (i) => places[list[i][0]], left) : 0;
+// Whether most stretches in sight are too narrow to be told apart.
+function isDense(thread) {
+  const from = firstFrom(thread.spans), to = lastAtMost(thread.spans.length, (i) => places[thread.spans[i][0]], placeOf(width));
+  return to - from > (width - gutter) / 4;
+}
+function label(texts, x, end, y, size, colour) {
+  const start = Math.max(x, gutter), stop = Math.min(end, width);
+  const text = texts.find((said) => said && stop - start > said.length * size * 0.62 + 4);
+  if (text) write(text, (start + stop) / 2, y, size, colour, "center");
+}
+function drawSpans(thread, bar) {
+  const drawn = [-1, -1, -1, -1], middle = bar + sizes.bar * 0.74, small = Math.min(10, sizes.bar - 2);
+  for (let i = firstFrom(thread.spans); i < thread.spans.length; i++) {
+    const [from, to, state, priority, high, call, kind, what, , frame, cleanup] = thread.spans[i];
+    const x = xOf(places[from]), end = xOf(places[to]);
+    if (x > width) break;
+    if (end - drawn[state] < 0.6) continue;
+    drawn[state] = end;
+    const wide = Math.max(end - x, 0.6);
+    if (state === RUNNING) {
+      const [fillColour, ink] = data.colours[priority];
+      pen.fillStyle = fillColour; pen.fillRect(x, bar, wide, sizes.bar);
+      if (high === 0) { pen.fillStyle = "rgba(255,255,255,0.45)"; pen.fillRect(x, bar + sizes.bar / 2, wide, sizes.bar / 2); }
+      label([(priority + " " + frame).trim(), String(priority)], x, end, middle, Math.min(11, sizes.bar - 1), ink);
+    } else if (state === READY) {
+      pen.strokeStyle = look.faint; pen.lineWidth = 0.8; pen.strokeRect(x, bar + sizes.bar * 0.2, wide, sizes.bar * 0.6);
+      label([priority ? "ready at " + priority : "ready", "ready"], x, end, bar + sizes.bar * 0.68, small - 1, look.faint);
+    } else if (state === WAITING) {
+      pen.globalAlpha = 0.2; pen.fillStyle = data.kinds[kind]; pen.fillRect(x, bar + sizes.bar * 0.25, wide, sizes.bar * 0.5); pen.globalAlpha = 1;
+      line(data.kinds[kind], 1.6, x, bar + sizes.bar * 0.76, end, bar + sizes.bar * 0.76, [2, 2]);
+      label([(data.words[kind] + " " + what).trim() || call, what], x, end, bar + sizes.bar * 0.64, small - 1, kind === "sleep" ? look.faint : look.dark ? look.ink : data.kinds[kind]);
+    } else line(look.faint, 1, x, bar + sizes.bar / 2, end, bar + sizes.bar / 2, [1, 5]);
+    if (frame) { pen.fillStyle = data.frames[cleanup]; pen.fillRect(x, bar, wide, 3.6); }
+  }
+}
+// How much of each small column the thread ran, from below; above that where it was ready, and where it waited.
+function drawDensity(thread, bar) {
+  let i = firstFrom(thread.spans);
+  for (let x = gutter; x < width; x += BIN) {
+    const from = placeOf(x), to = placeOf(x + BIN), shares = [0, 0, 0, 0];
+    let most = 0, mostly = 0;
+    i = Math.min(i, thread.spans.length - 1);
+    while (i > 0 && places[thread.spans[i][0]] > from) i--;
+    for (; i < thread.spans.length && places[thread.spans[i][0]] < to; i++) {
+      const [start, end, state, priority] = thread.spans[i], part = Math.min(places[end], to) - Math.max(places[start], from);
+      if (part > 0) { shares[state] += part; if (state === RUNNING && part > most) { most = part; mostly = priority; } }
+      if (places[end] >= to) break;
+    }
+    let base = bar + sizes.bar;
+    for (const [state, colour] of [[RUNNING, most ? data.colours[mostly][0] : ""], [READY, look["dense-ready"]], [WAITING, look["dense-wait"]]]) {
+      const high = sizes.bar * shares[state] / (to - from);
+      if (high > 0) { base -= high; pen.fillStyle = colour; pen.fillRect(x, base, BIN, high); }
+    }
+  }
+}
+// Marks of one instant stand on one another, at their tick.
+function drawMarks(thread, bar) {
+  const r = radius();
+  let lastX = -99, level = 0, labelFree = [];
+  const seen = lastAtMost(thread.marks.length, (i) => places[thread.marks[i][0]], placeOf(width)) - firstFrom(thread.marks), apart = seen * 6 > width - gutter ? 16 : 2;
+  for (let i = firstFrom(thread.marks); i < thread.marks.length; i++) {
+    const [point, kind, text] = thread.marks[i], x = xOf(places[point]);
+    if (x > width + 4) break;
+    if (!(kind in SHAPES)) continue;
+    if (x - lastX < apart && x !== lastX) continue;
+    level = x === lastX ? level + 1 : 0; lastX = x;
+    if (level >= MOST_LEVELS) continue;
+    const [colour, corners] = SHAPES[kind], y = bar - r - 2 - level * (2 * r + 2);
+    pen.fillStyle = colour; pen.beginPath();
+    corners.forEach(([dx, dy], n) => pen[n ? "lineTo" : "moveTo"](x + dx * r, y + dy * r));
+    pen.closePath(); pen.fill();
+    if ((kind === "deliver" || kind === "error" || kind === "late") && x + r > (labelFree[level] || -99) && sizes.marks >= 12) {
+      const wide = r + 3 + text.length * 6, inside = x + wide < width;
+      write(text, inside ? x + r + 2 : x - r - 2, y + 3, 9, colour, inside ? "left" : "right");
+      labelFree[level] = x + wide;
+    }
+  }
+}
+const greatest = data.threads.map((thread) => thread.capacity.reduce((most, piece) => Math.max(most, Number(piece[2])), 1));
+function drawServer(thread, top, high) {
+  const base = top + high, unit = high / greatest[data.threads.indexOf(thread)];
+  line(look.line, 0.8, gutter, base, width, base);
+  const steps = new Path2D();
+  let drawn = -9, first = null, end = 0;
+  for (let i = firstFrom(thread.capacity); i < thread.capacity.length; i++) {
+    const [from, to, text, falls] = thread.capacity[i], x = xOf(places[from]), value = Number(text);
+    if (x > width) break;
+    if (xOf(places[to]) - drawn < 0.6) continue;
+    drawn = end = xOf(places[to]);
+    const gone = falls ? Number(ticks[to] - ticks[from]) : 0, stepped = falls && gone <= 300 && (end - x) / gone >= 3;
+    const at = (n) => base - Math.max(0, value - n) * unit;
+    if (first === null) { first = x; steps.moveTo(x, at(0)); } else steps.lineTo(x, at(0));
+    for (let n = 1; stepped && n <= gone; n++) { steps.lineTo(x + (end - x) * n / gone, at(n - 1)); steps.lineTo(x + (end - x) * n / gone, at(n)); }
+    if (!stepped) steps.lineTo(end, at(gone));
+  }
+  if (first !== null) {
+    const area = new Path2D(steps);
+    area.lineTo(end, base); area.lineTo(first, base);
+    pen.fillStyle = "rgba(91,147,214,0.22)"; pen.fill(area);
+    pen.strokeStyle = look.blue; pen.lineWidth = isDense(thread) ? 0.5 : 1.4; pen.stroke(steps);
+  }
+  drawPlans(thread, base, high);
+}
+// From each plan an arrow to its refill, where the amount stands; of one that is due behind the run the due tick stands at the plan.
+function drawPlans(thread, base, high) {
+  let free = -99, told = -99;
+  const from = thread.plans.findIndex(([point]) => xOf(places[point]) >= 0), to = thread.plans.filter(([point]) => xOf(places[point]) <= width).length;
+  const apart = (to - Math.max(0, from)) * 8 > width - gutter ? 24 : 4;
+  for (const [point, amount, due, duePoint, refilled] of thread.plans) {
+    const x = xOf(places[point]);
+    if (x > width) break;
+    if (x < free) continue;
+    const beyond = BigInt(due) > ticks[last];
+    const end = beyond ? xOf(total) : duePoint >= 0 ? xOf(places[duePoint]) : Math.max(x, xOf(placeOfTick(BigInt(due))));
+    if (end < gutter) continue;
+    free = x + apart;
+    const lift = Math.min(high, 10 + (end - x) * 0.12);
+    if (end - x > 4) {
+      pen.strokeStyle = look.blue; pen.lineWidth = 1; pen.setLineDash([3, 2]);
+      pen.beginPath(); pen.moveTo(x, base); pen.bezierCurveTo(x, base - lift, end, base - lift, end, base - 3); pen.stroke(); pen.setLineDash([]);
+      pen.fillStyle = look.blue; pen.beginPath(); pen.moveTo(end - 3, base - 7); pen.lineTo(end + 3, base - 7); pen.lineTo(end, base - 1); pen.fill();
+    }
+    ring(x, base, look.paper);
+    if (refilled >= 0) ring(xOf(places[refilled]), base, look.blue);
+    const text = "+" + amount + (beyond ? " due " + due : ""), where = beyond ? x + 5 : end - text.length * 2.6;
+    if (where > told && apart < 24) { write(text, where, base + 11, 9, look.blue); told = where + text.length * 5.6; }
+  }
+}
+function ring(x, y, fill) {
+  pen.beginPath(); pen.arc(x, y, 3, 0, 7); pen.fillStyle = fill; pen.fill(); pen.strokeStyle = look.blue; pen.lineWidth = 1; pen.stroke();
+}
+function drawOwners(mutex, y) {
+  write(mutex.name, 8, y + sizes.object - 8, 10, look.faint);
+  for (let i = firstFrom(mutex.bars); i < mutex.bars.length; i++) {
+    const [from, to, owner, waiting] = mutex.bars[i], x = Math.max(gutter, xOf(places[from])), end = xOf(places[to]);
+    if (x > width) break;
+    if (end < gutter) continue;
+    pen.fillStyle = waiting ? look.contended : look.owner; pen.fillRect(x, y, Math.max(0.6, end - x), sizes.object - 6);
+    label([owner], x, end, y + sizes.object - 9, Math.min(9, sizes.object - 6), look.ink);
+  }
+}
+function drawList(priority, changes, y) {
+  write("list " + priority, 8, y + 10, 9.5, look.faint);
+  for (let i = firstFrom(changes); i < changes.length; i++) {
+    const [from, members] = changes[i], to = i + 1 < changes.length ? changes[i + 1][0] : last;
+    const x = Math.max(gutter, xOf(places[from])), end = xOf(places[to]);
+    if (x > width) break;
+    if (!members || end < gutter) continue;
+    pen.strokeStyle = look.line; pen.lineWidth = 1; pen.strokeRect(x, y, end - x, 13);
+    label([members, members.split(" ")[0]], x, end, y + 10, 8.5, look.ink);
+  }
+}
+function drawWakes(bars) {
+  const from = data.wakes.length ? lastAtMost(data.wakes.length, (i) => places[data.wakes[i][0]], left) : 0;
+  const seen = data.wakes.slice(from).filter(([point]) => xOf(places[point]) >= gutter && xOf(places[point]) <= width);
+  if (seen.length > (width - gutter) / 4) return;
+  for (const [point, waker, woken] of seen) {
+    const x = xOf(places[point]), down = bars[woken] > bars[waker];
+    const y = bars[waker] + (down ? sizes.bar : 0), end = bars[woken] + (down ? 0 : sizes.bar), side = down ? -5 : 5;
+    pen.strokeStyle = pen.fillStyle = look.arrow; pen.lineWidth = 1.1;
+    pen.beginPath(); pen.moveTo(x, y); pen.bezierCurveTo(x - 7, (y + end) / 2, x - 7, (y + end) / 2, x, end); pen.stroke();
+    pen.beginPath(); pen.moveTo(x, end); pen.lineTo(x - 4, end + side); pen.lineTo(x + 2, end + side); pen.fill();
+  }
+}

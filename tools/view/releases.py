@@ -1,0 +1,32 @@
+"""Jobs in a picture: a mark at each release, and one at each deadline that is missed."""
+from __future__ import annotations
+
+from measure.jobs import Job
+from measure.measures import Measure, jobs_of
+from measure.seen import Seen
+
+from .timeline import Mark, MarkKind, Timeline
+
+
+def mark_jobs(seen: Timeline, measures: list[Measure]) -> None:
+    """Puts the jobs of each measure above the thread that does them. Raises NamesNothing where a measure names what is not there."""
+    trace = Seen(seen.trace)
+    threads = {thread.name: thread for thread in seen.threads}
+    for measure in measures:
+        jobs = jobs_of(trace, measure.words)
+        thread = threads.get(str(measure.words.get("thread") or str(measure.words["to"]).split()[1]))
+        if thread is None:
+            continue
+        deadline = measure.words.get("deadline", measure.words.get("period"))
+        for number, job in enumerate(jobs.jobs):
+            thread.marks += _marks(number, job, deadline, jobs.end)
+        thread.marks.sort(key=lambda mark: mark.time)
+
+
+def _marks(number: int, job: Job, deadline: int | None, end: int) -> list[Mark]:
+    done = f"done at {job.done}, {job.response} ticks" if job.done is not None else "not done in this run"
+    told = f"job {number} is released at {job.release}; {done}"
+    marks = [Mark(job.release, MarkKind.RELEASE, "", -1, told)]
+    if deadline is not None and (end if job.done is None else job.done) - job.release > deadline:
+        marks.append(Mark(job.release + deadline, MarkKind.LATE, "late", -1, f"the deadline of job {number}: {told}"))
+    return marks

@@ -1,0 +1,88 @@
+"""Where a detail comes from: the program of this repository, or the reference where the program is not built or has no `detail`."""
+from __future__ import annotations
+
+import os
+import re
+import shlex
+import subprocess
+import sys
+from pathlib import Path
+
+TOP = Path(__file__).resolve().parents[2]
+REFERENCE = TOP / "tools" / "reference" / "simulate.py"
+RESPONSE_TIMES = TOP / "tools" / "reference" / "response_times.py"
+USAGE, REFUSED = 1, 2
+# The reference takes one tick after another: what it would be asked for beyond that takes minutes.
+MOST_TICKS = 10_000_000
+HORIZON = re.compile(rb"\s*#\s*horizon (\d+)\b")
+
+
+_TOLD: set[str] = set()
+
+
+class NoSource(Exception):
+    """Why there is no detail of a script."""
+
+
+def horizon_of(script: bytes) -> int | None:
+    """The horizon that the first line of a script names, as `# horizon 40`."""
+    found = HORIZON.match(script)
+    return int(found[1]) if found else None
+
+
+def programs(reference: Path) -> list[list[str]]:
+    """The programs that are asked, in their order: that of PSE52 in the environment or of bin/pse52, and a reference.
+
+    Where no proved program is here, none is proved for a picture: that takes long.
+    """
+    said = os.environ.get("PSE52")
+    if said:
+        first = [shlex.split(said)]
+    else:
+        which = subprocess.run([str(TOP / "bin" / "pse52"), "--which"], stdin=subprocess.DEVNULL, capture_output=True, text=True, check=False)
+        first = [[which.stdout.rstrip("\n")]] if which.returncode == 0 else []
+    return [*first, [sys.executable, str(reference)]]
+
+
+def answer(words: list[str], source: bytes, reference: Path, tool: str) -> bytes:
+    """What the first program that knows the command writes. Says on standard error where it is not the first one.
+
+    Raises NoSource where the command is refused or fails.
+    """
+    asked = programs(reference)
+    if len(asked) == 1:
+        _tell(f"{tool}: no proved program is here, so the reference answers")
+    for number, program in enumerate(asked):
+        if number + 1 == len(asked) and words[0] == "detail" and int(words[1]) > MOST_TICKS:
+            raise NoSource(f"the reference takes a tick at a time, and {words[1]} ticks would take it too long; --horizon {MOST_TICKS} is the most")
+        try:
+            ended = subprocess.run([*program, *words], input=source, capture_output=True, check=False)
+        except OSError as error:
+            raise NoSource(f"{program[0]} cannot be started: {error.strerror}") from None
+        if ended.returncode == 0:
+            return ended.stdout
+        if ended.returncode == USAGE and number + 1 < len(asked):
+            _tell(f"{tool}: {Path(program[0]).name} does not know '{words[0]}'; the reference answers")
+            continue
+        raise NoSource(_why(ended))
+    raise AssertionError(asked)
+
+
+def _tell(line: str) -> None:
+    """Says a line on standard error, once."""
+    if line not in _TOLD:
+        print(line, file=sys.stderr)
+        _TOLD.add(line)
+
+
+def _why(ended: subprocess.CompletedProcess[bytes]) -> str:
+    said = (ended.stdout or ended.stderr).decode("ascii", "backslashreplace").strip().splitlines()
+    if ended.returncode == REFUSED and said:
+        number, kind = said[0].split(" ")[1::2]
+        return f"the script is refused at line {number}: {kind} (docs/SCRIPT.md, Faults, says what to do)"
+    return f"the program ended with the status {ended.returncode}" + (f": {said[-1]}" if said else "")
+
+
+def detail_of(script: bytes, horizon: int, tool: str) -> list[bytes]:
+    """The lines of the detail of a script."""
+    return answer(["detail", str(horizon)], script, REFERENCE, tool).splitlines(keepends=True)

@@ -1,0 +1,189 @@
+"""The page in a real browser: the cursors, the facts, the search, zooming, fingers, narrow windows and the dark mode.
+
+With PSE52_SHOTS in the environment, the name of a folder, it keeps what the browser shows there as pictures to be looked at.
+"""
+from __future__ import annotations
+
+import os
+import tempfile
+import unittest
+from pathlib import Path
+
+from view.lines import read_trace
+from view.main import drawer
+from view.seen import timeline_of
+
+from .details import detail_of
+from .readers import browser
+from .worked import CONTROLLER, SLEEPS, TOP, WORKED, timeline
+
+# Moves a mouse over ticks, holds the cursor, steps by keys, zooms by the wheel and pans by a drag.
+HELPERS = """
+const show = () => document.getElementById("tick").textContent + " " + document.getElementById("who").textContent;
+const pointer = (kind, x, more = {}) => { const box = canvas.getBoundingClientRect();
+  canvas.dispatchEvent(new PointerEvent(kind, { pointerId: 1, pointerType: "mouse", clientX: box.left + x, clientY: box.top + 60, bubbles: true, ...more })); };
+const over = (tick) => { pointer("pointermove", xOf(placeOfTick(BigInt(tick))) + 2); return show(); };
+const click = (tick, more) => { const x = xOf(placeOfTick(BigInt(tick))) + 2; pointer("pointerdown", x, more); pointer("pointerup", x, more); return show(); };
+const key = (name) => { window.dispatchEvent(new KeyboardEvent("keydown", { key: name, bubbles: true })); return show(); };
+const lines = (id) => [...document.querySelectorAll(id + " li")].map((li) => li.textContent);
+"""
+OVER = {
+    0: "0 · ctl runs at priority 30, from 0 to 5", 5: "5 · srv runs at priority 20, from 5 to 6", 7: "7 · idle", 19: "19 · idle",
+    24: "24 · ctl runs at priority 30, from 24 to 25", 27: "27 · mon runs at priority 30, from 25 to 29",
+    36: "36 · srv runs at priority 20, from 35 to 40", 43: "43 · mon runs at priority 10, from 43 to 44"}
+
+
+class Page(unittest.TestCase):
+    def setUp(self) -> None:
+        holder = tempfile.TemporaryDirectory(ignore_cleanup_errors=True)
+        self.addCleanup(holder.cleanup)
+        self.folder = Path(holder.name)
+        self.driver = browser(1300, 800)
+        self.addCleanup(self.driver.quit)
+        self.addCleanup(self.no_complaint)
+
+    def no_complaint(self) -> None:
+        self.assertEqual(self.driver.get_log("browser"), [])
+
+    def open(self, page: str) -> None:
+        file = self.folder / "page.html"
+        file.write_text(page.replace("</body>", f"<script>{HELPERS}</script></body>"))
+        self.driver.get(file.as_uri())
+
+    def detail(self, name: str) -> None:
+        script = (WORKED / f"{name}.task").read_bytes()
+        horizon = int((WORKED / f"{name}.horizon").read_text())
+        self.open(drawer("html")(timeline_of(read_trace(detail_of(script, horizon).splitlines(keepends=True)))))
+
+    def does(self, script: str) -> object:
+        return self.driver.execute_script(f"return {script}")
+
+    def shot(self, name: str) -> None:
+        if "PSE52_SHOTS" in os.environ:
+            self.driver.save_screenshot(str(Path(os.environ["PSE52_SHOTS"]) / f"{name}.png"))
+
+    def test_the_cursor(self) -> None:
+        self.open(drawer("html")(timeline(CONTROLLER)))
+        for tick, wanted in OVER.items():
+            self.assertEqual(self.does(f"over({tick})"), wanted)
+        self.does("over(24)")
+        self.assertEqual(self.does('[...document.querySelectorAll("#list li.now")].map((li) => li.textContent)'),
+                         ["24 deliver ctl rt5 TIMER 0", "24 return ctl sigwaitinfo 0 5", "24 dispatch ctl 30"])
+        self.assertEqual(self.does('(over(1), lines("#states"))[2]'), "mon has not started")
+        self.assertEqual(self.does('(over(38), lines("#states"))[1]'), "srv runs at priority 20, capacity 2")
+        self.assertEqual(self.does('key("ArrowRight")')[:2], "39")
+        self.assertEqual([self.does(f'key("{name}")')[:2] for name in ("ArrowLeft", "ArrowLeft", "n", "p")], ["38", "37", "40", "36"])
+
+    def test_holding_and_the_second_cursor(self) -> None:
+        self.open(drawer("html")(timeline(CONTROLLER)))
+        self.assertEqual(self.does("click(24)")[:2], "24")
+        self.assertEqual(self.does("over(36)")[:2], "24")  # A held cursor stays,
+        self.does('key("+")'), self.does('key("0")')
+        self.does('click(33, { shiftKey: true })')
+        self.assertIn("second cursor 33, 9 ticks from here", self.does('document.getElementById("distance").textContent'))
+        self.does('key("Escape")')
+        self.assertEqual(self.does("over(36)")[:2], "36")  # and Escape lets it go.
+        self.assertEqual(self.does('document.getElementById("distance").textContent'), "")
+        self.does('key("+")'), self.does('key("0")')
+        self.assertEqual(self.does("over(5)")[:2], "5 ")  # Zooming does not hold it.
+
+    def test_facts_of_an_instant(self) -> None:
+        self.detail(CONTROLLER)
+        said = self.does('(over(26), lines("#states"))')
+        self.assertEqual(said[0], "ctl waits in lock for the mutex bus")
+        self.assertEqual(said[2], "mon runs at priority 30")
+        self.assertIn("30: mon", said)
+        self.assertIn("mutex bus: mon 1", said)
+        self.assertIn("waiting for bus: ctl", said)
+        self.assertIn("ready at priority", self.does('(over(41), lines("#states"))')[1])
+        self.does('key("l")')
+        self.shot("lists")
+
+    def test_search(self) -> None:
+        self.open(drawer("html")(timeline(CONTROLLER)))
+        self.driver.find_element("id", "search").send_keys("exhaust")
+        self.assertIn("2 of ", self.does('document.getElementById("found").textContent'))
+        self.assertEqual(self.does('lines("#list")'), ["40 exhaust srv", "43 exhaust srv"])
+        self.driver.find_element("id", "search").send_keys("\n")
+        self.assertEqual(self.does("show()")[:2], "40")
+        self.driver.find_element("id", "search").send_keys("\n")
+        self.assertEqual(self.does("show()")[:2], "43")
+
+    def test_zooming_and_panning(self) -> None:
+        self.open(drawer("html")(timeline(CONTROLLER)))
+        moved = self.does("""(() => { const before = scale, x = Math.round(xOf(30)), fixed = placeOf(x), box = canvas.getBoundingClientRect();
+            for (let i = 0; i < 4; i++) canvas.dispatchEvent(new WheelEvent("wheel", { deltaY: -200, clientX: box.left + x, clientY: box.top + 60, bubbles: true, cancelable: true }));
+            return [scale > 2 * before, Math.abs(placeOf(x) - fixed) * scale < 1]; })()""")
+        self.assertEqual(moved, [True, True])
+        self.assertTrue(self.does('(() => { const before = left; pointer("pointerdown", 400); pointer("pointermove", 500); pointer("pointerup", 500); '
+                                  "return Math.abs((before - left) * scale - 100) < 1; })()"))
+        self.assertTrue(self.does('(() => { const before = left; canvas.dispatchEvent(new WheelEvent("wheel", { deltaX: 60, bubbles: true, cancelable: true })); '
+                                  "return Math.abs((left - before) * scale - 60) < 1; })()"))
+        self.does('key("0")')
+        self.assertTrue(self.does('(() => { const before = scale; for (const [id, x] of [[1, 300], [2, 500]]) pointer("pointerdown", x, { pointerId: id, pointerType: "touch" }); '
+                                  'pointer("pointermove", 600, { pointerId: 2, pointerType: "touch" }); for (const id of [1, 2]) pointer("pointerup", 600, { pointerId: id, pointerType: "touch" }); '
+                                  "return Math.abs(scale / before - 1.5) < 0.01; })()"))
+        self.does('document.getElementById("all").click()')
+        self.assertEqual(self.does("left"), 0)
+
+    def test_a_tap_holds_a_tick(self) -> None:
+        self.open(drawer("html")(timeline(CONTROLLER)))
+        self.assertEqual(self.does('click(36, { pointerType: "touch" })')[:2], "36")
+        self.assertEqual(self.does("over(5)")[:2], "36")
+
+    def test_narrow_windows_and_the_dark_mode(self) -> None:
+        self.detail(CONTROLLER)
+        self.shot("wide")
+        self.assertLess(self.does("canvas.getBoundingClientRect().bottom"), 800)
+        self.does('key("d")')
+        self.assertEqual(self.does("getComputedStyle(document.body).backgroundColor"), "rgb(21, 25, 34)")
+        self.shot("dark")
+        self.driver.set_window_size(500, 800)
+        box = self.does("[canvas.clientWidth, document.querySelector('aside').getBoundingClientRect().top >= canvas.getBoundingClientRect().bottom, document.body.scrollWidth <= innerWidth]")
+        self.assertGreater(box[0], 440)
+        self.assertEqual(box[1:], [True, True])
+        self.shot("narrow")
+
+    def test_the_legend_and_the_keys(self) -> None:
+        self.detail(CONTROLLER)
+        legend = self.does('[...document.querySelectorAll("#legend span")].map((span) => span.textContent)')
+        for what in ("runs at 30", "ready", "waits for a mutex", "waits for a queue", "sleeps", "owner of a mutex", "others wait for it", "who wakes whom",
+                     "start", "activate", "exhaust", "a signal is delivered", "capacity", "plan", "refill, with its amount"):
+            self.assertIn(what, legend)
+        self.assertEqual(self.does('document.getElementById("keys").hidden'), True)
+        self.does('key("?")')
+        self.assertEqual(self.does('document.getElementById("keys").hidden'), False)
+        self.assertIn("n p", self.does('document.getElementById("keys").innerText'))
+
+    def test_the_greatest_horizon(self) -> None:
+        self.open(drawer("html")(timeline(SLEEPS)))
+        said = [self.does(f'key("{name}")') for name in ("n", "n", "n", "n", "n", "ArrowRight", "End", "ArrowLeft")]
+        self.assertEqual(said[0], "1 · a runs at priority 5, from 1 to 2")
+        self.assertEqual(said[4], "500000000000000001 · b runs at priority 6, from 500000000000000001 to 500000000000000002")
+        self.assertEqual(said[6], "1000000000000000000 · the run is over")
+        self.assertEqual(said[7], "999999999999999999 · c runs at priority 1, from 600000000000000003 to 1000000000000000000")
+        self.assertEqual(self.does("data.cuts.length"), 3)
+
+    def test_a_long_run_is_drawn_as_density(self) -> None:
+        script = b"quantum 3\nthread a rr 5 at 0\nforever\nrun 90\nend\nend\nthread b rr 5 at 0\nforever\nrun 90\nend\nend\n"
+        self.open(drawer("html")(timeline_of(read_trace(detail_of(script, 6000).splitlines(keepends=True)))))
+        self.assertTrue(self.does("data.threads.every(isDense)"))
+        # Each runs half of the time: half of its bar is coloured at any place.
+        share = self.does("""(() => { const x = Math.round(gutter + 100), y = AXIS + 6 + room(0), dots = devicePixelRatio, high = sizes.bar;
+            const dots_ = pen.getImageData(x * dots, y * dots, 300 * dots, high * dots).data; let coloured = 0, all = 0;
+            for (let i = 0; i < dots_.length; i += 4) { all++; coloured += Math.abs(dots_[i] - dots_[i + 2]) > 60; } return coloured / all; })()""")
+        self.assertAlmostEqual(share, 0.5, delta=0.12)
+        self.shot("dense")
+        self.does('(showAll(), zoom(200, gutter + 300))')
+        self.assertFalse(self.does("isDense(data.threads[0])"))
+
+    def test_every_example_opens(self) -> None:
+        for file in sorted((TOP / "examples").glob("*.task")):
+            horizon = int(file.read_text().split()[2].rstrip(","))
+            self.open(drawer("html")(timeline_of(read_trace(detail_of(file.read_bytes(), horizon).splitlines(keepends=True)))))
+            self.does('key("l")')
+            self.shot(file.stem)
+
+
+if __name__ == "__main__":
+    unittest.main()
