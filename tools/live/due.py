@@ -1,4 +1,4 @@
-"""The trace that is due, and who is asked for it: the proved program where it is built, else the reference."""
+"""The trace that is due, and who is asked for it: the proved program where bin/pse52 has one, else the reference."""
 from __future__ import annotations
 
 import os
@@ -6,11 +6,9 @@ import shlex
 import subprocess
 import sys
 from dataclasses import dataclass, field
-from pathlib import Path
 
 from . import TOP
 
-BUILT = TOP / "crates" / "pse52" / "out" / "pse52"
 REFERENCE = TOP / "tools" / "reference" / "simulate.py"
 NOBODY = -1
 SECONDS = 60
@@ -47,25 +45,23 @@ class Side:
         return text
 
 
-def is_fresh() -> bool:
-    """Whether the program is built, and no source of a crate is newer. It is not built here: that takes long, and is bin/pse52's affair."""
-    if not BUILT.exists():
-        return False
-    built = BUILT.stat().st_mtime
-    folders = [folder for folder in (TOP / "crates").glob("*/*") if folder.name in ("src", "specs", "proofs")]
-    sources = [path for folder in folders if not folder.parent.name.endswith("_tests") for path in folder.rglob("*") if path.is_file()]
-    return all(source.stat().st_mtime <= built for source in sources)
+def proved_program() -> str | None:
+    """The program that bin/pse52 runs here, or None. Behind sudo its user asks, so that what bin/pse52 keeps stays that user's."""
+    behind = {word: int(os.environ[name]) for word, name in (("user", "SUDO_UID"), ("group", "SUDO_GID")) if name in os.environ}
+    which = subprocess.run([str(TOP / "bin" / "pse52"), "--which"], stdin=subprocess.DEVNULL, capture_output=True, text=True,
+                           check=False, **behind)
+    return which.stdout.strip() if which.returncode == 0 else None
 
 
 def other_side(said: str | None = None) -> Side:
-    """Who is asked: what was said, or PSE52 of the environment, or the proved program where it is built, or the reference."""
+    """Who is asked: what was said, or PSE52 of the environment, or the proved program that bin/pse52 runs, or the reference."""
+    program = proved_program()
     said = said or os.environ.get("PSE52")
     if said:
-        is_proved = Path(said).parts[-4:] == BUILT.parts[-4:]  # only a proof leaves a program there
-        return Side(tuple(shlex.split(said)), "the proved program" if is_proved else said)
-    if is_fresh():
-        return Side((str(BUILT),), "the proved program")
-    return Side((sys.executable, str(REFERENCE)), "the reference (tools/reference), since the program is not built, or older than a source")
+        return Side(tuple(shlex.split(said)), "the proved program" if said == program else said)
+    if program is not None:
+        return Side((program,), "the proved program")
+    return Side((sys.executable, str(REFERENCE)), "the reference (tools/reference), since bin/pse52 has no program of the sources here")
 
 
 @dataclass(frozen=True)

@@ -42,7 +42,7 @@ def words_of(words: list[str]) -> argparse.Namespace:
     parser.add_argument("--handlers", action="store_true",
                         help="let signal handlers run while their thread waits for a mutex, a condition or the end of a thread")
     parser.add_argument("--program", metavar="WORDS", help="what says which trace is due; without it PSE52 of the environment, "
-                        "or the proved program where it is built, or the reference")
+                        "or the proved program that bin/pse52 runs, or the reference")
     said = parser.parse_args(words)
     if said.horizon < 0 or said.times < 1:
         parser.error("N is at least 0, and T at least 1")
