@@ -1,12 +1,12 @@
 """Checks runs of the list machine against traces, by computing.
 
     python3 tools/machine_rows/check.py rows [NAME..]
-    python3 tools/machine_rows/check.py generated FIRST COUNT
+    python3 tools/machine_rows/check.py generated FIRST COUNT [STAGE]
 
 Each script and its trace become a lemma of a scratch crate, "the text of the
 run is this trace", which the proof checker decides by computing the definition.
 The traces of `rows` are worked by hand; those of `generated` come from the
-reference simulator. The scratch copy of the repository is made below the folder
+reference simulator, whose stage `version2` has strict servers. The scratch copy of the repository is made below the folder
 that SCRATCH names, or below the system's folder for temporary files.
 """
 from __future__ import annotations
@@ -22,6 +22,7 @@ HERE = Path(__file__).resolve().parent
 TOP = HERE.parent.parent
 sys.path.insert(0, str(HERE.parent / "reference"))
 
+from forms import Stage  # noqa: E402
 from generate import accepted  # noqa: E402
 from reader import read  # noqa: E402
 from simulate import Status, answer  # noqa: E402
@@ -57,10 +58,10 @@ def worked(names: list[str]) -> list[tuple[str, str]]:
     return found
 
 
-def generated(first: int, count: int) -> list[tuple[str, str]]:
+def generated(first: int, count: int, stage: Stage) -> list[tuple[str, str]]:
     found = []
     for seed in range(first, first + count):
-        text, horizon = accepted(seed)
+        text, horizon = accepted(seed, stage)
         status, trace = answer(text, horizon)
         assert status == Status.DONE, seed
         found.append((f"seed_{seed}", lemma(f"seed_{seed}", text, horizon, trace.decode())))
@@ -107,7 +108,10 @@ def main(words: list[str]) -> int:
     if not words or words[0] not in ("rows", "generated"):
         print(__doc__)
         return 2
-    lemmas = worked(words[1:]) if words[0] == "rows" else generated(int(words[1]), int(words[2]))
+    if words[0] == "rows":
+        lemmas = worked(words[1:])
+    else:
+        lemmas = generated(int(words[1]), int(words[2]), Stage.named((words[3:] or ["whole"])[0]))
     folder = Path(tempfile.mkdtemp(prefix="machine-rows-", dir=os.environ.get("SCRATCH")))
     crate = scratch(folder)
     write_lemmas(crate, lemmas)
