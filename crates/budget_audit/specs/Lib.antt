@@ -1,0 +1,13 @@
+pub mod Server
+pub mod Marks
+pub mod Ticks
+pub mod Rules
+pub mod Breach
+pub mod Faults
+pub mod Head
+pub mod Answer
+pub mod Replay
+pub mod Law
+pub mod Leap
+pub mod View
+pub mod Watch
