@@ -11,3 +11,5 @@ pub mod Advance
 pub mod Watches
 pub mod Watching
 pub mod ClosingTimes
+pub mod Phases
+pub mod EachServer

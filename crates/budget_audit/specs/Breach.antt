@@ -6,6 +6,7 @@ use Rattle.script_lex.specs.Lines.{lines_of}
 use Rattle.trace_check.specs.declared.form.Form.{Form}
 use Rattle.trace_check.specs.declared.form.Form.TheVariants as form
 use Rattle.trace_check.specs.Lines.{Reading, reading}
+pub use Rattle.budget_audit.specs.declared.breach.Breach.{Breach}
 use Rattle.budget_audit.specs.Server.{Limits, NamedServer}
 use Rattle.budget_audit.specs.Marks.{Mark, mark_of, marks_of}
 use Rattle.budget_audit.specs.Ticks.{amount_refilled, high_before, in_all, ran_before}
@@ -83,10 +84,6 @@ broken_behind servers before =
     if_broken (has_ended before) 1 (if_broken (list_all (λ (s : NamedServer). has_closing s.name before) servers) 6 None)
 
 -- ---- the first breach
-
-pub record Breach : Type 0 where
-  pub line : ℕ
-  pub rule : ℕ
 
 abbrev pub and_reading : List Reading → Option Reading → List Reading
 and_reading before None = before

@@ -1,8 +1,7 @@
 -- Faults of a head of servers. Their kinds, their numbers and their order are this project's own.
 use Rattle.std.specs.Prelude.{ℕ, Bool, if◌then◌else◌, List, [], ◌∷◌, map, codes}
-
-pub data HeadFault : Type 0 where
-  BadByte UnknownWord WordCount BadNumber NumberRange BadName DuplicateName TooMany ServerRange : HeadFault
+use Rattle.budget_audit.specs.declared.fault.HeadFault.{HeadFault}
+use Rattle.budget_audit.specs.declared.fault.HeadFault.TheVariants.{BadByte, UnknownWord, WordCount, BadNumber, NumberRange, BadName, DuplicateName, TooMany, ServerRange}
 
 abbrev pub number_of : HeadFault → ℕ
 number_of BadByte = 1

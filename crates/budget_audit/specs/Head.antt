@@ -8,7 +8,9 @@ use Rattle.script_lex.specs.Lines.{lines_of}
 use Rattle.script_lex.specs.Words.{line_words, has_bad_byte}
 use Rattle.script_table.specs.Words.{is_number, value_of}
 use Rattle.budget_audit.specs.Server.{Limits, NamedServer}
-use Rattle.budget_audit.specs.Faults.{Fault, HeadFault, BadByte, UnknownWord, WordCount, BadNumber, NumberRange, BadName, DuplicateName, TooMany, ServerRange, when, faults_at}
+use Rattle.budget_audit.specs.declared.fault.HeadFault.{HeadFault}
+use Rattle.budget_audit.specs.declared.fault.HeadFault.TheVariants.{BadByte, UnknownWord, WordCount, BadNumber, NumberRange, BadName, DuplicateName, TooMany, ServerRange}
+use Rattle.budget_audit.specs.Faults.{Fault, when, faults_at}
 
 -- the faults of NAME PERIOD BUDGET MAX, by their spelling
 abbrev pub operand_faults : List (List ℕ) → List HeadFault
@@ -50,11 +52,17 @@ said_from n (line ∷ lines) = said_line n (line_words line) ++ said_from (n + 1
 abbrev pub servers_of : List Said → List NamedServer
 servers_of ss = map (λ (s : Said). s.server) ss
 
+abbrev pub names_of : List Said → List (List ℕ)
+names_of ss = map (λ (s : Said). s.server.name) ss
+
+-- an earlier line names the server
+abbrev pub name_faults : List Said → Said → List HeadFault
+name_faults before s = when (list_any (bytes_eq s.server.name) (names_of before)) DuplicateName
+
 -- Phase 2: the names of these lines, behind those.
 abbrev pub phase_two : List Said → List Said → List Fault
 phase_two before [] = []
-phase_two before (s ∷ ss) =
-    faults_at s.line (when (list_any (λ (b : Said). bytes_eq s.server.name b.server.name) before) DuplicateName) ++ phase_two (before ++ s ∷ []) ss
+phase_two before (s ∷ ss) = faults_at s.line (name_faults before s) ++ phase_two (before ++ s ∷ []) ss
 
 -- the greatest number of a head
 abbrev pub greatest : ℕ

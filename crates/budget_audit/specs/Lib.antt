@@ -11,3 +11,8 @@ pub mod Law
 pub mod Leap
 pub mod View
 pub mod Watch
+pub mod StatementView
+pub mod Ends
+pub mod Said
+pub mod Hearing
+pub mod WatchView

@@ -12,9 +12,23 @@ ghost use Rattle.budget_audit.specs.Law.{KeepsLaw};
 ghost use Rattle.budget_audit.specs.Server.{NamedServer};
 ghost use Rattle.budget_audit.specs.Watch.{begun, watch_breach};
 
+mod audit;
+mod breach;
+mod end;
+mod fault;
+mod reading;
 mod replay;
+mod saying;
+mod server;
+mod statement;
+mod watched;
 
+pub use audit::Audit;
+pub use breach::Breach;
+pub use end::AuditEnd;
+pub use fault::HeadFault;
 pub use replay::{Activation, Planned};
+pub use server::{Limits, NamedServer};
 
 /// Where no line of a trace breaks a rule for these servers, the law of the budget holds of its lines for each of them.
 #[tactic(auto, using(crate::proofs::Accepted::accepted_keeps_law))]

@@ -1,13 +1,18 @@
 // What the lines so far say of one server, replayed from instant to instant.
-ghost use Rattle.std.specs.Prelude.{◌≡◌, ◌+◌, ◌≤◌, ◌*◌, ◌^◌, nat_lt, slice_get, true, length, ◌<◌, IsTrue};
+ghost use Rattle.std.specs.Prelude.{◌≡◌, ◌+◌, ◌≤◌, ◌*◌, ◌^◌, nat_lt, slice_get, true, length, ◌<◌, IsTrue, IfNone, IfSome};
 ghost use Rattle.std.specs.List.{list_any};
 ghost use Rattle.budget_audit.specs.Leap.{can, left};
-ghost use Rattle.budget_audit.specs.Marks.{begins, exhausts, exits, is_activated, is_given, is_planned, is_refilled, is_taken, nothing};
-ghost use Rattle.budget_audit.specs.Replay.{broken_now, fits_active, fits_oldest, lives, room};
-ghost use Rattle.budget_audit.specs.View.{after_advance, is_left, judged, leapt, misses_by, said};
+ghost use Rattle.budget_audit.specs.Head.{in_numbers, in_ranges};
+ghost use Rattle.budget_audit.specs.Marks.{begins, exits, is_activated, is_given, is_planned, is_refilled, is_taken};
+ghost use Rattle.budget_audit.specs.Replay.{fits_oldest, lives, opened, room};
+ghost use Rattle.budget_audit.specs.View.{after_advance, is_left, leapt, misses_by, said};
 
+use crate::Limits;
 use arrayvec::ArrayVec;
 use std::marker::Model;
+
+mod hearing;
+mod judging;
 
 /// A plan without a refill, and the instant of its refill.
 #[derive(Clone, Copy, Debug, Default, PartialEq, Eq)]
@@ -65,6 +70,33 @@ fn any_before(plans: &[Planned], to: u64) -> bool
 }
 
 impl Replay {
+    /// An account of a server of which no line was read.
+    pub(crate) fn new(limits: &Limits) -> Replay
+        requires small { in_numbers limits.now ≡ true }
+        requires right { in_ranges limits.now ≡ true }
+        ensures { result ≡ record { limits = limits.now; account = opened } }
+    {
+        Replay {
+            period: limits.period,
+            budget: limits.budget,
+            max: limits.max,
+            started: false,
+            exited: false,
+            has: false,
+            instant: 0,
+            ran: 0,
+            high: 0,
+            refilled: 0,
+            planned: 0,
+            ahead: ArrayVec::new(),
+            active: None,
+            fresh: false,
+            owes: false,
+            late: false,
+            unpaid: false,
+        }
+    }
+
     // What is left of the capacity.
     fn rest(&self) -> u64
         ensures { result ≡ left self.now.limits self.now.account }
@@ -104,13 +136,12 @@ impl Replay {
         self.instant += ticks;
     }
 
-    /// Goes on to an instant.
+    /// Goes on to an instant, where it is not there yet.
     pub(crate) fn advance(&mut self, to: u64)
-        requires ahead { self.old.account.now ≤ to }
-        requires small { to ≤ 3 * 10 ^ 18 }
+        requires { to ≤ 3 * 10 ^ 18 }
         ensures { self.new ≡ after_advance to self.old }
     {
-        if to == self.instant {
+        if to <= self.instant {
             return;
         }
         let rest = self.rest();
@@ -139,146 +170,6 @@ impl Replay {
         ensures { result ≡ is_left self.now capacity }
     {
         capacity + self.high == self.budget + self.refilled
-    }
-
-    // The least of rules 1, 3 and 5 that a line of the thread breaks that keeps its own rules.
-    fn judge_plain(&self, kept: bool) -> Option<u8>
-        ensures { result ≡ judged kept true true true true self.now }
-    {
-        if !kept {
-            Some(1)
-        } else if self.late {
-            Some(3)
-        } else if self.unpaid {
-            Some(5)
-        } else {
-            None
-        }
-    }
-
-    // The least rule that an activation breaks.
-    pub(crate) fn judge_activation(&self, capacity: u64) -> Option<u8>
-        requires { capacity ≤ 3 * 10 ^ 18 }
-        ensures { result ≡ broken_now self.now.limits self.now.account (is_activated capacity) }
-    {
-        let fits = self.is_left(capacity)
-            && (capacity > 0 && (self.has_room() && self.planned == self.high));
-        if !self.lives() {
-            Some(1)
-        } else if self.late {
-            Some(3)
-        } else if !fits {
-            Some(4)
-        } else if self.unpaid {
-            Some(5)
-        } else {
-            None
-        }
-    }
-
-    // The least rule that exhaustion breaks.
-    pub(crate) fn judge_exhaustion(&self) -> Option<u8>
-        ensures { result ≡ broken_now self.now.limits self.now.account exhausts }
-    {
-        let fits = self.is_left(0) && self.fresh;
-        if !self.lives() {
-            Some(1)
-        } else if self.late {
-            Some(3)
-        } else if !(fits && !self.unpaid) {
-            Some(5)
-        } else {
-            None
-        }
-    }
-
-    // Whether a plan is of the high ticks since the last activation, and due one period after it.
-    fn is_since(&self, amount: u64, due: u64) -> bool
-        ensures { result ≡ fits_active self.now.limits self.now.account self.now.account.active amount due }
-    {
-        match self.active {
-            None => false,
-            Some(x) => amount >= 1
-                && ((x.high <= self.high && amount == self.high - x.high)
-                    && (x.time <= due && due - x.time == self.period)),
-        }
-    }
-
-    // The least rule that a plan breaks.
-    pub(crate) fn judge_plan(&self, amount: u64, due: u64) -> Option<u8>
-        ensures { result ≡ broken_now self.now.limits self.now.account (is_planned amount due) }
-    {
-        let fits = self.is_since(amount, due) && self.has_room();
-        if !self.lives() {
-            Some(1)
-        } else if !fits {
-            Some(2)
-        } else if self.late {
-            Some(3)
-        } else if self.unpaid {
-            Some(5)
-        } else {
-            None
-        }
-    }
-
-    // Whether a refill is of the oldest plan without one.
-    fn is_of_oldest(&self, amount: u64) -> bool
-        ensures { result ≡ fits_oldest (slice_get self.now.account.ahead 0) self.now.account.now amount }
-    {
-        match self.ahead.as_slice().first() {
-            None => false,
-            Some(p) => amount == p.amount && self.instant == p.from,
-        }
-    }
-
-    // The least rule that a refill breaks.
-    pub(crate) fn judge_refill(&self, amount: u64, capacity: u64) -> Option<u8>
-        requires amount { amount ≤ 3 * 10 ^ 18 }
-        requires capacity { capacity ≤ 3 * 10 ^ 18 }
-        ensures { result ≡ broken_now self.now.limits self.now.account (is_refilled amount capacity) }
-    {
-        let fits = self.is_of_oldest(amount)
-            && (capacity + self.high == self.budget + self.refilled + amount
-                && capacity <= self.budget);
-        if !self.lives() {
-            Some(1)
-        } else if !(fits && !self.late) {
-            Some(3)
-        } else if self.unpaid {
-            Some(5)
-        } else {
-            None
-        }
-    }
-
-    // The least rule that a start breaks.
-    pub(crate) fn judge_start(&self) -> Option<u8>
-        ensures { result ≡ broken_now self.now.limits self.now.account begins }
-    {
-        self.judge_plain(!self.started)
-    }
-
-    // The least rule that an exit breaks.
-    pub(crate) fn judge_exit(&self) -> Option<u8>
-        ensures { result ≡ broken_now self.now.limits self.now.account exits }
-    {
-        self.judge_plain(self.lives())
-    }
-
-    // The least rule that a line breaks that gives the thread the processor.
-    pub(crate) fn judge_given(&self) -> Option<u8>
-        ensures { result ≡ broken_now self.now.limits self.now.account is_given }
-    {
-        self.judge_plain(self.lives())
-    }
-
-    // The least rule that another line breaks.
-    pub(crate) fn judge_other(&self) -> Option<u8>
-        ensures nothing { result ≡ broken_now self.now.limits self.now.account nothing }
-        ensures taken { result ≡ broken_now self.now.limits self.now.account is_taken }
-    {
-        self.judge_plain(true)
     }
 
     /// The thread starts.

@@ -7,3 +7,4 @@ pub mod Printed
 pub mod Short
 pub mod Enough
 pub mod ClosingTimes
+pub mod SmallLines
