@@ -9,7 +9,7 @@ use Rattle.sporadic_server.specs.Server.{ServerState, activate, is_high, new_ser
 use Rattle.machine_rules.specs.State.{Status}
 use Rattle.machine_rules.specs.Threads.{is_runnable}
 use Rattle.machine_moves.proofs.Waiters.Best.{Each}
-use Rattle.budget_audit.specs.Server.{Limits}
+use Rattle.budget_audit.specs.declared.server.Limits.{Limits}
 use Rattle.budget_audit.specs.Marks.{Saying, begins, is_given, is_taken, is_activated, exhausts, is_planned, exits, nothing}
 use Rattle.budget_audit.specs.declared.replay.Planned.{Planned}
 use Rattle.budget_audit.specs.Rules.{if_broken}

@@ -8,7 +8,7 @@ use Rattle.machine_rules.specs.State.{Status}
 use Rattle.machine_rules.specs.Threads.{is_runnable}
 use Rattle.machine_rules.specs.Servers.{has_high}
 use Rattle.machine_laws.proofs.Budgets.Units.{NotDue}
-use Rattle.budget_audit.specs.Server.{Limits}
+use Rattle.budget_audit.specs.declared.server.Limits.{Limits}
 use Rattle.budget_audit.specs.declared.replay.Planned.{Planned}
 use Rattle.budget_audit.specs.Replay.{Account, can_be_high, next_is_high, tick_as}
 use Rattle.audit_laws.proofs.Accounts.{Agrees, Booked, Clear, InStep, can_as_server, high_parts, pairs_later}

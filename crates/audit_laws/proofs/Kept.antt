@@ -28,7 +28,7 @@ use Rattle.machine_moves.proofs.Runs.Ticks.{RoundKeeps, Rests, charged_runs, cha
 use Rattle.machine_laws.proofs.Servers.Alert.{awake_of}
 use Rattle.machine_laws.proofs.Servers.Ticks.{ServedDone, ServedMid, ServedRight, dispatched_threads, nobody_awake, served_stop, served_tick}
 use Rattle.machine_laws.proofs.Budgets.Units.{NotDue, not_due}
-use Rattle.budget_audit.specs.Server.{Limits}
+use Rattle.budget_audit.specs.declared.server.Limits.{Limits}
 use Rattle.budget_audit.specs.Replay.{Account}
 use Rattle.audit_laws.proofs.Moves.{recorded_keep, sleeps_recorded, joined_recorded}
 use Rattle.audit_laws.proofs.Units.{Rested, Running, charges_running, dispatches_rested, ends_rested, idles_rested}

@@ -28,7 +28,7 @@ use Rattle.machine_moves.proofs.Waiters.OfThreads.{changed_is}
 use Rattle.machine_laws.proofs.Servers.Right.{ServerIn, ThreadRight, none_consumed, only}
 use Rattle.machine_laws.proofs.Servers.Moves.{Awake, Threads, here, in_wait, sleeper}
 use Rattle.machine_laws.proofs.Servers.Ends.{has_server}
-use Rattle.budget_audit.specs.Server.{Limits}
+use Rattle.budget_audit.specs.declared.server.Limits.{Limits}
 use Rattle.budget_audit.specs.Marks.{Saying, exits, if_mine, is_activated, is_refilled, nothing}
 use Rattle.budget_audit.specs.Marks as marks
 use Rattle.budget_audit.specs.Replay.{Account, after_saying, broken_now}

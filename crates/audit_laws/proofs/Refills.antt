@@ -11,7 +11,7 @@ use Rattle.machine_rules.specs.Servers.{amount_of, regains_high}
 use Rattle.machine_rules.specs.DueItems.{has_come}
 use Rattle.machine_laws.proofs.Budgets.Booked.{refill_same}
 use Rattle.machine_laws.proofs.Servers.Right.{Sound}
-use Rattle.budget_audit.specs.Server.{Limits}
+use Rattle.budget_audit.specs.declared.server.Limits.{Limits}
 use Rattle.budget_audit.specs.Marks.{Saying, is_refilled}
 use Rattle.budget_audit.specs.declared.replay.Planned.{Planned}
 use Rattle.budget_audit.specs.Replay.{Account, after_saying, broken_now, fits_oldest, lives}

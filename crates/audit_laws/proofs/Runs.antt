@@ -30,7 +30,7 @@ use Rattle.machine_moves.proofs.Runs.Ticks.{run_keep}
 use Rattle.machine_laws.proofs.Parts.Opening.{opening_listed}
 use Rattle.machine_laws.proofs.Servers.Kept.{opened_server, opening_served}
 use Rattle.machine_laws.proofs.Servers.Ticks.{ServedDone, ServedMid, ServedRight, served_tick}
-use Rattle.budget_audit.specs.Server.{Limits}
+use Rattle.budget_audit.specs.declared.server.Limits.{Limits}
 use Rattle.budget_audit.specs.Marks.{Mark, nothing}
 use Rattle.budget_audit.specs.Replay as replay
 use Rattle.budget_audit.specs.Replay.{Account, Rising, advanced, breaks, broken_now, keeps_all, opened, replayed}

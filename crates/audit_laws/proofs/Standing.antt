@@ -6,7 +6,7 @@ use mathlib.Core.Path.{subst, ◌∙◌}
 use Rattle.pse52_trace.specs.declared.event.Event.{Event}
 use Rattle.pse52_trace.specs.Text.{Entry}
 use Rattle.machine_rules.specs.declared.dispatch.LastDispatch.{LastDispatch}
-use Rattle.budget_audit.specs.Server.{Limits}
+use Rattle.budget_audit.specs.declared.server.Limits.{Limits}
 use Rattle.budget_audit.specs.Marks.{Mark, Saying, begins, is_given, is_taken, is_activated, exhausts, is_planned, is_refilled, exits, nothing}
 use Rattle.budget_audit.specs.Replay.{Account, advanced, after_mark, after_saying, Rising, breaks, broken_now, keeps_all, replayed, tick, ticks}
 use Rattle.audit_laws.specs.Events.{is_end_event, is_ran, mark_by, marks_by, said_by}

@@ -21,7 +21,8 @@ use Rattle.machine_rules.specs.Threads.{thread_at, thread_in}
 use Rattle.machine_rules.specs.Runs.{opening}
 use Rattle.machine_rules.specs.Machine.{budget_of, events, machine, names_of, report_of, trace}
 use Rattle.machine_rules.specs.WellFormed.{IsWellFormed}
-use Rattle.budget_audit.specs.Server.{Limits, NamedServer}
+use Rattle.budget_audit.specs.declared.server.Limits.{Limits}
+use Rattle.budget_audit.specs.declared.server.NamedServer.{NamedServer}
 use Rattle.budget_audit.specs.Marks.{Mark, Saying, is_given, is_taken, mark_of, marks_of, nothing, if_mine, saying_of}
 use Rattle.budget_audit.specs.Ticks.{amount_refilled, high_before, in_all, ran_before}
 use Rattle.budget_audit.specs.Rules.{broken_by, if_broken, lives_in}

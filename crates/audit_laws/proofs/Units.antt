@@ -26,7 +26,7 @@ use Rattle.machine_laws.proofs.Servers.Right.{Consumed, ThreadRight, only}
 use Rattle.machine_laws.proofs.Servers.Moves.{Threads}
 use Rattle.machine_laws.proofs.Servers.Ends.{end_by, has_server}
 use Rattle.machine_laws.proofs.Servers.Units.{kept_in_unit}
-use Rattle.budget_audit.specs.Server.{Limits}
+use Rattle.budget_audit.specs.declared.server.Limits.{Limits}
 use Rattle.budget_audit.specs.Marks.{exhausts, is_given, is_taken}
 use Rattle.budget_audit.specs.declared.replay.Planned.{Planned}
 use Rattle.budget_audit.specs.Replay.{Account, after_saying, can_be_high, next_is_high, tick, tick_as}

@@ -14,7 +14,7 @@ use Rattle.machine_rules.specs.State.{Thread}
 use Rattle.machine_rules.specs.Threads.{thread_at}
 use Rattle.machine_rules.specs.Runs.{opening}
 use Rattle.machine_rules.specs.Machine.{events, machine, names_of, report_of}
-use Rattle.budget_audit.specs.Server.{NamedServer}
+use Rattle.budget_audit.specs.declared.server.NamedServer.{NamedServer}
 
 -- the lines of events
 abbrev pub event_readings : List (List ℕ) → List Entry → List Reading

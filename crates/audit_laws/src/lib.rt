@@ -8,7 +8,7 @@ ghost use Rattle.script_tree.specs.declared.decl.Script.{Script};
 ghost use Rattle.machine_rules.specs.Machine.{names_of, trace};
 ghost use Rattle.machine_rules.specs.WellFormed.{IsWellFormed};
 ghost use Rattle.budget_audit.specs.Breach.{first_breach};
-ghost use Rattle.budget_audit.specs.Server.{NamedServer};
+ghost use Rattle.budget_audit.specs.declared.server.NamedServer.{NamedServer};
 ghost use Rattle.audit_laws.specs.Calm.{HasNoSetsched};
 ghost use Rattle.audit_laws.specs.Traces.{EachServerOf, NamesApart, TraceIsSpelled};
 

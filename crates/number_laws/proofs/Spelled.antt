@@ -22,7 +22,7 @@ use Rattle.script_lex.specs.Lines.{lines_of}
 use Rattle.trace_check.specs.Lines.{reading}
 use Rattle.trace_check.specs.Laws.{HasName, IsBudgetSpelled, IsSpelled}
 use Rattle.budget_audit.specs.Breach.{first_breach}
-use Rattle.budget_audit.specs.Server.{NamedServer}
+use Rattle.budget_audit.specs.declared.server.NamedServer.{NamedServer}
 use Rattle.budget_audit.proofs.Walks.{EachOf}
 use Rattle.audit_laws.specs.Calm.{HasNoSetsched}
 use Rattle.audit_laws.specs.Traces.{AllSpelled, EachServerOf, IsServerOf, NamesApart, ReportsSpelled, TraceIsSpelled, trace_readings}

@@ -14,7 +14,7 @@ ghost use Rattle.machine_rules.specs.Machine.{bodies_of, machine, names_of, trac
 ghost use Rattle.machine_rules.specs.Runs.{opening};
 ghost use Rattle.machine_rules.specs.Throughout.{after_items};
 ghost use Rattle.budget_audit.specs.Breach.{first_breach};
-ghost use Rattle.budget_audit.specs.Server.{NamedServer};
+ghost use Rattle.budget_audit.specs.declared.server.NamedServer.{NamedServer};
 ghost use Rattle.audit_laws.specs.Calm.{HasNoSetsched};
 ghost use Rattle.audit_laws.specs.Traces.{EachServerOf, NamesApart, TraceIsSpelled, trace_readings};
 ghost use Rattle.number_laws.specs.Numbers.{NumbersAreSmall};

@@ -2,3 +2,4 @@ pub mod Opened
 pub mod Promises
 pub mod Whole
 pub mod Worked
+pub mod Audits

@@ -1,6 +1,6 @@
 use Rattle.std.proofs.Common.{List, [], ◌∷◌}
 use Rattle.script_tree.specs.declared.decl.Script.{Script}
-use Rattle.budget_audit.specs.Server.{NamedServer}
+use Rattle.budget_audit.specs.declared.server.NamedServer.{NamedServer}
 use Rattle.budget_audit.proofs.Walks.{EachOf}
 use Rattle.audit_laws.specs.Traces.{EachServerOf, IsServerOf}
 use Rattle.audit_laws.proofs.Traces.{no_breach_of_text}
