@@ -12,7 +12,7 @@ use Rattle.budget_audit.specs.Watch as watch
 use Rattle.budget_audit.specs.Watch.{watch_breach}
 use Rattle.budget_audit.proofs.Watching.{ClosingAtZero, first_breach_is_found}
 
-same_form : (f : Form) → closes f ≡ is_closing f
+pub same_form : (f : Form) → closes f ≡ is_closing f
 same_form form.Thread = refl
 same_form form.Budget = refl
 same_form f = refl

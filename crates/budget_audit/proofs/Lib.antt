@@ -13,3 +13,4 @@ pub mod Watching
 pub mod ClosingTimes
 pub mod Phases
 pub mod EachServer
+pub mod Behind

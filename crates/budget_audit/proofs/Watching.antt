@@ -15,7 +15,7 @@ use Rattle.budget_audit.proofs.Marked.{now_after}
 use Rattle.budget_audit.proofs.Watches.{Watches, watched_next, watched_same}
 
 -- the servers that are watched are these
-abbrev Each : List Reading → Bool → ℕ → List NamedServer → List Watched → Type 0
+abbrev pub Each : List Reading → Bool → ℕ → List NamedServer → List Watched → Type 0
 Each before ended time [] [] = Unit {0}
 Each before ended time [] (w ∷ ws) = ⊥
 Each before ended time (s ∷ servers) [] = ⊥
@@ -46,7 +46,7 @@ in_order false true x h = absurd (grind arith)
 in_order false false x h = refl
 
 module _ (before : List Reading) (r : Reading) where
-  order_same : (servers : List NamedServer) (w : Watch) → WatchIs servers before w → keeps_order before r ≡ fits_order w r
+  pub order_same : (servers : List NamedServer) (w : Watch) → WatchIs servers before w → keeps_order before r ≡ fits_order w r
   order_same servers w h = by_closing (is_closing r.form) (has_ended before) refl
     where
       by_closing : (c e : Bool) → has_ended before ≡ e → (if c then has_ended before else (not (has_ended before) && list_all (λ (b : Reading). nat_le b.time r.time) before)) ≡ (if c then w.ended else (not w.ended && nat_le w.time r.time))
@@ -96,7 +96,7 @@ module _ (before : List Reading) (r : Reading) where
       at_time false k le = now_after (advanced w.server.limits r.time w.account) (mark_of w.server.name r).saying ∙ advanced_now w.server.limits r.time w.account le
 
   -- what is kept after a line that breaks nothing
-  watch_next : (servers : List NamedServer) (w : Watch) → WatchIs servers before w → (is_closing r.form ≡ true → r.time ≡ 0) → keeps_order before r ≡ true → watch_breaks w r ≡ None → WatchIs servers (before ++ r ∷ []) (watch_after r w)
+  pub watch_next : (servers : List NamedServer) (w : Watch) → WatchIs servers before w → (is_closing r.form ≡ true → r.time ≡ 0) → keeps_order before r ≡ true → watch_breaks w r ≡ None → WatchIs servers (before ++ r ∷ []) (watch_after r w)
   watch_next servers w h zero' order none = record {
     ended = ap (λ (b : Bool). b || is_end r.form) h.ended ∙ sym (any_more (λ (x : Reading). is_end x.form) before r);
     by = λ still k. by_closing (is_closing r.form) refl (left w.ended (is_end r.form) still) k;
@@ -171,12 +171,12 @@ all_closed before ended time (s ∷ servers) (w ∷ ws) h = join (ap (λ (x : Na
     join : {a b x y : Bool} → a ≡ x → b ≡ y → (a && b) ≡ (x && y)
     join p q = cc
 
-lacks_same : (servers : List NamedServer) (before : List Reading) (w : Watch) → WatchIs servers before w → broken_behind servers before ≡ watch_lacks w
+pub lacks_same : (servers : List NamedServer) (before : List Reading) (w : Watch) → WatchIs servers before w → broken_behind servers before ≡ watch_lacks w
 lacks_same servers before w h =
     ap (λ (b : Bool). if_broken b 1 (if_broken (list_all (λ (s : NamedServer). has_closing s.name before) servers) 6 None)) (sym h.ended)
     ∙ ap (λ (b : Bool). if_broken w.ended 1 (if_broken b 6 None)) (all_closed before w.ended w.time servers w.each h.each)
 
-line_same : (servers : List NamedServer) (before : List Reading) (r : Reading) (w : Watch) → WatchIs servers before w → broken_by_reading servers before (Some r) ≡ watch_breaks w r
+pub line_same : (servers : List NamedServer) (before : List Reading) (r : Reading) (w : Watch) → WatchIs servers before w → broken_by_reading servers before (Some r) ≡ watch_breaks w r
 line_same servers before r w h = by_order (keeps_order before r) refl
   where
     by_order : (b : Bool) → keeps_order before r ≡ b → if_broken (keeps_order before r) 1 (broken_for_any before r servers) ≡ if_broken (fits_order w r) 1 (any_breaks w.each r)

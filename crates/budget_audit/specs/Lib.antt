@@ -16,3 +16,4 @@ pub mod Ends
 pub mod Said
 pub mod Hearing
 pub mod WatchView
+pub mod Behind

@@ -1,8 +1,9 @@
 // The audit of a trace.
-ghost use Rattle.std.specs.Prelude.{◌≡◌, ◌≤◌, List, ℕ, length, map, IfOk, IfErr, IfNone};
+ghost use Rattle.std.specs.Prelude.{◌≡◌, ◌≤◌, ◌∷◌, ◌++◌, [], List, ℕ, length, map, IfOk, IfErr, IfNone};
 ghost use Rattle.std.specs.List.{list_all};
 ghost use Rattle.script_lex.specs.Lines.{lines_of};
 ghost use Rattle.trace_check.specs.Lines.{reading, seen};
+ghost use Rattle.budget_audit.specs.Behind.{IsBehind, broken_at_end, broken_by_line};
 ghost use Rattle.budget_audit.specs.Breach.{first_breach, least};
 ghost use Rattle.budget_audit.specs.Ends.{IsOpened, IsRefusal};
 ghost use Rattle.budget_audit.specs.Head.{read_head};
@@ -115,9 +116,7 @@ impl Audit {
         rule
     }
 
-    /// The least rule, 1 to 6, that the next line of a trace breaks, without its line end; `None` exactly where it breaks none. It takes no
-    /// memory. Once a rule was broken, nothing is said of the answers to further lines.
-    pub fn line(&mut self, bytes: &[u8]) -> Option<u8>
+    fn read(&mut self, bytes: &[u8]) -> Option<u8>
         ensures rule { result ≡ watch_reading self.old (reading bytes.now) }
         ensures after { IfNone result (self.new ≡ watch_with (reading bytes.now) self.old) }
     {
@@ -127,8 +126,32 @@ impl Audit {
         }
     }
 
+    /// The least rule, 1 to 6, that the next line of a trace breaks, without its line end; `None` exactly where it breaks none. It takes no
+    /// memory. Once a rule was broken, nothing is said of the answers to further lines.
+    #[tactic(auto, using(crate::proofs::Behind::line_counted, crate::proofs::Behind::line_taken))]
+    pub fn line(&mut self, bytes: &[u8]) -> Option<u8>
+        // The rule is counted over all lines that were taken in.
+        ensures counted { (servers : List NamedServer) (before : List (List ℕ)) → IsBehind servers before self.old
+            → result ≡ broken_by_line servers before bytes.now }
+        ensures behind { (servers : List NamedServer) (before : List (List ℕ)) → IsBehind servers before self.old
+            → IfNone result (IsBehind servers (before ++ bytes.now ∷ []) self.new) }
+        ensures rule { result ≡ watch_reading self.old (reading bytes.now) }
+        ensures after { IfNone result (self.new ≡ watch_with (reading bytes.now) self.old) }
+    {
+        self.read(bytes)
+    }
+
     /// The least rule that is broken where no line comes any more: 1 without an `end` line, 6 where a closing line is missing.
+    #[tactic(auto, using(crate::proofs::Behind::end_counted))]
     pub fn finish(&self) -> Option<u8>
+        ensures counted { (servers : List NamedServer) (before : List (List ℕ)) → IsBehind servers before self.now
+            → result ≡ broken_at_end servers before }
+        ensures rule { result ≡ watch_lacks self.now }
+    {
+        self.lacks()
+    }
+
+    fn lacks(&self) -> Option<u8>
         ensures { result ≡ watch_lacks self.now }
     {
         if !self.ended {
