@@ -112,7 +112,11 @@ impl Audit {
         }
         let rule = line_of_each(self.servers.as_mut_slice(), line);
         self.ended = self.ended || line.form == Form::End;
-        self.time = if is_closing(line.form) { self.time } else { line.time };
+        self.time = if is_closing(line.form) {
+            self.time
+        } else {
+            line.time
+        };
         rule
     }
 

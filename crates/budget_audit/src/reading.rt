@@ -56,7 +56,10 @@ fn are_in_ranges(s: &Limits) -> bool
 }
 
 // Phase 3: the numbers.
-pub(crate) fn watches(alloc: Global, statements: &[Statement<'_>]) -> Result<Vec<ServerWatch>, AuditEnd>
+pub(crate) fn watches(
+    alloc: Global,
+    statements: &[Statement<'_>],
+) -> Result<Vec<ServerWatch>, AuditEnd>
     ensures { MatchResult result
         (λ v. (phase_three [] statements.now ≡ []) × (v.items ≡ map watched (servers_of statements.now)))
         (λ e. EndsBy e (phase_three [] statements.now)) }

@@ -52,7 +52,11 @@ impl Saying {
         let nums = line.nums.as_slice();
         match line.form {
             Form::Dispatch => {
-                if line.name == name { Saying::IsGiven } else { Saying::IsTaken }
+                if line.name == name {
+                    Saying::IsGiven
+                } else {
+                    Saying::IsTaken
+                }
             }
             Form::Idle => Saying::IsTaken,
             Form::Start => if_mine(line.name == name, Saying::Begins),
@@ -61,10 +65,16 @@ impl Saying {
             }
             Form::Exhaust => if_mine(line.name == name, Saying::Exhausts),
             Form::Plan => {
-                if_mine(line.name == name, Saying::IsPlanned(number_at(nums, 0), number_at(nums, 1)))
+                if_mine(
+                    line.name == name,
+                    Saying::IsPlanned(number_at(nums, 0), number_at(nums, 1)),
+                )
             }
             Form::Refill => {
-                if_mine(line.name == name, Saying::IsRefilled(number_at(nums, 0), number_at(nums, 1)))
+                if_mine(
+                    line.name == name,
+                    Saying::IsRefilled(number_at(nums, 0), number_at(nums, 1)),
+                )
             }
             Form::Exit => if_mine(line.name == name, Saying::Exits),
             Form::Return

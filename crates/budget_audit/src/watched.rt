@@ -99,7 +99,8 @@ impl ServerWatch {
         requires { IsSmallLine (seen line.now) }
         ensures rule { result ≡ breaks self.old.server.limits self.old.account (mark_of self.old.server.name (seen line.now)) }
         ensures after { IfNone result (self.new ≡ record self.old {
-            account = after_mark self.old.server.limits self.old.account (mark_of self.old.server.name (seen line.now)) }) }
+          account = after_mark self.old.server.limits self.old.account (mark_of self.old.server.name (seen line.now));
+        }) }
     {
         let what = Saying::of(line, self.name.bytes());
         self.account.hear(line.time, what)

@@ -115,7 +115,11 @@ fn short_command_of(word: &[u8]) -> Option<Command>
     ensures command { result ≡ short_command_of word.now }
     ensures limit { IfSome result IsWithinLimit }
 {
-    if word == b"audit".as_slice() { Some(Command::Audit) } else { None }
+    if word == b"audit".as_slice() {
+        Some(Command::Audit)
+    } else {
+        None
+    }
 }
 
 fn soak(seed: &[u8], horizon: &[u8]) -> Option<Command>
