@@ -1,5 +1,7 @@
 //! The traces of the machine break no rule of an audit.
 //!
+//! Proved: of a well formed script without a setsched step, no trace breaks a rule of its sporadic servers, where its lines are spelled as a trace is.
+//!
 //! Each function stands for a law, which its clause states. None of them does anything when it is called.
 #![tactic(auto)]
 

@@ -1,14 +1,14 @@
 -- An audit behind lines that break no rule tells the rule that the next one breaks, counted over all of them.
 use Rattle.std.proofs.Common.{List, None, Option, Some, [], ap, arith, append-nil, false, refl, subst, sym, true, Bool, ℕ, ◌∷◌, ◌++◌, ◌≡◌, ◌∙◌, IfNone}
-use Rattle.std.specs.List.{cons_option, filter_map}
+use Rattle.std.specs.List.{cons_option}
 use Rattle.std.proofs.lemmas.List.{append_assoc}
 use Rattle.std.proofs.lemmas.List.Elements.{filter_map-append}
 use Rattle.trace_check.specs.Lines.{Reading, reading}
 use Rattle.trace_check.proofs.ClosingTimes.{IfRead, read_at_zero}
 use Rattle.budget_audit.specs.Server.{NamedServer}
 use Rattle.budget_audit.specs.Rules.{if_broken}
-use Rattle.budget_audit.specs.Breach.{and_reading, broken_behind, broken_by_reading, is_closing, keeps_order}
-use Rattle.budget_audit.specs.Watch.{Watch, begun, fits_order, any_breaks, watch_breaks, watch_lacks, watch_reading, watch_with}
+use Rattle.budget_audit.specs.Breach.{and_reading, broken_by_reading}
+use Rattle.budget_audit.specs.Watch.{Watch, begun, fits_order, any_breaks, watch_lacks, watch_reading, watch_with}
 use Rattle.budget_audit.specs.Behind.{AreUnbroken, IsBehind, broken_at_end, broken_by_line, readings, watched_through}
 use Rattle.budget_audit.proofs.ClosingTimes.{same_form}
 use Rattle.budget_audit.proofs.Watching.{WatchIs, begun_is, lacks_same, line_same, order_same, watch_next}

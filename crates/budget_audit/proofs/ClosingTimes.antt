@@ -1,5 +1,5 @@
 -- The first breach of a trace is what the audit finds from what it keeps.
-use Rattle.std.proofs.Common.{Bool, List, None, Option, Some, [], false, refl, true, ℕ, ◌∷◌, ◌≡◌, ◌∙◌}
+use Rattle.std.proofs.Common.{List, None, Option, Some, [], refl, ℕ, ◌∷◌, ◌≡◌, ◌∙◌}
 use Rattle.std.specs.Prelude.{map}
 use Rattle.script_lex.specs.Lines.{lines_of}
 use Rattle.trace_check.specs.declared.form.Form.{Form}

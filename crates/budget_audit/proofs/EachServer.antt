@@ -1,5 +1,5 @@
 -- One server more takes a line in.
-use Rattle.std.proofs.Common.{◌≡◌, ◌∙◌, ℕ, suc, ◌+◌, ◌<◌, List, [], ◌∷◌, ◌++◌, Option, None, Some, length, get_or, take, drop, map, sym, ap, add-one, drop-cons, refl, arith, IfNone, subst}
+use Rattle.std.proofs.Common.{◌≡◌, ◌∙◌, ℕ, ◌+◌, ◌<◌, List, [], ◌∷◌, ◌++◌, Option, None, Some, length, get_or, take, drop, map, sym, ap, add-one, drop-cons, refl, arith, IfNone}
 use Rattle.std.specs.Prelude.{slice_set}
 use Rattle.std.proofs.lemmas.List.{drop-set-lt, take_more_set, map-append}
 use Rattle.std.proofs.lemmas.Grind.{common_steps}

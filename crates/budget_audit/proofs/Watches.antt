@@ -1,14 +1,13 @@
 -- What the audit keeps of a trace tells the rule that each line breaks, over all lines before it.
-use Rattle.std.proofs.Common.{Bool, List, None, Option, Some, [], ap, arith, false, length, refl, suc, sym, true, zero, ℕ, ◌+◌, ◌<◌, ◌≤◌, ◌∷◌, ◌++◌, ◌≡◌, ◌∙◌, subst}
-use Rattle.std.specs.Prelude.{map, not, is_some, nat_le, nat_lt, ◌==◌, ◌&&◌, ◌||◌, if◌then◌else◌}
-use Rattle.std.specs.List.{list_all, list_any}
+use Rattle.std.proofs.Common.{Bool, List, None, [], ap, arith, false, refl, sym, true, ℕ, ◌≤◌, ◌∷◌, ◌++◌, ◌≡◌, ◌∙◌, subst}
+use Rattle.std.specs.Prelude.{not, ◌&&◌, ◌||◌, if◌then◌else◌}
 use Rattle.std.specs.Str.{bytes_eq}
 use Rattle.trace_check.specs.declared.form.Form.{Form}
 use Rattle.trace_check.specs.declared.form.Form.TheVariants as form
 use Rattle.trace_check.specs.Lines.{Reading}
-use Rattle.budget_audit.specs.Server.{Limits, NamedServer}
+use Rattle.budget_audit.specs.Server.{Limits}
 use Rattle.budget_audit.specs.Marks.{Mark, Saying, mark_of, marks_of, nothing, saying_of}
-use Rattle.budget_audit.specs.Ticks.{amount_refilled, high_before, in_all, ran_before}
+use Rattle.budget_audit.specs.Ticks.{amount_refilled, high_before, ran_before}
 use Rattle.budget_audit.specs.Rules.{broken_by, if_broken, lives_in}
 use Rattle.budget_audit.specs.Breach.{broken_for, end_time, has_closing, has_ended, is_closing, is_closing_of, is_end, is_right_end, keeps_end}
 use Rattle.budget_audit.specs.Replay.{Account, advanced, after_mark, breaks, lives}

@@ -1,11 +1,11 @@
 -- The first breach that the audit finds, from what it keeps, is the first breach of the lines.
-use Rattle.std.proofs.Common.{Bool, List, None, Option, Some, [], ap, append_assoc, arith, false, length, refl, suc, sym, true, zero, ℕ, ◌+◌, ◌<◌, ◌≤◌, ◌∷◌, ◌++◌, ◌≡◌, ◌∙◌, subst}
-use Rattle.std.specs.Prelude.{map, not, is_some, nat_le, nat_lt, ◌==◌, ◌&&◌, ◌||◌, if◌then◌else◌}
-use Rattle.std.specs.List.{list_all, list_any}
+use Rattle.std.proofs.Common.{Bool, List, None, Option, Some, [], ap, arith, false, refl, sym, true, ℕ, ◌+◌, ◌≤◌, ◌∷◌, ◌++◌, ◌≡◌, ◌∙◌, subst}
+use Rattle.std.specs.Prelude.{map, not, nat_le, ◌&&◌, ◌||◌, if◌then◌else◌}
+use Rattle.std.specs.List.{list_all}
 use Rattle.trace_check.specs.Lines.{Reading}
 use Rattle.budget_audit.specs.Server.{NamedServer}
 use Rattle.budget_audit.specs.Rules.{if_broken}
-use Rattle.budget_audit.specs.Breach.{Breach, breach_from, breach_of, broken_behind, broken_by_reading, broken_for, broken_for_any, has_closing, has_ended, is_closing, is_closing_of, is_end, keeps_order, least}
+use Rattle.budget_audit.specs.Breach.{breach_from, breach_of, broken_behind, broken_by_reading, broken_for, broken_for_any, has_closing, has_ended, is_closing, is_closing_of, is_end, keeps_order, least}
 use Rattle.budget_audit.specs.Replay.{advanced, after_mark}
 use Rattle.budget_audit.specs.Marks.{mark_of}
 use Rattle.budget_audit.specs.Watch.{Watch, Watched, any_breaks, begun, fits_order, watch_after, watch_breach, watch_breaks, watch_lacks, watched, watched_after, watched_breaks}

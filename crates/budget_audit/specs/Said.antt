@@ -1,5 +1,5 @@
 -- What the code has of a saying.
-use Rattle.std.specs.Prelude.{ℕ, ◌≤◌}
+use Rattle.std.specs.Prelude.{◌≤◌}
 use Rattle.trace_check.specs.Words.{greatest}
 use Rattle.budget_audit.specs.Marks as marks
 use Rattle.budget_audit.specs.declared.saying.Saying.{Saying}

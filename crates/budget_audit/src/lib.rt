@@ -1,7 +1,10 @@
-//! The audit of a trace against the rules of budgets.
+//! The audit of a trace against the rules of budgets: whether the lines of a trace keep the budgets of its sporadic servers.
 //!
-//! What a rule is stands in `specs/`, counted over all lines of a trace. The function below stands for a law, which its clause states, and
-//! does nothing when it is called.
+//! What a rule is stands in `specs/`, counted over all lines of a trace. [`Audit`] keeps a few numbers for each server in place of the lines. Only
+//! [`Audit::open`] takes memory. The functions below stand for laws, which their clauses state, and do nothing when they are called.
+//!
+//! Proved: `Audit::open` reads the servers of a head, or names its least fault; `line` and `finish` give the least rule that is broken, counted over
+//! all lines that were taken in; `first_breach` is that of the definition; and where no line breaks a rule the law of the budget holds of the lines.
 #![tactic(auto)]
 
 ghost use Rattle.std.specs.Prelude.{◌≡◌, ℕ, List, None, map};

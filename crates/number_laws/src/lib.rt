@@ -1,5 +1,8 @@
 //! No number of the machine is above 3·10^18, but the serials; and so the trace of every script that is read is spelled as one.
 //!
+//! Proved: the values, due ticks, messages and amounts of every run to an instant up to 10^18 are at most 3·10^18; each line of its trace has one
+//! reading, which is what the run says; and without a setsched step the trace breaks no rule of an audit.
+//!
 //! Each function stands for a law, which its clause states. None of them does anything when it is called.
 #![tactic(auto)]
 

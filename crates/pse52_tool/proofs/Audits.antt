@@ -1,5 +1,5 @@
 -- What is told of an audit.
-use Rattle.std.proofs.Common.{◌≡◌, ◌∙◌, ℕ, List, Option, None, Some, Result, Ok, Err, IfSome, ap, subst, sym, refl}
+use Rattle.std.proofs.Common.{◌≡◌, ◌∙◌, ℕ, List, Option, None, Some, Result, Ok, Err, ap, subst, sym, refl}
 use Rattle.std.specs.Prelude.{Bool, true, false, if◌then◌else◌, length, nat_lt}
 use Rattle.trace_check.specs.Divided.{Divided, divided}
 use Rattle.budget_audit.specs.declared.server.NamedServer.{NamedServer}

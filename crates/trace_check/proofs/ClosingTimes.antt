@@ -1,6 +1,6 @@
 -- A closing line is read with the time 0.
-use Rattle.std.proofs.Common.{Bool, List, None, Option, Some, [], ap, false, refl, sym, true, ℕ, ◌∷◌, ◌≡◌, ◌∙◌, subst, arith}
-use Rattle.std.specs.Prelude.{find, if◌then◌else◌, map, codes, is_some}
+use Rattle.std.proofs.Common.{Bool, List, None, Option, Some, [], false, refl, true, ℕ, ◌∷◌, ◌≡◌, arith}
+use Rattle.std.specs.Prelude.{find, if◌then◌else◌, codes, is_some}
 use Rattle.std.specs.Str.{bytes_eq}
 use Rattle.script_tree.specs.Names.{is_name}
 use Rattle.script_table.specs.Words.{signal_of, answer_of}
@@ -10,7 +10,7 @@ use Rattle.trace_check.specs.declared.form.Part.{Part}
 use Rattle.trace_check.specs.declared.form.Part.TheVariants as part
 use Rattle.trace_check.specs.Form.{form_word, parts}
 use Rattle.trace_check.specs.Words.{number_of, trace_words, is_call, is_code}
-use Rattle.trace_check.specs.Lines.{Reading, and_read, begun, closing_reading, kept, named, numbered, of_form, or_read, reading, timed_form, timed_forms, timed_reading, with_word, with_words, words_reading}
+use Rattle.trace_check.specs.Lines.{Reading, and_read, begun, closing_reading, kept, numbered, of_form, or_read, reading, timed_form, timed_forms, timed_reading, with_word, with_words, words_reading}
 
 -- whether a form is that of a closing line
 abbrev pub closes : Form → Bool

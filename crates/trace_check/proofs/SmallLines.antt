@@ -1,6 +1,6 @@
 -- No number that is read of a line is above the greatest of a trace.
 use Rattle.std.proofs.Common.{Bool, List, None, Option, Some, [], false, true, zero, suc, ℕ, ◌∷◌, ◌++◌, ◌≡◌, ◌≤◌, arith, refl, subst, sym}
-use Rattle.std.specs.Prelude.{if◌then◌else◌, codes, is_some, slice_index_or, nat_le, ◌==◌, ◌&&◌, ◌+◌, ◌-◌, ◌*◌, IfSome}
+use Rattle.std.specs.Prelude.{if◌then◌else◌, codes, is_some, nat_le, ◌==◌, ◌&&◌, ◌+◌, ◌-◌, ◌*◌, IfSome}
 use Rattle.std.specs.Option.{option_map}
 use Rattle.std.specs.Str.{bytes_eq}
 use Rattle.script_tree.specs.Names.{is_digit, is_name}
@@ -12,7 +12,7 @@ use Rattle.trace_check.specs.declared.form.Part.TheVariants as part
 use Rattle.trace_check.specs.declared.lines.TraceLine.{TraceLine}
 use Rattle.trace_check.specs.Form.{parts}
 use Rattle.trace_check.specs.Words.{greatest, is_call, is_code, is_plain, number_of, trace_words}
-use Rattle.trace_check.specs.Lines.{Reading, and_read, begun, closing_reading, kept, named, numbered, of_form, or_read, reading, seen, timed_form, timed_reading, with_word, with_words, words_reading}
+use Rattle.trace_check.specs.Lines.{Reading, and_read, begun, closing_reading, kept, numbered, of_form, or_read, reading, seen, timed_form, timed_reading, with_word, with_words, words_reading}
 use Rattle.trace_check.specs.Small.{AreSmall, IsSmallLine}
 
 abbrev pub IfRead : Option Reading → Type 0

@@ -1,4 +1,4 @@
-use Rattle.std.proofs.Common.{◌≡◌, ◌+◌, ◌++◌, length}
+use Rattle.std.proofs.Common.{◌≡◌, ◌++◌, length}
 use Rattle.script_lex.specs.Lines.{lines_of}
 use Rattle.budget_audit.specs.Head.{phase_one, said_from}
 use Rattle.budget_audit.proofs.reading.statements.Given as goal

@@ -1,4 +1,4 @@
-use Rattle.std.proofs.Common.{subst, sym}
+use Rattle.std.proofs.Common.{subst}
 use Rattle.pse52_tool.specs.Answer.{Told, breach_answer}
 use Rattle.pse52_tool.proofs.audit.tell_breach.Goals as goal
 
