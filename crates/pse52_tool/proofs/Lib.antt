@@ -3,3 +3,4 @@ pub mod Promises
 pub mod Whole
 pub mod Worked
 pub mod Audits
+pub mod Serials

@@ -1,6 +1,7 @@
 -- What is promised of the run of each script that is read or generated.
 use Rattle.std.proofs.Common.{◌≡◌, ℕ, List, Ok}
 use Rattle.number_laws.proofs.Spelled as spelled
+use Rattle.pse52_tool.proofs.Serials.{serial_small}
 use Rattle.pse52_tool.specs.Audited.{BreaksNoRule}
 use Rattle.pse52_tool.specs.Spelled.{LinesHaveOneReading, RunHasSmallNumbers}
 use Rattle.script_tree.specs.declared.decl.Script.{Script}
@@ -33,6 +34,7 @@ pub numbers_small : (bytes : List ℕ) (script : Script) → read patterns bytes
 numbers_small bytes script e = record {
   at_instants = λ n most. spelled.accepted_numbers bytes script n e most;
   between_items = λ n k most. spelled.accepted_numbers_between bytes script n k e most;
+  serial = λ n most. serial_small bytes script n e most;
 }
 
 pub one_reading : (bytes : List ℕ) (script : Script) → read patterns bytes ≡ Ok script → LinesHaveOneReading script

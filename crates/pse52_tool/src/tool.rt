@@ -172,7 +172,7 @@ pub fn run_tool<S: Source, K: Sink, L: Ledger>(
     ensures generated_good { (seed : ℕ) → RunStaysGood (script_of seed) }
     ensures generated_budgets { (seed : ℕ) → RunKeepsBudgets (script_of seed) }
 
-    // At every instant that such a run can come to, its numbers are small; and each line of its trace has one reading, which is what it says.
+    // At every instant that such a run can come to, its numbers are small, the serials too; and each line of its trace has one reading, which is what it says.
     ensures numbers { (bytes : List ℕ) (script : Script) → read patterns bytes ≡ Ok script → RunHasSmallNumbers script }
     ensures readings { (bytes : List ℕ) (script : Script) → read patterns bytes ≡ Ok script → LinesHaveOneReading script }
 
