@@ -72,6 +72,19 @@ try 'no trace' 8 'no trace' check 10 <examples/one_thread.task
 try 'a script and a trace of the greatest length' 7 'differs 7' check 10 < <(beside line_ends 67108864)
 try 'a script and a trace of one byte more' 3 'too long' check 10 < <(beside line_ends 67108865)
 
+# A server, the line %%, and the trace of an example, with one line of it changed.
+audited() {
+    printf 'server server 20 5 4\n%%%%\n'
+    sed "$1" examples/13_server_and_polling.trace
+}
+
+try 'a trace that keeps its budgets' 0 'budgets hold' audit < <(audited '')
+try 'a trace without its last line' 9 "breach $(wc -l <examples/13_server_and_polling.trace) 6" audit < <(audited '/^thread server /d')
+try 'a plan of one tick less' 9 "breach $(grep -n -m 1 'plan server 4' examples/13_server_and_polling.trace | cut -d : -f 1) 2" audit \
+    < <(audited 's/plan server 4/plan server 3/')
+try 'an audit without a trace' 8 'no trace' audit <examples/13_server_and_polling.trace
+try 'an audit with a number' 1 "$usage" audit 10
+
 "$program" run 10 <examples/one_thread.task >&-
 expect 'a closed standard output' $? 5 '' ''
 if [ -e /dev/full ]; then

@@ -105,6 +105,9 @@ echo same >"$room/due"
 refuse_each 'a trace that is the same' "$room/beside" 0 check 44
 refuse_each 'a trace that differs' "$room/beside" 7 check 4400
 refuse_each 'no trace' "$worked.task" 8 check 44
+{ echo 'server server 20 5 4'; echo '%%'; cat "$top/examples/13_server_and_polling.trace"; } >"$room/audited"
+echo 'budgets hold' >"$room/due"
+refuse_each 'an audit' "$room/audited" 0 audit
 refuse_each 'response times' "$top/examples/21_response_times.rta" 0 rta 25
 comes_to_no_more rta 100000000
 refuse_each 'a script of a number' /dev/null 0 gen 63

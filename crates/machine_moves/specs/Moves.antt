@@ -155,6 +155,14 @@ is_plain (event.Plan t amount due) = false
 is_plain (event.Refill t amount capacity) = false
 is_plain e = true
 
+-- an event of a call or a signal, which says nothing of what runs or lives either
+abbrev pub is_quiet : Event → Bool
+is_quiet (event.Return t call res value) = true
+is_quiet (event.Deliver t sig code value) = true
+is_quiet (event.Cancel t) = true
+is_quiet (event.Killed sig) = true
+is_quiet e = false
+
 -- when a thread may begin to wait so
 -- it runs, and is the one whose unit is under way
 abbrev pub Runs : {P : Type 0} → Option ℕ → Machine P → ℕ → Type 0
@@ -198,7 +206,7 @@ MayWake m t = (is_blocked (thread_at m t).status ≡ true) × Unawaited m t
 
 abbrev pub May : {P : Type 0} → Option ℕ → Move P → Turn P → Type 0
 May {P} who (alters t f) s = (th : Thread P) → core_of (f th) ≡ core_of th
-May who (tells_of e) s = is_plain e ≡ true
+May who (tells_of e) s = is_quiet e ≡ true
 May who (directs t) s = Unit {0}
 May who (ends_with t v) s = Unit {0}
 May who (enters_frame t f) s = Unit {0}
@@ -207,7 +215,7 @@ May who (pushes t u) s = Unit {0}
 May who (drops t) s = Unit {0}
 May who (prices t p) s = (lives s.machine t ≡ true) × (takes_priority (thread_at s.machine t).policy p ≡ true) × IsPriority p
 May who (renews_with active t new) s = (lives s.machine t ≡ true) × (active ≡ can_run s.machine t) × PolicyFits new
-May who (wakes_with t e r v) s = (is_blocked (thread_at s.machine t).status ≡ true) × (is_plain e ≡ true) × Unawaited s.machine t
+May who (wakes_with t e r v) s = (is_blocked (thread_at s.machine t).status ≡ true) × (is_quiet e ≡ true) × Unawaited s.machine t
 May who (blocks_for by wait due) s = MayWait who s.machine by.thread wait
 May who (blocks_plainly by wait due) s = MayWaitPlainly who s.machine by.thread wait
 May who (begins t mask) s = is_dormant (thread_at s.machine t).status ≡ true

@@ -2,3 +2,5 @@ pub mod Opened
 pub mod Promises
 pub mod Whole
 pub mod Worked
+pub mod Audits
+pub mod Serials

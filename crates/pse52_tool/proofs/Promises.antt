@@ -1,5 +1,9 @@
 -- What is promised of the run of each script that is read or generated.
 use Rattle.std.proofs.Common.{◌≡◌, ℕ, List, Ok}
+use Rattle.number_laws.proofs.Spelled as spelled
+use Rattle.pse52_tool.proofs.Serials.{serial_small}
+use Rattle.pse52_tool.specs.Audited.{BreaksNoRule}
+use Rattle.pse52_tool.specs.Spelled.{LinesHaveOneReading, RunHasSmallNumbers}
 use Rattle.script_tree.specs.declared.decl.Script.{Script}
 use Rattle.script_table.specs.Table.{patterns}
 use Rattle.script_table.specs.Read.{read}
@@ -25,3 +29,16 @@ generated_stays_good number = laws.stays_good (script_of number) (generated_is_w
 
 pub generated_keeps_budgets : (number : ℕ) → RunKeepsBudgets (script_of number)
 generated_keeps_budgets number = laws.keeps_budgets (script_of number) (generated_is_well_formed number)
+
+pub numbers_small : (bytes : List ℕ) (script : Script) → read patterns bytes ≡ Ok script → RunHasSmallNumbers script
+numbers_small bytes script e = record {
+  at_instants = λ n most. spelled.accepted_numbers bytes script n e most;
+  between_items = λ n k most. spelled.accepted_numbers_between bytes script n k e most;
+  serial = λ n most. serial_small bytes script n e most;
+}
+
+pub one_reading : (bytes : List ℕ) (script : Script) → read patterns bytes ≡ Ok script → LinesHaveOneReading script
+one_reading bytes script e n most = spelled.accepted_is_read bytes script n e most
+
+pub breaks_none : (bytes : List ℕ) (script : Script) → read patterns bytes ≡ Ok script → BreaksNoRule script
+breaks_none bytes script e n servers most calm each = spelled.accepted_breaks_none bytes script n servers e most calm each

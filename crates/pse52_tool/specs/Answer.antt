@@ -11,13 +11,19 @@ use Rattle.script_table.specs.Table.{patterns}
 use Rattle.script_table.specs.Read.{read}
 use Rattle.machine_rules.specs.Machine.{closing, machine, names_of, trace}
 use Rattle.pse52_tool.specs.declared.status.Status.{Status}
-use Rattle.pse52_tool.specs.declared.status.Status.TheVariants.{Done, Usage, Refused, TooLong, ReadFault, WriteFault, OutOfMemory, Differs, NoTrace}
+use Rattle.pse52_tool.specs.declared.status.Status.TheVariants.{Done, Usage, Refused, TooLong, ReadFault, WriteFault, OutOfMemory, Differs, NoTrace, Breach}
 use Rattle.pse52_tool.specs.declared.command.Command.{Command}
-use Rattle.pse52_tool.specs.declared.command.Command.TheVariants.{Run, Check, ResponseTimes, Gen, Soak}
+use Rattle.pse52_tool.specs.declared.command.Command.TheVariants.{Run, Check, Audit, ResponseTimes, Gen, Soak}
 use Rattle.pse52_tool.specs.Command.{command, limit_of, reads}
 use Rattle.pse52_tool.specs.Message.{refused_line}
 use Rattle.trace_check.specs.Divided.{Divided, divided}
 use Rattle.trace_check.specs.Comparison.{comparison}
+use Rattle.budget_audit.specs.declared.breach.Breach as first
+use Rattle.budget_audit.specs.declared.server.NamedServer.{NamedServer}
+use Rattle.budget_audit.specs.Faults as head_faults
+use Rattle.budget_audit.specs.Head.{read_head}
+use Rattle.budget_audit.specs.Breach.{first_breach}
+use Rattle.budget_audit.specs.Answer.{breach_text}
 use Rattle.rta_core.specs.declared.task.Task.{Task}
 use Rattle.rta_core.specs.Faults as task_faults
 use Rattle.rta_core.specs.Read as task_lines
@@ -66,6 +72,21 @@ abbrev pub divided_answer : ℕ → Option Divided → Answer
 divided_answer n None = record { status = NoTrace; text = no_trace_line }
 divided_answer n (Some d) = head_answer n d
 
+-- no rule is broken, or a line tells of the first breach
+abbrev pub breach_answer : Option first.Breach → Answer
+breach_answer None = record { status = Done; text = breach_text None }
+breach_answer (Some b) = record { status = Breach; text = breach_text (Some b) }
+
+-- a trace is audited for the servers of a head, and a head with a fault is refused
+abbrev pub audited_answer : Result (List NamedServer) head_faults.Fault → List ℕ → Answer
+audited_answer (Err f) trace = record { status = Refused; text = refused_line f.line (head_faults.number_of f.kind) (head_faults.name_of f.kind) }
+audited_answer (Ok servers) trace = breach_answer (first_breach servers trace)
+
+-- an input that is not divided has no trace
+abbrev pub audit_answer : Option Divided → Answer
+audit_answer None = record { status = NoTrace; text = no_trace_line }
+audit_answer (Some d) = audited_answer (read_head d.head) d.trace
+
 -- the response times of tasks are told, and a text that declares none is refused
 abbrev pub responses_answer : ℕ → Result (List Task) task_faults.Fault → Answer
 responses_answer bound (Err f) = record { status = Refused; text = refused_line f.line (task_faults.number_of f.kind) (task_faults.name_of f.kind) }
@@ -86,6 +107,7 @@ soak_answer seed n = record { status = Done; text = closing_lines (script_of see
 abbrev pub text_answer : Command → List ℕ → Answer
 text_answer (Run n) bytes = run_answer n (read patterns bytes)
 text_answer (Check n) bytes = divided_answer n (divided bytes)
+text_answer Audit bytes = audit_answer (divided bytes)
 text_answer (ResponseTimes n) bytes = responses_answer n (task_lines.read bytes)
 text_answer (Gen seed) bytes = generated_answer seed
 text_answer (Soak seed n) bytes = soak_answer seed n
@@ -111,6 +133,7 @@ Told Refused a old new = (a.status ≡ Refused) × Appends old new a.text
 Told TooLong a old new = (a.status ≡ TooLong) × Appends old new a.text
 Told Differs a old new = (a.status ≡ Differs) × Appends old new a.text
 Told NoTrace a old new = (a.status ≡ NoTrace) × Appends old new a.text
+Told Breach a old new = (a.status ≡ Breach) × Appends old new a.text
 
 -- a fault of writing is told only where the sink's count rose, and nothing else raises it
 pub record SinkFaults (status : Status) (before now : ℕ) : Type 0 where
@@ -125,6 +148,7 @@ HasText Refused = Unit {0}
 HasText TooLong = Unit {0}
 HasText Differs = Unit {0}
 HasText NoTrace = Unit {0}
+HasText Breach = Unit {0}
 HasText ReadFault = ⊥
 HasText WriteFault = ⊥
 HasText OutOfMemory = ⊥

@@ -1,4 +1,4 @@
--- The commands of the tool: `run N`, `check N`, `rta N`, `gen S` and `soak S N`, where N and S are one or more decimal digits with a value up to a
+-- The commands of the tool: `run N`, `check N`, `audit`, `rta N`, `gen S` and `soak S N`, where N and S are one or more decimal digits with a value up to a
 -- limit of the command's own.
 use Rattle.std.specs.Prelude.{Bool, IsTrue, true, false, not, ℕ, ◌^◌, ◌≤◌, ◌&&◌, nat_le, if◌then◌else◌, List, [], ◌∷◌, codes, Option, None, Some}
 use Rattle.std.specs.Option.{option_map}
@@ -6,7 +6,7 @@ use Rattle.std.specs.Str.{bytes_eq}
 use Rattle.script_table.specs.Words.{is_number, value_of}
 use Rattle.script_table.specs.Operands.{map_two}
 use Rattle.pse52_tool.specs.declared.command.Command.{Command}
-use Rattle.pse52_tool.specs.declared.command.Command.TheVariants.{Run, Check, ResponseTimes, Gen, Soak}
+use Rattle.pse52_tool.specs.declared.command.Command.TheVariants.{Run, Check, Audit, ResponseTimes, Gen, Soak}
 
 -- the number that a word names, where it is at most so great
 abbrev pub number_up_to : ℕ → List ℕ → Option ℕ
@@ -20,6 +20,10 @@ command_of word number =
     else if bytes_eq word (codes "gen") then option_map Gen (number_up_to (10 ^ 18) number)
     else None
 
+-- the same of a word alone
+abbrev pub short_command_of : List ℕ → Option Command
+short_command_of word = if bytes_eq word (codes "audit") then Some Audit else None
+
 -- the same of a word and two numbers
 abbrev pub long_command_of : List ℕ → List ℕ → List ℕ → Option Command
 long_command_of word first second =
@@ -28,6 +32,7 @@ long_command_of word first second =
 
 -- the command of the words, or none where they are no command
 abbrev pub command : List (List ℕ) → Option Command
+command (word ∷ []) = short_command_of word
 command (word ∷ number ∷ []) = command_of word number
 command (word ∷ first ∷ second ∷ []) = long_command_of word first second
 command words = None
@@ -36,6 +41,7 @@ command words = None
 abbrev pub IsWithinLimit : Command → Type 0
 IsWithinLimit (Run n) = n ≤ 10 ^ 18
 IsWithinLimit (Check n) = n ≤ 10 ^ 18
+IsWithinLimit Audit = Unit {0}
 IsWithinLimit (ResponseTimes n) = n ≤ 10 ^ 8
 IsWithinLimit (Gen seed) = seed ≤ 10 ^ 18
 IsWithinLimit (Soak seed n) = (seed ≤ 10 ^ 18) × (n ≤ 10 ^ 18)
@@ -44,6 +50,7 @@ IsWithinLimit (Soak seed n) = (seed ≤ 10 ^ 18) × (n ≤ 10 ^ 18)
 abbrev pub reads : Command → Bool
 reads (Run n) = true
 reads (Check n) = true
+reads Audit = true
 reads (ResponseTimes n) = true
 reads (Gen seed) = false
 reads (Soak seed n) = false
@@ -52,6 +59,7 @@ reads (Soak seed n) = false
 abbrev pub limit_of : Command → ℕ
 limit_of (Run n) = 1_048_576
 limit_of (Check n) = 67_108_864
+limit_of Audit = 67_108_864
 limit_of (ResponseTimes n) = 67_108_864
 limit_of (Gen seed) = 0
 limit_of (Soak seed n) = 0
@@ -69,9 +77,30 @@ abbrev pub Compares : Option Command → Type 0
 Compares None = ⊥
 Compares (Some (Run n)) = ⊥
 Compares (Some (Check n)) = Unit {0}
+Compares (Some Audit) = ⊥
 Compares (Some (ResponseTimes n)) = ⊥
 Compares (Some (Gen seed)) = ⊥
 Compares (Some (Soak seed n)) = ⊥
+
+-- the command that audits a trace
+abbrev pub Audits : Option Command → Type 0
+Audits None = ⊥
+Audits (Some (Run n)) = ⊥
+Audits (Some (Check n)) = ⊥
+Audits (Some Audit) = Unit {0}
+Audits (Some (ResponseTimes n)) = ⊥
+Audits (Some (Gen seed)) = ⊥
+Audits (Some (Soak seed n)) = ⊥
+
+-- a command whose source is divided by a line `%%`
+abbrev pub Divides : Option Command → Type 0
+Divides None = ⊥
+Divides (Some (Run n)) = ⊥
+Divides (Some (Check n)) = Unit {0}
+Divides (Some Audit) = Unit {0}
+Divides (Some (ResponseTimes n)) = ⊥
+Divides (Some (Gen seed)) = ⊥
+Divides (Some (Soak seed n)) = ⊥
 
 -- a command that reads the source
 abbrev pub Reads : Option Command → Type 0

@@ -4,3 +4,5 @@ pub mod Message
 pub mod Answer
 pub mod Taken
 pub mod Few
+pub mod Audited
+pub mod Spelled

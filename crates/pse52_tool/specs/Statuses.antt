@@ -1,7 +1,7 @@
 -- The exit statuses of the program.
 use Rattle.std.specs.Prelude.{ℕ}
 use Rattle.pse52_tool.specs.declared.status.Status.{Status}
-use Rattle.pse52_tool.specs.declared.status.Status.TheVariants.{Done, Usage, Refused, TooLong, ReadFault, WriteFault, OutOfMemory, Differs, NoTrace}
+use Rattle.pse52_tool.specs.declared.status.Status.TheVariants.{Done, Usage, Refused, TooLong, ReadFault, WriteFault, OutOfMemory, Differs, NoTrace, Breach}
 
 abbrev pub status_number : Status → ℕ
 status_number Done = 0
@@ -13,3 +13,4 @@ status_number WriteFault = 5
 status_number OutOfMemory = 6
 status_number Differs = 7
 status_number NoTrace = 8
+status_number Breach = 9

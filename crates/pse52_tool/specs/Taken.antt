@@ -4,7 +4,7 @@ use Rattle.std.specs.Io.KnownBytes.{Consumes, IsAtEnd}
 use Rattle.rt_io.specs.Causes.{GrewBy}
 use Rattle.rt_io.specs.Whole.{TookAtMost}
 use Rattle.pse52_tool.specs.declared.status.Status.{Status}
-use Rattle.pse52_tool.specs.declared.status.Status.TheVariants.{Done, Usage, Refused, TooLong, ReadFault, WriteFault, OutOfMemory, Differs, NoTrace}
+use Rattle.pse52_tool.specs.declared.status.Status.TheVariants.{Done, Usage, Refused, TooLong, ReadFault, WriteFault, OutOfMemory, Differs, NoTrace, Breach}
 use Rattle.pse52_tool.specs.Command.{words_limit}
 use Rattle.pse52_tool.specs.Answer.{answer, Told}
 
@@ -33,6 +33,7 @@ IsOfWhole Done = Unit {0}
 IsOfWhole Refused = Unit {0}
 IsOfWhole Differs = Unit {0}
 IsOfWhole NoTrace = Unit {0}
+IsOfWhole Breach = Unit {0}
 IsOfWhole Usage = ⊥
 IsOfWhole TooLong = ⊥
 IsOfWhole ReadFault = ⊥
@@ -47,6 +48,7 @@ IsWithoutSource OutOfMemory = Unit {0}
 IsWithoutSource Refused = ⊥
 IsWithoutSource Differs = ⊥
 IsWithoutSource NoTrace = ⊥
+IsWithoutSource Breach = ⊥
 IsWithoutSource Usage = ⊥
 IsWithoutSource TooLong = ⊥
 IsWithoutSource ReadFault = ⊥

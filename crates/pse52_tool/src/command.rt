@@ -1,7 +1,7 @@
 // The words of the command line.
 ghost use Rattle.std.specs.Prelude.{◌≡◌, ◌≤◌, ◌^◌, Option, map, string_bytes, IfSome};
 ghost use Rattle.script_table.specs.Operands.{map_two};
-ghost use Rattle.pse52_tool.specs.Command.{command, command_of, long_command_of, number_up_to, limit_of, reads, IsWithinLimit};
+ghost use Rattle.pse52_tool.specs.Command.{command, command_of, long_command_of, short_command_of, number_up_to, limit_of, reads, IsWithinLimit};
 
 use script_table::{capped_value, is_number};
 use tick_num::{GREATEST_NUMBER, Tick};
@@ -15,6 +15,8 @@ pub enum Command {
     Run(Tick),
     /// `check N`: whether a trace is that of a script's run to tick N, at most 10^18.
     Check(Tick),
+    /// `audit`: whether a trace keeps the budgets of its sporadic servers.
+    Audit,
     /// `rta N`: the response times of tasks, up to a bound of N ticks, at most 10^8.
     ResponseTimes(u64),
     /// `gen S`: the canonical text of the generated script of number S, at most 10^18.
@@ -32,6 +34,7 @@ impl Command {
         match *self {
             Command::Run(_) => 1_048_576,
             Command::Check(_) => 67_108_864,
+            Command::Audit => 67_108_864,
             Command::ResponseTimes(_) => 67_108_864,
             Command::Gen(_) => 0,
             Command::Soak(_, _) => 0,
@@ -45,6 +48,7 @@ impl Command {
         match *self {
             Command::Run(_) => true,
             Command::Check(_) => true,
+            Command::Audit => true,
             Command::ResponseTimes(_) => true,
             Command::Gen(_) => false,
             Command::Soak(_, _) => false,
@@ -107,6 +111,17 @@ fn command_of(word: &[u8], number: &[u8]) -> Option<Command>
     }
 }
 
+fn short_command_of(word: &[u8]) -> Option<Command>
+    ensures command { result ≡ short_command_of word.now }
+    ensures limit { IfSome result IsWithinLimit }
+{
+    if word == b"audit".as_slice() {
+        Some(Command::Audit)
+    } else {
+        None
+    }
+}
+
 fn soak(seed: &[u8], horizon: &[u8]) -> Option<Command>
     ensures command { result ≡ map_two Command.Soak (number_up_to (10 ^ 18) seed.now) (number_up_to (10 ^ 18) horizon.now) }
     ensures limit { IfSome result IsWithinLimit }
@@ -137,6 +152,7 @@ pub(crate) fn command_of_words(words: &[String]) -> Option<Command>
     ensures limit { IfSome result IsWithinLimit }
 {
     match words {
+        [word] => short_command_of(word.as_bytes()),
         [word, number] => command_of(word.as_bytes(), number.as_bytes()),
         [word, first, second] => {
             long_command_of(word.as_bytes(), first.as_bytes(), second.as_bytes())

@@ -1,6 +1,7 @@
 //! The tool: one call from the words and the bytes in to the trace out.
 #![tactic(auto)]
 
+mod audit;
 mod check;
 mod command;
 mod generated;

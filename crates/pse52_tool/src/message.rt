@@ -1,10 +1,13 @@
 // The line of a refused text.
-ghost use Rattle.std.specs.Prelude.{◌≡◌, ◌≤◌, ◌+◌, ◌++◌, [], length, decimal, codes};
+ghost use Rattle.std.specs.Prelude.{◌≡◌, ◌≤◌, ◌+◌, ◌++◌, [], Some, length, decimal, codes};
 ghost use Rattle.script_table.specs.Faults as faults;
+ghost use Rattle.budget_audit.specs.Answer.{breach_text};
+ghost use Rattle.budget_audit.specs.Faults as head_faults;
 ghost use Rattle.rta_core.specs.Faults as task_faults;
 ghost use Rattle.pse52_tool.specs.Message.{refused_line};
 
 use arrayvec::ArrayVec;
+use budget_audit::{Breach, HeadFault};
 use fixed_text::{add, add_number};
 use rta_core::TaskFault;
 use script_table::FaultKind;
@@ -43,6 +46,14 @@ fn task_name_of(kind: TaskFault) -> &'static str
     kind.name()
 }
 
+// The same of a head of servers.
+fn head_name_of(kind: HeadFault) -> &'static str
+    ensures name { result.now ≡ head_faults.name_of kind }
+    ensures short { length result.now ≤ 13 }
+{
+    kind.name()
+}
+
 /// The line of a script's fault: its line, its number and its name.
 pub(crate) fn refused_line(line: u32, kind: FaultKind) -> Message
     ensures { result.items ≡ refused_line line (faults.number_of kind) (faults.name_of kind) }
@@ -55,4 +66,24 @@ pub(crate) fn refused_task_line(line: u32, kind: TaskFault) -> Message
     ensures { result.items ≡ refused_line line (task_faults.number_of kind) (task_faults.name_of kind) }
 {
     fault_line(line, kind.number(), task_name_of(kind))
+}
+
+/// The line of the fault of a head of servers: its line, its number and its name.
+pub(crate) fn refused_head_line(line: u32, kind: HeadFault) -> Message
+    ensures { result.items ≡ refused_line line (head_faults.number_of kind) (head_faults.name_of kind) }
+{
+    fault_line(line, kind.number(), head_name_of(kind))
+}
+
+/// The line of a broken rule: its line and the rule.
+pub(crate) fn breach_line(breach: Breach) -> Message
+    ensures { result.items ≡ breach_text (Some breach) }
+{
+    let mut message = ArrayVec::new();
+    add(&mut message, b"breach ");
+    add_number(&mut message, breach.line as u64);
+    add(&mut message, b" ");
+    add_number(&mut message, breach.rule as u64);
+    add(&mut message, b"\n");
+    message
 }

@@ -9,7 +9,7 @@ pub enum Status {
     Done,
     /// The words are no command.
     Usage,
-    /// The script, or the text of tasks, has a fault.
+    /// The script, the text of tasks, or the head of servers has a fault.
     Refused,
     /// The source, or the script in front of a trace, has more bytes than the command allows.
     TooLong,
@@ -23,13 +23,15 @@ pub enum Status {
     Differs,
     /// The source has no line `%%`, and so no trace.
     NoTrace,
+    /// A line of the trace breaks a rule of budgets.
+    Breach,
 }
 
 impl Status {
-    /// The exit status of the program, 0 to 8.
+    /// The exit status of the program, 0 to 9.
     pub fn number(self) -> u8
         ensures number { result ≡ status_number self }
-        ensures small { result ≤ 8 }
+        ensures small { result ≤ 9 }
     {
         match self {
             Status::Done => 0,
@@ -41,6 +43,7 @@ impl Status {
             Status::OutOfMemory => 6,
             Status::Differs => 7,
             Status::NoTrace => 8,
+            Status::Breach => 9,
         }
     }
 }

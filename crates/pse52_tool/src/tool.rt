@@ -11,14 +11,17 @@ ghost use Rattle.machine_rules.specs.WellFormed.{IsWellFormed};
 ghost use Rattle.machine_flat.specs.Runnable.{IsRunnable};
 ghost use Rattle.script_gen.specs.Generated.{script_of};
 ghost use Rattle.script_tree.specs.declared.decl.Script.{Script};
-ghost use Rattle.pse52_tool.specs.Command.{command, limit_of, reads, words_limit, Compares, Generates, IsWithinLimit, Reads};
+ghost use Rattle.pse52_tool.specs.Command.{command, limit_of, reads, words_limit, Audits, Compares, Divides, Generates, IsWithinLimit, Reads};
 ghost use Rattle.machine_rules.specs.Promises.{RunKeepsBudgets, RunStaysGood, busy_between};
+ghost use Rattle.pse52_tool.specs.Audited.{BreaksNoRule, BudgetsHold};
 ghost use Rattle.pse52_tool.specs.Few.{StepsAreFew};
+ghost use Rattle.pse52_tool.specs.Spelled.{LinesHaveOneReading, RunHasSmallNumbers};
 ghost use Rattle.thread_laws.specs.HeadRuns.{HeadRuns};
 ghost use Rattle.pse52_tool.specs.Answer.{answer, run_answer, text_answer, usage_line, too_long_line, no_trace_line, Told, SinkFaults, HasText};
 ghost use Rattle.pse52_tool.specs.Taken.{Answered, IsOfWhole, IsWithoutSource, ReadToItsEnd, ReadWhole};
 
 use crate::Status;
+use crate::audit::audit_text;
 use crate::check::check_text;
 use crate::command::{Command, command_of_words};
 use crate::generated::{soak, tell_generated};
@@ -119,6 +122,7 @@ fn answer_text<K: Sink, L: Ledger>(
     match *command {
         Command::Run(horizon) => answer_run(alloc, text, horizon, sink, steps),
         Command::Check(horizon) => check_text(alloc, text, horizon, sink, steps),
+        Command::Audit => audit_text(alloc, text, sink),
         Command::ResponseTimes(bound) => tell_responses(alloc, text, bound, sink, steps),
         Command::Gen(seed) => tell_generated(alloc, seed, sink),
         Command::Soak(seed, horizon) => soak(alloc, seed, horizon, sink, steps),
@@ -129,17 +133,19 @@ fn answer_text<K: Sink, L: Ledger>(
 ///
 /// `run N` reads the source whole, at most 1,048,576 bytes, and runs its script to tick N; the text is the trace of the
 /// list machine. `check N` reads it whole, at most 67,108,864 bytes, splits it at its first line `%%` into a script and a
-/// trace, and tells whether the trace is the script's; `Differs` comes with the first line that differs. `rta N` reads it
+/// trace, and tells whether the trace is the script's; `Differs` comes with the first line that differs. `audit` reads it whole, at
+/// most 67,108,864 bytes, splits it so into a head of servers and a trace, and tells whether the trace keeps their budgets;
+/// `Breach` comes with the first line that breaks a rule, and the least rule that it breaks. `rta N` reads it
 /// whole, at most 67,108,864 bytes, and tells the least response times of its tasks, up to N ticks. `gen S` writes the
 /// canonical text of the generated script of number S, and `soak S N` runs that script to tick N and writes the closing
 /// lines of its trace; these two leave the source as it is, and answer `Done`, `WriteFault` or `OutOfMemory`. Where the words are no
 /// command the answer is `Usage`, or `WriteFault` where its line could not be written; that takes no memory and no byte.
-/// Then come `ReadFault` or `TooLong`, by the bytes read; then `NoTrace`, where `check` finds no line `%%`, or `TooLong`,
-/// where the script in front of it has more than 1,048,576 bytes; then `Refused`, where the script or the text of tasks has
-/// a fault; then the answer. `OutOfMemory` may come in place of any of these but `Usage`, before
+/// Then come `ReadFault` or `TooLong`, by the bytes read; then `NoTrace`, where `check` or `audit` finds no line `%%`, or `TooLong`,
+/// where the script in front of it has more than 1,048,576 bytes; then `Refused`, where the script, the text of tasks or the head of
+/// servers has a fault; then the answer. `OutOfMemory` may come in place of any of these but `Usage`, before
 /// anything is written. A fault of the source or the sink is answered only where its count of faults rose in this call.
 /// Nothing is written before the source was read to its end, or to one byte more than the limit.
-#[tactic(auto, using(crate::proofs::Promises::head_runs, crate::proofs::Promises::stays_good, crate::proofs::Promises::keeps_budgets, crate::proofs::Promises::generated_stays_good, crate::proofs::Promises::generated_keeps_budgets))]
+#[tactic(auto, using(crate::proofs::Promises::head_runs, crate::proofs::Promises::stays_good, crate::proofs::Promises::keeps_budgets, crate::proofs::Promises::generated_stays_good, crate::proofs::Promises::generated_keeps_budgets, crate::proofs::Promises::numbers_small, crate::proofs::Promises::one_reading, crate::proofs::Promises::breaks_none))]
 pub fn run_tool<S: Source, K: Sink, L: Ledger>(
     alloc: Global,
     words: &[String],
@@ -166,6 +172,17 @@ pub fn run_tool<S: Source, K: Sink, L: Ledger>(
     ensures generated_good { (seed : ℕ) → RunStaysGood (script_of seed) }
     ensures generated_budgets { (seed : ℕ) → RunKeepsBudgets (script_of seed) }
 
+    // At every instant that such a run can come to, its numbers are small, the serials too; and each line of its trace has one reading, which is what it says.
+    ensures numbers { (bytes : List ℕ) (script : Script) → read patterns bytes ≡ Ok script → RunHasSmallNumbers script }
+    ensures readings { (bytes : List ℕ) (script : Script) → read patterns bytes ≡ Ok script → LinesHaveOneReading script }
+
+    // Where an audit is done, no line of the trace breaks a rule, and the law of the budget holds of its lines.
+    ensures holds { (bytes : List ℕ) → command (map string_bytes words.now) ≡ Some Command.Audit → S.rest source.old ≡ Some bytes
+        → result ≡ Status.Done → BudgetsHold bytes }
+
+    // The trace of no script that is read breaks a rule, where no step sets a policy.
+    ensures breaks_none { (bytes : List ℕ) (script : Script) → read patterns bytes ≡ Ok script → BreaksNoRule script }
+
     // A run has at most one step more than there are eventful instants before its horizon.
     ensures busy { (n : ℕ) (bytes : List ℕ) → command (map string_bytes words.now) ≡ Some (Command.Run n) → S.rest source.old ≡ Some bytes
         → StepsAreFew n bytes steps.old steps.new }
@@ -191,8 +208,10 @@ pub fn run_tool<S: Source, K: Sink, L: Ledger>(
         (S.rest source.old) (S.rest source.new) (S.taken source.old) (S.taken source.new)) }
     ensures too_long_text { result ≡ Status.TooLong → Appends (K.text sink.old) (K.text sink.new) too_long_line }
 
-    // Only a comparison ends in a difference or without a trace.
-    ensures checked { (result ≡ Status.Differs) ⊎ (result ≡ Status.NoTrace) → Compares (command (map string_bytes words.now)) }
+    // Only a comparison ends in a difference, only an audit in a breach, and either of them without a trace.
+    ensures checked { result ≡ Status.Differs → Compares (command (map string_bytes words.now)) }
+    ensures audited { result ≡ Status.Breach → Audits (command (map string_bytes words.now)) }
+    ensures divided { result ≡ Status.NoTrace → Divides (command (map string_bytes words.now)) }
     ensures no_trace_text { result ≡ Status.NoTrace → Appends (K.text sink.old) (K.text sink.new) no_trace_line }
 
     // What is told of a whole text comes only where all bytes were taken, which the limit allows; what reads nothing takes none.

@@ -1,7 +1,9 @@
-//! Tests of the crates of texts and streams: sources and sinks, lines and words, lines that are written and read, and tasks with
-//! their responses. They stand apart, so that they are proved without proving those crates again.
+//! Tests of the crates of texts and streams: sources and sinks, lines and words, lines that are written and read, audits, and
+//! tasks with their responses. They stand apart, so that they are proved without proving those crates again.
 #![tactic(auto)]
 
+#[cfg(test)]
+mod audits;
 #[cfg(test)]
 mod differences;
 #[cfg(test)]

@@ -6,3 +6,5 @@ pub mod Spelling
 pub mod Printed
 pub mod Short
 pub mod Enough
+pub mod ClosingTimes
+pub mod SmallLines

@@ -6,3 +6,4 @@ pub mod Lines
 pub mod Laws
 pub mod Divided
 pub mod Comparison
+pub mod Small

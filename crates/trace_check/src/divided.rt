@@ -53,6 +53,7 @@ fn divider_at(input: &[u8]) -> Option<usize>
 pub fn divide(input: &[u8]) -> Option<(&[u8], &[u8])>
     ensures parts { option_map (λ p. let parts : Divided = record { head = p.0.now; trace = p.1.now } in parts) result ≡ divided input.now }
     ensures within { IfSome result (λ p. length p.1.now ≤ length input.now) }
+    ensures head { IfSome result (λ p. length p.0.now ≤ length input.now) }
 {
     match divider_at(input) {
         None => None,

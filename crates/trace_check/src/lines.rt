@@ -6,6 +6,7 @@ ghost use Rattle.script_table.specs.Words.{signal_of};
 ghost use Rattle.trace_check.specs.Form.{numbers_in, parts};
 ghost use Rattle.trace_check.specs.Lines.{seen, begun, kept, named, numbered, with_word, with_words, timed_form, of_form, timed_reading, closing_reading, reading, Reading};
 ghost use Rattle.trace_check.specs.Laws.{IsTraceLine};
+ghost use Rattle.trace_check.specs.Small.{IsSmallLine};
 
 use crate::Form;
 use crate::form::Part;
@@ -215,6 +216,7 @@ fn read(line: &[u8]) -> Option<TraceLine<'_>>
 pub fn read_line(line: &[u8]) -> Option<TraceLine<'_>>
     ensures value { option_map (λ l. seen l) result ≡ reading line.now }
     ensures printed { (r : Reading) → IsTraceLine line.now r → option_map (λ l. seen l) result ≡ Some r }
+    ensures small { IfSome result (λ l. IsSmallLine (seen l)) }
 {
     read(line)
 }

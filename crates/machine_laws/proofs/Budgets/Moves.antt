@@ -23,7 +23,7 @@ use Rattle.machine_rules.specs.Cancellation.{without_cleanup}
 use Rattle.machine_rules.specs.Scheduling.{with_policy, with_priority}
 use Rattle.machine_rules.specs.DueItems.{has_come}
 use Rattle.machine_rules.proofs.Reading.{changed-length, thread-other, thread-same}
-use Rattle.machine_moves.specs.Moves.{Core, MayAwake, Move, alters, begins, blocks_for, blocks_plainly, does, drops, ends_with, enters_frame, is_plain, leaves_frame, lives_no_more, prices, pushed, pushes, recasts, refills_one, rejoins, renews_with, tells_of, wakes_with}
+use Rattle.machine_moves.specs.Moves.{Core, MayAwake, Move, alters, begins, blocks_for, blocks_plainly, does, drops, ends_with, enters_frame, is_plain, is_quiet, leaves_frame, lives_no_more, prices, pushed, pushes, recasts, refills_one, rejoins, renews_with, tells_of, wakes_with}
 use Rattle.machine_moves.proofs.Waiters.Best.{blocked_within}
 use Rattle.machine_moves.proofs.Waiters.OfThreads.{changed_is}
 use Rattle.machine_laws.proofs.Servers.Right.{ServerIn, ThreadRight, none_consumed, only}
@@ -34,6 +34,13 @@ use Rattle.machine_laws.proofs.Budgets.Booked.{Booked, Still, IsNew, IsActive, c
 posted_last : (t : ℕ) (news : List Entry) (e : Entry) (acc : List ServerEvent) → all_recorded t (news ++ e ∷ []) acc ≡ recorded t e.time e.event (all_recorded t news acc)
 posted_last t [] e acc = refl
 posted_last t (x ∷ news) e acc = posted_last t news e (recorded t x.time x.event acc)
+
+quiet_plain : (e : Event) → is_quiet e ≡ true → is_plain e ≡ true
+quiet_plain (event.Return t call res value) h = refl
+quiet_plain (event.Deliver t sig code value) h = refl
+quiet_plain (event.Cancel t) h = refl
+quiet_plain (event.Killed sig) h = refl
+quiet_plain e h = absurd (grind arith)
 
 plain_posted : (t time : ℕ) (e : Event) (acc : List ServerEvent) → is_plain e ≡ true → recorded t time e acc ≡ acc
 plain_posted t time (event.Start u) acc h = absurd (grind arith)
@@ -319,7 +326,7 @@ module _ {P : Type 0} (bodies : Bodies P) (t : ℕ) (pre : List Entry) (acc : Li
   pub posted_keep : (who : Option ℕ) (move : Move P) (s : Turn P) → MayAwake who move s → Awake bodies who s → Threads bodies who s → Recorded s → Recorded (does bodies move s)
   posted_keep who (alters v f) s may awake all q =
       same_server v f s (ap (λ (c : Core P). c.server) (may (thread_at s.machine v))) (λ runs. ap (λ (c : Core P). is_runnable c.status) (sym (may (thread_at s.machine v))) ∙ runs) q
-  posted_keep who (tells_of e) s may awake all q = told_plainly Booked e s may q
+  posted_keep who (tells_of e) s may awake all q = told_plainly Booked e s (quiet_plain e may) q
   posted_keep who (ends_with v n) s may awake all q = same_server v (ending_with n) s refl (λ runs. runs) q
   posted_keep who (enters_frame v f) s may awake all q = same_server v (on_top f) s refl (λ runs. runs) q
   posted_keep who (leaves_frame v) s may awake all q = same_server v without_top s refl (λ runs. runs) q
@@ -328,7 +335,7 @@ module _ {P : Type 0} (bodies : Bodies P) (t : ℕ) (pre : List Entry) (acc : Li
   posted_keep who (prices v p) s may awake all q =
       one Booked v (with_priority p) s (priced_map p s.machine.now (thread_at s.machine v).status (thread_at s.machine v).server) q
   posted_keep who (renews_with active v new) s may awake all q = absurd may
-  posted_keep who (wakes_with v e r n) s may awake all q = wakes_posted v e r n s may.0 may.1 (none_blocked who v s may.0 awake all) q
+  posted_keep who (wakes_with v e r n) s may awake all q = wakes_posted v e r n s may.0 (quiet_plain e may.1) (none_blocked who v s may.0 awake all) q
   posted_keep who (blocks_for by (for_mutex_again k how) due) s may awake all q =
       sleeps_posted by.thread (record { wait = for_mutex_again k how; serial = s.machine.next_serial; due = due; call = by.call }) s q
   posted_keep who (blocks_for by wait due) s may awake all q = absurd may

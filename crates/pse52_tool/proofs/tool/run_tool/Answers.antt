@@ -1,13 +1,17 @@
-use Rattle.std.proofs.Common.{rules, ◌≡◌, ◌≤◌, [], None, Some, length, map, string_bytes, arith, false, subst, sym, ◌∙◌}
+use Rattle.std.proofs.Common.{rules, ◌≡◌, ◌≤◌, ℕ, List, [], Option, None, Some, IfSome, length, map, string_bytes, arith, false, subst, sym, ◌∙◌}
 use Rattle.rt_io.proofs.Known.{consumes_none}
 use Rattle.pse52_tool.specs.declared.command.Command.{Command}
-use Rattle.pse52_tool.specs.Answer.{Told}
+use Rattle.pse52_tool.specs.Answer.{Told, answer}
 use Rattle.pse52_tool.specs.Command.{command, limit_of, reads}
+use Rattle.pse52_tool.proofs.Audits.{holds_where_told}
 use Rattle.pse52_tool.proofs.Whole.{answer_unread, told_whole}
 use Rattle.pse52_tool.proofs.tool.run_tool.Goals as goal
 
 same_command : {a b : Command} → Some a ≡ Some b → a ≡ b
 same_command e = cc
+
+known : (P : List ℕ → Type 0) (o : Option (List ℕ)) (bytes : List ℕ) → o ≡ Some bytes → IfSome o P → P bytes
+known P o bytes e h = subst (λ (x : Option (List ℕ)). IfSome x P) e h
 
 -- where the words are no command nothing was taken, and the answer is the usage line
 pub returns-in_default-clause-answered : goal.returns-in_default-clause-answered
@@ -27,6 +31,12 @@ returns-in-Ok-clause-told g c =
     let is : command (map string_bytes c.args.words.now) ≡ Some c.in-Some.command = sym c.command_of_words.ensures.command ∙ c.in-Some.is in
     let small : length c.in-Ok.bytes.items ≤ limit_of c.in-Some.command = rw (sym c.limit.ensures.limit) c.in-Ok.ensures.short in
     told_whole (map string_bytes c.args.words.now) c.in-Some.command _ _ c.in-Ok.bytes.items _ _ _ is small c.in-Ok.ensures.whole c.in-Ok.ensures.end (rw c.as_slice.ensures.value at c.answer_text-in-Ok.ensures.told)
+
+-- so an audit of it that is done tells that the budgets hold
+pub returns-in-Ok-clause-holds : goal.returns-in-Ok-clause-holds
+returns-in-Ok-clause-holds g c bytes is rest done =
+    holds_where_told (map string_bytes c.args.words.now) bytes c.answer_text-in-Ok.result (g.K.Sink.text c.args.sink.now) (g.K.Sink.text c.answer_text-in-Ok.new.sink) is
+    (known (λ b. Told c.answer_text-in-Ok.result (answer (map string_bytes c.args.words.now) b) (g.K.Sink.text c.args.sink.now) (g.K.Sink.text c.answer_text-in-Ok.new.sink)) (g.S.Source.rest c.args.source.now) bytes rest (returns-in-Ok-clause-told g c)) done
 
 -- of a text that was read whole the steps of its run are those of the call
 pub returns-in-Ok-clause-busy : goal.returns-in-Ok-clause-busy

@@ -1,0 +1,12 @@
+pub mod Standing
+pub mod Accounts
+pub mod Refills
+pub mod Charges
+pub mod Moves
+pub mod Units
+pub mod Kept
+pub mod Calm
+pub mod Runs
+pub mod TextLines
+pub mod Order
+pub mod Traces

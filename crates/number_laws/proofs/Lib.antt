@@ -1,0 +1,12 @@
+pub mod Lists
+pub mod Servers
+pub mod Turns
+pub mod Waking
+pub mod Calls
+pub mod Items
+pub mod Ticks
+pub mod Bodies
+pub mod Runs
+pub mod Ranges
+pub mod Names
+pub mod Spelled
