@@ -5,7 +5,8 @@ from collections.abc import Iterator
 from dataclasses import dataclass
 
 from forms import RESULTS, SIGNAL, SIGNAL_SET, Form, Stage, is_place
-from reader import Entry, lines_of, number_of, read_lines, signals_of
+from reader import Entry, read_lines
+from words import lines_of, number_of, signals_of
 
 from .flatten import CALLS, SIGNALS
 
