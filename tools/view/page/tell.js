@@ -17,6 +17,7 @@ function tell() {
   element("distance").textContent = second === null ? "" : "· second cursor " + second + ", " + (second > at.tick ? second - at.tick : at.tick - second) + " ticks from here";
   fill(element("states"), [...threads, ...facts(at)]);
   fill(element("list"), events(at));
+  for (const hear of hearers) hear(at);
 }
 // Who stands on which list, and what else the facts say of this instant.
 function facts(at) {
