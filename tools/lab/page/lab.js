@@ -10,7 +10,7 @@ import * as sweep from "./sweep.js";
 const element = (id) => document.getElementById(id);
 const HORIZON = /^\s*#\s*horizon (\d+)\b/;
 let about, editor, pictures, runs;
-let example = null, kept = null, cursor = 0n, ran = null, difference = { threads: {}, instants: [] }, quiet = false, pressedAt = 0;
+let example = null, kept = null, cursor = 0n, ran = null, difference = { threads: {}, instants: [] }, quiet = false, showing = false, pressedAt = 0;
 
 const script = () => editor.text();
 const horizon = () => element("horizon").value.trim();
@@ -24,7 +24,7 @@ function changed() {
   runNow(); tellChanges(); remember();
 }
 function runNow() {
-  const since = pressedAt || performance.now();
+  const since = pressedAt;
   pressedAt = 0;
   if (!/^\d{1,19}$/.test(horizon()) || BigInt(horizon()) > 10n ** 18n) { say("The horizon is a number of ticks from 0 to 10^18."); return; }
   runs.a.run(script(), horizon(), title(), since);
@@ -35,22 +35,27 @@ function shownA(told, wanted) {
   say(told.faults ? told.faults.length + (told.faults.length === 1 ? " fault" : " faults") + "; the picture is that of the script before" : told.why || told.warning || "");
   if (!told.data) return;
   ran = told;
-  pictures.a.show(told.data);
-  pictures.a.goTo(cursor);
+  put("a", told.data);
   element("sources").textContent = "Trace: " + told.trace + ". Facts: " + told.facts + (told.facts === "the reference" ? ", of which nothing is proved." : ".");
   compare();
-  // The frame that shows it is the next one.
+  // The frame that shows it is the next one. Where no key asked for the run, nothing is said of the time.
   requestAnimationFrame(() => setTimeout(() => {
-    window.lab.latency = performance.now() - wanted.since; window.lab.drawn = wanted.script;
-    element("time").textContent = "Drawn " + Math.round(window.lab.latency) + " ms after the last key.";
+    window.lab.latency = wanted.since ? performance.now() - wanted.since : 0; window.lab.drawn = wanted.script;
+    element("time").textContent = wanted.since ? "Drawn " + Math.round(window.lab.latency) + " ms after the last key." : "";
   }));
+}
+// Shows a run in a pane, with its cursor at the tick of the page, which stays where a run is shorter than that.
+function put(pane, data) {
+  showing = true;
+  pictures[pane].show(data); pictures[pane].goTo(cursor);
+  showing = false;
 }
 
 // ---- two runs
 
 function shownB(told) {
   if (!told.data) { say(told.why || "the kept script is refused"); return; }
-  pictures.b.show(told.data); pictures.b.goTo(cursor); compare();
+  put("b", told.data); compare();
 }
 function keep(text) {
   kept = text;
@@ -58,7 +63,7 @@ function keep(text) {
   element("beside").setAttribute("aria-pressed", String(two));
   element("figure_b").hidden = element("compared").hidden = !two;
   document.body.classList.toggle("two", two);
-  if (two) runs.b.run(kept, horizon(), title(), performance.now());
+  if (two) runs.b.run(kept, horizon(), title(), 0);
   compare(); remember();
 }
 function compare() {
@@ -157,7 +162,7 @@ function pressed(key, control) {
   return Boolean(does);
 }
 function moved(side, tick) {
-  if (!pictures) return;
+  if (!pictures || showing) return;
   cursor = tick;
   const other = pictures[side === "a" ? "b" : "a"];
   if (kept !== null && other.tick() !== tick) other.goTo(tick);
@@ -173,7 +178,7 @@ window.addEventListener("keydown", (key) => {
 
 function wire() {
   element("gallery").onchange = () => { if (element("gallery").value) begin(element("gallery").value); else start({ text: script() }); };
-  element("horizon").oninput = () => { runNow(); if (kept !== null) runs.b.run(kept, horizon(), title(), performance.now()); remember(); };
+  element("horizon").oninput = () => { runNow(); if (kept !== null) runs.b.run(kept, horizon(), title(), 0); remember(); };
   element("beside").onclick = KEYS.c; element("sweep").onclick = toggleSweep; element("next").onclick = nextDifference;
   element("back").onclick = () => { const text = kept; keep(null); editor.write(text); };
   element("least").oninput = element("most").oninput = sweep.bounds;

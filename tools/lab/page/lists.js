@@ -56,3 +56,4 @@ function showLists(at) {
   element("cursor").replaceChildren(...told.length ? told : [Object.assign(document.createElement("h2"), { textContent: over ? "The run is over." : "No list has anyone." })]);
 }
 hearers.push(showLists);
+tellsFacts = false;

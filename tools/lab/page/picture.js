@@ -40,6 +40,8 @@ window.addEventListener("keydown", (key) => {
   if (key.target === element("search") || key.ctrlKey && !"so".includes(key.key) || key.metaKey || key.altKey || KEYS[key.key] && !key.ctrlKey) return;
   if (window.parent.lab?.pressed(key.key, key.ctrlKey)) key.preventDefault();
 });
+// A picture of the whole run stays one when its room changes: this comes before the picture takes its new width.
+window.addEventListener("resize", () => { if (isWhole()) { scale = 0; left = 0; } }, true);
 take(EMPTY); measure(); setDark(false); showAll();
 window.picture = { show, goTo, press, dark: setDark, tick: tickNow, focus: () => canvas.focus(), differ(threads) { differing = threads; draw(); },
-  data: () => data, redraw: draw, frame(steps) { goTo(inRun(tickNow() + BigInt(steps))); } };
+  data: () => data, redraw: draw };

@@ -1,6 +1,7 @@
 // What is said of the cursor's tick, the list of events, the search, and the legend.
 const element = (id) => document.getElementById(id);
-let wanted = "";
+// Whether the facts stand below the states; a page that shows them otherwise says no.
+let wanted = "", tellsFacts = true;
 
 function tell() {
   const at = tickAt(place), over = at.point >= last;
@@ -15,7 +16,7 @@ function tell() {
   });
   element("who").textContent = "· " + who;
   element("distance").textContent = second === null ? "" : "· second cursor " + second + ", " + (second > at.tick ? second - at.tick : at.tick - second) + " ticks from here";
-  fill(element("states"), [...threads, ...facts(at)]);
+  fill(element("states"), tellsFacts ? [...threads, ...facts(at)] : threads);
   fill(element("list"), events(at));
   for (const hear of hearers) hear(at);
 }
