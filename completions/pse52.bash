@@ -38,7 +38,23 @@ _pse52_sweep() {
         *) mapfile -t COMPREPLY < <(compgen -f -X '!*.toml' -- "$word"; compgen -d -- "$word") ;;
     esac
 }
+_pse52_live() {
+    local word=${COMP_WORDS[COMP_CWORD]}
+    case $word in
+        -*) mapfile -t COMPREPLY < <(compgen -W '--core --tick --times --handlers --program --help' -- "$word") ;;
+        *) mapfile -t COMPREPLY < <(compgen -f -- "$word") ;;
+    esac
+}
+_pse52_from_ftrace() {
+    local word=${COMP_WORDS[COMP_CWORD]}
+    case $word in
+        -*) mapfile -t COMPREPLY < <(compgen -W '--trace --help' -- "$word") ;;
+        *) mapfile -t COMPREPLY < <(compgen -f -- "$word") ;;
+    esac
+}
 complete -o filenames -F _pse52 pse52
+complete -o filenames -F _pse52_live pse52-live
+complete -o filenames -F _pse52_from_ftrace pse52-from-ftrace
 complete -o filenames -F _pse52_view pse52-view
 complete -o filenames -F _pse52_measure pse52-measure
 complete -o filenames -F _pse52_sweep pse52-sweep

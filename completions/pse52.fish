@@ -47,3 +47,13 @@ complete -c pse52-sweep -l program -x -d 'what runs a script'
 complete -c pse52-sweep -l engine -x -a 'parallel xargs' -d 'engine'
 complete -c pse52-sweep -l anew -d 'forget the rows that are done'
 complete -c pse52-sweep -l help -d 'print the options'
+
+complete -c pse52-live -l core -x -d 'the core that the threads run on'
+complete -c pse52-live -l tick -x -d 'the length of a tick in milliseconds'
+complete -c pse52-live -l times -x -d 'runs in a row that must tell the same'
+complete -c pse52-live -l handlers -d 'handlers run also in waits'
+complete -c pse52-live -l program -x -d 'what says which trace is due'
+complete -c pse52-live -l help -d 'print the options'
+
+complete -c pse52-from-ftrace -l trace -d 'write the trace alone'
+complete -c pse52-from-ftrace -l help -d 'print the options'

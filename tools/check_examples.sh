@@ -1,7 +1,7 @@
 #!/usr/bin/env bash
-# Runs each example of examples/, and each worked example of tests/worked/, to its horizon or by its command, and compares what is
-# printed with the text beside it; those of show and detail wait for the program to have these commands. The program is built without
-# a second proof: the gate has proved it before.
+# Runs each example of examples/ and examples/real/, and each worked example of tests/worked/, to its horizon or by its command, and
+# compares what is printed with the text beside it; those of show and detail wait for the program to have these commands. The program is
+# built without a second proof: the gate has proved it before.
 # Before all that, and without a build, each trace and picture of examples/ is compared with what tools/reference makes of its script.
 set -u
 cd "$(dirname "$0")/.." || exit 1
@@ -44,6 +44,11 @@ for task in examples/*.task; do
         exit 1
     fi
     add_case "example_$name" "$task" '' run "$horizon"
+done
+
+for task in examples/real/*.task; do
+    name=$(basename "$task" .task)
+    add_case "real_$name" "$task" "examples/real/$name.trace" run "$(sed -n '1s/^# horizon \([0-9]*\).*/\1/p' "$task")"
 done
 
 while read -r name _; do

@@ -3,14 +3,14 @@
 # alone, and the Nth with all after it. Each time the program must end with status 6, write nothing and give each block back; with no
 # refusal it must end and write as ever. And after the kernel is open nothing takes memory: a run a hundred times as long comes to the
 # same number of allocations. tools/memory/refuse.c is loaded beside the program and counts and refuses; cc builds it here.
-# Usage: tools/check_memory.sh [PROGRAM], which is the one that the gate or bin/pse52 has proved and built if none is named.
+# Usage: tools/check_memory.sh [PROGRAM], which is the one that the gate or bin/pse52 --prove has built if none is named.
 set -u
 top=$(cd "$(dirname "$0")/.." && pwd) || exit 1
 program=${1:-$top/crates/pse52/out/pse52}
 for tool in cc nm; do
     command -v $tool >/dev/null 2>&1 || { echo "skipped: the refused allocations, since $tool is not here"; exit 0; }
 done
-[ -x "$program" ] || { echo "$program is not here: bash .ci/run and bin/pse52 prove and build it"; exit 1; }
+[ -x "$program" ] || { echo "$program is not here: bash .ci/run and bin/pse52 --prove prove and build it"; exit 1; }
 room=$(mktemp -d) || exit 1
 trap 'rm -rf "$room"' EXIT
 cc -O2 -shared -fPIC -o "$room/refuse.so" "$top/tools/memory/refuse.c" || exit 1

@@ -1,7 +1,8 @@
 #!/usr/bin/env bash
-# Tries what stands beside the program: the tests of the wrapper, the viewer, the measures, the sweep, the converter of ftrace and the
-# explanation of faults, the manual pages, and the pages that a reader types along, with the program that was built here, or else the
-# reference. Nothing is built. What a missing tool would have read is skipped, with a line that says so.
+# Tries what stands beside the program: the tests of the wrapper, the viewer, the measures, the sweep, the converter of ftrace, the
+# explanation of faults and scripts on real threads, the manual pages, and the pages that a reader types along, with the program that
+# was built here, or else the reference. Nothing is built but the runner of real threads, where those may run. What a missing tool would
+# have read is skipped, with a line that says so, and so are real threads where they may not run.
 set -u
 cd "$(dirname "$0")/.." || exit 1
 
@@ -19,7 +20,7 @@ if [ -x crates/pse52/out/pse52 ]; then
     export PSE52_PROGRAM
 fi
 failed=0
-for folder in view measure sweep ftrace explain wrapper pages; do
+for folder in view measure sweep ftrace explain wrapper pages live; do
     log=$(python3 -m unittest discover -s "tools/$folder/tests" -t tools 2>&1)
     if [ $? -eq 0 ]; then
         printf '%s\n' "$log" | grep -o 'skipped: .*' | sort -u

@@ -55,7 +55,7 @@ def _filled(item: list[str]) -> list[str]:
 
 def too_long(pages: list[Path]) -> list[str]:
     """The lines of the pages that are longer than any may be."""
-    return [f"{page.name}:{number}: a line of {len(line)} characters"
+    return [f"{page.name}:{number}: a line of {len(line)} characters: python3 tools/pages/wrap.py wraps it"
             for page in pages for number, line in enumerate(page.read_text().splitlines(), 1) if len(line) > LONGEST]
 
 

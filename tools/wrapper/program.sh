@@ -25,7 +25,12 @@ digest_of() {
 # The place of a stamp on the disk with its time, and then the first of the files that changed later, if one did.
 changes_since() {
     # shellcheck disable=SC2086
-    (cd "$top" && find "$1" crates.txt HANDLES $watched -samefile "$1" -printf '%D %i %T@\n' -o -cnewer "$1" -print -quit) 2>/dev/null
+    cd "$top" && exec find "$1" crates.txt HANDLES $watched -samefile "$1" -printf '%D %i %T@\n' -o -cnewer "$1" -print -quit 2>/dev/null
+}
+
+# A text as a word of the shell.
+quoted() {
+    printf "'%s'" "$(printf '%s' "$1" | sed "s/'/'\\\\''/g")"
 }
 
 # Whether a program is there and is the one that its manifest or record says, proved of this code.
@@ -58,7 +63,8 @@ look() {
     fi
     if [ -n "$stamp" ]; then
         if [ -n "$program" ]; then
-            printf '%s\n' "$(changes_since "$stamp")" "$program" "$watched" >"$kept/known.$$"
+            printf 'known=%s program=%s watched=%s\n' "$(quoted "$(changes_since "$stamp")")" "$(quoted "$program")" \
+                "$(quoted "$watched")" >"$kept/known.$$"
             mv -f "$stamp" "$kept/stamp" && mv -f "$kept/known.$$" "$kept/known"
         fi
         rm -f "$stamp" "$kept/known.$$"
@@ -66,9 +72,9 @@ look() {
     [ -n "$program" ]
 }
 
-# Whether what was kept still counts. A crate without definitions must not have got any, and a checkout no release.
+# Whether what was kept still counts. It is kept as words of the shell, which reads those faster than lines. A crate without definitions must not have got any, and a checkout no release.
 still_counts() {
-    { read -r known && read -r program && read -r watched; } 2>/dev/null <"$kept/known" || return 1
+    [ -r "$kept/known" ] && . "$kept/known"
     [ -n "$known" ] && [ "$(changes_since "$kept/stamp")" = "$known" ] || return 1
     case " $watched " in
         *' release '*) ;;
@@ -92,6 +98,7 @@ choose_program() {
         return
     fi
     kept=$top/crates/pse52/out/start
+    known=
     [ -w "$top/crates/pse52" ] || kept=${XDG_CACHE_HOME:-${HOME:-/nonexistent}/.cache}/pse52$top
     still_counts || look
 }

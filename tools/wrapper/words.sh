@@ -23,7 +23,7 @@ Without FILE it reads standard input. Times are in ticks.
   --which                 prints the path of the proved program
   --version, --help
 
-pse52-view draws a trace, pse52-sweep runs a script with many values. Manual: man pse52. Language: docs/SCRIPT.md.
+pse52-view draws a trace, pse52-sweep runs a script with many values; bin/ has what else there is. Language: docs/SCRIPT.md.
 END
 }
 

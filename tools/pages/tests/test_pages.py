@@ -46,7 +46,7 @@ class Pages(unittest.TestCase):
     def test_the_examples_of_the_manual_pages(self) -> None:
         for page in sorted((TOP / "docs").glob("*.1")):
             commands = re.findall(r"^\.Dl (bin/.*?)(?: && gtkwave .*)?$", page.read_text(), re.M)
-            self.assertTrue(commands or "sweep" in page.name, page.name)
+            self.assertTrue(commands or page.stem in ("pse52-sweep", "pse52-live"), page.name)
             for command in commands:
                 command = command.replace(" 1000000", " 1000")  # the reference takes an hour for a million ticks
                 with tempfile.TemporaryDirectory() as folder:

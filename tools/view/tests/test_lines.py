@@ -113,7 +113,7 @@ class Command(unittest.TestCase):
     def test_words_that_are_no_command(self) -> None:
         for words, why in (([], "FORMAT"), (["pdf"], "'pdf'"), (["svg", "--width"], "--width"), (["svg", "--width", "0"], "no width"),
                            (["svg", "--width", "x"], "no width"), (["vcd", "--width", "9"], "'vcd' has no --width"), (["html", "--lists"], "no --lists"),
-                           (["text", "--tick", "5"], "no length of a tick"), (["text", "--from", "-1"], "no number"), (["--versions"], "--versions"),
+                           (["text", "--tick", "5"], "no length of a tick"), (["text", "--from", "-1"], "no number"), (["--versions"], "FORMAT"),
                            (["text", "--horizon", "5"], "--horizon is for a script"), (["text", "--colour"], "--colour")):
             ended = view(words, b"0 end\n")
             self.assertEqual((ended.returncode, ended.stdout), (1, b""), words)

@@ -17,7 +17,7 @@ BUILT = "built: run 7\n" + SCRIPT
 
 class Programs(unittest.TestCase):
     def setUp(self) -> None:
-        self.folder = tempfile.TemporaryDirectory(prefix="a checkout [with] blanks ")
+        self.folder = tempfile.TemporaryDirectory(prefix="a checkout's [copy], with blanks ")
         self.addCleanup(self.folder.cleanup)
         self.checkout = Checkout.make(Path(self.folder.name))
 
@@ -166,7 +166,7 @@ class Programs(unittest.TestCase):
         began = time.monotonic()
         for _ in range(20):
             self.checkout.run("gen", "7")
-        self.assertLess((time.monotonic() - began) / 20, 0.2)
+        self.assertLess((time.monotonic() - began) / 20, 0.5)
 
     def test_install_and_uninstall(self) -> None:
         self.checkout.put_release()
