@@ -110,7 +110,9 @@ function tellChanges() {
   element("sentence").textContent = example ? example.look : "";
   const text = script();
   element("changes").replaceChildren(...(example ? example.changes : []).map((change) => {
-    const button = Object.assign(document.createElement("button"), { textContent: change.say, disabled: !text.includes(change.find) });
+    const button = Object.assign(document.createElement("button"), { disabled: !text.includes(change.find) });
+    // What stands between backquotes is of the script.
+    button.append(...change.say.split("`").map((part, number) => number % 2 ? Object.assign(document.createElement("code"), { textContent: part }) : part));
     button.onclick = () => make(change);
     return button;
   }));

@@ -1,7 +1,7 @@
 // One picture of the page to work in. The page around it gives it data, a cursor and what differs, and hears of its keys and its cursor.
 const EMPTY = { ticks: ["0", "1"], places: [0, 1], cuts: [], detail: true, threads: [], colours: {}, shown: {}, kinds: {}, words: {}, frames: [], mutexes: [], wakes: [], facts: {}, lines: [], at: [] };
 const side = window.frameElement ? window.frameElement.id : "a";
-let differing = {}, asked = false;
+let differing = {}, fits = true;
 
 const tickNow = () => tickAt(place).tick;
 const inRun = (tick) => tick < ticks[0] ? ticks[0] : tick > ticks[last] ? ticks[last] : tick;
@@ -9,10 +9,10 @@ const isWhole = () => scale <= Math.max(1, width - gutter - 24) / total * 1.0001
 
 // Shows a run. The cursor stays at its tick, and so does what is zoomed at.
 function show(given) {
-  const tick = tickNow(), whole = isWhole(), from = tickAt(Math.max(0, left)).tick;
+  const tick = tickNow(), from = tickAt(Math.max(0, left)).tick;
   take(given); measure();
   place = placeOfTick(inRun(tick)); second = second === null ? null : inRun(second);
-  if (whole) scale = 0; else left = placeOfTick(inRun(from));
+  if (fits) scale = 0; else left = placeOfTick(inRun(from));
   width = canvas.clientWidth; height = canvas.clientHeight;
   clampView(); legend(); draw(); tell();
 }
@@ -40,8 +40,9 @@ window.addEventListener("keydown", (key) => {
   if (key.target === element("search") || key.ctrlKey && !"so".includes(key.key) || key.metaKey || key.altKey || KEYS[key.key] && !key.ctrlKey) return;
   if (window.parent.lab?.pressed(key.key, key.ctrlKey)) key.preventDefault();
 });
-// A picture of the whole run stays one when its room changes: this comes before the picture takes its new width.
-window.addEventListener("resize", () => { if (isWhole()) { scale = 0; left = 0; } }, true);
+// A picture of the whole run stays one when its room changes, unless something was done to look closer.
+new ResizeObserver(() => { if (fits) showAll(); else resized(); }).observe(canvas);
+for (const done of ["wheel", "keydown", "click", "pointermove"]) window.addEventListener(done, () => setTimeout(() => { if (canvas.clientWidth) fits = isWhole(); }));
 take(EMPTY); measure(); setDark(false); showAll();
 window.picture = { show, goTo, press, dark: setDark, tick: tickNow, focus: () => canvas.focus(), differ(threads) { differing = threads; draw(); },
   data: () => data, redraw: draw };

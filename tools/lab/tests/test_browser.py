@@ -126,9 +126,9 @@ class Page(InBrowser):
         self.assertTrue(self.does("return document.getElementById('editor').contains(document.activeElement)"))
 
     def test_budgets(self) -> None:
-        self.open("#example=14_two_budgets&cursor=13")
-        self.assertEqual(self.in_frame("picture.tick().toString()", "a"), "13")
-        self.assertRegex(self.table("Budgets")[0], r"^server \| capacity \d+, comes back: \d+ at \d+")
+        self.open("#example=14_two_budgets&cursor=17")
+        self.assertEqual(self.in_frame("picture.tick().toString()", "a"), "17")
+        self.assertEqual(self.table("Budgets"), ["server | capacity 0, comes back: 3 at 22"])
 
     def test_a_refusal_at_its_line_and_word(self) -> None:
         self.open("#example=05_inherit")
@@ -172,7 +172,7 @@ class Page(InBrowser):
 
     def test_two_runs(self) -> None:
         self.open("#example=04_inversion")
-        self.does("[...document.querySelectorAll('#changes button')].find((button) => button.textContent === 'make it `inherit`').click()")
+        self.does("[...document.querySelectorAll('#changes button')].find((button) => button.textContent === 'make it inherit').click()")
         self.until("return document.getElementById('differs').textContent", "The runs differ at 8 instants, first at 6.")
         self.assertIn("mutex data none → mutex data inherit", self.text("#words"))
         self.assertIn("6 dispatch medium 5", self.in_frame("data.lines", "b"))
