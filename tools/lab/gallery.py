@@ -45,7 +45,7 @@ def gallery() -> Iterator[Example]:
     """Those by which a reader begins, and then the course by its numbers."""
     changes = tomllib.loads(CHANGES.read_text())
     paths = {path.stem: path for path in sorted(EXAMPLES.glob("*.task"))}
-    for name in [*FIRST, *(name for name in paths if name not in FIRST)]:
+    for name in [*(name for name in FIRST if name in paths), *(name for name in paths if name not in FIRST)]:
         script = paths[name].read_text()
         head = HEAD.match(script)
         if head is not None:

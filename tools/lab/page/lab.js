@@ -138,7 +138,8 @@ function remember() { if (!quiet) toAddress(now); }
 function readAddress() {
   const said = fromAddress(), of = about.gallery.find((one) => one.name === said.example) || null;
   if (of || said.script !== null) start({ text: said.script !== null ? said.script : of.script, of, ticks: said.horizon || (of ? String(of.horizon) : ""), at: said.cursor ? BigInt(said.cursor) : 0n, beside: said.beside });
-  else begin(about.gallery[0].name);
+  else if (about.gallery.length) begin(about.gallery[0].name);
+  else start({ text: "thread a fifo 5 at 0\n    run 3\nend\n" });
 }
 
 // ---- keys and buttons

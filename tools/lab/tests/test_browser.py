@@ -293,20 +293,19 @@ class Speed(InBrowser):
                 self.until("return lab.drawn === document.querySelector('.CodeMirror').CodeMirror.getValue()")
                 took.append(float(str(self.does("return lab.latency"))))
             self.assertTrue(all(took))
-            figures[example] = min(took) if busy else median(took)
-        if busy:
-            print(f"the machine is busy, load {os.getloadavg()[0]:.0f}: of {KEYS} keys the quickest one counts, else the middle one")
-        slowest = max(figures, key=lambda name: figures[name])
-        print(f"from a key to the picture: {median(figures.values()):.0f} ms in the middle of {len(figures)} examples, at most {figures[slowest]:.0f} ms, {slowest}")
-        self.assertLess(figures[slowest], PICTURE)
+            figures[example] = median(took), min(took)
+        middle, least = (max(figures, key=lambda name: figures[name][which]) for which in (0, 1))
+        print(f"from a key to the picture, of {len(figures)} examples, {KEYS} keys each: at most {figures[middle][0]:.0f} ms in the middle ({middle}), "
+              f"{figures[least][1]:.0f} ms at the quickest ({least}); load {os.getloadavg()[0]:.1f}")
+        # Where other work wants the processors too, what the page itself takes is seen of the quickest key.
+        self.assertLess(figures[least][1] if busy else figures[middle][0], PICTURE)
 
     def test_a_long_run_stays_fluid(self) -> None:
         """64 threads and 100,000 lines: stepping, zooming and panning, each up to the end of its frame."""
-        bodies = (f"thread t{number} fifo {5 + number % 8} at {number}\nforever\nrun 1\nnanosleep {3 + number % 7}\nend\nend\n" for number in range(64))
-        script = "".join(bodies)
+        bodies = (f"thread t{number} fifo {5 + number} at {number}\nforever\nnanosleep 63\nend\nend\n" for number in range(64))
         self.open()
-        self.does("document.getElementById('horizon').value = '40000'; document.querySelector('.CodeMirror').CodeMirror.setValue(arguments[0])", script)
-        self.until("return lab.drawn === arguments[0]".replace("arguments[0]", "document.querySelector('.CodeMirror').CodeMirror.getValue()"), seconds=180)
+        self.does("document.getElementById('horizon').value = '50100'; document.querySelector('.CodeMirror').CodeMirror.setValue(arguments[0])", "".join(bodies))
+        self.until("return lab.drawn === document.querySelector('.CodeMirror').CodeMirror.getValue()", seconds=300)
         lines, threads = self.in_frame("data.lines.length", "a"), self.in_frame("data.threads.length", "a")
         self.shot("long")
         self.assertEqual(threads, 64)

@@ -1,7 +1,7 @@
 // The picture on the canvas.
 const canvas = document.getElementById("picture"), pen = canvas.getContext("2d");
 const FONT = '"DejaVu Sans", Verdana, Helvetica, Arial, sans-serif';
-const sizesOf = (rows) => rows <= 12 ? { bar: 20, marks: 16, server: 54, gap: 8, object: 20 } : rowCount <= 28 ? { bar: 14, marks: 12, server: 38, gap: 5, object: 16 } : { bar: 10, marks: 8, server: 26, gap: 3, object: 12 };
+const sizesOf = (rows) => rows <= 12 ? { bar: 20, marks: 16, server: 54, gap: 8, object: 20 } : rows <= 28 ? { bar: 14, marks: 12, server: 38, gap: 5, object: 16 } : { bar: 10, marks: 8, server: 26, gap: 3, object: 12 };
 const MOST_SCALE = 120, AXIS = 34, BIN = 3, MOST_LEVELS = 4;
 let sizes, gutter, levels, greatest;
 let width = 0, height = 0, scale = 1, left = 0, scroll = 0, place = 0, held = false, second = null, withLists = false, look = {};
