@@ -201,7 +201,7 @@ function wire() {
 function pictureOf(id) {
   const frame = element(id);
   return new Promise((resolve) => {
-    const ready = () => frame.contentWindow.picture ? resolve(frame.contentWindow.picture) : setTimeout(ready, 5);
+    const ready = () => frame.contentWindow.pane ? resolve(frame.contentWindow.pane) : setTimeout(ready, 5);
     ready();
   });
 }

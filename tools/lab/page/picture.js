@@ -44,5 +44,6 @@ window.addEventListener("keydown", (key) => {
 new ResizeObserver(() => { if (fits) showAll(); else resized(); }).observe(canvas);
 for (const done of ["wheel", "keydown", "click", "pointermove"]) window.addEventListener(done, () => setTimeout(() => { if (canvas.clientWidth) fits = isWhole(); }));
 take(EMPTY); measure(); setDark(false); showAll();
-window.picture = { show, goTo, press, dark: setDark, tick: tickNow, focus: () => canvas.focus(), differ(threads) { differing = threads; draw(); },
+// Not `picture`: that is the canvas, by its id.
+window.pane = { show, goTo, press, dark: setDark, tick: tickNow, focus: () => canvas.focus(), differ(threads) { differing = threads; draw(); },
   data: () => data, redraw: draw };

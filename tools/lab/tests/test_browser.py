@@ -11,6 +11,7 @@ import unittest
 from pathlib import Path
 from statistics import median
 
+from lab.parts import CODEMIRROR, OF_CODEMIRROR
 from view.tests.readers import browser
 
 from .served import TOP, Served
@@ -21,9 +22,18 @@ PICTURE, FRAME = 200, 100
 KEYS = 9
 
 
+def has_codemirror() -> bool:
+    return all((CODEMIRROR / name).is_file() for name in OF_CODEMIRROR)
+
+
 class InBrowser(unittest.TestCase):
     words: tuple[str, ...] = ()
     size = (1400, 900)
+
+    @property
+    def is_plain(self) -> bool:
+        """Whether the script is in a text area."""
+        return "--plain" in self.words or not has_codemirror()
 
     def setUp(self) -> None:
         self.driver = browser(*self.size)
@@ -111,23 +121,23 @@ class Page(InBrowser):
 
         self.open("#example=05_inherit")
         self.press(Keys.ESCAPE, "n", "n", "n", "n")
-        self.assertEqual(self.in_frame("picture.tick().toString()", "a"), "6")
+        self.assertEqual(self.in_frame("pane.tick().toString()", "a"), "6")
         self.assertEqual(self.table("Ready lists"), ["priority 9 | low", "priority 5 | medium"])
         self.assertEqual(self.table("Who waits"), ["high | in lock for low, the owner of data, since 6"])
         self.assertEqual(self.table("Owners"), ["data | low, waited for by high"])
         self.shot("stepped")
         self.press("p")
-        self.assertEqual(self.in_frame("picture.tick().toString()", "a"), "5")
+        self.assertEqual(self.in_frame("pane.tick().toString()", "a"), "5")
         self.press(Keys.ARROW_RIGHT, Keys.ARROW_RIGHT)
-        self.assertEqual(self.in_frame("picture.tick().toString()", "a"), "7")
+        self.assertEqual(self.in_frame("pane.tick().toString()", "a"), "7")
         self.press(Keys.ARROW_LEFT)
-        self.assertEqual(self.in_frame("picture.tick().toString()", "a"), "6")
+        self.assertEqual(self.in_frame("pane.tick().toString()", "a"), "6")
         self.press("e")
         self.assertTrue(self.does("return document.getElementById('editor').contains(document.activeElement)"))
 
     def test_budgets(self) -> None:
         self.open("#example=14_two_budgets&cursor=17")
-        self.assertEqual(self.in_frame("picture.tick().toString()", "a"), "17")
+        self.assertEqual(self.in_frame("pane.tick().toString()", "a"), "17")
         self.assertEqual(self.table("Budgets"), ["server | capacity 0, comes back: 3 at 22"])
 
     def test_a_refusal_at_its_line_and_word(self) -> None:
@@ -138,7 +148,7 @@ class Page(InBrowser):
         self.until("return document.querySelectorAll('#faults li').length", 1)
         self.assertIn(f"line {number}, column 5: UnknownWord", self.text("#faults li"))
         self.assertIn("did you mean `run`?", self.text("#faults .mend"))
-        if not self.words:
+        if not self.is_plain:
             self.assertEqual(self.text(".CodeMirror .faulty"), "rum")
             self.assertIn("did you mean `run`?", self.text(".CodeMirror .fault-note"))
         else:
@@ -179,10 +189,10 @@ class Page(InBrowser):
         self.assertIn("6 dispatch low 9", self.in_frame("data.lines", "a"))
         self.assertEqual(self.in_frame("differing.medium.map(String)", "a"), self.in_frame("differing.medium.map(String)", "b"))
         self.assertEqual(self.in_frame("differing.high.map(String)[0].split(',')[0]", "a"), "10")
-        if not self.words:
+        if not self.is_plain:
             self.assertEqual(self.text(".CodeMirror .changed"), "inherit")
         self.does("document.getElementById('next').click()")
-        self.assertEqual([self.in_frame("picture.tick().toString()", frame) for frame in "ab"], ["6", "6"])
+        self.assertEqual([self.in_frame("pane.tick().toString()", frame) for frame in "ab"], ["6", "6"])
         self.assertEqual(self.table("Who waits", "a"), ["high | in lock for low, the owner of data, since 6"])
         self.shot("two_runs")
         self.does("document.getElementById('beside').click()")
@@ -192,7 +202,7 @@ class Page(InBrowser):
         self.open("#example=04_inversion&horizon=30")
         self.does("[...document.querySelectorAll('#changes button')].find((button) => button.textContent === 'let medium run 14').click()")
         self.until("return lab.drawn.includes('    run 14\\n')")
-        self.does("document.getElementById('a').contentWindow.picture.goTo(17n)")
+        self.does("document.getElementById('a').contentWindow.pane.goTo(17n)")
         self.until("return location.hash.includes('cursor=17') && location.hash.includes('beside=')")
         link, script = self.driver.current_url, self.script()
         other = Served(link)
@@ -202,7 +212,7 @@ class Page(InBrowser):
         self.until("return window.lab && lab.drawn !== ''")
         self.assertEqual(self.script(), script)
         self.assertEqual(self.does("return document.getElementById('horizon').value"), "30")
-        self.until("return document.getElementById('a').contentWindow.picture.tick().toString()", "17")
+        self.until("return document.getElementById('a').contentWindow.pane.tick().toString()", "17")
         self.until("return document.getElementById('differs').textContent.startsWith('The runs differ at')")
         self.assertIn("    run 14\n", script)
 
@@ -276,6 +286,12 @@ class Phone(InBrowser):
 
 
 class Speed(InBrowser):
+    def setUp(self) -> None:
+        if not has_codemirror():
+            print("skipped: how fast the page to work in is, since libjs-codemirror is not here")
+            self.skipTest("libjs-codemirror is not here")
+        super().setUp()
+
     def test_from_the_last_key_to_the_picture(self) -> None:
         """Of each example, a digit is typed at the end of a comment and taken away, again and again."""
         from selenium.webdriver.common.keys import Keys
