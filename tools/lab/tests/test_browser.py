@@ -38,7 +38,7 @@ class InBrowser(unittest.TestCase):
     def setUp(self) -> None:
         self.driver = browser(*self.size)
         self.addCleanup(self.driver.quit)
-        self.lab = Served("--seconds", "120", *self.words)
+        self.lab = Served("--seconds", "600", *self.words)
         self.addCleanup(self.lab.end)
         self.addCleanup(self.no_complaint)
 
@@ -318,10 +318,10 @@ class Speed(InBrowser):
 
     def test_a_long_run_stays_fluid(self) -> None:
         """64 threads and 100,000 lines: stepping, zooming and panning, each up to the end of its frame."""
-        bodies = (f"thread t{number} fifo {5 + number} at {number}\nforever\nnanosleep 63\nend\nend\n" for number in range(64))
+        bodies = (f"thread t{number} sporadic {100 + number} 2 60 2 4 at {number}\nforever\nnanosleep 63\nend\nend\n" for number in range(64))
         self.open()
-        self.does("document.getElementById('horizon').value = '50100'; document.querySelector('.CodeMirror').CodeMirror.setValue(arguments[0])", "".join(bodies))
-        self.until("return lab.drawn === document.querySelector('.CodeMirror').CodeMirror.getValue()", seconds=300)
+        self.does("document.getElementById('horizon').value = '41000'; document.querySelector('.CodeMirror').CodeMirror.setValue(arguments[0])", "".join(bodies))
+        self.until("return lab.drawn === document.querySelector('.CodeMirror').CodeMirror.getValue()", seconds=600)
         lines, threads = self.in_frame("data.lines.length", "a"), self.in_frame("data.threads.length", "a")
         self.shot("long")
         self.assertEqual(threads, 64)
