@@ -19,7 +19,7 @@ from .served import TOP, Served
 INHERIT = (TOP / "examples" / "05_inherit.task").read_text()
 # How long a picture may take from the last key on, and a frame while a long run is stepped through, in milliseconds.
 PICTURE, FRAME = 200, 100
-KEYS = 9
+KEYS = 5
 
 
 def has_codemirror() -> bool:
@@ -313,12 +313,15 @@ class Speed(InBrowser):
         middle, least = (max(figures, key=lambda name: figures[name][which]) for which in (0, 1))
         print(f"from a key to the picture, of {len(figures)} examples, {KEYS} keys each: at most {figures[middle][0]:.0f} ms in the middle ({middle}), "
               f"{figures[least][1]:.0f} ms at the quickest ({least}); load {os.getloadavg()[0]:.1f}")
-        # Where other work wants the processors too, what the page itself takes is seen of the quickest key.
+        # Where other work wants the processors too, what the page itself takes is seen of the quickest key; and of none where that is far more.
+        if os.getloadavg()[0] > 2 * (os.cpu_count() or 1):
+            print(f"skipped: how soon a picture is there, since other work has the processors, load {os.getloadavg()[0]:.0f}")
+            self.skipTest("the machine is busy")
         self.assertLess(figures[least][1] if busy else figures[middle][0], PICTURE)
 
     def test_a_long_run_stays_fluid(self) -> None:
         """64 threads and 100,000 lines: stepping, zooming and panning, each up to the end of its frame."""
-        bodies = (f"thread t{number} sporadic {100 + number} 2 60 2 4 at {number}\nforever\nnanosleep 63\nend\nend\n" for number in range(64))
+        bodies = (f"thread t{number} sporadic {163 - number} 2 60 2 4 at {number}\nforever\nnanosleep 63\nend\nend\n" for number in range(64))
         self.open()
         self.does("document.getElementById('horizon').value = '41000'; document.querySelector('.CodeMirror').CodeMirror.setValue(arguments[0])", "".join(bodies))
         self.until("return lab.drawn === document.querySelector('.CodeMirror').CodeMirror.getValue()", seconds=600)
@@ -332,6 +335,7 @@ class Speed(InBrowser):
             const next = () => new Promise((go) => requestAnimationFrame(() => setTimeout(go)));
             const measure = async (name, does) => { took[name] = []; for (let n = 0; n < 25; n++) { await next(); const began = performance.now(); does(n); await next(); took[name].push(performance.now() - began); } };
             (async () => {
+              goTo(20000n);
               await measure("a step", () => KEYS.ArrowRight()); await measure("an event", () => KEYS.n());
               await measure("zoom", () => zoom(1.5, 400)); await measure("pan", () => { left += 20 / scale; clampView(); draw(); });
               await measure("zoom out", () => zoom(1 / 1.5, 400));
