@@ -32,12 +32,12 @@ function facts(at) {
 }
 // The events around the cursor, or those that the search finds.
 function events(at) {
-  let numbers = data.lines.map((_, number) => number);
-  if (wanted) numbers = numbers.filter((number) => data.lines[number].includes(wanted));
-  element("found").textContent = wanted ? numbers.length + " of " + data.lines.length + " events" : "Events";
-  if (!numbers.length) return [];
-  const next = lastAtMost(numbers.length, (i) => data.at[numbers[i]], at.point);
-  return numbers.slice(Math.max(0, next - 14), next + 40).map((number) => {
+  const numbers = wanted ? data.lines.map((_, number) => number).filter((number) => data.lines[number].includes(wanted)) : null;
+  const count = numbers ? numbers.length : data.lines.length, numberOf = (place) => numbers ? numbers[place] : place;
+  element("found").textContent = wanted ? count + " of " + data.lines.length + " events" : "Events";
+  if (!count) return [];
+  const next = lastAtMost(count, (i) => data.at[numberOf(i)], at.point), first = Math.max(0, next - 14);
+  return Array.from({ length: Math.min(count, next + 40) - first }, (_, n) => numberOf(first + n)).map((number) => {
     const now = ticks[data.at[number]] === at.tick;
     return { text: data.lines[number], kind: now ? "now" : data.at[number] <= at.point ? "past" : "", go: data.at[number] };
   });
