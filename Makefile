@@ -1,4 +1,4 @@
-# make install PREFIX=/usr/local   the proved program, the viewer, the sweep, manual pages and completions
+# make install PREFIX=/usr/local   the proved program, the commands beside it, manual pages and completions
 # make uninstall PREFIX=/usr/local
 # make check                       what can be tried without a proof
 # Nothing is built: what is installed is the program that bin/pse52 runs (bin/pse52 --prove makes one where there is none).

@@ -1,11 +1,12 @@
 """Holds the documents to the code, to the reference, and to one another.
 
-    python3 tools/documents.py
+    python3 tools/documents.py [--write]
 
 The code's table (crates/script_table/src/table.rt) says which patterns the language has: docs/SCRIPT.md lists each and no other. The
 reference says what the examples of the pages answer, and what each call of docs/CALLS.md does. Each function that a page names stands
 in the file that it names, docs/WALK.md has lines of the trace of its script, and each page that a page names is there. README says what
-the proof takes as bin/pse52 does, and no line of a page is too long. Prints what differs, with exit status 1.
+the proof takes as bin/pse52 does, docs/PROVED.md has each crate with what its head says of it, which --write puts there, and no line
+of a page is too long. Prints what differs, with exit status 1.
 """
 from __future__ import annotations
 
@@ -18,7 +19,7 @@ TOP = Path(__file__).resolve().parent.parent
 sys.path[:0] = [str(TOP / "tools"), str(TOP / "tools" / "reference")]
 
 from forms import Stage  # noqa: E402
-from pages import calls  # noqa: E402
+from pages import calls, proved  # noqa: E402
 from pages.wrap import too_long  # noqa: E402
 from simulate import answer  # noqa: E402
 
@@ -155,7 +156,9 @@ def pages() -> list[Path]:
 
 
 def main() -> int:
-    if len(sys.argv) > 1:
+    if sys.argv[1:] == ["--write"]:
+        proved.PAGE.write_text(proved.with_part(proved.PAGE.read_text()))
+    elif len(sys.argv) > 1:
         print(__doc__, file=sys.stderr)
         return 2
     wrong = []
@@ -167,7 +170,7 @@ def main() -> int:
     wrong += wrong_patterns(language) + wrong_faults(language)
     wrong += wrong_places((TOP / "docs/WALK.md").read_text())
     wrong += calls.faults_of(calls.PAGE.read_text(), calls.by_reference)
-    wrong += wrong_cost() + too_long(pages())
+    wrong += proved.wrong_items() + wrong_cost() + too_long(pages())
     print(*wrong, f"documents: {len(wrong)} differ", sep="\n")
     return 1 if wrong else 0
 

@@ -69,7 +69,7 @@ def _commands(block: list[str], start: int) -> Iterator[Command]:
 
 def clone(folder: Path) -> None:
     """A folder that looks like an installed release, whose program is that of PSE52_PROGRAM, or else the reference: nothing is built."""
-    for name in ("docs", "tools", "editors", "completions"):
+    for name in ("docs", "tools", "tests", "editors", "completions"):
         (folder / name).symlink_to(TOP / name)
     shutil.copytree(TOP / "examples", folder / "examples", ignore=shutil.ignore_patterns("*.rows"))
     shutil.copy(TOP / "VERSION", folder / "VERSION")

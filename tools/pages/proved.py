@@ -1,7 +1,7 @@
-"""What is proved of each crate: docs/PROVED.md has it crate by crate, made from the heads of the crates.
+"""What is proved of each crate: docs/PROVED.md has an item for each, in the order of crates.txt.
 
-The head of a crate's root file (src/lib.rt, or src/main.rt of a program) has a paragraph that begins with `Proved: `. The page has these
-between two marks, in the order of crates.txt.
+Where the head of a crate's root file (src/lib.rt, or src/main.rt of a program) has a paragraph that begins with `Proved: `, the item
+says the same; `tools/documents.py --write` makes it so. The items of other crates are written by hand.
 """
 from __future__ import annotations
 
@@ -11,7 +11,7 @@ from pathlib import Path
 
 TOP = Path(__file__).resolve().parents[2]
 PAGE = TOP / "docs" / "PROVED.md"
-BEGIN, END = "<!-- made by tools/documents.py --write from the heads of the crates -->\n", "<!-- end -->\n"
+BEGIN, END = "<!-- in the order of crates.txt; tools/documents.py --write takes what the heads of the crates say -->\n", "<!-- end -->\n"
 WIDTH = 128
 
 
@@ -35,18 +35,30 @@ def proved_of(crate: str) -> str | None:
     return None
 
 
-def missing() -> list[str]:
-    return [f"crates/{crate}: its head has no paragraph 'Proved: ..'" for crate in crates() if proved_of(crate) is None]
+def items_of(page: str) -> dict[str, str]:
+    """What the page says of each crate, in one line."""
+    part = page.partition(BEGIN)[2].partition(END)[0]
+    return {crate: " ".join(said.split()) for crate, said in re.findall(r"(?ms)^- `(\w+)`: (.*?)(?=^- |\Z)", part)}
 
 
-def part() -> str:
-    """The part of the page that is made."""
-    items = [textwrap.fill(f"- `{crate}`: {proved_of(crate)}", WIDTH, subsequent_indent="  ", break_long_words=False,
-                           break_on_hyphens=False) for crate in crates()]
-    return "\n".join(items) + "\n"
+def wrong_items() -> list[str]:
+    """Where the page's items are not those of the crates."""
+    items = items_of(PAGE.read_text())
+    wrong = [] if list(items) == crates() else ["docs/PROVED.md: its crates are not those of crates.txt, in that order"]
+    for crate in crates():
+        proved = proved_of(crate)
+        if crate not in items:
+            wrong.append(f"docs/PROVED.md: there is no item for {crate}")
+        elif proved not in (None, items[crate]):
+            wrong.append(f"docs/PROVED.md: {crate} is not as its head has it; tools/documents.py --write mends it")
+    return wrong
 
 
 def with_part(page: str) -> str:
-    """The page with that part as the crates have it."""
+    """The page with the items as the heads of the crates have them, in the order of crates.txt."""
     before, _, rest = page.partition(BEGIN)
-    return before + BEGIN + "\n" + part() + "\n" + END + rest.partition(END)[2]
+    said = items_of(page)
+    items = [(crate, proved_of(crate) or said.get(crate)) for crate in crates()]
+    lines = [textwrap.fill(f"- `{crate}`: {proved}", WIDTH, subsequent_indent="  ", break_long_words=False, break_on_hyphens=False)
+             for crate, proved in items if proved is not None]
+    return before + BEGIN + "\n" + "\n".join(lines) + "\n\n" + END + rest.partition(END)[2]
