@@ -45,6 +45,13 @@ _pse52_live() {
         *) mapfile -t COMPREPLY < <(compgen -f -- "$word") ;;
     esac
 }
+_pse52_lab() {
+    local word=${COMP_WORDS[COMP_CWORD]}
+    case $word in
+        -*) mapfile -t COMPREPLY < <(compgen -W '--port --seconds --plain --open --version --help' -- "$word") ;;
+        *) mapfile -t COMPREPLY < <(compgen -f -- "$word") ;;
+    esac
+}
 _pse52_from_ftrace() {
     local word=${COMP_WORDS[COMP_CWORD]}
     case $word in
@@ -53,6 +60,7 @@ _pse52_from_ftrace() {
     esac
 }
 complete -o filenames -F _pse52 pse52
+complete -o filenames -F _pse52_lab pse52-lab
 complete -o filenames -F _pse52_live pse52-live
 complete -o filenames -F _pse52_from_ftrace pse52-from-ftrace
 complete -o filenames -F _pse52_view pse52-view

@@ -54,5 +54,12 @@ complete -c pse52-live -l handlers -d 'handlers run also in waits'
 complete -c pse52-live -l program -x -d 'what says which trace is due'
 complete -c pse52-live -l help -d 'print the options'
 
+complete -c pse52-lab -l port -x -d 'the port'
+complete -c pse52-lab -l seconds -x -d 'how long a run may take'
+complete -c pse52-lab -l plain -d 'a plain text area'
+complete -c pse52-lab -l open -d 'open the page in a browser'
+complete -c pse52-lab -l version -d 'print the version'
+complete -c pse52-lab -l help -d 'print the options'
+
 complete -c pse52-from-ftrace -l trace -d 'write the trace alone'
 complete -c pse52-from-ftrace -l help -d 'print the options'

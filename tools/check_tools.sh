@@ -20,10 +20,10 @@ if [ -x crates/pse52/out/pse52 ]; then
     export PSE52_PROGRAM
 fi
 failed=0
-for folder in view measure sweep ftrace explain wrapper pages live; do
+for folder in view measure sweep ftrace explain wrapper pages live lab; do
     log=$(python3 -m unittest discover -s "tools/$folder/tests" -t tools 2>&1)
     if [ $? -eq 0 ]; then
-        printf '%s\n' "$log" | grep -o 'skipped: .*' | sort -u
+        printf '%s\n' "$log" | grep -o -e 'skipped: .*' -e '^from a key to the picture.*' -e '^a frame of .*' | sort -u
         echo "$folder: $(printf '%s\n' "$log" | sed -n 's/^Ran \([0-9]* tests\).*/\1/p'), each passed or was skipped"
     else
         printf '%s\n' "$log" | tail -n 60

@@ -17,7 +17,7 @@ from .svg import heading
 from .timeline import MarkKind, Span, State, ThreadLine, Timeline
 
 PAGE = Path(__file__).parent / "page"
-SCRIPTS = ("model.js", "draw.js", "tell.js", "input.js")
+SCRIPTS = ("model.js", "draw.js", "tell.js", "input.js", "start.js")
 CUT_PLACES, AXIS_WIDTH, LEGIBLE = 34, 1400, 6.0
 STATES = {State.RUNNING: 0, State.READY: 1, State.WAITING: 2, State.OFF: 3}
 # What else than states of threads the page tells of an instant.
@@ -45,7 +45,7 @@ class Points:
 
 
 def draw(timeline: Timeline) -> str:
-    data = json.dumps(_data(timeline), separators=(",", ":")).replace("<", "\\u003c")
+    data = json.dumps(data_of(timeline), separators=(",", ":")).replace("<", "\\u003c")
     page = _file("page.html")
     script = "".join(_file(name) for name in SCRIPTS)
     for name, text in (("STYLE", _file("page.css")), ("SCRIPT", script), ("TITLE", escape(heading(timeline))), ("DATA", data)):
@@ -57,7 +57,8 @@ def _file(name: str) -> str:
     return (PAGE / name).read_text()
 
 
-def _data(timeline: Timeline) -> dict[str, object]:
+def data_of(timeline: Timeline) -> dict[str, object]:
+    """What the page is told of a run."""
     points = Points(timeline)
     number = points.number
     events = [(event[0], line) for event, line in zip(timeline.trace.events, timeline.trace.lines)

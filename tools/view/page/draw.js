@@ -1,11 +1,12 @@
 // The picture on the canvas.
 const canvas = document.getElementById("picture"), pen = canvas.getContext("2d");
 const FONT = '"DejaVu Sans", Verdana, Helvetica, Arial, sans-serif';
-const rowCount = data.threads.length + data.mutexes.length / 2;
-const sizes = rowCount <= 12 ? { bar: 20, marks: 16, server: 54, gap: 8, object: 20 } : rowCount <= 28 ? { bar: 14, marks: 12, server: 38, gap: 5, object: 16 } : { bar: 10, marks: 8, server: 26, gap: 3, object: 12 };
+const sizesOf = (rows) => rows <= 12 ? { bar: 20, marks: 16, server: 54, gap: 8, object: 20 } : rows <= 28 ? { bar: 14, marks: 12, server: 38, gap: 5, object: 16 } : { bar: 10, marks: 8, server: 26, gap: 3, object: 12 };
 const MOST_SCALE = 120, AXIS = 34, BIN = 3, MOST_LEVELS = 4;
-const gutter = Math.min(180, 16 + Math.max(40, ...data.threads.map((thread) => thread.name.length * 8), ...data.mutexes.map((mutex) => mutex.name.length * 7)));
+let sizes, gutter, levels, greatest;
 let width = 0, height = 0, scale = 1, left = 0, scroll = 0, place = 0, held = false, second = null, withLists = false, look = {};
+// What else is drawn on the rows, and who hears of each tick that is told: a page that has more than the picture adds to these.
+const overlays = [], hearers = [];
 const xOf = (where) => gutter + (where - left) * scale;
 const placeOf = (x) => left + (x - gutter) / scale;
 const SHAPES = {
@@ -16,11 +17,18 @@ const SHAPES = {
   release: ["#808a9c", [[-0.15, 1], [-0.15, -0.2], [-0.8, -0.2], [0, -1], [0.8, -0.2], [0.15, -0.2], [0.15, 1]], "a job is released"],
   late: ["#d93a3a", [[0, 1], [0, -1], [1.6, -0.5], [0.2, 0], [0.2, 1]], "its deadline, missed"],
 };
-const levels = data.threads.map((thread) => {
+// How wide the names are, how high the rows and the marks on one another, and the greatest capacity of each server.
+function measure() {
+  sizes = sizesOf(data.threads.length + data.mutexes.length / 2);
+  gutter = Math.min(180, 16 + Math.max(40, ...data.threads.map((thread) => thread.name.length * 8), ...data.mutexes.map((mutex) => mutex.name.length * 7)));
+  levels = data.threads.map(levelsOf);
+  greatest = data.threads.map((thread) => thread.capacity.reduce((most, piece) => Math.max(most, Number(piece[2])), 1));
+}
+function levelsOf(thread) {
   let most = 1, point = -1, count = 0;
   for (const [at, kind] of thread.marks) if (kind in SHAPES) { count = at === point ? count + 1 : 1; point = at; most = Math.max(most, count); }
   return Math.min(MOST_LEVELS, most);
-});
+}
 const radius = () => Math.min(4.2, sizes.marks * 0.28);
 const room = (number) => sizes.marks + (levels[number] - 1) * (2 * radius() + 2);
 const ROW = (number) => room(number) + sizes.bar + sizes.gap + (data.threads[number].server ? sizes.server : 0);
@@ -60,6 +68,7 @@ function draw() {
   if (withLists) for (const [priority, changes] of lists) { drawList(priority, changes, y); y += 16; }
   drawWakes(bars);
   pen.restore();
+  for (const paint of overlays) paint(bars);
   drawCuts(); drawAxis(); drawCursors();
 }
 function drawCursorBand() {
@@ -209,7 +218,6 @@ function drawMarks(thread, bar) {
     }
   }
 }
-const greatest = data.threads.map((thread) => thread.capacity.reduce((most, piece) => Math.max(most, Number(piece[2])), 1));
 function drawServer(thread, top, high) {
   const base = top + high, unit = high / greatest[data.threads.indexOf(thread)];
   line(look.line, 0.8, gutter, base, width, base);

@@ -90,9 +90,3 @@ window.addEventListener("keydown", (key) => {
 element("search").addEventListener("input", () => { wanted = element("search").value.trim(); tell(); });
 for (const [id, does] of [["in", KEYS["+"]], ["out", KEYS["-"]], ["all", showAll], ["before", KEYS.p], ["after", KEYS.n], ["mark", setSecond], ["lists", toggleLists], ["dark", toggleDark], ["help", toggleHelp]]) element(id).onclick = does;
 window.addEventListener("resize", resized);
-
-element("title").textContent = document.title;
-element("lists").hidden = !data.detail;
-canvas.setAttribute("aria-label", document.title + ". The events and the states at the cursor's tick stand beside it as text.");
-setDark(window.matchMedia("(prefers-color-scheme: dark)").matches);
-legend(); showAll(); tell();

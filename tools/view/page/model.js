@@ -1,10 +1,16 @@
 "use strict";
 // The page of pse52-view html: what the data says. A point is an instant at which something happens; all data names points by number.
-const data = JSON.parse(document.getElementById("data").textContent);
-const ticks = data.ticks.map(BigInt), places = data.places, cuts = new Set(data.cuts);
+let data, ticks, places, cuts, total, last, lists;
 const [RUNNING, READY, WAITING] = [0, 1, 2];
 const STATE_NAMES = ["runs", "is ready", "waits", "does not run"];
-const total = Math.max(places[places.length - 1], 1), last = ticks.length - 1;
+
+// Takes the data of a run in the place of what was here. measure() must follow, and then draw() and tell().
+function take(given) {
+  data = given;
+  ticks = data.ticks.map(BigInt); places = data.places; cuts = new Set(data.cuts);
+  total = Math.max(places[places.length - 1], 1); last = ticks.length - 1;
+  lists = factsOf("list").map(([priority, changes]) => [Number(priority), changes]).sort((a, b) => b[0] - a[0]);
+}
 
 // The last number whose value is at most the wanted one.
 function lastAtMost(count, value, wanted) {
@@ -51,7 +57,6 @@ function factAt(changes, point) {
   return changes[lastAtMost(changes.length, (i) => changes[i][0], point)][1];
 }
 const factsOf = (word) => Object.entries(data.facts).filter(([name]) => name.startsWith(word + " ")).map(([name, changes]) => [name.slice(word.length + 1), changes]);
-const lists = factsOf("list").map(([priority, changes]) => [Number(priority), changes]).sort((a, b) => b[0] - a[0]);
 const FACTS = [["mutex", "mutex"], ["waiters", "waiting for"], ["sem", "semaphore"], ["messages", "queue"], ["senders", "sending to"], ["receivers", "receiving from"],
   ["notify", "to be notified of"], ["timer", "timer"], ["signal", "pending"], ["mask", "mask of"], ["cancelability", "cancellation of"], ["cleanups", "cleanups of"], ["pending", "replenishments of"]];
 

@@ -1,6 +1,7 @@
 // What is said of the cursor's tick, the list of events, the search, and the legend.
 const element = (id) => document.getElementById(id);
-let wanted = "";
+// Whether the facts stand below the states; a page that shows them otherwise says no.
+let wanted = "", tellsFacts = true;
 
 function tell() {
   const at = tickAt(place), over = at.point >= last;
@@ -15,8 +16,9 @@ function tell() {
   });
   element("who").textContent = "· " + who;
   element("distance").textContent = second === null ? "" : "· second cursor " + second + ", " + (second > at.tick ? second - at.tick : at.tick - second) + " ticks from here";
-  fill(element("states"), [...threads, ...facts(at)]);
+  fill(element("states"), tellsFacts ? [...threads, ...facts(at)] : threads);
   fill(element("list"), events(at));
+  for (const hear of hearers) hear(at);
 }
 // Who stands on which list, and what else the facts say of this instant.
 function facts(at) {
@@ -30,12 +32,12 @@ function facts(at) {
 }
 // The events around the cursor, or those that the search finds.
 function events(at) {
-  let numbers = data.lines.map((_, number) => number);
-  if (wanted) numbers = numbers.filter((number) => data.lines[number].includes(wanted));
-  element("found").textContent = wanted ? numbers.length + " of " + data.lines.length + " events" : "Events";
-  if (!numbers.length) return [];
-  const next = lastAtMost(numbers.length, (i) => data.at[numbers[i]], at.point);
-  return numbers.slice(Math.max(0, next - 14), next + 40).map((number) => {
+  const numbers = wanted ? data.lines.map((_, number) => number).filter((number) => data.lines[number].includes(wanted)) : null;
+  const count = numbers ? numbers.length : data.lines.length, numberOf = (place) => numbers ? numbers[place] : place;
+  element("found").textContent = wanted ? count + " of " + data.lines.length + " events" : "Events";
+  if (!count) return [];
+  const next = lastAtMost(count, (i) => data.at[numberOf(i)], at.point), first = Math.max(0, next - 14);
+  return Array.from({ length: Math.min(count, next + 40) - first }, (_, n) => numberOf(first + n)).map((number) => {
     const now = ticks[data.at[number]] === at.tick;
     return { text: data.lines[number], kind: now ? "now" : data.at[number] <= at.point ? "past" : "", go: data.at[number] };
   });

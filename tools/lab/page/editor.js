@@ -1,0 +1,92 @@
+// The editor of the script: CodeMirror where it is installed, and else a text area with line numbers. Both have the same functions.
+import { defineMode } from "./mode.js";
+
+const place = document.getElementById("editor");
+
+function load(tag, more) {
+  return new Promise((resolve, reject) => {
+    const part = Object.assign(document.createElement(tag), more, { onload: resolve, onerror: reject });
+    document.head.append(part);
+  });
+}
+
+export async function editorOf(about, changed, leave) {
+  if (!about.codemirror) return plainEditor(changed, leave);
+  await Promise.all([load("link", { rel: "stylesheet", href: "codemirror/codemirror.css" }), load("script", { src: "codemirror/codemirror.js" })]);
+  return codeEditor(window.CodeMirror, changed, leave);
+}
+
+function codeEditor(CodeMirror, changed, leave) {
+  defineMode(CodeMirror);
+  // Tab goes on to the next part of the page, as everywhere else.
+  const code = CodeMirror(place, { mode: "pse52", lineNumbers: true, indentUnit: 4, viewportMargin: 20, screenReaderLabel: "script",
+    extraKeys: { Tab: false, "Shift-Tab": false, Esc: leave } });
+  let marks = [], notes = [], lines = [], words = [];
+  code.on("change", changed);
+  return {
+    text: () => code.getValue(),
+    write(text) { code.setValue(text); code.clearHistory(); },
+    replace(line, from, to, text) { code.replaceRange(text, { line, ch: from }, { line, ch: to }, "+slide"); },
+    cursor: () => ({ line: code.getCursor().line, column: code.getCursor().ch }),
+    goTo(line, column) { code.focus(); code.setCursor({ line, ch: column }); code.scrollIntoView(null, 80); },
+    focus: () => code.focus(),
+    faults(found) {
+      code.operation(() => {
+        marks.forEach((mark) => mark.clear()); notes.forEach((note) => note.clear());
+        lines.forEach((line) => code.removeLineClass(line, "background", "faulty-line"));
+        const there = found.filter((fault) => fault.line <= code.lineCount());
+        marks = there.filter((fault) => fault.word).map((fault) => code.markText({ line: fault.line - 1, ch: fault.column - 1 },
+          { line: fault.line - 1, ch: fault.column - 1 + fault.word.length }, { className: "faulty", attributes: { title: fault.wrong } }));
+        lines = there.map((fault) => code.addLineClass(fault.line - 1, "background", "faulty-line"));
+        notes = there.map((fault) => {
+          const note = Object.assign(document.createElement("div"), { className: "fault-note", textContent: fault.wrong + (fault.mend ? "; " + fault.mend : "") });
+          return code.addLineWidget(fault.line - 1, note, { noHScroll: true });
+        });
+      });
+    },
+    changed(places) {
+      code.operation(() => {
+        words.forEach((word) => word.clear());
+        words = places.map(({ line, from, to }) => code.markText({ line, ch: from }, { line, ch: to }, { className: "changed" }));
+      });
+    },
+  };
+}
+
+function plainEditor(changed, leave) {
+  const holder = Object.assign(document.createElement("div"), { id: "plain" });
+  const numbers = document.createElement("pre"), area = document.createElement("textarea");
+  Object.assign(area, { spellcheck: false, wrap: "off" });
+  area.setAttribute("aria-label", "script"); area.setAttribute("autocapitalize", "off"); numbers.setAttribute("aria-hidden", "true");
+  holder.append(numbers, area); place.append(holder);
+  let faulty = new Set();
+  const starts = (line) => area.value.split("\n").slice(0, line).reduce((sum, text) => sum + text.length + 1, 0);
+  function number() {
+    const count = area.value.split("\n").length;
+    numbers.replaceChildren(...Array.from({ length: count }, (_, line) => [faulty.has(line + 1)
+      ? Object.assign(document.createElement("b"), { textContent: line + 1 }) : String(line + 1), "\n"]).flat());
+    numbers.scrollTop = area.scrollTop;
+  }
+  area.addEventListener("scroll", () => { numbers.scrollTop = area.scrollTop; });
+  area.addEventListener("input", () => { number(); changed(); });
+  area.addEventListener("keydown", (key) => { if (key.key === "Escape") { key.preventDefault(); leave(); } });
+  return {
+    text: () => area.value,
+    write(text) { area.value = text; number(); changed(); },
+    replace(line, from, to, text) {
+      const start = starts(line);
+      area.setRangeText(text, start + from, start + to, "preserve"); number(); changed();
+    },
+    cursor() {
+      const before = area.value.slice(0, area.selectionStart).split("\n");
+      return { line: before.length - 1, column: before[before.length - 1].length };
+    },
+    goTo(line, column) {
+      area.focus(); area.setSelectionRange(starts(line) + column, starts(line) + column);
+      area.scrollTop = Math.max(0, (line - 4) * 19.5);
+    },
+    focus: () => area.focus(),
+    faults(found) { faulty = new Set(found.map((fault) => fault.line)); number(); },
+    changed() { /* a text area cannot mark words; the list of changed lines tells them */ },
+  };
+}

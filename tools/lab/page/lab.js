@@ -1,0 +1,219 @@
+// The page to work in: puts the editor, the runs, the pictures and what is around them together.
+import { addressOf, fromAddress, toAddress } from "./address.js";
+import { runsDiffer, scriptsDiffer } from "./differences.js";
+import { editorOf } from "./editor.js";
+import { showFaults } from "./faults.js";
+import { download, exported, opened } from "./files.js";
+import { Runs } from "./runs.js";
+import * as sweep from "./sweep.js";
+
+const element = (id) => document.getElementById(id);
+const HORIZON = /^\s*#\s*horizon (\d+)\b/;
+let about, editor, pictures, runs;
+let example = null, kept = null, cursor = 0n, ran = null, difference = { threads: {}, instants: [] }, quiet = false, showing = false, pressedAt = 0;
+
+const script = () => editor.text();
+const horizon = () => element("horizon").value.trim();
+const title = () => example ? example.name : "script";
+const say = (text) => { element("state").textContent = text; };
+
+// ---- runs
+
+function changed() {
+  if (quiet) return;
+  runNow(); tellChanges(); remember();
+}
+function runNow() {
+  const since = pressedAt;
+  pressedAt = 0;
+  if (!/^\d{1,19}$/.test(horizon()) || BigInt(horizon()) > 10n ** 18n) { say("The horizon is a number of ticks from 0 to 10^18."); return; }
+  runs.a.run(script(), horizon(), title(), since);
+}
+function shownA(told, wanted) {
+  showFaults(editor, told.faults || []);
+  document.body.classList.toggle("stale", !told.data);
+  say(told.faults ? told.faults.length + (told.faults.length === 1 ? " fault" : " faults") + "; the picture is that of the script before" : told.why || told.warning || "");
+  if (!told.data) return;
+  ran = told;
+  put("a", told.data);
+  element("sources").textContent = "Trace: " + told.trace + ". Facts: " + told.facts + (told.facts === "the reference" ? ", of which nothing is proved." : ".");
+  compare();
+  // The frame that shows it is the next one. Where no key asked for the run, nothing is said of the time.
+  requestAnimationFrame(() => setTimeout(() => {
+    window.lab.latency = wanted.since ? performance.now() - wanted.since : 0; window.lab.drawn = wanted.script;
+    element("time").textContent = wanted.since ? "Drawn " + Math.round(window.lab.latency) + " ms after the last key." : "";
+  }));
+}
+// Shows a run in a pane, with its cursor at the tick of the page, which stays where a run is shorter than that.
+function put(pane, data) {
+  showing = true;
+  pictures[pane].show(data); pictures[pane].goTo(cursor);
+  showing = false;
+}
+
+// ---- two runs
+
+function shownB(told) {
+  if (!told.data) { say(told.why || "the kept script is refused"); return; }
+  put("b", told.data); compare();
+}
+function keep(text) {
+  kept = text;
+  const two = kept !== null;
+  element("beside").setAttribute("aria-pressed", String(two));
+  element("figure_b").hidden = element("compared").hidden = !two;
+  document.body.classList.toggle("two", two);
+  if (two) runs.b.run(kept, horizon(), title(), 0);
+  compare(); remember();
+}
+function compare() {
+  if (kept === null || !ran) { difference = { threads: {}, instants: [] }; editor.changed([]); pictures.a.differ({}); pictures.b.differ({}); return; }
+  const words = scriptsDiffer(kept, script());
+  editor.changed(words.words);
+  element("words").replaceChildren(...words.lines.slice(0, 40).map(([number, before, after]) => {
+    const line = document.createElement("li");
+    line.append((number === null ? "gone" : "line " + number) + ": ", before === null ? "" : before.trim() + " ", after === null ? "" : "→ ", Object.assign(document.createElement("mark"), { textContent: after === null ? "" : after.trim() }));
+    return line;
+  }));
+  difference = runsDiffer(pictures.b.data(), pictures.a.data());
+  pictures.a.differ(difference.threads); pictures.b.differ(difference.threads);
+  const count = difference.instants.length;
+  element("differs").textContent = count ? "The runs differ at " + count + (count === 1 ? " instant" : " instants") + ", first at " + difference.instants[0] + "." : "The runs do not differ.";
+  element("next").disabled = !count;
+}
+function nextDifference() {
+  if (!difference.instants.length) return;
+  const next = difference.instants.find((tick) => tick > cursor);
+  pictures.a.goTo(next === undefined ? difference.instants[0] : next);
+}
+
+// ---- the course
+
+function fillGallery() {
+  const own = new Option("your own script", "");
+  element("gallery").replaceChildren(own, ...about.gallery.map((one) => new Option(one.name.replaceAll("_", " "), one.name)));
+}
+function begin(name) {
+  const found = about.gallery.find((one) => one.name === name);
+  if (found) start({ text: found.script, of: found, ticks: String(found.horizon) });
+}
+function start({ text, of = null, ticks = "", at = 0n, beside = null }) {
+  example = of; cursor = at;
+  element("gallery").value = of ? of.name : "";
+  element("horizon").value = ticks || (HORIZON.exec(text) || [])[1] || horizon();
+  quiet = true; editor.write(text); quiet = false;
+  element("slider").hidden = true; element("sweep").setAttribute("aria-pressed", "false");
+  runNow(); tellChanges(); keep(beside);
+}
+function tellChanges() {
+  element("lesson").classList.toggle("none", !example);
+  element("sentence").textContent = example ? example.look : "";
+  const text = script();
+  element("changes").replaceChildren(...(example ? example.changes : []).map((change) => {
+    const button = Object.assign(document.createElement("button"), { disabled: !text.includes(change.find) });
+    // What stands between backquotes is of the script.
+    button.append(...change.say.split("`").map((part, number) => number % 2 ? Object.assign(document.createElement("code"), { textContent: part }) : part));
+    button.onclick = () => make(change);
+    return button;
+  }));
+}
+// Makes a change, and keeps the run before it beside.
+function make(change) {
+  const text = script(), at = text.indexOf(change.find);
+  if (at < 0) return;
+  pressedAt = performance.now();
+  if (kept === null) keep(text);
+  quiet = true; editor.write(text.slice(0, at) + change.put + text.slice(at + change.find.length)); quiet = false;
+  changed();
+  editor.goTo(text.slice(0, at).split("\n").length - 1, 0);
+}
+
+// ---- the address
+
+function now() {
+  const text = script(), same = example && example.script === text;
+  return { example: example ? example.name : "", script: same ? null : text, horizon: horizon(), cursor, beside: kept };
+}
+function remember() { if (!quiet) toAddress(now); }
+function readAddress() {
+  const said = fromAddress(), of = about.gallery.find((one) => one.name === said.example) || null;
+  if (of || said.script !== null) start({ text: said.script !== null ? said.script : of.script, of, ticks: said.horizon || (of ? String(of.horizon) : ""), at: said.cursor ? BigInt(said.cursor) : 0n, beside: said.beside });
+  else if (about.gallery.length) begin(about.gallery[0].name);
+  else start({ text: "thread a fifo 5 at 0\n    run 3\nend\n" });
+}
+
+// ---- keys and buttons
+
+function setDark(on) {
+  document.documentElement.classList.toggle("dark", on);
+  for (const picture of Object.values(pictures)) picture.dark(on);
+}
+const isDark = () => document.documentElement.classList.contains("dark");
+function save() { download(title() + ".task", script(), "text/plain"); }
+function toggleHelp() { element("keys").hidden = !element("keys").hidden; element("help").setAttribute("aria-expanded", String(!element("keys").hidden)); }
+function toggleSweep() {
+  const on = element("slider").hidden && sweep.begin(editor);
+  element("slider").hidden = !on; element("sweep").setAttribute("aria-pressed", String(on));
+  if (on) element("value").focus();
+}
+const KEYS = { e: () => editor.focus(), g: () => element("gallery").focus(), h: () => element("horizon").focus(), c: () => keep(kept === null ? script() : null), s: toggleSweep, x: nextDifference,
+  d: () => setDark(!isDark()), "?": toggleHelp };
+const WITH_CONTROL = { s: save, o: () => element("file").click() };
+function pressed(key, control) {
+  const does = (control ? WITH_CONTROL : KEYS)[key];
+  if (does) does();
+  return Boolean(does);
+}
+function moved(side, tick) {
+  if (!pictures || showing) return;
+  cursor = tick;
+  const other = pictures[side === "a" ? "b" : "a"];
+  if (kept !== null && other.tick() !== tick) other.goTo(tick);
+  remember();
+}
+window.addEventListener("keydown", (key) => {
+  pressedAt = performance.now();
+  const typing = ["INPUT", "TEXTAREA", "SELECT"].includes(key.target.tagName) || key.target.isContentEditable;
+  if ((typing && !key.ctrlKey) || key.altKey || key.metaKey) return;
+  const onButton = key.target.tagName === "BUTTON" && (key.key === "Enter" || key.key === " ");
+  if (!onButton && (pressed(key.key, key.ctrlKey) || (!key.ctrlKey && pictures.a.press(key.key)))) key.preventDefault();
+}, true);
+
+function wire() {
+  element("gallery").onchange = () => { if (element("gallery").value) begin(element("gallery").value); else start({ text: script() }); };
+  element("horizon").oninput = () => { runNow(); if (kept !== null) runs.b.run(kept, horizon(), title(), 0); remember(); };
+  element("beside").onclick = KEYS.c; element("sweep").onclick = toggleSweep; element("next").onclick = nextDifference;
+  element("back").onclick = () => { const text = kept; keep(null); editor.write(text); };
+  element("least").oninput = element("most").oninput = sweep.bounds;
+  element("value").oninput = () => { pressedAt = performance.now(); sweep.slide(editor); };
+  element("open").onclick = WITH_CONTROL.o; element("save").onclick = save;
+  element("file").onchange = async () => { const file = element("file").files[0]; if (file) start({ text: await opened(file) }); element("file").value = ""; };
+  element("export").onchange = async () => { const form = element("export").value; element("export").value = ""; if (form) say(await exported(form, script(), horizon(), title())); };
+  element("link").onclick = async () => {
+    const link = location.href.split("#")[0] + addressOf(now());
+    try { await navigator.clipboard.writeText(link); say("The link is copied."); } catch { history.replaceState(null, "", link); say("The link is in the address."); }
+  };
+  element("look").onclick = KEYS.d; element("help").onclick = toggleHelp;
+  window.addEventListener("hashchange", readAddress);
+  window.matchMedia("(prefers-color-scheme: dark)").addEventListener("change", (query) => setDark(query.matches));
+}
+
+function pictureOf(id) {
+  const frame = element(id);
+  return new Promise((resolve) => {
+    const ready = () => frame.contentWindow.pane ? resolve(frame.contentWindow.pane) : setTimeout(ready, 5);
+    ready();
+  });
+}
+async function begun() {
+  about = await (await fetch("about.json")).json();
+  editor = await editorOf(about, changed, () => pictures.a.focus());
+  pictures = { a: await pictureOf("a"), b: await pictureOf("b") };
+  runs = { a: new Runs("a", shownA), b: new Runs("b", shownB) };
+  fillGallery(); wire();
+  setDark(window.matchMedia("(prefers-color-scheme: dark)").matches);
+  readAddress();
+  editor.focus();
+}
+window.lab = { moved, pressed, latency: 0, drawn: "" };
+begun();

@@ -1,0 +1,59 @@
+// What stands at the cursor: the ready lists by priority, who waits for whom, owners, budgets, and the rest of the facts.
+const REST = FACTS.filter(([word]) => !["mutex", "waiters", "pending"].includes(word));
+
+function section(title, rows) {
+  if (!rows.length) return [];
+  const head = Object.assign(document.createElement("h2"), { textContent: title }), table = document.createElement("table");
+  for (const [name, ...cells] of rows) {
+    const row = table.insertRow(), first = Object.assign(document.createElement("th"), { textContent: name });
+    first.scope = "row"; row.append(first); row.insertCell().append(...cells);
+  }
+  table.dataset.what = title;
+  return [head, table];
+}
+const bold = (text) => Object.assign(document.createElement("b"), { textContent: text });
+const saidAt = (word, subject, point) => data.facts[word + " " + subject] ? factAt(data.facts[word + " " + subject], point) : "";
+
+function readyRows(point) {
+  return lists.map(([priority, changes]) => [priority, factAt(changes, point)]).filter(([, members]) => members)
+    .map(([priority, members]) => { const [head, ...tail] = members.split(" "); return ["priority " + priority, bold(head), tail.length ? " " + tail.join(" ") : ""]; });
+}
+function waitingRows(point) {
+  const rows = [];
+  for (const thread of data.threads) {
+    const span = spanOf(thread, point);
+    if (!span || span[2] !== WAITING) continue;
+    const [from, , , , , call, kind, what, until] = span;
+    const owner = kind === "mutex" && what ? saidAt("mutex", what, point).split(" ")[0] : "";
+    const whom = kind === "join" ? " for " + what : owner ? " for " + owner + ", the owner of " + what : what ? " for the " + kind + " " + what : "";
+    rows.push([thread.name, "in " + call + whom + ", since " + ticks[from] + (until ? ", until " + until : "")]);
+  }
+  return rows;
+}
+function ownerRows(point) {
+  return factsOf("mutex").map(([name, changes]) => [name, factAt(changes, point)]).filter(([, owner]) => owner).map(([name, owned]) => {
+    const [owner, count] = owned.split(" "), waiters = saidAt("waiters", name, point);
+    return [name, bold(owner), (count !== "1" ? " locked " + count + " times" : "") + (waiters ? ", waited for by " + waiters : "")];
+  });
+}
+function budgetRows(at) {
+  return data.threads.filter((thread) => thread.server).map((thread) => {
+    const pending = saidAt("pending", thread.name, at.point).split(" ").filter(Boolean), plans = [];
+    for (let n = 0; n < pending.length; n += 2) plans.push(pending[n] + " at " + pending[n + 1]);
+    const capacity = capacityOf(thread, at);
+    return [thread.name, "capacity " + (capacity === null ? "not told" : capacity) + (plans.length ? ", comes back: " + plans.join(", ") : "")];
+  });
+}
+function restRows(point) {
+  const queues = factsOf("waiters").filter(([name]) => !data.facts["mutex " + name]).map(([name, changes]) => ["waiting for " + name, factAt(changes, point)]);
+  return [...queues, ...REST.flatMap(([word, name]) => factsOf(word).map(([subject, changes]) => [name + " " + subject, factAt(changes, point)]))].filter(([, said]) => said);
+}
+function showLists(at) {
+  const over = at.point >= last;
+  const parts = over ? [] : [["Ready lists, by priority, head first", readyRows(at.point)], ["Who waits for whom", waitingRows(at.point)],
+    ["Owners of mutexes", ownerRows(at.point)], ["Budgets", budgetRows(at)], ["Semaphores, queues, timers, signals", restRows(at.point)]];
+  const told = parts.flatMap(([title, rows]) => section(title, rows));
+  element("cursor").replaceChildren(...told.length ? told : [Object.assign(document.createElement("h2"), { textContent: over ? "The run is over." : "No list has anyone." })]);
+}
+hearers.push(showLists);
+tellsFacts = false;

@@ -1,0 +1,34 @@
+// Asks the server for runs. Of one pane the newest script counts: one request is under way, and what was typed meanwhile follows it.
+const PATIENCE = 400;
+
+export async function ask(pane, form, script, horizon, title) {
+  const query = new URLSearchParams({ pane, form, horizon, title });
+  const answer = await fetch("run?" + query, { method: "POST", body: script, headers: { "Content-Type": "text/plain" } });
+  if (answer.ok) return answer.json();
+  return { why: (await answer.text()).trim() };
+}
+
+export class Runs {
+  constructor(pane, show) { this.pane = pane; this.show = show; this.number = 0; this.since = 0; this.waiting = null; }
+
+  // Runs a script; `since` is when the key was pressed that asked for it.
+  run(script, horizon, title, since) {
+    this.waiting = { script, horizon, title, since };
+    const busy = this.since && performance.now() - this.since < PATIENCE;
+    if (busy) { clearTimeout(this.clock); this.clock = setTimeout(() => this.send(), PATIENCE); } else this.send();
+  }
+  async send() {
+    if (!this.waiting) return;
+    clearTimeout(this.clock);
+    const wanted = this.waiting, number = ++this.number;
+    this.waiting = null; this.since = performance.now();
+    let told;
+    try { told = await ask(this.pane, "picture", wanted.script, wanted.horizon, wanted.title); }
+    catch { told = { why: "the server does not answer: start bin/pse52-lab again, and give it this link" }; }
+    if (number !== this.number) return;
+    this.since = 0;
+    // What was typed meanwhile is asked for before this answer is drawn.
+    if (this.waiting) this.send();
+    this.show(told, wanted);
+  }
+}

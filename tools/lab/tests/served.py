@@ -1,0 +1,65 @@
+"""A pse52-lab that runs for a test, and what a client may send to it."""
+from __future__ import annotations
+
+import http.client
+import os
+import signal
+import subprocess
+import sys
+from pathlib import Path
+from urllib.parse import urlsplit
+
+TOP = Path(__file__).resolve().parents[3]
+
+
+class Served:
+    """A server of the page in a process of its own, with its address, token and port."""
+
+    def __init__(self, *words: str) -> None:
+        self._process = subprocess.Popen([sys.executable, str(TOP / "bin" / "pse52-lab"), *words], stdout=subprocess.PIPE, text=True)
+        self.link = self._process.stdout.readline().strip()
+        self.address = self.link.split("#")[0]
+        parts = urlsplit(self.address)
+        self.port, self.token = parts.port, parts.path.strip("/")
+
+    def end(self) -> int:
+        self._process.send_signal(signal.SIGINT)
+        self._process.stdout.close()
+        return self._process.wait(20)
+
+    @property
+    def children(self) -> list[int]:
+        """The workers, by their process ids."""
+        said = Path(f"/proc/{self._process.pid}/task")
+        return [int(word) for task in said.iterdir() for word in (task / "children").read_text().split()]
+
+    def ask(self, method: str, path: str, body: bytes | None = None, **headers: str) -> tuple[int, bytes, dict[str, str]]:
+        """The status, the text and the headers of an answer. A header None is not sent."""
+        there = http.client.HTTPConnection("127.0.0.1", self.port, timeout=60)
+        try:
+            there.putrequest(method, path, skip_host="Host" in headers, skip_accept_encoding=True)
+            if body is not None and "Content_Length" not in headers:
+                headers["Content_Length"] = str(len(body))
+            for name, value in headers.items():
+                there.putheader(name.replace("_", "-"), value)
+            there.endheaders()
+            try:
+                if body:
+                    there.send(body)
+            except (BrokenPipeError, ConnectionResetError):
+                pass  # the server has answered before it had all
+            answer = there.getresponse()
+            return answer.status, answer.read(), dict(answer.getheaders())
+        finally:
+            there.close()
+
+    def run(self, script: bytes, horizon: int = 20, pane: str = "a", form: str = "picture", **headers: str) -> tuple[int, bytes, dict[str, str]]:
+        return self.ask("POST", f"/{self.token}/run?horizon={horizon}&pane={pane}&form={form}", script, **headers)
+
+
+def alive(process: int) -> bool:
+    try:
+        os.kill(process, 0)
+    except ProcessLookupError:
+        return False
+    return True

@@ -1,0 +1,35 @@
+"""The course: each example is in it, in order, with two or three changes that do what they say."""
+from __future__ import annotations
+
+import unittest
+
+from explain.text import faults_of
+from lab.gallery import EXAMPLES, FIRST, gallery
+from simulate import Status, answer
+
+
+class Gallery(unittest.TestCase):
+    def test_the_order_of_the_course(self) -> None:
+        names = [example.name for example in gallery()]
+        self.assertEqual(sorted(names), sorted(path.stem for path in EXAMPLES.glob("*.task")))
+        self.assertEqual(tuple(names[:4]), FIRST)
+        self.assertEqual(names[4:], sorted(names[4:]))
+
+    def test_each_has_two_or_three_changes(self) -> None:
+        for example in gallery():
+            with self.subTest(example.name):
+                self.assertIn(len(example.changes), (2, 3))
+                self.assertRegex(example.look, r"^Look at .*\.$")
+
+    def test_each_change_is_of_one_place_and_changes_the_run(self) -> None:
+        for example in gallery():
+            _, before = answer(example.script.encode(), example.horizon, command="detail")
+            for change in example.changes:
+                with self.subTest(example.name, change=change.say):
+                    self.assertEqual(example.script.count(change.find), 1)
+                    script = change.made(example.script).encode()
+                    self.assertEqual(faults_of(script), [])
+                    status, after = answer(script, example.horizon, command="detail")
+                    self.assertIs(status, Status.DONE)
+                    if "no difference" not in change.say:
+                        self.assertNotEqual(after, before)

@@ -1,0 +1,123 @@
+"""The server: who may ask, for what, and how much."""
+from __future__ import annotations
+
+import json
+import threading
+import time
+import unittest
+from pathlib import Path
+
+from lab.runs import trace_of
+
+from .served import TOP, Served, alive
+
+SCRIPT = b"thread a fifo 5 at 0\nrun 3\nend\n"
+# Takes the reference a minute: it ticks, and each yield is a line.
+LONG = b"thread a fifo 5 at 0\nforever\nyield\nend\nend\n"
+
+
+class Server(unittest.TestCase):
+    def setUp(self) -> None:
+        self.lab = Served("--seconds", "2")
+        self.addCleanup(self.lab.end)
+
+    def test_the_page_and_a_run(self) -> None:
+        status, text, headers = self.lab.ask("GET", f"/{self.lab.token}/")
+        self.assertEqual((status, headers["Content-Type"]), (200, "text/html; charset=utf-8"))
+        self.assertIn(b"lab.js", text)
+        self.assertIn("default-src 'none'", headers["Content-Security-Policy"])
+        self.assertNotIn("unsafe-eval", headers["Content-Security-Policy"])
+        status, text, _ = self.lab.run(SCRIPT, form="trace")
+        self.assertEqual((status, json.loads(text)), (200, {"text": "0 start a\n0 dispatch a 5\n4 exit a\n4 idle\n20 end\nthread a ticks 4\n"}))
+
+    def test_nothing_is_loaded_from_elsewhere(self) -> None:
+        for name in ("", "lab.css", "lab.js", "picture.html", "picture.css", "mode.js", "editor.js", "runs.js"):
+            _, text, _ = self.lab.ask("GET", f"/{self.lab.token}/{name}")
+            self.assertNotRegex(text, rb"(src|href|from|import|fetch\()[ =(\"']+(https?:)?//")
+
+    def test_it_listens_on_this_machine_alone(self) -> None:
+        said = [line.split() for file in ("/proc/net/tcp", "/proc/net/tcp6") for line in Path(file).read_text().splitlines()[1:]]
+        listens = [words[1] for words in said if words[3] == "0A" and words[1].endswith(f":{self.lab.port:04X}")]
+        self.assertEqual(listens, [f"0100007F:{self.lab.port:04X}"])
+
+    def test_another_host(self) -> None:
+        for host in ("example.com", f"example.com:{self.lab.port}", "127.0.0.1", f"127.0.0.1.nip.io:{self.lab.port}", ""):
+            self.assertEqual(self.lab.ask("GET", f"/{self.lab.token}/", Host=host)[0], 421)
+            self.assertEqual(self.lab.run(SCRIPT, Host=host)[0], 421)
+        self.assertEqual(self.lab.ask("GET", f"/{self.lab.token}/", Host=f"localhost:{self.lab.port}")[0], 200)
+
+    def test_another_page(self) -> None:
+        for origin in ("https://example.com", "null", f"http://example.com:{self.lab.port}"):
+            self.assertEqual(self.lab.run(SCRIPT, Origin=origin)[0], 403)
+        self.assertEqual(self.lab.run(SCRIPT, Origin=f"http://127.0.0.1:{self.lab.port}")[0], 200)
+
+    def test_no_token(self) -> None:
+        for path in ("/", "/lab.js", "/run?horizon=3&pane=a", f"/{self.lab.token[:-1]}/", f"/{self.lab.token}x/", "//"):
+            self.assertEqual(self.lab.ask("GET", path)[0], 403)
+            self.assertEqual(self.lab.ask("POST", path, SCRIPT)[0], 403)
+
+    def test_a_path_outside(self) -> None:
+        for name in ("../server.py", "../../../etc/passwd", "%2e%2e/server.py", "..%2fserver.py", "view/../../main.py", "/etc/passwd", "view/html.py",
+                     "codemirror/../../jquery/jquery.js", "about.json/", "changes.toml"):
+            status, text, _ = self.lab.ask("GET", f"/{self.lab.token}/{name}")
+            self.assertEqual((status, text), (404, b"There is no such part.\n"), name)
+
+    def test_a_script_of_two_megabytes(self) -> None:
+        status, text, _ = self.lab.run(b"#" * 2_000_000)
+        self.assertEqual((status, text), (413, b"A script has at most 1048576 bytes.\n"))
+        self.assertEqual(self.lab.run(SCRIPT, Content_Length="9" * 30)[0], 413)
+        self.assertEqual(self.lab.run(SCRIPT, Content_Length="-1")[0], 411)
+        self.assertEqual(self.lab.run(b"0\r\n\r\n", Content_Length="5", Transfer_Encoding="chunked")[0], 411)
+        self.assertEqual(self.lab.run(b"#" * 1_048_540 + b"\n" + SCRIPT)[0], 200)
+
+    def test_a_horizon_that_is_none(self) -> None:
+        for horizon in ("-1", "", "1e3", "9" * 30, "1000000000000000001"):
+            self.assertEqual(self.lab.ask("POST", f"/{self.lab.token}/run?horizon={horizon}&pane=a", SCRIPT)[0], 400)
+        self.assertEqual(self.lab.run(SCRIPT, pane="c")[0], 400)
+        self.assertEqual(self.lab.run(SCRIPT, form="show")[0], 400)
+
+    def test_a_run_that_takes_too_long(self) -> None:
+        self.lab.run(SCRIPT)
+        began = time.monotonic()
+        status, text, _ = self.lab.run(LONG, 9_000_000)
+        self.assertEqual((status, json.loads(text)), (200, {"why": "the run took longer than 2 s and was ended; take a smaller horizon"}))
+        self.assertLess(time.monotonic() - began, 20)
+        status, text, _ = self.lab.run(SCRIPT, form="trace")
+        self.assertIn("4 exit a", json.loads(text)["text"])
+
+    def test_a_newer_run_ends_the_one_before(self) -> None:
+        self.lab.run(SCRIPT)
+        answers: list[bytes] = []
+        older = threading.Thread(target=lambda: answers.append(self.lab.run(LONG, 9_000_000)[1]))
+        older.start()
+        time.sleep(0.7)
+        self.assertIn("text", json.loads(self.lab.run(SCRIPT, form="trace")[1]))
+        older.join()
+        self.assertEqual(json.loads(answers[0]), {"why": "a newer run of the page took its place"})
+
+    def test_what_is_refused(self) -> None:
+        _, text, _ = self.lab.run(b"thread a fifo 5 at 0\n    rum 3\nend\n")
+        fault = json.loads(text)["faults"][0]
+        self.assertEqual((fault["line"], fault["column"], fault["word"], fault["kind"]), (2, 5, "rum", "UnknownWord"))
+        self.assertIn("run", fault["mend"])
+
+    def test_the_workers_end_with_the_server(self) -> None:
+        lab = Served()
+        lab.run(SCRIPT)
+        workers = lab.children
+        self.assertTrue(workers)
+        self.assertEqual(lab.end(), 0)
+        self.assertEqual([worker for worker in workers if alive(worker)], [])
+
+
+class Program(unittest.TestCase):
+    def test_the_trace_in_a_detail(self) -> None:
+        detail = b"0 start list\n0 dispatch list 5\n0 list 5 list\n0 thread list ready 5 5\n4 end\nthread list ticks 4\n"
+        self.assertEqual(trace_of(detail), b"0 start list\n0 dispatch list 5\n4 end\nthread list ticks 4\n")
+
+    def test_an_example_is_run_as_its_trace_says(self) -> None:
+        lab = Served()
+        self.addCleanup(lab.end)
+        for name, horizon in (("20_controller", 120), ("14_two_budgets", 24)):
+            _, text, _ = lab.run((TOP / "examples" / f"{name}.task").read_bytes(), horizon, form="trace")
+            self.assertEqual(json.loads(text)["text"], (TOP / "examples" / f"{name}.trace").read_text())
