@@ -47,6 +47,8 @@ class Pages(unittest.TestCase):
         for page in sorted((TOP / "docs").glob("*.1")):
             commands = re.findall(r"^\.Dl (bin/.*?)(?: && gtkwave .*)?$", page.read_text(), re.M)
             self.assertTrue(commands or page.stem in ("pse52-sweep", "pse52-live"), page.name)
+            if page.stem == "pse52-lab":  # which serves until it is ended; tools/lab/tests starts it
+                continue
             for command in commands:
                 command = command.replace(" 1000000", " 1000")  # the reference takes an hour for a million ticks
                 with tempfile.TemporaryDirectory() as folder:
