@@ -4,6 +4,7 @@ from __future__ import annotations
 import argparse
 import re
 import secrets
+import signal
 import sys
 import threading
 import webbrowser
@@ -78,6 +79,8 @@ def main(words: list[str]) -> Status:
         return Status.NO_PORT
     for pane in ("a", "b"):
         threading.Thread(target=desk.prepare, args=[pane], daemon=True).start()
+    for asked in (signal.SIGINT, signal.SIGTERM):  # SIGINT too: a shell without a terminal has it ignored in the background
+        signal.signal(asked, signal.default_int_handler)
     print(lab.address + fragment, flush=True)
     if said.open:
         webbrowser.open(lab.address + fragment)
