@@ -53,6 +53,7 @@ done
 
 while read -r name _; do
     worked=tests/worked/$name
+    [ ! -e "$worked.upgrade" ] || add_case "worked_$name" "$worked.task" "$worked.upgrade" upgrade
     [ -e "$worked.horizon" ] || continue
     horizon=$(cat "$worked.horizon")
     for text in "$worked.trace" "$worked.refused"; do

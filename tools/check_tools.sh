@@ -3,6 +3,8 @@
 # explanation of faults and scripts on real threads, the manual pages, and the pages that a reader types along, with the program that
 # was built here, or else the reference. Nothing is built but the runner of real threads, where those may run. What a missing tool would
 # have read is skipped, with a line that says so, and so are real threads where they may not run.
+#
+#   tools/check_tools.sh [FOLDER ..]     only the tests of these folders of tools/, and no manual page
 set -u
 cd "$(dirname "$0")/.." || exit 1
 
@@ -20,7 +22,9 @@ if [ -x crates/pse52/out/pse52 ]; then
     export PSE52_PROGRAM
 fi
 failed=0
-for folder in view measure sweep ftrace explain wrapper pages live lab; do
+folders=("$@")
+[ $# -gt 0 ] || folders=(view measure sweep ftrace explain wrapper pages live lab)
+for folder in "${folders[@]}"; do
     log=$(python3 -m unittest discover -s "tools/$folder/tests" -t tools 2>&1)
     if [ $? -eq 0 ]; then
         printf '%s\n' "$log" | grep -o -e 'skipped: .*' -e '^from a key to the picture.*' -e '^a frame of .*' | sort -u
@@ -31,7 +35,9 @@ for folder in view measure sweep ftrace explain wrapper pages live lab; do
     fi
 done
 
-if command -v mandoc >/dev/null 2>&1; then
+if [ $# -gt 0 ]; then
+    exit $failed
+elif command -v mandoc >/dev/null 2>&1; then
     mandoc -T lint -W warning docs/*.1 || failed=1
 else
     echo "skipped: the manual pages, since mandoc is not here"

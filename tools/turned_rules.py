@@ -22,7 +22,7 @@ REFERENCE = TOP / "tools" / "reference"
 WORKED = TOP / "tests" / "worked"
 SLOW = ("chain_of_sixty_three_owners", "sixty_four_threads_start_together", "lock_counted_to_its_limit")
 FARTHEST = 1_000_000
-COMMANDS = {"trace": "run", "refused": "run", "show": "show", "detail": "detail"}
+COMMANDS = {"trace": "run", "refused": "run", "show": "show", "detail": "detail", "upgrade": "upgrade"}
 """What the text of each suffix is printed by."""
 sys.path[:0] = [str(TOP / "tools")]
 

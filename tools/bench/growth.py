@@ -26,7 +26,7 @@ HORIZON = 300_000
 
 @dataclass(frozen=True)
 class Growth:
-    """One load at several sizes."""
+    """One load at several sizes. `version` is the line that allows more than 64 threads."""
 
     name: str
     size_is: str
@@ -36,10 +36,10 @@ class Growth:
 
 
 GROWTHS = (
-    Growth("threads", "threads that yield", (1, 2, 4, 8, 16, 32, 64), loads.yielding),
-    Growth("sleepers", "threads that sleep", (1, 2, 4, 8, 16, 32, 64), loads.sleepers),
-    Growth("waiters", "threads that wait for one semaphore", (1, 2, 4, 8, 16, 32, 63), loads.waiters),
-    Growth("broadcast", "threads that one broadcast wakes", (1, 2, 4, 8, 16, 32, 63), loads.broadcast),
+    Growth("threads", "threads that yield", (1, 2, 4, 8, 16, 32, 64, 128, 256), loads.yielding),
+    Growth("sleepers", "threads that sleep", (1, 2, 4, 8, 16, 32, 64, 128, 256), loads.sleepers),
+    Growth("waiters", "threads that wait for one semaphore", (1, 2, 4, 8, 16, 32, 63, 127, 255), loads.waiters),
+    Growth("broadcast", "threads that one broadcast wakes", (1, 2, 4, 8, 16, 32, 63, 127, 255), loads.broadcast),
     Growth("chain", "owners in a chain", (2, 4, 8, 16, 32, 63), loads.chain),
     Growth("records", "records of signals that are pending", (1, 2, 4, 8, 16, 32, 64), loads.pending),
     Growth("timers", "timers that are armed", (1, 2, 4, 8, 16, 32), loads.timers),
@@ -47,6 +47,11 @@ GROWTHS = (
     Growth("servers", "sporadic servers", (1, 2, 4, 8, 16, 24, 48), loads.servers),
     Growth("script", "lines of the script", (100, 1_000, 10_000, 58_000), loads.long_script, counts_script=True),
 )
+
+
+def with_version(script: str, size: int) -> str:
+    """A script that needs more than 64 threads is one of version 2."""
+    return f"version 2\n{script}" if size >= 64 and script.count("thread ") > 64 else script
 
 
 def lines_told(program: str, load: Load) -> int:
@@ -60,7 +65,7 @@ def lines_told(program: str, load: Load) -> int:
 
 def row(programs: list[str], growth: Growth, size: int, times: int) -> list[float | None]:
     """The nanoseconds of each program for each line; `None` where it refuses the load."""
-    script = growth.script(size)
+    script = with_version(growth.script(size), size)
     load = Load(growth.name, ("run", "1" if growth.counts_script else str(HORIZON)), script)
     count = script.count("\n") if growth.counts_script else lines_told(programs[0], load)
     return [None if took is None or count == 0 else took * 1e6 / count for took in least(programs, load, times)]

@@ -3,11 +3,11 @@ from __future__ import annotations
 
 import re
 
-from forms import DECLARED, GREATEST_NUMBER, OPERAND, RANGES, RESULTS, SIGNAL, SIGNAL_SET, Form, Stage, is_place
+from forms import DECLARED, GREATEST_NUMBER, OPERAND, RANGES, RESULTS, SERVER_WORDS, SIGNAL, SIGNAL_SET, is_place
 from reader import Entry, FaultKind, is_number, operand_fault, read_line
 
 from .found import Found, Word, listed, words_in
-from .patterns import LETTERS, MEANT, SERVER, best_form, forms_of, meant_by, nearest, pattern_of
+from .patterns import LETTERS, MEANT, SERVER, Forms, best_form, meant_by, nearest, pattern_of
 
 _BYTES = {0: "a byte 0", 11: "a vertical tab", 12: "a form feed", 13: "a Windows line end", 27: "an escape", 127: "a delete"}
 
@@ -28,36 +28,48 @@ def bad_byte(number: int, line: bytes) -> Found:
     return Found(1, number, FaultKind.BadByte, word, f"byte {at + 1} is {_BYTES.get(byte, f'a control byte, {byte}')}", "remove it")
 
 
-def line_fault(number: int, line: bytes) -> tuple[Entry | None, Found | None]:
+def bad_version(number: int, words: list[Word]) -> Found:
+    """A first line that asks for a version that is not there."""
+    wrong = words[1] if len(words) == 2 else words[0]
+    return Found(1, number, FaultKind.BadVersion, wrong, f"there is no version '{' '.join(word.text for word in words[1:])}'",
+                 "write `version 2`, or leave the line out for version 1")
+
+
+def line_fault(number: int, line: bytes, forms: Forms) -> tuple[Entry | None, Found | None]:
     """The entry of a line with words, as far as it can be told, and its fault by itself."""
     words = words_in(line)
     texts = [word.text for word in words]
-    entry, kind = read_line(number, texts, Stage.WHOLE)
+    entry, kind = read_line(number, texts, forms)
     if kind is None:
         return entry, None
     if kind is FaultKind.UnknownWord:
-        return _guess(number, texts), _unknown_word(number, words)
+        return _guess(number, texts, forms), _unknown_word(number, words, forms)
     if kind is FaultKind.WordCount:
-        return _guess(number, texts), _word_count(number, words)
+        return _guess(number, texts, forms), _word_count(number, words, forms)
     places = [(place, word) for want, word in zip(entry.form.words, words) if is_place(place := want)]
     place, word = next((place, word) for place, word in places if operand_fault(place, word.text) is kind)
     wrong, mend = _number(place, word.text) if kind is FaultKind.BadNumber else _name(place, word.text)
     return entry, Found(1, number, kind, word, wrong, f"{mend} (the pattern is `{pattern_of(entry.form)}`)")
 
 
-def _guess(number: int, texts: list[str]) -> Entry | None:
+def _guess(number: int, texts: list[str], forms: Forms) -> Entry | None:
     """A line that has no pattern, as the one that it was to be, so that what it opens, closes and declares counts."""
-    head = texts[0] if forms_of(texts[0]) else meant_by(texts[0])
-    form = best_form([head, *texts[1:]]) if head else None
+    head = texts[0] if texts[0] in forms else meant_by(texts[0])
+    form = best_form([head, *texts[1:]], forms) if head else None
     if form is None:
         return None
     operands = tuple(have for want, have in zip(form.words, texts) if is_place(want))
     return Entry(number, form, operands + ("",) * (len(form.places) - len(operands)))
 
 
-def _unknown_word(number: int, words: list[Word]) -> Found:
+def _unknown_word(number: int, words: list[Word], forms: Forms) -> Found:
     first, texts = words[0], [word.text for word in words]
-    if not forms_of(first.text):
+    if first.text == "version":
+        return Found(1, number, FaultKind.UnknownWord, first, "`version` stands on the first line with words alone", "move it there")
+    if "strict" in texts and not any("strict" in form.words for form in forms["thread"]):
+        return Found(1, number, FaultKind.UnknownWord, words[texts.index("strict")], "`strict` is a policy of version 2",
+                     "write `version 2` as the first line, or `sporadic`")
+    if first.text not in forms:
         if first.text.startswith("//") or first.text.startswith(";") or first.text.startswith("--"):
             return Found(1, number, FaultKind.UnknownWord, first, f"'{first.text}' begins no line", "a comment begins with `#`")
         if first.text.lower() in ("else", "elif", "elseif"):
@@ -66,12 +78,11 @@ def _unknown_word(number: int, words: list[Word]) -> Found:
         meant = meant_by(first.text)
         known = f"`{meant}` is what does it here" if first.text.lower() in MEANT else f"did you mean `{meant}`?"
         return Found(1, number, FaultKind.UnknownWord, first, f"'{first.text}' begins no line of a script",
-                     f"{known} {_patterns(meant)}" if meant else "docs/SCRIPT.md, Patterns, has every line that there is")
+                     f"{known} {_patterns(meant, forms)}" if meant else "docs/SCRIPT.md, Patterns, has every line that there is")
     if (server := _server(texts)) is not None:
-        word = next(word for word in words if word.text == "sporadic")
-        return Found(1, number, FaultKind.UnknownWord, word, *server)
-    form = best_form(texts)
-    at, expected = _first_difference(texts)
+        return Found(1, number, FaultKind.UnknownWord, _policy(words), *server)
+    form = best_form(texts, forms)
+    at, expected = _first_difference(texts, forms)
     near = nearest(texts[at], expected)
     behind = " ".join(texts[:at])
     if texts[0] in ("if", "unless"):
@@ -80,32 +91,38 @@ def _unknown_word(number: int, words: list[Word]) -> Found:
                  f"did you mean `{near}`?" if near else f"there stands {listed(expected)}; the nearest pattern is `{pattern_of(form)}`")
 
 
-def _first_difference(texts: list[str]) -> tuple[int, list[str]]:
+def _first_difference(texts: list[str], forms: Forms) -> tuple[int, list[str]]:
     """The first word with which no pattern agrees any more, and the keywords that may stand there."""
-    forms = forms_of(texts[0])
+    left = list(forms[texts[0]])
     for at in range(1, len(texts)):
-        agreeing = [form for form in forms if form.agrees(texts[:at + 1])]
+        agreeing = [form for form in left if form.agrees(texts[:at + 1])]
         if not agreeing:
-            return at, list(dict.fromkeys(form.words[at] for form in forms if len(form.words) > at and not is_place(form.words[at])))
-        forms = agreeing
+            return at, list(dict.fromkeys(form.words[at] for form in left if len(form.words) > at and not is_place(form.words[at])))
+        left = agreeing
     raise AssertionError(texts)
 
 
-def _patterns(head: str) -> str:
-    forms = [pattern_of(form) for form in forms_of(head)]
-    return f"({listed(forms)})" if len(forms) <= 3 else f"({listed(forms[:2], 'and')}, and {len(forms) - 2} more)"
+def _patterns(head: str, forms: Forms) -> str:
+    found = [pattern_of(form) for form in forms[head]]
+    return f"({listed(found)})" if len(found) <= 3 else f"({listed(found[:2], 'and')}, and {len(found) - 2} more)"
+
+
+def _policy(words: list[Word]) -> Word:
+    """The word of a line that says its policy has a server."""
+    return next(word for word in words if word.text in SERVER_WORDS)
 
 
 def _server(texts: list[str]) -> tuple[str, str] | None:
     """Of the parameters of a sporadic server with a number too few or too many: what is wrong, and which number is missing."""
-    if "sporadic" not in texts:
+    policy = next((text for text in texts if text in SERVER_WORDS), None)
+    if policy is None:
         return None
-    behind = texts[texts.index("sporadic") + 1:]
+    behind = texts[texts.index(policy) + 1:]
     numbers = [int(text) for text in behind[:next((i for i, text in enumerate(behind) if not is_number(text)), len(behind))]]
     five = "high priority, low priority, period, budget, and how many replenishments may be pending"
     if len(numbers) == 5 or len(numbers) == 0:
         return None
-    wrong = f"behind `sporadic` come five numbers, and there are {len(numbers)}"
+    wrong = f"behind `{policy}` come five numbers, and there are {len(numbers)}"
     if len(numbers) != 4:
         return wrong, f"they are: {five}"
     missing = [at for at in (4, 1, 3, 2, 0) if _fits(numbers, at)]
@@ -122,14 +139,14 @@ def _fits(numbers: list[int], missing: int) -> bool:
             and (high is None or low is None or low < high) and (budget is None or period is None or 1 <= budget <= period))
 
 
-def _word_count(number: int, words: list[Word]) -> Found:
+def _word_count(number: int, words: list[Word], forms: Forms) -> Found:
     texts = [word.text for word in words]
     comment = next((word for word in words if word.text.startswith(("//", ";", "--"))), None)
     if comment is not None:
         return Found(1, number, FaultKind.WordCount, comment, f"'{comment.text}' is a word too many", "a comment begins with `#`")
     if (server := _server(texts)) is not None:
-        return Found(1, number, FaultKind.WordCount, next(word for word in words if word.text == "sporadic"), *server)
-    agreeing = [form for form in forms_of(texts[0]) if form.agrees(texts)]
+        return Found(1, number, FaultKind.WordCount, _policy(words), *server)
+    agreeing = [form for form in forms[texts[0]] if form.agrees(texts)]
     form = min(agreeing, key=lambda form: abs(len(form.words) - len(texts)))
     wants = f"write `{pattern_of(form)}`" if len(agreeing) == 1 else f"write {listed([pattern_of(form) for form in agreeing])}"
     longest = max(len(form.words) for form in agreeing)

@@ -1,7 +1,7 @@
 """The faults of names, of ranges and of limits."""
 from __future__ import annotations
 
-from forms import USES, ObjectKind
+from forms import SERVER_WORDS, USES, ObjectKind
 from reader import GREATEST_LIMIT, Entry, Fault, FaultKind
 
 from .found import Aside, Found, Word
@@ -82,7 +82,7 @@ def _wrong_kind(entry: Entry, entries: list[Entry], words: list[Word]) -> Found:
 
 def _server(entry: Entry, words: list[Word]) -> Found:
     """Which parameters of a sporadic server do not fit one another."""
-    at = entry.form.words.index("sporadic") + 1
+    at = next(at for at, word in enumerate(entry.form.words) if word in SERVER_WORDS) + 1
     high, low, period, budget, limit = words[at:at + 5]
     values = [int(word.text) for word in (high, low, period, budget, limit)]
     if values[1] >= values[0]:

@@ -5,6 +5,8 @@ from difflib import get_close_matches
 
 from forms import DECLARED, FORMS, OPERAND, RANGES, SIGNAL, SIGNAL_SET, Form, is_place
 
+Forms = dict[str, tuple[Form, ...]]  # of a version, by their first word
+
 LETTERS = {DECLARED: "NAME", SIGNAL: "SIG", SIGNAL_SET: "SET", OPERAND: "V", "<priority>": "P", "<thread>": "T", "<mutex>": "M",
            "<cond>": "C", "<sem>": "S", "<queue>": "Q", "<timer>": "K", "<handler>": "H", "<cleanup>": "U"}
 SERVER = ("the high priority", "the low priority", "the period", "the budget", "the greatest number of pending replenishments")
@@ -33,10 +35,6 @@ def pattern_of(form: Form) -> str:
     return " ".join(LETTERS.get(word, "N") if is_place(word) else word for word in form.words)
 
 
-def forms_of(head: str) -> list[Form]:
-    return [form for form in FORMS if form.head == head]
-
-
 def nearest(word: str, words: list[str]) -> str | None:
     """The word that was meant, if one is near."""
     if word.lower() in words:
@@ -50,9 +48,9 @@ def meant_by(word: str) -> str | None:
     return MEANT.get(word.lower()) or nearest(word, FIRST_WORDS)
 
 
-def best_form(words: list[str]) -> Form | None:
+def best_form(words: list[str], forms: Forms) -> Form | None:
     """The form that a line comes nearest to: the most of its keywords stand in the line in their order, and then in the nearest number of words."""
-    found = forms_of(words[0])
+    found = forms.get(words[0], ())
     return max(found, key=lambda form: (_agreement(form, words), -abs(len(form.words) - len(words))), default=None)
 
 

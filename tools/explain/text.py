@@ -1,12 +1,13 @@
 """All faults of a text."""
 from __future__ import annotations
 
-from forms import Role
-from reader import Entry, Fault, FaultKind, limit_faults, lines_above_limits, lines_of, name_faults
+from forms import Role, Stage, built_forms
+from reader import (
+    LIMITS_OF_VERSION, Entry, Fault, FaultKind, heading_of, limit_faults, lines_above_limits, lines_of, name_faults)
 
 from .blocks import Blocks
 from .found import Found, indent_of, words_in
-from .lines import bad_byte, line_fault
+from .lines import bad_byte, bad_version, line_fault
 from .names import explained
 
 GREATEST_TEXT = 1_048_576
@@ -15,8 +16,9 @@ GREATEST_TEXT = 1_048_576
 def faults_of(text: bytes) -> list[Found]:
     """All faults of a text, by line. The least by `rank` is the one that the program answers."""
     lines = lines_of(text)
-    found, entries, guessed = _by_lines(lines)
-    for fault in {*name_faults(entries), *_limits(entries, guessed, len(lines))}:
+    version = heading_of(lines).version or 2  # a version that is not there was to be the newest
+    found, entries, guessed = _by_lines(lines, version)
+    for fault in {*name_faults(entries), *_limits(entries, guessed, len(lines), LIMITS_OF_VERSION[version])}:
         words = words_in(lines[fault.line - 1]) if fault.line <= len(lines) else []
         told = explained(fault, entries, guessed, words)
         if told is not None:
@@ -24,13 +26,13 @@ def faults_of(text: bytes) -> list[Found]:
     return sorted(found, key=lambda one: (one.line, one.rank))
 
 
-def _limits(entries: list[Entry], guessed: list[Entry], count: int) -> list[Fault]:
+def _limits(entries: list[Entry], guessed: list[Entry], count: int, limits: dict[str, int]) -> list[Fault]:
     """The faults of ranges and limits, where blocks need not be paired. A faulty line counts as the one that it was to be."""
-    by_itself = [fault for entry in entries if entry.form.role is not Role.CLOSE for fault in limit_faults([entry], count)]
+    by_itself = [fault for entry in entries if entry.form.role is not Role.CLOSE for fault in limit_faults([entry], count, limits)]
     found = [fault for fault in by_itself if fault.kind in (FaultKind.NumberRange, FaultKind.ServerRange)]
     together = sorted([*entries, *guessed], key=lambda entry: entry.line)
     faulty = {entry.line for entry in guessed}
-    found += [Fault(3, line, FaultKind.TooMany) for line in lines_above_limits(_paired(together)) if line not in faulty]
+    found += [Fault(3, line, FaultKind.TooMany) for line in lines_above_limits(_paired(together), limits) if line not in faulty]
     if not any(entry.form.head == "thread" for entry in together):
         found.append(Fault(3, count + 1, FaultKind.NoThread))
     return found
@@ -49,22 +51,26 @@ def _paired(entries: list[Entry]) -> list[Entry]:
     return kept
 
 
-def _by_lines(lines: list[bytes]) -> tuple[list[Found], list[Entry], list[Entry]]:
+def _by_lines(lines: list[bytes], version: int) -> tuple[list[Found], list[Entry], list[Entry]]:
     """The faults of the first phase, the lines without one, and those that have one as far as they can be told."""
     found: list[Found] = []
     entries: list[Entry] = []
     guessed: list[Entry] = []
     blocks = Blocks()
+    heading, forms = heading_of(lines), built_forms(Stage.WHOLE, version)
     for number, line in enumerate(lines, 1):
         fault = None
+        if number == heading.line and heading.version == 0:
+            found.append(bad_version(number, words_in(line)))
+            continue
         if any(byte != 9 and not 32 <= byte <= 126 for byte in line):
             fault = bad_byte(number, line)
             line = bytes(byte if byte == 9 or 32 <= byte <= 126 else 32 for byte in line)
         words = words_in(line)
-        if not words:
+        if not words or number == heading.line:
             found += [fault] if fault else []
             continue
-        entry, own = line_fault(number, line)
+        entry, own = line_fault(number, line, forms)
         fault = fault or own
         if entry is not None:
             indent = indent_of(line)

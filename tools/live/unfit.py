@@ -5,7 +5,7 @@ from collections.abc import Iterator
 from dataclasses import dataclass
 
 from forms import RESULTS, SIGNAL, SIGNAL_SET, Form, Stage, is_place
-from reader import Entry, read_lines
+from reader import Entry, heading_of, read_lines
 from words import lines_of, number_of, signals_of
 
 from .flatten import CALLS, SIGNALS
@@ -33,8 +33,11 @@ class Unfit:
 
 def unfit_lines(text: bytes) -> list[Unfit]:
     """Each line of an accepted script that asks for what the kernel has not got."""
-    entries, _ = read_lines(lines_of(text), Stage.WHOLE)
-    return [Unfit(entry.line, why) for entry in entries for why in reasons(entry)]
+    lines = lines_of(text)
+    heading = heading_of(lines)
+    entries, _ = read_lines(lines, Stage.WHOLE, heading)
+    newer = [] if heading.version == 1 else [Unfit(heading.line, "version 2: the rig has room for the limits of version 1")]
+    return newer + [Unfit(entry.line, why) for entry in entries for why in reasons(entry)]
 
 
 def reasons(entry: Entry) -> Iterator[str]:

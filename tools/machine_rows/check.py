@@ -6,8 +6,8 @@
 Each script and its trace become a lemma of a scratch crate, "the text of the
 run is this trace", which the proof checker decides by computing the definition.
 The traces of `rows` are worked by hand; those of `generated` come from the
-reference simulator. The scratch copy of the repository is made below the folder that
-SCRATCH names, or below the system's folder for temporary files.
+reference simulator, whose stage `version2` has strict servers. The scratch copy of the repository is made below the folder
+that SCRATCH names, or below the system's folder for temporary files.
 """
 from __future__ import annotations
 

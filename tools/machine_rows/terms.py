@@ -4,7 +4,7 @@ from __future__ import annotations
 from forms import OPERAND, ObjectKind
 from script import (
     Action, AddRegister, Call, CleanupKind, CondKind, Fifo, Guard, HandlerKind, Loop, MutexKind, Named, QueueKind, Rr,
-    Run, Script, SemKind, SetRegister, Sporadic, TakeValue, Test, ThreadKind, TimerKind)
+    Run, Script, SemKind, SetRegister, Sporadic, Strict, TakeValue, Test, ThreadKind, TimerKind)
 
 SPECS = "Rattle.machine_rules.specs"
 VARIANTS = {
@@ -59,7 +59,8 @@ def policy(value) -> str:
             return f"(policy.Rr {priority})"
         case Sporadic(high, low, period, budget, limit):
             fields = f"high = {high}; low = {low}; period = {period}; budget = {budget}; max = {limit}"
-            return f"(policy.Sporadic (record {{ {fields} }}))"
+            name = "Strict" if isinstance(value, Strict) else "Sporadic"
+            return f"(policy.{name} (record {{ {fields} }}))"
     raise AssertionError(value)
 
 
@@ -77,7 +78,7 @@ def operand(place: str, value) -> str:
 
 def scheduling(words: tuple[str, ...], operands: list) -> str:
     """The policy that a call's line names from a keyword on."""
-    kinds = {"fifo": Fifo, "rr": Rr, "sporadic": Sporadic}
+    kinds = {"fifo": Fifo, "rr": Rr, "sporadic": Sporadic, "strict": Strict}
     return policy(kinds[next(word for word in words if word in kinds)](*operands))
 
 
@@ -150,7 +151,7 @@ def declaration(value: Named | Action) -> str:
 def script(value: Script, indent: str = "  ") -> str:
     """The record of a script, a line for each declaration."""
     decls = f"\n{indent}{indent}∷ ".join([*map(declaration, value.declarations), "[]"])
-    return f"record {{\n{indent}quantum = {value.quantum};\n{indent}decls =\n{indent}{indent}{decls};\n}}"
+    return f"record {{\n{indent}version = {value.version};\n{indent}quantum = {value.quantum};\n{indent}decls =\n{indent}{indent}{decls};\n}}"
 
 
 def lemma(name: str, value: Script, horizon: int, trace: str) -> str:

@@ -3,8 +3,8 @@
     python3 tools/reference/compare.py PROGRAM [--stage STAGE] [--first N] [--count N] [--command WORD]
                                        [--refused | --load] [--jobs N] [--keep FOLDER]
 
-PROGRAM is a command line that takes `run N`, or the WORD `show` or `detail` in
-its place, and a script on standard input; `show` is asked for one instant up
+PROGRAM is a command line that takes `run N`, or the WORD `show`, `detail` or `upgrade`
+in its place, and a script on standard input; `show` is asked for one instant up
 to the horizon.
 Prints each difference and a last line 'N compared, M differ'. Exit status 1
 where something differs. With --keep the scripts that differ are kept. With
@@ -50,7 +50,8 @@ class Task:
     def difference(self, seed: int) -> str | None:
         """One line on how the program differs from the reference, or None."""
         text, horizon = self.script(seed)
-        found = answer_differs(self.program, [self.command, str(horizon)], text, self.answer(text, horizon))
+        words = [self.command] if self.command == "upgrade" else [self.command, str(horizon)]
+        found = answer_differs(self.program, words, text, self.answer(text, horizon))
         return None if found is None else f"seed {seed} horizon {horizon} {found}"
 
 

@@ -22,7 +22,7 @@ import generate
 from audits import BREACH, DONE, audit
 from forms import ObjectKind, Stage
 from reader import read
-from script import Script, Sporadic
+from script import Script, Sporadic, Strict
 from simulate import answer
 
 SECONDS = 120
@@ -48,7 +48,7 @@ def script_of(rng: random.Random, seed: int, stage: Stage, rescheduled: bool) ->
 
 def servers_of(script: Script) -> dict[str, Sporadic]:
     return {named.name: named.kind.policy for named in script.objects(ObjectKind.THREAD)
-            if isinstance(named.kind.policy, Sporadic)}
+            if isinstance(named.kind.policy, Sporadic) and not isinstance(named.kind.policy, Strict)}
 
 
 def head_of(servers: dict[str, Sporadic]) -> bytes:

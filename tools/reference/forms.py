@@ -14,7 +14,10 @@ GREATEST_NUMBER = 10**18
 
 
 class Stage(IntEnum):
-    """How much of the language is known. Each stage holds the forms of those before it."""
+    """How much of the language is known. Each stage holds the forms of those before it.
+
+    The whole language has two versions; scripts that are generated for the last stage are of version 2.
+    """
 
     FIRST = 1
     LANGUAGE = 2
@@ -28,6 +31,7 @@ class Stage(IntEnum):
     TIMERS = 10
     QUEUES = 11
     WHOLE = 12
+    VERSION2 = 13
 
     @staticmethod
     def named(name: str) -> "Stage":
@@ -99,6 +103,11 @@ class Form:
         return tuple(word for word in self.words if is_place(word))
 
     @property
+    def version(self) -> int:
+        """The version of the language that has the form first."""
+        return 2 if "strict" in self.words else 1
+
+    @property
     def declares(self) -> ObjectKind | None:
         """The kind of the name that a line of this form declares."""
         return ObjectKind(self.head) if DECLARED in self.words else None
@@ -112,7 +121,9 @@ def is_place(word: str) -> bool:
     return word.startswith("<")
 
 
-FIFO, RR, SERVER = "fifo <priority>", "rr <priority>", "sporadic <priority> <priority> <number> <number> <number>"
+FIFO, RR = "fifo <priority>", "rr <priority>"
+SERVER, STRICT = [f"{word} <priority> <priority> <number> <number> <number>" for word in ("sporadic", "strict")]
+SERVER_WORDS = ("sporadic", "strict")
 
 
 def threads(policy: str) -> list[str]:
@@ -165,6 +176,8 @@ _TABLE: list[tuple[Stage, Role, list[str]]] = [
     (Stage.QUEUES, Role.STEP, [
         "mq_send <queue> <length> <urgency> <operand>", "mq_timedsend <queue> <length> <urgency> <operand> <operand>",
         "mq_receive <queue>", "mq_timedreceive <queue> <operand>", "mq_notify <queue> <sig> <operand>"]),
+    (Stage.WHOLE, Role.BODY, threads(STRICT)),
+    (Stage.WHOLE, Role.STEP, [f"setsched <thread> {STRICT}"]),
 ]
 
 FORMS: list[Form] = [
@@ -178,10 +191,10 @@ BARRED_FROM_HANDLERS = frozenset(("sigmask",))
 
 
 @lru_cache(maxsize=None)
-def built_forms(stage: Stage) -> dict[str, tuple[Form, ...]]:
-    """The forms that are known at a stage, by their first word."""
+def built_forms(stage: Stage, version: int = 1) -> dict[str, tuple[Form, ...]]:
+    """The forms of a version that are known at a stage, by their first word."""
     found: dict[str, tuple[Form, ...]] = {}
     for form in FORMS:
-        if form.stage <= stage:
+        if form.stage <= stage and form.version <= version:
             found[form.head] = found.get(form.head, ()) + (form,)
     return found

@@ -3,13 +3,15 @@
     python3 tools/reference/frequencies.py [--stage STAGE] [--first N] [--count N] [--least N] [--refused]
 
 A row is an answer of a call (`mq_send EAGAIN`), one with a value that is not 0 (`timer_gettime 0 >0`), a delivery by
-its code (`deliver TIMER`), or another line. Its two numbers are the scripts that have it and the lines that do. With
+its code (`deliver TIMER`), a line about a thread that is declared with a strict server (`strict plan`), `strict joined`
+for two plans of it that one refill gives back, or another line. Its two numbers are the scripts that have it and the lines that do. With
 --refused the rows are the kinds of faults. A row that is to come up and that fewer than --least scripts have is
 marked, and makes the exit status 1.
 """
 from __future__ import annotations
 
 import argparse
+import re
 import sys
 from collections import Counter
 
@@ -35,16 +37,19 @@ EXPECTED: dict[str, tuple[str, ...]] = {
 LINES: dict[Stage, tuple[str, ...]] = {
     Stage.FIRST: ("dispatch", "idle", "start", "exit", "end"), Stage.SERVERS: ("activate", "exhaust", "plan", "refill"),
     Stage.LIVES: ("cancel",), Stage.SIGNALS: ("deliver USER", "deliver QUEUE", "killed"), Stage.TIMERS: ("deliver TIMER",),
-    Stage.QUEUES: ("deliver MESGQ",)}
+    Stage.QUEUES: ("deliver MESGQ",),
+    Stage.VERSION2: ("strict activate", "strict exhaust", "strict plan", "strict refill", "strict joined")}
 """The lines that scripts come to from a stage on."""
 WITH_VALUE = frozenset(("timer_gettime", "timer_getoverrun", "nanosleep"))
 """Calls whose answers are told apart by whether their value is 0."""
 
 
-def rows_of(line: str) -> list[str]:
+def rows_of(line: str, strict: set[str]) -> list[str]:
     """The rows that a line of a trace is one of."""
     words = line.split()
     match words[1]:
+        case "activate" | "exhaust" | "plan" | "refill" as word:
+            return [f"strict {word}" if words[2] in strict else word]
         case "return":
             call, result, value = words[3:6]
             return [f"{call} {result}"] + [f"{call} {result} >0"] * (call in WITH_VALUE and value != "0")
@@ -54,8 +59,26 @@ def rows_of(line: str) -> list[str]:
             return [word] if words[0] != "thread" else []
 
 
-def rows_of_run(text: bytes) -> Counter[str]:
-    return Counter(row for line in text.decode().splitlines() for row in rows_of(line))
+def rows_of_run(script: bytes, trace: bytes) -> Counter[str]:
+    strict = set(re.findall(r"^\W*thread\s+(\w+)\s+strict", script.decode("latin-1"), re.M))
+    lines = trace.decode().splitlines()
+    found = Counter(row for line in lines for row in rows_of(line, strict))
+    return found + Counter({"strict joined": sum(joined(lines, name) for name in strict)})
+
+
+def joined(lines: list[str], name: str) -> int:
+    """The refills of a strict server that give back more than the oldest plan that they answer."""
+    plans: list[int] = []
+    found = 0
+    for words in (line.split() for line in lines):
+        if words[1:3] == ["plan", name]:
+            plans.append(int(words[3]))
+        elif words[1:3] == ["refill", name] and plans:
+            amount = int(words[3])
+            found += amount > plans[0]
+            while plans and amount > 0:
+                amount -= plans.pop(0)
+    return found
 
 
 def expected(stage: Stage) -> list[str]:
@@ -84,10 +107,12 @@ def main() -> int:
             words = answer(generate.refused(seed, stage), 1, stage)[1].decode().split()
             found = Counter([words[3] if words[0] == "refused" else "none"])
         else:
-            found = rows_of_run(answer(*generate.accepted(seed, stage), stage)[1])
+            script, horizon = generate.accepted(seed, stage)
+            found = rows_of_run(script, answer(script, horizon, stage)[1])
         lines += found
         scripts.update(found.keys())
-    wanted = [kind.name for kind in FaultKind] if arguments.refused else expected(stage)
+    faults = [kind.name for kind in FaultKind if stage is Stage.VERSION2 or kind is not FaultKind.BadVersion]
+    wanted = faults if arguments.refused else expected(stage)
     seldom = 0
     for row in dict.fromkeys([*wanted, *sorted(lines)]):
         few = row in wanted and scripts[row] < arguments.least

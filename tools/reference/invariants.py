@@ -65,21 +65,55 @@ def check_server(kernel: "Kernel", thread: Thread) -> None:
     assert server.activation <= kernel.time and server.high == thread.policy.high, (kernel.now, thread.name)
     if server.consumed > 0:
         assert thread.is_ready and server.is_high and server.activation < kernel.time, (kernel.now, thread.name)
+    if server.is_strict:
+        assert server.consumed in (0, kernel.time - server.activation), (kernel.now, thread.name)
+        assert keeps_window(server, kernel.time), (kernel.now, thread.name)
+
+
+def keeps_window(server: Server, now: int) -> bool:
+    """The window of one period that ends now has at most a budget of high ticks."""
+    since = now - server.parameters.period
+    return sum(1 for tick in server.history.high_ticks if tick >= since) <= server.parameters.budget
 
 
 def keeps_budget(server: Server) -> bool:
     """The budget law over all that happened to the server since it was new.
 
-    What is refilled or pending is what was planned, in order; a refill comes at
-    the later of the plan's due tick and the plan's time; a plan has the high
-    ticks since the last activation, and is due one period after it.
+    A plan has the high ticks since the last activation, and is due one period
+    after it. What is refilled or pending is what was planned, in order.
     """
+    history = server.history
+    in_order = has_groups(server) if server.is_strict else has_each_plan(server)
+    counted = len(history.high_ticks) == server.high_total
+    return in_order and counted and all(is_due_to_activation(server, made, plan) for made, plan in history.plans)
+
+
+def has_each_plan(server: Server) -> bool:
+    """Each plan has its refill, at the later of the plan's due tick and its time, or is pending."""
     history = server.history
     planned = [plan for _, plan in history.plans]
     refilled = [refill for _, refill in history.refills]
-    in_order = refilled + server.pending == planned and len(history.high_ticks) == server.high_total
     in_time = all(at == max(plan.due, made) for (at, _), (made, plan) in zip(history.refills, history.plans))
-    return in_order and in_time and all(is_due_to_activation(server, made, plan) for made, plan in history.plans)
+    return refilled + server.pending == planned and in_time
+
+
+def has_groups(server: Server) -> bool:
+    """The plans fall into groups of neighbours, one for each refill and then one for each pending replenishment.
+
+    Each has the sum of its group's amounts, and the due tick of its last plan, at which it is refilled.
+    """
+    history = server.history
+    plans = [plan for _, plan in history.plans]
+    if any(at != refill.due for at, refill in history.refills):
+        return False
+    for record in [*(refill for _, refill in history.refills), *server.pending]:
+        amount = 0
+        while plans and amount < record.amount:
+            last = plans.pop(0)
+            amount += last.amount
+        if amount != record.amount or last.due != record.due:
+            return False
+    return not plans
 
 
 def is_due_to_activation(server: Server, made: int, plan: Replenishment) -> bool:

@@ -53,7 +53,7 @@ class Kernel:
     # Priorities
 
     def assigned(self, thread: Thread) -> int:
-        """The priority of the thread itself: for a sporadic one high or low, by its server."""
+        """The priority of the thread itself: for one with a server high or low, by that."""
         if not isinstance(thread.policy, Sporadic):
             return thread.policy.priority
         if thread.is_live and thread.server.is_high:
@@ -166,13 +166,13 @@ class Kernel:
         call = thread.wait.call
         self.make_ready(thread)
         self.returns(thread, call, res, value)
-        self.activate_woken(thread)
+        self.activate_ready(thread)
 
     def wake_cancelled(self, thread: Thread) -> None:
         """A blocked thread becomes runnable and begins to end."""
         self.make_ready(thread)
         self.begin_ending(thread)
-        self.activate_woken(thread)
+        self.activate_ready(thread)
 
     def make_ready(self, thread: Thread) -> None:
         thread.state = ThreadState.READY
@@ -180,8 +180,9 @@ class Kernel:
         thread.slice = 0
         self.move_later(thread)
 
-    def activate_woken(self, thread: Thread) -> None:
-        if thread.server is not None and thread.server.is_high:
+    def activate_ready(self, thread: Thread) -> None:
+        """A sporadic server whose thread is ready at high priority is activated; a strict one is when its thread runs."""
+        if thread.server is not None and thread.server.is_high and not thread.server.is_strict:
             self.activate(thread)
 
     def activate(self, thread: Thread) -> None:
@@ -229,7 +230,7 @@ class Kernel:
         return thread.frame.register if operand.number is None else operand.number
 
     def start(self, thread: Thread, mask: int) -> None:
-        """A dormant thread begins with its main frame and, where it is sporadic, a new server."""
+        """A dormant thread begins with its main frame and, where its policy has one, a new server."""
         thread.state = ThreadState.READY
         thread.start = None
         thread.slice = 0
@@ -239,7 +240,7 @@ class Kernel:
         self.emit("start", thread.name)
         if isinstance(thread.policy, Sporadic):
             thread.server = Server(thread.policy, self.time)
-            self.activate(thread)
+            self.activate_ready(thread)
 
     def cancel_acts(self, thread: Thread) -> bool:
         """Whether a request would act in this thread at a cancellation point."""
@@ -264,7 +265,7 @@ class Kernel:
             self.wake(joiner, Res.ZERO, thread.exit_value)
 
     def set_priority(self, thread: Thread, priority: int) -> None:
-        """A new priority for the thread; for a sporadic one it is the high one, and its server goes on."""
+        """A new priority for the thread; for one with a server it is the high one, and its server goes on."""
         match thread.policy:
             case Fifo():
                 thread.policy = Fifo(priority)

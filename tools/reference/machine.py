@@ -42,8 +42,11 @@ class Machine(Kernel):
             self.end_instant()
 
     def end_instant(self) -> None:
-        """What follows the due items of an instant: the dispatch, and one tick of the head."""
+        """What follows the due items of an instant: Close, the dispatch, Open, and one tick of the head."""
+        self.close_runs()
         head = self.dispatch()
+        if head is not None:
+            self.open_run(self.threads[head])
         self.time = self.now + 1
         if head is not None:
             self.run_head(self.threads[head])
@@ -91,7 +94,7 @@ class Machine(Kernel):
         done = server.refill(self.now)
         self.emit("refill", thread.name, done.amount, server.capacity)
         if server.is_high and not was_high and thread.is_ready:
-            self.activate(thread)
+            self.activate_ready(thread)
 
     def time_out(self, thread: Thread) -> None:
         """The timeout of a wait, or the end of a sleep."""
@@ -115,6 +118,19 @@ class Machine(Kernel):
             generate(self, Record(timer.kind.signal, SigCode.TIMER, timer.kind.value, timer=number))
 
     # Dispatch and one tick
+
+    def close_runs(self) -> None:
+        """Close: a strict server whose thread ran, and is not the head any more, plans what that run used."""
+        head = self.head()
+        for thread in self.threads:
+            if thread.server is not None and thread.server.is_strict and thread.server.consumed > 0 and thread.number != head:
+                self.plan(thread)
+
+    def open_run(self, thread: Thread) -> None:
+        """Open: a strict server at high priority whose thread begins to run is activated."""
+        server = thread.server
+        if server is not None and server.is_strict and server.is_high and server.consumed == 0:
+            self.activate(thread)
 
     def dispatch(self) -> int | None:
         """The head of the highest list, with a line where it is another than before."""

@@ -2,12 +2,13 @@
 from __future__ import annotations
 
 from random import Random
+from functools import partial
 from typing import Callable
 
 from forms import (
-    BARRED_FROM_HANDLERS_AND_CLEANUPS, DECLARED, FORMS, OPERAND, RANGES, SIGNAL, SIGNAL_SET, USES, Form, Role, Stage,
-    built_forms)
-from reader import read
+    BARRED_FROM_HANDLERS_AND_CLEANUPS, DECLARED, FORMS, OPERAND, RANGES, SERVER_WORDS, SIGNAL, SIGNAL_SET, USES, Form, Role,
+    Stage, built_forms)
+from reader import LIMITS_OF_VERSION, read
 from writer import accepted
 
 _GREATEST = 10**18
@@ -32,13 +33,30 @@ STRANGE_LINES = (
     "thread z fifo 5 at 1 2", "forever", "forever 1", "take 1", "add", "# x", "", "  ", "\t", "run 1 # one",
     "run 1# one", "run\t1", "lock m", "nanosleep reg", "strict", "\x7f", "# \x01", "caf\xe9", "run 1\r", "\x00")
 
+HEADINGS = ("version 2",) * 12 + (
+    "version 2 # two", "# two\n\nversion 2", "version 2 # \x07", "\x01\nversion 3", "version 3", "version", "version 02", "version 2 2",
+    "version 3 \xe9", "version\x01 2", "Version 2", "version 2\nversion 2", "version two", "quantum 4")
+
+
+def forms_at(stage: Stage) -> dict[str, tuple[Form, ...]]:
+    """The forms of the version whose scripts are generated at a stage."""
+    return built_forms(stage, version_at(stage))
+
+
+def version_at(stage: Stage) -> int:
+    return 2 if stage is Stage.VERSION2 else 1
+
 
 def refused(seed: int, stage: Stage = Stage.WHOLE) -> bytes:
     """A text that is no script at the stage."""
     draw = Random(f"refused {seed} {stage.name}")
     while True:
         makers: list[Callable[[Random, Stage], Text]] = [changed, changed, written, alone, alone, limit_passed, late, late, late]
-        text = ending(draw, draw.choice(makers)(draw, stage))
+        maker = draw.choice(makers)
+        lines = maker(draw, stage)
+        if stage is Stage.VERSION2 and (maker in (written, alone, limit_passed) or draw.random() < 0.05):
+            lines = [draw.choice(HEADINGS), *lines]
+        text = ending(draw, lines)
         if read(text, stage)[1] is not None:
             return text
 
@@ -123,7 +141,7 @@ def line_put(draw: Random, stage: Stage, lines: Text) -> Text:
 def form_put(draw: Random, stage: Stage, lines: Text) -> Text:
     """A line of some form with fitting or strange operands is put in."""
     at = draw.randint(0, len(lines))
-    form = draw.choice(FORMS if draw.random() < 0.3 else [f for fs in built_forms(stage).values() for f in fs])
+    form = draw.choice(FORMS if draw.random() < 0.3 else [f for fs in forms_at(stage).values() for f in fs])
     return lines[:at] + [filled(draw, form, lines)] + lines[at:]
 
 
@@ -231,12 +249,12 @@ def threads_lost(draw: Random, lines: Text) -> Text:
 
 def server_changed(draw: Random, lines: Text) -> Text:
     """A parameter of a server changes, so that it may not fit the others."""
-    spots = [at for at, line in enumerate(lines) if " sporadic " in line]
+    spots = [at for at, line in enumerate(lines) if " sporadic " in line or " strict " in line]
     if not spots:
         return number_passed(draw, lines)
     at = draw.choice(spots)
     words = lines[at].split(" ")
-    place = words.index("sporadic") + draw.randint(1, 5)
+    place = next(at for at, word in enumerate(words) if word in SERVER_WORDS) + draw.randint(1, 5)
     if place < len(words):
         words[place] = draw.choice(("0", "1", "9", "17", "255", "256", str(_GREATEST + 1)))
     return lines[:at] + [" ".join(words)] + lines[at + 1:]
@@ -256,8 +274,8 @@ def written(draw: Random, stage: Stage) -> Text:
 
 def alone(draw: Random, stage: Stage) -> Text:
     """A script with one thing of each kind, and one line of some form, most of whose operands fit."""
-    kinds = [kind for kind in OF_EACH_KIND if kind in built_forms(stage)]
-    form = draw.choice([form for forms in built_forms(stage).values() for form in forms if form.role in (Role.STEP, Role.DECLARATION)])
+    kinds = [kind for kind in OF_EACH_KIND if kind in forms_at(stage)]
+    form = draw.choice([form for forms in forms_at(stage).values() for form in forms if form.role in (Role.STEP, Role.DECLARATION)])
     words = [fitting(draw, word) for word in form.words]
     if draw.random() < 0.15:
         words.insert(draw.randint(1, len(words)), draw.choice(("0", "a", "reg", "nonblock")))
@@ -289,8 +307,8 @@ def faulty_line(draw: Random, stage: Stage) -> Text:
 
 def faulty_body(draw: Random, stage: Stage) -> Text:
     """A body with some lines, of which each may have a fault."""
-    openers = [form for forms in built_forms(stage).values() for form in forms if form.role is Role.BODY]
-    steps = [form for forms in built_forms(stage).values() for form in forms if form.role is Role.STEP]
+    openers = [form for forms in forms_at(stage).values() for form in forms if form.role is Role.BODY]
+    steps = [form for forms in forms_at(stage).values() for form in forms if form.role is Role.STEP]
     inner = [draw.choice((draw.choice(STRANGE_LINES), filled(draw, draw.choice(steps), LEAST_SCRIPT), "run 1", "run 2"))
              for _ in range(draw.randint(0, 4))]
     return [filled(draw, draw.choice(openers), LEAST_SCRIPT), *inner] + ["end"] * draw.choice((1, 1, 1, 1, 0, 2))
@@ -301,7 +319,8 @@ def faulty_server(draw: Random, stage: Stage) -> Text:
         return faulty_line(draw, stage)
     numbers = [draw.choice((1, 4, 5, 255, 0, 256)), draw.choice((1, 4, 5)), draw.choice((0, 3, 10, _GREATEST + 1)),
                draw.choice((0, 1, 3, 11)), draw.choice((0, 1, 16, 17))]
-    return [f"thread v sporadic {' '.join(map(str, numbers))} at 0", "end"]
+    word = draw.choice(SERVER_WORDS) if stage is Stage.VERSION2 else "sporadic"
+    return [f"thread v {word} {' '.join(map(str, numbers))} at 0", "end"]
 
 
 def barred_step(draw: Random, stage: Stage) -> Text:
@@ -317,11 +336,12 @@ def barred_step(draw: Random, stage: Stage) -> Text:
 
 def limit_passed(draw: Random, stage: Stage) -> Text:
     """A text with one declaration, block or step more than a limit allows, or just as many."""
-    makers: list[Callable[[Random, int], Text]] = [too_many_threads]
+    limits = LIMITS_OF_VERSION[version_at(stage)]
+    makers: list[Callable[[Random, int], Text]] = [partial(too_many_threads, limits)]
     if stage >= Stage.LANGUAGE:
         makers += [too_deep, too_deep, too_many_bodies, two_quantums, too_many_steps]
     if stage >= Stage.WAITING:
-        makers += [too_many_objects, too_many_objects]
+        makers += [partial(too_many_objects, limits)] * 2
     if stage >= Stage.LIVES:
         makers += [too_guarded, too_guarded]
     return draw.choice(makers)(draw, draw.choice((0, 1, 1, 2)))
@@ -335,8 +355,8 @@ def with_fault_above(draw: Random, lines: Text, extra: int) -> Text:
     return lines[:at] + [draw.choice(STRANGE_LINES)] + lines[at:]
 
 
-def too_many_threads(draw: Random, extra: int) -> Text:
-    lines = [line for k in range(64 + extra) for line in (f"thread t{k} fifo 5 at {k}", "end")]
+def too_many_threads(limits: dict[str, int], draw: Random, extra: int) -> Text:
+    lines = [line for k in range(limits["thread"] + extra) for line in (f"thread t{k} fifo 5 at {k}", "end")]
     return with_fault_above(draw, lines, extra)
 
 
@@ -365,9 +385,9 @@ def too_many_steps(draw: Random, extra: int) -> Text:
     return with_fault_above(draw, lines, extra)
 
 
-def too_many_objects(draw: Random, extra: int) -> Text:
-    form, limit = draw.choice((("mutex {} inherit", 64), ("cond {}", 64), ("sem {} 3", 64), ("queue {} 1 8", 16),
-                               ("timer {} rt3 5", 32)))
+def too_many_objects(limits: dict[str, int], draw: Random, extra: int) -> Text:
+    form = draw.choice(("mutex {} inherit", "cond {}", "sem {} 3", "queue {} 1 8", "timer {} rt3 5"))
+    limit = limits[first_word(form)]
     return with_fault_above(draw, [form.format(f"x{k}") for k in range(limit + extra)] + LEAST_SCRIPT, extra)
 
 

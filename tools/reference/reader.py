@@ -10,12 +10,12 @@ from dataclasses import dataclass
 from enum import IntEnum
 
 from forms import (
-    BARRED_FROM_HANDLERS, BARRED_FROM_HANDLERS_AND_CLEANUPS, DECLARED, OPERAND, RANGES, SIGNAL, SIGNAL_SET, USES,
-    Form, ObjectKind, Role, Stage, built_forms, is_place)
+    BARRED_FROM_HANDLERS, BARRED_FROM_HANDLERS_AND_CLEANUPS, DECLARED, OPERAND, RANGES,
+    SERVER_WORDS, SIGNAL, SIGNAL_SET, USES, Form, ObjectKind, Role, Stage, built_forms, is_place)
 from script import (
     Action, AddRegister, Block, Call, CleanupKind, CondKind, Fifo, Guard, HandlerKind, Kind, Loop,
     MutexKind, Named, Operand, Policy, QueueKind, Res, Rr, Run, Script, SemKind, SetRegister, Sporadic, Step,
-    TakeValue, Test, ThreadKind, TimerKind)
+    Strict, TakeValue, Test, ThreadKind, TimerKind)
 from words import has_bad_byte, is_name, is_number, is_signal, lines_of, number_of, signals_of, words_of
 
 GREATEST_DEPTH = 16
@@ -26,6 +26,8 @@ _BODIES = "handlers and cleanups"
 _GROUPS: dict[ObjectKind, str] = {
     kind: _BODIES if kind in (ObjectKind.HANDLER, ObjectKind.CLEANUP) else kind.value for kind in ObjectKind}
 LIMITS: dict[str, int] = {"thread": 64, "mutex": 64, "cond": 64, "sem": 64, "queue": 16, "timer": 32, _BODIES: 64}
+LIMITS_OF_VERSION: dict[int, dict[str, int]] = {
+    1: LIMITS, 2: LIMITS | dict.fromkeys(("thread", "mutex", "cond", "sem"), 256)}
 
 
 class FaultKind(IntEnum):
@@ -44,6 +46,7 @@ class FaultKind(IntEnum):
     TooMany = 13
     NoThread = 14
     ServerRange = 15
+    BadVersion = 16
 
 
 @dataclass(frozen=True, order=True)
@@ -76,29 +79,52 @@ class Entry:
 def read(text: bytes, built: Stage = Stage.WHOLE) -> tuple[Script | None, Fault | None]:
     """The script of the text, or its least fault."""
     lines = lines_of(text)
-    entries, fault = read_lines(lines, built)
+    heading = heading_of(lines) if built >= Stage.WHOLE else Heading()
+    entries, fault = read_lines(lines, built, heading)
     if fault is None:
-        faults = name_faults(entries) or limit_faults(entries, len(lines))
+        faults = name_faults(entries) or limit_faults(entries, len(lines), LIMITS_OF_VERSION[heading.version])
         fault = min(faults, default=None)
     if fault is None:
-        return ScriptBuilder(entries).script(), None
+        return ScriptBuilder(entries).script(heading.version), None
     return None, Fault(1, 1, FaultKind.UnknownWord) if built is Stage.FIRST else fault
+
+
+@dataclass(frozen=True)
+class Heading:
+    """The version of a text, and the line that says it; version 0 is none that there is."""
+
+    version: int = 1
+    line: int | None = None
+
+
+def heading_of(lines: list[bytes]) -> Heading:
+    """What the first line with words says of the version."""
+    for number, line in enumerate(lines, 1):
+        words = words_of(line)
+        if words:
+            if words[0] != "version":
+                break
+            return Heading(2 if words == ["version", "2"] else 0, number)
+    return Heading()
 
 
 # Phase 1: each line by itself, and the pairing of blocks
 
 
-def read_lines(lines: list[bytes], built: Stage) -> tuple[list[Entry], Fault | None]:
-    """The entries of all lines with words, or the fault of the first line that has one."""
+def read_lines(lines: list[bytes], built: Stage, heading: Heading) -> tuple[list[Entry], Fault | None]:
+    """The entries of all lines with words but the heading, or the fault of the first line that has one."""
     entries: list[Entry] = []
     blocks: list[str] = []
+    forms = built_forms(built, heading.version)
     for number, line in enumerate(lines, 1):
+        if number == heading.line and heading.version == 0:
+            return entries, Fault(1, number, FaultKind.BadVersion)
         if has_bad_byte(line):
             return entries, Fault(1, number, FaultKind.BadByte)
         words = words_of(line)
-        if not words:
+        if not words or number == heading.line:
             continue
-        entry, kind = read_line(number, words, built)
+        entry, kind = read_line(number, words, forms)
         kind = kind or place_fault(entry.form, blocks)
         if kind:
             return entries, Fault(1, number, kind)
@@ -107,9 +133,9 @@ def read_lines(lines: list[bytes], built: Stage) -> tuple[list[Entry], Fault | N
     return entries, Fault(1, len(lines) + 1, FaultKind.Unclosed) if blocks else None
 
 
-def read_line(number: int, words: list[str], built: Stage) -> tuple[Entry | None, FaultKind | None]:
+def read_line(number: int, words: list[str], forms: dict[str, tuple[Form, ...]]) -> tuple[Entry | None, FaultKind | None]:
     """The entry of one line with words, or the least fault of the line by itself."""
-    agreeing = [form for form in built_forms(built).get(words[0], ()) if form.agrees(words)]
+    agreeing = [form for form in forms.get(words[0], ()) if form.agrees(words)]
     if not agreeing:
         return None, FaultKind.UnknownWord
     fitting = [form for form in agreeing if len(form.words) == len(words)]
@@ -190,27 +216,27 @@ def name_faults(entries: list[Entry]) -> list[Fault]:
 # Phase 3: ranges and limits
 
 
-def limit_faults(entries: list[Entry], count_of_lines: int) -> list[Fault]:
+def limit_faults(entries: list[Entry], count_of_lines: int, limits: dict[str, int]) -> list[Fault]:
     """All faults of ranges and limits."""
     faults: list[Fault] = []
     for entry in entries:
         if any(not RANGES[place][0] <= value <= RANGES[place][1] for place, value in entry.numbers()):
             faults.append(Fault(3, entry.line, FaultKind.NumberRange))
-        if "sporadic" in entry.form.words and not is_server(entry):
+        if any(word in entry.form.words for word in SERVER_WORDS) and not is_server(entry):
             faults.append(Fault(3, entry.line, FaultKind.ServerRange))
-    faults += [Fault(3, line, FaultKind.TooMany) for line in lines_above_limits(entries)]
+    faults += [Fault(3, line, FaultKind.TooMany) for line in lines_above_limits(entries, limits)]
     if not any(entry.form.head == "thread" for entry in entries):
         faults.append(Fault(3, count_of_lines + 1, FaultKind.NoThread))
     return faults
 
 
 def is_server(entry: Entry) -> bool:
-    """Whether the parameters of a sporadic server fit one another."""
+    """Whether the parameters of a server fit one another."""
     high, low, period, budget, limit = [value for _, value in entry.numbers()][:5]
     return 1 <= budget <= period and 1 <= limit <= GREATEST_LIMIT and low < high
 
 
-def lines_above_limits(entries: list[Entry]) -> list[int]:
+def lines_above_limits(entries: list[Entry], limits: dict[str, int]) -> list[int]:
     """The lines of declarations, steps and blocks that are one too many."""
     found: list[int] = []
     counts: dict[str, int] = {}
@@ -218,7 +244,7 @@ def lines_above_limits(entries: list[Entry]) -> list[int]:
     for entry in entries:
         role = entry.form.role
         if role in (Role.DECLARATION, Role.BODY) and entry.form.declares:
-            counted, limit = _GROUPS[entry.form.declares], LIMITS[_GROUPS[entry.form.declares]]
+            counted, limit = _GROUPS[entry.form.declares], limits[_GROUPS[entry.form.declares]]
         elif role is Role.QUANTUM:
             counted, limit = "quantum", 1
         elif role in (Role.STEP, Role.BLOCK):
@@ -250,8 +276,8 @@ class ScriptBuilder:
                 self.numbers[entry.operands[0]] = counts.get(kind, 0)
                 counts[kind] = counts.get(kind, 0) + 1
 
-    def script(self) -> Script:
-        script = Script()
+    def script(self, version: int) -> Script:
+        script = Script(version)
         blocks: list[tuple[str, Block, Guard | None]] = []
         for entry in self.entries:
             role, word = entry.form.role, entry.form.head
@@ -347,6 +373,6 @@ class ScriptBuilder:
 
 def policy_of(word: str, numbers: tuple) -> Policy:
     """The policy that a keyword and the numbers after it name."""
-    if word == "sporadic":
-        return Sporadic(*numbers[:5])
+    if word in SERVER_WORDS:
+        return (Sporadic if word == "sporadic" else Strict)(*numbers[:5])
     return Fifo(numbers[0]) if word == "fifo" else Rr(numbers[0])

@@ -278,7 +278,7 @@ def server_at_a_mutex(writer: "ScriptWriter") -> list[Part]:
     """A server whose budget ends as it asks for a mutex, while the owner has an equal beside it."""
     draw, mutex, priority = writer.draw, writer.mutex(), writer.draw.randint(3, 5)
     budget = draw.randint(1, 3)
-    server = f"as sporadic {draw.randint(6, 9)} {draw.randint(1, 2)} {budget + draw.randint(2, 9)} {budget} 1"
+    server = f"as {writer.served_by()} {draw.randint(6, 9)} {draw.randint(1, 2)} {budget + draw.randint(2, 9)} {budget} 1"
     owner = [f"as fifo {priority}", f"lock {mutex}", "yield", *busy(writer, 3), f"unlock {mutex}", "run 2"]
     work = [f"run {budget - 1}"] if budget > 1 else []
     return [owner, [f"as fifo {priority}", *busy(writer, 4), "yield", "run 1"],
@@ -290,11 +290,33 @@ def new_server(writer: "ScriptWriter") -> list[Part]:
     draw = writer.draw
     budget = draw.randint(1, 4)
     high, low, period = draw.randint(6, 9), draw.randint(1, 5), budget + draw.randint(0, 9)
-    policy = f"sporadic {high} {low} {period} {budget} {draw.randint(1, 2)}"
+    policy = f"{writer.served_by()} {high} {low} {period} {budget} {draw.randint(1, 2)}"
     work = [f"run {budget - 1}"] if budget > 1 else []
     again = f"setsched {SELF} {policy}"
     return [[CAST + policy, *work, again, *busy(writer, 2), *work, draw.choice((again, "yield")), *busy(writer, 5)],
             [*busy(writer, 5), *pause(writer), *busy(writer, 5)]]
+
+
+def closed_runs(writer: "ScriptWriter") -> list[Part]:
+    """A strict server that is preempted, that yields and that sleeps in the midst of its budget, again and again."""
+    draw = writer.draw
+    budget, priority = draw.randint(2, 6), draw.randint(3, 6)
+    policy = f"as strict {priority} {draw.randint(1, 2)} {budget + draw.randint(0, 12)} {budget} {draw.choice((1, 1, 2, 3))}"
+    gap = draw.choice((["yield"], ["nanosleep 1"], [f"nanosleep {draw.randint(1, 4)}"], []))
+    inner = [f"run {draw.randint(1, 3)}", *gap, *busy(writer, 2)]
+    above = ["nanosleep 2", *busy(writer, 2)] if draw.random() < 0.5 else [f"nanosleep {draw.randint(1, 4)}", "run 1"]
+    return [[policy, f"loop {draw.randint(2, 6)}", *inner, "end"], ["as fifo 9", f"loop {draw.randint(2, 5)}", *above, "end"],
+            [f"as {draw.choice(('fifo', 'rr'))} {priority}", *busy(writer, 4), "yield", *busy(writer, 4)]]
+
+
+def strict_in_a_window(writer: "ScriptWriter") -> list[Part]:
+    """A strict server that becomes ready late or rests late in its period, so that two budgets could lie side by side."""
+    draw = writer.draw
+    budget = draw.randint(1, 5)
+    period = budget + draw.randint(2, 9)
+    late = draw.choice(([], [f"nanosleep {max(1, period - budget)}"], ["run 1", f"nanosleep {max(1, period - budget)}"]))
+    server = [f"as strict 8 2 {period} {budget} {draw.choice((1, 2, 4))}", *late, f"run {draw.randint(2, 4) * budget}"]
+    return [server, [f"as fifo {draw.choice((5, 9))}", f"run {max(1, period - draw.randint(0, 2))}", *pause(writer), *busy(writer, 5)]]
 
 
 def cancelled(writer: "ScriptWriter") -> list[Part]:
@@ -350,6 +372,7 @@ SCENES: dict[Stage, tuple[Scene, ...]] = {
     Stage.TIMERS: (periodic, overruns, armed_and_read),
     Stage.QUEUES: (queue_of_messages, queue_of_messages, notified, senders_in_line),
     Stage.LIVES: (cancelled, cancelled_at_a_mutex, cancelled_joiner),
+    Stage.VERSION2: (closed_runs, closed_runs, strict_in_a_window, strict_in_a_window),
     Stage.WHOLE: (handled_waits, handled_waits, handled_waits, sent_into_a_lock, waiting_for_signals, periodic, armed_and_read,
                   notified, senders_in_line),
 }

@@ -55,7 +55,12 @@ class Sporadic:
     limit: int
 
 
-Policy = Union[Fifo, Rr, Sporadic]
+@dataclass(frozen=True)
+class Strict(Sporadic):
+    """The same parameters, with the rules of a strict server."""
+
+
+Policy = Union[Fifo, Rr, Sporadic, Strict]
 
 
 @dataclass(frozen=True)
@@ -202,6 +207,7 @@ class Action:
 
 @dataclass
 class Script:
+    version: int = 1
     quantum: int = DEFAULT_QUANTUM
     declarations: list[Named | Action] = field(default_factory=list)
 
@@ -236,7 +242,8 @@ def policy_text(policy: Policy) -> str:
         case Rr(priority):
             return f"rr {priority}"
         case Sporadic(high, low, period, budget, limit):
-            return f"sporadic {high} {low} {period} {budget} {limit}"
+            word = "strict" if isinstance(policy, Strict) else "sporadic"
+            return f"{word} {high} {low} {period} {budget} {limit}"
 
 
 class CanonicalText:
@@ -247,7 +254,8 @@ class CanonicalText:
         self.names = {kind: [named.name for named in script.objects(kind)] for kind in ObjectKind}
 
     def lines(self, with_quantum: bool = True) -> list[str]:
-        found = [f"quantum {self.script.quantum}"] if with_quantum else []
+        found = ["version 2"] if self.script.version == 2 else []
+        found += [f"quantum {self.script.quantum}"] if with_quantum else []
         for declaration in self.script.declarations:
             found += self.declaration(declaration)
         return found

@@ -5,7 +5,7 @@
 Each example NAME of tests/worked has NAME.task and one of: NAME.trace, the
 whole text of its run; NAME.has, lines that its run has; NAME.refused, the line
 of its fault; NAME.show and NAME.detail, the whole text of that command;
-NAME.canonical, its canonical text. NAME.horizon is the number of the command.
+NAME.canonical, its canonical text; NAME.upgrade, that of the script of version 2. NAME.horizon is the number of the command.
 Examples whose horizon is too far for a machine that ticks are passed over. Where
 the horizon is at most 10,000 each state of the run is checked too.
 Each example of AUDITS.txt is an input of `audit`, NAME.audit, and its answer, NAME.verdict.
@@ -48,6 +48,9 @@ def difference(name: str, stage: Stage) -> str | None:
         script, fault = read(text, stage)
         have = f"{fault}" if script is None else canonical_text(script)
         return None if have == path.with_suffix(".canonical").read_text() else have
+    if path.with_suffix(".upgrade").exists():
+        have = answer(text, 0, stage, command="upgrade")[1].decode()
+        return None if have == path.with_suffix(".upgrade").read_text() else have
     horizon = int(path.with_suffix(".horizon").read_text())
     if horizon > FARTHEST:
         return None
@@ -76,7 +79,7 @@ def large_texts() -> list[tuple[str, bytes, Status, bytes]]:
 
 def no_commands() -> list[list[str]]:
     return [[], ["run"], ["run", "1x"], ["run", "1000000000000000001"], ["run", "1", "2"], ["walk", "1"], ["--help"],
-            ["show"], ["detail", "1", "2"], ["show", "1000000000000000001"], ["detail", "-1"]]
+            ["show"], ["detail", "1", "2"], ["upgrade", "1"], ["show", "1000000000000000001"], ["detail", "-1"]]
 
 
 def generated_differ(count: int) -> int:

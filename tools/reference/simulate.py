@@ -1,14 +1,16 @@
-"""The reference for `pse52 run N`, and for `show N` and `detail N`: the same text and the same exit status.
+"""The reference for `pse52 run N`, for `show N`, `detail N` and `upgrade`: the same text and the same exit status.
 
     python3 tools/reference/simulate.py run N [--stage STAGE] [--check] < script
     python3 tools/reference/simulate.py show N [--stage STAGE] [--check] < script
     python3 tools/reference/simulate.py detail N [--stage STAGE] [--check] < script
+    python3 tools/reference/simulate.py upgrade < script
 
 Exit status: 0 Done, 1 Usage, 2 Refused, 3 TooLong.
 """
 from __future__ import annotations
 
 import sys
+from dataclasses import replace
 from enum import IntEnum
 from typing import Callable
 
@@ -16,7 +18,7 @@ from detail import detail, show
 from forms import GREATEST_NUMBER, Stage
 from machine import Machine
 from reader import read
-from script import Script
+from script import Script, canonical_text
 from trace import trace
 
 GREATEST_TEXT = 1_048_576
@@ -35,12 +37,19 @@ def run(script: Script, horizon: int, checked: bool = False) -> str:
     return trace(machine)
 
 
-COMMANDS: dict[str, Callable[[Script, int, bool], str]] = {"run": run, "show": show, "detail": detail}
+def upgrade(script: Script, horizon: int = 0, checked: bool = False) -> str:
+    """The canonical text of the script as one of version 2."""
+    return canonical_text(replace(script, version=2))
+
+
+COMMANDS: dict[str, Callable[[Script, int, bool], str]] = {"run": run, "show": show, "detail": detail, "upgrade": upgrade}
 
 
 def command_of(words: list[str]) -> tuple[str, int] | None:
-    """The command that the words are, with its number."""
-    if len(words) != 2 or words[0] not in COMMANDS or not (words[1].isascii() and words[1].isdigit()):
+    """The command that the words are, with its number; `upgrade` has none."""
+    if words == ["upgrade"]:
+        return "upgrade", 0
+    if words[:1] == ["upgrade"] or len(words) != 2 or words[0] not in COMMANDS or not (words[1].isascii() and words[1].isdigit()):
         return None
     digits = words[1].lstrip("0") or "0"
     is_number = len(digits) <= 19 and int(digits) <= GREATEST_NUMBER
@@ -55,7 +64,10 @@ def answer(text: bytes, horizon: int, stage: Stage = Stage.WHOLE, checked: bool 
     script, fault = read(text, stage)
     if script is None:
         return Status.REFUSED, f"refused {fault.line} {fault.kind.value} {fault.kind.name}\n".encode()
-    return Status.DONE, COMMANDS[command](script, horizon, checked).encode()
+    told = COMMANDS[command](script, horizon, checked).encode()
+    if command == "upgrade" and len(told) > GREATEST_TEXT:
+        return Status.TOO_LONG, b"too long\n"
+    return Status.DONE, told
 
 
 def main(words: list[str]) -> Status:

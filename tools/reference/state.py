@@ -5,7 +5,7 @@ from dataclasses import dataclass, field
 from enum import Enum
 from typing import Union
 
-from script import Block, Call, Guard, Loop, MutexKind, Policy, QueueKind, Res, Run, Sporadic, Test, TimerKind
+from script import Block, Call, Guard, Loop, MutexKind, Policy, QueueKind, Res, Run, Sporadic, Strict, Test, TimerKind
 
 GREATEST_REGISTER = 2 * 10**18
 CANCELED = 3 * 10**18
@@ -107,7 +107,7 @@ class History:
 
 
 class Server:
-    """A sporadic server: what is left of its budget, what was used since its activation, what comes back when."""
+    """A server: what is left of its budget, what was used since its activation, what comes back when."""
 
     def __init__(self, parameters: Sporadic, now: int) -> None:
         self.parameters = parameters
@@ -121,7 +121,13 @@ class Server:
         self.history = History()
 
     @property
+    def is_strict(self) -> bool:
+        return isinstance(self.parameters, Strict)
+
+    @property
     def is_high(self) -> bool:
+        if self.is_strict:
+            return self.capacity > 0
         return self.capacity > 0 and len(self.pending) < self.parameters.limit
 
     def charge(self, tick: int) -> None:
@@ -135,9 +141,13 @@ class Server:
         self.history.activations.append(now)
 
     def plan(self, now: int) -> Replenishment:
-        """The consumed ticks come back one period after the activation."""
+        """The consumed ticks come back one period after the activation; a strict server joins what is one too many."""
         planned = Replenishment(self.consumed, self.activation + self.parameters.period)
-        self.pending.append(planned)
+        if self.is_strict and len(self.pending) == self.parameters.limit:
+            joined = self.pending.pop()
+            self.pending.append(Replenishment(joined.amount + planned.amount, planned.due))
+        else:
+            self.pending.append(planned)
         self.consumed = 0
         self.history.plans.append((now, planned))
         return planned

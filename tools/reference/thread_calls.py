@@ -103,7 +103,7 @@ def setsched(kernel: Kernel, thread: Thread, call: Call) -> None:
     target.server = Server(target.policy, kernel.time) if is_server else None
     kernel.returns(thread, call)
     if target.is_ready and is_server:
-        kernel.activate(target)
+        kernel.activate_ready(target)
     if target.is_ready and not kernel.owns_boosting(target):
         kernel.move_later(target)
 

@@ -69,7 +69,22 @@ class ScriptWriter:
         if self.stage >= Stage.LANGUAGE and draw.random() < 0.6:
             parts.append([f"quantum {draw.randint(1, 5)}"])
         draw.shuffle(parts)
+        if self.stage >= Stage.VERSION2:
+            parts = [["version 2"], *parts, *self.crowd()]
         return "".join(self.spelled(line) for part in parts for line in part)
+
+    def crowd(self) -> list[list[str]]:
+        """At times more threads than version 1 has, each with a little to do, and objects beside them."""
+        draw = self.draw
+        if draw.random() < 0.96:
+            return []
+        some = [[f"thread x{k} {self.policy()} at {draw.randint(0, 5)}", *self.register(), "run 1", "end"]
+                for k in range(draw.choice((60, 61, 80, 120)))]
+        return some + [[f"sem v{k} 1"] for k in range(draw.choice((0, 64, 70)))]
+
+    def served_by(self) -> str:
+        """The word of a policy with a server; version 2 has two."""
+        return self.draw.choice(("sporadic", "strict", "strict")) if self.stage >= Stage.VERSION2 else "sporadic"
 
     def spelled(self, line: str) -> str:
         """The line in one of its spellings: mostly as it is."""
@@ -105,7 +120,7 @@ class ScriptWriter:
             case "sporadic":
                 low, high = sorted(draw.sample((1, 2, 3, 4, 5, 6, 8, 9), 2))
                 budget = draw.randint(1, 5)
-                return f"sporadic {high} {low} {budget + draw.randint(0, 12)} {budget} {draw.choice((1, 1, 2, 3, 16))}"
+                return f"{self.served_by()} {high} {low} {budget + draw.randint(0, 12)} {budget} {draw.choice((1, 1, 2, 3, 16))}"
             case kind:
                 return f"{kind} {self.priority()}"
 

@@ -86,7 +86,7 @@ RULES = [
            "def testcancel(kernel: Kernel, thread: Thread, call: Call) -> None:\n    kernel.begin_ending(thread)",
            "testcancel_without_a_request"),
     Turned("a server that is cancelled is not activated", "kernel.py",
-           "        self.begin_ending(thread)\n        self.activate_woken(thread)\n", "        self.begin_ending(thread)\n",
+           "        self.begin_ending(thread)\n        self.activate_ready(thread)\n", "        self.begin_ending(thread)\n",
            "cancelled_server_is_activated"),
     Turned("nanosleep is no cancellation point", "machine.py",
            '"nanosleep", "clock_nanosleep",', '"clock_nanosleep",', "request_waits_for_its_leave"),

@@ -65,9 +65,9 @@ RULES = [
            "                thread.server.capacity = parameters.budget\n"
            "                thread.server.consumed = 0", "setprio_of_a_server_in_its_budget"),
     Turned("a wake activates no server", "kernel.py",
-           "if thread.server is not None and thread.server.is_high:", "if False:", "refill_between_two_sleeps"),
+           "if thread.server is not None and thread.server.is_high and not", "if False and not", "refill_between_two_sleeps"),
     Turned("a wake activates a server at its low priority", "kernel.py",
-           "if thread.server is not None and thread.server.is_high:", "if thread.server is not None:",
+           "if thread.server is not None and thread.server.is_high and not", "if thread.server is not None and not",
            "low_while_all_replenishments_pend"),
     Turned("a ceiling is compared with the execution priority", "sync_calls.py",
            "kernel.assigned(thread) > mutex.kind.ceiling", "kernel.exec(thread) > mutex.kind.ceiling",

@@ -12,6 +12,7 @@ Without FILE it reads standard input. Times are in ticks.
   check N [SCRIPT TRACE]  tells whether a trace is that of the script (standard input: SCRIPT, a line %%, TRACE)
   audit [HEAD TRACE]      tells whether the sporadic servers of any trace kept their budgets (HEAD, a line %%, TRACE)
   rta N [TASKS]           tells the least response times of periodic tasks, up to N ticks
+  upgrade [SCRIPT]        writes the script as one of version 2
   gen S                   writes the script that is made of the number S
   soak S N                runs the script of the number S to tick N, and writes its closing lines
   explain [SCRIPT]        tells every fault of a script: its line and word, and how to fix it (--lines SCRIPT: for editors)
@@ -67,13 +68,17 @@ refuse_number() {
 
 # Whether the words are a command's numbers and a file behind them; sets `input`.
 takes_file() {
-    is_command "$1" "$2" || refuse_number "$@"
-    [ "$3" != - ] || return 0
-    case $3 in
+    command=$1
+    if [ "$#" -eq 3 ]; then
+        is_command "$command" "$2" || refuse_number "$@"
+        shift
+    fi
+    [ "$2" != - ] || return 0
+    case $2 in
         *.task | *.rta | */*) ;;
-        *) [ -e "$3" ] || return 1 ;;
+        *) [ -e "$2" ] || return 1 ;;
     esac
-    open_input "$3"
+    open_input "$2"
 }
 
 # Takes a file as the input, where it can be read.
@@ -106,7 +111,7 @@ divided() {
 # The command that a misspelt word was to be, if one is near: the same letters but one, or two that changed places.
 near() {
     awk -v have="$1" 'BEGIN {
-        count = split("run check audit rta gen soak explain help version", names, " ")
+        count = split("run check audit rta upgrade gen soak explain help version", names, " ")
         for (i = 1; i <= count; i++) {
             name = names[i]
             if (distance(have, name) <= 1 + (length(name) > 4)) { print name; exit }
@@ -136,7 +141,7 @@ answer_words() {
         -V | --version | version) version_text; exit 0 ;;
         explain) shift; explain_command "$@" ;;
         run | check | rta | gen | soak) refuse_operands "$@" ;;
-        audit)
+        upgrade | audit)
             [ "$1 $#" != 'audit 3' ] || divided audit "$2" "$3"
             refuse "$1 takes no number; $(usage_of "$1")" ;;
         -*) refuse "'$1' is no option; 'pse52 --help' lists the options" ;;
@@ -156,6 +161,7 @@ usage_of() {
         rta) echo 'write: pse52 rta N TASKS, or pse52 rta N < TASKS' ;;
         gen) echo 'write: pse52 gen S' ;;
         soak) echo 'write: pse52 soak S N' ;;
+        upgrade) echo 'write: pse52 upgrade SCRIPT, or pse52 upgrade < SCRIPT' ;;
         audit) echo 'write: pse52 audit HEAD TRACE' ;;
     esac
 }

@@ -2,10 +2,12 @@
 use Rattle.std.proofs.Common.{Bool, List, None, Some, [], ap, arith, false, length, max, refl, suc, sym, true, ℕ, ◌+◌, ◌<◌, ◌≤◌, ◌∷◌, ◌++◌, ◌≡◌}
 use Rattle.std.specs.Prelude.{nat_le, nat_lt, not, ◌&&◌, ◌==◌}
 use Rattle.std.specs.List.{list_any}
-use mathlib.Core.Path.{subst}
+use mathlib.Core.Path.{subst, ◌∙◌}
 use Rattle.tick_num.specs.Parameters.{Parameters}
 use Rattle.sporadic_server.specs.declared.Replenish.{Replenish}
-use Rattle.sporadic_server.specs.Server.{ServerState, activate, is_high, new_server, plan, replenishment, set_high}
+use Rattle.sporadic_server.specs.declared.ServerKind.{ServerKind}
+use Rattle.sporadic_server.specs.declared.ServerKind.TheVariants as server_kind
+use Rattle.sporadic_server.specs.Server.{ServerState, activate, is_high, is_high_as, joins_as, new_server, plan, planned_in, replenishment, set_high}
 use Rattle.machine_rules.specs.State.{Status}
 use Rattle.machine_rules.specs.Threads.{is_runnable}
 use Rattle.machine_moves.proofs.Waiters.Best.{Each}
@@ -79,6 +81,10 @@ none_missing now (p ∷ ps) (r ∷ rs) none h =
 
 -- ---- a server and its account
 
+-- a sporadic server is at its high priority where capacity is left and one more replenishment may become pending
+pub high_sporadic : (x : ServerState) → x.kind ≡ server_kind.Sporadic → is_high x ≡ (nat_lt 0 x.capacity && nat_lt (length x.pending) x.params.max)
+high_sporadic x e = ap (λ (k : ServerKind). is_high_as k x.capacity (length x.pending) x.params.max) e
+
 module _ (s : Limits) where
   pub record Agrees (now : ℕ) (x : ServerState) (b : Account) : Type 0 where
     pub level : b.high + x.capacity ≡ s.budget + b.refilled
@@ -89,6 +95,7 @@ module _ (s : Limits) where
     pub max : x.params.max ≡ s.max
     pub high_total : x.high_total ≡ b.high
     pub refilled_total : x.refilled_total ≡ b.refilled
+    pub sporadic : x.kind ≡ server_kind.Sporadic
 
   -- what was consumed is what was high since the activation
   pub record InStep (x : ServerState) (b : Account) : Type 0 where
@@ -108,7 +115,10 @@ module _ (s : Limits) where
       let long = pairs_length now b.ahead x.pending h.pending in
       let left : nat_lt b.high (s.budget + b.refilled) ≡ nat_lt 0 x.capacity = same_test _ _ (λ e. grind arith) (λ e. grind arith) in
       let more : nat_lt (length b.ahead) s.max ≡ nat_lt (length x.pending) x.params.max = same_test _ _ (λ e. grind arith) (λ e. grind arith) in
-      rw (left, more) refl
+      both_same left more ∙ sym (high_sporadic x h.sporadic)
+    where
+      both_same : {p q r u : Bool} → p ≡ r → q ≡ u → (p && q) ≡ (r && u)
+      both_same e f = cc
 
   -- ---- what the account may be told
 
@@ -146,14 +156,14 @@ module _ (s : Limits) where
   abbrev pub IsActive : ℕ → Status → ServerState → Account → Type 0
   IsActive now status x b = (y : ServerState) × (x ≡ activate now y) × Still now status y b
 
-  pub high_parts : (x : ServerState) → is_high x ≡ true → (1 ≤ x.capacity) × (length x.pending < x.params.max)
-  high_parts x e = (grind arith, grind arith)
+  pub high_parts : (x : ServerState) → x.kind ≡ server_kind.Sporadic → is_high x ≡ true → (1 ≤ x.capacity) × (length x.pending < x.params.max)
+  high_parts x sort e = let high = sym (high_sporadic x sort) ∙ e in (grind arith, grind arith)
 
   pub activation_kept : (now : ℕ) (x : ServerState) (b : Account) → Clear b → lives b ≡ true → Agrees now x b → x.consumed ≡ 0 → is_high x ≡ true → broken_now s b (is_activated x.capacity) ≡ None
   activation_kept now x b c l h none high =
       let level = h.level in let most = h.max in let planned = h.planned in
       let long = pairs_length now b.ahead x.pending h.pending in
-      let parts = high_parts x high in
+      let parts = high_parts x h.sporadic high in
       let some = parts.0 in let more = parts.1 in
       unbroken (lives b) true (true && not b.late) (x.capacity + b.high == s.budget + b.refilled && (nat_lt 0 x.capacity && (room s b && b.planned == b.high))) (true && not b.unpaid) l refl (not_late true b.late refl c.late)
       (both (is_equal (x.capacity + b.high) (s.budget + b.refilled) (omega arith)) (both (is_below 0 x.capacity (omega arith)) (both (is_below (length b.ahead) s.max (omega arith)) (is_equal b.planned b.high (omega arith))))) (not_late true b.unpaid refl c.unpaid)
@@ -161,7 +171,7 @@ module _ (s : Limits) where
   pub active_booked : (now capacity : ℕ) (status : Status) (x : ServerState) (b : Account) → b.now ≡ now → IsActive now status x b → Booked now status x (after_saying b (is_activated capacity))
   active_booked now capacity status x b at h =
       subst (λ (z : ServerState). Booked now status z (after_saying b (is_activated capacity))) (sym h.1) (record {
-        agrees = record { level = a.level; planned = a.planned; pending = a.pending; period = a.period; budget = a.budget; max = a.max; high_total = a.high_total; refilled_total = a.refilled_total };
+        agrees = record { level = a.level; planned = a.planned; pending = a.pending; period = a.period; budget = a.budget; max = a.max; high_total = a.high_total; refilled_total = a.refilled_total; sporadic = a.sporadic };
         consumed = λ some. step;
         ready = λ runs high. step;
       })
@@ -180,7 +190,7 @@ module _ (s : Limits) where
 
   pub priced_booked : (p now : ℕ) (status : Status) (x : ServerState) (b : Account) → Booked now status x b → Booked now status (set_high p x) b
   priced_booked p now status x b h = let a = h.agrees in record {
-    agrees = record { level = a.level; planned = a.planned; pending = a.pending; period = a.period; budget = a.budget; max = a.max; high_total = a.high_total; refilled_total = a.refilled_total };
+    agrees = record { level = a.level; planned = a.planned; pending = a.pending; period = a.period; budget = a.budget; max = a.max; high_total = a.high_total; refilled_total = a.refilled_total; sporadic = a.sporadic };
     consumed = λ some. let g = h.consumed some in record { before = g.before; active = g.active; since = g.since };
     ready = λ runs high. let g = h.ready runs high in record { before = g.before; active = g.active; since = g.since };
   }
@@ -221,6 +231,7 @@ module _ (s : Limits) where
         max = l.max;
         high_total = sym k.high;
         refilled_total = sym k.refilled;
+        sporadic = refl;
       }
 
   -- ---- a plan
@@ -245,19 +256,24 @@ module _ (s : Limits) where
         agrees = record {
           level = h.level;
           planned = omega arith;
-          pending = pairs_more now b.ahead x.pending (record { amount = x.consumed; from = max (x.activation + x.params.period) b.now }) (replenishment x) h.pending (refl, omega arith, omega arith, omega arith);
+          pending = subst (λ (k : ServerKind). Pairs now (b.ahead ++ record { amount = x.consumed; from = max (x.activation + x.params.period) b.now } ∷ []) (planned_in (joins_as k (length x.pending) x.params.max) (replenishment x) x.pending)) (sym h.sporadic)
+              (pairs_more now b.ahead x.pending (record { amount = x.consumed; from = max (x.activation + x.params.period) b.now }) (replenishment x) h.pending (refl, omega arith, omega arith, omega arith));
           period = h.period;
           budget = h.budget;
           max = h.max;
           high_total = h.high_total;
           refilled_total = h.refilled_total;
+          sporadic = h.sporadic;
         };
         consumed = λ some. absurd (omega arith);
         ready = λ runs high. absurd (not_high (low runs) high);
       }
     where
+      none : (n : ℕ) (q : Bool) → n ≡ 0 → (nat_lt 0 n && q) ≡ true → ⊥
+      none n q e k = grind arith
+
       not_high : x.capacity ≡ 0 → is_high (plan x) ≡ true → ⊥
-      not_high e k = grind arith
+      not_high e k = let high = sym (high_sporadic (plan x) h.sporadic) ∙ k in absurd (none x.capacity (nat_lt (length (plan x).pending) x.params.max) e high)
 
   -- ---- exhaustion
 

@@ -26,6 +26,7 @@ module _ (s : Limits) where
         max = h.max;
         high_total = omega arith;
         refilled_total = h.refilled_total;
+        sporadic = h.sporadic;
       }
 
   low_step : (x : ServerState) (b : Account) → InStep s x b → InStep s x (tick_as s false b)
@@ -43,7 +44,7 @@ module _ (s : Limits) where
   high_ticked now status x b none runs high h =
       let a = h.agrees in
       let level = a.level in let planned = a.planned in let total = a.high_total in
-      let some = (high_parts s x high).0 in
+      let some = (high_parts s x a.sporadic high).0 in
       let step = high_step x b (h.ready runs high) in
       record {
         agrees = record {
@@ -55,6 +56,7 @@ module _ (s : Limits) where
           max = a.max;
           high_total = omega arith;
           refilled_total = a.refilled_total;
+          sporadic = a.sporadic;
         };
         consumed = λ some. step;
         ready = λ r k. step;
@@ -81,6 +83,6 @@ module _ (s : Limits) where
   pub owing_ticked : (now : ℕ) (x : ServerState) (b : Account) → is_high x ≡ true → Agrees s now x b → (tick_as s true b).owes ≡ true → (1 ≤ (charge x).consumed) × ((charge x).capacity ≡ 0)
   owing_ticked now x b high h e =
       let level = h.level in
-      let some = (high_parts s x high).0 in
+      let some = (high_parts s x h.sporadic high).0 in
       let last : b.high + 1 ≡ s.budget + b.refilled = grind arith in
       (omega arith, omega arith)

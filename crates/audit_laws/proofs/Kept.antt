@@ -7,16 +7,16 @@ use Rattle.sporadic_server.specs.Server.{ServerState}
 use Rattle.machine_rules.specs.Budget.{renews}
 use Rattle.machine_rules.specs.Bodies.{Bodies, Seen, seen_by}
 use Rattle.machine_rules.specs.declared.frame.BodyOf.{BodyOf}
-use Rattle.machine_rules.specs.State.{Frame, Machine, Thread, waits_to_join}
+use Rattle.machine_rules.specs.State.{Frame, Thread, waits_to_join}
 use Rattle.machine_rules.specs.Threads.{can_run, is_runnable, thread_at, top_left}
 use Rattle.machine_rules.specs.Turns.{Turn, changes, settles_since}
 use Rattle.machine_rules.specs.Servers.{has_high}
 use Rattle.machine_rules.specs.Lives.{with_joiner}
 use Rattle.machine_rules.specs.Calls.{unit_effect}
 use Rattle.machine_rules.specs.DueItems.{instant, next_item}
-use Rattle.machine_rules.specs.Dispatch.{dispatches, head}
+use Rattle.machine_rules.specs.Dispatch.{head}
 use Rattle.machine_rules.specs.Units.{Following, advances, advancing, begins_finish, cleaning_up, continuing, finishing, following, in_cleanup, in_unit, takes_unit}
-use Rattle.machine_rules.specs.Ticks.{completes_at, ends_tick, runs, runs_head, tick, tick_end, unless_killed}
+use Rattle.machine_rules.specs.Ticks.{completes_at, ends_tick, prepares, runs, runs_head, tick, tick_end, unless_killed}
 use Rattle.machine_rules.proofs.ItemsEnd.{instant_ends}
 use Rattle.machine_moves.specs.Moves.{KeepsAwake, Stops}
 use Rattle.machine_moves.specs.UnitRanges.{BodiesFit, UnitFits}
@@ -24,14 +24,15 @@ use Rattle.machine_moves.proofs.Calls.Commuting.{status_kept}
 use Rattle.machine_moves.proofs.Calls.Table.{unit_keep}
 use Rattle.machine_moves.proofs.Runs.Listed.{head_can_run}
 use Rattle.machine_moves.proofs.Runs.Units.{in_unit_fits}
-use Rattle.machine_moves.proofs.Runs.Ticks.{RoundKeeps, Rests, charged_runs, charged_turn, dispatched, instant_keep, sweeps_keep}
+use Rattle.machine_moves.proofs.Runs.Ticks.{RoundKeeps, Rests, charged_runs, charged_turn, instant_keep, sweeps_keep}
+use Rattle.machine_moves.proofs.Runs.Preparing.{Alike, alike_runs, prepared, prepares_keep}
 use Rattle.machine_laws.proofs.Servers.Alert.{awake_of}
-use Rattle.machine_laws.proofs.Servers.Ticks.{ServedDone, ServedMid, ServedRight, dispatched_threads, nobody_awake, served_stop, served_tick}
+use Rattle.machine_laws.proofs.Servers.Ticks.{ServedDone, ServedMid, ServedRight, nobody_awake, served_stop, served_tick}
 use Rattle.machine_laws.proofs.Budgets.Units.{NotDue, not_due}
 use Rattle.budget_audit.specs.declared.server.Limits.{Limits}
 use Rattle.budget_audit.specs.Replay.{Account}
 use Rattle.audit_laws.proofs.Moves.{recorded_keep, sleeps_recorded, joined_recorded}
-use Rattle.audit_laws.proofs.Units.{Rested, Running, charges_running, dispatches_rested, ends_rested, idles_rested}
+use Rattle.audit_laws.proofs.Units.{Rested, Running, charges_running, ends_rested, idles_rested, prepares_last, prepares_rested, prepares_same}
 
 -- ---- bodies that give no thread a new policy
 
@@ -112,26 +113,33 @@ module _ {P : Type 0} (bodies : Bodies P) (known : BodiesFit bodies) (calm : Are
     due : (x : ServerState) → (thread_at s.machine t).server ≡ Some x → NotDue s.machine.now x
     due x e = not_due s.machine alive ends t x e ((rests.0.0.1 t).each x e).sound.rising
 
-    due_to : (o : Option ℕ) (x : ServerState) → (thread_at (dispatches o s).machine t).server ≡ Some x → NotDue (dispatches o s).machine.now x
-    due_to o = subst (λ (m : Machine P). (x : ServerState) → (thread_at m t).server ≡ Some x → NotDue m.now x) (sym (dispatched o s)) due
+    can_to : (o : Option ℕ) → head s.machine ≡ o → (u : ℕ) → o ≡ Some u → can_run s.machine u ≡ true
+    can_to o e u k = head_can_run s.machine u rests.1 (e ∙ k)
 
-    headed : (o : Option ℕ) → head s.machine ≡ o → Rested bodies t lim a (runs bodies o (dispatches o s))
+    prepared_so : (o : Option ℕ) → head s.machine ≡ o → ServedRight bodies (prepares o s) × Alike s.machine (prepares o s).machine × ((prepares o s).direct ≡ s.direct)
+    prepared_so o e = prepares_keep (ServedRight bodies) (served_tick bodies).prepares o s (can_to o e) rests.0.0
+
+    due_to : (o : Option ℕ) → head s.machine ≡ o → (x : ServerState) → (thread_at (prepares o s).machine t).server ≡ Some x → NotDue (prepares o s).machine.now x
+    due_to o e x k = subst (λ (n : ℕ). NotDue n x) (sym (prepared_so o e).1.now) (due x (sym (prepares_same bodies t lim a o s rests.0.1) ∙ k))
+
+    headed : (o : Option ℕ) → head s.machine ≡ o → Rested bodies t lim a (runs bodies o (prepares o s))
     headed None e =
-        let to = dispatches None s in
-        let q = dispatches_rested bodies t lim a None s (λ u k. absurd (grind arith)) rests.0.1 in
-        let r = idles_rested bodies t lim a to (dispatched_threads bodies None s rests.0.0.1) (due_to None) q refl in
+        let to = prepares None s in
+        let q = prepares_rested bodies t lim a None s (can_to None e) rests.0.1 in
+        let r = idles_rested bodies t lim a to (prepared_so None e).0.1 (due_to None e) q (prepares_last bodies t lim a None s) in
         (q.0, (r.0, r.1, r.2))
     headed (Some u) e =
         let served = served_tick bodies in
-        let to = dispatches (Some u) s in
+        let to = prepares (Some u) s in
         let can : can_run s.machine u ≡ true = head_can_run s.machine u rests.1 e in
-        let can' : can_run to.machine u ≡ true = ap (λ (m : Machine P). can_run m u) (dispatched (Some u) s) ∙ can in
+        let so = prepared_so (Some u) e in
+        let can' : can_run to.machine u ≡ true = alike_runs s.machine to.machine u so.1 can in
         let tolled = has_high (thread_at to.machine u).server in
         let th = thread_at to.machine u in
         let taken = in_unit bodies th in
         let charged' = charged_turn bodies u to in
-        let q : Rested bodies t lim a to = dispatches_rested bodies t lim a (Some u) s (λ v k. subst (λ (i : ℕ). can_run s.machine i ≡ true) (only k) can) rests.0.1 in
-        let mid : BookMid tolled u charged' = (served.charges u s ends can rests.0.0, charges_running bodies t lim a to (dispatched_threads bodies (Some u) s rests.0.0.1) (due_to (Some u)) q u refl can') in
+        let q : Rested bodies t lim a to = prepares_rested bodies t lim a (Some u) s (can_to (Some u) e) rests.0.1 in
+        let mid : BookMid tolled u charged' = (served.charges u to (prepared (Some u) s) can' so.0, charges_running bodies t lim a to so.0.1 (due_to (Some u) e) q u (prepares_last bodies t lim a (Some u) s) can') in
         let completed = completes_at bodies (top_left (thread_at charged'.machine u).frames) u taken.unit charged' in
         let done : BookDone tolled u completed = completes_booked tolled (top_left (thread_at charged'.machine u).frames) u taken.unit charged' (in_unit_fits bodies known th) (in_unit_calm bodies calm th) (charged_runs bodies u to can') mid in
         let ticked = settles_since to.machine completed in
@@ -139,9 +147,6 @@ module _ {P : Type 0} (bodies : Bodies P) (known : BodiesFit bodies) (calm : Are
         let e' = tick_end tolled ticked.machine.quantum (thread_at ticked.machine u) in
         let ended : Book (ends_tick e' u ticked) = (served.ends tolled u ticked done'.0, ends_rested bodies t lim a tolled u ticked done'.0.1 done'.1) in
         (sweeps_keep bodies Book book_round (settles_since ticked.machine (ends_tick e' u ticked)) (book_round.settles ticked.machine (ends_tick e' u ticked) ended)).0.1
-      where
-        only : {x y : ℕ} → Some y ≡ Some x → y ≡ x
-        only k = grind arith
 
   finished : (killed : Option ℕ) (s : Turn P) → s.machine.killed ≡ killed → next_item s.machine ≡ None → Rests bodies Book s → Rested bodies t lim a (unless_killed killed (runs_head bodies) s)
   finished None s e ends rests = headed s ends e rests (head s.machine) refl

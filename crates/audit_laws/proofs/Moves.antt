@@ -8,13 +8,15 @@ use Rattle.script_tree.specs.declared.policy.Policy.{Policy}
 use Rattle.script_tree.specs.declared.policy.Policy.TheVariants as policy
 use Rattle.pse52_trace.specs.declared.event.Event.{Event}
 use Rattle.pse52_trace.specs.declared.event.Event.TheVariants as event
+use Rattle.sporadic_server.specs.declared.ServerKind.{ServerKind}
+use Rattle.sporadic_server.specs.declared.ServerKind.TheVariants as server_kind
 use Rattle.sporadic_server.specs.Server.{ServerState, activate, is_high, new_server, next_due, oldest_pending, refill, set_high}
 use Rattle.machine_rules.specs.Lists.{changed_at, is}
 use Rattle.machine_rules.specs.Bodies.{Bodies}
 use Rattle.machine_rules.specs.State.{Joiner, Status, Thread, Waiting, blocked, dormant, ended, for_mutex_again, runnable}
 use Rattle.machine_rules.specs.Threads.{can_run, is_blocked, is_dormant, is_live, is_runnable, no_thread, thread_at, thread_in}
 use Rattle.machine_rules.specs.Turns.{Turn, changes, moves, tells}
-use Rattle.machine_rules.specs.Servers.{activates_if, activates_server, amount_of, high_server, refills_server, regains_high, server_of, with_server}
+use Rattle.machine_rules.specs.Servers.{activates_if, activates_server, amount_of, at_once, at_once_as, high_server, refills_server, regains_high, server_of, with_server}
 use Rattle.machine_rules.specs.Scheduling.{at_priority, with_priority}
 use Rattle.machine_rules.specs.Waking.{ending_with, on_top, put_to_wait, started, wakes_telling, woken}
 use Rattle.machine_rules.specs.Lives.{with_joiner, without_life, without_top}
@@ -99,6 +101,22 @@ not_mine false w e = refl
 
 pub mine_says : (t : ℕ) (w : Saying) → if_mine (t == t) w ≡ w
 mine_says t w = let itself : (t == t) ≡ true = grind arith in ap (λ (b : Bool). if_mine b w) itself
+
+-- ---- a sporadic server is activated at once
+
+at_once_is : (o : Option ServerState) (x : ServerState) → at_once o ≡ Some x → o ≡ Some x
+at_once_is None x e = absurd (grind arith)
+at_once_is (Some y) x e = by_kind y.kind e
+  where
+    by_kind : (k : ServerKind) → at_once_as k y ≡ Some x → Some y ≡ Some x
+    by_kind server_kind.Sporadic e = e
+    by_kind server_kind.Strict e = absurd (grind arith)
+
+at_once_some : (o : Option ServerState) (x : ServerState) → o ≡ Some x → x.kind ≡ server_kind.Sporadic → at_once o ≡ None → ⊥
+at_once_some o x is sort none = some_none (sym (ap (λ (k : ServerKind). at_once_as k x) sort) ∙ sym (ap at_once is) ∙ none)
+  where
+    some_none : Some x ≡ None → ⊥
+    some_none e = absurd (grind arith)
 
 -- ---- the account and the thread
 
@@ -240,31 +258,28 @@ module _ {P : Type 0} (bodies : Bodies P) (t : ℕ) (lim : Limits) (a : Account)
             (λ x k. active_booked lim now server.capacity th.status x b q.2.at (server, only (sym k ∙ ap (option_map (activate now)) e), rises.0)) q.2,
       )
 
-  activates_own : (o : Option ServerState) (s : Turn P) → (thread_at s.machine t).server ≡ o → (is_dormant (thread_at s.machine t).status ≡ false) × (is_ended (thread_at s.machine t).status ≡ false) → t < length s.machine.threads → Has Rises s → Recorded (activates_server t o s)
+  activates_own : (o : Option ServerState) (s : Turn P) → at_once (thread_at s.machine t).server ≡ o → (is_dormant (thread_at s.machine t).status ≡ false) × (is_ended (thread_at s.machine t).status ≡ false) → t < length s.machine.threads → Has Rises s → Recorded (activates_server t o s)
   activates_own None s e live within q =
       let th = thread_at s.machine t in
-      (q.0, q.1, refit lim own tolled Rises (Booked lim) s.machine.now th.status th.status th.policy th.server th.server th.ticks q.0 q.0 (same_account lim own tolled q.0) live live (λ o k. k) (λ x k. absurd (some_none e k)) q.2)
-    where
-      some_none : {x : ServerState} {o : Option ServerState} → o ≡ None → o ≡ Some x → ⊥
-      some_none p k = cc
-  activates_own (Some server) s e live within q = activates_some server s e live within q
+      (q.0, q.1, refit lim own tolled Rises (Booked lim) s.machine.now th.status th.status th.policy th.server th.server th.ticks q.0 q.0 (same_account lim own tolled q.0) live live (λ o k. k) (λ x k. absurd (at_once_some th.server x k (q.2.each x k).0.0.sporadic e)) q.2)
+  activates_own (Some server) s e live within q = activates_some server s (at_once_is (thread_at s.machine t).server server e) live within q
 
   -- where the priority is high
-  activates_high : (o : Option ServerState) (s : Turn P) → high_server (thread_at s.machine t).server ≡ o → (is_dormant (thread_at s.machine t).status ≡ false) × (is_ended (thread_at s.machine t).status ≡ false) → t < length s.machine.threads → Has (Still lim) s → Recorded (activates_server t o s)
+  activates_high : (o : Option ServerState) (s : Turn P) → at_once (high_server (thread_at s.machine t).server) ≡ o → (is_dormant (thread_at s.machine t).status ≡ false) × (is_ended (thread_at s.machine t).status ≡ false) → t < length s.machine.threads → Has (Still lim) s → Recorded (activates_server t o s)
   activates_high None s e live within q =
       let th = thread_at s.machine t in (
         q.0,
         q.1,
         refit lim own tolled (Still lim) (Booked lim) s.machine.now th.status th.status th.policy th.server th.server th.ticks q.0 q.0 (same_account lim own tolled q.0) live live (λ o k. k)
-            (λ x k. low_booked lim s.machine.now th.status x q.0 (λ runs high. not_low x (is_high x) high (ap high_server (sym k) ∙ e)) (q.2.each x k)) q.2,
+            (λ x k. low_booked lim s.machine.now th.status x q.0 (λ runs high. not_low x (is_high x) high (q.2.each x k).0.sporadic (ap (λ (y : Option ServerState). at_once (high_server y)) (sym k) ∙ e)) (q.2.each x k)) q.2,
       )
     where
-      not_low : (x : ServerState) (b : Bool) → b ≡ true → (if b then Some x else None) ≡ None → ⊥
-      not_low x true h k = absurd (grind arith)
-      not_low x false h k = absurd (grind arith)
+      not_low : (x : ServerState) (b : Bool) → b ≡ true → x.kind ≡ server_kind.Sporadic → at_once (if b then Some x else None) ≡ None → ⊥
+      not_low x true h sort k = at_once_some (Some x) x refl sort k
+      not_low x false h sort k = absurd (grind arith)
   activates_high (Some server) s e live within q =
       let th = thread_at s.machine t in
-      let found = is_server th.server e in
+      let found = is_server th.server (at_once_is (high_server th.server) server e) in
       activates_some server s found.0 live within (
         q.0,
         q.1,
@@ -292,7 +307,7 @@ module _ {P : Type 0} (bodies : Bodies P) (t : ℕ) (lim : Limits) (a : Account)
           let up = tells e (moves t (changes t (woken r n) s)) in
           let live : (is_dormant (thread_at up.machine t).status ≡ false) × (is_ended (thread_at up.machine t).status ≡ false) =
           runs_lives (thread_at up.machine t).status (ap (λ (x : Thread P). is_runnable x.status) (thread-same s.machine t (woken r n) within)) in
-          activates_high (high_server (thread_at up.machine t).server) up refl live (subst (λ (k : ℕ). t < k) (sym (changed-length no_thread t (woken r n) s.machine.threads)) within)
+          activates_high (at_once (high_server (thread_at up.machine t).server)) up refl live (subst (λ (k : ℕ). t < k) (sym (changed-length no_thread t (woken r n) s.machine.threads)) within)
           (told_nothing (Still lim) e (moves t (changes t (woken r n) s)) plain silent
           (own_change (Booked lim) (Still lim) (woken r n) s within
           (λ c f. refit lim own tolled (Booked lim) (Still lim) s.machine.now th.status runnable th.policy th.server th.server th.ticks c c (same_account lim own tolled c) (blocked_lives th.status b) (refl, refl) (λ o k. k) (λ x k. ((f.each x k).agrees, none x k)) f) q))
@@ -304,7 +319,7 @@ module _ {P : Type 0} (bodies : Bodies P) (t : ℕ) (lim : Limits) (a : Account)
           (mine (subst (λ (i : ℕ). is_blocked (thread_at s.machine i).status ≡ true) (sym it) b) (subst (λ (i : ℕ). (x : ServerState) → (thread_at s.machine i).server ≡ Some x → x.consumed ≡ 0) (sym it) none))
       by_eq false k =
           let up = tells e (moves v (changes v (woken r n) s)) in
-          activates_other (Booked lim) v (high_server (thread_at up.machine v).server) up k (told_nothing (Booked lim) e (moves v (changes v (woken r n) s)) plain silent (other (Booked lim) v (woken r n) s k q))
+          activates_other (Booked lim) v (at_once (high_server (thread_at up.machine v).server)) up k (told_nothing (Booked lim) e (moves v (changes v (woken r n) s)) plain silent (other (Booked lim) v (woken r n) s k q))
 
   -- ---- a start
 
@@ -343,7 +358,7 @@ module _ {P : Type 0} (bodies : Bodies P) (t : ℕ) (lim : Limits) (a : Account)
           ) in
           let live : (is_dormant (thread_at up.machine t).status ≡ false) × (is_ended (thread_at up.machine t).status ≡ false) =
           runs_lives (thread_at up.machine t).status (ap (λ (x : Thread P). is_runnable x.status) (thread-same s.machine t f within)) in
-          activates_own (thread_at up.machine t).server up refl live (subst (λ (k : ℕ). t < k) (sym (changed-length no_thread t f s.machine.threads)) within) begun
+          activates_own (at_once (thread_at up.machine t).server) up refl live (subst (λ (k : ℕ). t < k) (sym (changed-length no_thread t f s.machine.threads)) within) begun
         where
           no_server : (o : Option ServerState) → is_some o ≡ false → Owing lim own tolled o → ⊥
           no_server None e k = absurd (grind (arith, k.1))
@@ -357,7 +372,7 @@ module _ {P : Type 0} (bodies : Bodies P) (t : ℕ) (lim : Limits) (a : Account)
       by_eq false k =
           let f = started bodies v mask s.machine.now in
           let up = tells (event.Start v) (moves v (changes v f s)) in
-          activates_other (Booked lim) v (thread_at up.machine v).server up k
+          activates_other (Booked lim) v (at_once (thread_at up.machine v).server) up k
           (told_nothing (Booked lim) (event.Start v) (moves v (changes v f s)) refl (not_mine (v == t) marks.begins k) (other (Booked lim) v f s k q))
 
   -- ---- an end
@@ -394,7 +409,7 @@ module _ {P : Type 0} (bodies : Bodies P) (t : ℕ) (lim : Limits) (a : Account)
   -- ---- a refill
 
   activates_if_other : (Q : ℕ → Status → ServerState → Account → Type 0) (c : Bool) (v : ℕ) (s : Turn P) → (v == t) ≡ false → Has Q s → Has Q (activates_if c v s)
-  activates_if_other Q true v s e q = activates_other Q v (thread_at s.machine v).server s e q
+  activates_if_other Q true v s e q = activates_other Q v (at_once (thread_at s.machine v).server) s e q
   activates_if_other Q false v s e q = q
 
   refills_other : (v : ℕ) (o : Option ServerState) (s : Turn P) → (v == t) ≡ false → Recorded s → Recorded (refills_server v o s)
@@ -451,7 +466,7 @@ module _ {P : Type 0} (bodies : Bodies P) (t : ℕ) (lim : Limits) (a : Account)
           let there = tells (event.Refill t (amount_of (oldest_pending server)) (refill server).capacity) (changes t (with_server refill) s) in
           let parts = low_of (is_high server) (is_high (refill server)) (can_run s.machine t) k in
           let same : (thread_at there.machine t).status ≡ (thread_at s.machine t).status = ap (λ (x : Thread P). x.status) (thread-same s.machine t (with_server refill) within) in
-          activates_own (thread_at there.machine t).server there refl (subst (λ (st : Status). (is_dormant st ≡ false) × (is_ended st ≡ false)) (sym same) live) (subst (λ (n : ℕ). t < n) (sym (changed-length no_thread t (with_server refill) s.machine.threads)) within)
+          activates_own (at_once (thread_at there.machine t).server) there refl (subst (λ (st : Status). (is_dormant st ≡ false) × (is_ended st ≡ false)) (sym same) live) (subst (λ (n : ℕ). t < n) (sym (changed-length no_thread t (with_server refill) s.machine.threads)) within)
           (told_as Rises (refill_still lim s.machine.now (thread_at s.machine t).status server q.0 comes.1 (idle parts.0), parts.1))
 
   idle_low : (now : ℕ) (th : Thread P) (x : ServerState) → th.server ≡ Some x → ThreadRight false now th → is_high x ≡ false → x.consumed ≡ 0

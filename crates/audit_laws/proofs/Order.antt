@@ -13,7 +13,7 @@ use Rattle.machine_rules.specs.Bodies.{Bodies}
 use Rattle.machine_rules.specs.State.{Machine}
 use Rattle.machine_rules.specs.Threads.{can_run, thread_at}
 use Rattle.machine_rules.specs.Turns.{Turn, changes, moves, moves_if, tells, turn_of}
-use Rattle.machine_rules.specs.Servers.{activates_if, activates_server, amount_of, high_server, plans_server, refills_server, regains_high, with_server}
+use Rattle.machine_rules.specs.Servers.{activates_if, activates_server, amount_of, at_once, high_server, plans_server, refills_server, regains_high, with_server}
 use Rattle.machine_rules.specs.Scheduling.{with_policy}
 use Rattle.machine_rules.specs.Waking.{started, woken}
 use Rattle.machine_rules.specs.Lives.{without_life}
@@ -96,7 +96,7 @@ module _ {P : Type 0} (bodies : Bodies P) (before : List Entry) where
   activated t (Some x) s h = told (event.Activate t x.capacity) (changes t (with_server (activate s.machine.now)) s) refl h
 
   activated_if : (b : Bool) (t : ℕ) (s : Turn P) → Ordered s → Ordered (activates_if b t s)
-  activated_if true t s h = activated t (thread_at s.machine t).server s h
+  activated_if true t s h = activated t (at_once (thread_at s.machine t).server) s h
   activated_if false t s h = h
 
   refilled : (t : ℕ) (o : Option ServerState) (s : Turn P) → Ordered s → Ordered (refills_server t o s)
@@ -110,11 +110,11 @@ module _ {P : Type 0} (bodies : Bodies P) (before : List Entry) where
   ordered_keep who (renews_with active t new) s may h = absurd may
   ordered_keep who (wakes_with t e r v) s may h =
       let up = tells e (moves t (changes t (woken r v) s)) in
-      activated t (high_server (thread_at up.machine t).server) up (told e (moves t (changes t (woken r v) s)) (quiet_plain e may.1) h)
+      activated t (at_once (high_server (thread_at up.machine t).server)) up (told e (moves t (changes t (woken r v) s)) (quiet_plain e may.1) h)
   ordered_keep who (blocks_plainly by wait due) s may h = absurd may
   ordered_keep who (begins t mask) s may h =
       let up = tells (event.Start t) (moves t (changes t (started bodies t mask s.machine.now) s)) in
-      activated t (thread_at up.machine t).server up (told (event.Start t) (moves t (changes t (started bodies t mask s.machine.now) s)) refl h)
+      activated t (at_once (thread_at up.machine t).server) up (told (event.Start t) (moves t (changes t (started bodies t mask s.machine.now) s)) refl h)
   ordered_keep who (lives_no_more t) s may h = told (event.Exit t) (changes t without_life s) refl h
   ordered_keep who (recasts t f) s may h = absurd may
   ordered_keep who (refills_one t) s may h = refilled t (thread_at s.machine t).server s h
@@ -171,8 +171,13 @@ module _ {P : Type 0} (bodies : Bodies P) (before : List Entry) where
     unit_stops = order_stop;
     unit_renews = order_renew;
     unit_settles = λ tolled t earlier s q. (served.unit_settles tolled t earlier s q.0, q.1);
-    charges = λ t s none runs q. let to = dispatches (Some t) s in (served.charges t s none runs q.0, later_order to.machine.now (before ++ to.events) (dispatched (Some t) s q.1));
-    idles = λ s none q. let to = dispatches None s in (served.idles s none q.0, later_order to.machine.now (before ++ to.events) (dispatched None s q.1));
+    prepares = record {
+      closes = λ t s run q. (served.prepares.closes t s run q.0, planned t (thread_at s.machine t).server s q.1);
+      sent = λ to s off q. (served.prepares.sent to s off q.0, dispatched to s q.1);
+      opens = λ t x s runs is may q. (served.prepares.opens t x s runs is may q.0, activated t (Some x) s q.1);
+    };
+    charges = λ t s ready runs q. (served.charges t s ready runs q.0, later_order s.machine.now (before ++ s.events) q.1);
+    idles = λ s ready q. (served.idles s ready q.0, later_order s.machine.now (before ++ s.events) q.1);
     ends = λ tolled t s q. (served.ends tolled t s q.0, ended (tick_end tolled s.machine.quantum (thread_at s.machine t)) t s q.1);
   }
 
@@ -190,4 +195,4 @@ module _ {P : Type 0} (bodies : Bodies P) (fits : BodiesFit bodies) where
 -- in the run of every well formed script
 pub events_in_order : (script : Script) → IsWellFormed script → (n : ℕ) → InOrder (machine script n).now (events script n)
 events_in_order script fits n =
-    run_ordered (bodies_of script) (bodies_fit script fits.priorities) n (opening script) (opening_served (bodies_of script) script) (opening_listed Place script) (record { climbs = tt; by = refl; unended = refl })
+    run_ordered (bodies_of script) (bodies_fit script fits.priorities) n (opening script) (opening_served (bodies_of script) script fits) (opening_listed Place script) (record { climbs = tt; by = refl; unended = refl })

@@ -56,6 +56,7 @@ module _ (s : Limits) where
           max = h.max;
           high_total = h.high_total;
           refilled_total = omega arith;
+          sporadic = h.sporadic;
         },
       )
 

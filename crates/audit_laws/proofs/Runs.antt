@@ -213,7 +213,7 @@ module _ (script : Script) (fits : IsWellFormed script) (calm : HasNoSetsched sc
   -- No rule is broken by the events of the run, nor by its end.
   pub machine_audited : (n : ℕ) → Audited (bodies_of script) (bodies_fit script fits.priorities) (are_calm (bodies_of script) (bodies_calm script calm)) t lim (events script n) (machine script n)
   machine_audited n =
-      run_audited (bodies_of script) (bodies_fit script fits.priorities) (are_calm (bodies_of script) (bodies_calm script calm)) t lim n (opening script) (opening_served (bodies_of script) script) (opening_listed Place script) begun
+      run_audited (bodies_of script) (bodies_fit script fits.priorities) (are_calm (bodies_of script) (bodies_calm script calm)) t lim n (opening script) (opening_served (bodies_of script) script fits) (opening_listed Place script) begun
 
   pub machine_keeps : (n : ℕ) → keeps_all lim opened (marks_by t (events script n) ++ record { time = (machine script n).now; saying = nothing } ∷ []) ≡ true
   machine_keeps n = ends_kept (bodies_of script) (bodies_fit script fits.priorities) (are_calm (bodies_of script) (bodies_calm script calm)) t lim (events script n) (machine script n) (machine_audited n)
@@ -229,5 +229,5 @@ module _ (script : Script) (fits : IsWellFormed script) (calm : HasNoSetsched sc
 
   pub machine_closes : (n : ℕ) → ClosesRight (bodies_of script) (bodies_fit script fits.priorities) (are_calm (bodies_of script) (bodies_calm script calm)) t lim (advanced lim (machine script n).now (replayed lim opened (marks_by t (events script n)))) (thread_at (machine script n) t)
   machine_closes n =
-      let so = run_keep (bodies_of script) (bodies_fit script fits.priorities) (λ m. ServedRight (bodies_of script) (turn_of m)) (ServedMid (bodies_of script)) (ServedDone (bodies_of script)) (served_tick (bodies_of script)) n (opening script) (opening_served (bodies_of script) script) (opening_listed Place script) in
+      let so = run_keep (bodies_of script) (bodies_fit script fits.priorities) (λ m. ServedRight (bodies_of script) (turn_of m)) (ServedMid (bodies_of script)) (ServedDone (bodies_of script)) (served_tick (bodies_of script)) n (opening script) (opening_served (bodies_of script) script fits) (opening_listed Place script) in
       closes (bodies_of script) (bodies_fit script fits.priorities) (are_calm (bodies_of script) (bodies_calm script calm)) t lim (events script n) (machine script n) so.0 (machine_audited n)

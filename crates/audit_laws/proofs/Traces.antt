@@ -36,7 +36,7 @@ use Rattle.audit_laws.specs.Calm.{HasNoSetsched}
 use Rattle.audit_laws.specs.Events.{is_end_event, mark_by, marks_by}
 use Rattle.audit_laws.proofs.TextLines.{trace_is_read}
 use Rattle.audit_laws.proofs.Order.{Climbs, InOrder, climbs_more, events_in_order, times_of}
-use Rattle.audit_laws.specs.Traces.{IsServerOf, NamesApart, TraceIsSpelled, event_readings, report_readings, trace_readings}
+use Rattle.audit_laws.specs.Traces.{EachServerOf, IsServerOf, NamesApart, TraceIsSpelled, event_readings, report_readings, trace_readings}
 use Rattle.audit_laws.proofs.Accounts.{IsLimit}
 use Rattle.audit_laws.proofs.Standing.{has_end, saying_now}
 use Rattle.audit_laws.proofs.Runs.{ClosesRight, are_calm, machine_closes, machine_early, machine_keeps, machine_rises, machine_unended}
@@ -491,3 +491,12 @@ no_breach script fits calm apart n servers h =
 pub no_breach_of_text : (script : Script) → IsWellFormed script → HasNoSetsched script → NamesApart (names_of script) → (n : ℕ) → TraceIsSpelled script n → (servers : List NamedServer) → EachOf (IsServerOf script) servers →
     first_breach servers (trace script n) ≡ None
 no_breach_of_text script fits calm apart n spelled servers h = ap (breach_from servers [] 1) (trace_is_read script n spelled) ∙ no_breach script fits calm apart n servers h
+
+each_server : (script : Script) (servers : List NamedServer) → EachServerOf script servers → EachOf (IsServerOf script) servers
+each_server script [] h = tt
+each_server script (s ∷ servers) h = (h.0, each_server script servers h.1)
+
+-- as the contract has it
+pub none_broken : (script : Script) (n : ℕ) (servers : List NamedServer) → IsWellFormed script → HasNoSetsched script → NamesApart (names_of script) → TraceIsSpelled script n → EachServerOf script servers →
+    first_breach servers (trace script n) ≡ None
+none_broken script n servers fits calm apart spelled h = no_breach_of_text script fits calm apart n spelled servers (each_server script servers h)

@@ -1,25 +1,30 @@
 -- The account of a thread through a tick: its dispatch, its charge, and its end.
-use Rattle.std.proofs.Common.{Bool, List, None, Option, Some, ap, arith, false, refl, sym, true, ℕ, ◌+◌, ◌≤◌, ◌≡◌}
+use Rattle.std.proofs.Common.{Bool, List, [], ◌∷◌, None, Option, Some, ap, arith, false, refl, sym, true, ℕ, ◌+◌, ◌≤◌, ◌≡◌}
 use Rattle.std.specs.Prelude.{is_some, nat_le, nat_lt, not, option_map, ◌==◌, ◌&&◌, if◌then◌else◌}
 use Rattle.std.specs.List.{list_any}
 use mathlib.Core.Path.{subst, ◌∙◌}
 use Rattle.script_tree.specs.declared.policy.Policy.{Policy}
 use Rattle.pse52_trace.specs.declared.event.Event.TheVariants as event
-use Rattle.sporadic_server.specs.Server.{ServerState, charge, is_high, plan, replenishment}
+use Rattle.sporadic_server.specs.declared.ServerKind.{ServerKind}
+use Rattle.sporadic_server.specs.declared.ServerKind.TheVariants as server_kind
+use Rattle.sporadic_server.specs.Calls.{MayPlan}
+use Rattle.sporadic_server.specs.Server.{ServerState, activate, charge, is_high, plan, replenishment}
 use Rattle.machine_rules.specs.declared.dispatch.LastDispatch.{LastDispatch}
 use Rattle.machine_rules.specs.declared.dispatch.LastDispatch.TheVariants as last
 use Rattle.machine_rules.specs.Bodies.{Bodies}
-use Rattle.machine_rules.specs.State.{Status, Thread, blocked, dormant, ended, runnable}
-use Rattle.machine_rules.specs.Threads.{can_run, is_blocked, is_dormant, is_live, is_runnable, thread_at}
+use Rattle.machine_rules.specs.Lists.{is}
+use Rattle.machine_rules.specs.State.{Machine, Status, Thread, blocked, dormant, ended, runnable}
+use Rattle.machine_rules.specs.Threads.{can_run, is_blocked, is_dormant, is_live, is_runnable, thread_at, thread_numbers}
 use Rattle.machine_rules.specs.Turns.{Turn, changes, moves_if, tells}
-use Rattle.machine_rules.specs.Servers.{charged, has_high, plans_server, with_server}
+use Rattle.machine_rules.specs.Servers.{activates_server, charged, closes, closes_of, has_high, has_run, is_strict, may_open, opens, opens_for, opens_if, plans, plans_if, plans_server, with_server}
 use Rattle.machine_rules.specs.Dispatch.{dispatch_event, dispatch_of, dispatches, is_same, tells_unless}
 use Rattle.machine_rules.specs.GoodState.{is_sporadic}
 use Rattle.machine_rules.specs.Priorities.{exec}
-use Rattle.machine_rules.specs.Ticks.{TickEnd, capacity_in, consumed_in, ends_tick, exhausting, nothing, planning, slice_is_used, slicing, tick_charged, tick_end, without_slice}
+use Rattle.machine_rules.specs.Ticks.{TickEnd, prepares, capacity_in, consumed_in, ends_tick, exhausting, nothing, planning, slice_is_used, slicing, tick_charged, tick_end, without_slice}
 use Rattle.machine_rules.specs.Units.{in_unit}
 use Rattle.machine_rules.proofs.Reading.{thread-other, thread-same}
-use Rattle.machine_moves.proofs.Runs.Ticks.{charged_turn}
+use Rattle.machine_moves.proofs.Runs.Preparing.{Alike, alike, alike_runs, closes_keep}
+use Rattle.machine_moves.proofs.Runs.Ticks.{charged_turn, dispatched}
 use Rattle.machine_moves.proofs.Waiters.Best.{running_within}
 use Rattle.machine_laws.proofs.Budgets.Units.{NotDue}
 use Rattle.machine_laws.proofs.Servers.Right.{Consumed, ThreadRight, only}
@@ -35,7 +40,7 @@ use Rattle.audit_laws.specs.Events.{is_ran}
 use Rattle.audit_laws.proofs.Standing.{Stands, later_stands, told_stands}
 use Rattle.audit_laws.proofs.Accounts.{Booked, exhaustion_kept, given_kept, none_missing, plan_kept, planned_booked, planned_of, taken_kept}
 use Rattle.audit_laws.proofs.Charges.{clear_ticked, high_ticked, low_ticked, owing_ticked, ticks_as_charged}
-use Rattle.audit_laws.proofs.Moves.{Fits, FitsOf, Owing, Recorded, contra, is_ended, lives_account, mine_says, not_mine, one, other, runs_lives, told_as, told_nothing}
+use Rattle.audit_laws.proofs.Moves.{Fits, FitsOf, Owing, Recorded, activates_other, contra, is_ended, lives_account, mine_says, not_mine, one, other, runs_lives, told_as, told_nothing}
 
 -- ---- the charge
 
@@ -194,7 +199,7 @@ module _ {P : Type 0} (bodies : Bodies P) (t : ℕ) (lim : Limits) (a : Account)
     fresh = f.fresh;
     owes = f.owes;
     each = λ x k. let h = f.each x k in let g = h.agrees in record {
-      agrees = record { level = g.level; planned = g.planned; pending = g.pending; period = g.period; budget = g.budget; max = g.max; high_total = g.high_total; refilled_total = g.refilled_total };
+      agrees = record { level = g.level; planned = g.planned; pending = g.pending; period = g.period; budget = g.budget; max = g.max; high_total = g.high_total; refilled_total = g.refilled_total; sporadic = g.sporadic };
       consumed = λ some. let i = h.consumed some in record { before = i.before; active = i.active; since = i.since };
       ready = λ runs high. let i = h.ready runs high in record { before = i.before; active = i.active; since = i.since };
     };
@@ -212,7 +217,7 @@ module _ {P : Type 0} (bodies : Bodies P) (t : ℕ) (lim : Limits) (a : Account)
     fresh = f.fresh;
     owes = f.owes;
     each = λ x k. let h = f.each x k in let g = h.agrees in record {
-      agrees = record { level = g.level; planned = g.planned; pending = g.pending; period = g.period; budget = g.budget; max = g.max; high_total = g.high_total; refilled_total = g.refilled_total };
+      agrees = record { level = g.level; planned = g.planned; pending = g.pending; period = g.period; budget = g.budget; max = g.max; high_total = g.high_total; refilled_total = g.refilled_total; sporadic = g.sporadic };
       consumed = λ some. let i = h.consumed some in record { before = i.before; active = i.active; since = i.since };
       ready = λ runs high. let i = h.ready runs high in record { before = i.before; active = i.active; since = i.since };
     };
@@ -316,6 +321,113 @@ module _ {P : Type 0} (bodies : Bodies P) (t : ℕ) (lim : Limits) (a : Account)
         (other bodies t lim a false q.0 (Booked lim) v (with_server plan) s e q.1),
   )
 
+  -- ---- what precedes the dispatch, and what follows it: runs of strict servers
+
+  -- the thread has a sporadic server, if it has one
+  abbrev IsSporadic : Option ServerState → Type 0
+  IsSporadic o = (x : ServerState) → o ≡ Some x → x.kind ≡ server_kind.Sporadic
+
+  of_rested : (s : Turn P) → Rested s → IsSporadic (thread_at s.machine t).server
+  of_rested s q x e = (q.1.2.each x e).agrees.sporadic
+
+  no_run : (o : Option ServerState) → IsSporadic o → has_run o ≡ true → ⊥
+  no_run None sort run = absurd (grind arith)
+  no_run (Some x) sort run = absurd (none (nat_lt 0 x.consumed) (sym (ap (λ (k : ServerKind). is_strict k && nat_lt 0 x.consumed) (sort x refl)) ∙ run))
+    where
+      none : (b : Bool) → (false && b) ≡ true → ⊥
+      none b e = absurd (grind arith)
+
+  no_opening : (x : ServerState) → x.kind ≡ server_kind.Sporadic → may_open x ≡ true → ⊥
+  no_opening x sort may = absurd (none (is_high x) (x.consumed == 0) (sym (ap (λ (k : ServerKind). is_strict k && is_high x && x.consumed == 0) sort) ∙ may))
+    where
+      none : (a b : Bool) → (false && a && b) ≡ true → ⊥
+      none a b e = absurd (grind arith)
+
+  closes_rested : (v : ℕ) (s : Turn P) → has_run (thread_at s.machine v).server ≡ true → Rested s → Rested (plans v s)
+  closes_rested v s run q = by_eq (v == t) refl
+    where
+      by_eq : (c : Bool) → (v == t) ≡ c → Rested (plans v s)
+      by_eq true e = let it : t ≡ v = grind arith in absurd (no_run (thread_at s.machine t).server (of_rested s q) (subst (λ (i : ℕ). has_run (thread_at s.machine i).server ≡ true) (sym it) run))
+      by_eq false e = plans_other v (thread_at s.machine v).server s e q
+
+  opened_rested : (v : ℕ) (x : ServerState) (s : Turn P) → (thread_at s.machine v).server ≡ Some x → may_open x ≡ true → Rested s → Rested (activates_server v (Some x) s)
+  opened_rested v x s is may q = by_eq (v == t) refl
+    where
+      by_eq : (c : Bool) → (v == t) ≡ c → Rested (activates_server v (Some x) s)
+      by_eq true e = let it : t ≡ v = grind arith in absurd (no_opening x (of_rested s q x (subst (λ (i : ℕ). (thread_at s.machine i).server ≡ Some x) (sym it) is)) may)
+      by_eq false e = (q.0, activates_other bodies t lim a false q.0 (Booked lim) v (Some x) s e q.1)
+
+  -- a law that they keep, as they keep the account
+  module _ (Law : Turn P → Type 0) (close : (v : ℕ) (s : Turn P) → has_run (thread_at s.machine v).server ≡ true → Law s → Law (plans v s))
+      (open_one : (v : ℕ) (x : ServerState) (s : Turn P) → (thread_at s.machine v).server ≡ Some x → may_open x ≡ true → Law s → Law (activates_server v (Some x) s)) where
+    close_if : (b : Bool) (to : Option ℕ) (v : ℕ) (s : Turn P) → (not (is to v) && has_run (thread_at s.machine v).server) ≡ b → Law s → Law (plans_if b v s)
+    close_if true to v s e q = close v s (second (not (is to v)) (has_run (thread_at s.machine v).server) e) q
+      where
+        second : (p r : Bool) → (p && r) ≡ true → r ≡ true
+        second p r h = grind arith
+    close_if false to v s e q = q
+
+    pub all_close : (to : Option ℕ) (vs : List ℕ) (s : Turn P) → Law s → Law (closes_of to vs s)
+    all_close to [] s q = q
+    all_close to (v ∷ vs) s q = let b = not (is to v) && has_run (thread_at s.machine v).server in all_close to vs (plans_if b v s) (close_if b to v s refl q)
+
+    open_if : (b : Bool) (v : ℕ) (x : ServerState) (s : Turn P) → may_open x ≡ b → (thread_at s.machine v).server ≡ Some x → Law s → Law (opens_if b v x s)
+    open_if true v x s e is q = open_one v x s is e q
+    open_if false v x s e is q = q
+
+    open_for : (v : ℕ) (o : Option ServerState) (s : Turn P) → (thread_at s.machine v).server ≡ o → Law s → Law (opens_for v o s)
+    open_for v None s e q = q
+    open_for v (Some x) s e q = open_if (may_open x) v x s refl e q
+
+    pub head_opens : (to : Option ℕ) (s : Turn P) → Law s → Law (opens to s)
+    head_opens None s q = q
+    head_opens (Some v) s q = open_for v (thread_at s.machine v).server s refl q
+
+  -- the server of the thread stays as it is
+  same_closed : (o : Option ServerState) → IsSporadic o → (v : ℕ) (s : Turn P) → has_run (thread_at s.machine v).server ≡ true → (thread_at s.machine t).server ≡ o → (thread_at (plans v s).machine t).server ≡ o
+  same_closed o sort v s run q = by_eq (v == t) refl (thread_at s.machine v).server refl
+    where
+      by_eq : (c : Bool) → (v == t) ≡ c → (w : Option ServerState) → (thread_at s.machine v).server ≡ w → (thread_at (plans_server v w s).machine t).server ≡ o
+      by_eq true e w k =
+          let it : t ≡ v = grind arith in
+          absurd (no_run o sort (ap has_run (sym q) ∙ subst (λ (i : ℕ). has_run (thread_at s.machine i).server ≡ true) (sym it) run))
+      by_eq false e None k = q
+      by_eq false e (Some x) k = ap (λ (th : Thread P). th.server) (thread-other s.machine v t (with_server plan) e) ∙ q
+
+  same_opened : (o : Option ServerState) → IsSporadic o → (v : ℕ) (x : ServerState) (s : Turn P) → (thread_at s.machine v).server ≡ Some x → may_open x ≡ true → (thread_at s.machine t).server ≡ o → (thread_at (activates_server v (Some x) s).machine t).server ≡ o
+  same_opened o sort v x s is may q = by_eq (v == t) refl
+    where
+      by_eq : (c : Bool) → (v == t) ≡ c → (thread_at (activates_server v (Some x) s).machine t).server ≡ o
+      by_eq true e =
+          let it : t ≡ v = grind arith in
+          absurd (no_opening x (sort x (sym q ∙ subst (λ (i : ℕ). (thread_at s.machine i).server ≡ Some x) (sym it) is)) may)
+      by_eq false e = ap (λ (th : Thread P). th.server) (thread-other s.machine v t (with_server (activate s.machine.now)) e) ∙ q
+
+  pub prepares_same : (to : Option ℕ) (s : Turn P) → Rested s → (thread_at (prepares to s).machine t).server ≡ (thread_at s.machine t).server
+  prepares_same to s q =
+      let o = (thread_at s.machine t).server in
+      let sort = of_rested s q in
+      let closed = all_close (λ (x : Turn P). (thread_at x.machine t).server ≡ o) (same_closed o sort) (same_opened o sort) to (thread_numbers s.machine) s refl in
+      let sent = ap (λ (m : Machine P). (thread_at m t).server) (dispatched to (closes to s)) ∙ closed in
+      head_opens (λ (x : Turn P). (thread_at x.machine t).server ≡ o) (same_closed o sort) (same_opened o sort) to (dispatches to (closes to s)) sent
+
+  -- the head is the thread that was dispatched
+  pub prepares_last : (to : Option ℕ) (s : Turn P) → (prepares to s).machine.last ≡ dispatch_of to
+  prepares_last to s = head_opens (λ (x : Turn P). x.machine.last ≡ dispatch_of to) (λ v x run q. plan_last v (thread_at x.machine v).server x q) (λ v y x is may q. q) to (dispatches to (closes to s)) refl
+    where
+      plan_last : (v : ℕ) (o : Option ServerState) (x : Turn P) → x.machine.last ≡ dispatch_of to → (plans_server v o x).machine.last ≡ dispatch_of to
+      plan_last v None x q = q
+      plan_last v (Some y) x q = q
+
+  pub prepares_rested : (to : Option ℕ) (s : Turn P) → ((u : ℕ) → to ≡ Some u → can_run s.machine u ≡ true) → Rested s → Rested (prepares to s)
+  prepares_rested to s runs q =
+      let m = s.machine in
+      let close = closes to s in
+      let closed = all_close Rested closes_rested opened_rested to (thread_numbers s.machine) s q in
+      let start : Alike m s.machine × (s.direct ≡ s.direct) = (record { statuses = λ u. refl; lists = refl; now = refl; killed = refl; threads = refl }, refl) in
+      let same = closes_keep (λ (x : Turn P). Alike m x.machine × (x.direct ≡ s.direct)) (alike m s.direct) to (thread_numbers s.machine) s start in
+      head_opens Rested closes_rested opened_rested to (dispatches to close) (dispatches_rested to close (λ u k. alike_runs m close.machine u same.0 (runs u k)) closed)
+
   ends_other : (e : TickEnd) (v : ℕ) (s : Turn P) → (v == t) ≡ false → Rested s → Rested (ends_tick e v s)
   ends_other planning v s e q = plans_other v (thread_at s.machine v).server s e q
   ends_other exhausting v s e q =
@@ -338,7 +450,7 @@ module _ {P : Type 0} (bodies : Bodies P) (t : ℕ) (lim : Limits) (a : Account)
           tolled,
           told_as bodies t lim a true tolled (Booked lim) (FitsOf bodies t lim a false tolled (Booked lim)) (event.Plan t (replenishment x).amount (replenishment x).due) (planned_of lim x) (with_server plan) s (has_server s.machine.threads t x e)
               refl (mine_says t (planned_of lim x)) q (
-                plan_kept lim now x b old.clear (lives_account lim true tolled (Booked lim) now th.status th.policy th.server th.ticks b live old) booked.agrees some consumed.room (booked.consumed some),
+                plan_kept lim now x b old.clear (lives_account lim true tolled (Booked lim) now th.status th.policy th.server th.ticks b live old) booked.agrees some (subst (λ (k : ServerKind). MayPlan k x) booked.agrees.sporadic consumed.room) (booked.consumed some),
                 refl,
                 record {
                   clear = old.clear;

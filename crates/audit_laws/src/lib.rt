@@ -16,7 +16,8 @@ ghost use Rattle.audit_laws.specs.Traces.{EachServerOf, NamesApart, TraceIsSpell
 
 /// Of a well formed script without a setsched step, the trace of every run breaks no rule for servers that are sporadic threads of the
 /// script, with their period, budget and greatest number of pending replenishments. Here where names tell its threads apart, and its trace
-/// is spelled as one: no number in it is above the greatest.
+/// is spelled as one: no number in it is above the greatest. Strict threads are not audited; the script may have them beside.
+#[tactic(auto, using(crate::proofs::Traces::none_broken))]
 pub fn traces_break_no_rule()
     ensures { (script : Script) → (n : ℕ) → (servers : List NamedServer) → IsWellFormed script → HasNoSetsched script → NamesApart (names_of script) → TraceIsSpelled script n → EachServerOf script servers → first_breach servers (trace script n) ≡ None }
 {}

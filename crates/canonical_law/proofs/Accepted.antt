@@ -1,6 +1,6 @@
 -- A text and its canonical text are read as the same script.
-use Rattle.std.proofs.Common.{◌≡◌, ℕ, ◌+◌, List, [], ◌∷◌, refl, sym, ◌∙◌, subst, Bool, true, false, Option, None, Some}
-use Rattle.std.specs.Prelude.{if◌then◌else◌, Ok, Err}
+use Rattle.std.proofs.Common.{◌≡◌, ap, ℕ, ◌+◌, List, [], ◌∷◌, refl, sym, ◌∙◌, subst, Bool, true, false, Option, None, Some}
+use Rattle.std.specs.Prelude.{if◌then◌else◌, Result, Ok, Err}
 use Rattle.std.specs.List.{list_all}
 use Rattle.script_lex.specs.Lines.{lines_of}
 use Rattle.script_lex.specs.Words.{line_words}
@@ -10,21 +10,22 @@ use Rattle.script_table.specs.Faults.{Fault, is_before, earlier, least, faults_a
 use Rattle.script_table.specs.Patterns.{Row, Spot}
 use Rattle.script_table.specs.LineFaults.{fits, place_faults, spelling}
 use Rattle.script_table.specs.Names.{declared}
-use Rattle.script_table.specs.Ranges.{range_fault, no_tally}
+use Rattle.script_table.specs.Ranges.{range_fault}
 use Rattle.script_table.specs.Structure.{Said, said_from, row_of_line, line_faults, behind_line, opened_by, phase_one}
 use Rattle.script_table.specs.Build.{script_of}
-use Rattle.script_table.specs.Read.{said, faults, verdict, read}
+use Rattle.script_table.specs.declared.version.Version.{Version}
+use Rattle.script_table.specs.Heading.{Beginning, heading}
+use Rattle.script_table.specs.Read.{Tables, said_in, faults_in, verdict, read_in, read_behind, read}
 use Rattle.canonical_law.specs.Apart.{is_bounded}
-use Rattle.canonical_law.specs.Laws.{IsSound, IsRanged, AreRanged, canonical_text}
+use Rattle.canonical_law.specs.Laws.{IsSound, IsRanged, AreRanged, HasNoFault, canonical_part, canonical_behind, canonical_text}
 use Rattle.canonical_law.proofs.Apart.{found_passes, found_fits}
 use Rattle.canonical_law.proofs.Declares.{declares_rightly}
 use Rattle.canonical_law.proofs.Forms.{fitting_has}
-use Rattle.canonical_law.proofs.Limits.{are_ranged}
 use Rattle.canonical_law.proofs.LineLaws.{some_found}
 use Rattle.canonical_law.proofs.Naming.{numbers_alike}
 use Rattle.canonical_law.proofs.Places.{InPlace, both_none, no_kinds, one_line, in_place, behind_clean, nothing_said, said_none, said_some}
 use Rattle.canonical_law.proofs.Rebuilt.{SoundSaid, AllSound, script_anew}
-use Rattle.canonical_law.proofs.Text.{no_fault, text_kept}
+use Rattle.canonical_law.proofs.Text.{no_fault, faults_none, ranged_in, statements_kept, canonical_begins}
 use Rattle.canonical_law.proofs.Table.{IsTable}
 
 refused : (b : Bool) (f g : Fault) (s script : Script) → verdict (if b then Some g else Some f) s ≡ Ok script → ⊥
@@ -78,33 +79,50 @@ module _ (rows : List Row) (table : IsTable rows) where
       let rest = subst (λ o. phase_one rows (n + 1) o lines ≡ []) after split.1 in
       sound_by_row (row_of_line rows line) openings line lines n refl none ranged.0 (all_sound lines (opened_by (row_of_line rows line) openings) (n + 1) rest ranged.1)
 
-  pub text_sound : (text : List ℕ) → faults rows text ≡ [] → AllSound (said rows text)
-  text_sound text e =
-      let clean = no_fault rows table text e in
-      all_sound (lines_of text) [] 1 clean.places (are_ranged rows table (lines_of text) no_tally 1 1 (clean.limits 1))
+  pub lines_sound : (b : Beginning) → HasNoFault rows b → AllSound (said_in rows b)
+  lines_sound b clean = all_sound b.lines [] b.number clean.places (ranged_in rows table b clean)
 
+module _ (tables : Tables) (table : (v : Version) → IsTable (tables v)) where
   -- what a text that is read has
   pub record IsRead (text : List ℕ) (script : Script) : Type 0 where
-    pub clean : faults rows text ≡ []
-    pub means : script_of (declared (said rows text)).names (said rows text) ≡ script
+    pub part : Beginning
+    pub begins : heading 1 (lines_of text) ≡ Ok part
+    pub clean : HasNoFault (tables part.version) part
+    pub means : script_of part.version (declared (said_in (tables part.version) part)).names (said_in (tables part.version) part) ≡ script
 
-  pub is_read : (text : List ℕ) (script : Script) → read rows text ≡ Ok script → IsRead text script
+  read_behind_heading : (text : List ℕ) (script : Script) (found : Result Beginning Fault) → heading 1 (lines_of text) ≡ found → read_behind tables found ≡ Ok script → IsRead text script
+  unfolding read_in
+  read_behind_heading text script (Err f) is e = absurd (let h : Err f ≡ Ok script = e in cc)
+  read_behind_heading text script (Ok b) is e =
+      let rows : List Row = tables b.version in
+      let h = accepted (faults_in rows b) (script_of b.version (declared (said_in rows b)).names (said_in rows b)) script e in
+      record { part = b; begins = is; clean = no_fault rows (table b.version) b h.0; means = h.1 }
+
+  pub is_read : (text : List ℕ) (script : Script) → read tables text ≡ Ok script → IsRead text script
   unfolding read
-  is_read text script e =
-      let h = accepted (faults rows text) (script_of (declared (said rows text)).names (said rows text)) script e in
-      record { clean = h.0; means = h.1 }
+  is_read text script e = read_behind_heading text script (heading 1 (lines_of text)) refl e
 
-  pub read_of : (text : List ℕ) (script : Script) → IsRead text script → read rows text ≡ Ok script
+  read_part : (b : Beginning) (script : Script) → HasNoFault (tables b.version) b → script_of b.version (declared (said_in (tables b.version) b)).names (said_in (tables b.version) b) ≡ script
+      → read_in (tables b.version) b ≡ Ok script
+  unfolding read_in
+  read_part b script clean means = rw (faults_none (tables b.version) (table b.version) b clean, means) refl
+
+  pub read_of : (text : List ℕ) (script : Script) → IsRead text script → read tables text ≡ Ok script
   unfolding read
-  read_of text script h = rw (h.clean, h.means) refl
+  read_of text script h = ap (read_behind tables) h.begins ∙ read_part h.part script h.clean h.means
 
-  pub meaning_kept : (text : List ℕ) (script : Script) → read rows text ≡ Ok script → read rows (canonical_text rows text) ≡ Ok script
+  pub meaning_kept : (text : List ℕ) (script : Script) → read tables text ≡ Ok script → read tables (canonical_text tables text) ≡ Ok script
   meaning_kept text script e =
       let old = is_read text script e in
-      let ss : List Said = said rows text in
-      let ts : List Said = said rows (canonical_text rows text) in
-      let kept = text_kept rows table text old.clean in
-      read_of (canonical_text rows text) script (record {
+      let b : Beginning = old.part in
+      let rows : List Row = tables b.version in
+      let part : Beginning = canonical_part rows b in
+      let ss : List Said = said_in rows b in
+      let ts : List Said = said_in rows part in
+      let kept = statements_kept rows (table b.version) b old.clean in
+      read_of (canonical_text tables text) script (record {
+        part = part;
+        begins = ap (λ found. heading 1 (lines_of (canonical_behind tables found))) old.begins ∙ canonical_begins rows (table b.version) b old.clean;
         clean = kept.clean;
-        means = script_anew (declared ss).names (declared ts).names (numbers_alike ss ts kept.anew) ss ts kept.anew (text_sound text old.clean) ∙ old.means;
+        means = script_anew b.version (declared ss).names (declared ts).names (numbers_alike ss ts kept.anew) ss ts kept.anew (lines_sound rows (table b.version) b old.clean) ∙ old.means;
       })

@@ -1,5 +1,5 @@
 -- The canonical text of a script that was read is read as that script.
-use Rattle.std.proofs.Common.{◌≡◌, ◌<◌, ◌^◌, ℕ, ◌+◌, List, [], ◌∷◌, ◌++◌, refl, sym, ◌∙◌, ap, subst, true, Option, None, Some, arith}
+use Rattle.std.proofs.Common.{◌≡◌, ◌≤◌, ◌<◌, ◌^◌, ℕ, ◌+◌, List, [], ◌∷◌, ◌++◌, refl, sym, ◌∙◌, ap, subst, true, Option, None, Some, arith}
 use Rattle.std.specs.Prelude.{cond, filter, not, map, unwrap_or, codes, decimal, Ok}
 use Rattle.std.specs.List.{list_all}
 use Rattle.script_lex.specs.Lines.{lines_of}
@@ -15,30 +15,38 @@ use Rattle.script_table.specs.declared.form.Form.TheVariants as form
 use Rattle.script_table.specs.Patterns.{Row, greatest}
 use Rattle.script_table.specs.Words.{value_of}
 use Rattle.script_table.specs.LineFaults.{fitting_some, place_faults, spelling}
-use Rattle.script_table.specs.Ranges.{range_fault, no_tally, phase_three}
+use Rattle.script_table.specs.Ranges.{Tally, range_fault, no_tally, phase_three}
 use Rattle.script_table.specs.Structure.{Said, said_from, row_of_line, line_faults, behind_line, opened, opened_by, unclosed, phase_one}
 use Rattle.script_table.specs.Names.{Entry, Declared, nothing_declared, declared, phase_two}
 use Rattle.script_table.specs.Operands.{number_in}
 use Rattle.script_table.specs.Build.{Built, nothing_built, built_from, script_of_built, script_of}
-use Rattle.script_table.specs.Read.{said, read}
+use Rattle.script_table.specs.declared.version.Version.{Version}
+use Rattle.script_table.specs.declared.version.Version.TheVariants.{One, Two}
+use Rattle.script_table.specs.Versions.{version_number, most_of}
+use Rattle.script_table.specs.Heading.{Beginning, heading}
+use Rattle.script_table.specs.Table.{patterns}
+use Rattle.script_table.specs.Read.{Tables, said_in, said_behind, said, read}
+use Rattle.script_text.specs.Upgraded.{upgraded}
 use Rattle.script_text.specs.Canon.{quantum_words, decls_lines, canon}
 use Rattle.canonical_law.specs.Canonical.{canonical_words}
-use Rattle.canonical_law.specs.Laws.{IsSound, canonical_line, IsRanged, AreRanged, IsAnew, AreAnew, HasNoFault}
+use Rattle.canonical_law.specs.Laws.{IsSound, canonical_line, IsRanged, AreRanged, IsAnew, AreAnew, HasNoFault, first_line}
 use Rattle.canonical_law.proofs.Decimals.{value_of-decimal, is_number-decimal, is_within-decimal}
 use Rattle.canonical_law.proofs.Kept.{decimal_word}
-use Rattle.canonical_law.proofs.Limits.{limits_kept, are_ranged}
+use Rattle.canonical_law.proofs.Limits.{limits_kept}
 use Rattle.canonical_law.proofs.LineLaws.{keeps_pattern}
 use Rattle.canonical_law.proofs.Names.{Rises, Paired, said_rises, in_order, lined}
 use Rattle.canonical_law.proofs.Naming.{names_alike, numbers_alike}
 use Rattle.canonical_law.proofs.Places.{InPlace, both_none, no_kinds, no_lines, one_line, in_place, faults_none, behind_clean, nothing_said, said_none, said_some, anew_one}
-use Rattle.canonical_law.proofs.Text.{no_fault, are_allowed, lines_back, faults_of}
+use Rattle.canonical_law.proofs.Text.{are_allowed, lines_back, ranged_in}
+use Rattle.canonical_law.proofs.Headings.{behind_version, heading_behind, allowed_behind, text_behind, sound_first, heading_from}
+use Rattle.canonical_law.proofs.Wider.{Widens, as_it_is, to_two, limits_wider}
 use Rattle.canonical_law.proofs.Rebuilt.{SoundSaid, AllSound, script_anew}
-use Rattle.canonical_law.proofs.Accepted.{sound_said, is_read, read_of}
+use Rattle.canonical_law.proofs.Accepted.{sound_said, IsRead, is_read, read_of}
 use Rattle.canonical_law.proofs.Stack.{Placed}
 use Rattle.canonical_law.proofs.Printed.{AllTold, built_lines}
 use Rattle.canonical_law.proofs.Known.{AllKnown, nothing_known, known_names, give_names, all_told}
 use Rattle.canonical_law.proofs.Moved.{keep, keep_case, without, placed_without, rises_down, rises_without, names_without, declared_without, limits_without, built_without, InRange, built_range, words_of, lines_without}
-use Rattle.canonical_law.proofs.Table.{IsTable}
+use Rattle.canonical_law.proofs.Table.{IsTable, the_table}
 use Rattle.canonical_law.specs.Statements.{quantum_row, quantum_said, is_quantum, quantum_first}
 
 -- the canonical line of a statement
@@ -60,25 +68,25 @@ quantum_kept q range =
 abbrev moved : ℕ → List Said → List Said
 moved q ss = quantum_said q ∷ without ss
 
-limits_moved : (q : ℕ) → InRange q → (ss : List Said) (m : ℕ) → phase_three m no_tally ss ≡ [] → phase_three m no_tally (moved q ss) ≡ []
-limits_moved q range ss m e =
+limits_moved : (most q : ℕ) → InRange q → (ss : List Said) (m : ℕ) → phase_three m (no_tally most) ss ≡ [] → phase_three m (no_tally most) (moved q ss) ≡ []
+limits_moved most q range ss m e =
     let high = range.high in
     let within = is_within-decimal 1 greatest q range.low high (omega arith) in
-    rw within (limits_without m 1 no_tally ss e)
+    rw within (limits_without m 1 (no_tally most) ss e)
 
 joined_each : (ss : List Said) → map joined_words (map words_of ss) ≡ map anew_line ss
 joined_each [] = refl
 joined_each (s ∷ ss) = ap (λ x. anew_line s ∷ x) (joined_each ss)
 
 -- the script of the moved statements
-script_moved : (es : List Entry) (q : ℕ) (ss : List Said) → InRange q → (built_from es nothing_built ss).quantum ≡ q → script_of es (moved q ss) ≡ script_of es ss
-script_moved es q ss range is =
+script_moved : (v : Version) (es : List Entry) (q : ℕ) (ss : List Said) → InRange q → (built_from es nothing_built ss).quantum ≡ q → script_of v es (moved q ss) ≡ script_of v es ss
+script_moved v es q ss range is =
     let high = range.high in
     let small : q < 2 ^ 64 = omega arith in
     let value : number_in 1 greatest 1 (quantum_words q) ≡ Some q = rw (is_within-decimal 1 greatest q range.low high small, value_of-decimal q small) refl in
-    ap (λ o. script_of_built (built_from es (record nothing_built { quantum = unwrap_or o 10 }) (without ss))) value
-    ∙ (ap script_of_built (built_without es q nothing_built ss)
-    ∙ ap (λ n. record { quantum = n; decls = (built_from es nothing_built ss).decls }) (sym is))
+    ap (λ o. script_of_built v (built_from es (record nothing_built { quantum = unwrap_or o 10 }) (without ss))) value
+    ∙ (ap (script_of_built v) (built_without es q nothing_built ss)
+    ∙ ap (λ n. record { version = version_number v; quantum = n; decls = (built_from es nothing_built ss).decls }) (sym is))
 
 kept_or_not : (f : Form) (s : Said) (ss : List Said) → keep f s ss ≡ cond (not (is_quantum f)) (s ∷ ss) ss
 kept_or_not form.Quantum s ss = refl
@@ -205,96 +213,162 @@ module _ (rows : List Row) (table : IsTable rows) where
         words = sym back;
       }
 
-  -- the statements of a text that is read: they are sound, they stand where they may, and the names of what is built of them are known
-  pub record Statements (ss : List Said) : Type 0 where
-    pub sound : AllSound ss
-    pub placed : Placed [] ss
-    pub known : AllKnown (declared ss).names (built_from (declared ss).names nothing_built ss).decls
-    pub told : AllTold (declared ss).names (built_from (declared ss).names nothing_built ss).decls ss
+-- the statements of a text that is read: they are sound, they stand where they may, and the names of what is built of them are known
+pub record Statements (ss : List Said) : Type 0 where
+  pub sound : AllSound ss
+  pub placed : Placed [] ss
+  pub known : AllKnown (declared ss).names (built_from (declared ss).names nothing_built ss).decls
+  pub told : AllTold (declared ss).names (built_from (declared ss).names nothing_built ss).decls ss
 
-  pub statements : (text : List ℕ) (script : Script) → read rows text ≡ Ok script → Statements (said rows text)
-  statements text script e =
-      let lines : List (List ℕ) = lines_of text in
-      let clean = no_fault rows table text (is_read rows table text script e).clean in
-      let ss : List Said = said rows text in
+few_of : (v : Version) → most_of v ≤ 256
+few_of One = omega arith
+few_of Two = omega arith
+
+module _ (tables : Tables) (table : (v : Version) → IsTable (tables v)) where
+  stand_in : (b : Beginning) → HasNoFault (tables b.version) b → Stands (tables b.version) (table b.version) [] (said_in (tables b.version) b)
+  stand_in b clean = stands (tables b.version) (table b.version) b.lines [] b.number clean.places (ranged_in (tables b.version) (table b.version) b clean)
+
+  statements_of : (b : Beginning) → HasNoFault (tables b.version) b → Statements (said_in (tables b.version) b)
+  statements_of b clean =
+      let rows : List Row = tables b.version in
+      let ss : List Said = said_in rows b in
       let d : Declared = declared ss in
-      let here = stands lines [] 1 clean.places (are_ranged rows table lines no_tally 1 1 (clean.limits 1)) in
-      let sound = all_sound ss here.on in
-      let early : Rises 0 ss = rises_down 0 1 ss (omega arith) (said_rises rows table lines 1) in
-      let known = known_names d.names ss nothing_declared no_tally nothing_built 0 1 nothing_known sound clean.names (clean.limits 1) early tt here.placed in
+      let t : Tally = no_tally (most_of b.version) in
+      let here = stand_in b clean in
+      let sound = all_sound rows (table b.version) ss here.on in
+      let early : Rises 0 ss = rises_down 0 b.number ss (omega arith) (said_rises rows (table b.version) b.lines b.number) in
+      let known = known_names d.names ss nothing_declared t nothing_built 0 1 nothing_known (few_of b.version) sound clean.names (clean.limits 1) early tt here.placed in
       let decls : List Decl = (built_from d.names nothing_built ss).decls in
       record {
         sound = sound;
         placed = here.placed;
         known = known;
-        told = all_told d decls (give_names d.names decls known) ss no_tally 1 sound clean.names (clean.limits 1);
+        told = all_told d decls (give_names d.names decls known) ss t 1 sound clean.names (clean.limits 1);
       }
 
-  -- the canonical text of a script that was read is read as it, and its statements are those of the text
-  record Again (text : List ℕ) (script : Script) : Type 0 where
-    reads : read rows (canon script) ≡ Ok script
-    says : AreAnew (moved script.quantum (said rows text)) (said rows (canon script))
+  pub statements : (text : List ℕ) (script : Script) → (e : read tables text ≡ Ok script)
+      → Statements (said_in (tables (is_read tables table text script e).part.version) (is_read tables table text script e).part)
+  statements text script e = let old = is_read tables table text script e in statements_of old.part old.clean
 
-  whole : (text : List ℕ) (script : Script) → read rows text ≡ Ok script → Again text script
-  whole text script e =
-      let old = is_read rows table text script e in
-      let lines : List (List ℕ) = lines_of text in
-      let clean = no_fault rows table text old.clean in
-      let ss : List Said = said rows text in
-      let d : Declared = declared ss in
-      let b : Built = built_from d.names nothing_built ss in
-      let q : ℕ = b.quantum in
-      let range = built_range d.names nothing_built ss (record { low = omega arith; high = omega arith }) in
-      let here = stands lines [] 1 clean.places (are_ranged rows table lines no_tally 1 1 (clean.limits 1)) in
-      let sound = all_sound ss here.on in
-      let rises = said_rises rows table lines 1 in
-      let told = (statements text script e).told in
-      let printed : decls_lines b.decls b.decls ≡ map words_of (without ss) = built_lines d.names b.decls ss nothing_built told tt here.placed ∙ lines_without ss sound in
-      let first : List Said = moved q ss in
-      let on : AllOn first = (quantum_on q range, on_without ss here.on) in
-      let new_lines : List (List ℕ) = map anew_line first in
-      let text_is : canon script ≡ joined_lines new_lines =
-      ap canon (sym old.means)
-      ∙ (ap (λ ls. joined_lines (map joined_words (quantum_words q ∷ ls))) printed
-      ∙ (ap (λ w. joined_lines (joined_words w ∷ map joined_words (map words_of (without ss)))) (quantum_kept q range)
-      ∙ ap (λ ls. joined_lines (anew_line (quantum_said q) ∷ ls)) (joined_each (without ss)))) in
-      let ts : List Said = numbered 1 first in
-      let said_is : said_from rows 1 new_lines ≡ ts = said_numbered first 1 on in
-      let anew_all : AreAnew first ts = anew_numbered first 1 on in
-      let places = places_numbered first [] 1 on (refl, placed_without [] ss here.placed) in
-      let same_names : declared first ≡ d = declared_without nothing_declared ss sound in
-      let names_first : phase_two (declared first) first ≡ [] = subst (λ x. phase_two x (without ss) ≡ []) (sym same_names) (names_without d ss clean.names) in
-      let rises_first : Rises 0 first = (omega arith, rises_without 1 ss rises) in
-      let rises_new : Rises 1 ts = subst (Rises 1) said_is (said_rises rows table new_lines 1) in
-      let names_new : phase_two (declared ts) ts ≡ [] = names_alike (Paired first ts) (in_order first ts 0 1 rises_first rises_new) first ts anew_all (lined first ts anew_all) names_first in
-      let limits_new : (n : ℕ) → phase_three n no_tally ts ≡ [] = λ n. limits_kept first ts no_tally n n anew_all (limits_moved q range ss n (clean.limits n)) in
-      let fine : HasNoFault rows new_lines = record {
-        places = places;
-        names = subst (λ xs. phase_two (declared xs) xs ≡ []) (sym said_is) names_new;
-        limits = λ n. subst (λ xs. phase_three n no_tally xs ≡ []) (sym said_is) (limits_new n);
-      } in
-      let back : lines_of (joined_lines new_lines) ≡ new_lines = lines_back new_lines (are_allowed rows table new_lines [] 1 places) in
-      let said_again : said rows (joined_lines new_lines) ≡ ts = ap (said_from rows 1) back ∙ said_is in
-      let sound_first : AllSound first = all_sound first on in
-      let means : script_of (declared ts).names ts ≡ script =
-      script_anew (declared first).names (declared ts).names (numbers_alike first ts anew_all) first ts anew_all sound_first
-      ∙ (ap (λ x. script_of x.names first) same_names
-      ∙ (script_moved d.names q ss range refl ∙ old.means)) in
-      let read_again : read rows (joined_lines new_lines) ≡ Ok script =
-      read_of rows table (joined_lines new_lines) script (record {
-        clean = faults_of rows table (joined_lines new_lines) new_lines back fine;
-        means = ap (λ xs. script_of (declared xs).names xs) said_again ∙ means;
-      }) in
-      let says : AreAnew first (said rows (joined_lines new_lines)) = subst (AreAnew first) (sym said_again) anew_all in
-      let quantum : q ≡ script.quantum = ap (λ s. s.quantum) old.means in
-      record {
-        reads = subst (λ t. read rows t ≡ Ok script) (sym text_is) read_again;
-        says = subst (λ n. AreAnew (moved n ss) (said rows (canon script))) quantum (subst (λ t. AreAnew first (said rows t)) (sym text_is) says);
-      }
+  module _ (b : Beginning) (script : Script) (begun : 1 ≤ b.number) (clean : HasNoFault (tables b.version) b)
+      (means : script_of b.version (declared (said_in (tables b.version) b)).names (said_in (tables b.version) b) ≡ script)
+      (w : Version) (more : Widens tables b.version w) where
+    abbrev rows : List Row
+    rows = tables b.version
 
-  pub again : (text : List ℕ) (script : Script) → read rows text ≡ Ok script → read rows (canon script) ≡ Ok script
-  again text script e = (whole text script e).reads
+    abbrev new : List Row
+    new = tables w
 
-  pub says_again : (text : List ℕ) (script : Script) → read rows text ≡ Ok script → AreAnew (quantum_first script.quantum (said rows text)) (said rows (canon script))
-  says_again text script e =
-      subst (λ ss. AreAnew (quantum_said script.quantum ∷ ss) (said rows (canon script))) (without_filter (said rows text)) (whole text script e).says
+    abbrev as_new : Script
+    as_new = record script { version = version_number w }
+
+    wider_on : (s : Said) → OnLine rows (table b.version) s → OnLine new (table w) s
+    wider_on s on = record {
+      line = on.line;
+      sound = record { pattern = more.rows (line_words on.line) s.row on.sound.pattern; bytes = on.sound.bytes; spelled = on.sound.spelled; ranged = on.sound.ranged };
+      words = on.words;
+    }
+
+    all_wider : (ss : List Said) → AllOn rows (table b.version) ss → AllOn new (table w) ss
+    all_wider [] on = tt
+    all_wider (s ∷ ss) on = (wider_on s on.0, all_wider ss on.1)
+
+    -- the canonical text as one of that version is read as the script as one of it, and its statements are those of the lines
+    record Again : Type 0 where
+      reads : read tables (canon as_new) ≡ Ok as_new
+      says : AreAnew (moved script.quantum (said_in rows b)) (said tables (canon as_new))
+
+    whole : Again
+    whole =
+        let ss : List Said = said_in rows b in
+        let d : Declared = declared ss in
+        let built : Built = built_from d.names nothing_built ss in
+        let q : ℕ = built.quantum in
+        let range = built_range d.names nothing_built ss (record { low = omega arith; high = omega arith }) in
+        let here = stand_in b clean in
+        let sound = all_sound rows (table b.version) ss here.on in
+        let rises : Rises 1 ss = rises_down 1 b.number ss begun (said_rises rows (table b.version) b.lines b.number) in
+        let told = (statements_of b clean).told in
+        let printed : decls_lines built.decls built.decls ≡ map words_of (without ss) = built_lines d.names built.decls ss nothing_built told tt here.placed ∙ lines_without ss sound in
+        let first : List Said = moved q ss in
+        let on : AllOn new (table w) first = all_wider first (quantum_on rows (table b.version) q range, on_without rows (table b.version) ss here.on) in
+        let new_lines : List (List ℕ) = map anew_line first in
+        let lines_are : map joined_words (quantum_words q ∷ decls_lines built.decls built.decls) ≡ new_lines =
+        ap (λ ls. map joined_words (quantum_words q ∷ ls)) printed
+        ∙ (ap (λ x. joined_words x ∷ map joined_words (map words_of (without ss))) (quantum_kept q range)
+        ∙ ap (λ ls. anew_line (quantum_said q) ∷ ls) (joined_each (without ss))) in
+        let text_is : canon as_new ≡ joined_lines (behind_version w new_lines) =
+        ap (λ (s : Script). canon (record s { version = version_number w })) (sym means)
+        ∙ (text_behind w (quantum_words q ∷ decls_lines built.decls built.decls) ∙ ap (λ ls. joined_lines (behind_version w ls)) lines_are) in
+        let k : ℕ = first_line w in
+        let ts : List Said = numbered k first in
+        let said_is : said_from new k new_lines ≡ ts = said_numbered new (table w) first k on in
+        let anew_all : AreAnew first ts = anew_numbered new (table w) first k on in
+        let places = places_numbered new (table w) first [] k on (refl, placed_without [] ss here.placed) in
+        let same_names : declared first ≡ d = declared_without nothing_declared ss sound in
+        let names_first : phase_two (declared first) first ≡ [] = subst (λ x. phase_two x (without ss) ≡ []) (sym same_names) (names_without d ss clean.names) in
+        let rises_first : Rises 0 first = (omega arith, rises_without 1 ss rises) in
+        let rises_new : Rises k ts = subst (Rises k) said_is (said_rises new (table w) new_lines k) in
+        let names_new : phase_two (declared ts) ts ≡ [] = names_alike (Paired first ts) (in_order first ts 0 k rises_first rises_new) first ts anew_all (lined first ts anew_all) names_first in
+        let most : ℕ = most_of w in
+        let limits_new : (n : ℕ) → phase_three n (no_tally most) ts ≡ [] =
+        λ n. limits_kept first ts (no_tally most) n n anew_all (limits_wider n most (no_tally (most_of b.version)) first more.most (limits_moved (most_of b.version) q range ss n (clean.limits n))) in
+        let part : Beginning = record { version = w; number = k; lines = new_lines } in
+        let fine : HasNoFault new part = record {
+          places = places;
+          names = subst (λ xs. phase_two (declared xs) xs ≡ []) (sym said_is) names_new;
+          limits = λ n. subst (λ xs. phase_three n (no_tally most) xs ≡ []) (sym said_is) (limits_new n);
+        } in
+        let allowed = allowed_behind w new_lines (are_allowed new (table w) new_lines [] k places) in
+        let begins : heading 1 (lines_of (joined_lines (behind_version w new_lines))) ≡ Ok part =
+        ap (heading 1) (lines_back (behind_version w new_lines) allowed)
+        ∙ heading_behind w new_lines (sound_first new (table w) 1 (quantum_said q).row (anew_line (quantum_said q)) (map anew_line (without ss)) (anew new (table w) (quantum_said q) on.0).sound) in
+        let sound_of_first : AllSound first = all_sound new (table w) first on in
+        let means_new : script_of w (declared ts).names ts ≡ as_new =
+        script_anew w (declared first).names (declared ts).names (numbers_alike first ts anew_all) first ts anew_all sound_of_first
+        ∙ (ap (λ x. script_of w x.names first) same_names
+        ∙ (script_moved w d.names q ss range refl ∙ ap (λ (s : Script). record s { version = version_number w }) means)) in
+        let read_again : read tables (joined_lines (behind_version w new_lines)) ≡ Ok as_new =
+        read_of tables table (joined_lines (behind_version w new_lines)) as_new (record {
+          part = part;
+          begins = begins;
+          clean = fine;
+          means = ap (λ xs. script_of w (declared xs).names xs) said_is ∙ means_new;
+        }) in
+        let says : AreAnew first (said tables (joined_lines (behind_version w new_lines))) =
+        subst (λ found. AreAnew first (said_behind tables found)) (sym begins) (subst (AreAnew first) (sym said_is) anew_all) in
+        let quantum : q ≡ script.quantum = ap (λ s. s.quantum) means in
+        record {
+          reads = subst (λ t. read tables t ≡ Ok as_new) (sym text_is) read_again;
+          says = subst (λ n. AreAnew (moved n ss) (said tables (canon as_new))) quantum (subst (λ t. AreAnew first (said tables t)) (sym text_is) says);
+        }
+
+  again_as : (w : Version) (text : List ℕ) (script : Script) → ((v : Version) → Widens tables v w) → read tables text ≡ Ok script
+      → read tables (canon (record script { version = version_number w })) ≡ Ok (record script { version = version_number w })
+  again_as w text script more e =
+      let old = is_read tables table text script e in
+      (whole old.part script (heading_from 1 (lines_of text) old.part old.begins) old.clean old.means w (more old.part.version)).reads
+
+  module _ (text : List ℕ) (script : Script) (e : read tables text ≡ Ok script) where
+    abbrev old : IsRead tables table text script
+    old = is_read tables table text script e
+
+    own : version_number old.part.version ≡ script.version
+    own = ap (λ (s : Script). s.version) old.means
+
+    as_it_was : Again old.part script (heading_from 1 (lines_of text) old.part old.begins) old.clean old.means old.part.version (as_it_is tables old.part.version)
+    as_it_was = whole old.part script (heading_from 1 (lines_of text) old.part old.begins) old.clean old.means old.part.version (as_it_is tables old.part.version)
+
+    pub again : read tables (canon script) ≡ Ok script
+    again = subst (λ n. read tables (canon (record script { version = n })) ≡ Ok (record script { version = n })) own as_it_was.reads
+
+    pub says_again : AreAnew (quantum_first script.quantum (said tables text)) (said tables (canon script))
+    says_again =
+        let ss : List Said = said_in (tables old.part.version) old.part in
+        let here : AreAnew (moved script.quantum ss) (said tables (canon script)) = subst (λ n. AreAnew (moved script.quantum ss) (said tables (canon (record script { version = n })))) own as_it_was.says in
+        subst (λ found. AreAnew (quantum_first script.quantum (said_behind tables found)) (said tables (canon script))) (sym old.begins)
+        (subst (λ xs. AreAnew (quantum_said script.quantum ∷ xs) (said tables (canon script))) (without_filter ss) here)
+
+-- as a script of version 2
+pub upgraded_again : (text : List ℕ) (script : Script) → read patterns text ≡ Ok script → read patterns (canon (upgraded script)) ≡ Ok (upgraded script)
+upgraded_again text script e = again_as patterns the_table Two text script to_two e

@@ -9,7 +9,7 @@ use Rattle.script_table.specs.Patterns.{Spot, Keyword, Answer, Number, Operand, 
 use Rattle.script_table.specs.LineFaults.{stands, fits, fitting_row}
 use Rattle.canonical_law.specs.Apart.{differ, apart, all_apart}
 
-alone : (a b word : List ℕ) → bytes_eq word a ≡ true → bytes_eq word b ≡ true → bytes_eq a b ≡ true
+pub alone : (a b word : List ℕ) → bytes_eq word a ≡ true → bytes_eq word b ≡ true → bytes_eq a b ≡ true
 alone a b word p q =
     let x : word ≡ a = search (rules, bytes_eq-Decides) in
     let y : word ≡ b = search (rules, bytes_eq-Decides) in
@@ -38,11 +38,11 @@ both_stand Signals t word p q = refl
 or_false : (a b : Bool) → a ≡ false → b ≡ false → (a || b) ≡ false
 or_false a b p q = rw (p, q) refl
 
-clash : {P : Type 0} (b : Bool) → b ≡ true → b ≡ false → P
+pub clash : {P : Type 0} (b : Bool) → b ≡ true → b ≡ false → P
 clash b p q = absurd (let f : true ≡ false = sym p ∙ q in cc)
 
 -- two patterns that one line has are not apart
-both_fit : (ss ts : List Spot) (words : List (List ℕ)) → fits ss words ≡ true → fits ts words ≡ true → apart ss ts ≡ false
+pub both_fit : (ss ts : List Spot) (words : List (List ℕ)) → fits ss words ≡ true → fits ts words ≡ true → apart ss ts ≡ false
 both_fit [] [] words p q = refl
 both_fit [] (t ∷ ts) [] p q = clash false q refl
 both_fit [] (t ∷ ts) (w ∷ ws) p q = clash false p refl

@@ -15,8 +15,8 @@ use Rattle.script_table.specs.Faults.{faults_at, when}
 use Rattle.script_tree.specs.Kinds.{same_kind}
 use Rattle.script_table.specs.Patterns.{Spot, Keyword, Answer, Number, Operand, Declares, Uses, Signal, Acts, Signals}
 use Rattle.script_table.specs.LineFaults.{stands, fits, place_faults}
-use Rattle.script_table.specs.Structure.{Said, closer_of, closed_by}
-use Rattle.script_table.specs.Ranges.{Tally, entered, left, tallied, is_over, is_too_many, range_faults, range_fault, server_faults, phase_three}
+use Rattle.script_table.specs.Structure.{Said, body_kind, closer_of, closed_by}
+use Rattle.script_table.specs.Ranges.{Tally, object_kind, entered, left, tallied, is_over, is_too_many, range_faults, range_fault, server_faults, phase_three}
 use Rattle.script_table.specs.Names.{Counts, no_counts, counted, count_of, counts_from, Entry, entry_of, with_name, Declared, nothing_declared, with_declaration, declared_at, declared_from, duplicate, name_fault, name_faults, phase_two}
 use Rattle.script_table.specs.Build.{Built, after, built_from, nothing_built}
 use Rattle.script_text.specs.Names.{names_of}
@@ -31,6 +31,7 @@ use Rattle.canonical_law.proofs.Shape.{first, rest}
 use Rattle.canonical_law.proofs.Sound.{Sound}
 use Rattle.canonical_law.proofs.Spelled.{AllGive, all_shown}
 use Rattle.canonical_law.proofs.Rebuilt.{SoundSaid, AllSound}
+use Rattle.canonical_law.proofs.Wider.{most_kept, over_wider}
 use Rattle.canonical_law.proofs.Numbers.{names_in, AreNumbered, numbered_more, counts_more, names_more, gives_name, AreFew, most_of, most_of-small, number_below, few_more}
 use Rattle.canonical_law.proofs.Stack.{Stack, openings_of, Placed, at_end, after_goes}
 use Rattle.canonical_law.proofs.Printed.{Told, AllTold}
@@ -125,7 +126,7 @@ count_with c (Some k) = counted c k
 
 abbrev HasRoom : Counts → Option NameKind → Type 0
 HasRoom c None = Unit {0}
-HasRoom c (Some k) = is_over (counted c k) k ≡ false
+HasRoom c (Some k) = is_over 256 (counted c k) k ≡ false
 
 entered_counts : (t : Tally) (c : Closer) → (entered t c).counts ≡ t.counts
 entered_counts t closer.End = refl
@@ -145,15 +146,15 @@ tallied_counts t (form.Call f) = refl
 tallied_counts t (form.Block f) = entered_counts t (closer_of f)
 tallied_counts t (form.Close f) = left_counts t (closed_by f)
 
-has_room : (t : Tally) (f : Form) → is_too_many (tallied t f) f ≡ false → HasRoom t.counts (declared_kind f)
-has_room t form.Quantum e = tt
-has_room t (form.Object f) e = e
-has_room t (form.Action f) e = tt
-has_room t (form.Body f) e = e
-has_room t (form.Step f) e = tt
-has_room t (form.Call f) e = tt
-has_room t (form.Block f) e = tt
-has_room t (form.Close f) e = tt
+has_room : (t : Tally) (f : Form) → t.most ≤ 256 → is_too_many (tallied t f) f ≡ false → HasRoom t.counts (declared_kind f)
+has_room t form.Quantum few e = tt
+has_room t (form.Object f) few e = over_wider t.most 256 (counted t.counts (object_kind f)) (object_kind f) few e
+has_room t (form.Action f) few e = tt
+has_room t (form.Body f) few e = over_wider t.most 256 (counted t.counts (body_kind f)) (body_kind f) few e
+has_room t (form.Step f) few e = tt
+has_room t (form.Call f) few e = tt
+has_room t (form.Block f) few e = tt
+has_room t (form.Close f) few e = tt
 
 -- what is known of the names so far: of their numbers, of how many they are, and of the names of what is built
 pub record Known (es : List Entry) (c : Counts) (n : ℕ) (so_far : NameKind → List (List ℕ)) : Type 0 where
@@ -254,9 +255,9 @@ pub record AllKnown (es : List Entry) (ds : List Decl) : Type 0 where
   pub names : (kind : NameKind) → names_of kind ds ≡ names_in kind es
 
 pub known_names : (es : List Entry) (ss : List Said) (d : Declared) (t : Tally) (b : Built) (n m : ℕ) → Known d.names t.counts n (λ wanted. names_so_far wanted b)
-    → AllSound ss → phase_two (declared_from d ss) ss ≡ [] → phase_three m t ss ≡ [] → Rises n ss → Stack Naming b.blocks → Placed (openings_of b.blocks) ss
+    → t.most ≤ 256 → AllSound ss → phase_two (declared_from d ss) ss ≡ [] → phase_three m t ss ≡ [] → Rises n ss → Stack Naming b.blocks → Placed (openings_of b.blocks) ss
     → AllKnown (declared_from d ss).names (built_from es b ss).decls
-known_names es [] d t b n m known sound names limits rises stack placed =
+known_names es [] d t b n m known few sound names limits rises stack placed =
     let none = at_end Naming b.blocks stack placed in
     let all : (kind : NameKind) → names_of kind b.decls ≡ names_in kind d.names =
     λ kind. sym (append-nil (names_of kind b.decls)) ∙ (ap (λ bs. names_of kind b.decls ++ open_names kind bs) (sym none) ∙ known.names kind) in
@@ -265,7 +266,7 @@ known_names es [] d t b n m known sound names limits rises stack placed =
       few = λ kind. subst (λ c. count_of c kind ≤ most_of kind) known.counts (known.few kind);
       names = all;
     }
-known_names es (s ∷ ss) d t b n m known sound names limits rises stack placed =
+known_names es (s ∷ ss) d t b n m known few sound names limits rises stack placed =
     let f : Form = s.row.form in
     let k : Option NameKind = declared_kind f in
     let next : Declared = declared_at d s.line s.row.places s.words in
@@ -279,10 +280,10 @@ known_names es (s ∷ ss) d t b n m known sound names limits rises stack placed 
     let told = named f s.words kind_places sound.0.sound limit.server in
     let goes = after_goes Naming es b f s.row.bar s.words told stack placed.0 in
     let new = is_new d n s.line (s ∷ ss) k s.row.places s.words declares fit known.before rises.0 fault in
-    let more = known_more d.names t.counts n s.line (λ wanted. names_so_far wanted b) k s.words known new (has_room t f limit.room) rises.0 in
+    let more = known_more d.names t.counts n s.line (λ wanted. names_so_far wanted b) k s.words known new (has_room t f few limit.room) rises.0 in
     let after_known = known_as (names_after d.names s.line k s.words) next.names (count_with t.counts k) (tallied t f).counts (s.line + 1) (λ wanted. names_so_far wanted b ++ kind_names wanted k s.words) (λ wanted. names_so_far wanted (after es b s))
     (declared_names d s.line k s.row.places s.words declares fit) (tallied_counts t f) (λ wanted. after_names wanted es b f s.row.bar s.words told stack placed.0) more in
-    known_names es ss next (tallied t f) (after es b s) (s.line + 1) m after_known sound.1 own.1 ranges.1 rises.1 goes.stack (subst (λ os. Placed os ss) (sym goes.openings) placed.1)
+    known_names es ss next (tallied t f) (after es b s) (s.line + 1) m after_known (subst (λ k. k ≤ 256) (sym (most_kept t f)) few) sound.1 own.1 ranges.1 rises.1 goes.stack (subst (λ os. Placed os ss) (sym goes.openings) placed.1)
 
 -- the numbers of all names give the names back
 pub give_names : (es : List Entry) (ds : List Decl) → AllKnown es ds → AllGive es ds

@@ -29,3 +29,5 @@ pub mod Known
 pub mod Moved
 pub mod Again
 pub mod Table
+pub mod Wider
+pub mod Headings

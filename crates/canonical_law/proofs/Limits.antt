@@ -18,7 +18,7 @@ no_kinds n [] e = refl
 no_kinds n (k ∷ ks) e = absurd (let f : (fault 3 n k ∷ faults_at 3 n ks) ≡ [] = e in cc)
 
 -- what a statement without a fault of phase 3 has
-within : (t : Tally) (s : Said) → range_faults t s ≡ [] → (place_faults range_fault s.row.places s.words ≡ []) × ((server_faults s.row.form s.words ≡ []) × (when (is_too_many t s.row.form) TooMany ≡ []))
+pub within : (t : Tally) (s : Said) → range_faults t s ≡ [] → (place_faults range_fault s.row.places s.words ≡ []) × ((server_faults s.row.form s.words ≡ []) × (when (is_too_many t s.row.form) TooMany ≡ []))
 within t s e =
     let first = both_none (place_faults range_fault s.row.places s.words) (server_faults s.row.form s.words ++ when (is_too_many t s.row.form) TooMany) e in
     let second = both_none (server_faults s.row.form s.words) (when (is_too_many t s.row.form) TooMany) first.1 in

@@ -64,8 +64,14 @@ body_named es ds wanted steps body.RrDormant ws h e = rw (h.1.0, h.1.1.1.0) refl
 body_named es ds wanted steps body.SporadicAt ws h e =
     let s = server_fits (value_of (word 3 (padded (places_of (form.Body body.SporadicAt)) ws))) (value_of (word 4 (padded (places_of (form.Body body.SporadicAt)) ws))) (value_of (word 5 (padded (places_of (form.Body body.SporadicAt)) ws))) (value_of (word 6 (padded (places_of (form.Body body.SporadicAt)) ws))) (value_of (word 7 (padded (places_of (form.Body body.SporadicAt)) ws))) h.1.1.1.0 h.1.1.1.1.0 h.1.1.1.1.1.0 h.1.1.1.1.1.1.0 h.1.1.1.1.1.1.1.0 e in
     rw (h.1.0, h.1.1.1.0, h.1.1.1.1.0, h.1.1.1.1.1.0, h.1.1.1.1.1.1.0, h.1.1.1.1.1.1.1.1.1.0, s.pending, s.order) refl
+body_named es ds wanted steps body.StrictAt ws h e =
+    let s = server_fits (value_of (word 3 (padded (places_of (form.Body body.StrictAt)) ws))) (value_of (word 4 (padded (places_of (form.Body body.StrictAt)) ws))) (value_of (word 5 (padded (places_of (form.Body body.StrictAt)) ws))) (value_of (word 6 (padded (places_of (form.Body body.StrictAt)) ws))) (value_of (word 7 (padded (places_of (form.Body body.StrictAt)) ws))) h.1.1.1.0 h.1.1.1.1.0 h.1.1.1.1.1.0 h.1.1.1.1.1.1.0 h.1.1.1.1.1.1.1.0 e in
+    rw (h.1.0, h.1.1.1.0, h.1.1.1.1.0, h.1.1.1.1.1.0, h.1.1.1.1.1.1.0, h.1.1.1.1.1.1.1.1.1.0, s.pending, s.order) refl
 body_named es ds wanted steps body.SporadicDormant ws h e =
     let s = server_fits (value_of (word 3 (padded (places_of (form.Body body.SporadicDormant)) ws))) (value_of (word 4 (padded (places_of (form.Body body.SporadicDormant)) ws))) (value_of (word 5 (padded (places_of (form.Body body.SporadicDormant)) ws))) (value_of (word 6 (padded (places_of (form.Body body.SporadicDormant)) ws))) (value_of (word 7 (padded (places_of (form.Body body.SporadicDormant)) ws))) h.1.1.1.0 h.1.1.1.1.0 h.1.1.1.1.1.0 h.1.1.1.1.1.1.0 h.1.1.1.1.1.1.1.0 e in
+    rw (h.1.0, h.1.1.1.0, h.1.1.1.1.0, h.1.1.1.1.1.0, h.1.1.1.1.1.1.0, s.pending, s.order) refl
+body_named es ds wanted steps body.StrictDormant ws h e =
+    let s = server_fits (value_of (word 3 (padded (places_of (form.Body body.StrictDormant)) ws))) (value_of (word 4 (padded (places_of (form.Body body.StrictDormant)) ws))) (value_of (word 5 (padded (places_of (form.Body body.StrictDormant)) ws))) (value_of (word 6 (padded (places_of (form.Body body.StrictDormant)) ws))) (value_of (word 7 (padded (places_of (form.Body body.StrictDormant)) ws))) h.1.1.1.0 h.1.1.1.1.0 h.1.1.1.1.1.0 h.1.1.1.1.1.1.0 h.1.1.1.1.1.1.1.0 e in
     rw (h.1.0, h.1.1.1.0, h.1.1.1.1.0, h.1.1.1.1.1.0, h.1.1.1.1.1.1.0, s.pending, s.order) refl
 body_named es ds wanted steps body.Handler ws h e = rw h.1.0 refl
 body_named es ds wanted steps body.Cleanup ws h e = rw h.1.0 refl

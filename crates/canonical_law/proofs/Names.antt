@@ -77,10 +77,10 @@ module _ (rows : List Row) (table : IsTable rows) where
   said_rises [] n = rw (nothing_said rows table n) tt
   said_rises (line ∷ lines) n = rises_by_row (row_of_line rows line) n line lines refl (said_rises lines (n + 1))
 
-  pub names_kept : (lines : List (List ℕ)) → phase_two (declared (said_from rows 1 lines)) (said_from rows 1 lines) ≡ []
-      → AreAnew (said_from rows 1 lines) (said_from rows 1 (canonical_lines rows lines))
-      → phase_two (declared (said_from rows 1 (canonical_lines rows lines))) (said_from rows 1 (canonical_lines rows lines)) ≡ []
-  names_kept lines e anew =
-      let ss : List Said = said_from rows 1 lines in
-      let ts : List Said = said_from rows 1 (canonical_lines rows lines) in
-      names_alike (Paired ss ts) (in_order ss ts 1 1 (said_rises lines 1) (said_rises (canonical_lines rows lines) 1)) ss ts anew (lined ss ts anew) e
+  pub names_kept : (n m : ℕ) (lines : List (List ℕ)) → phase_two (declared (said_from rows n lines)) (said_from rows n lines) ≡ []
+      → AreAnew (said_from rows n lines) (said_from rows m (canonical_lines rows lines))
+      → phase_two (declared (said_from rows m (canonical_lines rows lines))) (said_from rows m (canonical_lines rows lines)) ≡ []
+  names_kept n m lines e anew =
+      let ss : List Said = said_from rows n lines in
+      let ts : List Said = said_from rows m (canonical_lines rows lines) in
+      names_alike (Paired ss ts) (in_order ss ts n m (said_rises lines n) (said_rises (canonical_lines rows lines) m)) ss ts anew (lined ss ts anew) e

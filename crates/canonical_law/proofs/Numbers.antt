@@ -125,11 +125,15 @@ is_declared es ds h names word e found = rw (names e.kind) (slice_get_within (na
 abbrev pub most_of : NameKind → ℕ
 most_of kind.Queue = 16
 most_of kind.Timer = 32
-most_of other = 64
+most_of kind.Handler = 64
+most_of kind.Cleanup = 64
+most_of other = 256
 
-pub most_of-small : (k : NameKind) → most_of k ≤ 64
+pub most_of-small : (k : NameKind) → most_of k ≤ 256
 most_of-small kind.Queue = omega arith
 most_of-small kind.Timer = omega arith
+most_of-small kind.Handler = omega arith
+most_of-small kind.Cleanup = omega arith
 most_of-small other = omega arith
 
 -- there are no more than that
@@ -181,7 +185,7 @@ pub number_below : (c : Counts) (es : List Entry) (word : List ℕ) (e : Entry) 
 number_below c [] word e h found = absurd (let f : None ≡ Some e = found in cc)
 number_below c (x ∷ es) word e h found = below_case (bytes_eq word x.name) c x es word e refl h found (number_below (counted c x.kind) es word e h.1)
 
-few_one : (c : Counts) (a b : NameKind) → AreFew c → is_over (counted c a) a ≡ false → count_of (counted c a) b ≤ most_of b
+few_one : (c : Counts) (a b : NameKind) → AreFew c → is_over 256 (counted c a) a ≡ false → count_of (counted c a) b ≤ most_of b
 few_one c kind.Thread kind.Thread h e = search rules
 few_one c kind.Mutex kind.Mutex h e = search rules
 few_one c kind.Cond kind.Cond h e = search rules
@@ -193,5 +197,5 @@ few_one c kind.Cleanup kind.Cleanup h e = let f : c.handlers + (c.cleanups + 1) 
 few_one c a b h e = h b
 
 -- one more that is not too many
-pub few_more : (c : Counts) (kind : NameKind) → AreFew c → is_over (counted c kind) kind ≡ false → AreFew (counted c kind)
+pub few_more : (c : Counts) (kind : NameKind) → AreFew c → is_over 256 (counted c kind) kind ≡ false → AreFew (counted c kind)
 few_more c kind h e other = few_one c kind other h e

@@ -13,6 +13,8 @@ use Rattle.script_table.specs.Names.{Entry}
 use Rattle.script_table.specs.Operands.{number_in}
 use Rattle.script_table.specs.Calls.{call_of}
 use Rattle.script_table.specs.Meaning.{object_decl, action_decl, body_decl, plain_step, block_step, runs_cleanup}
+use Rattle.script_table.specs.declared.version.Version.{Version}
+use Rattle.script_table.specs.Versions.{version_number}
 use Rattle.script_table.specs.Build.{Opened, Built, put_step, with_decl, with_step, close_one, closed, after_form, after, built_from, nothing_built, script_of}
 use Rattle.canonical_law.specs.Canonical.{canonical_words}
 use Rattle.canonical_law.specs.Laws.{AreAnew}
@@ -147,6 +149,6 @@ built_anew es xs names (s ∷ ss) (t ∷ ts) b anew sound open' =
     ap (λ x. built_from xs x ts) one ∙ built_anew es xs names ss ts (after es b s) anew.1 sound.1 (after_open es b f s.words sound.0.sound open')
 
 -- the same script
-pub script_anew : (es xs : List Entry) → SameNumbers es xs → (ss ts : List Said) → AreAnew ss ts → AllSound ss → script_of xs ts ≡ script_of es ss
-script_anew es xs names ss ts anew sound =
-    ap (λ b. record { quantum = b.quantum; decls = b.decls }) (built_anew es xs names ss ts nothing_built anew sound tt)
+pub script_anew : (v : Version) (es xs : List Entry) → SameNumbers es xs → (ss ts : List Said) → AreAnew ss ts → AllSound ss → script_of v xs ts ≡ script_of v es ss
+script_anew v es xs names ss ts anew sound =
+    ap (λ b. record { version = version_number v; quantum = b.quantum; decls = b.decls }) (built_anew es xs names ss ts nothing_built anew sound tt)

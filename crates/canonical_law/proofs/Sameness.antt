@@ -59,6 +59,7 @@ thread_same es xs thread.Setprio ws h = rw (h.1.0, h.1.1.0) refl
 thread_same es xs thread.SetschedFifo ws h = rw (h.1.0, h.1.1.1.0) refl
 thread_same es xs thread.SetschedRr ws h = rw (h.1.0, h.1.1.1.0) refl
 thread_same es xs thread.SetschedSporadic ws h = rw (h.1.0, h.1.1.1.0, h.1.1.1.1.0, h.1.1.1.1.1.0, h.1.1.1.1.1.1.0, h.1.1.1.1.1.1.1.0) refl
+thread_same es xs thread.SetschedStrict ws h = rw (h.1.0, h.1.1.1.0, h.1.1.1.1.0, h.1.1.1.1.1.0, h.1.1.1.1.1.1.0, h.1.1.1.1.1.1.1.0) refl
 
 mutex_same : (es xs : List Entry) (f : MutexCall) (ws : List (List ℕ)) → Holds (Same es xs) (places_of (form.Call (call.Mutex f))) ws
     → mutex_call xs f (canonical_words (places_of (form.Call (call.Mutex f))) (padded (places_of (form.Call (call.Mutex f))) ws)) ≡ mutex_call es f (padded (places_of (form.Call (call.Mutex f))) ws)
@@ -143,7 +144,9 @@ body_same es xs steps body.FifoDormant ws h = rw h.1.1.1.0 refl
 body_same es xs steps body.RrAt ws h = rw (h.1.1.1.0, h.1.1.1.1.1.0) refl
 body_same es xs steps body.RrDormant ws h = rw h.1.1.1.0 refl
 body_same es xs steps body.SporadicAt ws h = rw (h.1.1.1.0, h.1.1.1.1.0, h.1.1.1.1.1.0, h.1.1.1.1.1.1.0, h.1.1.1.1.1.1.1.0, h.1.1.1.1.1.1.1.1.1.0) refl
+body_same es xs steps body.StrictAt ws h = rw (h.1.1.1.0, h.1.1.1.1.0, h.1.1.1.1.1.0, h.1.1.1.1.1.1.0, h.1.1.1.1.1.1.1.0, h.1.1.1.1.1.1.1.1.1.0) refl
 body_same es xs steps body.SporadicDormant ws h = rw (h.1.1.1.0, h.1.1.1.1.0, h.1.1.1.1.1.0, h.1.1.1.1.1.1.0, h.1.1.1.1.1.1.1.0) refl
+body_same es xs steps body.StrictDormant ws h = rw (h.1.1.1.0, h.1.1.1.1.0, h.1.1.1.1.1.0, h.1.1.1.1.1.1.0, h.1.1.1.1.1.1.1.0) refl
 body_same es xs steps body.Handler ws h = refl
 body_same es xs steps body.Cleanup ws h = refl
 

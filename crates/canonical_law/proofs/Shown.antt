@@ -188,6 +188,9 @@ thread_shown es ds thread.SetschedRr ws h e = rw (h.1.0.found, h.1.1.1.0, h.1.0.
 thread_shown es ds thread.SetschedSporadic ws h e =
     let s = server_fits (value_of (word 3 (padded (places_of (form.Call (call.Thread thread.SetschedSporadic))) ws))) (value_of (word 4 (padded (places_of (form.Call (call.Thread thread.SetschedSporadic))) ws))) (value_of (word 5 (padded (places_of (form.Call (call.Thread thread.SetschedSporadic))) ws))) (value_of (word 6 (padded (places_of (form.Call (call.Thread thread.SetschedSporadic))) ws))) (value_of (word 7 (padded (places_of (form.Call (call.Thread thread.SetschedSporadic))) ws))) h.1.1.1.0 h.1.1.1.1.0 h.1.1.1.1.1.0 h.1.1.1.1.1.1.0 h.1.1.1.1.1.1.1.0 e in
     rw (h.1.0.found, h.1.1.1.0, h.1.1.1.1.0, h.1.1.1.1.1.0, h.1.1.1.1.1.1.0, s.pending, s.order, h.1.0.text, h.0, h.1.1.0) refl
+thread_shown es ds thread.SetschedStrict ws h e =
+    let s = server_fits (value_of (word 3 (padded (places_of (form.Call (call.Thread thread.SetschedStrict))) ws))) (value_of (word 4 (padded (places_of (form.Call (call.Thread thread.SetschedStrict))) ws))) (value_of (word 5 (padded (places_of (form.Call (call.Thread thread.SetschedStrict))) ws))) (value_of (word 6 (padded (places_of (form.Call (call.Thread thread.SetschedStrict))) ws))) (value_of (word 7 (padded (places_of (form.Call (call.Thread thread.SetschedStrict))) ws))) h.1.1.1.0 h.1.1.1.1.0 h.1.1.1.1.1.0 h.1.1.1.1.1.1.0 h.1.1.1.1.1.1.1.0 e in
+    rw (h.1.0.found, h.1.1.1.0, h.1.1.1.1.0, h.1.1.1.1.1.0, h.1.1.1.1.1.1.0, s.pending, s.order, h.1.0.text, h.0, h.1.1.0) refl
 
 mutex_shown : (es : List Entry) (ds : List Decl) (f : MutexCall) (ws : List (List ℕ)) → Holds (Shows es ds) (places_of (form.Call (call.Mutex f))) ws
     → shown_call ds (mutex_call es f (padded (places_of (form.Call (call.Mutex f))) ws)) ≡ canonical_words (places_of (form.Call (call.Mutex f))) (padded (places_of (form.Call (call.Mutex f))) ws) ∷ []
@@ -281,8 +284,14 @@ body_shown es ds steps body.RrDormant ws h e = rw (h.1.0, h.1.1.1.0, h.0, h.1.1.
 body_shown es ds steps body.SporadicAt ws h e =
     let s = server_fits (value_of (word 3 (padded (places_of (form.Body body.SporadicAt)) ws))) (value_of (word 4 (padded (places_of (form.Body body.SporadicAt)) ws))) (value_of (word 5 (padded (places_of (form.Body body.SporadicAt)) ws))) (value_of (word 6 (padded (places_of (form.Body body.SporadicAt)) ws))) (value_of (word 7 (padded (places_of (form.Body body.SporadicAt)) ws))) h.1.1.1.0 h.1.1.1.1.0 h.1.1.1.1.1.0 h.1.1.1.1.1.1.0 h.1.1.1.1.1.1.1.0 e in
     rw (h.1.0, h.1.1.1.0, h.1.1.1.1.0, h.1.1.1.1.1.0, h.1.1.1.1.1.1.0, h.1.1.1.1.1.1.1.1.1.0, s.pending, s.order, h.0, h.1.1.0, h.1.1.1.1.1.1.1.1.0) refl
+body_shown es ds steps body.StrictAt ws h e =
+    let s = server_fits (value_of (word 3 (padded (places_of (form.Body body.StrictAt)) ws))) (value_of (word 4 (padded (places_of (form.Body body.StrictAt)) ws))) (value_of (word 5 (padded (places_of (form.Body body.StrictAt)) ws))) (value_of (word 6 (padded (places_of (form.Body body.StrictAt)) ws))) (value_of (word 7 (padded (places_of (form.Body body.StrictAt)) ws))) h.1.1.1.0 h.1.1.1.1.0 h.1.1.1.1.1.0 h.1.1.1.1.1.1.0 h.1.1.1.1.1.1.1.0 e in
+    rw (h.1.0, h.1.1.1.0, h.1.1.1.1.0, h.1.1.1.1.1.0, h.1.1.1.1.1.1.0, h.1.1.1.1.1.1.1.1.1.0, s.pending, s.order, h.0, h.1.1.0, h.1.1.1.1.1.1.1.1.0) refl
 body_shown es ds steps body.SporadicDormant ws h e =
     let s = server_fits (value_of (word 3 (padded (places_of (form.Body body.SporadicDormant)) ws))) (value_of (word 4 (padded (places_of (form.Body body.SporadicDormant)) ws))) (value_of (word 5 (padded (places_of (form.Body body.SporadicDormant)) ws))) (value_of (word 6 (padded (places_of (form.Body body.SporadicDormant)) ws))) (value_of (word 7 (padded (places_of (form.Body body.SporadicDormant)) ws))) h.1.1.1.0 h.1.1.1.1.0 h.1.1.1.1.1.0 h.1.1.1.1.1.1.0 h.1.1.1.1.1.1.1.0 e in
+    rw (h.1.0, h.1.1.1.0, h.1.1.1.1.0, h.1.1.1.1.1.0, h.1.1.1.1.1.1.0, s.pending, s.order, h.0, h.1.1.0, h.1.1.1.1.1.1.1.1.0) refl
+body_shown es ds steps body.StrictDormant ws h e =
+    let s = server_fits (value_of (word 3 (padded (places_of (form.Body body.StrictDormant)) ws))) (value_of (word 4 (padded (places_of (form.Body body.StrictDormant)) ws))) (value_of (word 5 (padded (places_of (form.Body body.StrictDormant)) ws))) (value_of (word 6 (padded (places_of (form.Body body.StrictDormant)) ws))) (value_of (word 7 (padded (places_of (form.Body body.StrictDormant)) ws))) h.1.1.1.0 h.1.1.1.1.0 h.1.1.1.1.1.0 h.1.1.1.1.1.1.0 h.1.1.1.1.1.1.1.0 e in
     rw (h.1.0, h.1.1.1.0, h.1.1.1.1.0, h.1.1.1.1.1.0, h.1.1.1.1.1.1.0, s.pending, s.order, h.0, h.1.1.0, h.1.1.1.1.1.1.1.1.0) refl
 body_shown es ds steps body.Handler ws h e = rw (h.1.0, h.0) refl
 body_shown es ds steps body.Cleanup ws h e = rw (h.1.0, h.0) refl

@@ -1,6 +1,6 @@
 -- The canonical text of a text without faults has none.
 use Rattle.std.proofs.Common.{◌≡◌, ℕ, ◌+◌, List, [], ◌∷◌, ◌++◌, length, refl, sym, ◌∙◌, ap, subst, Bool, true, false, not, rules, Some}
-use Rattle.std.specs.Prelude.{◌==◌}
+use Rattle.std.specs.Prelude.{◌==◌, Result, Ok, Err}
 use Rattle.std.specs.List.{list_all}
 use Rattle.script_lex.specs.Lines.{lines_of}
 use Rattle.script_lex.specs.Words.{onto_first, is_allowed}
@@ -12,9 +12,14 @@ use Rattle.script_table.specs.declared.faults.FaultKind.TheVariants.{NoThread}
 use Rattle.script_table.specs.Faults.{faults_at, when}
 use Rattle.script_table.specs.Names.{declared, phase_two}
 use Rattle.script_table.specs.Ranges.{Tally, tallied, range_faults, phase_three, no_tally}
-use Rattle.script_table.specs.Structure.{Said, said_from, row_of_line, line_faults, behind_line, opened_by, phase_one}
-use Rattle.script_table.specs.Read.{said, faults}
-use Rattle.canonical_law.specs.Laws.{HasNoFault, KeepsStatements, KeepsText, canonical_lines, canonical_text, AreAnew}
+use Rattle.script_table.specs.Structure.{Said, row_of_line, line_faults, behind_line, opened_by, phase_one}
+use Rattle.script_table.specs.declared.version.Version.{Version}
+use Rattle.script_table.specs.Versions.{most_of}
+use Rattle.script_table.specs.Faults.{Fault}
+use Rattle.script_table.specs.Heading.{Beginning, heading}
+use Rattle.script_table.specs.Read.{Tables, said_in, faults_in, said_behind, said, faults_behind, faults}
+use Rattle.canonical_law.specs.Laws.{HasNoFault, KeepsStatements, KeepsText, canonical_lines, canonical_part, canonical_behind, first_line, AreRanged, AreAnew}
+use Rattle.canonical_law.proofs.Headings.{behind_version, heading_behind, allowed_behind, canonical_heading}
 use Rattle.canonical_law.proofs.Places.{both_none, no_kinds, one_line, in_place, behind_clean, places_kept, anew_kept}
 use Rattle.canonical_law.proofs.Names.{names_kept}
 use Rattle.canonical_law.proofs.Limits as limits
@@ -60,38 +65,60 @@ module _ (rows : List Row) (table : IsTable rows) where
       let here : list_all is_allowed line ≡ true = not_bad (list_all is_allowed line) (in_place rows table openings line none).bytes in
       rw (here, are_allowed lines (opened_by (row_of_line rows line) openings) (n + 1) rest) refl
 
-  pub statements_kept : (lines : List (List ℕ)) → HasNoFault rows lines → KeepsStatements rows lines
-  statements_kept lines clean =
-      let ranged = are_ranged rows table lines no_tally 1 1 (clean.limits 1) in
-      let anew = anew_kept rows table lines [] 1 clean.places ranged 1 in
+  pub statements_kept : (b : Beginning) → HasNoFault rows b → KeepsStatements rows b
+  statements_kept b clean =
+      let most : ℕ = most_of b.version in
+      let part : Beginning = canonical_part rows b in
+      let ranged = are_ranged rows table b.lines (no_tally most) b.number 1 (clean.limits 1) in
+      let anew = anew_kept rows table b.lines [] b.number clean.places ranged part.number in
       record {
         clean = record {
-          places = places_kept rows table lines [] 1 clean.places ranged 1;
-          names = names_kept rows table lines clean.names anew;
-          limits = λ n. limits_kept (said_from rows 1 lines) (said_from rows 1 (canonical_lines rows lines)) no_tally n n anew (clean.limits n);
+          places = places_kept rows table b.lines [] b.number clean.places ranged part.number;
+          names = names_kept rows table b.number part.number b.lines clean.names anew;
+          limits = λ n. limits_kept (said_in rows b) (said_in rows part) (no_tally most) n n anew (clean.limits n);
         };
         anew = anew;
       }
 
-  pub no_fault : (text : List ℕ) → faults rows text ≡ [] → HasNoFault rows (lines_of text)
-  no_fault text e =
-      let lines : List (List ℕ) = lines_of text in
-      let ss : List Said = said rows text in
-      let first = both_none (phase_one rows 1 (Some []) lines) (phase_two (declared ss) ss ++ phase_three (1 + length lines) no_tally ss) e in
-      let second = both_none (phase_two (declared ss) ss) (phase_three (1 + length lines) no_tally ss) first.1 in
-      record { places = first.0; names = second.0; limits = λ n. any_end ss no_tally (1 + length lines) n second.1 }
+  pub no_fault : (b : Beginning) → faults_in rows b ≡ [] → HasNoFault rows b
+  no_fault b e =
+      let ss : List Said = said_in rows b in
+      let t : Tally = no_tally (most_of b.version) in
+      let last : ℕ = b.number + length b.lines in
+      let first = both_none (phase_one rows b.number (Some []) b.lines) (phase_two (declared ss) ss ++ phase_three last t ss) e in
+      let second = both_none (phase_two (declared ss) ss) (phase_three last t ss) first.1 in
+      record { places = first.0; names = second.0; limits = λ n. any_end ss t last n second.1 }
 
-  pub faults_of : (text : List ℕ) (lines : List (List ℕ)) → lines_of text ≡ lines → HasNoFault rows lines → faults rows text ≡ []
-  faults_of text lines is clean =
-      let h : HasNoFault rows (lines_of text) = subst (HasNoFault rows) (sym is) clean in
-      rw (h.places, h.names, h.limits (1 + length (lines_of text))) refl
+  pub faults_none : (b : Beginning) → HasNoFault rows b → faults_in rows b ≡ []
+  faults_none b clean = rw (clean.places, clean.names, clean.limits (b.number + length b.lines)) refl
 
-  pub text_kept : (text : List ℕ) → faults rows text ≡ [] → KeepsText rows text
-  text_kept text e =
-      let lines : List (List ℕ) = lines_of text in
-      let kept = statements_kept lines (no_fault text e) in
-      let back : lines_of (canonical_text rows text) ≡ canonical_lines rows lines = lines_back (canonical_lines rows lines) (are_allowed (canonical_lines rows lines) [] 1 kept.clean.places) in
-      record {
-        clean = faults_of (canonical_text rows text) (canonical_lines rows lines) back kept.clean;
-        anew = subst (λ ls. AreAnew (said rows text) (said_from rows 1 ls)) (sym back) kept.anew;
-      }
+  pub ranged_in : (b : Beginning) → HasNoFault rows b → AreRanged rows b.lines
+  ranged_in b clean = are_ranged rows table b.lines (no_tally (most_of b.version)) b.number 1 (clean.limits 1)
+
+  -- where the text of its canonical lines begins
+  pub canonical_begins : (b : Beginning) → HasNoFault rows b → heading 1 (lines_of (joined_lines (behind_version b.version (canonical_lines rows b.lines)))) ≡ Ok (canonical_part rows b)
+  canonical_begins b clean =
+      let kept = statements_kept b clean in
+      let lines : List (List ℕ) = canonical_lines rows b.lines in
+      let allowed = allowed_behind b.version lines (are_allowed lines [] (first_line b.version) kept.clean.places) in
+      ap (heading 1) (lines_back (behind_version b.version lines) allowed)
+      ∙ heading_behind b.version lines (canonical_heading rows table b.lines [] b.number clean.places (ranged_in b clean) 1)
+
+module _ (tables : Tables) (table : (v : Version) → IsTable (tables v)) where
+  abbrev KeepsBehind : Result Beginning Fault → List ℕ → Type 0
+  KeepsBehind found text = (faults tables text ≡ []) × AreAnew (said_behind tables found) (said tables text)
+
+  kept_behind : (found : Result Beginning Fault) → faults_behind tables found ≡ [] → KeepsBehind found (canonical_behind tables found)
+  kept_behind (Err f) e = absurd (let h : (f ∷ []) ≡ [] = e in cc)
+  kept_behind (Ok b) e =
+      let rows : List Row = tables b.version in
+      let clean = no_fault rows (table b.version) b e in
+      let kept = statements_kept rows (table b.version) b clean in
+      let part : Beginning = canonical_part rows b in
+      let heads = canonical_begins rows (table b.version) b clean in (
+        ap (faults_behind tables) heads ∙ faults_none rows (table b.version) part kept.clean,
+        subst (λ found. AreAnew (said_in rows b) (said_behind tables found)) (sym heads) kept.anew,
+      )
+
+  pub text_kept : (text : List ℕ) → faults tables text ≡ [] → KeepsText tables text
+  text_kept text e = let h = kept_behind (heading 1 (lines_of text)) e in record { clean = h.0; anew = h.1 }

@@ -2,6 +2,7 @@
 use Rattle.std.specs.Prelude.{ℕ, ◌&&◌, ◌||◌, nat_le, zero, suc, not, Bool, true, false, List, [], ◌∷◌}
 use Rattle.std.specs.List.{list_all}
 use Rattle.std.specs.Str.{bytes_eq}
+use Rattle.script_table.specs.Heading.{is_version}
 use Rattle.script_table.specs.Ranges.{sets_server}
 use Rattle.script_table.specs.Patterns.{Spot, Keyword, Number, Row, greatest}
 
@@ -37,8 +38,16 @@ number_at zero (Number low high ∷ spots) = true
 number_at zero (other ∷ spots) = false
 number_at (suc k) (spot ∷ spots) = number_at k spots
 
--- where a line sets the parameters of a sporadic server, its words 3 to 7 are numbers
+-- where a line sets the parameters of a server, its words 3 to 7 are numbers
 abbrev pub has_parameters : Row → Bool
 has_parameters row =
     not (sets_server row.form) ||
     (number_at 3 row.places && (number_at 4 row.places && (number_at 5 row.places && (number_at 6 row.places && number_at 7 row.places))))
+
+-- no line with this pattern begins with `version`
+abbrev pub is_unversioned : List Spot → Bool
+is_unversioned (Keyword word ∷ spots) = not (is_version word)
+is_unversioned other = false
+
+abbrev pub all_unversioned : List Row → Bool
+all_unversioned rows = list_all (λ r. is_unversioned r.places) rows

@@ -1,5 +1,5 @@
 -- What is read back from a canonical text. The text format is this project's own.
-use Rattle.std.specs.Prelude.{◌≡◌, ◌≤◌, ℕ, true, false, List, [], ◌∷◌, ◌++◌, Option, None, Some, map, not}
+use Rattle.std.specs.Prelude.{◌≡◌, ◌≤◌, ℕ, true, false, List, [], ◌∷◌, ◌++◌, Option, None, Some, Result, Ok, Err, map, not}
 use Rattle.std.specs.List.{list_all}
 use Rattle.script_lex.specs.Lines.{lines_of}
 use Rattle.script_tree.specs.declared.call.Operand.{Operand}
@@ -9,10 +9,15 @@ use Rattle.script_lex.specs.Joined.{joined_words, joined_lines, is_word}
 use Rattle.script_table.specs.Patterns.{Row, greatest}
 use Rattle.script_table.specs.LineFaults.{place_faults, spelling}
 use Rattle.script_table.specs.Ranges.{range_fault, server_faults, phase_three, no_tally}
-use Rattle.script_table.specs.Structure.{Said, said_from, row_of_line, phase_one}
+use Rattle.script_table.specs.Structure.{Said, row_of_line, phase_one}
 use Rattle.script_table.specs.Names.{declared, phase_two}
-use Rattle.script_table.specs.Read.{said, faults}
-use Rattle.script_text.specs.Canon.{Words, text_of}
+use Rattle.script_table.specs.declared.version.Version.{Version}
+use Rattle.script_table.specs.declared.version.Version.TheVariants.{One, Two}
+use Rattle.script_table.specs.Versions.{version_number, most_of}
+use Rattle.script_table.specs.Faults.{Fault}
+use Rattle.script_table.specs.Heading.{Beginning, heading}
+use Rattle.script_table.specs.Read.{Tables, said_in, said, faults}
+use Rattle.script_text.specs.Canon.{Words, version_lines, text_of}
 use Rattle.canonical_law.specs.Canonical.{canonical_words}
 
 -- an operand that a script may have
@@ -43,7 +48,7 @@ abbrev pub IsRanged : Option Row → List ℕ → Type 0
 IsRanged None line = Unit {0}
 IsRanged (Some row) line = place_faults range_fault row.places (line_words line) ≡ []
 
--- a statement that was written anew: the same pattern, canonical words, no number out of range, and the same faults of a sporadic server
+-- a statement that was written anew: the same pattern, canonical words, no number out of range, and the same faults of a server
 pub record IsAnew (old new : Said) : Type 0 where
   pub pattern : new.row ≡ old.row
   pub words : new.words ≡ canonical_words old.row.places old.words
@@ -56,6 +61,11 @@ AreAnew [] [] = Unit {0}
 AreAnew [] (t ∷ ts) = ⊥
 AreAnew (s ∷ ss) [] = ⊥
 AreAnew (s ∷ ss) (t ∷ ts) = IsAnew s t × AreAnew ss ts
+
+-- the number of the first line that says something by a pattern, in a canonical text
+abbrev pub first_line : Version → ℕ
+first_line One = 1
+first_line Two = 2
 
 module _ (rows : List Row) where
   -- the line has the pattern, no bad byte, and no word that its place does not want or whose number is out of range
@@ -79,21 +89,30 @@ module _ (rows : List Row) where
   AreRanged (line ∷ lines) = IsRanged (row_of_line rows line) line × AreRanged lines
 
   -- lines without a fault of any phase
-  pub record HasNoFault (lines : List (List ℕ)) : Type 0 where
-    pub places : phase_one rows 1 (Some []) lines ≡ []
-    pub names : phase_two (declared (said_from rows 1 lines)) (said_from rows 1 lines) ≡ []
-    pub limits : (n : ℕ) → phase_three n no_tally (said_from rows 1 lines) ≡ []
+  pub record HasNoFault (b : Beginning) : Type 0 where
+    pub places : phase_one rows b.number (Some []) b.lines ≡ []
+    pub names : phase_two (declared (said_in rows b)) (said_in rows b) ≡ []
+    pub limits : (n : ℕ) → phase_three n (no_tally (most_of b.version)) (said_in rows b) ≡ []
+
+  -- the canonical lines, behind that of the version
+  abbrev pub canonical_part : Beginning → Beginning
+  canonical_part b = record { version = b.version; number = first_line b.version; lines = canonical_lines b.lines }
 
   -- the canonical lines have no fault either, and say the same statements anew, in the same order
-  pub record KeepsStatements (lines : List (List ℕ)) : Type 0 where
-    pub clean : HasNoFault (canonical_lines lines)
-    pub anew : AreAnew (said_from rows 1 lines) (said_from rows 1 (canonical_lines lines))
+  pub record KeepsStatements (b : Beginning) : Type 0 where
+    pub clean : HasNoFault (canonical_part b)
+    pub anew : AreAnew (said_in rows b) (said_in rows (canonical_part b))
+
+module _ (tables : Tables) where
+  abbrev pub canonical_behind : Result Beginning Fault → List ℕ
+  canonical_behind (Err f) = []
+  canonical_behind (Ok b) = joined_lines (map joined_words (version_lines (version_number b.version)) ++ canonical_lines (tables b.version) b.lines)
 
   -- the text of the canonical lines
   abbrev pub canonical_text : List ℕ → List ℕ
-  canonical_text text = joined_lines (canonical_lines (lines_of text))
+  canonical_text text = canonical_behind (heading 1 (lines_of text))
 
   -- the canonical text has no fault, and says the same statements anew, in the same order
   pub record KeepsText (text : List ℕ) : Type 0 where
-    pub clean : faults rows (canonical_text text) ≡ []
-    pub anew : AreAnew (said rows text) (said rows (canonical_text text))
+    pub clean : faults tables (canonical_text text) ≡ []
+    pub anew : AreAnew (said tables text) (said tables (canonical_text text))

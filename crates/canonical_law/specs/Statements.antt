@@ -6,7 +6,7 @@ use Rattle.script_table.specs.declared.form.Form.TheVariants as form
 use Rattle.script_table.specs.declared.pattern.Bar.TheVariants.{Nowhere}
 use Rattle.script_table.specs.Patterns.{Keyword, Number, Row, greatest}
 use Rattle.script_table.specs.Structure.{Said}
-use Rattle.script_table.specs.Read.{said, read}
+use Rattle.script_table.specs.Read.{Tables, said, read}
 use Rattle.script_text.specs.Canon.{quantum_words, canon}
 use Rattle.canonical_law.specs.Laws.{AreAnew}
 
@@ -27,5 +27,5 @@ abbrev pub quantum_first : ℕ → List Said → List Said
 quantum_first quantum ss = quantum_said quantum ∷ filter (λ s. not (is_quantum s.row.form)) ss
 
 -- the canonical text of a script that a text is read as says the text's statements in their order, but for the quantum's, which it says first
-abbrev pub KeepsOrder : List Row → Type 0
-KeepsOrder rows = (text : List ℕ) (script : Script) → read rows text ≡ Ok script → AreAnew (quantum_first script.quantum (said rows text)) (said rows (canon script))
+abbrev pub KeepsOrder : Tables → Type 0
+KeepsOrder tables = (text : List ℕ) (script : Script) → read tables text ≡ Ok script → AreAnew (quantum_first script.quantum (said tables text)) (said tables (canon script))

@@ -1,6 +1,8 @@
 // What is written as lines is read back.
 ghost use Rattle.std.specs.Prelude.{◌≡◌, ℕ, List, [], Ok};
 ghost use Rattle.script_tree.specs.declared.decl.Script.{Script};
+ghost use Rattle.script_table.specs.declared.version.Version.{Version};
+ghost use Rattle.script_table.specs.Heading.{Beginning};
 ghost use Rattle.script_table.specs.Table.{patterns};
 ghost use Rattle.script_table.specs.Read.{faults, read};
 ghost use Rattle.script_table.specs.Patterns.{Row};
@@ -15,13 +17,14 @@ pub fn lines_read_back()
 /// A line that has a pattern and no fault of its own, written anew with its canonical words, has the same
 /// pattern, no fault of its own, and its canonical words.
 pub fn lines_keep_their_patterns()
-    ensures { (row : Row) (line : List ℕ) → IsSound patterns row line → KeepsPattern patterns row line }
+    ensures { (version : Version) (row : Row) (line : List ℕ)
+        → IsSound (patterns version) row line → KeepsPattern (patterns version) row line }
 {}
 
-/// Where the lines of a text have no fault, their canonical lines have none; and they say the same
+/// Where the lines of a text of a version have no fault, their canonical lines have none; and they say the same
 /// statements in the same order, each with its pattern and its canonical words.
 pub fn lines_keep_their_statements()
-    ensures { (lines : List (List ℕ)) → HasNoFault patterns lines → KeepsStatements patterns lines }
+    ensures { (b : Beginning) → HasNoFault (patterns b.version) b → KeepsStatements (patterns b.version) b }
 {}
 
 /// The canonical text of a text without faults has no fault, and says the same statements in the same order,

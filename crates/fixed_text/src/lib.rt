@@ -1,4 +1,6 @@
 //! Texts that are put together in a room of fixed size, as the lines of a report.
+//!
+//! Proved: `add` and `add_number` append the bytes and the decimal number, where there is room.
 #![tactic(auto)]
 
 ghost use Rattle.std.specs.Prelude.{◌≡◌, ◌≤◌, ◌+◌, ◌++◌, length, decimal};

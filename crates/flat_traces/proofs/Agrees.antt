@@ -18,14 +18,12 @@ use Rattle.machine_rules.specs.declared.frame.BodyOf.{BodyOf}
 use Rattle.machine_rules.specs.Bodies.{NextUnit, Seen}
 use Rattle.machine_rules.specs.Machine.{block_of, bodies_of, next_in}
 use Rattle.machine_places.specs.Carried.{Agree}
-use Rattle.machine_places.proofs.CarriedTrace.{trace_over}
-use Rattle.flat_traces.specs.Traces.{FlatTraces}
+use Rattle.machine_places.proofs.CarriedTrace.{runs_carry, trace_over}
+use Rattle.machine_places.proofs.CarriedBusy.{busy_over}
+use Rattle.flat_traces.specs.Places.{at_place, carry}
+use Rattle.flat_traces.specs.Traces.{FlatBusy, FlatRuns, FlatTraces}
 use Rattle.machine_flat.proofs.Numbered.{body_ops}
 use Rattle.machine_flat.specs.FlatBodies.{code_of, cursor_at, flat_bodies, next_unit, number_of}
-
--- the cursor at a place of a body
-abbrev pub at_place : ℕ → Block → Place → Cursor
-at_place n body place = record { body = n; pc = op_at place 0 body; register = 0; result = res.Zero; value = 0; counts = record { items = counts_at place [] body } }
 
 abbrev pub unit_at : ℕ → Block → NextUnit Place → NextUnit Cursor
 unit_at n body x = record { unit = x.unit; place = at_place n body x.place; register = x.register }
@@ -64,13 +62,10 @@ next_same code n body place seen is =
     ap next_unit lands ∙ outcome_same (from_place seen.result seen.value place body seen.register) n body place seen
 
 module _ (script : Script) where
-  abbrev pub carry : BodyOf → Place → Cursor
-  carry b place = at_place (number_of (code_of script) b) (block_of script b) place
-
-  same : (b : BodyOf) (place : Place) (seen : Seen) → (flat_bodies (code_of script)).next b (carry b place) seen ≡ unit_at (number_of (code_of script) b) (block_of script b) ((bodies_of script).next b place seen)
+  same : (b : BodyOf) (place : Place) (seen : Seen) → (flat_bodies (code_of script)).next b (carry script b place) seen ≡ unit_at (number_of (code_of script) b) (block_of script b) ((bodies_of script).next b place seen)
   same b place seen = next_same (code_of script) (number_of (code_of script) b) (block_of script b) place seen (body_ops script b)
 
-  pub flat_agrees : Agree carry (bodies_of script) (flat_bodies (code_of script))
+  pub flat_agrees : Agree (carry script) (bodies_of script) (flat_bodies (code_of script))
   flat_agrees = record {
     start = λ b. refl;
     unit = λ b place seen. ap (λ (x : NextUnit Cursor). x.unit) (same b place seen);
@@ -80,3 +75,9 @@ module _ (script : Script) where
 
 pub flat_traces : FlatTraces
 flat_traces script n = trace_over (carry script) script (flat_bodies (code_of script)) (flat_agrees script) n
+
+pub flat_runs : FlatRuns
+flat_runs script n = runs_carry (carry script) (bodies_of script) (flat_bodies (code_of script)) (flat_agrees script) script n
+
+pub flat_busy : FlatBusy
+flat_busy script from to = busy_over (carry script) script (flat_bodies (code_of script)) (flat_agrees script) from to

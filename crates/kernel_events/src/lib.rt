@@ -1,4 +1,6 @@
 //! The effects of calls and of due items: each is a step of a turn of the machine over flat code.
+//!
+//! Proved: the row of each call and each due item with its sweep are the machine's.
 #![tactic(auto)]
 
 mod items;

@@ -4,6 +4,8 @@ use Rattle.script_tree.specs.Block.{Block}
 use Rattle.script_tree.specs.declared.decl.Script.{Script}
 use Rattle.script_flat.specs.declared.cursor.Cursor.{Cursor}
 use Rattle.script_flat.specs.Flat as flat
+use Rattle.sporadic_server.specs.declared.ServerKind.{ServerKind}
+use Rattle.sporadic_server.specs.declared.ServerKind.TheVariants as kind
 use Rattle.sporadic_server.specs.Server.{ServerState, is_high}
 use Rattle.machine_rules.specs.Declarations.{cleanups_of, handlers_of}
 use Rattle.machine_rules.specs.Runs.{opening}
@@ -25,7 +27,7 @@ use Rattle.thread_laws.proofs.Changes.{at_all}
 use Rattle.thread_laws.proofs.Frames.{Stands}
 use Rattle.thread_laws.proofs.FramesTaken.{run_holds}
 use Rattle.thread_laws.proofs.MadeCalls.{all_weaker}
-use Rattle.thread_blocks.specs.Unused.{IsUnused}
+use Rattle.thread_blocks.specs.Unused.{IsUnused, IsUnusedAs}
 use Rattle.kernel_state.specs.Caught.{CatchesBy}
 use Rattle.kernel_sync.specs.Waits.{WaitKnowsMutex}
 use Rattle.kernel_laws.specs.Counts.{Counts, counts_in}
@@ -48,20 +50,24 @@ not_running ended e = refl
 low_of : (s : ServerState) → has_high (Some s) ≡ false → is_high s ≡ false
 low_of s e = grind arith
 
+pub unused_of : (k : ServerKind) (s : ServerState) → s.consumed ≡ 0 → IsUnusedAs k s
+unused_of kind.Sporadic s e = e
+unused_of kind.Strict s e = tt
+
 module _ (m : Machine Cursor) (rest : ServersRest m) where
   blocked_unused : (t : ℕ) → is_blocked (thread_at m t).status ≡ true → IsUnused (thread_at m t).server
   blocked_unused t e = by_server (thread_at m t).server refl
     where
       by_server : (o : Option ServerState) → (thread_at m t).server ≡ o → IsUnused o
       by_server None k = tt
-      by_server (Some s) k = rest.idle t s k (not_running (thread_at m t).status e)
+      by_server (Some s) k = unused_of s.kind s (rest.idle t s k (not_running (thread_at m t).status e))
 
   low_unused : (t : ℕ) → has_high (thread_at m t).server ≡ false → IsUnused (thread_at m t).server
   low_unused t e = by_server (thread_at m t).server refl
     where
       by_server : (o : Option ServerState) → (thread_at m t).server ≡ o → IsUnused o
       by_server None k = tt
-      by_server (Some s) k = rest.low t s k (low_of s (sym (ap has_high k) ∙ e))
+      by_server (Some s) k = unused_of s.kind s (rest.low t s k (low_of s (sym (ap has_high k) ∙ e)))
 
 -- ---- the bodies of a script
 

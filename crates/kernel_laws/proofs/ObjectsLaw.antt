@@ -126,6 +126,7 @@ module _ {P : Type 0} (bodies : Bodies P) (c : Counts) where
     elsewhere = λ m now last lists q. q;
     charged = λ t s runs q. q;
     ended = ended;
+    opened = λ t x s is q. q;
   }
 
   abbrev Rest : Machine P → Type 0

@@ -30,7 +30,7 @@ module _ (c : Counts) (few_timers : c.timers ≤ 32) (few_queues : c.queues ≤ 
 
   -- each serial is paid for by a tick, a timer, a queue or a thread
   pub serials_left : (one_of_timer : (k : ℕ) → count_of (λ (r : SignalRecord). is r.timer k) m.pending ≤ 1) → (one_of_queue : (q : ℕ) → count_of (λ (r : SignalRecord). is r.queue q) m.pending ≤ 1) →
-      length m.threads ≤ 64 → SerialsAreRight m → HasSerials m
+      length m.threads ≤ 256 → SerialsAreRight m → HasSerials m
   serials_left one_of_timer one_of_queue few right early =
       let catching = count_within catches_signal m.threads in
       let of_timers = some_few (λ (r : SignalRecord). r.timer) c.timers m.pending timers_named one_of_timer in

@@ -1,6 +1,6 @@
 -- What a sweep leaves fit for a sweep was so before it: it takes away nothing from a thread that is in the way of one.
 use Rattle.std.proofs.Common.{◌≡◌, ◌∙◌, ◌≤◌, ◌<◌, ℕ, List, [], ◌∷◌, Bool, true, false, Option, None, Some, ap, arith, inl, inr, length, refl, subst, suc, sym, zero, ◌⊎◌}
-use Rattle.std.specs.Prelude.{not, option_map, slice_index_or, ◌&&◌}
+use Rattle.std.specs.Prelude.{not, option_map, slice_index_or, ◌&&◌, if◌then◌else◌}
 use Rattle.tick_num.specs.declared.res.Res.{Res}
 use Rattle.tick_num.specs.declared.res.Res.TheVariants as res
 use Rattle.script_flat.specs.declared.cursor.Cursor.{Cursor}
@@ -9,6 +9,8 @@ use Rattle.script_flat.specs.Flat as flat
 use Rattle.script_flat.specs.Next.{capped}
 use Rattle.pse52_trace.specs.declared.event.Event.{Event}
 use Rattle.pse52_trace.specs.declared.event.Event.TheVariants as event
+use Rattle.sporadic_server.specs.declared.ServerKind.{ServerKind}
+use Rattle.sporadic_server.specs.declared.ServerKind.TheVariants as kind
 use Rattle.sporadic_server.specs.Server.{ServerState, activate, is_high}
 use Rattle.machine_rules.specs.declared.frame.BodyOf.TheVariants as body_of
 use Rattle.machine_rules.specs.declared.frame.FrameKind.TheVariants as frame
@@ -19,7 +21,7 @@ use Rattle.machine_rules.specs.CallNames.{name_of}
 use Rattle.machine_rules.specs.Delivery.{acts, interrupts, sweeps, sweeps_all, sweeps_thread, taken_by_sweep, takes_record, ticks_left}
 use Rattle.machine_rules.specs.GoodState.{ServersAreRight}
 use Rattle.machine_rules.specs.Lists.{changed_at}
-use Rattle.machine_rules.specs.Servers.{activates_server, high_server, with_server}
+use Rattle.machine_rules.specs.Servers.{activates_server, at_once, at_once_as, high_server, with_server}
 use Rattle.machine_rules.specs.Signals.{delivers, tells_overrun, without_record}
 use Rattle.machine_rules.specs.State.{Frame, Machine, SignalRecord, Status, Thread, Waiting, blocked, dormant, ended, runnable}
 use Rattle.machine_rules.specs.Threads.{action_of, catches_signal, is_blocked, is_live, is_runnable, no_thread, thread_at, thread_in, thread_numbers, waiting_of}
@@ -31,7 +33,7 @@ use Rattle.machine_moves.proofs.Waiters.OfThreads.{changed_is}
 use Rattle.machine_laws.proofs.Servers.Ends.{has_server}
 use Rattle.thread_laws.specs.Frames.{AreInOrder}
 use Rattle.thread_laws.proofs.Frames.{at_most_two}
-use Rattle.thread_blocks.specs.Unused.{IsUnused}
+use Rattle.thread_blocks.specs.Unused.{IsUnused, IsUnusedAs}
 use Rattle.kernel_state.specs.Caught.{CatchesBy}
 use Rattle.kernel_signals.specs.Sweeping.{CanVisit}
 use Rattle.kernel_laws.specs.Visitable.{CanBeSwept, ConsumesHigh, IsVisitable}
@@ -41,8 +43,16 @@ use Rattle.kernel_laws.specs.Visitable.{CanBeSwept, ConsumesHigh, IsVisitable}
 not_later : {X : Type 0} (n : ℕ) → n < n → X
 not_later n h = absurd (omega (arith, h))
 
-not_low : {X : Type 0} (s : ServerState) → high_server (Some s) ≡ None → is_high s ≡ true → X
-not_low s none high = absurd (grind arith)
+not_low : {X : Type 0} (s : ServerState) → at_once (high_server (Some s)) ≡ None → s.kind ≡ kind.Sporadic → is_high s ≡ true → X
+not_low {X} s none k high = by_high (is_high s) high none
+  where
+    by_kind : (j : ServerKind) → j ≡ kind.Sporadic → at_once_as j s ≡ None → X
+    by_kind kind.Sporadic e none = absurd (grind arith)
+    by_kind kind.Strict e none = absurd cc
+
+    by_high : (b : Bool) → b ≡ true → at_once (if b then Some s else None) ≡ None → X
+    by_high true e none = by_kind s.kind k none
+    by_high false e none = absurd (grind arith)
 
 order_back : (r : Res) (value : ℕ) (fs : List (Frame Cursor)) → AreInOrder (frames_answered r value fs) → AreInOrder fs
 order_back r value [] h = tt
@@ -55,7 +65,7 @@ top_back now f th h = record { ordered = h.ordered.1; consuming = h.consuming }
 activated_back : (now : ℕ) (th : Thread Cursor) → IsVisitable now (with_server (activate now) th) → IsVisitable now th
 activated_back now th h = record {
   ordered = h.ordered;
-  consuming = λ s e some. not_later now (h.consuming (activate now s) (ap (option_map (activate now)) e) some).before;
+  consuming = λ s e k some. not_later now (h.consuming (activate now s) (ap (option_map (activate now)) e) k some).before;
 }
 
 -- ---- all threads
@@ -78,14 +88,14 @@ module _ (bodies : Bodies Cursor) where
   activation_back t (Some server) x h = one_back t (with_server (activate x.machine.now)) x (activated_back x.machine.now) h
 
   -- what wakes has consumed nothing
-  idle_as_it_wakes : (t : ℕ) (o : Option ServerState) (x : Turn Cursor) → high_server (thread_at x.machine t).server ≡ o → AllVisitable (activates_server t o x) →
-      (y : ServerState) → (thread_at x.machine t).server ≡ Some y → 1 ≤ y.consumed → ⊥
-  idle_as_it_wakes t None x low h y e some = not_low y (sym (ap high_server e) ∙ low) ((h t).consuming y e some).high
-  idle_as_it_wakes t (Some server) x high h y e some =
+  idle_as_it_wakes : (t : ℕ) (o : Option ServerState) (x : Turn Cursor) → at_once (high_server (thread_at x.machine t).server) ≡ o → AllVisitable (activates_server t o x) →
+      (y : ServerState) → (thread_at x.machine t).server ≡ Some y → y.kind ≡ kind.Sporadic → 1 ≤ y.consumed → ⊥
+  idle_as_it_wakes t None x low h y e k some = not_low y (sym (ap (λ (o : Option ServerState). at_once (high_server o)) e) ∙ low) k ((h t).consuming y e k some).high
+  idle_as_it_wakes t (Some server) x high h y e k some =
       let now = x.machine.now in
       let same = thread-same x.machine t (with_server (activate now)) (has_server x.machine.threads t y e) in
       let there : IsVisitable now (with_server (activate now) (thread_at x.machine t)) = subst (IsVisitable now) same (h t) in
-      not_later now (there.consuming (activate now y) (ap (option_map (activate now)) e) some).before
+      not_later now (there.consuming (activate now y) (ap (option_map (activate now)) e) k some).before
 
   waking_back : (ev : Event) (t : ℕ) (r : Res) (v : ℕ) (s : Turn Cursor) → AllVisitable (wakes_telling ev t r v s) → AllVisitable s
   waking_back ev t r v s h u = of_two (changed_is no_thread t u (woken r v) s.machine.threads)
@@ -94,7 +104,7 @@ module _ (bodies : Bodies Cursor) where
       x = tells ev (moves t (changes t (woken r v) s))
 
       up : Option ServerState
-      up = high_server (thread_at x.machine t).server
+      up = at_once (high_server (thread_at x.machine t).server)
 
       of_two : ((t ≡ u) × (thread_in (changed_at no_thread t (woken r v) s.machine.threads) u ≡ woken r v (thread_at s.machine t))) ⊎ (thread_in (changed_at no_thread t (woken r v) s.machine.threads) u ≡ thread_at s.machine u) →
           IsVisitable s.machine.now (thread_at s.machine u)
@@ -105,7 +115,7 @@ module _ (bodies : Bodies Cursor) where
           let itself : thread_at x.machine t ≡ woken r v th = subst (λ (i : ℕ). thread_in (changed_at no_thread t (woken r v) s.machine.threads) i ≡ woken r v th) (sym e.0) e.1 in
           subst (λ (i : ℕ). IsVisitable s.machine.now (thread_at s.machine i)) e.0 (record {
             ordered = order_back r v th.frames here.ordered;
-            consuming = λ y k some. absurd (idle_as_it_wakes t up x refl h y (ap (λ (th : Thread Cursor). th.server) itself ∙ k) some);
+            consuming = λ y e' k some. absurd (idle_as_it_wakes t up x refl h y (ap (λ (th : Thread Cursor). th.server) itself ∙ e') k some);
           })
 
   -- ---- the sweep
@@ -187,8 +197,8 @@ module _ (bodies : Bodies Cursor) where
   }
 
 -- where the servers are right
-pub consuming_high : (m : Machine Cursor) → ServersAreRight m → (t : ℕ) (s : ServerState) → (thread_at m t).server ≡ Some s → 1 ≤ s.consumed → ConsumesHigh m.now (thread_at m t).status s
-consuming_high m right t s e some = let c = (right.each t s e).consuming some in record { runs = c.runnable; high = c.high; before = c.before }
+pub consuming_high : (m : Machine Cursor) → ServersAreRight m → (t : ℕ) (s : ServerState) → (thread_at m t).server ≡ Some s → s.kind ≡ kind.Sporadic → 1 ≤ s.consumed → ConsumesHigh m.now (thread_at m t).status s
+consuming_high m right t s e k some = let c = (right.each t s e).consuming some in record { runs = c.runnable; high = c.high; before = c.before }
 
 none_where : (n : ℕ) → (1 ≤ n → ⊥) → n ≡ 0
 none_where zero h = refl
@@ -212,4 +222,8 @@ can_visit now th h = record {
   where
     by_server : (o : Option ServerState) → th.server ≡ o → is_blocked th.status ≡ true → IsUnused o
     by_server None e waits = tt
-    by_server (Some s) e waits = none_where s.consumed (λ some. not_blocked th.status waits (h.consuming s e some).runs)
+    by_server (Some s) e waits = by_kind s.kind refl
+      where
+        by_kind : (k : ServerKind) → s.kind ≡ k → IsUnusedAs k s
+        by_kind kind.Sporadic k = none_where s.consumed (λ some. not_blocked th.status waits (h.consuming s e k some).runs)
+        by_kind kind.Strict k = tt

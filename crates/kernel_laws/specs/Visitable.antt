@@ -4,13 +4,14 @@ use Rattle.std.specs.Prelude.{◌≡◌, ◌≤◌, ◌<◌, ℕ, List, Some, le
 use Rattle.script_flat.specs.declared.cursor.Cursor.{Cursor}
 use Rattle.script_flat.specs.declared.op.Op.{Op}
 use Rattle.script_flat.specs.Flat as flat
+use Rattle.sporadic_server.specs.declared.ServerKind.TheVariants as kind
 use Rattle.sporadic_server.specs.Server.{ServerState, is_high}
 use Rattle.machine_rules.specs.State.{Machine, Status, Thread}
 use Rattle.machine_rules.specs.Threads.{action_of, is_runnable, thread_at}
 use Rattle.thread_laws.specs.Frames.{AreInOrder}
 use Rattle.kernel_state.specs.Caught.{CatchesBy}
 
--- what is consumed and not planned was consumed before now, by a thread that runs at its high priority
+-- what a server that is activated at once has consumed and not planned was consumed before now, by a thread that runs at its high priority
 pub record ConsumesHigh (now : ℕ) (status : Status) (s : ServerState) : Type 0 where
   pub runs : is_runnable status ≡ true
   pub high : is_high s ≡ true
@@ -18,7 +19,7 @@ pub record ConsumesHigh (now : ℕ) (status : Status) (s : ServerState) : Type 0
 
 pub record IsVisitable (now : ℕ) (th : Thread Cursor) : Type 0 where
   pub ordered : AreInOrder th.frames
-  pub consuming : (s : ServerState) → th.server ≡ Some s → 1 ≤ s.consumed → ConsumesHigh now th.status s
+  pub consuming : (s : ServerState) → th.server ≡ Some s → s.kind ≡ kind.Sporadic → 1 ≤ s.consumed → ConsumesHigh now th.status s
 
 -- whatever a sweep may ask of a machine over such code
 pub record CanBeSwept (code : flat.NumberedBodies (List Op)) (m : Machine Cursor) : Type 0 where

@@ -1,5 +1,9 @@
 //! What the kernel counts on in each state of the run of a script, whatever the script asks for.
 //!
+//! Proved: `states_fit`: in every state of the run of every well formed script that keeps to what the kernel asks, also between
+//! due items, what a thread waits for is there, and so are the handlers of signals; each record that may become pending has a
+//! place, serials are left until 10^18 ticks, and a thread that may run a handler has room for its frame.
+//!
 //! Each function stands for a law, which its clause states. None of them does anything when it is called.
 #![tactic(auto)]
 

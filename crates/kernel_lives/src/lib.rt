@@ -1,4 +1,7 @@
 //! Joining, ending, cancellation and cleanup handlers: each call, and the end of a body, is a step of a turn of the machine.
+//!
+//! Proved: the calls of joining, ending, cancellation and cleanup handlers by their rows, with the lines told; the end of a body
+//! ends its thread, whose joiner wakes with its value, or drops a handler's frame.
 #![tactic(auto)]
 
 mod cleanups;

@@ -7,7 +7,7 @@ use Rattle.script_flat.specs.declared.cursor.Cursor.{Cursor}
 use Rattle.sporadic_server.specs.Server.{ServerState, activate}
 use Rattle.machine_rules.specs.CallNames.{name_of}
 use Rattle.machine_rules.specs.Queues.{with_message}
-use Rattle.machine_rules.specs.Servers.{activates_server, high_server, with_server}
+use Rattle.machine_rules.specs.Servers.{activates_server, at_once, high_server, with_server}
 use Rattle.machine_rules.specs.State.{Machine, Message, Queue, Registration, Status, Thread, blocked, dormant, ended, runnable}
 use Rattle.machine_rules.specs.Threads.{can_run, is_blocked, is_runnable, no_queue, queue_at, thread_at, waiting_of}
 use Rattle.machine_rules.specs.Turns.{Turn, changes, changes_queue, moves, tells, with_queue}
@@ -64,10 +64,10 @@ module _ (t : ℕ) (r : Res) (value : ℕ) (s : Turn Cursor) where
   up = tells (event.Return t (name_of (call_in (waiting_of s.machine t))) r value) (moves t (changes t (woken r value) s))
 
   woken_thread : (u : ℕ) → (t == u) ≡ false → thread_at (wakes t r value s).machine u ≡ thread_at s.machine u
-  woken_thread u other = activated_other t u (high_server (thread_at up.machine t).server) up other ∙ thread-other s.machine t u (woken r value) other
+  woken_thread u other = activated_other t u (at_once (high_server (thread_at up.machine t).server)) up other ∙ thread-other s.machine t u (woken r value) other
 
   woken_direct : (wakes t r value s).direct ≡ s.direct ++ t ∷ []
-  woken_direct = activated_direct t (high_server (thread_at up.machine t).server) up
+  woken_direct = activated_direct t (at_once (high_server (thread_at up.machine t).server)) up
 
   abbrev after_it : Machine Cursor
   after_it = (wakes t r value s).machine

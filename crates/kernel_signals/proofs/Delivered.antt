@@ -12,7 +12,7 @@ use Rattle.script_flat.specs.declared.cursor.Cursor.{Cursor}
 use Rattle.sporadic_server.specs.Server.{ServerState, activate}
 use Rattle.machine_rules.specs.CallNames.{name_of}
 use Rattle.machine_rules.specs.Delivery.{interrupts, ticks_left}
-use Rattle.machine_rules.specs.Servers.{activates_server, high_server, with_server}
+use Rattle.machine_rules.specs.Servers.{activates_server, at_once, high_server, with_server}
 use Rattle.machine_rules.specs.Signals.{delivers, tells_overrun, without_record}
 use Rattle.machine_rules.specs.State.{Frame, SignalRecord, Status, Thread, Waiting}
 use Rattle.machine_rules.specs.Threads.{is_blocked, no_thread, thread_at, thread_in, waiting_in, waiting_of}
@@ -107,7 +107,7 @@ activates_long t u (Some server) s = changed-keeps no_thread t u (with_server (a
 wakes_long : (t u : ℕ) (r : Res) (value : ℕ) (s : Turn Cursor) → depth_in (wakes t r value s).machine.threads u ≡ depth_in s.machine.threads u
 wakes_long t u r value s =
     let up = tells (event.Return t (name_of (call_in (waiting_of s.machine t))) r value) (moves t (changes t (woken r value) s)) in
-    activates_long t u (high_server (thread_at up.machine t).server) up
+    activates_long t u (at_once (high_server (thread_at up.machine t).server)) up
     ∙ changed-keeps no_thread t u (woken r value) (λ th. length th.frames) (λ th. answered_long r value th.frames) s.machine.threads
 
 interrupts_long : (w : Option Waiting) (t u : ℕ) (s : Turn Cursor) → depth_in (interrupts w t s).machine.threads u ≡ depth_in s.machine.threads u

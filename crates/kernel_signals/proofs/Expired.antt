@@ -9,7 +9,7 @@ use Rattle.pse52_trace.specs.declared.event.Event.TheVariants as event
 use Rattle.sporadic_server.specs.Server.{ServerState}
 use Rattle.script_flat.specs.declared.cursor.Cursor.{Cursor}
 use Rattle.machine_rules.specs.CallNames.{name_of}
-use Rattle.machine_rules.specs.Servers.{activates_server, high_server}
+use Rattle.machine_rules.specs.Servers.{activates_server, at_once, high_server}
 use Rattle.machine_rules.specs.Signals.{acceptor, becomes_pending, delivers, generates, is_accepted_or_pends, is_ignore, tells_overrun, with_overrun_told}
 use Rattle.machine_rules.specs.State.{SignalRecord}
 use Rattle.machine_rules.specs.Threads.{action_of, no_timer, thread_at, timer_at, waiting_of}
@@ -41,7 +41,7 @@ activates_many t (Some server) s = refl
 wakes_many : (t : ℕ) (r : Res) (value : ℕ) (s : Turn Cursor) → many (wakes t r value s) ≡ many s
 wakes_many t r value s =
     let up = tells (event.Return t (name_of (call_in (waiting_of s.machine t))) r value) (moves t (changes t (woken r value) s)) in
-    activates_many t (high_server (thread_at up.machine t).server) up
+    activates_many t (at_once (high_server (thread_at up.machine t).server)) up
 
 if_many : (b : Bool) (x y : Turn Cursor) (n : ℕ) → many x ≡ n → many y ≡ n → many (if b then x else y) ≡ n
 if_many true x y n h g = h

@@ -166,7 +166,7 @@ module _ (start k : Kernel) (n : ℕ) (state : k ≡ after (first_visits n (flat
   pub caught_midway : AreCaught start → AreCaught k
   caught_midway caught = rw state (record { each = λ signal. subst (λ (actions : List SigAction). CatchesBy (length start.code.handlers) (slice_index_or actions signal action.Kill)) (sym mid.actions) (caught.each signal) })
 
-  pub room_midway : start.direct ≡ [] → n < 64 → length k.direct < 256
+  pub room_midway : start.direct ≡ [] → n < 256 → length k.direct < 256
   room_midway quiet lt =
       let few = mid.few in
       let none = ap length quiet in

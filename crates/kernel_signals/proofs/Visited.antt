@@ -14,7 +14,7 @@ use Rattle.machine_rules.specs.declared.signal.SigAction.TheVariants as action
 use Rattle.machine_rules.specs.Bodies.{Bodies}
 use Rattle.machine_rules.specs.CallNames.{name_of}
 use Rattle.machine_rules.specs.Delivery.{acts, catches, interrupts, sweeps_thread, taken_by_sweep, takes_record, ticks_left}
-use Rattle.machine_rules.specs.Servers.{activates_server, high_server, with_server}
+use Rattle.machine_rules.specs.Servers.{activates_server, at_once, high_server, with_server}
 use Rattle.machine_rules.specs.Signals.{delivers, tells_overrun, without_record}
 use Rattle.machine_rules.specs.State.{SignalRecord, Thread, Waiting}
 use Rattle.machine_rules.specs.Threads.{action_of, can_run, is_runnable, no_thread, thread_at, thread_in, waiting_of}
@@ -75,7 +75,7 @@ wakes_visits : (t : ℕ) (r : Res) (value : ℕ) (s : Turn Cursor) → Visits t 
 wakes_visits t r value s =
     let e = event.Return t (name_of (call_in (waiting_of s.machine t))) r value in
     let up = tells e (moves t (changes t (woken r value) s)) in
-    let server = high_server (thread_at up.machine t).server in
+    let server = at_once (high_server (thread_at up.machine t).server) in
     let first = changes_only t (woken r value) s in
     record {
       only = then_thread t s up (activates_server t server up) (record { others = first.others; many = first.many; actions = refl; now = refl; lists = refl }) (activates_only t server up);

@@ -11,7 +11,8 @@ use Rattle.machine_rules.proofs.Reading.{changed-length, changed-other}
 use Rattle.thread_table.specs.Movers.{KeepsExec, KeepsOthers, TellsMoved, TellsMovedBeside}
 use Rattle.thread_table.specs.Table.{Table, thread_at, with_mutex, with_thread}
 use Rattle.thread_table.proofs.ToldMoves.{keeps}
-use Rattle.kernel_state.specs.Members.{TakesIn, Turns, has}
+use Rattle.bit_sets.specs.Sets.{Turns, has}
+use Rattle.kernel_state.specs.Members.{TakesIn}
 use Rattle.kernel_state.specs.Standing.{OthersStand}
 use Rattle.kernel_state.specs.Tied.{IsTied}
 use Rattle.kernel_state.proofs.StandOn.{RunOn, both_out, run_on, stand_on, still_out, taken_known, turned_known}
@@ -43,12 +44,12 @@ pub beside_there : (u : ℕ) (old new : Table) (r : Option ℕ) → TellsMovedBe
 beside_there u old new None h = tt
 beside_there u old new (Some t) h = h.free.known
 
-low : (n : ℕ) (r : Option ℕ) → n ≤ 64 → IfSome r (λ t. t < n) → IfSome r (λ t. t < 64)
+low : (n : ℕ) (r : Option ℕ) → n ≤ 256 → IfSome r (λ t. t < n) → IfSome r (λ t. t < 256)
 low n None few lt = tt
 low n (Some t) few lt = omega (arith, few, lt)
 
 -- and they fit the set
-pub fit : (old new : Table) (r : Option ℕ) → length new.threads ≡ length old.threads → length old.threads ≤ 64 → IfSome r (λ t. t < length new.threads) → IfSome r (λ t. t < 64)
+pub fit : (old new : Table) (r : Option ℕ) → length new.threads ≡ length old.threads → length old.threads ≤ 256 → IfSome r (λ t. t < length new.threads) → IfSome r (λ t. t < 256)
 fit old new r long few there = low (length new.threads) r (omega (arith, long, few)) there
 
 -- ---- what is told leaves all others
@@ -62,7 +63,7 @@ beside_keeps t old new (Some m) h u free other not_r none = h.others u free othe
 
 -- ---- who is named
 
-module _ (old new : Table) (lists : List (List ℕ)) (before : ℕ) (are : OthersStand before old lists) (long : length new.threads ≡ length old.threads) where
+module _ (old new : Table) (lists : List (List ℕ)) (before : List ℕ) (are : OthersStand before old lists) (long : length new.threads ≡ length old.threads) where
   known_before : (t : ℕ) → has t before ≡ true → t < length new.threads
   known_before t here = let lt = are.known t here in omega (arith, lt, long)
 
@@ -71,13 +72,13 @@ module _ (old new : Table) (lists : List (List ℕ)) (before : ℕ) (are : Other
   none_named runs same = stand_on old new lists before before known_before (λ t out. out) (λ t out. runs t) (λ t out free. same t (let lt = free.known in omega (arith, lt, long))) are
 
   -- the one that is told
-  pub told_named : (after : ℕ) (r : Option ℕ) → RunOn old new → TakesIn r before after → TellsMoved old new r → OthersStand after new lists
+  pub told_named : (after : List ℕ) (r : Option ℕ) → RunOn old new → TakesIn r before after → TellsMoved old new r → OthersStand after new lists
   told_named after r runs takes told =
       stand_on old new lists before after (taken_known r (length new.threads) before after takes (told_there old new r told) known_before)
       (λ t out. (both_out r t before after takes out).0) (λ t out. runs t) (λ t out free. keeps old new r told t free (both_out r t before after takes out).1) are
 
   -- a thread, and two that are told beside it
-  pub all_named : (mid next after t : ℕ) (a b : Option ℕ) → t < length old.threads → ((u : ℕ) → u ≢ t → thread_at new u ≡ thread_at old u) →
+  pub all_named : (mid next after : List ℕ) (t : ℕ) (a b : Option ℕ) → t < length old.threads → ((u : ℕ) → u ≢ t → thread_at new u ≡ thread_at old u) →
       Turns t true before mid → TakesIn a mid next → TakesIn b next after → IfSome a (λ u. u < length new.threads) → IfSome b (λ u. u < length new.threads) →
       KeepsOthers t a b old new → OthersStand after new lists
   all_named mid next after t a b lt others turns first second a_there b_there same =
@@ -97,7 +98,7 @@ module _ (old new : Table) (lists : List (List ℕ)) (before : ℕ) (are : Other
 
 -- ---- one thread changes
 
-module _ (old new : Table) (lists : List (List ℕ)) (before t : ℕ) (f : Thread Cursor → Thread Cursor) (is_new : new ≡ with_thread t f old) (are : OthersStand before old lists) where
+module _ (old new : Table) (lists : List (List ℕ)) (before : List ℕ) (t : ℕ) (f : Thread Cursor → Thread Cursor) (is_new : new ≡ with_thread t f old) (are : OthersStand before old lists) where
   others_same : (u : ℕ) → u ≢ t → thread_at new u ≡ thread_at old u
   others_same u other = ap (λ (x : Table). thread_at x u) is_new ∙ changed-other no_thread no_thread t u f old.threads (grind (arith, other))
 
@@ -107,25 +108,25 @@ module _ (old new : Table) (lists : List (List ℕ)) (before t : ℕ) (f : Threa
   pub none_thread : ((th : Thread Cursor) → is_runnable th.status ≡ true → is_runnable (f th).status ≡ true) → KeepsExec old new → OthersStand before new lists
   none_thread goes same = none_named old new lists before are (as_many old new t f is_new) (runs_on goes) same
 
-  pub told_thread : (after : ℕ) (r : Option ℕ) → ((th : Thread Cursor) → is_runnable th.status ≡ true → is_runnable (f th).status ≡ true) → TakesIn r before after →
+  pub told_thread : (after : List ℕ) (r : Option ℕ) → ((th : Thread Cursor) → is_runnable th.status ≡ true → is_runnable (f th).status ≡ true) → TakesIn r before after →
       TellsMoved old new r → OthersStand after new lists
   told_thread after r goes takes told = told_named old new lists before are (as_many old new t f is_new) after r (runs_on goes) takes told
 
   -- it is named itself
-  pub self_thread : (mid after : ℕ) (r : Option ℕ) → t < length old.threads → Turns t true before mid → TakesIn r mid after → IfSome r (λ u. u < length new.threads) →
+  pub self_thread : (mid after : List ℕ) (r : Option ℕ) → t < length old.threads → Turns t true before mid → TakesIn r mid after → IfSome r (λ u. u < length new.threads) →
       KeepsOthers t r None old new → OthersStand after new lists
   self_thread mid after r lt turns takes there keeps =
       all_named old new lists before are (as_many old new t f is_new) mid after after t r None lt others_same turns takes refl there tt keeps
 
 -- ---- one mutex changes
 
-pub told_mutex : (old new : Table) (lists : List (List ℕ)) (before after k : ℕ) (f : Mutex → Mutex) (r : Option ℕ) → new ≡ with_mutex k f old → TakesIn r before after → TellsMoved old new r →
+pub told_mutex : (old new : Table) (lists : List (List ℕ)) (before after : List ℕ) (k : ℕ) (f : Mutex → Mutex) (r : Option ℕ) → new ≡ with_mutex k f old → TakesIn r before after → TellsMoved old new r →
     OthersStand before old lists → OthersStand after new lists
 told_mutex old new lists before after k f r is_new takes told are =
     let threads = ap (λ (x : Table). x.threads) is_new in
     told_named old new lists before are (ap length threads) after r (subst (RunOn old) (sym is_new) (λ t runs. runs)) takes told
 
-pub none_mutex : (old new : Table) (lists : List (List ℕ)) (before k : ℕ) (f : Mutex → Mutex) → new ≡ with_mutex k f old → KeepsExec old new →
+pub none_mutex : (old new : Table) (lists : List (List ℕ)) (before : List ℕ) (k : ℕ) (f : Mutex → Mutex) → new ≡ with_mutex k f old → KeepsExec old new →
     OthersStand before old lists → OthersStand before new lists
 none_mutex old new lists before k f is_new same are =
     let threads = ap (λ (x : Table). x.threads) is_new in
@@ -137,7 +138,7 @@ module _ (old new : Table) (k t : ℕ) (g : Mutex → Mutex) (f : Thread Cursor 
   pub handed_many : length new.threads ≡ length old.threads
   handed_many = as_many (with_mutex k g old) new t f is_new
 
-  pub handed_named : (lists : List (List ℕ)) (before mid next after : ℕ) (a b : Option ℕ) → OthersStand before old lists → t < length old.threads →
+  pub handed_named : (lists : List (List ℕ)) (before mid next after : List ℕ) (a b : Option ℕ) → OthersStand before old lists → t < length old.threads →
       Turns t true before mid → TakesIn a mid next → TakesIn b next after → IfSome a (λ u. u < length new.threads) → IfSome b (λ u. u < length new.threads) →
       KeepsOthers t a b old new → OthersStand after new lists
   handed_named lists before mid next after a b are lt turns first second a_there b_there same =

@@ -68,27 +68,6 @@ found p threads i lt on =
 
 -- ---- how many
 
-numbered : (p : Thread Cursor → Bool) (b : Bool) (n : ℕ) (x : Thread Cursor) (xs : List (Thread Cursor)) → p x ≡ b →
-    length (numbers_from n p (x ∷ xs)) ≡ (if b then 1 else 0) + length (numbers_from (n + 1) p xs)
-numbered p true n x xs e = rw e (omega arith)
-numbered p false n x xs e = rw e (omega arith)
-
-pub counted : (p : Thread Cursor → Bool) (threads : List (Thread Cursor)) (i : ℕ) (b : Bool) → i < length threads → p (get_or threads i no_thread) ≡ b →
-    (if b then 1 else 0) + length (numbers_from (i + 1) p (drop (i + 1) threads)) ≡ length (numbers_from i p (drop i threads))
-counted p threads i b lt is =
-    let rest : drop i threads ≡ get_or threads i no_thread ∷ drop (i + 1) threads = drop_more threads i no_thread lt in
-    rw rest (sym (numbered p b i (get_or threads i no_thread) (drop (i + 1) threads) is))
-
-drop_end : (threads : List (Thread Cursor)) (n : ℕ) → length threads ≤ n → drop n threads ≡ []
-drop_end [] zero le = refl
-drop_end [] (suc n) le = refl
-drop_end (x ∷ xs) zero le = absurd (omega arith)
-drop_end (x ∷ xs) (suc n) le = drop_end xs n (omega arith)
-
--- and at the end all are counted
-pub all_counted : (p : Thread Cursor → Bool) (threads : List (Thread Cursor)) (n count total : ℕ) → length threads ≤ n → count + length (numbers_from n p (drop n threads)) ≡ total → count ≡ total
-all_counted p threads n count total le h = let none = drop_end threads n le in let e : count + 0 ≡ total = rw none at h in omega (arith, e)
-
 module _ (m : Machine Cursor) (passes : Wait → Bool) where
   abbrev waiter_at : ℕ → Option Waiter
   waiter_at t = waiter_of t (exec m t) (waiting_of m t)

@@ -13,10 +13,11 @@ pub mod Closing
 pub mod Waits
 pub mod InConditions
 pub mod Nearest
-pub mod Words
 pub mod OnLists
 pub mod StandOn
 pub mod Carried
 pub mod Targets
 pub mod InQueues
 pub mod LeftAlone
+pub mod LastRun
+pub mod Activations

@@ -11,7 +11,8 @@ use Rattle.machine_rules.proofs.Standing.{head_length, tail_length, without_leng
 use Rattle.thread_table.specs.Movers.{IsFree}
 use Rattle.thread_table.specs.Table.{Table, exec, thread_at, with_thread}
 use Rattle.thread_table.proofs.ToldMoves.{runs_free}
-use Rattle.kernel_state.specs.Members.{HasNoneFrom, IsFirstFrom, TakesIn, Turns, has}
+use Rattle.bit_sets.specs.Sets.{HasNoneFrom, IsFirstFrom, Turns, has}
+use Rattle.kernel_state.specs.Members.{TakesIn}
 use Rattle.kernel_state.specs.Standing.{OthersStand, ComesNext, StandsRight}
 use Rattle.kernel_state.proofs.OnLists.{gone, gone_apart, head_apart, head_there, tail_apart, tail_there}
 use Rattle.kernel_state.proofs.SettleIs.{runs_known}
@@ -23,31 +24,31 @@ not_both : {X : Type 0} (b : Bool) → b ≡ true → b ≡ false → X
 not_both b on off = absurd (let e : true ≡ false = sym on ∙ off in cc)
 
 -- a thread that is not named now was not named before, and is not the one that came in
-pub still_out : (t u before after : ℕ) → Turns t true before after → has u after ≡ false → (has u before ≡ false) × (u ≢ t)
+pub still_out : (t u : ℕ) (before after : List ℕ) → Turns t true before after → has u after ≡ false → (has u before ≡ false) × (u ≢ t)
 still_out t u before after turns out =
     let other : u ≢ t = (λ (e : u ≡ t). not_both (has u after) (rw e turns.itself) out) in
     (sym (turns.others u other) ∙ out, other)
 
-pub both_out : (o : Option ℕ) (u before after : ℕ) → TakesIn o before after → has u after ≡ false → (has u before ≡ false) × (is o u ≡ false)
+pub both_out : (o : Option ℕ) (u : ℕ) (before after : List ℕ) → TakesIn o before after → has u after ≡ false → (has u before ≡ false) × (is o u ≡ false)
 both_out None u before after takes out = (rw takes at out, refl)
 both_out (Some t) u before after takes out =
     let h = still_out t u before after takes out in
     let other = h.1 in
     (h.0, grind (arith, other))
 
-pub turned_known : (t n before after : ℕ) → Turns t true before after → t < n → ((u : ℕ) → has u before ≡ true → u < n) → (u : ℕ) → has u after ≡ true → u < n
+pub turned_known : (t n : ℕ) (before after : List ℕ) → Turns t true before after → t < n → ((u : ℕ) → has u before ≡ true → u < n) → (u : ℕ) → has u after ≡ true → u < n
 turned_known t n before after turns lt known u here = elim (eqb_tells u t) [
   | inl same ↦ rw same.1 lt
   | inr other ↦ known u (sym (turns.others u other.1) ∙ here)
 ]
 
-pub taken_known : (o : Option ℕ) (n before after : ℕ) → TakesIn o before after → IfSome o (λ t. t < n) → ((u : ℕ) → has u before ≡ true → u < n) → (u : ℕ) → has u after ≡ true → u < n
+pub taken_known : (o : Option ℕ) (n : ℕ) (before after : List ℕ) → TakesIn o before after → IfSome o (λ t. t < n) → ((u : ℕ) → has u before ≡ true → u < n) → (u : ℕ) → has u after ≡ true → u < n
 taken_known None n before after takes lt known u here = known u (rw takes at here)
 taken_known (Some t) n before after takes lt known u here = turned_known t n before after takes lt known u here
 
 -- ---- one thread is put somewhere
 
-pub put_right : (bits after : ℕ) (table : Table) (lists new : List (List ℕ)) (t : ℕ) → OthersStand bits table lists → Turns t false bits after → length new ≡ length lists →
+pub put_right : (bits after : List ℕ) (table : Table) (lists new : List (List ℕ)) (t : ℕ) → OthersStand bits table lists → Turns t false bits after → length new ≡ length lists →
     ((u : ℕ) → u ≢ t → prio_of u new ≡ prio_of u lists) → StandsRight table new t → OthersStand after table new
 put_right bits after table lists new t are turns long same right = record {
   every = long ∙ are.every;
@@ -76,7 +77,7 @@ nowhere table lists t at = record {
   there = λ p e. absurd (let h : None ≡ Some p = sym at ∙ e in cc);
 }
 
-module _ (bits after : ℕ) (table : Table) (lists : List (List ℕ)) (t : ℕ) (are : OthersStand bits table lists) (turns : Turns t false bits after) where
+module _ (bits after : List ℕ) (table : Table) (lists : List (List ℕ)) (t : ℕ) (are : OthersStand bits table lists) (turns : Turns t false bits after) where
   pub put_tail : (p : ℕ) → p ≡ exec table t → 1 ≤ p → p ≤ 255 → is_runnable (thread_at table t).status ≡ true → OthersStand after table (to_tail t p lists)
   put_tail p is some small runs =
       let fits : p - 1 < length lists = omega (arith, some, small, are.every) in
@@ -97,7 +98,7 @@ module _ (bits after : ℕ) (table : Table) (lists : List (List ℕ)) (t : ℕ) 
   forgotten right = put_right bits after table lists lists t are turns refl (λ u other. refl) right
 
 -- it is named as before
-pub kept_tail : (bits : ℕ) (table : Table) (lists : List (List ℕ)) (t : ℕ) → OthersStand bits table lists → (p : ℕ) → p ≡ exec table t → 1 ≤ p → p ≤ 255 →
+pub kept_tail : (bits : List ℕ) (table : Table) (lists : List (List ℕ)) (t : ℕ) → OthersStand bits table lists → (p : ℕ) → p ≡ exec table t → 1 ≤ p → p ≤ 255 →
     is_runnable (thread_at table t).status ≡ true → OthersStand bits table (to_tail t p lists)
 kept_tail bits table lists t are p is some small runs =
     let fits : p - 1 < length lists = omega (arith, some, small, are.every) in
@@ -115,7 +116,7 @@ kept_tail bits table lists t are p is some small runs =
 
 -- ---- threads and mutexes change
 
-pub stand_on : (old new : Table) (lists : List (List ℕ)) (before after : ℕ) →
+pub stand_on : (old new : Table) (lists : List (List ℕ)) (before after : List ℕ) →
     ((t : ℕ) → has t after ≡ true → t < length new.threads) →
     ((t : ℕ) → has t after ≡ false → has t before ≡ false) →
     ((t : ℕ) → has t after ≡ false → is_runnable (thread_at old t).status ≡ true → is_runnable (thread_at new t).status ≡ true) →
@@ -149,7 +150,7 @@ run_on old t f keeps u runs = each old.threads t u runs
 
 -- ---- which of them come next
 
-pub next_is : (bits from : ℕ) (table : Table) (lists : List (List ℕ)) (r : Option ℕ) → OthersStand bits table lists → MatchOption r (HasNoneFrom from bits) (λ t. IsFirstFrom from bits t) →
+pub next_is : (bits : List ℕ) (from : ℕ) (table : Table) (lists : List (List ℕ)) (r : Option ℕ) → OthersStand bits table lists → MatchOption r (HasNoneFrom from bits) (λ t. IsFirstFrom from bits t) →
     MatchOption r ((t : ℕ) → from ≤ t → StandsRight table lists t) (λ t. ComesNext table lists from t)
 next_is bits from table lists None are none = λ t low. are.others t (none t low)
 next_is bits from table lists (Some t) are first = record {
@@ -158,7 +159,7 @@ next_is bits from table lists (Some t) are first = record {
   between = λ u low small. are.others u (first.between u low small);
 }
 
-pub next_known : (bits from n : ℕ) (table : Table) (lists : List (List ℕ)) (r : Option ℕ) → n ≡ length table.threads → OthersStand bits table lists →
+pub next_known : (bits : List ℕ) (from n : ℕ) (table : Table) (lists : List (List ℕ)) (r : Option ℕ) → n ≡ length table.threads → OthersStand bits table lists →
     MatchOption r (HasNoneFrom from bits) (λ t. IsFirstFrom from bits t) → IfSome r (λ t. t < n)
 next_known bits from n table lists None same are none = tt
 next_known bits from n table lists (Some t) same are first = let lt = are.known t first.itself in omega (arith, same, lt)
@@ -173,7 +174,7 @@ reads_nowhere q t zero = refl
 reads_nowhere q t (suc n) = reads_nowhere (q + 1) t n
 
 -- all lists are empty, and nobody is named
-pub none_named_at_first : (bits : ℕ) (table : Table) → ((t : ℕ) → has t bits ≡ false) → OthersStand bits table empty_lists
+pub none_named_at_first : (bits : List ℕ) (table : Table) → ((t : ℕ) → has t bits ≡ false) → OthersStand bits table empty_lists
 none_named_at_first bits table out = record {
   every = refl;
   known = λ t here. not_both (has t bits) here (out t);

@@ -5,7 +5,7 @@ use Rattle.ready_lists.specs.Lists.{prio_of}
 use Rattle.machine_rules.specs.State.{Machine}
 use Rattle.machine_rules.specs.Threads.{is_runnable}
 use Rattle.thread_table.specs.Table.{Table, exec, thread_at}
-use Rattle.kernel_state.specs.Members.{has}
+use Rattle.bit_sets.specs.Sets.{has}
 
 -- where it stands on a list, it can run, and the list is that of its execution priority
 pub record StandsRight (table : Table) (lists : List (List ℕ)) (t : ℕ) : Type 0 where
@@ -13,7 +13,7 @@ pub record StandsRight (table : Table) (lists : List (List ℕ)) (t : ℕ) : Typ
   pub there : (p : ℕ) → prio_of t lists ≡ Some p → exec table t ≡ p
 
 -- each thread that is not named stands right
-pub record OthersStand (bits : ℕ) (table : Table) (lists : List (List ℕ)) : Type 0 where
+pub record OthersStand (bits : List ℕ) (table : Table) (lists : List (List ℕ)) : Type 0 where
   pub every : length lists ≡ 255
   pub known : (t : ℕ) → has t bits ≡ true → t < length table.threads
   pub others : (t : ℕ) → has t bits ≡ false → StandsRight table lists t

@@ -98,7 +98,7 @@ impl Parts {
 
     pub fn activate_thread(&mut self, t: Tid)
         requires known { t < length self.old.names }
-        requires unused { IsUnused (thread_at self.old.machine t).server }
+        requires unused { consumed_in (thread_at self.old.machine t).server ≡ 0 }
         requires early { self.old.machine.now ≤ 10 ^ 18 }
         ensures { self.new ≡ after (changes t (with_server (activate self.old.machine.now))) self.old }
     {

@@ -1,12 +1,12 @@
 // Who waits for a condition, and what its end asks for.
-ghost use Rattle.std.specs.Prelude.{◌≡◌, ◌≤◌, ◌<◌, ◌^◌, None, Some, length, option_and_then};
-ghost use Rattle.machine_rules.specs.Conditions.{released_mutex, waits_on_condition, waits_with_other_mutex};
+ghost use Rattle.std.specs.Prelude.{◌≡◌, ◌<◌, ◌^◌, None, Some, length, option_and_then};
+ghost use Rattle.machine_rules.specs.Conditions.{released_mutex, waits_with_other_mutex};
 ghost use Rattle.machine_rules.specs.Mutexes.{owned_by};
 ghost use Rattle.machine_rules.specs.Priorities.{mutex_awaited_by};
 ghost use Rattle.machine_rules.specs.State.{for_mutex_again};
 ghost use Rattle.machine_rules.specs.State as machine;
 ghost use Rattle.machine_rules.specs.Threads.{thread_at, waiting_of as waiting_at};
-ghost use Rattle.machine_rules.specs.Waiters.{somebody_waits, waiters, waits_so};
+ghost use Rattle.machine_rules.specs.Waiters.{somebody_waits, waits_so};
 ghost use Rattle.machine_rules.specs.Waking.{blocks, call_in};
 ghost use Rattle.kernel_state.specs.Kernel.{after, by};
 ghost use Rattle.kernel_state.specs.Waits.{CanWait};
@@ -17,18 +17,6 @@ use thread_blocks::{Wait, Waiting};
 use tick_num::{ObjId, Tid};
 
 impl Parts {
-    // Whether a thread waits for the condition.
-    #[tactic(auto, using(crate::proofs::InConditions::none_waits, crate::proofs::InConditions::some_waits))]
-    fn waits_on(&self, t: Tid, c: ObjId) -> bool
-        requires { t < length self.now.names }
-        ensures { result ≡ waits_so (waits_on_condition c) (thread_at self.now.machine t) }
-    {
-        match self.wait(t) {
-            None => false,
-            Some(w) => w.is_for_condition(c),
-        }
-    }
-
     // Whether a thread waits for the condition with another mutex.
     #[tactic(auto, using(crate::proofs::InConditions::none_waits, crate::proofs::InConditions::some_waits))]
     fn waits_elsewhere(&self, t: Tid, c: ObjId, k: ObjId) -> bool
@@ -53,22 +41,6 @@ impl Parts {
             }
         }
         false
-    }
-
-    /// How many wait for the condition.
-    #[tactic(auto, using(crate::proofs::InConditions::counted, crate::proofs::InConditions::waiters_counted))]
-    pub fn waiting_count(&self, c: ObjId) -> u16
-        ensures value { result ≡ length (waiters self.now.machine (waits_on_condition c)) }
-        ensures few { result ≤ 64 }
-    {
-        let mut count = 0;
-        for number in 0..self.count() {
-            let t = self.tid(number);
-            if self.waits_on(t, c) {
-                count += 1;
-            }
-        }
-        count
     }
 
     /// The mutex that a thread's condition wait released; `None` exactly where it is in none.

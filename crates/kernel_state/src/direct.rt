@@ -4,10 +4,10 @@ ghost use Rattle.std.specs.Prelude.{◌≡◌, ◌<◌, ◌++◌, ◌∷◌, [],
 use std::marker::Model;
 use tick_num::Tid;
 
-// How many they are at most.
-const ROOM: usize = 256;
+// How many they are at most: a call finds fewer than 128, and a broadcast moves each of 256 threads at most once.
+const ROOM: usize = 512;
 
-/// Up to 256 threads, in order. It is seen as the list of their numbers.
+/// Up to 512 threads, in order. It is seen as the list of their numbers.
 #[derive(Drop)]
 pub struct Direct {
     threads: [Tid; ROOM],
@@ -21,7 +21,7 @@ impl Model for Direct {
 
     ghost view = { λ d. take d.count d.threads };
 
-    ghost invariant = { λ d. (d.count ≤ 256) × (length d.threads ≡ 256) };
+    ghost invariant = { λ d. (d.count ≤ 512) × (length d.threads ≡ 512) };
 }
 
 impl Direct {
@@ -50,7 +50,7 @@ impl Direct {
     }
 
     pub(crate) fn push(&mut self, t: Tid)
-        requires { length self.old < 256 }
+        requires { length self.old < 512 }
         ensures { self.new ≡ self.old ++ t ∷ [] }
     {
         self.threads[self.count] = t;

@@ -1,8 +1,13 @@
-// The dispatch: the head of the highest list that is not empty runs (IEEE 1003.1-2017, XSH 2.8.4).
-ghost use Rattle.std.specs.Prelude.{◌≡◌, ◌<◌, length, IfSome};
+// What precedes a tick: the dispatch, by which the head of the highest list that is not empty runs (IEEE 1003.1-2017, XSH 2.8.4), and the
+// runs of strict servers, which are this project's own.
+ghost use Rattle.std.specs.Prelude.{◌≡◌, ◌<◌, ◌≤◌, ◌^◌, ℕ, false, length, true, IfSome};
 ghost use Rattle.pse52_trace.specs.Tells.{Tells};
-ghost use Rattle.machine_rules.specs.Dispatch.{dispatch_event, dispatches, head};
-ghost use Rattle.machine_rules.specs.Turns.{tells};
+ghost use Rattle.machine_rules.specs.declared.dispatch.LastDispatch.TheVariants as last;
+ghost use Rattle.machine_rules.specs.Dispatch.{dispatch_event, dispatches, head, is_same};
+ghost use Rattle.machine_rules.specs.Servers.{closes, has_run};
+ghost use Rattle.machine_rules.specs.Threads.{thread_at};
+ghost use Rattle.machine_rules.specs.Ticks.{prepares};
+ghost use Rattle.machine_rules.specs.Turns.{tells, ◌▷◌};
 ghost use Rattle.kernel_state.specs.Kernel.{Kernel, after, told};
 
 use crate::parts::Parts;
@@ -22,18 +27,48 @@ impl Parts {
         }
     }
 
-    /// The processor is given to the head; `None` exactly where all lists are empty. It is told where that is a change.
-    pub fn dispatch<K: Sink>(&mut self, out: &mut Tracer<'_, K>) -> Option<Tid>
+    // The processor is given to the head, which is another than at the last tick: the open run of that one is closed, and it is told.
+    #[inline(always)]
+    fn change_head<K: Sink>(&mut self, to: &Option<Tid>, out: &mut Tracer<'_, K>)
+        requires change { is_same self.old.machine.last to.now ≡ false }
+        requires known { IfSome to.now (λ t. t < length self.old.names) }
+        requires latest { (u : ℕ) → has_run (thread_at self.old.machine u).server ≡ true → self.old.machine.last ≡ last.Ran u }
+        ensures state { self.new ≡ after (λ s. s ▷ closes to.now ▷ dispatches to.now) self.old }
+        ensures told { Tells K.text K.faults self.old.names out.old out.new (told (λ s. s ▷ closes to.now ▷ dispatches to.now) self.old) }
+    {
+        self.close_last(to, out);
+        self.tell_dispatch(to, out);
+        self.set_last(to);
+    }
+
+    // The processor is given to the head, and told where that is a change; before that the open run of any other thread is closed.
+    #[inline(always)]
+    fn dispatch<K: Sink>(&mut self, to: &Option<Tid>, out: &mut Tracer<'_, K>)
+        requires known { IfSome to.now (λ t. t < length self.old.names) }
+        requires latest { (u : ℕ) → has_run (thread_at self.old.machine u).server ≡ true → self.old.machine.last ≡ last.Ran u }
+        ensures state { self.new ≡ after (λ s. s ▷ closes to.now ▷ dispatches to.now) self.old }
+        ensures told { Tells K.text K.faults self.old.names out.old out.new (told (λ s. s ▷ closes to.now ▷ dispatches to.now) self.old) }
+    {
+        if !self.is_last(to) {
+            self.change_head(to, out);
+        }
+    }
+
+    /// What precedes the tick of the head: the open run of any other thread is closed, the processor is given to the head, which is told
+    /// where it is a change, and a run of the head is opened where one may be. `None` exactly where all lists are empty. Only the thread of
+    /// the last tick may have an open run.
+    #[inline(always)]
+    pub fn prepare<K: Sink>(&mut self, out: &mut Tracer<'_, K>) -> Option<Tid>
+        requires latest { (u : ℕ) → has_run (thread_at self.old.machine u).server ≡ true → self.old.machine.last ≡ last.Ran u }
+        requires early { self.old.machine.now ≤ 10 ^ 18 }
         ensures top { result ≡ head self.old.machine }
         ensures known { IfSome result (λ t. t < length self.old.names) }
-        ensures state { self.new ≡ after (dispatches (head self.old.machine)) self.old }
-        ensures told { Tells K.text K.faults self.old.names out.old out.new (told (dispatches (head self.old.machine)) self.old) }
+        ensures state { self.new ≡ after (prepares (head self.old.machine)) self.old }
+        ensures told { Tells K.text K.faults self.old.names out.old out.new (told (prepares (head self.old.machine)) self.old) }
     {
         let to = self.head();
-        if !self.is_last(&to) {
-            self.tell_dispatch(&to, out);
-        }
-        self.set_last(&to);
+        self.dispatch(&to, out);
+        self.open_run(&to, out);
         to
     }
 }

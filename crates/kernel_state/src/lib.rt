@@ -1,4 +1,7 @@
 //! All parts of the kernel, seen as one machine over flat code.
+//!
+//! Proved: all parts seen as one machine: each primitive is a step of a turn of the machine (what changes, and what is told); the
+//! settling, the dispatch, the next due item, the opening state, the closing lines.
 #![tactic(auto)]
 
 mod changes;
@@ -16,6 +19,7 @@ mod open;
 mod parts;
 mod report;
 mod semaphore_values;
+mod servers;
 mod settling;
 mod signals;
 mod threads;

@@ -115,7 +115,7 @@ impl Parts {
     /// It becomes the tail of its list at the next settling, unless it owns a mutex that can raise its priority.
     pub fn move_unless_boosted(&mut self, t: Tid)
         requires known { t < length self.old.names }
-        requires room { length self.old.direct < 256 }
+        requires room { length self.old.direct < 512 }
         ensures { self.new ≡ after (moves_unless_boosted t) self.old }
     {
         if !self.table.owns_boosting(t) {

@@ -134,7 +134,7 @@ impl Parts {
     /// A request acts in a thread that waits; it wakes, and its call does not return.
     pub fn wake_cancelled<K: Sink>(&mut self, t: Tid, out: &mut Tracer<'_, K>)
         requires known { t < length self.old.names }
-        requires room { length self.old.direct < 256 }
+        requires room { length self.old.direct < 512 }
         requires unused { IsUnused (thread_at self.old.machine t).server }
         requires early { self.old.machine.now ≤ 10 ^ 18 }
         ensures state { self.new ≡ after (wakes_cancelled t) self.old }
@@ -155,7 +155,7 @@ impl Parts {
         requires known { t < length self.old.names }
         requires mutex { k < length self.old.machine.mutexes }
         requires owned { (mutex_at self.old.machine k).owner ≡ Some owner }
-        requires room { length self.old.direct < 256 }
+        requires room { length self.old.direct < 512 }
         requires unused { IsUnused (thread_at self.old.machine t).server }
         requires early { self.old.machine.now ≤ 10 ^ 18 }
         ensures state { self.new ≡ after (λ s. s ▷ changes_mutex k (taken_by t) ▷ wakes_cancelled t) self.old }

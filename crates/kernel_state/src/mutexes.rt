@@ -146,7 +146,7 @@ impl Parts {
         requires known { t < length self.old.names }
         requires mutex { k < length self.old.machine.mutexes }
         requires owned { (mutex_at self.old.machine k).owner ≡ Some owner }
-        requires room { length self.old.direct < 256 }
+        requires room { length self.old.direct < 512 }
         requires unused { IsUnused (thread_at self.old.machine t).server }
         requires early { self.old.machine.now ≤ 10 ^ 18 }
         ensures state { self.new ≡ after (λ s. s ▷ changes_mutex k (taken_by t) ▷ wakes t res 0) self.old }

@@ -1,13 +1,15 @@
 // The threads that a settling looks at.
-ghost use Rattle.std.specs.Prelude.{◌≡◌, ◌≢◌, ◌≤◌, ◌<◌, ℕ, IfSome, MatchOption, false, true};
-ghost use Rattle.kernel_state.specs.Members.{HasNoneFrom, IsFirstFrom, TakesIn, Turns, has};
+ghost use Rattle.std.specs.Prelude.{◌≡◌, ◌<◌, ◌↔◌, ℕ, IfSome, MatchOption, false, true};
+ghost use Rattle.bit_sets.specs.Sets.{HasNoneFrom, HasNoOther, IsFirstFrom, Turns, has};
+ghost use Rattle.kernel_state.specs.Members.{TakesIn};
 
+use bit_sets::BitSet;
 use tick_num::Tid;
 
-/// A set of threads with numbers below 64.
+/// A set of threads, which are at most 256.
 #[derive(Drop)]
 pub struct Named {
-    bits: u64,
+    bits: BitSet,
 }
 
 impl Named {
@@ -15,19 +17,21 @@ impl Named {
     pub(crate) fn none() -> Named
         ensures { (t : ℕ) → has t result.bits ≡ false }
     {
-        Named { bits: 0 }
+        Named {
+            bits: BitSet::empty(),
+        }
     }
 
     pub(crate) fn add(&mut self, t: Tid)
-        requires { t < 64 }
+        requires { t < 256 }
         ensures { Turns t true self.old.bits self.new.bits }
     {
-        self.bits = with_bit(self.bits, t.get() as u32);
+        self.bits.add(t.get() as u32);
     }
 
     /// That thread, where there is one.
     pub(crate) fn take_in(&mut self, t: &Option<Tid>)
-        requires { IfSome t.now (λ u. u < 64) }
+        requires { IfSome t.now (λ u. u < 256) }
         ensures { TakesIn t.now self.old.bits self.new.bits }
     {
         if let Some(u) = t {
@@ -36,54 +40,25 @@ impl Named {
     }
 
     pub(crate) fn remove(&mut self, t: Tid)
-        requires { t < 64 }
+        requires { t < 256 }
         ensures { Turns t false self.old.bits self.new.bits }
     {
-        self.bits = without_bit(self.bits, t.get() as u32);
+        self.bits.remove(t.get() as u32);
     }
 
     /// The first of them from that number on; `None` exactly where there is none.
     pub(crate) fn first_from(&self, from: u16) -> Option<Tid>
         ensures { MatchOption result (HasNoneFrom from self.now.bits) (λ t. IsFirstFrom from self.now.bits t) }
     {
-        let bit = first_bit(self.bits, from as u32)?;
-        Tid::try_new(bit as u16)
+        let number = self.bits.first_from(from as u32)?;
+        Tid::try_new(number as u16)
     }
 
     /// Whether no other is in it.
     pub(crate) fn is_alone(&self, t: Tid) -> bool
-        requires { t < 64 }
-        ensures { result ≡ true → (u : ℕ) → u ≢ t → has u self.now.bits ≡ false }
+        requires { t < 256 }
+        ensures { (result ≡ true) ↔ HasNoOther t self.now.bits }
     {
-        without_bit(self.bits, t.get() as u32) == 0
+        self.bits.is_alone(t.get() as u32)
     }
-}
-
-fn with_bit(word: u64, bit: u32) -> u64
-    requires { bit < 64 }
-    ensures { Turns bit true word result }
-{
-    word | (1u64 << bit)
-}
-
-fn without_bit(word: u64, bit: u32) -> u64
-    requires { bit < 64 }
-    ensures { Turns bit false word result }
-{
-    word & !(1u64 << bit)
-}
-
-// The lowest bit from that one on that is set.
-fn first_bit(word: u64, from: u32) -> Option<u32>
-    ensures first { MatchOption result (HasNoneFrom from word) (λ bit. IsFirstFrom from word bit) }
-    ensures small { IfSome result (λ bit. bit < 64) }
-{
-    if from >= 64 {
-        return None;
-    }
-    let rest = word >> from;
-    if rest == 0 {
-        return None;
-    }
-    Some(from + rest.trailing_zeros())
 }

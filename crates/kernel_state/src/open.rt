@@ -35,7 +35,7 @@ fn tid_of(place: usize) -> Tid
 // A thread that is declared there has the next name; the number of the name after it.
 fn add_name(names: &mut Names, t: usize, decl: &Decl) -> usize
     requires room { t + length (option_to_list (declared_thread decl.now)) ≤ length names.old }
-    requires few { length names.old ≤ 64 }
+    requires few { length names.old ≤ 256 }
     ensures names { names.new ≡ with_name names.old t (declared_thread decl.now) }
     ensures next { result ≡ t + length (option_to_list (declared_thread decl.now)) }
 {
@@ -51,7 +51,7 @@ fn add_name(names: &mut Names, t: usize, decl: &Decl) -> usize
 /// The names of a script's threads, which are that many.
 fn open_names(alloc: Global, script: &Script, threads: u16) -> Result<Names, AllocError>
     requires all { threads ≡ length (threads_of script.now) }
-    requires few { threads ≤ 64 }
+    requires few { threads ≤ 256 }
     ensures { IfOk result (λ names. names ≡ names_of script.now) }
 {
     let mut names = Names::open(alloc, threads)?;

@@ -68,7 +68,7 @@ impl Parts {
     /// The thread becomes the tail of its list at the next settling.
     pub fn move_later(&mut self, t: Tid)
         requires known { t < length self.old.names }
-        requires room { length self.old.direct < 256 }
+        requires room { length self.old.direct < 512 }
         ensures { self.new ≡ after (moves t) self.old }
     {
         self.direct.push(t);
@@ -76,7 +76,7 @@ impl Parts {
 
     pub fn count(&self) -> u16
         ensures value { result ≡ length self.now.names }
-        ensures few { result ≤ 64 }
+        ensures few { result ≤ 256 }
         ensures threads { result ≡ length self.now.machine.threads }
     {
         let _ = &self.names;

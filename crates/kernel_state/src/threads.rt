@@ -1,7 +1,7 @@
 // What can be asked of a thread.
-ghost use Rattle.std.specs.Prelude.{◌≡◌, ◌≤◌, ◌<◌, ◌*◌, ◌^◌, is_some, length, option_map};
+ghost use Rattle.std.specs.Prelude.{◌≡◌, ◌≤◌, ◌<◌, ◌*◌, ◌^◌, is_some, length, option_map, true};
 ghost use Rattle.sporadic_server.specs.Server.{ServerState, totals};
-ghost use Rattle.machine_rules.specs.Servers.{high_server};
+ghost use Rattle.machine_rules.specs.Servers.{at_once, has_run, high_server, opening_server};
 ghost use Rattle.machine_rules.specs.Threads.{can_run, is_dormant, lives, number_of, thread_at, waiting_of as waiting_at};
 ghost use Rattle.machine_rules.specs.State.{Waiting};
 ghost use Rattle.machine_flat.specs.KnownCalls.{IsOperand};
@@ -26,10 +26,10 @@ impl Parts {
         self.table.thread(t).is_runnable()
     }
 
-    /// The capacity of a server at the high priority.
+    /// The capacity of a server at the high priority, where an activation is made at once.
     pub fn high_capacity(&self, t: Tid) -> Option<u64>
         requires { t < length self.now.names }
-        ensures { result ≡ option_map (λ (s : ServerState). s.capacity) (high_server (thread_at self.now.machine t).server) }
+        ensures { result ≡ option_map (λ (s : ServerState). s.capacity) (at_once (high_server (thread_at self.now.machine t).server)) }
     {
         self.table.thread(t).high_capacity()
     }
@@ -101,12 +101,30 @@ impl Parts {
         self.table.thread(t).takes_priority(p)
     }
 
-    /// The capacity of its server.
+    /// The capacity of its server, where an activation is made at once.
     pub fn capacity(&self, t: Tid) -> Option<u64>
         requires { t < length self.now.names }
-        ensures { result ≡ option_map (λ (s : ServerState). s.capacity) (thread_at self.now.machine t).server }
+        ensures { result ≡ option_map (λ (s : ServerState). s.capacity) (at_once (thread_at self.now.machine t).server) }
     {
         self.table.thread(t).capacity()
+    }
+
+    /// The capacity of its server, where a run of it may open.
+    pub fn opening_capacity(&self, t: Tid) -> Option<u64>
+        requires { t < length self.now.names }
+        ensures { result ≡ option_map (λ (s : ServerState). s.capacity) (opening_server (thread_at self.now.machine t).server) }
+    {
+        self.table.thread(t).opening_capacity()
+    }
+
+    /// Whether that thread has an open run of its server; none has where there is no such thread.
+    #[tactic(auto, using(crate::proofs::LastRun::run_named))]
+    pub fn has_run(&self, t: Tid) -> bool
+        ensures value { result ≡ has_run (thread_at self.now.machine t).server }
+        ensures known { result ≡ true → t < length self.now.names }
+    {
+        let _ = &self.names;
+        self.table.has_run(t)
     }
 
     /// The totals of a live sporadic thread's server.

@@ -3,10 +3,9 @@ ghost use Rattle.std.specs.Prelude.{◌≡◌, ◌≤◌, ◌<◌, ◌+◌, ◌^
 ghost use Rattle.pse52_trace.specs.declared.event.Event.TheVariants as event;
 ghost use Rattle.pse52_trace.specs.Text.{IsNamed};
 ghost use Rattle.pse52_trace.specs.Tells.{Tells};
-ghost use Rattle.sporadic_server.specs.Server.{activate};
 ghost use Rattle.machine_rules.specs.Threads.{can_run, thread_at};
 ghost use Rattle.machine_rules.specs.Turns.{answered, changes, moves, returns, takes_serial, tells, ◌▷◌};
-ghost use Rattle.machine_rules.specs.Servers.{activates, activates_if_high, with_server};
+ghost use Rattle.machine_rules.specs.Servers.{activates_if_high};
 ghost use Rattle.machine_rules.specs.Waking.{blocks, blocks_unordered, put_to_wait, starts, wakes, wakes_telling, woken};
 ghost use Rattle.std.specs.Prelude.{None, true};
 ghost use Rattle.machine_rules.specs.Priorities.{mutex_waited};
@@ -14,7 +13,7 @@ ghost use Rattle.thread_blocks.specs.Plain.{wait_of, waiting_of};
 ghost use Rattle.kernel_state.specs.Waits.{CanWait};
 ghost use Rattle.thread_blocks.specs.Unused.{IsUnused};
 ghost use Rattle.machine_flat.specs.FlatBodies.{flat_bodies};
-ghost use Rattle.kernel_state.specs.Kernel.{Kernel, after, by, told, activates_now, starts_telling};
+ghost use Rattle.kernel_state.specs.Kernel.{Kernel, after, by, told, starts_telling};
 
 use crate::parts::Parts;
 use machine_rules::call_name;
@@ -84,37 +83,11 @@ impl Parts {
         );
     }
 
-    // The activation time of a server with that capacity is now.
-    fn activate_now<K: Sink>(&mut self, t: Tid, capacity: u64, out: &mut Tracer<'_, K>)
-        requires known { t < length self.old.names }
-        requires unused { IsUnused (thread_at self.old.machine t).server }
-        requires early { self.old.machine.now ≤ 10 ^ 18 }
-        ensures state { self.new ≡ after (activates_now t capacity) self.old }
-        ensures told { Tells K.text K.faults self.old.names out.old out.new (told (activates_now t capacity) self.old) }
-    {
-        self.activate_thread(t);
-        self.tell(&Event::Activate(t, capacity), out);
-    }
-
-    /// A thread whose assigned priority is the high one is activated.
-    pub fn activate_if_high<K: Sink>(&mut self, t: Tid, out: &mut Tracer<'_, K>)
-        requires known { t < length self.old.names }
-        requires unused { IsUnused (thread_at self.old.machine t).server }
-        requires early { self.old.machine.now ≤ 10 ^ 18 }
-        ensures state { self.new ≡ after (activates_if_high t) self.old }
-        ensures told { Tells K.text K.faults self.old.names out.old out.new (told (activates_if_high t) self.old) }
-    {
-        match self.high_capacity(t) {
-            None => return,
-            Some(capacity) => self.activate_now(t, capacity, out),
-        }
-    }
-
     /// A thread that is runnable again becomes the tail of its list, with that line, and is activated where it has the high priority.
     pub(crate) fn rise<K: Sink>(&mut self, e: &Event, t: Tid, out: &mut Tracer<'_, K>)
         requires known { t < length self.old.names }
         requires named { IsNamed self.old.names e.now }
-        requires room { length self.old.direct < 256 }
+        requires room { length self.old.direct < 512 }
         requires unused { IsUnused (thread_at self.old.machine t).server }
         requires early { self.old.machine.now ≤ 10 ^ 18 }
         ensures state { self.new ≡ after (λ s. s ▷ moves t ▷ tells e.now ▷ activates_if_high t) self.old }
@@ -136,7 +109,7 @@ impl Parts {
     )
         requires known { t < length self.old.names }
         requires named { IsNamed self.old.names e.now }
-        requires room { length self.old.direct < 256 }
+        requires room { length self.old.direct < 512 }
         requires unused { IsUnused (thread_at self.old.machine t).server }
         requires early { self.old.machine.now ≤ 10 ^ 18 }
         ensures state { self.new ≡ after (wakes_telling e.now t res value) self.old }
@@ -149,7 +122,7 @@ impl Parts {
     /// A blocked thread wakes, and its call returns.
     pub fn wake<K: Sink>(&mut self, t: Tid, res: Res, value: u64, out: &mut Tracer<'_, K>)
         requires known { t < length self.old.names }
-        requires room { length self.old.direct < 256 }
+        requires room { length self.old.direct < 512 }
         requires unused { IsUnused (thread_at self.old.machine t).server }
         requires early { self.old.machine.now ≤ 10 ^ 18 }
         ensures state { self.new ≡ after (wakes t res value) self.old }
@@ -168,7 +141,7 @@ impl Parts {
     // A dormant thread is runnable at the beginning of its body.
     fn start_telling<K: Sink>(&mut self, t: Tid, mask: SigSet, out: &mut Tracer<'_, K>)
         requires known { t < length self.old.names }
-        requires room { length self.old.direct < 256 }
+        requires room { length self.old.direct < 512 }
         requires early { self.old.machine.now ≤ 10 ^ 18 }
         ensures state { self.new ≡ after (starts_telling (flat_bodies self.old.code) t mask) self.old }
         ensures told { Tells K.text K.faults self.old.names out.old out.new (told (starts_telling (flat_bodies self.old.code) t mask) self.old) }
@@ -179,24 +152,10 @@ impl Parts {
         self.tell(&Event::Start(t), out);
     }
 
-    /// A thread that has a server is activated.
-    pub fn activate<K: Sink>(&mut self, t: Tid, out: &mut Tracer<'_, K>)
-        requires known { t < length self.old.names }
-        requires unused { IsUnused (thread_at self.old.machine t).server }
-        requires early { self.old.machine.now ≤ 10 ^ 18 }
-        ensures state { self.new ≡ after (activates t) self.old }
-        ensures told { Tells K.text K.faults self.old.names out.old out.new (told (activates t) self.old) }
-    {
-        match self.capacity(t) {
-            None => return,
-            Some(capacity) => self.activate_now(t, capacity, out),
-        }
-    }
-
     /// A dormant thread starts.
     pub fn start<K: Sink>(&mut self, t: Tid, mask: SigSet, out: &mut Tracer<'_, K>)
         requires known { t < length self.old.names }
-        requires room { length self.old.direct < 256 }
+        requires room { length self.old.direct < 512 }
         requires early { self.old.machine.now ≤ 10 ^ 18 }
         ensures state { self.new ≡ after (starts (flat_bodies self.old.code) t mask) self.old }
         ensures told { Tells K.text K.faults self.old.names out.old out.new (told (starts (flat_bodies self.old.code) t mask) self.old) }

@@ -5,7 +5,7 @@ use Rattle.tick_num.specs.declared.res.Res.{Res}
 use Rattle.tick_num.specs.declared.res.Res.TheVariants as res
 use Rattle.std.specs.Option.{option_map_or}
 use Rattle.sporadic_server.specs.Server.{ServerState, activate}
-use Rattle.machine_rules.specs.Servers.{activates_server, high_server, with_server}
+use Rattle.machine_rules.specs.Servers.{activates_server, at_once, high_server, with_server}
 use Rattle.pse52_trace.specs.declared.event.Event.{Event}
 use Rattle.pse52_trace.specs.declared.event.Event.TheVariants as event
 use Rattle.script_flat.specs.declared.cursor.Cursor.{Cursor}
@@ -81,10 +81,10 @@ activated_other t u (Some server) s other = thread-other s.machine t u (with_ser
 woken_thread : (e : Event) (t u : ℕ) (r : Res) (s : Turn Cursor) → (t == u) ≡ false → thread_at (wakes_telling e t r 0 s).machine u ≡ thread_at s.machine u
 woken_thread e t u r s other =
     let up = tells e (moves t (changes t (woken r 0) s)) in
-    activated_other t u (high_server (thread_at up.machine t).server) up other ∙ thread-other s.machine t u (woken r 0) other
+    activated_other t u (at_once (high_server (thread_at up.machine t).server)) up other ∙ thread-other s.machine t u (woken r 0) other
 
 woken_mutexes : (e : Event) (t : ℕ) (r : Res) (s : Turn Cursor) → (wakes_telling e t r 0 s).machine.mutexes ≡ s.machine.mutexes
-woken_mutexes e t r s = kept_mutexes (high_server (thread_at (tells e (moves t (changes t (woken r 0) s))).machine t).server)
+woken_mutexes e t r s = kept_mutexes (at_once (high_server (thread_at (tells e (moves t (changes t (woken r 0) s))).machine t).server))
   where
     kept_mutexes : (o : Option ServerState) → (activates_server t o (tells e (moves t (changes t (woken r 0) s)))).machine.mutexes ≡ s.machine.mutexes
     kept_mutexes None = refl
@@ -207,7 +207,7 @@ woken_grows : (e : Event) (t k : ℕ) (r : Res) (s : Turn Cursor) → Grows s (s
 woken_grows e t k r s =
     let mid = changes_mutex k (taken_by t) s in
     let up = tells e (moves t (changes t (woken r 0) mid)) in
-    activated_grows t (high_server (thread_at up.machine t).server) s up
+    activated_grows t (at_once (high_server (thread_at up.machine t).server)) s up
     (record { moves = (let e = length-append s.direct (t ∷ []) in omega (arith, e)); serial = omega arith; time = refl })
 
 returned_grows : (how : CondEnd) (t k : ℕ) (s : Turn Cursor) → Grows s (s ▷ changes_mutex k (taken_by t) ▷ returns_from_wait how t)

@@ -3,6 +3,7 @@ pub mod Released
 pub mod Contending
 pub mod Resting
 pub mod Contended
+pub mod WaitersLeft
 pub mod Signalling
 pub mod Returned
 pub mod Kept

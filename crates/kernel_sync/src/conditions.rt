@@ -3,12 +3,13 @@ ghost use Rattle.std.specs.Prelude.{◌≡◌, ◌≤◌, ◌<◌, ◌+◌, ◌^
 ghost use Rattle.tick_num.specs.declared.res.Res.TheVariants as res;
 ghost use Rattle.pse52_trace.specs.Tells.{Tells};
 ghost use Rattle.machine_rules.specs.declared.thread.CondEnd.TheVariants as cond_end;
-ghost use Rattle.machine_rules.specs.Conditions.{broadcasts, contends, reacquires_or_waits, signals, signals_best, signals_best_times, waits};
+ghost use Rattle.machine_rules.specs.Conditions.{broadcasts, contends, reacquires_or_waits, signals, signals_best, signals_best_times, waits, waits_on_condition};
 ghost use Rattle.machine_rules.specs.Mutexes.{releases, returns_from_wait, taken_by};
 ghost use Rattle.machine_rules.specs.Priorities.{mutex_awaited_by};
 ghost use Rattle.machine_rules.specs.State.{for_condition};
 ghost use Rattle.machine_rules.specs.Threads.{can_run, mutex_at, thread_at};
 ghost use Rattle.machine_rules.specs.Turns.{changes_mutex, returns, ◌▷◌};
+ghost use Rattle.machine_rules.specs.Waiters.{waiters};
 ghost use Rattle.machine_rules.specs.Waking.{blocks};
 ghost use Rattle.thread_blocks.specs.Unused.{IsUnused};
 ghost use Rattle.kernel_state.specs.Kernel.{after, by, told};
@@ -27,7 +28,7 @@ use wait_lists::WaitObj;
 // A condition wait is over, with the mutex owned again.
 fn return_from_wait<K: Sink>(p: &mut Parts, t: Tid, how: CondEnd, out: &mut Tracer<'_, K>)
     requires known { t < length p.old.names }
-    requires room { length p.old.direct < 256 }
+    requires room { length p.old.direct < 512 }
     requires unused { IsUnused (thread_at p.old.machine t).server }
     requires early { p.old.machine.now ≤ 10 ^ 18 }
     ensures state { p.new ≡ after (returns_from_wait how t) p.old }
@@ -46,7 +47,7 @@ fn take_again<K: Sink>(p: &mut Parts, t: Tid, k: ObjId, how: CondEnd, out: &mut 
     requires mutex { k < length p.old.machine.mutexes }
     requires free { (mutex_at p.old.machine k).owner ≡ None }
     requires waits_not { mutex_awaited_by (thread_at p.old.machine t) ≡ None }
-    requires room { length p.old.direct < 256 }
+    requires room { length p.old.direct < 512 }
     requires unused { IsUnused (thread_at p.old.machine t).server }
     requires early { p.old.machine.now ≤ 10 ^ 18 }
     ensures state { p.new ≡ after (λ s. s ▷ changes_mutex k (taken_by t) ▷ returns_from_wait how t) p.old }
@@ -69,7 +70,7 @@ fn reacquire_or_wait<K: Sink>(
     requires mutex { k < length p.old.machine.mutexes }
     requires waits_not { mutex_awaited_by (thread_at p.old.machine t) ≡ None }
     requires own_none { OwnsNone p.old.machine t }
-    requires room { length p.old.direct < 256 }
+    requires room { length p.old.direct < 512 }
     requires serial { p.old.machine.next_serial < 2 ^ 63 }
     requires unused { IsUnused (thread_at p.old.machine t).server }
     requires early { p.old.machine.now ≤ 10 ^ 18 }
@@ -87,7 +88,7 @@ fn reacquire_or_wait<K: Sink>(
 pub fn contend<K: Sink>(p: &mut Parts, t: Tid, how: CondEnd, out: &mut Tracer<'_, K>)
     requires known { t < length p.old.names }
     requires fits { WaitsFit p.old.machine }
-    requires room { length p.old.direct < 256 }
+    requires room { length p.old.direct < 512 }
     requires serial { p.old.machine.next_serial < 2 ^ 63 }
     requires early { p.old.machine.now ≤ 10 ^ 18 }
     ensures state { p.new ≡ after (contends t how) p.old }
@@ -158,7 +159,7 @@ pub fn cond_wait<K: Sink>(
 // The best waiter of the condition, if there is one, contends for its mutex.
 fn signal_best<K: Sink>(p: &mut Parts, c: ObjId, out: &mut Tracer<'_, K>)
     requires fits { WaitsFit p.old.machine }
-    requires room { length p.old.direct < 256 }
+    requires room { length p.old.direct < 512 }
     requires serial { p.old.machine.next_serial < 2 ^ 63 }
     requires early { p.old.machine.now ≤ 10 ^ 18 }
     ensures state { p.new ≡ after (signals_best c) p.old }
@@ -170,18 +171,18 @@ fn signal_best<K: Sink>(p: &mut Parts, c: ObjId, out: &mut Tracer<'_, K>)
     }
 }
 
-// So many waiters, each the best of those that are left, contend for their mutexes.
-fn signal_all<K: Sink>(p: &mut Parts, c: ObjId, count: u16, out: &mut Tracer<'_, K>)
-    requires few { count ≤ 64 }
+// The waiters of the condition, each the best of those that are left, contend for their mutexes.
+fn signal_all<K: Sink>(p: &mut Parts, c: ObjId, out: &mut Tracer<'_, K>)
     requires fits { WaitsFit p.old.machine }
     requires room { length p.old.direct < 128 }
     requires serial { p.old.machine.next_serial < 2 ^ 62 }
     requires early { p.old.machine.now ≤ 10 ^ 18 }
-    ensures state { p.new ≡ after (signals_best_times count c) p.old }
-    ensures told { Tells K.text K.faults p.old.names out.old out.new (told (signals_best_times count c) p.old) }
+    ensures state { p.new ≡ after (signals_best_times (length (waiters p.old.machine (waits_on_condition c))) c) p.old }
+    ensures told { Tells K.text K.faults p.old.names out.old out.new (told (signals_best_times (length (waiters p.old.machine (waits_on_condition c))) c) p.old) }
 {
-    for _ in 0..count {
-        signal_best(p, c, out);
+    let _ = p.count();
+    while let Some(w) = p.best_waiter(WaitObj::Cond(c)) {
+        contend(p, w, CondEnd::Signalled, out);
     }
 }
 
@@ -196,9 +197,8 @@ pub fn broadcast<K: Sink>(p: &mut Parts, t: Tid, call: &Call, c: ObjId, out: &mu
     ensures state { p.new ≡ after (broadcasts (by t call.now) c) p.old }
     ensures told { Tells K.text K.faults p.old.names out.old out.new (told (broadcasts (by t call.now) c) p.old) }
 {
-    let count = p.waiting_count(c);
     p.returns(t, call, Res::Zero, 0, out);
-    signal_all(p, c, count, out);
+    signal_all(p, c, out);
 }
 
 /// `pthread_cond_signal`.

@@ -11,12 +11,12 @@ use Rattle.machine_rules.specs.Servers.{has_high}
 use Rattle.machine_rules.specs.Delivery.{sweeps}
 use Rattle.machine_rules.specs.Agenda.{Coming, agenda}
 use Rattle.machine_rules.specs.DueItems.{instant}
-use Rattle.machine_rules.specs.Dispatch.{dispatches, head}
+use Rattle.machine_rules.specs.Dispatch.{head}
 use Rattle.machine_rules.specs.Units.{InUnit, in_unit}
-use Rattle.machine_rules.specs.Ticks.{completes, tick_ends, unless_killed}
+use Rattle.machine_rules.specs.Ticks.{completes, prepares, tick_ends, unless_killed}
 use Rattle.machine_rules.specs.Eventful.{busy, is_eventful}
 use Rattle.machine_rules.specs.Runs.{Ran, ran, ticks}
-use Rattle.leap_rules.specs.Quiet.{after_ticks}
+use Rattle.leap_rules.specs.Quiet.{after_ticks, at_head}
 
 abbrev pub later_by : {P : Type 0} → ℕ → Machine P → Machine P
 later_by k m = record m { now = m.now + k }
@@ -32,12 +32,12 @@ module _ {P : Type 0} (bodies : Bodies P) (k : ℕ) where
       s ▷ unit_leapt s.machine t (in_unit bodies (thread_at s.machine t)) ▷ tick_ends (has_high (thread_at s.machine t).server) t ▷ sweeps bodies
 
   abbrev pub leap_head : Turn P → Turn P
-  leap_head s = s ▷ dispatches (head s.machine) ▷ leap_runs (head s.machine)
+  leap_head s = s ▷ prepares (head s.machine) ▷ leap_runs (head s.machine)
 
   abbrev pub leap_goes_on : Turn P → Turn P
   leap_goes_on s = unless_killed s.machine.killed leap_head s
 
-  -- the items of the instant, the dispatch, and k ticks of the head at once
+  -- the items of the instant, what precedes the tick of the head, and k ticks of it at once
   abbrev pub leap : Turn P → Turn P
   leap s = s ▷ instant bodies ▷ leap_goes_on
 
@@ -53,6 +53,7 @@ abbrev pub slice_left : ℕ → ℕ → Policy → ℕ → ℕ
 slice_left most quantum (policy.Fifo p) slice = most
 slice_left most quantum (policy.Rr p) slice = quantum - slice
 slice_left most quantum (policy.Sporadic params) slice = most
+slice_left most quantum (policy.Strict params) slice = most
 
 -- the capacity of a sporadic thread at its high priority
 abbrev pub capacity_left : ℕ → Option ServerState → ℕ
@@ -70,9 +71,12 @@ module _ {P : Type 0} (bodies : Bodies P) where
 
   -- from an instant whose items are handled to where something falls due or the head's unit, interval or capacity ends; at least one
   -- tick, and at most so many, which is where an ended process goes at once
+  abbrev pub length_of : ℕ → Option ℕ → Machine P → ℕ
+  length_of most to m = max 1 (min most (min (ticks_to_next most m.now (agenda m)) (head_lasts most to m)))
+
   abbrev pub length_from : Option ℕ → ℕ → Machine P → ℕ
   length_from (Some signal) most m = most
-  length_from None most m = max 1 (min most (min (ticks_to_next most m.now (agenda m)) (head_lasts most (head m) m)))
+  length_from None most m = length_of most (head m) (at_head m)
 
   abbrev pub leap_length : ℕ → Machine P → ℕ
   leap_length most m = let ready = (instant bodies (turn_of m)).machine in length_from ready.killed most ready

@@ -13,9 +13,9 @@ use Rattle.machine_rules.specs.State.{Frame, Machine, Thread}
 use Rattle.machine_rules.specs.Threads.{thread_at}
 use Rattle.machine_rules.specs.Turns.{Turn, turn_of, with_thread}
 use Rattle.machine_rules.specs.DueItems.{instant, next_item}
-use Rattle.machine_rules.specs.Dispatch.{dispatches, head}
+use Rattle.machine_rules.specs.Dispatch.{head}
 use Rattle.machine_rules.specs.Units.{in_unit}
-use Rattle.machine_rules.specs.Ticks.{tick_charged}
+use Rattle.machine_rules.specs.Ticks.{prepares, tick_charged}
 use Rattle.machine_rules.specs.Delivery.{taken_by_sweep}
 use Rattle.machine_rules.specs.GoodState.{ListsAreRight}
 use Rattle.machine_rules.specs.Runs.{opening, ticks}
@@ -24,7 +24,11 @@ use Rattle.machine_rules.specs.Eventful.{is_eventful}
 
 -- ---- a charge
 
--- a tick's first part alone, from a machine whose items are handled: the dispatch, and the charge of the head
+-- the machine as its head begins its tick: Close, the dispatch and Open are made
+abbrev pub at_head : {P : Type 0} → Machine P → Machine P
+at_head m = (prepares (head m) (turn_of m)).machine
+
+-- a tick's first part alone, from a machine whose items are handled: what precedes the tick of the head, and its charge
 abbrev pub after_quiet : {P : Type 0} → Bodies P → ℕ → Machine P → Machine P
 after_quiet bodies t m = record (with_thread t (λ th. tick_charged (in_unit bodies (thread_at m t)).thread) m) { now = m.now + 1; last = last.Ran t }
 
@@ -34,7 +38,7 @@ charged_head bodies (Some t) m = after_quiet bodies t m
 
 -- an ended process stays as it is
 abbrev pub charged_unless_killed : {P : Type 0} → Bodies P → Option ℕ → Machine P → Machine P
-charged_unless_killed bodies None m = charged_head bodies (head m) m
+charged_unless_killed bodies None m = charged_head bodies (head m) (at_head m)
 charged_unless_killed bodies (Some signal) m = m
 
 abbrev pub one_charge : {P : Type 0} → Bodies P → Machine P → Machine P
@@ -46,6 +50,7 @@ abbrev pub slice_after : ℕ → Policy → ℕ → ℕ
 slice_after k (policy.Fifo p) slice = slice
 slice_after k (policy.Rr p) slice = slice + k
 slice_after k (policy.Sporadic params) slice = slice
+slice_after k (policy.Strict params) slice = slice
 
 -- a server is charged where the thread runs at its high priority
 abbrev pub server_after : ℕ → ServerState → ServerState
@@ -74,15 +79,15 @@ ticks_of_head bodies k None m = record m { now = m.now + k; last = last.Idle }
 ticks_of_head bodies k (Some t) m = head_after bodies k t m
 
 abbrev pub ticks_unless_killed : {P : Type 0} → Bodies P → ℕ → Option ℕ → Machine P → Machine P
-ticks_unless_killed bodies k None m = ticks_of_head bodies k (head m) m
+ticks_unless_killed bodies k None m = ticks_of_head bodies k (head m) (at_head m)
 ticks_unless_killed bodies k (Some signal) m = m
 
 abbrev pub at_once : {P : Type 0} → Bodies P → ℕ → Machine P → Machine P
 at_once bodies k m = ticks_unless_killed bodies k m.killed m
 
--- what is told: the items of the instant, and the dispatch that follows where it is a change
+-- what is told: the items of the instant, the runs that are closed, the dispatch that follows where it is a change, and the opening
 abbrev pub told_with_dispatch : {P : Type 0} → Option ℕ → Turn P → List Entry
-told_with_dispatch None s = (dispatches (head s.machine) s).events
+told_with_dispatch None s = (prepares (head s.machine) s).events
 told_with_dispatch (Some signal) s = s.events
 
 -- ---- spans

@@ -19,6 +19,7 @@ abbrev pub HasBudget : Policy → Type 0
 HasBudget (policy.Fifo p) = Unit {0}
 HasBudget (policy.Rr p) = Unit {0}
 HasBudget (policy.Sporadic params) = 1 ≤ params.budget
+HasBudget (policy.Strict params) = 1 ≤ params.budget
 
 abbrev pub CallHasBudget : Call → Type 0
 CallHasBudget (call.Setsched u policy) = HasBudget policy
@@ -45,10 +46,10 @@ abbrev pub HasSignal : Decl → Type 0
 HasSignal (decl.Named name (kind.Timer signal value)) = IsSignal signal
 HasSignal other = Unit {0}
 
--- at most 64 threads, 16 queues and 32 timers, bodies that are not too long and not nested too deeply, and calls and actions that name
+-- at most 256 threads, 16 queues and 32 timers, bodies that are not too long and not nested too deeply, and calls and actions that name
 -- what is declared
 pub record IsRunnable (script : Script) : Type 0 where
-  pub few : length (threads_of script) ≤ 64
+  pub few : length (threads_of script) ≤ 256
   pub flattenable : IsFlattenable (bodies_of script.decls).all
   pub calls : All (EachCall (CallIsRunnable (objects_of script))) (bodies_of script.decls).all
   pub handlers : All (ActionNames (length (handlers_of script))) script.decls

@@ -70,6 +70,6 @@ module _ {P : Type 0} (bodies : Bodies P) (ranges : BodiesFit bodies) (script : 
   pub servers_throughout : HoldsThroughout bodies (opening script) ServersAreRight
   servers_throughout = record {
     each = λ n k.
-        let right = throughout bodies ranges (λ m. ServedRight bodies (turn_of m)) (ServedMid bodies) (ServedDone bodies) (served_tick bodies) (opening script) (opening_served bodies script) (opening_listed P script) in
+        let right = throughout bodies ranges (λ m. ServedRight bodies (turn_of m)) (ServedMid bodies) (ServedDone bodies) (served_tick bodies) (opening script) (opening_served bodies script fits) (opening_listed P script) in
         servers_right bodies (after_items bodies (opening script) n k) (right.each n k).1;
   }

@@ -12,16 +12,19 @@ use Rattle.thread_lists.specs.Threads.{times}
 use Rattle.ready_lists.specs.Lists.{list_of}
 use Rattle.machine_rules.specs.Machine.{machine}
 use Rattle.machine_rules.specs.Priorities.{exec_in}
-use Rattle.machine_rules.specs.Promises.{RunStaysGood}
+use Rattle.machine_rules.specs.Promises.{RunStaysGood, guards_in}
+use Rattle.machine_rules.specs.Threads.{thread_at}
+use Rattle.machine_rules.specs.GoodState.{main_guards}
+use mathlib.Core.Path.{◌∙◌}
 
 abbrev pub no_quantum : Script
-no_quantum = record { quantum = 0; decls = decl.Named (97 ∷ []) (kind.Thread (policy.Fifo 1) (Some 0) Nothing) ∷ [] }
+no_quantum = record { version = 1; quantum = 0; decls = decl.Named (97 ∷ []) (kind.Thread (policy.Fifo 1) (Some 0) Nothing) ∷ [] }
 
 pub quantum_of_none : RunStaysGood no_quantum → ⊥
 quantum_of_none h = let small : 0 < 0 = (h.each 0 0).slices 0 (omega arith) in omega arith
 
 abbrev pub no_priority : Script
-no_priority = record { quantum = 1; decls = decl.Named (97 ∷ []) (kind.Thread (policy.Fifo 0) (Some 0) (Running 5 Nothing)) ∷ [] }
+no_priority = record { version = 1; quantum = 1; decls = decl.Named (97 ∷ []) (kind.Thread (policy.Fifo 0) (Some 0) (Running 5 Nothing)) ∷ [] }
 
 not_both : (n : ℕ) → n ≡ 1 → n ≡ 0 → ⊥
 not_both n e f = omega arith
@@ -33,17 +36,23 @@ priority_of_none h =
 
 -- a step that pushes outside of a block of its own
 abbrev pub loose_push : Script
-loose_push = record { quantum = 1; decls = decl.Named (97 ∷ []) (kind.Thread (policy.Fifo 1) (Some 0) (Making (call.Push 0) (Running 5 Nothing))) ∷ decl.Named (98 ∷ []) (kind.Cleanup Nothing) ∷ [] }
+loose_push = record { version = 1; quantum = 1; decls = decl.Named (97 ∷ []) (kind.Thread (policy.Fifo 1) (Some 0) (Making (call.Push 0) (Running 5 Nothing))) ∷ decl.Named (98 ∷ []) (kind.Cleanup Nothing) ∷ [] }
 
 pub push_of_none : RunStaysGood loose_push → ⊥
 unfolding exec_in
-push_of_none h = let same : 0 ∷ [] ≡ [] = ((h.each 1 0).cleanups.each 0 refl refl).0 in not_both 1 refl (ap length same)
+push_of_none h =
+    let m = machine loose_push 1 in
+    let same : (thread_at m 0).cleanups ≡ main_guards (guards_in loose_push) (thread_at m 0).frames = ((h.each 1 0).cleanups.each 0 refl refl).0 in
+    let one : length (thread_at m 0).cleanups ≡ 1 = refl in
+    let none : length (main_guards (guards_in loose_push) (thread_at m 0).frames) ≡ 0 = refl in
+    not_both (length (thread_at m 0).cleanups) one (ap length same ∙ none)
 
 -- ---- the premises can be met
 
 -- a thread with a guarded block, a handler, and a mutex with a ceiling
 abbrev pub guarded_script : Script
 guarded_script = record {
+  version = 1;
   quantum = 1;
   decls =
       decl.Named (97 ∷ []) (kind.Thread (policy.Rr 1) (Some 0) (Guarding 0 true (Making (call.Lock 0) (Running 5 Nothing)) Nothing))

@@ -5,9 +5,10 @@ use Rattle.machine_rules.specs.Promises.{RunKeepsBudgets, RunStaysGood, guards_i
 use Rattle.machine_rules.specs.Runs.{opening}
 use Rattle.machine_rules.specs.Throughout.{HoldsThroughout}
 use Rattle.machine_rules.specs.WellFormed.{IsWellFormed}
-use Rattle.machine_laws.specs.Rest.{ServersRest}
+use Rattle.machine_laws.specs.Rest.{RunsAreLatest, ServersRest}
 use Rattle.machine_laws.specs.Times.{TimesAreRight}
 use Rattle.machine_laws.proofs.Times.{times_throughout}
+use Rattle.machine_laws.proofs.Servers.Latest.{latest_throughout}
 use Rattle.machine_laws.proofs.Servers.Rest.{rest_throughout}
 use Rattle.machine_moves.proofs.Runs.Units.{bodies_fit}
 use Rattle.machine_laws.proofs.Cleanups.Blocks.{bodies_guarded}
@@ -26,3 +27,6 @@ module _ (script : Script) (fits : IsWellFormed script) where
 
   pub rests : HoldsThroughout (bodies_of script) (opening script) ServersRest
   rests = rest_throughout (bodies_of script) (bodies_fit script fits.priorities) script fits
+
+  pub latest : HoldsThroughout (bodies_of script) (opening script) RunsAreLatest
+  latest = latest_throughout (bodies_of script) (bodies_fit script fits.priorities) script fits

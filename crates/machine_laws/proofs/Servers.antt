@@ -7,4 +7,5 @@ pub mod Charges
 pub mod Ends
 pub mod Ticks
 pub mod Kept
+pub mod Latest
 pub mod Rest

@@ -13,7 +13,7 @@ use Rattle.machine_rules.specs.State.{Machine, Thread, for_end, waits_to_join}
 use Rattle.machine_rules.specs.Threads.{can_run, is_blocked, is_runnable, no_thread, thread_at, thread_in}
 use Rattle.machine_rules.specs.Declarations.{ThreadDecl, threads_of}
 use Rattle.machine_rules.specs.Turns.{Turn, changes, moves, moves_if, tells}
-use Rattle.machine_rules.specs.Servers.{activates_if, activates_server, amount_of, high_server, plans_server, refills_server, regains_high, with_server}
+use Rattle.machine_rules.specs.Servers.{activates_if, activates_server, amount_of, at_once, high_server, plans_server, refills_server, regains_high, with_server}
 use Rattle.machine_rules.specs.Waking.{ending_with, on_top, put_to_wait, started, woken}
 use Rattle.machine_rules.specs.Lives.{with_joiner, without_life, without_top}
 use Rattle.machine_rules.specs.Cancellation.{without_cleanup}
@@ -53,6 +53,7 @@ priced_slice quantum false n p slice h = h
 priced_slice quantum true n (policy.Fifo p) slice h = h
 priced_slice quantum true n (policy.Rr p) slice h = h
 priced_slice quantum true n (policy.Sporadic params) slice h = h
+priced_slice quantum true n (policy.Strict params) slice h = h
 
 charged_slice : (quantum : ℕ) (p : Policy) (slice : ℕ) → slice < quantum → SliceIn quantum true p (slice_charged p slice)
 charged_slice quantum (policy.Fifo p) slice h = inl h
@@ -62,6 +63,7 @@ charged_slice quantum (policy.Rr p) slice h = by_eq (slice + 1 == quantum) refl
     by_eq true e = inr e
     by_eq false e = let other : slice + 1 ≡ quantum → ⊥ = λ k. absurd (grind arith) in inl (omega (arith, other))
 charged_slice quantum (policy.Sporadic params) slice h = inl h
+charged_slice quantum (policy.Strict params) slice h = inl h
 
 module _ {P : Type 0} (bodies : Bodies P) (who : Option ℕ) where
   -- a change of a thread whose interval is right after it where it was
@@ -84,7 +86,7 @@ module _ {P : Type 0} (bodies : Bodies P) (who : Option ℕ) where
   activated t (Some server) s q = let k = one t (with_server (activate s.machine.now)) s (λ b th h. h) q in record { some = k.some; each = k.each }
 
   activated_if : (b : Bool) (t : ℕ) (s : Turn P) → Slices who s.machine → Slices who (activates_if b t s).machine
-  activated_if true t s q = activated t (thread_at s.machine t).server s q
+  activated_if true t s q = activated t (at_once (thread_at s.machine t).server) s q
   activated_if false t s q = q
 
   refilled : (t : ℕ) (o : Option ServerState) (s : Turn P) → Slices who s.machine → Slices who (refills_server t o s).machine
@@ -107,13 +109,13 @@ module _ {P : Type 0} (bodies : Bodies P) (who : Option ℕ) where
   slices_keep (renews_with active t new) s may q = activated_if active t (changes t (with_policy new s.machine.now) s) (one t (with_policy new s.machine.now) s (λ b th h. fresh s.machine.quantum b new q.some) q)
   slices_keep (wakes_with t e r v) s may q =
       let up = tells e (moves t (changes t (woken r v) s)) in let k = one t (woken r v) s (λ b th h. fresh s.machine.quantum b th.policy q.some) q in
-      activated t (high_server (thread_at up.machine t).server) up (record { some = k.some; each = k.each })
+      activated t (at_once (high_server (thread_at up.machine t).server)) up (record { some = k.some; each = k.each })
   slices_keep (blocks_for by wait due) s may q =
       let k = one by.thread (put_to_wait (record { wait = wait; serial = s.machine.next_serial; due = due; call = by.call })) s (λ b th h. h) q in record { some = k.some; each = k.each }
   slices_keep (blocks_plainly by wait due) s may q = absurd may
   slices_keep (begins t mask) s may q =
       let up = tells (event.Start t) (moves t (changes t (started bodies t mask s.machine.now) s)) in let k = one t (started bodies t mask s.machine.now) s (λ b th h. fresh s.machine.quantum b th.policy q.some) q in
-      activated t (thread_at up.machine t).server up (record { some = k.some; each = k.each })
+      activated t (at_once (thread_at up.machine t).server) up (record { some = k.some; each = k.each })
   slices_keep (lives_no_more t) s may q = let k = one t without_life s (λ b th h. h) q in record { some = k.some; each = k.each }
   slices_keep (recasts t f) s may q = absurd may
   slices_keep (rejoins t j) s may q = one t (with_joiner j) s (λ b th h. h) q
@@ -144,6 +146,7 @@ module _ {P : Type 0} (bodies : Bodies P) where
   no_server quantum (policy.Fifo p) o slice h e = absurd (grind arith)
   no_server quantum (policy.Rr p) o slice h e = ap (λ (o : Option ServerState). nat_lt 0 (consumed_in o)) h
   no_server quantum (policy.Sporadic params) o slice h e = absurd (grind arith)
+  no_server quantum (policy.Strict params) o slice h e = absurd (grind arith)
 
   -- nobody's interval is used up where that of the one thread is not
   let_go : (t : ℕ) (m : Machine P) → (thread_at m t).slice < m.quantum → Slices (Some t) m → Slices None m
@@ -224,7 +227,12 @@ module _ {P : Type 0} (bodies : Bodies P) where
     opens = λ s still p q. q;
     moves = λ before move s may p q. slices_keep bodies None move s may q;
     settles = λ before s p q. record { some = q.some; each = q.each };
-    charges = λ t s still none runs p q. let k = charged t (dispatches (Some t) s) (dispatched_slices (Some t) s q) in record { some = k.some; each = k.each };
+    prepares = record {
+      closes = λ t s run q. planned bodies None t (thread_at s.machine t).server s q;
+      sent = λ to s off q. dispatched_slices to s q;
+      opens = λ t x s runs is may q. activated bodies None t (Some x) s q;
+    };
+    charges = λ t s still ready runs p q. let k = charged t s q in record { some = k.some; each = k.each };
     unit_moves = λ b t before move s may p q. slices_keep bodies (Some t) move s may q;
     unit_stops = λ b t before. record {
       done = λ s p q. q;
@@ -237,7 +245,7 @@ module _ {P : Type 0} (bodies : Bodies P) where
     };
     unit_settles = λ b t before s p q. record { some = q.some; each = q.each };
     ends = λ b t s still p q. ended b t s (fits_in s.machine.threads t p.fit.threads).1 q;
-    idles = λ s none p q. (let k = dispatched_slices None s q in record { some = k.some; each = k.each });
+    idles = λ s ready p q. record { some = q.some; each = q.each };
   }
 
 -- ---- the opening

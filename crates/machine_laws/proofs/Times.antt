@@ -14,7 +14,7 @@ use Rattle.machine_rules.specs.State.{Machine, Thread, for_end, waits_to_join}
 use Rattle.machine_rules.specs.Threads.{can_run, no_thread, thread_at, thread_in}
 use Rattle.machine_rules.specs.Declarations.{ThreadDecl, threads_of}
 use Rattle.machine_rules.specs.Turns.{Turn, changes, moves, moves_if, tells, turn_of}
-use Rattle.machine_rules.specs.Servers.{activates_if, activates_server, amount_of, charged, high_server, plans_server, refills_server, regains_high, server_of, with_server}
+use Rattle.machine_rules.specs.Servers.{activates_if, activates_server, amount_of, at_once, charged, high_server, plans_server, refills_server, regains_high, server_of, with_server}
 use Rattle.machine_rules.specs.Waking.{ending_with, on_top, put_to_wait, started, woken}
 use Rattle.machine_rules.specs.Lives.{with_joiner, without_life, without_top}
 use Rattle.machine_rules.specs.Cancellation.{without_cleanup}
@@ -62,6 +62,7 @@ new_total : (p : Policy) (at now : ℕ) → HighWithin now (server_of p at)
 new_total (policy.Fifo p) at now = tt
 new_total (policy.Rr p) at now = tt
 new_total (policy.Sporadic params) at now = omega arith
+new_total (policy.Strict params) at now = omega arith
 
 later_total : (now : ℕ) (o : Option ServerState) → HighWithin now o → HighWithin (now + 1) o
 later_total now None h = tt
@@ -71,6 +72,7 @@ charged_slice : (now : ℕ) (p : Policy) (slice : ℕ) → slice ≤ now → sli
 charged_slice now (policy.Fifo p) slice h = omega arith
 charged_slice now (policy.Rr p) slice h = omega arith
 charged_slice now (policy.Sporadic params) slice h = omega arith
+charged_slice now (policy.Strict params) slice h = omega arith
 
 -- what a thread has run
 record Run : Type 0 where
@@ -100,7 +102,7 @@ module _ {P : Type 0} where
   activated t (Some server) s q = record { each = (served (activate s.machine.now) (λ x. refl) t s q).each }
 
   activated_if : (b : Bool) (t : ℕ) (s : Turn P) → TimesAreRight s.machine → TimesAreRight (activates_if b t s).machine
-  activated_if true t s q = activated t (thread_at s.machine t).server s q
+  activated_if true t s q = activated t (at_once (thread_at s.machine t).server) s q
   activated_if false t s q = q
 
   refilled : (t : ℕ) (o : Option ServerState) (s : Turn P) → TimesAreRight s.machine → TimesAreRight (refills_server t o s).machine
@@ -148,13 +150,13 @@ module _ {P : Type 0} (bodies : Bodies P) (who : Option ℕ) where
   times_keep (wakes_with t e r v) s may q =
       let up = tells e (moves t (changes t (woken r v) s)) in
       let k = one t (woken r v) s (λ th h. record { ticks = h.ticks; slice = omega arith; high = h.high }) q in
-      activated t (high_server (thread_at up.machine t).server) up (record { each = k.each })
+      activated t (at_once (high_server (thread_at up.machine t).server)) up (record { each = k.each })
   times_keep (blocks_for by wait due) s may q = record { each = (left by.thread (put_to_wait (record { wait = wait; serial = s.machine.next_serial; due = due; call = by.call })) s (λ th. refl) q).each }
   times_keep (blocks_plainly by wait due) s may q = absurd may
   times_keep (begins t mask) s may q =
       let up = tells (event.Start t) (moves t (changes t (started bodies t mask s.machine.now) s)) in
       let k = one t (started bodies t mask s.machine.now) s (λ th h. record { ticks = h.ticks; slice = omega arith; high = new_total th.policy s.machine.now s.machine.now }) q in
-      activated t (thread_at up.machine t).server up (record { each = k.each })
+      activated t (at_once (thread_at up.machine t).server) up (record { each = k.each })
   times_keep (lives_no_more t) s may q = record { each = (one t without_life s (λ th h. record { ticks = h.ticks; slice = h.slice; high = tt }) q).each }
   times_keep (recasts t f) s may q = absurd may
   times_keep (rejoins t j) s may q = left t (with_joiner j) s (λ th. refl) q
@@ -209,7 +211,12 @@ module _ {P : Type 0} (bodies : Bodies P) where
     opens = λ s still p q. q;
     moves = λ before move s may p q. times_keep bodies None move s may q;
     settles = λ before s p q. record { each = q.each };
-    charges = λ t s still none runs p q. charges t (dispatches (Some t) s) (given (Some t) s q);
+    prepares = record {
+      closes = λ t s run q. planned t (thread_at s.machine t).server s q;
+      sent = λ to s off q. given to s q;
+      opens = λ t x s runs is may q. activated t (Some x) s q;
+    };
+    charges = λ t s still ready runs p q. charges t s q;
     unit_moves = λ b t before move s may p q. times_keep bodies (Some t) move s may q;
     unit_stops = λ b t before. record {
       done = λ s p q. q;
@@ -220,7 +227,7 @@ module _ {P : Type 0} (bodies : Bodies P) where
     };
     unit_settles = λ b t before s p q. record { each = q.each };
     ends = λ b t s still p q. ended (tick_end b s.machine.quantum (thread_at s.machine t)) t s q;
-    idles = λ s none p q. (let k = given None s q in record { each = λ u. later (dispatches None s).machine k u });
+    idles = λ s ready p q. record { each = λ u. later s.machine q u };
   }
 
   abbrev Rest : Machine P → Type 0

@@ -14,6 +14,7 @@ use Rattle.leap_rules.specs.Leap.{in_leaps}
 -- Two threads sleep, and a third runs beside them: six instants are eventful.
 abbrev two_sleepers_and_a_runner : Script
 two_sleepers_and_a_runner = record {
+  version = 1;
   quantum = 10;
   decls =
       decl.Named (codes "a") (kind.Thread (policy.Fifo 5) (Some 0) (Making (call.Nanosleep 60) Nothing))

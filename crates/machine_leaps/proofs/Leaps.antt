@@ -1,5 +1,6 @@
 -- Leaps: so many ticks at once.
 pub mod Calm
+pub mod Bridge
 pub mod LastTick
 pub mod Law
 pub mod Going

@@ -1,5 +1,9 @@
 //! Quiet ticks and leaps of the list machine: where nothing but the running of one thread goes on, so many ticks are one charge.
 //!
+//! Proved: `quiet_ticks_are_charges`: where nothing happens between two instants, the ticks between them are one charge of the
+//! head. `leaps_are_ticks`, `leaps_are_bounded`: a run in leaps is the run in ticks, with at most one leap more than there are
+//! eventful instants inside.
+//!
 //! Each function stands for a law, which its clauses state; none of them does anything when it is called.
 #![tactic(auto)]
 

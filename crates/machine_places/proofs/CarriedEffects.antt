@@ -1,22 +1,22 @@
 -- Each effect of a carried turn is the carried effect.
 use Rattle.std.proofs.Common.{Bool, List, None, Option, Some, [], ap, false, length, refl, suc, true, zero, ℕ, ◌∷◌, ◌≡◌}
-use Rattle.std.specs.Prelude.{filter, is_none, map, nat_lt, not, option_and_then, pred, ◌+◌, ◌==◌, ◌&&◌, ◌||◌, if◌then◌else◌}
+use Rattle.std.specs.Prelude.{filter, if◌then◌else◌, is_none, map, nat_lt, not, option_and_then, pred, ◌&&◌, ◌+◌, ◌==◌, ◌||◌}
 use mathlib.Core.Path.{ap₂, ◌∙◌}
 use Rattle.tick_num.specs.declared.res.Res.{Res}
 use Rattle.tick_num.specs.declared.res.Res.TheVariants as res
 use Rattle.pse52_trace.specs.declared.event.Event.{Event}
 use Rattle.pse52_trace.specs.declared.event.Event.TheVariants as event
-use Rattle.sporadic_server.specs.Server.{ServerState, activate, oldest_pending, plan, refill, replenishment}
+use Rattle.sporadic_server.specs.Server.{ServerState, activate, is_high, oldest_pending, plan, refill, replenishment}
 use Rattle.machine_rules.specs.declared.frame.BodyOf.{BodyOf}
 use Rattle.machine_rules.specs.declared.thread.CondEnd.{CondEnd}
 use Rattle.machine_rules.specs.declared.thread.CondEnd.TheVariants as cond_end
-use Rattle.machine_rules.specs.Lists.{first_by}
+use Rattle.machine_rules.specs.Lists.{first_by, is}
 use Rattle.machine_rules.specs.State.{Frame, Machine, Message, Registration, SignalRecord, Thread, Wait, Waiting, for_condition, for_message, for_mutex, for_mutex_again, for_room, for_semaphore, for_signal, for_time}
-use Rattle.machine_rules.specs.Threads.{action_of, can_run, mutex_at, queue_at, semaphore_at, thread_at, timer_at, waiting_of}
+use Rattle.machine_rules.specs.Threads.{action_of, can_run, mutex_at, queue_at, semaphore_at, thread_at, thread_numbers, timer_at, waiting_of}
 use Rattle.machine_rules.specs.Waiters.{Waiter, best_waiter, is_served_before, somebody_waits, waiters}
 use Rattle.machine_rules.specs.CallNames.{name_of}
 use Rattle.machine_rules.specs.Turns.{Caller, Turn, answered, changes, changes_mutex, changes_pending, changes_queue, changes_semaphore, changes_timer, frames_answered, has_passed, is_late, moves, moves_if, returns, settles_since, takes_serial, tells}
-use Rattle.machine_rules.specs.Servers.{activates, activates_if, activates_if_high, activates_server, amount_of, high_server, plans, plans_server, refills, refills_server, regains_high, with_server}
+use Rattle.machine_rules.specs.Servers.{activates, activates_if, activates_if_high, activates_server, amount_of, at_once, closes, closes_of, has_run, high_server, is_strict, opens, opens_for, opens_if, plans, plans_server, plans_if, refills, refills_server, regains_high, with_server}
 use Rattle.machine_rules.specs.Waking.{blocks, blocks_unordered, call_in, cancelled_value, ending_with, put_to_wait, wakes, wakes_cancelled, wakes_telling, woken}
 use Rattle.machine_rules.specs.Mutexes.{LockAnswer, closes_cycle, counted_down, counted_up, counts, hands_over, is_above_ceiling, is_free, lock_answer, locked_again, locks, carries_out_lock, moves_unless_boosted, must_wait, owned_by, owns, owns_boosting, refused, releases, returns_from_wait, taken_by, takes, tries_lock, trylock_answer, unlocks, waits_for_mutex, wakes_owner}
 use Rattle.machine_rules.specs.Conditions.{broadcasts, contends, reacquires_or_waits, released_mutex, signals, signals_best, signals_best_times, signals_waiter, waits, waits_on_condition, waits_with_other_mutex}
@@ -25,7 +25,7 @@ use Rattle.machine_rules.specs.Signals.{acceptor, accepts, becomes_pending, deli
 use Rattle.machine_rules.specs.Timers.{armed_again, expires, is_pending_from, overrun_once_more, record_of_timer, signals_expiry, sleeps_until}
 use Rattle.machine_rules.specs.Queues.{asks_notification, blocks_unless_nonblock, enters, fired_by_message, has_room, is_notifying, message_of, next_message, notifies, receives_message, takes_message_or_blocks, record_of_notification, registered, sends_message, reaches_receiver_or_queue, takes_over, value_at, waits_to_receive, waits_to_send, with_message, without_message}
 use Rattle.machine_places.specs.Carried.{frame_carried, turn_carried}
-use Rattle.machine_places.proofs.CarriedReads.{C, M, best_carries, can_run_carries, ceiling_carries, changed_carries, cycle_carries, server_carries, settled_carries, somebody_carries, waiters_carry, waiting_carries}
+use Rattle.machine_places.proofs.CarriedReads.{C, M, best_carries, numbers_carry, can_run_carries, ceiling_carries, changed_carries, cycle_carries, server_carries, settled_carries, somebody_carries, waiters_carry, waiting_carries}
 
 module _ {P Q : Type 0} (carry : BodyOf → P → Q) where
   abbrev pub T : Turn P → Turn Q
@@ -74,7 +74,7 @@ module _ {P Q : Type 0} (carry : BodyOf → P → Q) where
       ap (tells (event.Activate t server.capacity)) (changes_carry t (with_server (activate s.machine.now)) (with_server (activate s.machine.now)) (λ th. refl) s)
 
   pub activates_carries : (t : ℕ) → Carries (activates t) (activates t)
-  activates_carries t s = ap (λ (o : Option ServerState). activates_server t o (T s)) (server_carries carry s.machine t) ∙ activates_server_carries t (thread_at s.machine t).server s
+  activates_carries t s = ap (λ (o : Option ServerState). activates_server t (at_once o) (T s)) (server_carries carry s.machine t) ∙ activates_server_carries t (at_once (thread_at s.machine t).server) s
 
   pub activates_if_carries : (b : Bool) (t : ℕ) → Carries (activates_if b t) (activates_if b t)
   activates_if_carries true t s = activates_carries t s
@@ -82,7 +82,7 @@ module _ {P Q : Type 0} (carry : BodyOf → P → Q) where
 
   activates_if_high_carries : (t : ℕ) → Carries (activates_if_high t) (activates_if_high t)
   activates_if_high_carries t s =
-      ap (λ (o : Option ServerState). activates_server t (high_server o) (T s)) (server_carries carry s.machine t) ∙ activates_server_carries t (high_server (thread_at s.machine t).server) s
+      ap (λ (o : Option ServerState). activates_server t (at_once (high_server o)) (T s)) (server_carries carry s.machine t) ∙ activates_server_carries t (at_once (high_server (thread_at s.machine t).server)) s
 
   plans_for_carries : (t : ℕ) (server : Option ServerState) → Carries (plans_server t server) (plans_server t server)
   plans_for_carries t None s = refl
@@ -91,6 +91,35 @@ module _ {P Q : Type 0} (carry : BodyOf → P → Q) where
 
   pub plans_carries : (t : ℕ) → Carries (plans t) (plans t)
   plans_carries t s = ap (λ (o : Option ServerState). plans_server t o (T s)) (server_carries carry s.machine t) ∙ plans_for_carries t (thread_at s.machine t).server s
+
+  -- Close and Open
+
+  plans_if_carries : (b : Bool) (t : ℕ) → Carries (plans_if b t) (plans_if b t)
+  plans_if_carries true t s = plans_carries t s
+  plans_if_carries false t s = refl
+
+  closes_of_carries : (to : Option ℕ) (ts : List ℕ) → Carries (closes_of to ts) (closes_of to ts)
+  closes_of_carries to [] s = refl
+  closes_of_carries to (t ∷ ts) s =
+      let b = not (is to t) && has_run (thread_at s.machine t).server in
+      ap (λ (o : Option ServerState). closes_of to ts (plans_if (not (is to t) && has_run o) t (T s))) (server_carries carry s.machine t)
+      ∙ ap (closes_of to ts) (plans_if_carries b t s)
+      ∙ closes_of_carries to ts (plans_if b t s)
+
+  pub closes_carries : (to : Option ℕ) → Carries (closes to) (closes to)
+  closes_carries to s = ap (λ (ts : List ℕ). closes_of to ts (T s)) (numbers_carry carry s.machine) ∙ closes_of_carries to (thread_numbers s.machine) s
+
+  opens_if_carries : (b : Bool) (t : ℕ) (server : ServerState) → Carries (opens_if b t server) (opens_if b t server)
+  opens_if_carries true t server s = activates_server_carries t (Some server) s
+  opens_if_carries false t server s = refl
+
+  opens_for_carries : (t : ℕ) (server : Option ServerState) → Carries (opens_for t server) (opens_for t server)
+  opens_for_carries t None s = refl
+  opens_for_carries t (Some server) s = opens_if_carries (is_strict server.kind && is_high server && server.consumed == 0) t server s
+
+  pub opens_carries : (to : Option ℕ) → Carries (opens to) (opens to)
+  opens_carries None s = refl
+  opens_carries (Some t) s = ap (λ (o : Option ServerState). opens_for t o (T s)) (server_carries carry s.machine t) ∙ opens_for_carries t (thread_at s.machine t).server s
 
   refills_for_carries : (t : ℕ) (server : Option ServerState) → Carries (refills_server t server) (refills_server t server)
   refills_for_carries t None s = refl

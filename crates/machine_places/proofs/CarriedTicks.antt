@@ -26,7 +26,7 @@ use Rattle.machine_rules.specs.Bodies.{Bodies, Seen}
 use Rattle.machine_rules.specs.State.{Frame, Machine, SignalRecord, Thread, Waiting}
 use Rattle.machine_rules.specs.Threads.{action_of, is_dormant, is_live, is_main, is_signal, number_of, thread_at, thread_numbers, top_left, waiting_of}
 use Rattle.machine_rules.specs.Turns.{Caller, Turn, becomes, changes, changes_pending, moves, returns, settles_since, tells, turn_of}
-use Rattle.machine_rules.specs.Servers.{activates, has_high, server_of}
+use Rattle.machine_rules.specs.Servers.{activates, closes, has_high, opens, server_of}
 use Rattle.machine_rules.specs.Waking.{cancelled_value, ending_with, new_frame, on_top, started, starts}
 use Rattle.machine_rules.specs.Signals.{delivers, may_go_to, is_kill, is_selected_before, record_of_kill, record_of_sigqueue, selected, sends_signal, with_signals, without_record, without_signals}
 use Rattle.machine_rules.specs.Delivery.{acts, can_take, defers_handlers, interrupts, may_be_interrupted, sweeps, sweeps_all, sweeps_thread, taken_by_sweep, takes_record}
@@ -40,7 +40,7 @@ use Rattle.machine_rules.specs.Ticks.{completes, completes_at, frames_charged, g
 use Rattle.machine_rules.specs.Runs.{Ran, follow, tick_of, ticks}
 use Rattle.machine_places.specs.Carried.{Agree, frame_carried, ran_carried}
 use Rattle.machine_places.proofs.CarriedReads.{C, M, kind_carried, left_carried, left_carries, numbers_carry, same_function, server_carries, status_carries, thread_carries, waiting_carries}
-use Rattle.machine_places.proofs.CarriedEffects.{Carries, T, activates_carries, asks_notification_carries, broadcasts_carries, changes_carry, delivers_carries, expires_carries, if_carries, locks_carries, posts_carries, receives_message_carries, refills_carries, returns_carries, sends_message_carries, sends_signal_carries, settles_carry, signals_carries, sleeps_until_carries, tries_lock_carries, tries_semaphore_carries, unlocks_carries, waits_carries, waits_semaphore_carries, waits_signal_on_carries}
+use Rattle.machine_places.proofs.CarriedEffects.{Carries, T, activates_carries, asks_notification_carries, broadcasts_carries, changes_carry, closes_carries, delivers_carries, expires_carries, if_carries, locks_carries, opens_carries, posts_carries, receives_message_carries, refills_carries, returns_carries, sends_message_carries, sends_signal_carries, settles_carry, signals_carries, sleeps_until_carries, tries_lock_carries, tries_semaphore_carries, unlocks_carries, waits_carries, waits_semaphore_carries, waits_signal_on_carries}
 use Rattle.machine_places.proofs.CarriedCalls.{cancels_carries, dispatches_carries, finishes_carries, interrupts_carries, items_of_carried, joins_carries, number_carries, on_live_carries, sets_mask_carries, sets_policy_carries, sets_priority_carries, tick_ends_carries, times_out_carries}
 
 module _ {P Q : Type 0} (carry : BodyOf → P → Q) (p : Bodies P) (q : Bodies Q) (a : Agree carry p q) where
@@ -360,7 +360,13 @@ module _ {P Q : Type 0} (carry : BodyOf → P → Q) (p : Bodies P) (q : Bodies 
 
   runs_head_carries : Carries carry (runs_head q) (runs_head p)
   runs_head_carries s =
-      ap (runs q (head s.machine)) (dispatches_carries carry (head s.machine) s) ∙ runs_carries (head s.machine) (dispatches (head s.machine) s)
+      let to = head s.machine in
+      let closed = closes to s in
+      let sent = dispatches to closed in
+      ap (λ (x : Turn Q). runs q to (opens to (dispatches to x))) (closes_carries carry to s)
+      ∙ ap (λ (x : Turn Q). runs q to (opens to x)) (dispatches_carries carry to closed)
+      ∙ ap (runs q to) (opens_carries carry to sent)
+      ∙ runs_carries to (opens to sent)
 
   pub tick_carries : Carries carry (tick q) (tick p)
   tick_carries s =

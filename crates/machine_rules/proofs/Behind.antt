@@ -15,7 +15,7 @@ use Rattle.machine_rules.specs.Threads.{mutex_at, thread_at, waiting_of}
 use Rattle.machine_rules.specs.Waiters.{Waiter, best_waiter}
 use Rattle.machine_rules.specs.CallNames.{name_of}
 use Rattle.machine_rules.specs.Turns.{Caller, Turn, answered, changes, changes_mutex, moves, returns, tells, ◌▷◌}
-use Rattle.machine_rules.specs.Servers.{activates_if, activates_if_high, activates_server, with_server}
+use Rattle.machine_rules.specs.Servers.{activates_if, activates_if_high, activates_server, at_once, with_server}
 use Rattle.machine_rules.specs.Waking.{call_in, cancelled_value, ending_with, wakes, wakes_cancelled, wakes_telling, woken}
 use Rattle.machine_rules.specs.Mutexes.{LockAnswer, counted_down, counted_up, counts, hands_over, locks, carries_out_lock, lock_answer, must_wait, owns, refused, releases, returns_from_wait, taken_by, takes, unlocks, waits_for_mutex, wakes_owner}
 
@@ -51,7 +51,7 @@ module _ {P : Type 0} where
   activates_server_behind t (Some server) told s = tells_behind (event.Activate t server.capacity) told (changes t (with_server (activate s.machine.now)) s)
 
   pub activates_if_behind : (b : Bool) (t : ℕ) → AddsBehind (activates_if b t)
-  activates_if_behind true t told s = activates_server_behind t (thread_at s.machine t).server told s
+  activates_if_behind true t told s = activates_server_behind t (at_once (thread_at s.machine t).server) told s
   activates_if_behind false t told s = refl
 
   pub wakes_telling_behind : (e : Event) (t : ℕ) (r : Res) (value : ℕ) → AddsBehind (wakes_telling e t r value)

@@ -1,6 +1,7 @@
 -- Events of two parts, for due items and ticks: what a turn tells is told behind what was told before it.
+use Rattle.machine_rules.specs.Lists.{is}
 use Rattle.std.proofs.Common.{Bool, List, None, Option, Some, [], ap, false, refl, suc, true, zero, ℕ, ◌∷◌}
-use Rattle.std.specs.Prelude.{◌&&◌}
+use Rattle.std.specs.Prelude.{not, ◌&&◌, ◌==◌}
 use mathlib.Core.Path.{◌∙◌}
 use Rattle.tick_num.specs.declared.item.Item.{Item}
 use Rattle.tick_num.specs.declared.item.Item.TheVariants as item
@@ -9,7 +10,7 @@ use Rattle.script_flat.specs.Next.{capped}
 use Rattle.script_flat.specs.declared.unit.Unit.{Unit}
 use Rattle.pse52_trace.specs.declared.event.Event.{Event}
 use Rattle.pse52_trace.specs.declared.event.Event.TheVariants as event
-use Rattle.sporadic_server.specs.Server.{ServerState, oldest_pending, plan, refill, replenishment}
+use Rattle.sporadic_server.specs.Server.{ServerState, activate, is_high, oldest_pending, plan, refill, replenishment}
 use Rattle.machine_rules.specs.declared.frame.BodyOf.TheVariants as body_of
 use Rattle.machine_rules.specs.declared.frame.FrameKind.TheVariants as frame
 use Rattle.machine_rules.specs.declared.signal.SigAction.{SigAction}
@@ -19,7 +20,7 @@ use Rattle.machine_rules.specs.Bodies.{Bodies}
 use Rattle.machine_rules.specs.State.{Machine, SignalRecord, Wait, Waiting, for_condition, for_signal, for_time}
 use Rattle.machine_rules.specs.Threads.{action_of, can_run, thread_at, thread_numbers, timer_at, top_left, waiting_of}
 use Rattle.machine_rules.specs.Turns.{Turn, becomes, changes, changes_pending, changes_timer, settles_since, tells}
-use Rattle.machine_rules.specs.Servers.{activates_if, amount_of, has_high, plans, plans_server, refills_server, regains_high, with_server}
+use Rattle.machine_rules.specs.Servers.{activates_if, amount_of, closes, closes_of, has_high, has_run, is_strict, opens, opens_for, opens_if, plans, plans_server, plans_if, refills_server, regains_high, with_server}
 use Rattle.machine_rules.specs.Waking.{new_frame, on_top}
 use Rattle.machine_rules.specs.Mutexes.{moves_unless_boosted}
 use Rattle.machine_rules.specs.Signals.{delivers, without_record}
@@ -28,7 +29,7 @@ use Rattle.machine_rules.specs.Delivery.{acts, interrupts, sweeps, sweeps_all, s
 use Rattle.machine_rules.specs.DueItems.{handles, instant, item_bound, item_done, item_then, items_done, next_item, times_out, wait_times_out}
 use Rattle.machine_rules.specs.Dispatch.{dispatch_event, dispatch_of, dispatches, head, is_same, tells_unless}
 use Rattle.machine_rules.specs.Units.{InUnit, in_unit}
-use Rattle.machine_rules.specs.Ticks.{TickEnd, completes_at, ends_tick, exhausting, goes_on, later, nothing, planning, runs, runs_head, slicing, tick, tick_charged, tick_end, tick_ends, unit_ticked, unless_killed, without_slice}
+use Rattle.machine_rules.specs.Ticks.{TickEnd, completes_at, ends_tick, exhausting, goes_on, later, nothing, planning, runs, runs_head, slicing, tick, tick_charged, tick_end, tick_ends, unit_ticked, unless_killed, without_slice, prepares}
 use Rattle.machine_rules.proofs.Behind.{AddsBehind, activates_if_behind, if_behind, tells_behind, wakes_behind}
 use Rattle.machine_rules.proofs.BehindCalls.{contends_behind, delivers_behind, generates_behind, moves_if_behind, moves_unless_boosted_behind, starts_behind, unit_effect_behind}
 
@@ -77,6 +78,33 @@ module _ {P : Type 0} where
   pub plans_for_behind : (t : ℕ) (server : Option ServerState) → AddsBehind {P = P} (plans_server t server)
   plans_for_behind t None told s = refl
   plans_for_behind t (Some server) told s = tells_behind (event.Plan t (replenishment server).amount (replenishment server).due) told (changes t (with_server plan) s)
+
+  -- Close and Open
+
+  plans_if_behind : (b : Bool) (t : ℕ) → AddsBehind {P = P} (plans_if b t)
+  plans_if_behind true t told s = plans_for_behind t (thread_at s.machine t).server told s
+  plans_if_behind false t told s = refl
+
+  closes_of_behind : (to : Option ℕ) (ts : List ℕ) → AddsBehind {P = P} (closes_of to ts)
+  closes_of_behind to [] told s = refl
+  closes_of_behind to (t ∷ ts) told s =
+      let b = not (is to t) && has_run (thread_at s.machine t).server in
+      ap (closes_of to ts) (plans_if_behind b t told s) ∙ closes_of_behind to ts told (plans_if b t s)
+
+  pub closes_behind : (to : Option ℕ) → AddsBehind {P = P} (closes to)
+  closes_behind to told s = closes_of_behind to (thread_numbers s.machine) told s
+
+  opens_if_behind : (b : Bool) (t : ℕ) (server : ServerState) → AddsBehind {P = P} (opens_if b t server)
+  opens_if_behind true t server told s = tells_behind (event.Activate t server.capacity) told (changes t (with_server (activate s.machine.now)) s)
+  opens_if_behind false t server told s = refl
+
+  opens_for_behind : (t : ℕ) (server : Option ServerState) → AddsBehind {P = P} (opens_for t server)
+  opens_for_behind t None told s = refl
+  opens_for_behind t (Some server) told s = opens_if_behind (is_strict server.kind && is_high server && server.consumed == 0) t server told s
+
+  pub opens_behind : (to : Option ℕ) → AddsBehind {P = P} (opens to)
+  opens_behind None told s = refl
+  opens_behind (Some t) told s = opens_for_behind t (thread_at s.machine t).server told s
 
   pub ends_tick_behind : (e : TickEnd) (t : ℕ) → AddsBehind {P = P} (ends_tick e t)
   ends_tick_behind planning t told s = plans_for_behind t (thread_at s.machine t).server told s
@@ -168,9 +196,21 @@ module _ {P : Type 0} (bodies : Bodies P) where
       ∙ ap (sweeps bodies) (tick_ends_behind was_high t told done)
       ∙ sweeps_behind told (tick_ends was_high t done)
 
+  pub prepares_behind : (to : Option ℕ) → AddsBehind {P = P} (prepares to)
+  prepares_behind to told s =
+      let closed = closes to s in
+      let sent = dispatches to closed in
+      ap (λ (x : Turn P). opens to (dispatches to x)) (closes_behind to told s) ∙ ap (opens to) (dispatches_behind to told closed) ∙ opens_behind to told sent
+
   runs_head_behind : AddsBehind (runs_head bodies)
   runs_head_behind told s =
-      ap (runs bodies (head s.machine)) (dispatches_behind (head s.machine) told s) ∙ runs_behind (head s.machine) told (dispatches (head s.machine) s)
+      let to = head s.machine in
+      let closed = closes to s in
+      let sent = dispatches to closed in
+      ap (λ (x : Turn P). runs bodies to (opens to (dispatches to x))) (closes_behind to told s)
+      ∙ ap (λ (x : Turn P). runs bodies to (opens to x)) (dispatches_behind to told closed)
+      ∙ ap (runs bodies to) (opens_behind to told sent)
+      ∙ runs_behind to told (opens to sent)
 
   pub goes_on_behind : AddsBehind (goes_on bodies)
   goes_on_behind told s = unless_killed_behind s.machine.killed (runs_head bodies) runs_head_behind told s

@@ -19,7 +19,7 @@ use Rattle.machine_rules.specs.Threads.{action_of, can_run, mutex_at, no_thread,
 use Rattle.machine_rules.specs.Waiters.{Waiter}
 use Rattle.machine_rules.specs.Turns.{Caller, Turn, changes, changes_mutex, changes_timer, moves, tells, ◌▷◌}
 use Rattle.machine_rules.specs.CallNames.{name_of}
-use Rattle.machine_rules.specs.Servers.{activates_if, activates_server, amount_of, high_server, refills_server, regains_high, server_of, with_server}
+use Rattle.machine_rules.specs.Servers.{activates_if, activates_server, amount_of, at_once, high_server, refills_server, regains_high, server_of, with_server}
 use Rattle.machine_rules.specs.Waking.{blocks, call_in, cancelled_value, ending_with, put_to_wait, started, starts, wakes, wakes_cancelled, wakes_telling, woken}
 use Rattle.machine_rules.specs.Mutexes.{returns_from_wait, taken_by}
 use Rattle.machine_rules.specs.Conditions.{reacquires_or_waits}
@@ -86,6 +86,7 @@ new_pending : (p : Policy) (now : ℕ) → pending_count (server_of p now) ≡ 0
 new_pending (policy.Fifo p) now = refl
 new_pending (policy.Rr p) now = refl
 new_pending (policy.Sporadic params) now = refl
+new_pending (policy.Strict params) now = refl
 
 abbrev pub refillable : Option ServerState → ℕ
 refillable o = count (option_and_then next_due o)
@@ -115,7 +116,7 @@ module _ {P : Type 0} where
       omega (arith, changed_loads t (with_server (activate s.machine.now)) (λ th. 0) (λ th. omega (arith, activate_pending s.machine.now th.server)) s.machine.threads)
 
   activates_if_falls : (b : Bool) (t : ℕ) (s : Turn P) → coming (activates_if b t s).machine ≤ coming s.machine
-  activates_if_falls true t s = activates_falls t (thread_at s.machine t).server s
+  activates_if_falls true t s = activates_falls t (at_once (thread_at s.machine t).server) s
   activates_if_falls false t s = omega arith
 
   -- ---- a thread wakes or contends: its timeout is gone
@@ -123,7 +124,7 @@ module _ {P : Type 0} where
   wakes_telling_falls : (e : Event) (t : ℕ) (r : Res) (value : ℕ) (s : Turn P) → coming (wakes_telling e t r value s).machine + owes (thread_at s.machine t) ≤ coming s.machine
   wakes_telling_falls e t r value s =
       let up = tells e (moves t (changes t (woken r value) s)) in
-      omega (arith, activates_falls t (high_server (thread_at up.machine t).server) up, changed_loads t (woken r value) owes (λ th. omega arith) s.machine.threads)
+      omega (arith, activates_falls t (at_once (high_server (thread_at up.machine t).server)) up, changed_loads t (woken r value) owes (λ th. omega arith) s.machine.threads)
 
   pub wakes_falls : (t : ℕ) (r : Res) (value : ℕ) (s : Turn P) → coming (wakes t r value s).machine + owes (thread_at s.machine t) ≤ coming s.machine
   wakes_falls t r value s = wakes_telling_falls (event.Return t (name_of (call_in (waiting_of s.machine t))) r value) t r value s
@@ -155,7 +156,7 @@ module _ {P : Type 0} where
       let begun = tells (event.Start t) (moves t (changes t (started bodies t mask s.machine.now) s)) in
       omega (
         arith,
-        activates_falls t (thread_at begun.machine t).server begun,
+        activates_falls t (at_once (thread_at begun.machine t).server) begun,
         changed_loads t (started bodies t mask s.machine.now) owes (λ th. omega (arith, new_pending th.policy s.machine.now)) s.machine.threads,
       )
 
@@ -197,7 +198,7 @@ module _ {P : Type 0} where
   wakes_timers : (t : ℕ) (r : Res) (value : ℕ) (s : Turn P) → (wakes t r value s).machine.timers ≡ s.machine.timers
   wakes_timers t r value s =
       let up = tells (event.Return t (name_of (call_in (waiting_of s.machine t))) r value) (moves t (changes t (woken r value) s)) in
-      activates_timers t (high_server (thread_at up.machine t).server) up
+      activates_timers t (at_once (high_server (thread_at up.machine t).server)) up
 
   if_due : (b : Bool) (x y : Turn P) (k : ℕ) (d : Option ℕ) → (timer_at x.machine k).due ≡ d → (timer_at y.machine k).due ≡ d → (timer_at (if b then x else y).machine k).due ≡ d
   if_due true x y k d h g = h

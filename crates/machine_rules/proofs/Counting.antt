@@ -1,19 +1,20 @@
 -- The instant counts the ticks: an item leaves it, a tick moves it by one, and a process that has ended stays as it is.
-use Rattle.std.proofs.Common.{Bool, None, Option, Some, [], ap, arith, false, refl, suc, true, zero, ℕ, ◌+◌, ◌≡◌}
-use Rattle.std.specs.Prelude.{◌&&◌}
+use Rattle.machine_rules.specs.Lists.{is}
+use Rattle.std.proofs.Common.{Bool, List, None, Option, Some, [], ap, arith, false, refl, suc, true, zero, ℕ, ◌+◌, ◌∷◌, ◌≡◌}
+use Rattle.std.specs.Prelude.{not, ◌&&◌, ◌==◌}
 use mathlib.Core.Path.{◌∙◌}
 use Rattle.tick_num.specs.declared.item.Item.{Item}
 use Rattle.tick_num.specs.declared.item.Item.TheVariants as item
 use Rattle.tick_num.specs.declared.res.Res.TheVariants as res
 use Rattle.pse52_trace.specs.declared.event.Event.{Event}
 use Rattle.pse52_trace.specs.declared.event.Event.TheVariants as event
-use Rattle.sporadic_server.specs.Server.{ServerState, oldest_pending, refill}
+use Rattle.sporadic_server.specs.Server.{ServerState, is_high, oldest_pending, refill}
 use Rattle.machine_rules.specs.declared.thread.CondEnd.TheVariants as cond_end
 use Rattle.machine_rules.specs.Bodies.{Bodies}
 use Rattle.machine_rules.specs.State.{Machine, Wait, Waiting, for_condition, for_signal, for_time}
-use Rattle.machine_rules.specs.Threads.{can_run, thread_at, timer_at, waiting_of}
+use Rattle.machine_rules.specs.Threads.{can_run, thread_at, thread_numbers, timer_at, waiting_of}
 use Rattle.machine_rules.specs.Turns.{Turn, changes, settles_since, tells, turn_of}
-use Rattle.machine_rules.specs.Servers.{amount_of, refills_server, regains_high, with_server}
+use Rattle.machine_rules.specs.Servers.{amount_of, closes, closes_of, has_run, is_strict, opens, opens_for, opens_if, plans_server, plans_if, refills_server, regains_high, with_server}
 use Rattle.machine_rules.specs.Timers.{is_pending_from, record_of_timer, signals_expiry}
 use Rattle.machine_rules.specs.DueItems.{due_items, first_item, handles, instant, item_bound, item_done, item_then, items_done, next_item, times_out, wait_times_out}
 use Rattle.machine_rules.specs.Dispatch.{dispatch_event, dispatches, head, is_same, tells_unless}
@@ -48,6 +49,32 @@ tells_unless_kept : {P : Type 0} (b : Bool) (e : Event) (s : Turn P) → kept (t
 tells_unless_kept true e s = refl
 tells_unless_kept false e s = refl
 
+plans_for_now : {P : Type 0} (t : ℕ) (server : Option ServerState) (s : Turn P) → (plans_server t server s).machine.now ≡ s.machine.now
+plans_for_now t None s = refl
+plans_for_now t (Some server) s = refl
+
+plans_if_now : {P : Type 0} (b : Bool) (t : ℕ) (s : Turn P) → (plans_if b t s).machine.now ≡ s.machine.now
+plans_if_now true t s = plans_for_now t (thread_at s.machine t).server s
+plans_if_now false t s = refl
+
+closes_of_now : {P : Type 0} (to : Option ℕ) (ts : List ℕ) (s : Turn P) → (closes_of to ts s).machine.now ≡ s.machine.now
+closes_of_now to [] s = refl
+closes_of_now to (t ∷ ts) s =
+    let b = not (is to t) && has_run (thread_at s.machine t).server in
+    closes_of_now to ts (plans_if b t s) ∙ plans_if_now b t s
+
+opens_if_now : {P : Type 0} (b : Bool) (t : ℕ) (server : ServerState) (s : Turn P) → (opens_if b t server s).machine.now ≡ s.machine.now
+opens_if_now true t server s = refl
+opens_if_now false t server s = refl
+
+opens_for_now : {P : Type 0} (t : ℕ) (server : Option ServerState) (s : Turn P) → (opens_for t server s).machine.now ≡ s.machine.now
+opens_for_now t None s = refl
+opens_for_now t (Some server) s = opens_if_now (is_strict server.kind && is_high server && server.consumed == 0) t server s
+
+opens_now : {P : Type 0} (to : Option ℕ) (s : Turn P) → (opens to s).machine.now ≡ s.machine.now
+opens_now None s = refl
+opens_now (Some t) s = opens_for_now t (thread_at s.machine t).server s
+
 dispatch_now : {P : Type 0} (to : Option ℕ) (s : Turn P) → (dispatches to s).machine.now ≡ s.machine.now
 dispatch_now to s = ap (λ (k : Kept). k.now) (tells_unless_kept (is_same s.machine.last to) (dispatch_event s.machine to) s)
 
@@ -76,7 +103,12 @@ module _ {P : Type 0} (bodies : Bodies P) where
   -- ---- a tick moves it by one
 
   unless_killed_now : (killed : Option ℕ) (s : Turn P) → killed ≡ None → (unless_killed killed (runs_head bodies) s).machine.now ≡ s.machine.now + 1
-  unless_killed_now None s e = runs_now bodies (head s.machine) (dispatches (head s.machine) s) ∙ ap (λ (n : ℕ). n + 1) (dispatch_now (head s.machine) s)
+  unless_killed_now None s e =
+      let to = head s.machine in
+      let closed = closes to s in
+      let sent = dispatches to closed in
+      runs_now bodies to (opens to sent)
+      ∙ ap (λ (n : ℕ). n + 1) (opens_now to sent ∙ dispatch_now to closed ∙ closes_of_now to (thread_numbers s.machine) s)
   unless_killed_now (Some signal) s e = absurd (grind arith)
 
   -- where no item of the instant ends the process

@@ -11,7 +11,7 @@ use Rattle.machine_rules.specs.declared.thread.CondEnd.TheVariants as cond_end
 use Rattle.machine_rules.specs.State.{Machine, Wait, for_mutex_again}
 use Rattle.machine_rules.specs.Waiters.{Waiter, best_waiter}
 use Rattle.machine_rules.specs.Turns.{Caller, Turn, changes_mutex}
-use Rattle.machine_rules.specs.Servers.{activates_if, activates_server}
+use Rattle.machine_rules.specs.Servers.{activates_if, activates_server, at_once}
 use Rattle.machine_rules.specs.Threads.{thread_at}
 use Rattle.machine_rules.specs.Waking.{wakes, wakes_cancelled, wakes_telling}
 use Rattle.machine_rules.specs.Mutexes.{LockAnswer, counts, hands_over, locks, carries_out_lock, must_wait, refused, releases, returns_from_wait, taken_by, takes, waits_for_mutex, wakes_owner}
@@ -39,7 +39,7 @@ activates_server_kept t None s = refl
 activates_server_kept t (Some server) s = refl
 
 pub activates_if_kept : {P : Type 0} (b : Bool) (t : ℕ) (s : Turn P) → kept (activates_if b t s) ≡ kept s
-activates_if_kept true t s = activates_server_kept t (thread_at s.machine t).server s
+activates_if_kept true t s = activates_server_kept t (at_once (thread_at s.machine t).server) s
 activates_if_kept false t s = refl
 
 pub wakes_telling_kept : {P : Type 0} (e : Event) (t : ℕ) (r : Res) (value : ℕ) (s : Turn P) → kept (wakes_telling e t r value s) ≡ kept s

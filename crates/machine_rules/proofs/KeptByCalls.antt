@@ -1,4 +1,5 @@
 -- No call changes what is kept.
+use Rattle.machine_rules.specs.Servers.{at_once}
 use Rattle.std.proofs.Common.{Bool, None, Option, Some, arith, false, length, refl, suc, true, zero, ℕ, ◌+◌, ◌≡◌}
 use Rattle.std.specs.Prelude.{not, option_and_then, ◌&&◌}
 use mathlib.Core.Path.{◌∙◌}
@@ -140,7 +141,7 @@ asks_notification_kept by q r s = grind arith
 
 pub starts_kept : {P : Type 0} (bodies : Bodies P) (t mask : ℕ) (s : Turn P) → kept (starts bodies t mask s) ≡ kept s
 starts_kept bodies t mask s =
-    let begun = tells (event.Start t) (moves t (changes t (started bodies t mask s.machine.now) s)) in activates_server_kept t (thread_at begun.machine t).server begun
+    let begun = tells (event.Start t) (moves t (changes t (started bodies t mask s.machine.now) s)) in activates_server_kept t (at_once (thread_at begun.machine t).server) begun
 
 pub creates_kept : {P : Type 0} (bodies : Bodies P) (by : Caller) (u : ℕ) (s : Turn P) → kept (creates bodies by u s) ≡ kept s
 creates_kept bodies by u s = grind (arith, starts_kept)

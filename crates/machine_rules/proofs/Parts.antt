@@ -1,17 +1,23 @@
 -- What follows for a thread, by cases; and a tick in its two parts.
 use Rattle.std.proofs.Common.{Bool, List, None, Option, Some, [], ap, false, refl, suc, sym, true, zero, ℕ, ◌∷◌, ◌++◌, ◌≡◌}
+use Rattle.std.specs.Prelude.{not, ◌==◌, ◌&&◌}
 use mathlib.Core.Path.{◌∙◌}
 use Rattle.tick_num.specs.declared.item.Item.{Item}
 use Rattle.machine_rules.specs.Bodies.{Bodies}
 use Rattle.machine_rules.specs.State.{Machine, Thread}
-use Rattle.machine_rules.specs.Threads.{top_left}
+use Rattle.sporadic_server.specs.Server.{ServerState, is_high}
+use Rattle.pse52_trace.specs.declared.event.Event.{Event}
+use Rattle.machine_rules.specs.Lists.{is}
+use Rattle.machine_rules.specs.Threads.{thread_at, thread_numbers, top_left}
 use Rattle.machine_rules.specs.Turns.{Turn, turn_of}
+use Rattle.machine_rules.specs.Servers.{closes, closes_of, has_run, is_strict, opens, opens_for, opens_if, plans_if, plans_server}
+use Rattle.machine_rules.specs.Dispatch.{dispatch_event, dispatches, head, is_same, tells_unless}
 use Rattle.machine_rules.specs.DueItems.{instant, item_bound, item_done, item_then, items_done, next_item}
 use Rattle.machine_rules.specs.Units.{Following, advancing, choice, continuing, following, is_at_end}
-use Rattle.machine_rules.specs.Ticks.{goes_on}
-use Rattle.machine_rules.specs.Runs.{follow, ran, tick_begun, tick_finished, tick_of}
+use Rattle.machine_rules.specs.Ticks.{goes_on, prepares, runs, runs_head, unless_killed}
+use Rattle.machine_rules.specs.Runs.{follow, ran, tick_begun, tick_finished, tick_of, tick_prepared, tick_run}
 use Rattle.machine_rules.proofs.Behind.{behind}
-use Rattle.machine_rules.proofs.BehindTicks.{goes_on_behind}
+use Rattle.machine_rules.proofs.BehindTicks.{goes_on_behind, runs_behind}
 
 -- ---- the choice of what follows
 
@@ -56,3 +62,71 @@ module _ {P : Type 0} (bodies : Bodies P) where
   tick_in_parts m =
       let ready = instant bodies (turn_of m) in
       ap (λ (s : Turn P). ran (goes_on bodies s)) (told_before ready (instant_still m)) ∙ ap ran (goes_on_behind bodies ready.events (turn_of ready.machine))
+
+-- ---- what precedes the tick of the head, and that tick
+
+-- the moves that are to be made, and whether the process has ended
+pub record Unended {P : Type 0} (s s' : Turn P) : Type 0 where
+  pub direct : s'.direct ≡ s.direct
+  pub killed : s'.machine.killed ≡ s.machine.killed
+
+module _ {P : Type 0} where
+  plans_unended : (t : ℕ) (o : Option ServerState) (s : Turn P) → Unended s (plans_server t o s)
+  plans_unended t None s = record { direct = refl; killed = refl }
+  plans_unended t (Some x) s = record { direct = refl; killed = refl }
+
+  if_unended : (b : Bool) (t : ℕ) (s : Turn P) → Unended s (plans_if b t s)
+  if_unended true t s = plans_unended t (thread_at s.machine t).server s
+  if_unended false t s = record { direct = refl; killed = refl }
+
+  then : (s x y : Turn P) → Unended s x → Unended x y → Unended s y
+  then s x y a b = record { direct = b.direct ∙ a.direct; killed = b.killed ∙ a.killed }
+
+  closes_unended : (to : Option ℕ) (ts : List ℕ) (s : Turn P) → Unended s (closes_of to ts s)
+  closes_unended to [] s = record { direct = refl; killed = refl }
+  closes_unended to (t ∷ ts) s =
+      let next = plans_if (not (is to t) && has_run (thread_at s.machine t).server) t s in
+      then s next (closes_of to ts next) (if_unended (not (is to t) && has_run (thread_at s.machine t).server) t s) (closes_unended to ts next)
+
+  tells_unended : (b : Bool) (e : Event) (s : Turn P) → Unended s (tells_unless b e s)
+  tells_unended true e s = record { direct = refl; killed = refl }
+  tells_unended false e s = record { direct = refl; killed = refl }
+
+  sent_unended : (to : Option ℕ) (s : Turn P) → Unended s (dispatches to s)
+  sent_unended to s = let told = tells_unended (is_same s.machine.last to) (dispatch_event s.machine to) s in record { direct = told.direct; killed = told.killed }
+
+  opens_if_unended : (b : Bool) (t : ℕ) (x : ServerState) (s : Turn P) → Unended s (opens_if b t x s)
+  opens_if_unended true t x s = record { direct = refl; killed = refl }
+  opens_if_unended false t x s = record { direct = refl; killed = refl }
+
+  opens_for_unended : (t : ℕ) (o : Option ServerState) (s : Turn P) → Unended s (opens_for t o s)
+  opens_for_unended t None s = record { direct = refl; killed = refl }
+  opens_for_unended t (Some x) s = opens_if_unended (is_strict x.kind && is_high x && x.consumed == 0) t x s
+
+  opens_unended : (to : Option ℕ) (s : Turn P) → Unended s (opens to s)
+  opens_unended None s = record { direct = refl; killed = refl }
+  opens_unended (Some t) s = opens_for_unended t (thread_at s.machine t).server s
+
+  pub prepares_unended : (to : Option ℕ) (s : Turn P) → Unended s (prepares to s)
+  prepares_unended to s =
+      let closed = closes to s in
+      let sent = dispatches to closed in
+      then s closed (opens to sent) (closes_unended to (thread_numbers s.machine) s) (then closed sent (opens to sent) (sent_unended to closed) (opens_unended to sent))
+
+module _ {P : Type 0} (bodies : Bodies P) where
+  -- What finishes a tick is both, one behind the other.
+  pub finished_in_parts : (m : Machine P) → tick_finished bodies m ≡ follow (tick_prepared bodies m) (tick_run bodies (head m))
+  finished_in_parts m = by_end m.killed refl
+    where
+      to : Option ℕ
+      to = head m
+
+      by_end : (k : Option ℕ) → m.killed ≡ k →
+          ran (unless_killed k (runs_head bodies) (turn_of m)) ≡ follow (ran (unless_killed k (prepares to) (turn_of m))) (tick_run bodies to)
+      by_end None e =
+          let ready = prepares to (turn_of m) in
+          let same = prepares_unended to (turn_of m) in
+          ap (λ (s : Turn P). ran (runs bodies to s)) (told_before bodies ready same.direct)
+          ∙ ap ran (runs_behind bodies to ready.events (turn_of ready.machine))
+          ∙ ap (λ (k : Option ℕ). follow (ran ready) (λ n. ran (unless_killed k (runs bodies to) (turn_of n)))) (sym (same.killed ∙ e))
+      by_end (Some signal) e = ap (λ (k : Option ℕ). follow (ran (turn_of m)) (λ n. ran (unless_killed k (runs bodies to) (turn_of n)))) (sym e)

@@ -1,6 +1,6 @@
--- The law of the budget: what the events of a run say of a sporadic thread's server. XSH 2.8.4 SCHED_SPORADIC; the law itself is
--- this project's own.
-use Rattle.std.specs.Prelude.{All, Bool, List, None, Option, Some, [], false, filter_map, length, map, max, suc, take, true, zero, ℕ, ◌≡◌, ◌≤◌, ◌+◌, ◌==◌, ◌&&◌, ◌∷◌, ◌++◌, if◌then◌else◌}
+-- The law of the budget: what the events of a run say of a thread's server. XSH 2.8.4 SCHED_SPORADIC; the law itself is this
+-- project's own.
+use Rattle.std.specs.Prelude.{All, Bool, List, None, Option, Some, [], false, filter_map, flat_map, length, map, max, suc, take, true, zero, ℕ, ◌≡◌, ◌≤◌, ◌+◌, ◌==◌, ◌&&◌, ◌∷◌, ◌++◌, if◌then◌else◌}
 use Rattle.std.specs.List.{sum}
 use Rattle.script_tree.specs.declared.call.Call.TheVariants as call
 use Rattle.script_flat.specs.declared.unit.Unit.{Unit}
@@ -9,15 +9,17 @@ use Rattle.pse52_trace.specs.declared.event.Event.{Event}
 use Rattle.pse52_trace.specs.declared.event.Event.TheVariants as event
 use Rattle.pse52_trace.specs.Text.{Entry}
 use Rattle.sporadic_server.specs.declared.Replenish.{Replenish}
+use Rattle.sporadic_server.specs.declared.ServerKind.{ServerKind}
+use Rattle.sporadic_server.specs.declared.ServerKind.TheVariants as server_kind
 use Rattle.sporadic_server.specs.Server.{ServerState, pending_total}
 use Rattle.machine_rules.specs.Bodies.{Bodies}
 use Rattle.machine_rules.specs.State.{Machine}
 use Rattle.machine_rules.specs.Threads.{lives, thread_at}
 use Rattle.machine_rules.specs.Turns.{◌▷◌}
 use Rattle.machine_rules.specs.Servers.{has_high}
-use Rattle.machine_rules.specs.Dispatch.{runner}
+use Rattle.machine_rules.specs.Dispatch.{head, runner}
 use Rattle.machine_rules.specs.Units.{in_unit}
-use Rattle.machine_rules.specs.Runs.{tick_begun, tick_finished, ticks}
+use Rattle.machine_rules.specs.Runs.{tick_begun, tick_prepared, tick_run, ticks}
 use Rattle.machine_rules.specs.Throughout.{after_items, turn_after}
 use Rattle.machine_rules.specs.GoodState.{is_sporadic}
 
@@ -61,14 +63,16 @@ module _ {P : Type 0} (bodies : Bodies P) where
       if renews t (in_unit bodies (thread_at m u)).unit then (if lives m t then [] else account)
       else recorded_if (u == t && has_high (thread_at m t).server) used account
 
-  -- the account after one tick more: the events that begin it, the tick itself, and the events that finish it
+  -- the account after one tick more: the events that begin it, those that precede the tick of the head, that tick itself, and its events
   abbrev pub ticked_account : ℕ → Machine P → List ServerEvent → List ServerEvent
   ticked_account t m account =
       let begun = tick_begun bodies m in
+      let ready = tick_prepared bodies begun.machine in
       account
       ▷ all_recorded t begun.events
-      ▷ recorded_tick t (runner begun.machine) begun.machine
-      ▷ all_recorded t (tick_finished bodies begun.machine).events
+      ▷ all_recorded t ready.events
+      ▷ recorded_tick t (runner begun.machine) ready.machine
+      ▷ all_recorded t (tick_run bodies (head begun.machine) ready.machine).events
 
   -- the account of a thread's server after n ticks, since that server was new
   abbrev pub account : ℕ → Machine P → ℕ → List ServerEvent
@@ -143,6 +147,41 @@ plans_follow active (refilled time amount ∷ rest) = plans_follow active rest
 
 -- ---- the law
 
+-- One by one, in order: each refill came when its plan was due, or at once where that had passed.
+pub record OneByOne (s : ServerState) (account : List ServerEvent) : Type 0 where
+  pub in_order : refill_amounts account ++ map (λ (r : Replenish). r.amount) s.pending ≡ map (λ (p : Plan). p.amount) (plans_in account)
+  pub on_time : refill_times account ≡ take (length (refill_times account)) (map (λ (p : Plan). p.from) (plans_in account))
+
+-- some plans, one after another, and what they come to as one replenishment: their sum, due with the last
+pub record Group : Type 0 where
+  pub first : Replenish
+  pub later : List Replenish
+
+abbrev pub joined_with : Replenish → List Replenish → Replenish
+joined_with r [] = r
+joined_with r (next ∷ later) = joined_with (record { amount = r.amount + next.amount; due = next.due }) later
+
+-- These plans fall into groups of neighbours, one for each of these replenishments.
+pub record FallInto (plans replenishments : List Replenish) : Type 0 where
+  pub groups : List Group
+  pub in_order : flat_map (λ (g : Group). g.first ∷ g.later) groups ≡ plans
+  pub each : map (λ (g : Group). joined_with g.first g.later) groups ≡ replenishments
+
+abbrev pub refill_in : ServerEvent → Option Replenish
+refill_in used = None
+refill_in (activated time) = None
+refill_in (planned time r) = None
+refill_in (refilled time amount) = Some (record { amount = amount; due = time })
+
+-- the refills as replenishments that were due when they came
+abbrev pub refills_in : List ServerEvent → List Replenish
+refills_in account = filter_map refill_in account
+
+-- A strict server joins plans to the last one where too many would be pending. Each refill came when the last plan of its group was due.
+abbrev pub FollowsPlans : ServerKind → ServerState → List ServerEvent → Type 0
+FollowsPlans server_kind.Sporadic s account = OneByOne s account
+FollowsPlans server_kind.Strict s account = FallInto (map replenishment_in (plans_in account)) (refills_in account ++ s.pending)
+
 pub record KeepsAccount (s : ServerState) (account : List ServerEvent) : Type 0 where
   -- the high ticks are the initial budget and all refilled amounts, but for the capacity
   pub high : high_ticks account + s.capacity ≡ s.params.budget + sum (refill_amounts account)
@@ -151,10 +190,8 @@ pub record KeepsAccount (s : ServerState) (account : List ServerEvent) : Type 0 
   pub refilled_total : s.refilled_total ≡ sum (refill_amounts account)
   -- the initial budget is the capacity, what is pending, and what is consumed
   pub budget : s.capacity + pending_total s + s.consumed ≡ s.params.budget
-  -- what was refilled and what is pending is what was planned, in order
-  pub in_order : refill_amounts account ++ map (λ (r : Replenish). r.amount) s.pending ≡ map (λ (p : Plan). p.amount) (plans_in account)
-  -- each refill came when its plan was due, or at once where that had passed
-  pub on_time : refill_times account ≡ take (length (refill_times account)) (map (λ (p : Plan). p.from) (plans_in account))
+  -- what was refilled and what is pending is what was planned
+  pub planned : FollowsPlans s.kind s account
   -- each plan is of what was consumed since the activation, and due one period after it
   pub follows : plans_follow false account ≡ true
   pub as_expected : map replenishment_in (plans_in account) ≡ expected_plans s.params.period account

@@ -4,6 +4,7 @@ use Rattle.std.specs.List.{IsDistinct, AllAdjacentBelow}
 use Rattle.script_tree.specs.declared.policy.Policy.{Policy}
 use Rattle.script_tree.specs.declared.policy.Policy.TheVariants as policy
 use Rattle.sporadic_server.specs.declared.Replenish.{Replenish}
+use Rattle.sporadic_server.specs.declared.ServerKind.TheVariants as kind
 use Rattle.sporadic_server.specs.Server.{ServerState, is_high, pending_total}
 use Rattle.thread_lists.specs.Threads.{times}
 use Rattle.ready_lists.specs.Lists.{list_of}
@@ -56,18 +57,23 @@ abbrev pub HasParameters : Policy → Option ServerState → Type 0
 HasParameters (policy.Fifo p) server = server ≡ None
 HasParameters (policy.Rr p) server = server ≡ None
 HasParameters (policy.Sporadic params) None = Unit {0}
-HasParameters (policy.Sporadic params) (Some s) = s.params ≡ params
+HasParameters (policy.Sporadic params) (Some s) = (s.params ≡ params) × (s.kind ≡ kind.Sporadic)
+HasParameters (policy.Strict params) None = Unit {0}
+HasParameters (policy.Strict params) (Some s) = (s.params ≡ params) × (s.kind ≡ kind.Strict)
 
 abbrev pub is_sporadic : Policy → Bool
 is_sporadic (policy.Fifo p) = false
 is_sporadic (policy.Rr p) = false
 is_sporadic (policy.Sporadic params) = true
+is_sporadic (policy.Strict params) = true
 
 -- what is consumed was consumed by a thread that still runs at its high priority
 pub record ConsumesInTime {P : Type 0} (m : Machine P) (t : ℕ) (s : ServerState) : Type 0 where
   pub runnable : can_run m t ≡ true
   pub high : is_high s ≡ true
   pub before : s.activation < m.now
+  -- what a strict server consumed was consumed without a break, up to now
+  pub unbroken : s.kind ≡ kind.Strict → s.activation + s.consumed ≡ m.now
 
 pub record ServerIsRight {P : Type 0} (m : Machine P) (t : ℕ) (s : ServerState) : Type 0 where
   pub budget : s.capacity + pending_total s + s.consumed ≡ s.params.budget

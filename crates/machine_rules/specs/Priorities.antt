@@ -16,6 +16,8 @@ assigned_under (policy.Fifo p) server = p
 assigned_under (policy.Rr p) server = p
 assigned_under (policy.Sporadic params) None = params.low
 assigned_under (policy.Sporadic params) (Some server) = assigned server
+assigned_under (policy.Strict params) None = params.low
+assigned_under (policy.Strict params) (Some server) = assigned server
 
 abbrev pub assigned_of : {P : Type 0} → Thread P → ℕ
 assigned_of th = assigned_under th.policy th.server

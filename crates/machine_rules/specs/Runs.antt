@@ -1,5 +1,5 @@
 -- A run: the opening state, and n ticks from it.
-use Rattle.std.specs.Prelude.{List, None, [], map, suc, zero, ℕ, ◌++◌}
+use Rattle.std.specs.Prelude.{List, None, Option, [], map, suc, zero, ℕ, ◌++◌}
 use Rattle.script_tree.specs.declared.decl.Script.{Script}
 use Rattle.pse52_trace.specs.Text.{Entry}
 use Rattle.ready_lists.specs.Lists.{empty_lists}
@@ -10,7 +10,8 @@ use Rattle.machine_rules.specs.Threads.{no_thread}
 use Rattle.machine_rules.specs.Declarations.{ThreadDecl, actions_of, mutexes_of, queues_of, semaphores_of, threads_of, timers_of}
 use Rattle.machine_rules.specs.Turns.{Turn, turn_of}
 use Rattle.machine_rules.specs.DueItems.{instant}
-use Rattle.machine_rules.specs.Ticks.{goes_on, tick}
+use Rattle.machine_rules.specs.Dispatch.{head}
+use Rattle.machine_rules.specs.Ticks.{goes_on, prepares, runs, tick, unless_killed}
 
 -- a dormant thread, with nothing masked and cancellation enabled
 abbrev pub thread_opened : {P : Type 0} → ThreadDecl → Thread P
@@ -56,6 +57,13 @@ module _ {P : Type 0} (bodies : Bodies P) where
 
   abbrev pub tick_finished : Machine P → Ran P
   tick_finished m = ran (goes_on bodies (turn_of m))
+
+  -- What finishes it in two parts again, unless the process has ended: what precedes the tick of the head, and that tick.
+  abbrev pub tick_prepared : Machine P → Ran P
+  tick_prepared m = ran (unless_killed m.killed (prepares (head m)) (turn_of m))
+
+  abbrev pub tick_run : Option ℕ → Machine P → Ran P
+  tick_run to m = ran (unless_killed m.killed (runs bodies to) (turn_of m))
 
   -- n ticks
   abbrev pub ticks : ℕ → Machine P → Ran P

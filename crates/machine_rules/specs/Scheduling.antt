@@ -21,11 +21,13 @@ abbrev pub takes_priority : Policy → ℕ → Bool
 takes_priority (policy.Fifo old) p = true
 takes_priority (policy.Rr old) p = true
 takes_priority (policy.Sporadic params) p = nat_lt params.low p
+takes_priority (policy.Strict params) p = nat_lt params.low p
 
 abbrev pub at_priority : ℕ → Policy → Policy
 at_priority p (policy.Fifo old) = policy.Fifo p
 at_priority p (policy.Rr old) = policy.Rr p
 at_priority p (policy.Sporadic params) = policy.Sporadic (record params { high = p })
+at_priority p (policy.Strict params) = policy.Strict (record params { high = p })
 
 -- of a sporadic thread the high priority alone changes, and its totals go on
 abbrev pub with_priority : {P : Type 0} → ℕ → Thread P → Thread P

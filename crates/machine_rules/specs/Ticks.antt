@@ -9,7 +9,7 @@ use Rattle.machine_rules.specs.State.{Frame, Machine, Thread}
 use Rattle.machine_rules.specs.Threads.{can_run, is_blocked, is_runnable, thread_at, top_left}
 use Rattle.machine_rules.specs.Bodies.{Bodies}
 use Rattle.machine_rules.specs.Turns.{Turn, becomes, changes, moves_if, settles_since, tells, ◌▷◌}
-use Rattle.machine_rules.specs.Servers.{charged, has_high, plans}
+use Rattle.machine_rules.specs.Servers.{charged, closes, has_high, opens, plans}
 use Rattle.machine_rules.specs.Mutexes.{moves_unless_boosted}
 use Rattle.machine_rules.specs.Delivery.{sweeps}
 use Rattle.machine_rules.specs.Calls.{unit_effect}
@@ -24,6 +24,7 @@ abbrev pub slice_charged : Policy → ℕ → ℕ
 slice_charged (policy.Fifo p) slice = slice
 slice_charged (policy.Rr p) slice = slice + 1
 slice_charged (policy.Sporadic params) slice = slice
+slice_charged (policy.Strict params) slice = slice
 
 abbrev pub frames_charged : {P : Type 0} → List (Frame P) → List (Frame P)
 frames_charged [] = []
@@ -64,6 +65,7 @@ abbrev pub slice_is_used : Policy → ℕ → ℕ → Bool
 slice_is_used (policy.Fifo p) slice quantum = false
 slice_is_used (policy.Rr p) slice quantum = slice == quantum
 slice_is_used (policy.Sporadic params) slice quantum = false
+slice_is_used (policy.Strict params) slice quantum = false
 
 -- Whether the thread's server, as the tick's effect left it, is the one that the tick charged. A tick at the high priority made it
 -- consume one, and only the rule below plans that away; a server that a setsched put in its place has consumed nothing yet.
@@ -97,6 +99,10 @@ unless_killed (Some signal) next s = s
 
 -- ---- a tick of the head
 
+-- What precedes it: the runs of other strict threads close, the processor is given to the head, and its own run may open.
+abbrev pub prepares : {P : Type 0} → Option ℕ → Turn P → Turn P
+prepares to s = s ▷ closes to ▷ dispatches to ▷ opens to
+
 module _ {P : Type 0} (bodies : Bodies P) where
   abbrev pub completes_at : ℕ → ℕ → Unit → Turn P → Turn P
   completes_at zero t unit s = unit_effect bodies t unit s
@@ -116,7 +122,7 @@ module _ {P : Type 0} (bodies : Bodies P) where
       s ▷ unit_ticked s.machine t (in_unit bodies (thread_at s.machine t)) ▷ tick_ends (has_high (thread_at s.machine t).server) t ▷ sweeps bodies
 
   abbrev pub runs_head : Turn P → Turn P
-  runs_head s = s ▷ dispatches (head s.machine) ▷ runs (head s.machine)
+  runs_head s = s ▷ prepares (head s.machine) ▷ runs (head s.machine)
 
   -- the tick from its dispatch on, unless the process has ended
   abbrev pub goes_on : Turn P → Turn P

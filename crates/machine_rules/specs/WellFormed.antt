@@ -2,6 +2,7 @@
 -- range, and cleanup handlers that are pushed and popped by guarded blocks alone. XBD pthread.h lets pthread_cleanup_push and
 -- pthread_cleanup_pop appear only in pairs in one block; the ranges are this project's own.
 use Rattle.std.specs.Prelude.{Bool, List, [], false, max, suc, true, ℕ, ◌≡◌, ◌≤◌, ◌∷◌}
+use Rattle.tick_num.specs.Parameters.{AreParameters}
 use Rattle.script_tree.specs.Block.{Adding, Block, Guarding, Looping, Making, Nothing, Running, Setting, Taking, Testing}
 use Rattle.script_tree.specs.declared.call.Call.{Call}
 use Rattle.script_tree.specs.declared.call.Call.TheVariants as call
@@ -25,6 +26,7 @@ abbrev pub PolicyFits : Policy → Type 0
 PolicyFits (policy.Fifo p) = IsPriority p
 PolicyFits (policy.Rr p) = IsPriority p
 PolicyFits (policy.Sporadic params) = IsPriority params.low × IsPriority params.high
+PolicyFits (policy.Strict params) = IsPriority params.low × IsPriority params.high × AreParameters params
 
 abbrev pub ProtocolFits : Protocol → Type 0
 ProtocolFits protocol.Plain = Unit {0}

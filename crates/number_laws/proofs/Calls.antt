@@ -104,6 +104,7 @@ priced_policy : (p : ℕ) (x : Policy) → PolicySmall x → PolicySmall (at_pri
 priced_policy p (policy.Fifo old) h = tt
 priced_policy p (policy.Rr old) h = tt
 priced_policy p (policy.Sporadic params) h = h
+priced_policy p (policy.Strict params) h = h
 
 pub each_dropped : {X : Type 0} (Law : X → Type 0) (xs : List X) → Each Law xs → Each Law (drop 1 xs)
 each_dropped Law [] h = tt

@@ -24,7 +24,8 @@ use Rattle.script_table.specs.Operands.{name_at, named_at, signal_at}
 use Rattle.script_table.specs.Calls.{call_of}
 use Rattle.script_table.specs.Meaning.{kind_of_object, ignores, runs, action_decl, kind_of_body, plain_step, block_step}
 use Rattle.script_table.specs.Build.{script_of}
-use Rattle.script_table.specs.Read.{said, read}
+use Rattle.script_table.specs.Heading.{Beginning}
+use Rattle.script_table.specs.Read.{said_in, read}
 use Rattle.script_text.specs.Names.{names_of}
 use Rattle.canonical_law.proofs.Accepted.{is_read}
 use Rattle.canonical_law.proofs.Again.{statements}
@@ -161,11 +162,11 @@ lines_named es = record {
   none = tt;
   more = λ steps s all h. tt;
   step = λ f words. anything (plain_step f words);
-  call = λ f words. anything (call_of es f words);
+  call = λ f words any. anything (call_of es f words);
   block = λ f words run body inside. anything (block_step es f words run body);
   object = λ f words. mapped_two IsNamed Any HasName Named (λ name k n any. n) (name_at 1 words) (kind_of_object f words) (name_named 1 words) (anything (kind_of_object f words));
   action = λ f words. action_named es f words;
-  body = λ f words steps inside. mapped_two IsNamed Any HasName Named (λ name k n any. n) (name_at 1 words) (kind_of_body f words steps) (name_named 1 words) (anything (kind_of_body f words steps));
+  body = λ f words steps any inside. mapped_two IsNamed Any HasName Named (λ name k n any. n) (name_at 1 words) (kind_of_body f words steps) (name_named 1 words) (anything (kind_of_body f words steps));
 }
 
 threads_named : (ds : List Decl) → every.Each HasName ds → Each IsNamed (map (λ (d : ThreadDecl). d.name) (filter_map declared_thread ds))
@@ -226,10 +227,12 @@ pub record WellNamed (script : Script) : Type 0 where
 
 pub accepted_well_named : (text : List ℕ) (script : Script) → read patterns text ≡ Ok script → WellNamed script
 accepted_well_named text script e =
-    let ss : List Said = said patterns text in
+    let read' = is_read patterns the_table text script e in
+    let b : Beginning = read'.part in
+    let ss : List Said = said_in (patterns b.version) b in
     let es : List Entry = (declared ss).names in
-    let own : Script = script_of es ss in
-    let means : own ≡ script = (is_read patterns the_table text script e).means in
+    let own : Script = script_of b.version es ss in
+    let means : own ≡ script = read'.means in
     let known : AllKnown es own.decls = (statements patterns the_table text script e).known in
     let named : Each IsNamed (machine.names_of own) = threads_named own.decls (each_decl es AnyBlock HasName (lines_named es) ss) in
     let apart : AllApart (machine.names_of own) = subst AllApart (sym (known.names kind.Thread) ∙ same_names own.decls) (apart_in kind.Thread es (distinct_from nothing_declared ss tt)) in

@@ -10,7 +10,7 @@ use Rattle.script_tree.specs.declared.body.Step.TheVariants.{Run, Make, Set, Add
 use Rattle.script_tree.specs.declared.call.Call.{Call}
 use Rattle.script_tree.specs.declared.call.Call.TheVariants as calls
 use Rattle.script_tree.specs.declared.policy.Policy.{Policy}
-use Rattle.script_tree.specs.declared.policy.Policy.TheVariants.{Fifo, Rr, Sporadic}
+use Rattle.script_tree.specs.declared.policy.Policy.TheVariants.{Fifo, Rr, Sporadic, Strict}
 use Rattle.script_tree.specs.declared.decl.Kind.{Kind}
 use Rattle.script_tree.specs.declared.decl.Kind.TheVariants as kinds
 use Rattle.script_tree.specs.declared.decl.Decl.{Decl}
@@ -40,11 +40,12 @@ use Rattle.script_table.specs.Patterns.{greatest}
 use Rattle.script_table.specs.Structure.{Said}
 use Rattle.script_table.specs.Table.{patterns}
 use Rattle.script_table.specs.Names.{Entry, declared}
-use Rattle.script_table.specs.Operands.{map_two, map_three, map_four, map_five, number_in, amount_at, answer_at, operand_at, priority_at, signal_at, signals_at, name_at, named_at, fifo_at, rr_at, sporadic_at, server_at}
+use Rattle.script_table.specs.Operands.{map_two, map_three, map_four, map_five, number_in, amount_at, answer_at, operand_at, priority_at, signal_at, signals_at, name_at, named_at, fifo_at, rr_at, sporadic_at, strict_at, server_at}
 use Rattle.script_table.specs.Calls.{call_of, thread_call}
 use Rattle.script_table.specs.Meaning.{protect, queue, kind_of_object, object_decl, ignores, runs, action_decl, thread_at, thread_dormant, kind_of_body, body_decl, plain_step, block_step, test, repeat, guard}
 use Rattle.script_table.specs.Build.{nothing_built, script_of}
-use Rattle.script_table.specs.Read.{said, read}
+use Rattle.script_table.specs.Heading.{Beginning}
+use Rattle.script_table.specs.Read.{said_in, read}
 use Rattle.machine_flat.specs.KnownCalls.{KnowsObjects, Objects, objects_of, IsSignal}
 use Rattle.canonical_law.proofs.Accepted.{is_read}
 use Rattle.canonical_law.proofs.Again.{statements}
@@ -72,6 +73,9 @@ server_small p h = (omega (arith, h.budget, h.period), h.period)
 
 sporadic_small : (words : List (List ℕ)) → IfSome (sporadic_at words) PolicySmall
 sporadic_small words = mapped IsServer PolicySmall Sporadic server_small (server_at words) (server_within words)
+
+strict_small : (words : List (List ℕ)) → IfSome (strict_at words) PolicySmall
+strict_small words = mapped IsServer PolicySmall Strict (λ p h. (omega (arith, h.budget, h.period), h.period)) (server_at words) (server_within words)
 
 -- ---- calls: only one gives a policy
 
@@ -120,6 +124,7 @@ module _ (es : List Entry) (words : List (List ℕ)) where
   thread_gives thread.SetschedFifo = gives_policy (named_at kind.Thread es 1 words) (fifo_at 3 words) (fifo_small 3 words)
   thread_gives thread.SetschedRr = gives_policy (named_at kind.Thread es 1 words) (rr_at 3 words) (rr_small 3 words)
   thread_gives thread.SetschedSporadic = gives_policy (named_at kind.Thread es 1 words) (sporadic_at words) (sporadic_small words)
+  thread_gives thread.SetschedStrict = gives_policy (named_at kind.Thread es 1 words) (strict_at words) (strict_small words)
 
   call_gives : (f : CallForm) → IfSome (call_of es f words) GivesSmall
   call_gives (call.Thread f) = thread_gives f
@@ -272,6 +277,8 @@ module _ (o : Objects) where
   own_kind_small body.RrDormant words steps inside = dormant_small (rr_at 3 words) steps inside (rr_small 3 words)
   own_kind_small body.SporadicAt words steps inside = at_small (sporadic_at words) (amount_at 9 words) steps inside (sporadic_small words) (amount_within 9 words)
   own_kind_small body.SporadicDormant words steps inside = dormant_small (sporadic_at words) steps inside (sporadic_small words)
+  own_kind_small body.StrictAt words steps inside = at_small (strict_at words) (amount_at 9 words) steps inside (strict_small words) (amount_within 9 words)
+  own_kind_small body.StrictDormant words steps inside = dormant_small (strict_at words) steps inside (strict_small words)
   own_kind_small body.Handler words steps inside = inside
   own_kind_small body.Cleanup words steps inside = inside
 
@@ -300,11 +307,11 @@ module _ (script : Script) (es : List Entry) (below : AllBelow (declared_count s
     none = tt;
     more = more_small (objects_of script);
     step = plain_small (objects_of script);
-    call = call_in_range;
+    call = λ f words any. call_in_range f words;
     block = λ f words run body inside. block_small (objects_of script) es f words run body (pushed words) inside;
     object = object_small (objects_of script);
     action = λ f words. action_small (objects_of script) es f words;
-    body = body_small (objects_of script);
+    body = λ f words steps any inside. body_small (objects_of script) f words steps inside;
   }
 
 same_each : {A : Type 0} (P : A → Type 0) (xs : List A) → every.Each P xs → Each P xs
@@ -313,10 +320,12 @@ same_each P (x ∷ xs) h = (h.0, same_each P xs h.1)
 
 pub accepted_in_range : (text : List ℕ) (script : Script) → read patterns text ≡ Ok script → IsInRange script
 accepted_in_range text script e =
-    let ss : List Said = said patterns text in
+    let read' = is_read patterns the_table text script e in
+    let b : Beginning = read'.part in
+    let ss : List Said = said_in (patterns b.version) b in
     let es : List Entry = (declared ss).names in
-    let own : Script = script_of es ss in
-    let means : own ≡ script = (is_read patterns the_table text script e).means in
+    let own : Script = script_of b.version es ss in
+    let means : own ≡ script = read'.means in
     let known : AllKnown es own.decls = (statements patterns the_table text script e).known in
     let below : AllBelow (declared_count own.decls) es = all_below es own.decls known in
     let all : every.Each (DeclSmall (objects_of own)) own.decls = each_decl es (BlockSmall (objects_of own)) (DeclSmall (objects_of own)) (lines_small own es below) ss in

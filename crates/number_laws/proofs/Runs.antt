@@ -9,12 +9,13 @@ use Rattle.script_flat.specs.Next.{Place}
 use Rattle.machine_rules.specs.Bodies.{Bodies}
 use Rattle.machine_rules.specs.Declarations.{ThreadDecl, mutex_kind, named, queue_kind, semaphore_kind, threads_of, timer_kind}
 use Rattle.machine_rules.specs.State.{Machine}
-use Rattle.machine_rules.specs.Threads.{mutex_in, no_queue, no_thread, no_timer, thread_in}
+use Rattle.machine_rules.specs.Threads.{mutex_in, no_queue, no_thread, no_timer, thread_in, thread_numbers}
 use Rattle.machine_rules.specs.Turns.{Turn, turn_of}
 use Rattle.machine_rules.specs.Priorities.{exec}
 use Rattle.machine_rules.specs.Mutexes.{recursion_limit}
 use Rattle.machine_rules.specs.Semaphores.{semaphore_limit}
 use Rattle.machine_rules.specs.Dispatch.{head}
+use Rattle.machine_rules.specs.Servers.{closes}
 use Rattle.machine_rules.specs.DueItems.{instant}
 use Rattle.machine_rules.specs.Machine.{bodies_of, events, machine}
 use Rattle.machine_rules.specs.Runs.{opening, thread_opened, ticks}
@@ -25,6 +26,7 @@ use Rattle.machine_flat.specs.KnownCalls.{Objects, objects_of}
 use Rattle.machine_moves.specs.UnitRanges.{BodiesFit}
 use Rattle.machine_moves.proofs.Waiters.Best.{running_within}
 use Rattle.machine_moves.proofs.Runs.Listed.{head_can_run}
+use Rattle.machine_moves.proofs.Runs.Preparing.{closes_keep}
 use Rattle.machine_moves.proofs.Runs.Since.{Rests, instant_keep, run_since}
 use Rattle.machine_moves.proofs.Runs.Units.{bodies_fit}
 use Rattle.machine_laws.proofs.Lists.Kept.{Placed, Placing, opening_placed, placed_tick}
@@ -50,15 +52,17 @@ module _ {P : Type 0} (o : Objects) (bodies : Bodies P) (known : BodiesSmall o b
   Ready m = (instant bodies (turn_of m)).machine
 
   -- the head is there as it is dispatched
-  head_there : (top : ℕ) (low : top + 1 ≤ 10 ^ 18) (m : Machine P) → Still (turn_of m) → length (Ready m).threads ≡ o.threads → HeadThere o bodies known top low (Ready m) (head (Ready m))
+  head_there : (top : ℕ) (low : top + 1 ≤ 10 ^ 18) (m : Machine P) → Still (turn_of m) → length (Ready m).threads ≡ o.threads → HeadThere o bodies known top low (closes (head (Ready m)) (instant bodies (turn_of m))).machine (head (Ready m))
   head_there top low m still counted = by (head (Ready m)) refl
     where
-      by : (to : Option ℕ) → head (Ready m) ≡ to → HeadThere o bodies known top low (Ready m) to
+      by : (to : Option ℕ) → head (Ready m) ≡ to → HeadThere o bodies known top low (closes to (instant bodies (turn_of m))).machine to
       by None e = tt
       by (Some t) e =
           let rest = instant_keep bodies fits Placed Placing (λ b t. Placing) (λ b t. Placing) (λ b t. Placed) (placed_tick bodies) (turn_of m) still in
           let there : t < length (Ready m).threads = running_within (Ready m).threads t (head_can_run (Ready m) t rest.listed e) in
-          (omega (arith, there, counted), priority_small (exec (Ready m) t) ((priorities (Ready m) rest.rest.fit).small t))
+          let closed = closes (Some t) (instant bodies (turn_of m)) in
+          let placed = closes_keep (λ (s : Turn P). Placed s.machine) (placed_tick bodies).prepares (Some t) (thread_numbers (Ready m)) (instant bodies (turn_of m)) rest.rest in
+          (omega (arith, there, counted), priority_small (exec closed.machine t) ((priorities closed.machine placed.fit).small t))
 
   pub record RanSmall (top : ℕ) (start : Machine P) (n : ℕ) : Type 0 where
     pub machine : TurnSmall o.threads top (turn_of (ticks bodies n start).machine)

@@ -1,6 +1,6 @@
 -- What ticks and runs keep small.
-use Rattle.std.proofs.Common.{Bool, List, None, Option, Some, [], arith, false, refl, suc, true, zero, ℕ, ◌+◌, ◌^◌, ◌-◌, ◌<◌, ◌≤◌, ◌∷◌}
-use Rattle.std.specs.Prelude.{option_map}
+use Rattle.std.proofs.Common.{Bool, List, None, Option, Some, [], arith, false, refl, suc, true, zero, ℕ, ◌+◌, ◌^◌, ◌-◌, ◌<◌, ◌≤◌, ◌∷◌, ◌≡◌}
+use Rattle.std.specs.Prelude.{not, option_map, ◌&&◌}
 use Rattle.script_flat.specs.declared.unit.Unit as units
 use Rattle.script_flat.specs.declared.unit.Unit.TheVariants as unit
 use Rattle.script_flat.specs.Next.{ticks_of}
@@ -8,21 +8,23 @@ use Rattle.pse52_trace.specs.declared.event.Event.TheVariants as event
 use Rattle.sporadic_server.specs.Server.{ServerState}
 use Rattle.machine_rules.specs.Bodies.{Bodies, seen_by}
 use Rattle.machine_rules.specs.State.{Frame, Machine, Thread}
-use Rattle.machine_rules.specs.Threads.{can_run, thread_at, top_left}
+use Rattle.machine_rules.specs.Threads.{can_run, thread_at, thread_numbers, top_left}
+use Rattle.machine_rules.specs.Lists.{is}
 use Rattle.machine_rules.specs.Turns.{Turn, becomes, changes, settles_since, tells}
 use Rattle.machine_rules.specs.Priorities.{exec}
-use Rattle.machine_rules.specs.Servers.{charged, has_high, plans}
+use Rattle.machine_rules.specs.Servers.{charged, closes, closes_of, has_high, has_run, may_open, opens_for, opens_if, plans, plans_if}
 use Rattle.machine_rules.specs.Dispatch.{dispatch_event, dispatches, head, is_same, tells_unless}
 use Rattle.machine_rules.specs.Delivery.{sweeps}
 use Rattle.machine_rules.specs.DueItems.{instant}
 use Rattle.machine_rules.specs.Units.{Following, advances, advancing, begins_finish, cleaning_up, continuing, finishing, following, frame_begins, in_cleanup, in_unit, next_of, takes_unit}
-use Rattle.machine_rules.specs.Ticks.{TickEnd, completes_at, ends_tick, exhausting, frames_charged, later, nothing, planning, runs, runs_head, slicing, tick, tick_charged, tick_end, tick_ends, unless_killed, without_slice}
+use Rattle.machine_rules.specs.Ticks.{TickEnd, completes_at, ends_tick, exhausting, frames_charged, later, nothing, planning, prepares, runs, runs_head, slicing, tick, tick_charged, tick_end, tick_ends, unless_killed, without_slice}
 use Rattle.machine_flat.specs.KnownCalls.{Objects}
 use Rattle.number_laws.specs.Numbers.{AreSmall, Each, FrameSmall, HasSmall, IsSmall, ThreadSmall, TurnSmall}
 use Rattle.number_laws.specs.Scripts.{BodiesSmall, UnitMade, UnitSmall}
 use Rattle.number_laws.proofs.Servers.{charged_small}
 use Rattle.number_laws.proofs.Turns.{changes_small, moves_if_small, moves_unless_boosted_small, tells_small}
-use Rattle.number_laws.proofs.Waking.{plans_small, zero_small}
+use Rattle.number_laws.proofs.Lists.{served_within}
+use Rattle.number_laws.proofs.Waking.{activates_server_small, capacity_small, plans_small, zero_small}
 use Rattle.number_laws.proofs.Calls.{plain_small, unit_small}
 use Rattle.number_laws.proofs.Items.{instant_small, sweeps_small}
 
@@ -162,19 +164,54 @@ module _ {P : Type 0} (o : Objects) (bodies : Bodies P) (known : BodiesSmall o b
   HeadThere m None = Unit {0}
   HeadThere m (Some t) = (t < o.threads) × IsSmall (exec m t)
 
+  -- ---- what precedes the tick of the head
+
+  closes_if_small : (b : Bool) (t : ℕ) (s : Turn P) → (has_run (thread_at s.machine t).server ≡ true → t < o.threads) → (b ≡ true → has_run (thread_at s.machine t).server ≡ true) → TurnSmall o.threads top s → TurnSmall o.threads top (plans_if b t s)
+  closes_if_small true t s within run h = plans_small o.threads top lower t (thread_at s.machine t).server s (within (run refl)) (h.of_threads t).server h
+  closes_if_small false t s within run h = h
+
+  -- a thread that has a server is there
+  run_there : (t : ℕ) (s : Turn P) → TurnSmall o.threads top s → has_run (thread_at s.machine t).server ≡ true → t < o.threads
+  run_there t s h run = by (thread_at s.machine t).server refl run
+    where
+      by : (w : Option ServerState) → (thread_at s.machine t).server ≡ w → has_run w ≡ true → t < o.threads
+      by None e k = absurd (grind arith)
+      by (Some x) e k = let here = served_within s.machine.threads t x (λ (th : Thread P). th.server) refl e in let counted = h.counted in omega arith
+
+  closes_small : (to : Option ℕ) (ts : List ℕ) (s : Turn P) → TurnSmall o.threads top s → TurnSmall o.threads top (closes_of to ts s)
+  closes_small to [] s h = h
+  closes_small to (t ∷ ts) s h =
+      let b = not (is to t) && has_run (thread_at s.machine t).server in
+      closes_small to ts (plans_if b t s) (closes_if_small b t s (run_there t s h) (second (not (is to t)) (has_run (thread_at s.machine t).server)) h)
+    where
+      second : (a b : Bool) → (a && b) ≡ true → b ≡ true
+      second a b h = grind arith
+
+  opens_if_small : (b : Bool) (t : ℕ) (x : ServerState) (s : Turn P) → t < o.threads → HasSmall (thread_at s.machine t).ticks (Some x) → TurnSmall o.threads top s → TurnSmall o.threads top (opens_if b t x s)
+  opens_if_small true t x s lt k h = activates_server_small o.threads top lower t (Some x) s lt (capacity_small (thread_at s.machine t).ticks (Some x) k) h
+  opens_if_small false t x s lt k h = h
+
+  opens_for_small : (t : ℕ) (w : Option ServerState) (s : Turn P) → t < o.threads → HasSmall (thread_at s.machine t).ticks w → TurnSmall o.threads top s → TurnSmall o.threads top (opens_for t w s)
+  opens_for_small t None s lt k h = h
+  opens_for_small t (Some x) s lt k h = opens_if_small (may_open x) t x s lt k h
+
   told_small : (b : Bool) (to : Option ℕ) (s : Turn P) → HeadThere s.machine to → TurnSmall o.threads top s → TurnSmall o.threads top (tells_unless b (dispatch_event s.machine to) s)
   told_small true to s there h = h
   told_small false None s there h = tells_small o.threads top lower event.Idle s tt h
   told_small false (Some t) s there h = tells_small o.threads top lower (event.Dispatch t (exec s.machine t)) s there h
 
-  runs_small : (to : Option ℕ) (s : Turn P) → HeadThere s.machine to → TurnSmall o.threads top s → TurnSmall o.threads (top + 1) (runs bodies to (dispatches to s))
+  runs_small : (to : Option ℕ) (s : Turn P) → HeadThere (closes to s).machine to → TurnSmall o.threads top s → TurnSmall o.threads (top + 1) (runs bodies to (prepares to s))
   runs_small None s there h =
-      let x = dispatches None s in
-      let k : TurnSmall o.threads top x = told_small (is_same s.machine.last None) None s there h in
+      let x = prepares None s in
+      let c = closes_small None (thread_numbers s.machine) s h in
+      let k : TurnSmall o.threads top x = told_small (is_same (closes None s).machine.last None) None (closes None s) there c in
       later_small o.threads top (top + 1) x (x.machine.now + 1) (let e = k.early in omega arith) k
   runs_small (Some t) s there h =
-      let x = dispatches (Some t) s in
-      let k : TurnSmall o.threads top x = told_small (is_same s.machine.last (Some t)) (Some t) s there h in
+      let x = prepares (Some t) s in
+      let c = closes_small (Some t) (thread_numbers s.machine) s h in
+      let sent = dispatches (Some t) (closes (Some t) s) in
+      let d : TurnSmall o.threads top sent = told_small (is_same (closes (Some t) s).machine.last (Some t)) (Some t) (closes (Some t) s) there c in
+      let k : TurnSmall o.threads top x = opens_for_small t (thread_at sent.machine t).server sent there.0 (d.of_threads t).server d in
       let taken = in_unit bodies (thread_at x.machine t) in
       let in' = in_unit_small o.threads o bodies known (thread_at x.machine t) (k.of_threads t) in
       let charged' = changes t (λ th. tick_charged taken.thread) x in
@@ -183,9 +220,9 @@ module _ {P : Type 0} (o : Objects) (bodies : Bodies P) (known : BodiesSmall o b
       let l : TurnSmall o.threads (top + 1) on = later_small o.threads top (top + 1) charged' (charged'.machine.now + 1) (let e = c.early in omega arith) c in
       charged_on_small o bodies known (top + 1) low (has_high (thread_at x.machine t).server) x.machine t taken.unit on there.0 in'.unit l
 
-  goes_on_small : (killed : Option ℕ) (s : Turn P) → HeadThere s.machine (head s.machine) → TurnSmall o.threads top s → TurnSmall o.threads (top + 1) (unless_killed killed (runs_head bodies) s)
+  goes_on_small : (killed : Option ℕ) (s : Turn P) → HeadThere (closes (head s.machine) s).machine (head s.machine) → TurnSmall o.threads top s → TurnSmall o.threads (top + 1) (unless_killed killed (runs_head bodies) s)
   goes_on_small None s there h = runs_small (head s.machine) s there h
   goes_on_small (Some signal) s there h = later_small o.threads top (top + 1) s s.machine.now (let e = h.early in omega arith) h
 
-  pub tick_small : (s : Turn P) → HeadThere (instant bodies s).machine (head (instant bodies s).machine) → TurnSmall o.threads top s → TurnSmall o.threads (top + 1) (tick bodies s)
+  pub tick_small : (s : Turn P) → HeadThere (closes (head (instant bodies s).machine) (instant bodies s)).machine (head (instant bodies s).machine) → TurnSmall o.threads top s → TurnSmall o.threads (top + 1) (tick bodies s)
   tick_small s there h = let ready = instant bodies s in goes_on_small ready.machine.killed ready there (instant_small o.threads top lower bodies s h)

@@ -7,6 +7,8 @@ use Rattle.script_tree.specs.declared.policy.Policy.{Policy}
 use Rattle.script_tree.specs.declared.policy.Policy.TheVariants as policy
 use Rattle.pse52_trace.specs.declared.event.Event.{Event}
 use Rattle.pse52_trace.specs.declared.event.Event.TheVariants as event
+use Rattle.sporadic_server.specs.declared.ServerKind.{ServerKind}
+use Rattle.sporadic_server.specs.declared.ServerKind.TheVariants as server_kind
 use Rattle.sporadic_server.specs.Server.{ServerState, activate, oldest_pending, plan, refill, replenishment}
 use Rattle.machine_rules.specs.declared.thread.CondEnd.{CondEnd}
 use Rattle.machine_rules.specs.declared.thread.CondEnd.TheVariants as cond_end
@@ -16,7 +18,7 @@ use Rattle.machine_rules.specs.Threads.{can_run, mutex_at, thread_at, waiting_of
 use Rattle.machine_rules.specs.Waiters.{Waiter, best_waiter, somebody_waits, waiters}
 use Rattle.machine_rules.specs.Turns.{Caller, Turn, changes, changes_mutex, is_late, moves, returns, tells}
 use Rattle.machine_rules.specs.CallNames.{name_of}
-use Rattle.machine_rules.specs.Servers.{activates_if, activates_server, amount_of, high_server, plans_server, refills_server, regains_high, server_of, with_server}
+use Rattle.machine_rules.specs.Servers.{activates_if, activates_server, amount_of, at_once, at_once_as, high_server, plans_server, refills_server, regains_high, server_of, with_server}
 use Rattle.machine_rules.specs.Waking.{blocks, call_in, cancelled_value, ending_with, started, starts, wakes, wakes_cancelled, wakes_telling, woken}
 use Rattle.machine_rules.specs.Mutexes.{closes_cycle, counted_down, freed, is_above_ceiling, locked_again, recursion_limit, trylock_answer, LockAnswer, counted_up, counts, hands_over, is_free, lock_answer, locks, carries_out_lock, must_wait, owned_by, owns, refused, releases, returns_from_wait, taken_by, takes, unlocks, waits_for_mutex, wakes_owner}
 use Rattle.machine_rules.specs.Conditions.{broadcasts, contends, reacquires_or_waits, released_mutex, signals, signals_best_times, signals_waiter, waits, waits_on_condition, waits_with_other_mutex}
@@ -41,6 +43,14 @@ pub capacity_small : (ticks : ℕ) (o : Option ServerState) → HasSmall ticks o
 capacity_small ticks None h = tt
 capacity_small ticks (Some s) h = capacity_told ticks s h
 
+at_once_has : (ticks : ℕ) (o : Option ServerState) → HasSmall ticks o → HasSmall ticks (at_once o)
+at_once_has ticks None h = tt
+at_once_has ticks (Some s) h = by_kind s.kind
+  where
+    by_kind : (k : ServerKind) → HasSmall ticks (at_once_as k s)
+    by_kind server_kind.Sporadic = h
+    by_kind server_kind.Strict = tt
+
 pub activated_has : (ticks now : ℕ) (o : Option ServerState) → now ≤ 10 ^ 18 → HasSmall ticks o → HasSmall ticks (option_map (activate now) o)
 activated_has ticks now None n h = tt
 activated_has ticks now (Some s) n h = activate_small ticks now s n h
@@ -56,7 +66,8 @@ refilled_has ticks (Some s) h = refill_small ticks s h
 pub server_of_has : (ticks now : ℕ) (p : Policy) → now ≤ 10 ^ 18 → PolicySmall p → HasSmall ticks (server_of p now)
 server_of_has ticks now (policy.Fifo p) n h = tt
 server_of_has ticks now (policy.Rr p) n h = tt
-server_of_has ticks now (policy.Sporadic params) n h = new_small ticks now params h.0 h.1 n
+server_of_has ticks now (policy.Sporadic params) n h = new_small ticks now server_kind.Sporadic params h.0 h.1 n
+server_of_has ticks now (policy.Strict params) n h = new_small ticks now server_kind.Strict params h.0 h.1 n
 
 -- how often an owner has locked its mutex
 one_lock : 1 ≤ recursion_limit
@@ -108,8 +119,11 @@ module _ {P : Type 0} (count top : ℕ) (low : top ≤ 10 ^ 18) where
       tells_small count top low (event.Activate t server.capacity) (changes t (with_server (activate s.machine.now)) s) (lt, c)
       (served_small t (activate s.machine.now) s (λ ticks o k. activated_has ticks s.machine.now o (now_low count top low s h) k) h)
 
-  pub activates_small : (t : ℕ) (s : Turn P) → t < count → Small s → Small (activates_server t (thread_at s.machine t).server s)
-  activates_small t s lt h = activates_server_small t (thread_at s.machine t).server s lt (capacity_small (thread_at s.machine t).ticks (thread_at s.machine t).server (h.of_threads t).server) h
+  pub activates_small : (t : ℕ) (s : Turn P) → t < count → Small s → Small (activates_server t (at_once (thread_at s.machine t).server) s)
+  activates_small t s lt h =
+      let o = (thread_at s.machine t).server in
+      let ticks = (thread_at s.machine t).ticks in
+      activates_server_small t (at_once o) s lt (capacity_small ticks (at_once o) (at_once_has ticks o (h.of_threads t).server)) h
 
   pub activates_if_small : (b : Bool) (t : ℕ) (s : Turn P) → t < count → Small s → Small (activates_if b t s)
   activates_if_small true t s lt h = activates_small t s lt h
@@ -151,7 +165,7 @@ module _ {P : Type 0} (count top : ℕ) (low : top ≤ 10 ^ 18) where
       }) h) in
       let ticks = (thread_at x.machine t).ticks in
       let server = (thread_at x.machine t).server in
-      activates_server_small t (high_server server) x lt (capacity_small ticks (high_server server) (high_small ticks server (after.of_threads t).server)) after
+      activates_server_small t (at_once (high_server server)) x lt (capacity_small ticks (at_once (high_server server)) (at_once_has ticks (high_server server) (high_small ticks server (after.of_threads t).server))) after
 
   pub wakes_small : (t : ℕ) (r : Res) (value : ℕ) (s : Turn P) → t < count → IsSmall value → Small s → Small (wakes t r value s)
   wakes_small t r value s lt v h = wakes_telling_small (event.Return t (name_of (call_in (waiting_of s.machine t))) r value) t r value s (lt, v) lt v h

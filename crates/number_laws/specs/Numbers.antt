@@ -60,6 +60,7 @@ abbrev pub PolicySmall : Policy → Type 0
 PolicySmall (policy.Fifo p) = Unit {0}
 PolicySmall (policy.Rr p) = Unit {0}
 PolicySmall (policy.Sporadic params) = IsNumber params.budget × IsNumber params.period
+PolicySmall (policy.Strict params) = IsNumber params.budget × IsNumber params.period
 
 -- a server of a thread that has run so many ticks
 pub record ServerSmall (ticks : ℕ) (s : ServerState) : Type 0 where

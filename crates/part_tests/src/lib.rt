@@ -1,9 +1,11 @@
-//! Tests of the parts of the kernel, each public call of them once on its happy path: lists, waiters, due ticks, queues, timers,
+//! Tests of the parts of the kernel, each public call of them once on its happy path: sets, lists, waiters, due ticks, queues, timers,
 //! signals, a server and the table of threads. They stand apart, so that they are proved without proving those crates again.
 #![tactic(auto)]
 
 #[cfg(test)]
 mod arrivals;
+#[cfg(test)]
+mod bits;
 #[cfg(test)]
 mod calls;
 #[cfg(test)]

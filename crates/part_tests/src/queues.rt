@@ -20,6 +20,7 @@ fn script(alloc: Global) -> Result<Script, AllocError>
     };
     decls.push(Decl::Named(name, queue))?;
     Ok(Script {
+        version: 1,
         quantum: 1,
         decls: Decls::new(decls),
     })

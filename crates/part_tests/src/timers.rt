@@ -15,6 +15,7 @@ fn script(alloc: Global) -> Result<Script, AllocError>
     let name = Name::try_new(b"beat").unwrap();
     decls.push(Decl::Named(name, Kind::Timer { sig: 5, value: 77 }))?;
     Ok(Script {
+        version: 1,
         quantum: 1,
         decls: Decls::new(decls),
     })

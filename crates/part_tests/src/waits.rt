@@ -1,8 +1,10 @@
 // Three threads that wait for one mutex, a fourth that waits for a semaphore of the same number, and two that wait for signals.
-ghost use Rattle.std.specs.Prelude.{◌≡◌};
+ghost use Rattle.std.specs.Prelude.{◌≡◌, ℕ, IfOk, None, length};
+ghost use Rattle.wait_lists.specs.Places.{place_in};
 ghost use Rattle.wait_lists.specs.declared.WaitObj.TheVariants.{Mutex};
 
 use crate::numbers::{object, prio, thread};
+use std::alloc::{AllocError, Global};
 use std::test::Fail;
 use tick_num::SigSet;
 use wait_lists::{WaitObj, Waits};
@@ -45,5 +47,25 @@ fn waiters_for_signals_by_their_sets(rt: HostRuntime) -> Result<(), Fail> {
     assert_eq!(rt; waits.best_for_signal(&sets, 1), Some(thread(1)));
     assert_eq!(rt; waits.best_for_signal(&sets, 0), Some(thread(0)));
     assert_eq!(rt; waits.best_for_signal(&sets, 2), None);
+    Ok(())
+}
+
+// Room for as many threads as there may be, none of which waits.
+#[tactic(auto, using(crate::proofs::Many::long_nowhere))]
+fn open_for_all(alloc: Global) -> Result<Waits, AllocError>
+    ensures long { IfOk result (λ w. length w ≡ 256) }
+    ensures nowhere { IfOk result (λ w. (t : ℕ) → place_in w t ≡ None) }
+{
+    Waits::open(alloc, 256)
+}
+
+#[test]
+fn the_last_thread_waits_for_the_last_object(rt: HostRuntime) -> Result<(), Fail> {
+    let mut waits = open_for_all(rt.alloc())?;
+    waits.enter(WaitObj::Cond(object(255)), thread(255), prio(10), 1);
+    waits.enter(WaitObj::Sem(object(255)), thread(64), prio(10), 2);
+    assert_eq!(rt; waits.best(WaitObj::Cond(object(255))), Some(thread(255)));
+    assert_eq!(rt; waits.best(WaitObj::Sem(object(255))), Some(thread(64)));
+    assert_eq!(rt; waits.best(WaitObj::Sem(object(0))), None);
     Ok(())
 }

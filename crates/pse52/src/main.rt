@@ -1,4 +1,6 @@
 //! The command `pse52`: `pse52 run N < script` prints the trace of the script's run to tick N.
+//!
+//! Proved: nothing of its own: it makes one call.
 #![tactic(auto)]
 
 ghost use Rattle.std.specs.Prelude.{◌≡◌};

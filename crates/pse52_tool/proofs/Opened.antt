@@ -9,7 +9,8 @@ use Rattle.machine_rules.specs.Promises.{busy_between}
 use Rattle.machine_places.proofs.CarriedBusy.{busy_over}
 use Rattle.machine_places.proofs.CarriedTrace.{closing_carries, runs_carry}
 use Rattle.machine_flat.specs.FlatBodies.{code_of, flat_bodies}
-use Rattle.flat_traces.proofs.Agrees.{carry, flat_agrees, flat_traces}
+use Rattle.flat_traces.specs.Places.{carry}
+use Rattle.flat_traces.proofs.Agrees.{flat_agrees, flat_traces}
 use Rattle.kernel_state.specs.Kernel.{Kernel, opened}
 use Rattle.rt_kernel.specs.Ran.{kernel_trace, ticked_by}
 use Rattle.pse52_tool.specs.Answer.{closing_lines}

@@ -1,5 +1,17 @@
 -- What is promised of the run of each script that is read or generated.
-use Rattle.std.proofs.Common.{◌≡◌, ℕ, List, Ok}
+use Rattle.std.proofs.Common.{◌≡◌, ℕ, List, Ok, refl}
+use Rattle.canonical_law.proofs.Again.{upgraded_again}
+use Rattle.machine_moves.proofs.Runs.Units.{bodies_fit}
+use Rattle.machine_rules.specs.Machine.{bodies_of}
+use Rattle.machine_rules.specs.Runs.{opening}
+use Rattle.machine_window.specs.Before.{RunsAsBefore}
+use Rattle.machine_window.specs.Window.{RunKeepsWindows}
+use Rattle.machine_window.proofs.InWindow as windows
+use Rattle.script_flat.specs.Next.{Place}
+use Rattle.script_text.specs.Canon.{canon}
+use Rattle.script_text.specs.Upgraded.{upgraded}
+use Rattle.script_versions.specs.Versions.{RunsAlike}
+use Rattle.script_versions.proofs.Before as before
 use Rattle.number_laws.proofs.Spelled as spelled
 use Rattle.pse52_tool.proofs.Serials.{serial_small}
 use Rattle.pse52_tool.specs.Audited.{BreaksNoRule}
@@ -42,3 +54,17 @@ one_reading bytes script e n most = spelled.accepted_is_read bytes script n e mo
 
 pub breaks_none : (bytes : List ℕ) (script : Script) → read patterns bytes ≡ Ok script → BreaksNoRule script
 breaks_none bytes script e n servers most calm each = spelled.accepted_breaks_none bytes script n servers e most calm each
+
+pub keeps_windows : (bytes : List ℕ) (script : Script) → read patterns bytes ≡ Ok script → RunKeepsWindows script
+keeps_windows bytes script e =
+    let fits = accepted_is_well_formed bytes script e in
+    windows.keeps_windows (bodies_of script) (bodies_fit script fits.priorities) script fits
+
+pub reads_upgraded : (bytes : List ℕ) (script : Script) → read patterns bytes ≡ Ok script → read patterns (canon (upgraded script)) ≡ Ok (upgraded script)
+reads_upgraded = upgraded_again
+
+pub runs_alike : (script : Script) (n : ℕ) → RunsAlike (upgraded script) script n
+runs_alike script n = record { events_same = refl; closing_same = refl; trace_same = refl }
+
+pub runs_as_before : (bytes : List ℕ) (script : Script) → read patterns bytes ≡ Ok script → script.version ≡ 1 → RunsAsBefore (bodies_of script) (opening {P = Place} script)
+runs_as_before = before.runs_as_before

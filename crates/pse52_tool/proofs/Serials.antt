@@ -8,7 +8,8 @@ use Rattle.machine_rules.specs.Machine.{bodies_of, machine}
 use Rattle.machine_rules.specs.Runs.{Ran, opening, ticks}
 use Rattle.machine_places.proofs.CarriedTrace.{runs_carry}
 use Rattle.machine_flat.specs.FlatBodies.{code_of, flat_bodies}
-use Rattle.flat_traces.proofs.Agrees.{carry, flat_agrees}
+use Rattle.flat_traces.specs.Places.{carry}
+use Rattle.flat_traces.proofs.Agrees.{flat_agrees}
 use Rattle.script_bounds.proofs.Runnable.{accepted_can_be_run}
 use Rattle.well_formed_scripts.proofs.Reading.{accepted_is_well_formed}
 use Rattle.kernel_laws.proofs.Kept.{states_fit}

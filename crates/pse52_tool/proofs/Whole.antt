@@ -4,7 +4,7 @@ use Rattle.std.specs.Prelude.{◌&&◌, if◌then◌else◌, nat_lt}
 use Rattle.std.specs.Io.KnownBytes.{Consumes, IsAtEnd}
 use Rattle.pse52_tool.specs.declared.status.Status.{Status}
 use Rattle.pse52_tool.specs.declared.command.Command.{Command}
-use Rattle.pse52_tool.specs.declared.command.Command.TheVariants.{Run, Check, Audit, ResponseTimes, Gen, Soak}
+use Rattle.pse52_tool.specs.declared.command.Command.TheVariants.{Run, Check, Audit, Upgrade, ResponseTimes, Gen, Soak}
 use Rattle.pse52_tool.specs.Command.{command, limit_of, reads}
 use Rattle.pse52_tool.specs.Answer.{Answer, Told, answer, command_answer, text_answer}
 
@@ -40,6 +40,7 @@ answer_unread words c bytes is none = ap (λ o. command_answer o bytes) is ∙ (
   same_text (Run n) bytes e = absurd (let f : true ≡ false = e in cc)
   same_text (Check n) bytes e = absurd (let f : true ≡ false = e in cc)
   same_text Audit bytes e = absurd (let f : true ≡ false = e in cc)
+  same_text Upgrade bytes e = absurd (let f : true ≡ false = e in cc)
   same_text (ResponseTimes n) bytes e = absurd (let f : true ≡ false = e in cc)
   same_text (Gen seed) bytes e = refl
   same_text (Soak seed n) bytes e = refl

@@ -6,7 +6,8 @@ use Rattle.script_lex.specs.Lines.{lines_of}
 use Rattle.script_lex.specs.Words.{words_of}
 use Rattle.script_table.specs.Table.{patterns, declaration_patterns, step_patterns, call_patterns}
 use Rattle.script_table.specs.Structure.{said_from, phase_one}
-use Rattle.script_table.specs.Read.{read}
+use Rattle.script_table.specs.Heading.{heading}
+use Rattle.script_table.specs.Read.{read, read_in}
 use Rattle.machine_rules.specs.Priorities.{exec_in}
 use Rattle.pse52_tool.specs.declared.status.Status.TheVariants.{Done, Usage, Refused, Differs, NoTrace}
 use Rattle.pse52_tool.specs.Answer.{Answer, answer, usage_line}
@@ -21,12 +22,12 @@ done ls = record { status = Done; text = text ls }
 
 one_thread_runs : answer (codes "run" ∷ codes "10" ∷ []) (text (codes "thread a fifo 5 at 0" ∷ codes "run 3" ∷ codes "end" ∷ [])) ≡
     done (codes "0 start a" ∷ codes "0 dispatch a 5" ∷ codes "4 exit a" ∷ codes "4 idle" ∷ codes "10 end" ∷ codes "thread a ticks 4" ∷ [])
-unfolding read patterns declaration_patterns step_patterns call_patterns said_from phase_one lines_of words_of digits exec_in
+unfolding read heading read_in patterns declaration_patterns step_patterns call_patterns said_from phase_one lines_of words_of digits exec_in
 one_thread_runs = refl
 
 no_tick_at_all : answer (codes "run" ∷ codes "0" ∷ []) (text (codes "thread a fifo 5 at 0" ∷ codes "run 3" ∷ codes "end" ∷ [])) ≡
     done (codes "0 end" ∷ codes "thread a ticks 0" ∷ [])
-unfolding read patterns declaration_patterns step_patterns call_patterns said_from phase_one lines_of words_of digits exec_in
+unfolding read heading read_in patterns declaration_patterns step_patterns call_patterns said_from phase_one lines_of words_of digits exec_in
 no_tick_at_all = refl
 
 preempted_thread_resumes_at_the_head : answer (codes "run" ∷ codes "12" ∷ [])
@@ -35,11 +36,11 @@ preempted_thread_resumes_at_the_head : answer (codes "run" ∷ codes "12" ∷ []
     done (codes "0 start a" ∷ codes "0 start b" ∷ codes "0 dispatch a 5" ∷ codes "2 start c" ∷ codes "2 dispatch c 9" ∷ codes "4 exit c" ∷
     codes "4 dispatch a 5" ∷ codes "7 exit a" ∷ codes "7 dispatch b 5" ∷ codes "9 exit b" ∷ codes "9 idle" ∷ codes "12 end" ∷
     codes "thread a ticks 5" ∷ codes "thread b ticks 2" ∷ codes "thread c ticks 2" ∷ [])
-unfolding read patterns declaration_patterns step_patterns call_patterns said_from phase_one lines_of words_of digits exec_in
+unfolding read heading read_in patterns declaration_patterns step_patterns call_patterns said_from phase_one lines_of words_of digits exec_in
 preempted_thread_resumes_at_the_head = refl
 
 no_thread_is_refused : answer (codes "run" ∷ codes "10" ∷ []) [] ≡ record { status = Refused; text = codes "refused 1 14 NoThread\n" }
-unfolding read patterns declaration_patterns step_patterns call_patterns said_from phase_one lines_of words_of digits
+unfolding read heading read_in patterns declaration_patterns step_patterns call_patterns said_from phase_one lines_of words_of digits
 no_thread_is_refused = refl
 
 one_word_is_no_command : answer (codes "run" ∷ []) [] ≡ record { status = Usage; text = usage_line }
@@ -76,19 +77,19 @@ beside trace = text (codes "thread a fifo 5 at 0" ∷ codes "run 3" ∷ codes "e
 trace_is_the_scripts : answer (codes "check" ∷ codes "10" ∷ [])
     (beside (codes "0 start a" ∷ codes "0 dispatch a 5" ∷ codes "4 exit a" ∷ codes "4 idle" ∷ codes "10 end" ∷ codes "thread a ticks 4" ∷ [])) ≡
     done (codes "same" ∷ [])
-unfolding read patterns declaration_patterns step_patterns call_patterns said_from phase_one lines_of words_of digits exec_in
+unfolding read heading read_in patterns declaration_patterns step_patterns call_patterns said_from phase_one lines_of words_of digits exec_in
 trace_is_the_scripts = refl
 
 fourth_line_differs : answer (codes "check" ∷ codes "10" ∷ [])
     (beside (codes "0 start a" ∷ codes "0 dispatch a 5" ∷ codes "4 exit a" ∷ codes "4 dispatch a 5" ∷ codes "10 end" ∷ codes "thread a ticks 4" ∷ [])) ≡
     record { status = Differs; text = text (codes "differs 4" ∷ codes "want 4 idle" ∷ codes "have dispatch" ∷ []) }
-unfolding read patterns declaration_patterns step_patterns call_patterns said_from phase_one lines_of words_of digits exec_in
+unfolding read heading read_in patterns declaration_patterns step_patterns call_patterns said_from phase_one lines_of words_of digits exec_in
 fourth_line_differs = refl
 
 last_line_is_missing : answer (codes "check" ∷ codes "10" ∷ [])
     (beside (codes "0 start a" ∷ codes "0 dispatch a 5" ∷ codes "4 exit a" ∷ codes "4 idle" ∷ codes "10 end" ∷ [])) ≡
     record { status = Differs; text = text (codes "differs 6" ∷ codes "want thread a ticks 4" ∷ codes "have nothing" ∷ []) }
-unfolding read patterns declaration_patterns step_patterns call_patterns said_from phase_one lines_of words_of digits exec_in
+unfolding read heading read_in patterns declaration_patterns step_patterns call_patterns said_from phase_one lines_of words_of digits exec_in
 last_line_is_missing = refl
 
 nothing_is_divided : answer (codes "check" ∷ codes "10" ∷ []) (text (codes "thread a fifo 5 at 0" ∷ codes "run 3" ∷ codes "end" ∷ [])) ≡

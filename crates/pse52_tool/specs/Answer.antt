@@ -5,6 +5,7 @@ use Rattle.rt_io.specs.Causes.{Rose}
 use Rattle.rt_io.specs.Bytes.{AppendsPart}
 use Rattle.script_tree.specs.declared.decl.Script.{Script}
 use Rattle.script_text.specs.Canon.{canon}
+use Rattle.script_text.specs.Upgraded.{upgraded}
 use Rattle.script_gen.specs.Generated.{script_of}
 use Rattle.script_table.specs.Faults.{Fault, number_of, name_of}
 use Rattle.script_table.specs.Table.{patterns}
@@ -13,7 +14,7 @@ use Rattle.machine_rules.specs.Machine.{closing, machine, names_of, trace}
 use Rattle.pse52_tool.specs.declared.status.Status.{Status}
 use Rattle.pse52_tool.specs.declared.status.Status.TheVariants.{Done, Usage, Refused, TooLong, ReadFault, WriteFault, OutOfMemory, Differs, NoTrace, Breach}
 use Rattle.pse52_tool.specs.declared.command.Command.{Command}
-use Rattle.pse52_tool.specs.declared.command.Command.TheVariants.{Run, Check, Audit, ResponseTimes, Gen, Soak}
+use Rattle.pse52_tool.specs.declared.command.Command.TheVariants.{Run, Check, Audit, Upgrade, ResponseTimes, Gen, Soak}
 use Rattle.pse52_tool.specs.Command.{command, limit_of, reads}
 use Rattle.pse52_tool.specs.Message.{refused_line}
 use Rattle.trace_check.specs.Divided.{Divided, divided}
@@ -87,6 +88,16 @@ abbrev pub audit_answer : Option Divided → Answer
 audit_answer None = record { status = NoTrace; text = no_trace_line }
 audit_answer (Some d) = audited_answer (read_head d.head) d.trace
 
+-- a script is written as one of version 2, where that text is no longer than a script may be
+abbrev pub upgraded_answer : List ℕ → Answer
+upgraded_answer text =
+    if nat_lt 1_048_576 (length text) then record { status = TooLong; text = too_long_line }
+    else record { status = Done; text = text }
+
+abbrev pub upgrade_answer : Result Script Fault → Answer
+upgrade_answer (Err fault) = record { status = Refused; text = fault_line fault }
+upgrade_answer (Ok script) = upgraded_answer (canon (upgraded script))
+
 -- the response times of tasks are told, and a text that declares none is refused
 abbrev pub responses_answer : ℕ → Result (List Task) task_faults.Fault → Answer
 responses_answer bound (Err f) = record { status = Refused; text = refused_line f.line (task_faults.number_of f.kind) (task_faults.name_of f.kind) }
@@ -108,6 +119,7 @@ abbrev pub text_answer : Command → List ℕ → Answer
 text_answer (Run n) bytes = run_answer n (read patterns bytes)
 text_answer (Check n) bytes = divided_answer n (divided bytes)
 text_answer Audit bytes = audit_answer (divided bytes)
+text_answer Upgrade bytes = upgrade_answer (read patterns bytes)
 text_answer (ResponseTimes n) bytes = responses_answer n (task_lines.read bytes)
 text_answer (Gen seed) bytes = generated_answer seed
 text_answer (Soak seed n) bytes = soak_answer seed n

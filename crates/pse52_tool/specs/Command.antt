@@ -1,4 +1,4 @@
--- The commands of the tool: `run N`, `check N`, `audit`, `rta N`, `gen S` and `soak S N`, where N and S are one or more decimal digits with a value up to a
+-- The commands of the tool: `run N`, `check N`, `audit`, `upgrade`, `rta N`, `gen S` and `soak S N`, where N and S are one or more decimal digits with a value up to a
 -- limit of the command's own.
 use Rattle.std.specs.Prelude.{Bool, IsTrue, true, false, not, ℕ, ◌^◌, ◌≤◌, ◌&&◌, nat_le, if◌then◌else◌, List, [], ◌∷◌, codes, Option, None, Some}
 use Rattle.std.specs.Option.{option_map}
@@ -6,7 +6,7 @@ use Rattle.std.specs.Str.{bytes_eq}
 use Rattle.script_table.specs.Words.{is_number, value_of}
 use Rattle.script_table.specs.Operands.{map_two}
 use Rattle.pse52_tool.specs.declared.command.Command.{Command}
-use Rattle.pse52_tool.specs.declared.command.Command.TheVariants.{Run, Check, Audit, ResponseTimes, Gen, Soak}
+use Rattle.pse52_tool.specs.declared.command.Command.TheVariants.{Run, Check, Audit, Upgrade, ResponseTimes, Gen, Soak}
 
 -- the number that a word names, where it is at most so great
 abbrev pub number_up_to : ℕ → List ℕ → Option ℕ
@@ -22,7 +22,10 @@ command_of word number =
 
 -- the same of a word alone
 abbrev pub short_command_of : List ℕ → Option Command
-short_command_of word = if bytes_eq word (codes "audit") then Some Audit else None
+short_command_of word =
+    if bytes_eq word (codes "audit") then Some Audit
+    else if bytes_eq word (codes "upgrade") then Some Upgrade
+    else None
 
 -- the same of a word and two numbers
 abbrev pub long_command_of : List ℕ → List ℕ → List ℕ → Option Command
@@ -42,6 +45,7 @@ abbrev pub IsWithinLimit : Command → Type 0
 IsWithinLimit (Run n) = n ≤ 10 ^ 18
 IsWithinLimit (Check n) = n ≤ 10 ^ 18
 IsWithinLimit Audit = Unit {0}
+IsWithinLimit Upgrade = Unit {0}
 IsWithinLimit (ResponseTimes n) = n ≤ 10 ^ 8
 IsWithinLimit (Gen seed) = seed ≤ 10 ^ 18
 IsWithinLimit (Soak seed n) = (seed ≤ 10 ^ 18) × (n ≤ 10 ^ 18)
@@ -51,6 +55,7 @@ abbrev pub reads : Command → Bool
 reads (Run n) = true
 reads (Check n) = true
 reads Audit = true
+reads Upgrade = true
 reads (ResponseTimes n) = true
 reads (Gen seed) = false
 reads (Soak seed n) = false
@@ -60,6 +65,7 @@ abbrev pub limit_of : Command → ℕ
 limit_of (Run n) = 1_048_576
 limit_of (Check n) = 67_108_864
 limit_of Audit = 67_108_864
+limit_of Upgrade = 1_048_576
 limit_of (ResponseTimes n) = 67_108_864
 limit_of (Gen seed) = 0
 limit_of (Soak seed n) = 0
@@ -78,6 +84,7 @@ Compares None = ⊥
 Compares (Some (Run n)) = ⊥
 Compares (Some (Check n)) = Unit {0}
 Compares (Some Audit) = ⊥
+Compares (Some Upgrade) = ⊥
 Compares (Some (ResponseTimes n)) = ⊥
 Compares (Some (Gen seed)) = ⊥
 Compares (Some (Soak seed n)) = ⊥
@@ -88,6 +95,7 @@ Audits None = ⊥
 Audits (Some (Run n)) = ⊥
 Audits (Some (Check n)) = ⊥
 Audits (Some Audit) = Unit {0}
+Audits (Some Upgrade) = ⊥
 Audits (Some (ResponseTimes n)) = ⊥
 Audits (Some (Gen seed)) = ⊥
 Audits (Some (Soak seed n)) = ⊥
@@ -98,9 +106,21 @@ Divides None = ⊥
 Divides (Some (Run n)) = ⊥
 Divides (Some (Check n)) = Unit {0}
 Divides (Some Audit) = Unit {0}
+Divides (Some Upgrade) = ⊥
 Divides (Some (ResponseTimes n)) = ⊥
 Divides (Some (Gen seed)) = ⊥
 Divides (Some (Soak seed n)) = ⊥
+
+-- a command with a second limit: of the script in front of a trace, or of the text that it writes
+abbrev pub HasSecondLimit : Option Command → Type 0
+HasSecondLimit None = ⊥
+HasSecondLimit (Some (Run n)) = ⊥
+HasSecondLimit (Some (Check n)) = Unit {0}
+HasSecondLimit (Some Audit) = ⊥
+HasSecondLimit (Some Upgrade) = Unit {0}
+HasSecondLimit (Some (ResponseTimes n)) = ⊥
+HasSecondLimit (Some (Gen seed)) = ⊥
+HasSecondLimit (Some (Soak seed n)) = ⊥
 
 -- a command that reads the source
 abbrev pub Reads : Option Command → Type 0

@@ -17,6 +17,8 @@ pub enum Command {
     Check(Tick),
     /// `audit`: whether a trace keeps the budgets of its sporadic servers.
     Audit,
+    /// `upgrade`: the canonical text of a script as one of version 2.
+    Upgrade,
     /// `rta N`: the response times of tasks, up to a bound of N ticks, at most 10^8.
     ResponseTimes(u64),
     /// `gen S`: the canonical text of the generated script of number S, at most 10^18.
@@ -35,6 +37,7 @@ impl Command {
             Command::Run(_) => 1_048_576,
             Command::Check(_) => 67_108_864,
             Command::Audit => 67_108_864,
+            Command::Upgrade => 1_048_576,
             Command::ResponseTimes(_) => 67_108_864,
             Command::Gen(_) => 0,
             Command::Soak(_, _) => 0,
@@ -49,6 +52,7 @@ impl Command {
             Command::Run(_) => true,
             Command::Check(_) => true,
             Command::Audit => true,
+            Command::Upgrade => true,
             Command::ResponseTimes(_) => true,
             Command::Gen(_) => false,
             Command::Soak(_, _) => false,
@@ -117,6 +121,8 @@ fn short_command_of(word: &[u8]) -> Option<Command>
 {
     if word == b"audit".as_slice() {
         Some(Command::Audit)
+    } else if word == b"upgrade".as_slice() {
+        Some(Command::Upgrade)
     } else {
         None
     }

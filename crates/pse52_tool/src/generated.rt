@@ -19,8 +19,8 @@ use std::sync::ledger::Ledger;
 use step_counter::Steps;
 use tick_num::Tick;
 
-// Writes the canonical text of a script.
-fn put_script<K: Sink>(script: &Script, sink: &mut K) -> Status
+/// Writes the canonical text of a script.
+pub(crate) fn put_script<K: Sink>(script: &Script, sink: &mut K) -> Status
     ensures told { Told result (record { status = Status.Done; text = canon script.now }) (K.text sink.old) (K.text sink.new) }
     ensures faults { SinkFaults result (K.faults sink.old) (K.faults sink.new) }
     ensures kind { IsWithoutSource result }

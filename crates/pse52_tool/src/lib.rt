@@ -1,4 +1,6 @@
 //! The tool: one call from the words and the bytes in to the trace out.
+//!
+//! Proved: `run_tool`: the theorem above.
 #![tactic(auto)]
 
 mod audit;
@@ -10,6 +12,7 @@ mod responses;
 mod runs;
 mod status;
 mod tool;
+mod upgrade;
 
 pub use command::Command;
 pub use status::Status;

@@ -6,12 +6,19 @@ ghost use Rattle.rt_io.specs.Causes.{Rose, GrewBy};
 ghost use Rattle.rt_io.specs.Whole.{TookAtMost};
 ghost use Rattle.script_table.specs.Table.{patterns};
 ghost use Rattle.script_table.specs.Read.{read};
-ghost use Rattle.machine_rules.specs.Machine.{trace};
+ghost use Rattle.machine_rules.specs.Machine.{bodies_of, trace};
+ghost use Rattle.machine_rules.specs.Runs.{opening};
+ghost use Rattle.machine_window.specs.Before.{RunsAsBefore};
+ghost use Rattle.machine_window.specs.Window.{RunKeepsWindows};
+ghost use Rattle.script_flat.specs.Next.{Place};
+ghost use Rattle.script_text.specs.Canon.{canon};
+ghost use Rattle.script_text.specs.Upgraded.{upgraded};
+ghost use Rattle.script_versions.specs.Versions.{RunsAlike};
 ghost use Rattle.machine_rules.specs.WellFormed.{IsWellFormed};
 ghost use Rattle.machine_flat.specs.Runnable.{IsRunnable};
 ghost use Rattle.script_gen.specs.Generated.{script_of};
 ghost use Rattle.script_tree.specs.declared.decl.Script.{Script};
-ghost use Rattle.pse52_tool.specs.Command.{command, limit_of, reads, words_limit, Audits, Compares, Divides, Generates, IsWithinLimit, Reads};
+ghost use Rattle.pse52_tool.specs.Command.{command, limit_of, reads, words_limit, Audits, Compares, HasSecondLimit, Divides, Generates, IsWithinLimit, Reads};
 ghost use Rattle.machine_rules.specs.Promises.{RunKeepsBudgets, RunStaysGood, busy_between};
 ghost use Rattle.pse52_tool.specs.Audited.{BreaksNoRule, BudgetsHold};
 ghost use Rattle.pse52_tool.specs.Few.{StepsAreFew};
@@ -28,6 +35,7 @@ use crate::generated::{soak, tell_generated};
 use crate::message::refused_line;
 use crate::responses::tell_responses;
 use crate::runs::print_run;
+use crate::upgrade::upgrade_text;
 use rt_io::{ReadEnd, Sink, Source, read_whole};
 use std::alloc::Global;
 use std::sync::ledger::Ledger;
@@ -123,6 +131,7 @@ fn answer_text<K: Sink, L: Ledger>(
         Command::Run(horizon) => answer_run(alloc, text, horizon, sink, steps),
         Command::Check(horizon) => check_text(alloc, text, horizon, sink, steps),
         Command::Audit => audit_text(alloc, text, sink),
+        Command::Upgrade => upgrade_text(alloc, text, sink),
         Command::ResponseTimes(bound) => tell_responses(alloc, text, bound, sink, steps),
         Command::Gen(seed) => tell_generated(alloc, seed, sink),
         Command::Soak(seed, horizon) => soak(alloc, seed, horizon, sink, steps),
@@ -135,17 +144,18 @@ fn answer_text<K: Sink, L: Ledger>(
 /// list machine. `check N` reads it whole, at most 67,108,864 bytes, splits it at its first line `%%` into a script and a
 /// trace, and tells whether the trace is the script's; `Differs` comes with the first line that differs. `audit` reads it whole, at
 /// most 67,108,864 bytes, splits it so into a head of servers and a trace, and tells whether the trace keeps their budgets;
-/// `Breach` comes with the first line that breaks a rule, and the least rule that it breaks. `rta N` reads it
-/// whole, at most 67,108,864 bytes, and tells the least response times of its tasks, up to N ticks. `gen S` writes the
+/// `Breach` comes with the first line that breaks a rule, and the least rule that it breaks. `upgrade` reads it whole, at most
+/// 1,048,576 bytes, and writes the canonical text of its script as one of version 2. `rta N` reads it whole,
+/// at most 67,108,864 bytes, and tells the least response times of its tasks, up to N ticks. `gen S` writes the
 /// canonical text of the generated script of number S, and `soak S N` runs that script to tick N and writes the closing
 /// lines of its trace; these two leave the source as it is, and answer `Done`, `WriteFault` or `OutOfMemory`. Where the words are no
 /// command the answer is `Usage`, or `WriteFault` where its line could not be written; that takes no memory and no byte.
 /// Then come `ReadFault` or `TooLong`, by the bytes read; then `NoTrace`, where `check` or `audit` finds no line `%%`, or `TooLong`,
 /// where the script in front of it has more than 1,048,576 bytes; then `Refused`, where the script, the text of tasks or the head of
-/// servers has a fault; then the answer. `OutOfMemory` may come in place of any of these but `Usage`, before
+/// servers has a fault; then `TooLong`, where `upgrade` would write more than 1,048,576 bytes; then the answer. `OutOfMemory` may come in place of any of these but `Usage`, before
 /// anything is written. A fault of the source or the sink is answered only where its count of faults rose in this call.
 /// Nothing is written before the source was read to its end, or to one byte more than the limit.
-#[tactic(auto, using(crate::proofs::Promises::head_runs, crate::proofs::Promises::stays_good, crate::proofs::Promises::keeps_budgets, crate::proofs::Promises::generated_stays_good, crate::proofs::Promises::generated_keeps_budgets, crate::proofs::Promises::numbers_small, crate::proofs::Promises::one_reading, crate::proofs::Promises::breaks_none))]
+#[tactic(auto, using(crate::proofs::Promises::head_runs, crate::proofs::Promises::stays_good, crate::proofs::Promises::keeps_budgets, crate::proofs::Promises::generated_stays_good, crate::proofs::Promises::generated_keeps_budgets, crate::proofs::Promises::numbers_small, crate::proofs::Promises::one_reading, crate::proofs::Promises::breaks_none, crate::proofs::Promises::keeps_windows, crate::proofs::Promises::reads_upgraded, crate::proofs::Promises::runs_alike, crate::proofs::Promises::runs_as_before))]
 pub fn run_tool<S: Source, K: Sink, L: Ledger>(
     alloc: Global,
     words: &[String],
@@ -183,6 +193,17 @@ pub fn run_tool<S: Source, K: Sink, L: Ledger>(
     // The trace of no script that is read breaks a rule, where no step sets a policy.
     ensures breaks_none { (bytes : List ℕ) (script : Script) → read patterns bytes ≡ Ok script → BreaksNoRule script }
 
+    // In every window of a period a strict thread runs at most its budget of ticks at its high priority.
+    ensures windows { (bytes : List ℕ) (script : Script) → read patterns bytes ≡ Ok script → RunKeepsWindows script }
+
+    // A script as one of version 2 is read from its canonical text, and has the same events and closing lines. One of version 1 has the
+    // run that it had before there were strict servers.
+    ensures upgrades_read { (bytes : List ℕ) (script : Script) → read patterns bytes ≡ Ok script
+        → read patterns (canon (upgraded script)) ≡ Ok (upgraded script) }
+    ensures upgrades_alike { (script : Script) (n : ℕ) → RunsAlike (upgraded script) script n }
+    ensures first_versions { (bytes : List ℕ) (script : Script) → read patterns bytes ≡ Ok script → script.version ≡ 1
+        → RunsAsBefore (bodies_of script) (opening {P = Place} script) }
+
     // A run has at most one step more than there are eventful instants before its horizon.
     ensures busy { (n : ℕ) (bytes : List ℕ) → command (map string_bytes words.now) ≡ Some (Command.Run n) → S.rest source.old ≡ Some bytes
         → StepsAreFew n bytes steps.old steps.new }
@@ -201,10 +222,10 @@ pub fn run_tool<S: Source, K: Sink, L: Ledger>(
     ensures generates { Generates (command (map string_bytes words.now)) → IsWithoutSource result }
     ensures unread { Generates (command (map string_bytes words.now)) → source.new ≡ source.old }
 
-    // Too long means that one byte more than the limit was taken, or that the script in front of a trace is too long.
+    // Too long means that one byte more than the limit was taken, or that the script in front of a trace or the text to write is too long.
     ensures too_long { result ≡ Status.TooLong
         → GrewBy (words_limit (map string_bytes words.now) + 1) (S.taken source.old) (S.taken source.new)
-        ⊎ (Compares (command (map string_bytes words.now)) × ReadWhole (words_limit (map string_bytes words.now))
+        ⊎ (HasSecondLimit (command (map string_bytes words.now)) × ReadWhole (words_limit (map string_bytes words.now))
         (S.rest source.old) (S.rest source.new) (S.taken source.old) (S.taken source.new)) }
     ensures too_long_text { result ≡ Status.TooLong → Appends (K.text sink.old) (K.text sink.new) too_long_line }
 

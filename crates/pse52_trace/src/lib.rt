@@ -1,5 +1,8 @@
 //! The text of a trace: what each event prints, and a tracer that prints it.
 //!
+//! Proved: `put` appends the line of the event or latches a failure, after which nothing is written; a line has at most 256 bytes
+//! (`short`).
+//!
 //! docs/TRACE.md explains each line to its reader.
 #![tactic(auto)]
 

@@ -1,15 +1,14 @@
 -- What fits goes from the states of a run to the kernel that is in them.
 use Rattle.std.proofs.Common.{◌≡◌, ◌∙◌, ◌≤◌, ◌^◌, ◌+◌, ℕ, suc, List, [], ◌∷◌, Bool, true, false, Option, None, Some, ap, arith, length, refl, subst, sym}
 use Rattle.std.specs.Prelude.{slice_index_or, ◌==◌, IfSome}
-use Rattle.thread_lists.specs.Threads.{times}
 use Rattle.script_flat.specs.declared.cursor.Cursor.{Cursor}
 use Rattle.script_flat.specs.declared.op.Op.{Op}
 use Rattle.script_flat.specs.Flat as flat
-use Rattle.machine_rules.specs.declared.dispatch.LastDispatch.{LastDispatch}
 use Rattle.machine_rules.specs.State.{Machine, Status, Thread, Waiting, blocked, dormant, ended, runnable}
 use Rattle.machine_rules.specs.Threads.{can_run, is_blocked, is_runnable, thread_at, waiting_in}
 use Rattle.machine_rules.specs.Turns.{Turn, becomes, changes, with_thread}
-use Rattle.machine_rules.specs.Dispatch.{dispatch_of, dispatches, head}
+use Rattle.machine_rules.specs.Dispatch.{head}
+use Rattle.machine_rules.specs.Ticks.{prepares}
 use Rattle.machine_rules.specs.DueItems.{instant, item_bound}
 use Rattle.leap_rules.specs.Leap.{later_by}
 use Rattle.leap_rules.specs.Quiet.{after_ticks}
@@ -18,9 +17,6 @@ use Rattle.machine_rules.proofs.Reading.{changed-length, thread-other}
 use Rattle.machine_rules.specs.Threads.{no_thread}
 use Rattle.machine_flat.specs.FlatBodies.{flat_bodies}
 use Rattle.machine_flat.specs.KnownCalls.{Objects}
-use Rattle.machine_moves.proofs.Runs.Listed.{AllRun, head_can_run}
-use Rattle.machine_moves.proofs.Runs.Ticks.{dispatched}
-use Rattle.machine_moves.proofs.Waiters.Best.{Each}
 use Rattle.thread_blocks.specs.Unused.{IsUnused}
 use Rattle.std.specs.Option.{option_map_or}
 use Rattle.machine_rules.specs.GoodState.{is_in_condition_wait}
@@ -34,6 +30,8 @@ use Rattle.rt_kernel.specs.Completes.{CanAct}
 use Rattle.kernel_laws.specs.Counts.{Counts, counts_in, counts_of}
 use Rattle.rt_kernel.specs.Fits.{Fits, FitsLeap, ItemsFit}
 use Rattle.rt_kernel.proofs.ChargeKeeps.{charge_keeps, charge_same}
+use Rattle.rt_kernel.proofs.HeadRuns.{head_runs}
+use Rattle.rt_kernel.proofs.Prepared.{ServersAlone, fits_prepared, kernel_prepared, with_threads}
 
 -- ---- the objects stay the same
 
@@ -51,60 +49,56 @@ instant_fits p q state fit =
     let there : Fits (objects_in (record p { machine = m })) p.code m = subst (λ (o : Objects). Fits o p.code m) (sym (objects_same p m here.counts)) here in
     subst (λ (x : Kernel). Fits (objects_in x) x.code x.machine) (sym state) there
 
--- ---- the head can run
-
-not_both : {X : Type 0} (b : Bool) → b ≡ false → b ≡ true → X
-not_both b off on = let a : true ≡ false = sym on ∙ off in absurd cc
-
-here_once : (u : ℕ) (us : List ℕ) → times u (u ∷ us) ≡ 0 → ⊥
-here_once u us e = grind arith
-
-none_later : (t u : ℕ) (us : List ℕ) → times t (u ∷ us) ≡ 0 → times t us ≡ 0
-none_later t u us e = omega (arith, e)
-
-module _ {P : Type 0} (m : Machine P) where
-  each_runs : (ts : List ℕ) → ((t : ℕ) → can_run m t ≡ false → times t ts ≡ 0) → Each (λ (t : ℕ). can_run m t ≡ true) ts
-  each_runs [] none = tt
-  each_runs (u ∷ us) none = (first (can_run m u) refl, each_runs us (λ t off. none_later t u us (none t off)))
-    where
-      first : (b : Bool) → can_run m u ≡ b → can_run m u ≡ true
-      first true e = e
-      first false e = absurd (here_once u us (none u e))
-
-  all_run : (lists : List (List ℕ)) → ((t i : ℕ) → can_run m t ≡ false → times t (slice_index_or lists i []) ≡ 0) → AllRun m lists
-  all_run [] none = tt
-  all_run (ts ∷ lists) none = (each_runs ts (λ t off. none t 0 off), all_run lists (λ t i off. none t (suc i) off))
-
-  pub head_runs : (t : ℕ) → StoodRight m → head m ≡ Some t → can_run m t ≡ true
-  head_runs t stood e = head_can_run m t (all_run m.lists stood.others) e
-
 -- ---- so it may have a tick
 
-head_fits : (o : Objects) (code : flat.NumberedBodies (List Op)) (m : Machine Cursor) (last : LastDispatch) (t : ℕ) → StoodRight m → head m ≡ Some t → Fits o code m → FitsLeap o code (record m { last = last }) t
-head_fits o code m last t stood e fit = record {
-  thread = fit.top t e;
-  runs = head_runs m t stood e;
-  waits = record { mutexes = fit.items.waits.mutexes; rests = fit.items.waits.rests; own_none = fit.items.waits.own_none };
-  joins = record { joiners = fit.joins.joiners; ends = fit.joins.ends };
+head_fits : (o : Objects) (code : flat.NumberedBodies (List Op)) (m : Machine Cursor) (s : Turn Cursor) (t : ℕ) → ServersAlone m s → StoodRight m → head m ≡ Some t → Fits o code m → FitsLeap o code (with_threads s.machine.threads s.machine.last m) t
+head_fits o code m s t q stood e fit = record {
+  thread = fits_prepared o code m.now t m s q (fit.top t e);
+  runs = ap is_runnable (status_at t) ∙ head_runs m t stood e;
+  waits = record {
+    mutexes = λ u. subst (λ (x : Status). WaitKnowsMutex (length m.mutexes) (waiting_in x)) (sym (status_at u)) (fit.items.waits.mutexes u);
+    rests = λ u blocked. q.unused u (fit.items.waits.rests u (sym (ap is_blocked (status_at u)) ∙ blocked));
+    own_none = λ u waits. fit.items.waits.own_none u (sym (ap (λ (x : Status). option_map_or (λ (w : Waiting). is_in_condition_wait w.wait) (waiting_in x) false) (status_at u)) ∙ waits);
+  };
+  joins = record {
+    joiners = λ v u is. ap is_blocked (status_at u) ∙ fit.joins.joiners v u (sym (ap (λ (th : Thread Cursor). th.joiner) (q.each v)) ∙ is);
+    ends = λ u v w waits is. (let known = fit.joins.ends u v w (sym (ap waiting_in (status_at u)) ∙ waits) is in let many = q.many in omega (arith, known, many));
+  };
   pends = record { calls = fit.items.pends.calls; timers = fit.items.pends.timers; queues = fit.items.pends.queues; youngest = fit.items.pends.youngest };
-  signals = record { timers = fit.items.signals.timers; registrations = fit.items.signals.registrations; senders = fit.items.signals.senders };
+  signals = record {
+    timers = fit.items.signals.timers;
+    registrations = fit.items.signals.registrations;
+    senders = λ u i x w waits is. fit.items.signals.senders u i x w (sym (ap waiting_in (status_at u)) ∙ waits) is;
+  };
   serial = fit.serial;
-  threads = fit.threads;
+  threads = q.many ∙ fit.threads;
 }
-
-pub dispatched_fits : (p l : Kernel) (to : Option ℕ) → to ≡ head p.machine → l ≡ after (dispatches (head p.machine)) p → StoodRight p.machine → Fits (objects_in p) p.code p.machine →
-    IfSome to (λ t. FitsLeap (objects_in l) l.code l.machine t)
-dispatched_fits p l to top state stood fit = subst (λ (o : Option ℕ). IfSome o (λ t. FitsLeap (objects_in l) l.code l.machine t)) (sym top) (by_head (head p.machine) refl)
   where
+    status_at : (u : ℕ) → (thread_at s.machine u).status ≡ (thread_at m u).status
+    status_at u = ap (λ (th : Thread Cursor). th.status) (q.each u)
+
+pub prepared_fits : (p l : Kernel) → l ≡ after (prepares (head p.machine)) p → StoodRight p.machine → Fits (objects_in p) p.code p.machine → IfSome (head p.machine) (λ t. FitsLeap (objects_in l) l.code l.machine t)
+prepared_fits p l state stood fit = by_head (head p.machine) refl
+  where
+    q : ServersAlone p.machine (turn l)
+    q = kernel_prepared p l stood state
+
+    m : Machine Cursor
+    m = with_threads l.machine.threads l.machine.last p.machine
+
+    is : l ≡ record p { machine = m; direct = l.direct }
+    is = state ∙ ap (λ (x : Kernel). record p { machine = x.machine; direct = x.direct }) (sym state) ∙ ap (λ (x : Machine Cursor). record p { machine = x; direct = l.direct }) q.machine
+
     by_head : (o : Option ℕ) → head p.machine ≡ o → IfSome o (λ t. FitsLeap (objects_in l) l.code l.machine t)
     by_head None e = tt
     by_head (Some t) e =
-        let last = dispatch_of (head p.machine) in
-        let there : FitsLeap (objects_in (record p { machine = (dispatches (head p.machine) (turn p)).machine })) p.code (dispatches (head p.machine) (turn p)).machine t =
-        subst (λ (m : Machine Cursor). FitsLeap (objects_in (record p { machine = m })) p.code m t) (sym (dispatched (head p.machine) (turn p))) (head_fits (objects_in p) p.code p.machine last t stood e fit) in
-        subst (λ (x : Kernel). FitsLeap (objects_in x) x.code x.machine t) (sym state) there
+        subst (λ (x : Kernel). FitsLeap (objects_in x) x.code x.machine t) (sym is)
+        (head_fits (objects_in p) p.code p.machine (turn l) t q stood e fit)
 
 -- ---- and its effect may count on this
+
+not_both : {X : Type 0} (b : Bool) → b ≡ false → b ≡ true → X
+not_both b off on = let a : true ≡ false = sym on ∙ off in absurd cc
 
 blocked_rests : (s : Status) → is_blocked s ≡ true → is_runnable s ≡ false
 blocked_rests (dormant at) e = refl

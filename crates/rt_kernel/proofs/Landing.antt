@@ -7,22 +7,22 @@ use Rattle.script_flat.specs.declared.cursor.Cursor.{Cursor}
 use Rattle.machine_rules.specs.Agenda.{agenda}
 use Rattle.machine_rules.specs.Bodies.{Bodies}
 use Rattle.machine_rules.specs.Delivery.{sweeps}
-use Rattle.machine_rules.specs.Dispatch.{dispatch_of, dispatches, head}
+use Rattle.machine_rules.specs.Dispatch.{head}
 use Rattle.machine_rules.specs.DueItems.{handles, instant, item_done, items_done, next_item}
 use Rattle.machine_rules.specs.Runs.{Ran, ticks}
 use Rattle.machine_rules.specs.Servers.{has_high}
 use Rattle.machine_rules.specs.State.{Machine}
 use Rattle.machine_rules.specs.Threads.{thread_at, top_left}
-use Rattle.machine_rules.specs.Ticks.{tick_ends, unless_killed}
+use Rattle.machine_rules.specs.Ticks.{prepares, tick_ends, unless_killed}
 use Rattle.machine_rules.specs.Turns.{Turn, becomes, changes, settles_since, ◌▷◌}
 use Rattle.machine_rules.specs.Units.{in_unit}
 use Rattle.machine_rules.proofs.BehindTicks.{item_done_behind, sweeps_behind}
 use Rattle.machine_rules.proofs.Instants.{completes_now, tick_ends_now}
 use Rattle.machine_flat.specs.FlatBodies.{flat_bodies}
-use Rattle.leap_rules.specs.Quiet.{after_ticks}
+use Rattle.leap_rules.specs.Quiet.{after_ticks, at_head}
 use Rattle.leap_rules.specs.Leap.{later_by, leap, leap_goes_on, leap_head, leap_length, leap_runs, length_from, ticks_to_next, unit_leapt}
 use Rattle.machine_leaps.proofs.Leaps.Law.{leap_runs_behind}
-use Rattle.machine_moves.proofs.Runs.Ticks.{dispatched}
+use Rattle.machine_leaps.proofs.Quiet.Charges.{prepared_machine}
 use Rattle.kernel_state.specs.Kernel.{Kernel, after, turn}
 use Rattle.kernel_state.proofs.Turns.{then_state_in}
 use Rattle.kernel_signals.specs.Sweeping.{CanSweep}
@@ -87,33 +87,26 @@ unit_now p l t k state =
     let was_high = has_high (thread_at s.machine t).server in
     ap (λ (x : Kernel). x.machine.now) state ∙ tick_ends_now was_high t (unit_leapt bodies k s.machine t taken s) ∙ completes_now bodies (top_left (thread_at charged.machine t).frames) t taken.unit charged
 
--- the dispatch leaves how long it runs
-last_aside : (p : Kernel) (near : ℕ) (o to : Option ℕ) → run_length (flat_bodies p.code) near o (record p.machine { last = dispatch_of to }) ≡ run_length (flat_bodies p.code) near o p.machine
-last_aside p near None to = refl
-last_aside p near (Some t) to = refl
+-- the machine as its head begins its tick
+pub at_head_is : (p l : Kernel) → p.direct ≡ [] → l ≡ after (prepares (head p.machine)) p → l.machine ≡ at_head p.machine
+at_head_is p l still state = ap (λ (x : Kernel). x.machine) state ∙ prepared_machine (flat_bodies p.code) (head p.machine) (turn p) still
 
--- as long as the head may run is as long as what the dispatch gave the processor to runs after it
-pub head_long : (p l : Kernel) (most near : ℕ) (to : Option ℕ) → to ≡ head p.machine → l ≡ after (dispatches (head p.machine)) p → near ≡ ticks_to_next most p.machine.now (agenda p.machine) →
+-- as long as the head may run is as long as it runs once all is prepared
+pub head_long : (p l : Kernel) (most near : ℕ) (to : Option ℕ) → p.direct ≡ [] → to ≡ head p.machine → l ≡ after (prepares (head p.machine)) p → near ≡ ticks_to_next most l.machine.now (agenda l.machine) →
     run_length (flat_bodies l.code) near to l.machine ≡ length_from (flat_bodies p.code) None most p.machine
-head_long p l most near to top state is_near =
+head_long p l most near to still top state is_near =
     let h = head p.machine in
-    let long = λ (o : Option ℕ) (n : ℕ) (x : Kernel). run_length (flat_bodies x.code) n o x.machine in
-    ap (λ (o : Option ℕ). long o near l) top
-    ∙ ap (long h near) state
-    ∙ ap (λ (m : Machine Cursor). long h near (record p { machine = m })) (dispatched h (turn p))
-    ∙ last_aside p near h h
-    ∙ ap (λ (n : ℕ). long h n p) is_near
+    ap (λ (o : Option ℕ). run_length (flat_bodies l.code) near o l.machine) top
+    ∙ ap (λ (x : Kernel). run_length (flat_bodies x.code) near h l.machine) state
+    ∙ ap (λ (n : ℕ). run_length (flat_bodies p.code) n h l.machine) is_near
+    ∙ ap (λ (m : Machine Cursor). run_length (flat_bodies p.code) (ticks_to_next most m.now (agenda m)) h m) (at_head_is p l still state)
     ∙ sym (length_near (flat_bodies p.code) most p.machine)
 
--- the dispatch leaves the instant
-pub head_now : (p l : Kernel) → l ≡ after (dispatches (head p.machine)) p → l.machine.now ≡ p.machine.now
-head_now p l state = ap (λ (x : Kernel). x.machine.now) state ∙ ap (λ (m : Machine Cursor). m.now) (dispatched (head p.machine) (turn p))
-
--- after the dispatch
-pub head_lands : (p l : Kernel) (most near : ℕ) (to : Option ℕ) → to ≡ head p.machine → l ≡ after (dispatches (head p.machine)) p → near ≡ ticks_to_next most p.machine.now (agenda p.machine) →
+-- after it
+pub head_lands : (p l : Kernel) (most near : ℕ) (to : Option ℕ) → p.direct ≡ [] → to ≡ head p.machine → l ≡ after (prepares (head p.machine)) p → near ≡ ticks_to_next most l.machine.now (agenda l.machine) →
     IsSweepable (after (leap_head (flat_bodies p.code) (length_from (flat_bodies p.code) None most p.machine)) p) →
     IfSome to (λ t. IsSweepable (after (leap_runs (flat_bodies l.code) (lasts_by near l.machine.quantum (in_unit (flat_bodies l.code) (thread_at l.machine t)).thread) (Some t)) l))
-head_lands p l most near to top state is_near lands =
+head_lands p l most near to still top state is_near lands =
     subst (λ (o : Option ℕ). IfSome o (λ t. IsSweepable (after (leap_runs (flat_bodies l.code) (lasts_by near l.machine.quantum (in_unit (flat_bodies l.code) (thread_at l.machine t)).thread) (Some t)) l))) (sym top) (by_head (head p.machine) refl)
   where
     h : Option ℕ
@@ -124,12 +117,12 @@ head_lands p l most near to top state is_near lands =
 
     there : IsSweepable (after (leap_runs (flat_bodies l.code) k h) l)
     there =
-        let both = then_state_in (λ b. dispatches h) (λ b. leap_runs b k h) p l (after (leap_runs (flat_bodies l.code) k h) l) (λ b. leap_runs_behind b k h) state refl in
+        let both = then_state_in (λ b. prepares h) (λ b. leap_runs b k h) p l (after (leap_runs (flat_bodies l.code) k h) l) (λ b. leap_runs_behind b k h) state refl in
         subst IsSweepable (sym both) lands
 
     as_long : (t : ℕ) → h ≡ Some t → k ≡ run_length (flat_bodies l.code) near (Some t) l.machine
     as_long t e =
-        sym (head_long p l most near h refl state is_near) ∙ ap (λ (o : Option ℕ). run_length (flat_bodies l.code) near o l.machine) e
+        sym (head_long p l most near h still refl state is_near) ∙ ap (λ (o : Option ℕ). run_length (flat_bodies l.code) near o l.machine) e
 
     by_head : (o : Option ℕ) → head p.machine ≡ o → IfSome o (λ t. IsSweepable (after (leap_runs (flat_bodies l.code) (lasts_by near l.machine.quantum (in_unit (flat_bodies l.code) (thread_at l.machine t)).thread) (Some t)) l))
     by_head None e = tt

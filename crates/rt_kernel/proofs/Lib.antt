@@ -1,5 +1,7 @@
 pub mod ChargeKeeps
 pub mod ComingUnits
+pub mod HeadRuns
+pub mod Prepared
 pub mod Fitting
 pub mod ItemsLaw
 pub mod Halfway
@@ -7,6 +9,7 @@ pub mod Running
 pub mod WholeTrace
 pub mod Opened
 pub mod Charged
+pub mod Begins
 pub mod Onward
 pub mod Passing
 pub mod ThreadLeap

@@ -6,26 +6,27 @@ use Rattle.pse52_trace.specs.declared.tracer.Tracer.{Tracer}
 use Rattle.pse52_trace.specs.Tells.{Tells}
 use Rattle.pse52_trace.proofs.Tells.{tells_nothing}
 use Rattle.script_flat.specs.declared.cursor.Cursor.{Cursor}
-use Rattle.machine_rules.specs.declared.dispatch.LastDispatch.TheVariants as last
 use Rattle.machine_rules.specs.Agenda.{agenda}
 use Rattle.machine_rules.specs.Bodies.{Bodies}
-use Rattle.machine_rules.specs.Dispatch.{dispatch_of, dispatches, head}
+use Rattle.machine_rules.specs.Dispatch.{head}
 use Rattle.machine_rules.specs.DueItems.{instant, item_bound, next_item}
 use Rattle.machine_rules.specs.State.{Machine}
 use Rattle.machine_rules.specs.Threads.{thread_at}
-use Rattle.machine_rules.specs.Ticks.{unless_killed}
+use Rattle.machine_rules.specs.Ticks.{prepares, unless_killed}
 use Rattle.machine_rules.specs.Turns.{Turn, becomes, turn_of}
 use Rattle.machine_rules.specs.Units.{in_unit}
 use Rattle.machine_rules.proofs.Counting.{instant_now}
-use Rattle.machine_moves.proofs.Runs.Since.{dispatched_direct}
-use Rattle.machine_moves.proofs.Runs.Ticks.{dispatched}
+use Rattle.machine_rules.proofs.Parts.{prepares_unended}
+use Rattle.machine_moves.proofs.Runs.Preparing.{IsReady, prepared}
 use Rattle.machine_flat.specs.FlatBodies.{flat_bodies}
 use Rattle.leap_rules.specs.Leap.{in_leaps, later_by, leap, leap_goes_on, leap_head, leap_length, leap_runs, length_from, ticks_to_next}
 use Rattle.leap_rules.specs.Quiet.{IsHandled}
 use Rattle.machine_leaps.proofs.Leaps.Ahead.{agenda_stays, nearer_by, nothing_yet}
 use Rattle.machine_leaps.proofs.Leaps.Going.{gone}
 use Rattle.machine_leaps.proofs.Leaps.Law.{leap_runs_behind}
-use Rattle.machine_leaps.proofs.Leaps.LastTick.{dispatched_again}
+use Rattle.machine_leaps.proofs.Quiet.AnyMachine.{handled_of}
+use Rattle.machine_leaps.proofs.Quiet.Charges.{stays_so}
+use Rattle.machine_leaps.proofs.Quiet.Prepared.{Begun, prepares_nothing}
 use Rattle.machine_leaps.proofs.Quiet.Ticks.{idle_items}
 use Rattle.kernel_events.specs.Calls.{objects_in}
 use Rattle.kernel_state.specs.Kernel.{Kernel, after, told, turn}
@@ -35,15 +36,18 @@ use Rattle.rt_kernel.specs.Fits.{Fits, FitsLeap, StaysFit}
 use Rattle.rt_kernel.specs.Landing.{IsSweepable}
 use Rattle.thread_blocks.specs.Lasting.{lasts_by}
 use Rattle.rt_kernel.specs.Reach.{run_length}
-use Rattle.rt_kernel.proofs.Fitting.{dispatched_fits, instant_fits}
-use Rattle.rt_kernel.proofs.Landing.{alive_lands, head_lands, head_long, head_now, instant_lands, leap_lands}
+use Rattle.rt_kernel.proofs.Fitting.{instant_fits, prepared_fits}
+use Rattle.rt_kernel.proofs.HeadRuns.{head_runs}
+use Rattle.rt_kernel.proofs.Landing.{alive_lands, head_lands, head_long, instant_lands, leap_lands}
 use Rattle.rt_kernel.proofs.LeapParts.{leap_goes_on_behind}
 use Rattle.rt_kernel.proofs.Leaping.{Leaping, leap_on, not_beyond}
 use Rattle.rt_kernel.proofs.Nearer.{nearest}
-use Rattle.rt_kernel.proofs.Onward.{charges_by}
+use Rattle.rt_kernel.proofs.Begins.{gone_begun}
+use Rattle.rt_kernel.proofs.Onward.{IsCalm, charges_by}
+use Rattle.rt_kernel.proofs.Prepared.{ServersAlone, kernel_prepared, stands_prepared}
 use Rattle.rt_kernel.proofs.Running.{items_fit, no_ticks, still_fits, turn_is}
 
--- k is where the last leap ended, l has the items of that instant handled, and p the dispatch of the thread done
+-- k is where the last leap ended, l has the items of that instant handled, and p what precedes the tick of the head done
 pub record Midway {K : Type 0} (text : K → Option (List ℕ)) (faults : K → ℕ) (start p : Kernel) (to : Option ℕ) (most near done before since : ℕ) (a d : Tracer K) : Type 0 where
   pub k : Kernel
   pub l : Kernel
@@ -56,9 +60,10 @@ pub record Midway {K : Type 0} (text : K → Option (List ℕ)) (faults : K → 
   pub stood : StoodRight l.machine
   pub alive : l.machine.killed ≡ None
   pub top : head l.machine ≡ to
-  pub given : p ≡ after (dispatches (head l.machine)) l
-  pub given_told : Tells text faults l.names c d (told (dispatches (head l.machine)) l)
-  pub is_near : near ≡ ticks_to_next (most - done) l.machine.now (agenda l.machine)
+  pub silent : l.direct ≡ []
+  pub given : p ≡ after (prepares (head l.machine)) l
+  pub given_told : Tells text faults l.names c d (told (prepares (head l.machine)) l)
+  pub is_near : near ≡ ticks_to_next (most - done) p.machine.now (agenda p.machine)
   pub stands : StoodRight p.machine
   pub quiet : p.direct ≡ []
 
@@ -73,8 +78,8 @@ module _ {K : Type 0} (text : K → Option (List ℕ)) (faults : K → ℕ) (sta
 
   -- before the first leap
   pub begun : (l p : Kernel) (to : Option ℕ) (most near before : ℕ) (a c d : Tracer K) → 1 ≤ most → StoodRight start.machine → start.direct ≡ [] → l ≡ after (instant (flat_bodies start.code)) start →
-      Tells text faults start.names a c (told (instant (flat_bodies start.code)) start) → StoodRight l.machine → l.direct ≡ [] → is_some l.machine.killed ≡ false → to ≡ head l.machine → p ≡ after (dispatches (head l.machine)) l →
-      Tells text faults l.names c d (told (dispatches (head l.machine)) l) → near ≡ ticks_to_next most l.machine.now (agenda l.machine) → Midway text faults start p to most near 0 before before a d
+      Tells text faults start.names a c (told (instant (flat_bodies start.code)) start) → StoodRight l.machine → l.direct ≡ [] → is_some l.machine.killed ≡ false → to ≡ head l.machine → p ≡ after (prepares (head l.machine)) l →
+      Tells text faults l.names c d (told (prepares (head l.machine)) l) → near ≡ ticks_to_next most p.machine.now (agenda p.machine) → Midway text faults start p to most near 0 before before a d
   begun l p to most near before a c d some stood quiet handled items_told stands still alive top given given_told near_is = record {
     k = start;
     l = l;
@@ -87,18 +92,16 @@ module _ {K : Type 0} (text : K → Option (List ℕ)) (faults : K → ℕ) (sta
     stood = stands;
     alive = no_signal l.machine.killed alive;
     top = sym top;
+    silent = still;
     given = given;
     given_told = given_told;
-    is_near = near_is ∙ ap (λ (n : ℕ). ticks_to_next n l.machine.now (agenda l.machine)) (sym all);
-    stands = subst StoodRight (sym at) (record { every = stands.every; within = stands.within; positive = stands.positive; runs = stands.runs; others = stands.others });
-    quiet = ap (λ (x : Kernel). x.direct) given ∙ dispatched_direct (head l.machine) (turn l) ∙ still;
+    is_near = near_is ∙ ap (λ (n : ℕ). ticks_to_next n p.machine.now (agenda p.machine)) (sym all);
+    stands = stands_prepared l.machine (turn p) (kernel_prepared l p stands given) stands;
+    quiet = ap (λ (x : Kernel). x.direct) given ∙ (prepares_unended (head l.machine) (turn l)).direct ∙ still;
   }
     where
       all : most - 0 ≡ most
       all = omega arith
-
-      at : p.machine ≡ record l.machine { last = dispatch_of (head l.machine) }
-      at = ap (λ (x : Kernel). x.machine) given ∙ dispatched (head l.machine) (turn l)
 
       no_signal : (o : Option ℕ) → is_some o ≡ false → o ≡ None
       no_signal None e = refl
@@ -153,8 +156,11 @@ module _ {K : Type 0} (text : K → Option (List ℕ)) (faults : K → ℕ) (sta
     fits_handled : Fits (objects_in m.l) m.l.code m.l.machine
     fits_handled = instant_fits m.k m.l m.handled (items_fit m.k m.leaping.running.quiet fit_here)
 
+    alone : ServersAlone m.l.machine (turn p)
+    alone = kernel_prepared m.l p m.stood m.given
+
     pub is_running : p.machine.killed ≡ None
-    is_running = ap (λ (x : Kernel). x.machine.killed) m.given ∙ ap (λ (x : Machine Cursor). x.killed) (dispatched (head m.l.machine) (turn m.l)) ∙ m.alive
+    is_running = ap (λ (x : Machine Cursor). x.killed) alone.machine ∙ m.alive
 
     still_instant : (instant (flat_bodies m.k.code) (turn_of m.k.machine)).machine ≡ m.l.machine
     still_instant =
@@ -163,20 +169,22 @@ module _ {K : Type 0} (text : K → Option (List ℕ)) (faults : K → ℕ) (sta
     -- and its leap ends in time
     pub in_time : (limit : ℕ) → start.machine.now + most ≤ limit → p.machine.now + max 1 near ≤ limit
     in_time limit early =
-        let here = head_now m.l p m.given in
+        let here = ap (λ (x : Machine Cursor). x.now) alone.machine in
         let there = ap (λ (x : Kernel). x.machine.now) m.handled ∙ instant_now (flat_bodies m.k.code) (turn m.k) in
         let far = not_beyond text faults start fit m.k most done before since a m.b m.leaping in
-        let reach = nearest (most - done) m.l.machine.now (agenda m.l.machine) in
+        let reach = nearest (most - done) p.machine.now (agenda p.machine) in
         let is = m.is_near in
         let left = m.left in
         omega (arith, early, here, there, far, reach, is, left)
 
-    -- its items are handled
-    pub are_handled : IsHandled p.machine
-    are_handled =
-        let h = subst IsHandled still_instant (fit_here.leaps 0).handled in
-        subst IsHandled (sym (ap (λ (x : Kernel). x.machine) m.given ∙ dispatched (head m.l.machine) (turn m.l)))
-        (record { nothing = h.nothing; lists = record { each_priority = h.lists.each_priority; placed = h.lists.placed; in_range = h.lists.in_range }; swept = h.swept })
+    -- the lists are right, and nothing is to be swept
+    pub is_calm : IsCalm (flat_bodies p.code) p.machine
+    is_calm =
+        let ready = handled_of (flat_bodies m.l.code) m.l.machine (subst IsHandled still_instant (fit_here.leaps 0).handled) in
+        let so = stays_so (flat_bodies m.l.code) (head m.l.machine) (turn m.l) (λ t e. head_runs m.l.machine t m.stood e) ready.stand ready.swept in
+        let there : p.machine ≡ (prepares (head m.l.machine) (turn m.l)).machine = ap (λ (x : Kernel). x.machine) m.given in
+        let code : flat_bodies m.l.code ≡ flat_bodies p.code = ap (λ (x : Kernel). flat_bodies x.code) (sym m.given) in
+        subst (λ (b : Bodies Cursor). IsCalm b p.machine) code (subst (IsCalm (flat_bodies m.l.code)) (sym there) (record { stand = so.stand; swept = λ alive u. so.swept m.alive u }))
 
     -- one leap more
     module _ (q : Kernel) (e : Tracer K) (j later : ℕ) (length : j ≡ run_length (flat_bodies p.code) near to p.machine)
@@ -192,10 +200,10 @@ module _ {K : Type 0} (text : K → Option (List ℕ)) (faults : K → ℕ) (sta
       run_told = subst (λ (o : Option ℕ). Tells text faults p.names d e (told (leap_runs (flat_bodies p.code) j o) p)) (sym m.top) tells
 
       from_head : q ≡ after (leap_head (flat_bodies m.l.code) j) m.l
-      from_head = then_state_in (λ b. dispatches h) (λ b. leap_runs b j h) m.l p q (λ b. leap_runs_behind b j h) m.given run_is
+      from_head = then_state_in (λ b. prepares h) (λ b. leap_runs b j h) m.l p q (λ b. leap_runs_behind b j h) m.given run_is
 
       head_told : Tells text faults m.l.names m.c e (told (leap_head (flat_bodies m.l.code) j) m.l)
-      head_told = then_told_in text faults (λ b. dispatches h) (λ b. leap_runs b j h) m.l p _ _ _ (λ b. leap_runs_behind b j h) m.given m.given_told run_told
+      head_told = then_told_in text faults (λ b. prepares h) (λ b. leap_runs b j h) m.l p _ _ _ (λ b. leap_runs_behind b j h) m.given m.given_told run_told
 
       goes_on : leap_goes_on (flat_bodies m.l.code) j (turn m.l) ≡ leap_head (flat_bodies m.l.code) j (turn m.l)
       goes_on = ap (λ (o : Option ℕ). unless_killed o (leap_head (flat_bodies m.l.code) j) (turn m.l)) m.alive
@@ -215,7 +223,7 @@ module _ {K : Type 0} (text : K → Option (List ℕ)) (faults : K → ℕ) (sta
       is_long : j ≡ leap_length (flat_bodies m.k.code) (most - done) m.k.machine
       is_long =
           length
-          ∙ head_long m.l p (most - done) near to (sym m.top) m.given m.is_near
+          ∙ head_long m.l p (most - done) near to m.silent (sym m.top) m.given m.is_near
           ∙ ap (λ (x : Kernel). length_from (flat_bodies x.code) None (most - done) x.machine) m.handled
           ∙ ap (λ (o : Option ℕ). length_from (flat_bodies m.k.code) o (most - done) (instant (flat_bodies m.k.code) (turn m.k)).machine) (sym m.alive ∙ ap (λ (x : Kernel). x.machine.killed) m.handled)
           ∙ ap (λ (s : Turn Cursor). (let ready = (instant (flat_bodies m.k.code) s).machine in length_from (flat_bodies m.k.code) ready.killed (most - done) ready)) (turn_is m.k m.leaping.running.quiet)
@@ -244,7 +252,7 @@ module _ {K : Type 0} (text : K → Option (List ℕ)) (faults : K → ℕ) (sta
     pub may_run : FitsLeap (objects_in p) p.code p.machine t
     may_run =
         subst (λ (o : Option ℕ). IfSome o (λ u. FitsLeap (objects_in p) p.code p.machine u)) m.top
-        (dispatched_fits m.l p (head m.l.machine) refl m.given m.stood (fits_handled p (Some t) most near done before since a d m))
+        (prepared_fits m.l p m.given m.stood (fits_handled p (Some t) most near done before since a d m))
 
     -- and where its leap ends a sweep could come
     pub may_sweep : IsSweepable (after (leap_runs (flat_bodies p.code) (lasts_by near p.machine.quantum (in_unit (flat_bodies p.code) (thread_at p.machine t)).thread) (Some t)) p)
@@ -254,34 +262,31 @@ module _ {K : Type 0} (text : K → Option (List ℕ)) (faults : K → ℕ) (sta
         let behind = instant_lands m.k m.l (most - done) m.leaping.running.quiet m.handled whole in
         let first = alive_lands m.l (most - done) (is_alive m.l.machine.killed m.alive) behind in
         subst (λ (o : Option ℕ). IfSome o (λ u. IsSweepable (after (leap_runs (flat_bodies p.code) (lasts_by near p.machine.quantum (in_unit (flat_bodies p.code) (thread_at p.machine u)).thread) (Some u)) p))) m.top
-        (head_lands m.l p (most - done) near (head m.l.machine) refl m.given m.is_near first)
+        (head_lands m.l p (most - done) near (head m.l.machine) m.silent refl m.given m.is_near first)
 
     -- where it was the thread's charge alone, and nothing is due yet, its next leap needs neither the items nor the dispatch
-    module _ (q : Kernel) (e : Tracer K) (j later : ℕ) (leaping : Leaping text faults start q most (done + j) before later a e) (alone : q ≡ after (charges_by t j p) p) (stood : StoodRight q.machine) (quiet : q.direct ≡ [])
-        (ahead : 1 ≤ near - j) where
-      at : p.machine ≡ record m.l.machine { last = dispatch_of (head m.l.machine) }
-      at = ap (λ (x : Kernel). x.machine) m.given ∙ dispatched (head m.l.machine) (turn m.l)
+    module _ (q : Kernel) (e : Tracer K) (j later : ℕ) (leaping : Leaping text faults start q most (done + j) before later a e) (charged : q ≡ after (charges_by t j p) p) (stood : StoodRight q.machine) (quiet : q.direct ≡ [])
+        (some : 1 ≤ j) (ahead : 1 ≤ near - j) where
+      ready : IsReady (head m.l.machine) p.machine
+      ready = subst (IsReady (head m.l.machine)) (sym (ap (λ (x : Kernel). x.machine) m.given)) (prepared (head m.l.machine) (turn m.l))
 
       there : q.machine ≡ gone (flat_bodies p.code) t j p.machine
-      there = ap (λ (x : Kernel). x.machine) alone
+      there = ap (λ (x : Kernel). x.machine) charged
 
       lives : q.machine.killed ≡ None
       lives = ap (λ (x : Machine Cursor). x.killed) there ∙ is_running p (Some t) most near done before since a d m
 
       first : head q.machine ≡ Some t
-      first = ap head there ∙ ap head at ∙ m.top
-
-      last_is : q.machine.last ≡ last.Ran t
-      last_is = ap (λ (x : Machine Cursor). x.last) there ∙ ap (λ (x : Machine Cursor). x.last) at ∙ ap dispatch_of m.top
+      first = ap head there ∙ ap head (alone p (Some t) most near done before since a d m).machine ∙ m.top
 
       still : turn q ≡ turn_of q.machine
       still = turn_is q quiet
 
-      coming : agenda q.machine ≡ agenda m.l.machine
-      coming = ap agenda there ∙ agenda_stays (flat_bodies p.code) t j p.machine ∙ ap agenda at
+      coming : agenda q.machine ≡ agenda p.machine
+      coming = ap agenda there ∙ agenda_stays (flat_bodies p.code) t j p.machine
 
-      comes_later : q.machine.now ≡ m.l.machine.now + j
-      comes_later = ap (λ (x : Machine Cursor). x.now) there ∙ ap (λ (x : Machine Cursor). x.now + j) at
+      comes_later : q.machine.now ≡ p.machine.now + j
+      comes_later = ap (λ (x : Machine Cursor). x.now) there
 
       fewer : most - (done + j) ≡ (most - done) - j
       fewer = omega arith
@@ -289,9 +294,9 @@ module _ {K : Type 0} (text : K → Option (List ℕ)) (faults : K → ℕ) (sta
       nearer : near - j ≡ ticks_to_next (most - (done + j)) q.machine.now (agenda q.machine)
       nearer =
           ap (λ (n : ℕ). n - j) m.is_near
-          ∙ sym (nearer_by j (most - done) m.l.machine.now (agenda m.l.machine))
-          ∙ ap (λ (n : ℕ). ticks_to_next n (m.l.machine.now + j) (agenda m.l.machine)) (sym fewer)
-          ∙ ap (λ (n : ℕ). ticks_to_next (most - (done + j)) n (agenda m.l.machine)) (sym comes_later)
+          ∙ sym (nearer_by j (most - done) p.machine.now (agenda p.machine))
+          ∙ ap (λ (n : ℕ). ticks_to_next n (p.machine.now + j) (agenda p.machine)) (sym fewer)
+          ∙ ap (λ (n : ℕ). ticks_to_next (most - (done + j)) n (agenda p.machine)) (sym comes_later)
           ∙ ap (ticks_to_next (most - (done + j)) q.machine.now) (sym coming)
 
       none : next_item q.machine ≡ None
@@ -300,15 +305,19 @@ module _ {K : Type 0} (text : K → Option (List ℕ)) (faults : K → ℕ) (sta
       no_items : instant (flat_bodies q.code) (turn q) ≡ turn q
       no_items = idle_items (flat_bodies q.code) (item_bound q.machine) (turn q) none
 
-      no_dispatch : dispatches (head q.machine) (turn q) ≡ turn q
+      -- and nothing is to be closed, given or opened
+      begun_here : Begun (Some t) q.machine
+      begun_here = subst (Begun (Some t)) (sym there) (gone_begun (flat_bodies p.code) t j p.machine some (subst (λ (o : Option ℕ). IsReady o p.machine) m.top ready))
+
+      no_dispatch : prepares (head q.machine) (turn q) ≡ turn q
       no_dispatch =
-          ap (λ (s : Turn Cursor). dispatches (head q.machine) s) still
-          ∙ ap (λ (o : Option ℕ). dispatches o (turn_of q.machine)) first
-          ∙ dispatched_again (flat_bodies q.code) t q.machine last_is
+          ap (λ (s : Turn Cursor). prepares (head q.machine) s) still
+          ∙ ap (λ (o : Option ℕ). prepares o (turn_of q.machine)) first
+          ∙ prepares_nothing (Some t) q.machine begun_here
           ∙ sym still
 
       before_end : done + j < most
-      before_end = let reach = nearest (most - done) m.l.machine.now (agenda m.l.machine) in let is = m.is_near in omega (arith, reach, is, ahead)
+      before_end = let reach = nearest (most - done) p.machine.now (agenda p.machine) in let is = m.is_near in omega (arith, reach, is, ahead)
 
       pub again : Midway text faults start q (Some t) most (near - j) (done + j) before later a e
       again = record {
@@ -323,6 +332,7 @@ module _ {K : Type 0} (text : K → Option (List ℕ)) (faults : K → ℕ) (sta
         stood = stood;
         alive = lives;
         top = first;
+        silent = quiet;
         given = sym (ap (λ (s : Turn Cursor). record q { machine = s.machine; direct = s.direct }) no_dispatch);
         given_told = subst (λ (s : Turn Cursor). Tells text faults q.names e e s.events) (sym no_dispatch) (tells_nothing text faults q.names e);
         is_near = nearer;

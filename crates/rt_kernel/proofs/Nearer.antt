@@ -11,6 +11,7 @@ use Rattle.machine_rules.specs.Dispatch.{head}
 use Rattle.machine_rules.specs.State.{Machine, Thread}
 use Rattle.machine_rules.specs.Threads.{thread_at, top_left}
 use Rattle.machine_rules.specs.Units.{in_unit}
+use Rattle.leap_rules.specs.Quiet.{at_head}
 use Rattle.leap_rules.specs.Leap.{capacity_left, head_lasts, length_from, slice_left, thread_lasts, ticks_to_next}
 use Rattle.rt_kernel.specs.Reach.{run_length}
 
@@ -36,6 +37,7 @@ module _ (most near : ℕ) (within : near ≤ most) where
   slice_near quantum slice (policy.Fifo p) = at_most
   slice_near quantum slice (policy.Rr p) = refl
   slice_near quantum slice (policy.Sporadic params) = at_most
+  slice_near quantum slice (policy.Strict params) = at_most
 
   capacity_near : (o : Option ServerState) → min near (capacity_left most o) ≡ min near (capacity_left near o)
   capacity_near None = at_most
@@ -68,5 +70,5 @@ module _ (most near : ℕ) (within : near ≤ most) where
   runs_near bodies m (Some t) = ap (max 1) (lasts_near m.quantum (in_unit bodies (thread_at m t)).thread)
 
 pub length_near : (bodies : Bodies Cursor) (most : ℕ) (m : Machine Cursor) →
-    length_from bodies None most m ≡ run_length bodies (ticks_to_next most m.now (agenda m)) (head m) m
-length_near bodies most m = runs_near most (ticks_to_next most m.now (agenda m)) (nearest most m.now (agenda m)) bodies m (head m)
+    length_from bodies None most m ≡ run_length bodies (ticks_to_next most (at_head m).now (agenda (at_head m))) (head m) (at_head m)
+length_near bodies most m = let h = at_head m in runs_near most (ticks_to_next most h.now (agenda h)) (nearest most h.now (agenda h)) bodies h (head m)

@@ -12,16 +12,17 @@ use Rattle.script_flat.specs.declared.unit.Unit.TheVariants as unit
 use Rattle.machine_rules.specs.Bodies.{Bodies}
 use Rattle.machine_rules.specs.Calls.{unit_effect}
 use Rattle.machine_rules.specs.Servers.{has_high}
-use Rattle.machine_rules.specs.State.{Thread}
+use Rattle.machine_rules.specs.State.{Machine, Thread}
 use Rattle.machine_rules.specs.Threads.{can_run, thread_at}
 use Rattle.machine_rules.specs.Ticks.{capacity_in, slice_is_used}
 use Rattle.machine_rules.specs.Turns.{Turn, becomes, changes, turn_of, ◌▷◌}
 use Rattle.machine_rules.specs.Units.{in_unit}
 use Rattle.machine_flat.specs.FlatBodies.{flat_bodies}
 use Rattle.leap_rules.specs.Leap.{later_by, leap_runs}
-use Rattle.leap_rules.specs.Quiet.{IsHandled, after_ticks}
+use Rattle.leap_rules.specs.Quiet.{after_ticks}
+use Rattle.machine_laws.proofs.Lists.Places.{Stand}
+use Rattle.machine_laws.proofs.Sweeps.Visits.{Quiet}
 use Rattle.machine_leaps.proofs.Leaps.Going.{gone, gone_can_run, gone_exec, leapt_alone}
-use Rattle.machine_leaps.proofs.Quiet.AnyMachine.{handled_of}
 use Rattle.thread_blocks.specs.Lasting.{used_up}
 use Rattle.thread_blocks.specs.Running.{only_takes_time}
 use Rattle.kernel_state.specs.Kernel.{Kernel, after, told, turn}
@@ -40,6 +41,11 @@ first_no a b e = grind arith
 pub second_no : (a b : Bool) → (a || b) ≡ false → b ≡ false
 second_no a b e = grind arith
 
+-- the ready lists are right, and no signal can be taken
+pub record IsCalm (bodies : Bodies Cursor) (m : Machine Cursor) : Type 0 where
+  pub stand : Stand m
+  pub swept : m.killed ≡ None → (u : ℕ) → Quiet bodies m u
+
 -- so many ticks of a thread in its unit
 abbrev pub charges_by : ℕ → ℕ → Kernel → Turn Cursor → Turn Cursor
 charges_by t k p s = s ▷ changes t (λ th. after_ticks k (in_unit (flat_bodies p.code) (thread_at p.machine t)).thread) ▷ becomes (later_by k)
@@ -47,7 +53,7 @@ charges_by t k p s = s ▷ changes t (λ th. after_ticks k (in_unit (flat_bodies
 module _ (p l : Kernel) (t k : ℕ) (state : l ≡ after (charges_by t k p) p) (quiet : p.direct ≡ []) (stood : StoodRight p.machine)
     (over : used_up (has_high (thread_at p.machine t).server) p.machine.quantum (after_ticks k (in_unit (flat_bodies p.code) (thread_at p.machine t)).thread) ≡ false)
     (idle : only_takes_time (in_unit (flat_bodies p.code) (thread_at p.machine t)).unit ≡ true)
-    (can : can_run p.machine t ≡ true) (alive : p.machine.killed ≡ None) (handled : IsHandled p.machine) where
+    (can : can_run p.machine t ≡ true) (alive : p.machine.killed ≡ None) (calm : IsCalm (flat_bodies p.code) p.machine) where
   abbrev bodies : Bodies Cursor
   bodies = flat_bodies p.code
 
@@ -59,11 +65,10 @@ module _ (p l : Kernel) (t k : ℕ) (state : l ≡ after (charges_by t k p) p) (
 
   alone : leap_runs bodies k (Some t) (turn p) ≡ turn_of (gone bodies t k p.machine)
   alone =
-      let ready = handled_of bodies p.machine handled in
       ap (leap_runs bodies k (Some t)) (turn_is p quiet)
-      ∙ leapt_alone bodies t k p.machine full ready.stand
+      ∙ leapt_alone bodies t k p.machine full calm.stand
       (first_no (slice_is_used spent.policy spent.slice p.machine.quantum) (has_high (thread_at p.machine t).server && capacity_in spent.server == 0) over)
-      (does_nothing bodies t (in_unit bodies (thread_at p.machine t)).unit idle) can (ready.swept alive)
+      (does_nothing bodies t (in_unit bodies (thread_at p.machine t)).unit idle) can (calm.swept alive)
 
   pub alone_state : l ≡ after (leap_runs bodies k (Some t)) p
   alone_state =
@@ -77,8 +82,7 @@ module _ (p l : Kernel) (t k : ℕ) (state : l ≡ after (charges_by t k p) p) (
 
   there : StoodRight (gone bodies t k p.machine)
   there =
-      let stand = (handled_of bodies p.machine handled).stand in
-      let exec_same = gone_exec bodies t k p.machine full stand in
+      let exec_same = gone_exec bodies t k p.machine full calm.stand in
       let can_same = gone_can_run bodies t k p.machine in
       record {
         every = stood.every;

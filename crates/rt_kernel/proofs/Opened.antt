@@ -18,6 +18,7 @@ use Rattle.machine_flat.specs.Runnable.{IsRunnable}
 use Rattle.machine_laws.proofs.Budgets.Kept.{run_budgets}
 use Rattle.machine_laws.proofs.Good.{lists_throughout, serials_throughout, swept_throughout}
 use Rattle.machine_laws.proofs.Items.{mutexes_throughout, servers_throughout, signals_throughout, waits_throughout}
+use Rattle.machine_laws.proofs.Servers.Latest.{latest_throughout}
 use Rattle.machine_leaps.proofs.Leaps.Scripts.{stays_ready}
 use Rattle.thread_laws.proofs.Frames.{all_placed}
 use Rattle.thread_laws.proofs.Within.{threads_are_within}
@@ -62,6 +63,7 @@ module _ (script : Script) (ok : IsRunnable script) (fits : IsWellFormed script)
         threads = kernel.threads;
         counts = kernel.counts;
         sweeps = kernel.sweeps;
+        latest = (latest_throughout bodies ranges script fits).each n most;
         good = record {
           lists = (lists_throughout bodies ranges script fits).each n most;
           mutexes = (mutexes_throughout bodies ranges script fits).each n most;

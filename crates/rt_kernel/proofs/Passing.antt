@@ -17,6 +17,7 @@ use Rattle.machine_rules.specs.Units.{in_unit}
 use Rattle.machine_rules.proofs.Reading.{changed-length, thread-same}
 use Rattle.machine_moves.proofs.Waiters.Best.{running_within}
 use Rattle.machine_laws.proofs.Lists.Kept.{Plans, in_unit_plans}
+use Rattle.machine_leaps.proofs.Quiet.Once.{less_high}
 use Rattle.machine_flat.specs.FlatBodies.{flat_bodies}
 use Rattle.leap_rules.specs.Leap.{later_by}
 use Rattle.leap_rules.specs.Quiet.{server_after}
@@ -55,15 +56,12 @@ high_of : (k : ℕ) (o : Option ServerState) → (has_high o && capacity_in (opt
 high_of k None left = refl
 high_of k (Some s) left = by_high (is_high s) refl
   where
-    still : (c : ℕ) (b : Bool) → (nat_lt 0 c && b) ≡ true → (c - k == 0) ≡ false → (nat_lt 0 (c - k) && b) ≡ true
-    still c b h l = grind arith
-
     by_high : (b : Bool) → is_high s ≡ b → has_high (Some (server_after k s)) ≡ has_high (Some s)
     by_high false h = ap (λ (b : Bool). has_high (Some (if b then charge_ticks k s else s))) h
     by_high true h =
         let some : ((charge_ticks k s).capacity == 0) ≡ false = (rw h at left) in
         let more : (s.capacity - k == 0) ≡ false = subst (λ (x : ServerState). (x.capacity == 0) ≡ false) (charge_ticks_is k s) some in
-        let same : is_high (charge_ticks k s) ≡ true = ap is_high (charge_ticks_is k s) ∙ still s.capacity (nat_lt (length s.pending) s.params.max) h more in
+        let same : is_high (charge_ticks k s) ≡ true = ap is_high (charge_ticks_is k s) ∙ less_high k s h more in
         ap (λ (b : Bool). has_high (Some (if b then charge_ticks k s else s))) h ∙ ap (λ (b : Bool). is_some (if b then Some (charge_ticks k s) else None)) same ∙ sym (ap (λ (b : Bool). is_some (if b then Some s else None)) h)
 
 pub high_same : (bodies : Bodies Cursor) (near quantum : ℕ) (units : List ℕ) (th : Thread Cursor) → ArePassed bodies near quantum units th → has_high (past bodies units th).server ≡ has_high th.server

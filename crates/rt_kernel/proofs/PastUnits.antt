@@ -5,7 +5,6 @@ use Rattle.machine_rules.specs.Threads.{thread_at}
 use Rattle.machine_rules.proofs.Reading.{thread-same}
 use Rattle.machine_moves.proofs.Waiters.Best.{running_within}
 use Rattle.machine_flat.specs.FlatBodies.{flat_bodies}
-use Rattle.leap_rules.specs.Quiet.{IsHandled}
 use Rattle.kernel_events.specs.Calls.{objects_in}
 use Rattle.kernel_state.specs.Kernel.{Kernel, after}
 use Rattle.kernel_state.specs.Stood.{StoodRight}
@@ -13,9 +12,9 @@ use Rattle.rt_kernel.specs.Fits.{FitsLeap, StaysFit}
 use Rattle.thread_blocks.specs.Running.{ArePassed, all_of, run_for}
 use Rattle.rt_kernel.specs.Passing.{HasLeapt, MayLeapOn, leap_of, passed_by}
 use Rattle.rt_kernel.proofs.Leaping.{Leaping}
-use Rattle.rt_kernel.proofs.Onward.{alone_state, alone_stood, alone_told, charges_by}
+use Rattle.rt_kernel.proofs.Onward.{IsCalm, alone_state, alone_stood, alone_told, charges_by}
 use Rattle.rt_kernel.proofs.Passing.{more_passed, none_passed}
-use Rattle.rt_kernel.proofs.Midway.{Midway, again, are_handled, in_time, is_running, leapt_on, may_run, may_sweep}
+use Rattle.rt_kernel.proofs.Midway.{Midway, again, in_time, is_calm, is_running, leapt_on, may_run, may_sweep}
 
 module _ {K : Type 0} (text : K → Option (List ℕ)) (faults : K → ℕ) (start : Kernel) (fit : StaysFit start (objects_in start)) where
   same_as : (p q : Kernel) (to : Option ℕ) (most near near' done done' before since since' : ℕ) (a d : Tracer K) → p ≡ q → near ≡ near' → done ≡ done' → since ≡ since' →
@@ -46,8 +45,8 @@ module _ {K : Type 0} (text : K → Option (List ℕ)) (faults : K → ℕ) (sta
       alive : p.machine.killed ≡ None
       alive = is_running text faults start fit p (Some t) most near done before since a d m
 
-      handled : IsHandled p.machine
-      handled = are_handled text faults start fit p (Some t) most near done before since a d m
+      calm : IsCalm (flat_bodies p.code) p.machine
+      calm = is_calm text faults start fit p (Some t) most near done before since a d m
 
       known : t < length p.machine.threads
       known = running_within p.machine.threads t fits.runs
@@ -56,7 +55,10 @@ module _ {K : Type 0} (text : K → Option (List ℕ)) (faults : K → ℕ) (sta
       there = thread-same p.machine t (λ th. run_for (flat_bodies p.code) k (thread_at p.machine t)) known
 
       stood : StoodRight (after (charges_by t k p) p).machine
-      stood = alone_stood p (after (charges_by t k p) p) t k refl m.quiet m.stands each.0.left each.0.idle fits.runs alive handled
+      stood = alone_stood p (after (charges_by t k p) p) t k refl m.quiet m.stands each.0.left each.0.idle fits.runs alive calm
+
+      some : 1 ≤ k
+      some = let long = each.0.long in omega (arith, long)
 
       ahead : 1 ≤ near - k
       ahead = let within = each.0.within in omega (arith, within)
@@ -64,11 +66,11 @@ module _ {K : Type 0} (text : K → Option (List ℕ)) (faults : K → ℕ) (sta
       leaping : Leaping text faults start (after (charges_by t k p) p) most (done + k) before (since + 1) a d
       leaping =
           leapt_on text faults start fit p (Some t) most near done before since a d m (after (charges_by t k p) p) d k (since + 1) each.0.long
-          (alone_state p (after (charges_by t k p) p) t k refl m.quiet m.stands each.0.left each.0.idle fits.runs alive handled)
-          (alone_told p (after (charges_by t k p) p) t k refl m.quiet m.stands each.0.left each.0.idle fits.runs alive handled text faults d) stood m.quiet refl
+          (alone_state p (after (charges_by t k p) p) t k refl m.quiet m.stands each.0.left each.0.idle fits.runs alive calm)
+          (alone_told p (after (charges_by t k p) p) t k refl m.quiet m.stands each.0.left each.0.idle fits.runs alive calm text faults d) stood m.quiet refl
 
       next : Midway text faults start (after (charges_by t k p) p) (Some t) most (near - k) (done + k) before (since + 1) a d
-      next = again text faults start fit p t most near done before since a d m (after (charges_by t k p) p) d k (since + 1) leaping refl stood m.quiet ahead
+      next = again text faults start fit p t most near done before since a d m (after (charges_by t k p) p) d k (since + 1) leaping refl stood m.quiet some ahead
 
   module _ (p : Kernel) (t most near before : ℕ) (a d : Tracer K) (m : Midway text faults start p (Some t) most near 0 before before a d) where
     -- the thread may leap from behind whichever units it passes

@@ -29,7 +29,8 @@ use Rattle.machine_laws.proofs.Cleanups.Frames.{Clean}
 use Rattle.machine_laws.proofs.Cleanups.Kept.{items_clean, run_all_clean}
 use Rattle.machine_laws.proofs.Cleanups.Units.{BeforeIn, charged_before, guards_too}
 use Rattle.machine_flat.specs.FlatBodies.{code_of, flat_bodies}
-use Rattle.flat_traces.proofs.Agrees.{carry, flat_agrees}
+use Rattle.flat_traces.specs.Places.{carry}
+use Rattle.flat_traces.proofs.Agrees.{flat_agrees}
 use Rattle.machine_rules.proofs.Parts.{by_following}
 use Rattle.machine_places.proofs.CarriedReads.{thread_carries}
 use Rattle.machine_places.proofs.CarriedTicks.{in_unit_carries, items_done_carries}

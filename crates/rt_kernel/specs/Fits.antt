@@ -14,6 +14,7 @@ use Rattle.leap_rules.specs.Quiet.{IsHandled}
 use Rattle.machine_rules.specs.Bodies.{Bodies}
 use Rattle.machine_flat.specs.KnownCalls.{Objects}
 use Rattle.machine_flat.specs.Placed.{ArePlaced}
+use Rattle.machine_laws.specs.Rest.{RunsAreLatest}
 use Rattle.thread_laws.specs.Within.{IsWithin}
 use Rattle.kernel_state.specs.Kernel.{Kernel, turn}
 use Rattle.kernel_state.specs.Pending.{PendingFits, SignalsFit}
@@ -40,6 +41,7 @@ pub record Fits (o : Objects) (code : flat.NumberedBodies (List Op)) (m : Machin
   pub threads : length m.threads ≡ o.threads
   pub counts : counts_of m ≡ counts_in o
   pub sweeps : CanBeSwept code m
+  pub latest : RunsAreLatest m
   pub good : IsGood (flat_bodies code) m
 
 -- a thread of a machine may have ticks

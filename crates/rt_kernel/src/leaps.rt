@@ -71,8 +71,9 @@ pub(crate) fn leaps<K: Sink, L: Ledger>(
     if p.is_killed() {
         return most;
     }
+    let to = p.prepare(out);
     let near = p.ticks_to_next(most);
-    let Some(t) = p.dispatch(out) else {
+    let Some(t) = to else {
         let k = near.max(1);
         p.leap(k, steps);
         return k;

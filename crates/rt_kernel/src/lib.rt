@@ -1,4 +1,10 @@
 //! The kernel: it runs the flat code of a script in leaps, which come to the same as ticks, and prints what happens.
+//!
+//! Proved: over flat code: `Kernel::open` stands for the opening state; `run_until` leaves the state of the machine run tick by
+//! tick and tells its events, from any instant, in at most one step more than there are eventful instants between the instant and
+//! the horizon (`busy`); it answers `Killed` exactly where a signal has ended the process by then (`killed`, `ended`); the state
+//! that it leaves has its lists, owners, servers and waits right (`good`), and in a run from the beginning each server keeps its
+//! budget at every instant (`budgets`); `report` prints the closing lines; `running`, `now`, `totals`.
 #![tactic(auto)]
 
 mod calls;

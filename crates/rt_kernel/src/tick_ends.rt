@@ -28,18 +28,6 @@ fn use_slice(p: &mut Parts, t: Tid)
     }
 }
 
-// What was consumed becomes a pending replenishment.
-#[inline(never)]
-fn plan<K: Sink>(p: &mut Parts, t: Tid, out: &mut Tracer<'_, K>)
-    requires known { t < length p.old.names }
-    requires used { 1 ≤ consumed_in (thread_at p.old.machine t).server }
-    ensures state { p.new ≡ after (plans t) p.old }
-    ensures told { Tells K.text K.faults p.old.names out.old out.new (told (plans t) p.old) }
-{
-    let r = p.plan_thread(t);
-    p.tell(&Event::Plan(t, r.amount, r.due), out);
-}
-
 // The capacity is used up.
 #[inline(never)]
 fn exhaust<K: Sink>(p: &mut Parts, t: Tid, out: &mut Tracer<'_, K>)
@@ -50,7 +38,7 @@ fn exhaust<K: Sink>(p: &mut Parts, t: Tid, out: &mut Tracer<'_, K>)
     ensures told { Tells K.text K.faults p.old.names out.old out.new (told (ends_tick exhausting t) p.old) }
 {
     p.tell(&Event::Exhaust(t), out);
-    plan(p, t, out);
+    p.plan(t, out);
     p.move_unless_boosted(t);
 }
 
@@ -64,7 +52,7 @@ fn end_by_rule<K: Sink>(p: &mut Parts, was_high: bool, t: Tid, out: &mut Tracer<
     ensures told { Tells K.text K.faults p.old.names out.old out.new (told (ends_tick (tick_end was_high p.old.machine.quantum (thread_at p.old.machine t)) t) p.old) }
 {
     match p.tick_end(t, was_high) {
-        TickEnd::Planning => plan(p, t, out),
+        TickEnd::Planning => p.plan(t, out),
         TickEnd::Exhausting => exhaust(p, t, out),
         TickEnd::Slicing => use_slice(p, t),
         TickEnd::Nothing => return false,

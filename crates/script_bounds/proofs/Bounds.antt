@@ -1,6 +1,6 @@
 -- What is read without a fault has few threads, and bodies that are not too long and not nested too deeply.
-use Rattle.std.proofs.Common.{ℕ, ◌+◌, ◌-◌, ◌≤◌, ◌≡◌, max, List, [], ◌∷◌, ◌++◌, length, Option, None, Some, Ok, Bool, true, false, refl, subst, arith}
-use Rattle.std.specs.Prelude.{nat_lt, ◌||◌, if◌then◌else◌, option_to_list}
+use Rattle.std.proofs.Common.{ap, ℕ, ◌+◌, ◌-◌, ◌≤◌, ◌≡◌, max, List, [], ◌∷◌, ◌++◌, length, Option, None, Some, Ok, Bool, true, false, refl, subst, arith}
+use Rattle.std.specs.Prelude.{Result, Err, nat_lt, ◌||◌, if◌then◌else◌, option_to_list}
 use Rattle.std.specs.Option.{option_map}
 use Rattle.std.proofs.lemmas.List.Elements.{All-nil}
 use Rattle.std.proofs.lemmas.Bool.{ltb-false}
@@ -33,7 +33,12 @@ use Rattle.script_table.specs.Ranges.{Tally, no_tally, tallied, entered, left, o
 use Rattle.script_table.specs.Calls.{call_of}
 use Rattle.script_table.specs.Meaning.{object_decl, action_decl, plain_step, runs_cleanup}
 use Rattle.script_table.specs.Build.{Opened, Built, put_step, opens, after_form, after, closed, nothing_built, built_from, script_of_built, script_of}
-use Rattle.script_table.specs.Read.{said, faults, verdict, read}
+use Rattle.script_table.specs.declared.version.Version.{Version}
+use Rattle.script_table.specs.declared.version.Version.TheVariants.{One, Two}
+use Rattle.script_table.specs.Versions.{version_number, most_of}
+use Rattle.script_table.specs.Heading.{Beginning, heading}
+use Rattle.script_table.specs.Read.{Tables, said_in, faults_in, verdict, read_in, read_behind, read}
+use Rattle.canonical_law.proofs.Wider.{most_kept}
 use Rattle.script_bounds.proofs.Steps.{AtMost, made_at_most, plain_at_most}
 use Rattle.script_bounds.proofs.Blocks.{Within, put_within, opens_within, closes_within}
 use Rattle.script_bounds.proofs.Decls.{IsShort, IsShallow, Declares, own_thread, object_added, action_added, declares_weaker, declares_more, put_declares, opens_declares, one_closes_declares}
@@ -47,7 +52,8 @@ record Keeps (t : Tally) (b : Built) : Type 0 where
   within : Within t.depth t.steps b.blocks
   declares : Declares t.counts.threads (t.counts.threads + others t.counts) b.blocks b.decls
   steps : t.steps ≤ 65536
-  threads : t.counts.threads ≤ 64
+  most : t.most ≤ 256
+  threads : t.counts.threads ≤ t.most
   others_few : others t.counts ≤ 64
 
 -- an object is no thread, no handler and no cleanup handler
@@ -71,27 +77,27 @@ object_others c mutex = refl
 record CountsBody (f : BodyForm) (c : Counts) : Type 0 where
   threads : (counted c (body_kind f)).threads ≡ c.threads + own_thread (form.Body f)
   all : (counted c (body_kind f)).threads + others (counted c (body_kind f)) ≡ (c.threads + others c) + 1
-  few : is_over (counted c (body_kind f)) (body_kind f) ≡ false → c.threads ≤ 64 → (counted c (body_kind f)).threads ≤ 64
-  others_few : is_over (counted c (body_kind f)) (body_kind f) ≡ false → others c ≤ 64 → others (counted c (body_kind f)) ≤ 64
+  few : (most : ℕ) → is_over most (counted c (body_kind f)) (body_kind f) ≡ false → c.threads ≤ most → (counted c (body_kind f)).threads ≤ most
+  others_few : (most : ℕ) → is_over most (counted c (body_kind f)) (body_kind f) ≡ false → others c ≤ 64 → others (counted c (body_kind f)) ≤ 64
 
 body_counts : (f : BodyForm) (c : Counts) → CountsBody f c
 body_counts body.Handler c = record {
   threads = omega arith;
   all = omega arith;
-  few = λ free few. few;
-  others_few = λ free few. ltb-false 64 ((c.handlers + 1) + c.cleanups) free;
+  few = λ most free few. few;
+  others_few = λ most free few. ltb-false 64 ((c.handlers + 1) + c.cleanups) free;
 }
 body_counts body.Cleanup c = record {
   threads = omega arith;
   all = omega arith;
-  few = λ free few. few;
-  others_few = λ free few. ltb-false 64 (c.handlers + (c.cleanups + 1)) free;
+  few = λ most free few. few;
+  others_few = λ most free few. ltb-false 64 (c.handlers + (c.cleanups + 1)) free;
 }
 body_counts thread c = record {
   threads = omega arith;
   all = omega arith;
-  few = λ free few. ltb-false 64 (c.threads + 1) free;
-  others_few = λ free few. few;
+  few = λ most free few. ltb-false most (c.threads + 1) free;
+  others_few = λ most free few. few;
 }
 
 -- a block that opens, and a line that closes, leave the counts as they are
@@ -100,22 +106,24 @@ record SameCounts (t t' : Tally) : Type 0 where
   others_same : others t'.counts ≡ others t.counts
 
 record Enters (t t' : Tally) : Type 0 where
+  most : t'.most ≡ t.most
   counts : SameCounts t t'
   steps : t'.steps ≡ t.steps + 1
   depth : t'.depth ≡ t.depth + 1
 
 record Leaves (t t' : Tally) : Type 0 where
+  most : t'.most ≡ t.most
   counts : SameCounts t t'
   steps : t'.steps ≡ t.steps
   depth : t'.depth ≡ t.depth - 1
 
 enters : (t : Tally) (c : Closer) → Enters t (entered t c)
-enters t closer.End = record { counts = record { threads = refl; others_same = refl }; steps = refl; depth = refl }
-enters t closer.Pop = record { counts = record { threads = refl; others_same = refl }; steps = refl; depth = refl }
+enters t closer.End = record { most = refl; counts = record { threads = refl; others_same = refl }; steps = refl; depth = refl }
+enters t closer.Pop = record { most = refl; counts = record { threads = refl; others_same = refl }; steps = refl; depth = refl }
 
 leaves : (t : Tally) (c : Closer) → Leaves t (left t c)
-leaves t closer.End = record { counts = record { threads = refl; others_same = refl }; steps = refl; depth = refl }
-leaves t closer.Pop = record { counts = record { threads = refl; others_same = refl }; steps = refl; depth = refl }
+leaves t closer.End = record { most = refl; counts = record { threads = refl; others_same = refl }; steps = refl; depth = refl }
+leaves t closer.Pop = record { most = refl; counts = record { threads = refl; others_same = refl }; steps = refl; depth = refl }
 
 left_false : (a b : Bool) → (a || b) ≡ false → a ≡ false
 left_false true b e = e
@@ -133,6 +141,7 @@ keeps_step t b s most free k = record {
   declares = put_declares s t.counts.threads (t.counts.threads + others t.counts) t.counts.threads (t.counts.threads + others t.counts) b.blocks b.decls
       (omega arith) (omega arith) k.declares;
   steps = ltb-false 65536 (t.steps + 1) free;
+  most = k.most;
   threads = k.threads;
   others_few = k.others_few;
 }
@@ -147,7 +156,8 @@ keeps_open t t' b f words e short shallow k =
       declares = opens_declares (form.Block f) words t.counts.threads (t.counts.threads + others t.counts) t'.counts.threads (t'.counts.threads + others t'.counts)
           b.blocks b.decls (omega (arith, e.counts.threads)) (omega (arith, e.counts.threads, e.counts.others_same)) k.declares;
       steps = ltb-false 65536 t'.steps short;
-      threads = omega (arith, k.threads, e.counts.threads);
+      most = omega (arith, k.most, e.most);
+      threads = omega (arith, k.threads, e.counts.threads, e.most);
       others_few = omega (arith, k.others_few, e.counts.others_same);
     }
 
@@ -169,7 +179,8 @@ keeps_close es t t' b run e k =
           (omega (arith, e.counts.threads)) (omega (arith, e.counts.threads, e.counts.others_same))
           (closes_declares es b.quantum b.blocks b.decls run t.depth t.steps t.counts.threads (t.counts.threads + others t.counts) k.steps k.within k.declares);
       steps = omega (arith, k.steps, e.steps);
-      threads = omega (arith, k.threads, e.counts.threads);
+      most = omega (arith, k.most, e.most);
+      threads = omega (arith, k.threads, e.counts.threads, e.most);
       others_few = omega (arith, k.others_few, e.counts.others_same);
     }
 
@@ -177,7 +188,7 @@ keeps_close es t t' b run e k =
 keeps_after : (es : List Entry) (t : Tally) (b : Built) (f : Form) (words : List (List ℕ)) → is_too_many (tallied t f) f ≡ false → Keeps t b →
     Keeps (tallied t f) (after_form es b f words)
 keeps_after es t b form.Quantum words free k =
-    record { within = k.within; declares = k.declares; steps = k.steps; threads = k.threads; others_few = k.others_few }
+    record { within = k.within; declares = k.declares; steps = k.steps; most = k.most; threads = k.threads; others_few = k.others_few }
 keeps_after es t b (form.Object f) words free k =
     let c = counted t.counts (object_kind f) in
     let e = object_threads t.counts f in
@@ -189,6 +200,7 @@ keeps_after es t b (form.Object f) words free k =
           (declares_more (object_decl f words) 0 0 t.counts.threads (t.counts.threads + others t.counts) b.blocks b.blocks b.decls
           (object_added f words) (omega arith) (omega arith) k.declares);
       steps = k.steps;
+      most = k.most;
       threads = omega (arith, k.threads);
       others_few = omega (arith, k.others_few);
     }
@@ -198,6 +210,7 @@ keeps_after es t b (form.Action f) words free k =
       declares = declares_more (action_decl es f words) 0 0 t.counts.threads (t.counts.threads + others t.counts) b.blocks b.blocks b.decls
           (action_added es f words) (omega arith) (omega arith) k.declares;
       steps = k.steps;
+      most = k.most;
       threads = k.threads;
       others_few = k.others_few;
     }
@@ -209,8 +222,9 @@ keeps_after es t b (form.Body f) words free k =
       declares = opens_declares (form.Body f) words t.counts.threads (t.counts.threads + others t.counts) c.threads (c.threads + others c) b.blocks b.decls
           (omega (arith, e.threads)) (omega (arith, e.all)) k.declares;
       steps = k.steps;
-      threads = e.few free k.threads;
-      others_few = e.others_few free k.others_few;
+      most = k.most;
+      threads = e.few t.most free k.threads;
+      others_few = e.others_few t.most free k.others_few;
     }
 keeps_after es t b (form.Step f) words free k = keeps_step t b (plain_step f words) (plain_at_most f words) free k
 keeps_after es t b (form.Call f) words free k =
@@ -240,27 +254,28 @@ not_so : (holds : Bool) (kind : FaultKind) → when holds kind ≡ [] → holds 
 not_so true kind e = cc
 not_so false kind e = refl
 
-pub record IsBounded (script : Script) : Type 0 where
-  pub few : length (threads_of script) ≤ 64
+pub record IsBounded (most : ℕ) (script : Script) : Type 0 where
+  pub few : length (threads_of script) ≤ most
   pub flattenable : IsFlattenable (bodies_of script.decls).all
 
 -- what is built of lines with no fault of the third phase
-bounded_from : (es : List Entry) (n : ℕ) (t : Tally) (b : Built) (ss : List Said) → phase_three n t ss ≡ [] → Keeps t b →
-    IsBounded (script_of_built (built_from es b ss))
-bounded_from es n t b [] none k = record {
+bounded_from : (v : Version) (es : List Entry) (n : ℕ) (t : Tally) (b : Built) (ss : List Said) → phase_three n t ss ≡ [] → Keeps t b →
+    IsBounded t.most (script_of_built v (built_from es b ss))
+bounded_from v es n t b [] none k = record {
   few = omega (arith, k.threads, k.declares.few);
-  flattenable = record { numbered = omega (arith, k.threads, k.others_few, k.declares.numbered); short = k.declares.short; nested = k.declares.nested };
+  flattenable = record { numbered = omega (arith, k.most, k.threads, k.others_few, k.declares.numbered); short = k.declares.short; nested = k.declares.nested };
 }
-bounded_from es n t b (s ∷ ss) none k =
+bounded_from v es n t b (s ∷ ss) none k =
     let t' = tallied t s.row.form in
     let here = no_kinds 3 s.line (range_faults t' s) (nil_left (faults_at 3 s.line (range_faults t' s)) (phase_three n t' ss) none) in
     let limits = nil_right (server_faults s.row.form s.words) (when (is_too_many t' s.row.form) TooMany)
     (nil_right (place_faults range_fault s.row.places s.words) (server_faults s.row.form s.words ++ when (is_too_many t' s.row.form) TooMany) here) in
-    bounded_from es n t' (after es b s) ss (nil_right (faults_at 3 s.line (range_faults t' s)) (phase_three n t' ss) none)
-    (keeps_after es t b s.row.form s.words (not_so (is_too_many t' s.row.form) TooMany limits) k)
+    subst (λ m. IsBounded m (script_of_built v (built_from es (after es b s) ss))) (most_kept t s.row.form)
+    (bounded_from v es n t' (after es b s) ss (nil_right (faults_at 3 s.line (range_faults t' s)) (phase_three n t' ss) none)
+    (keeps_after es t b s.row.form s.words (not_so (is_too_many t' s.row.form) TooMany limits) k))
 
-keeps_nothing : Keeps no_tally nothing_built
-keeps_nothing = record {
+keeps_nothing : (most : ℕ) → most ≤ 256 → Keeps (no_tally most) nothing_built
+keeps_nothing most few = record {
   within = record { deep = refl; held = omega arith; levels = tt };
   declares = record {
     few = omega arith;
@@ -269,6 +284,7 @@ keeps_nothing = record {
     nested = All-nil IsShallow;
   };
   steps = omega arith;
+  most = few;
   threads = omega arith;
   others_few = omega arith;
 }
@@ -294,14 +310,53 @@ accepts : (o : Option Fault) (script accepted : Script) → verdict o script ≡
 accepts None script accepted e = record { none = refl; same = cc }
 accepts (Some f) script accepted e = cc
 
--- whatever the rows of the table are
-pub read_is_bounded : (rows : List Row) (text : List ℕ) (script : Script) → read rows text ≡ Ok script → IsBounded script
-unfolding read
-read_is_bounded rows text script e =
-    let ss = said rows text in
-    let one = phase_one rows 1 (Some []) (lines_of text) in
+few_of : (v : Version) → most_of v ≤ 256
+few_of One = omega arith
+few_of Two = omega arith
+
+part_is_bounded : (rows : List Row) (b : Beginning) (script : Script) → read_in rows b ≡ Ok script → IsBounded (most_of b.version) script
+unfolding read_in
+part_is_bounded rows b script e =
+    let ss = said_in rows b in
+    let t = no_tally (most_of b.version) in
+    let last = b.number + length b.lines in
+    let one = phase_one rows b.number (Some []) b.lines in
     let two = phase_two (declared ss) ss in
-    let three = phase_three (1 + length (lines_of text)) no_tally ss in
-    let a = accepts (least (faults rows text)) (script_of (declared ss).names ss) script e in
-    let none = nil_right two three (nil_right one (two ++ three) (no_faults (faults rows text) a.none)) in
-    subst IsBounded a.same (bounded_from (declared ss).names (1 + length (lines_of text)) no_tally nothing_built ss none keeps_nothing)
+    let three = phase_three last t ss in
+    let a = accepts (least (faults_in rows b)) (script_of b.version (declared ss).names ss) script e in
+    let none = nil_right two three (nil_right one (two ++ three) (no_faults (faults_in rows b) a.none)) in
+    subst (IsBounded (most_of b.version)) a.same (bounded_from b.version (declared ss).names last t nothing_built ss none (keeps_nothing (most_of b.version) (few_of b.version)))
+
+own_version : (rows : List Row) (b : Beginning) (script : Script) → read_in rows b ≡ Ok script → version_number b.version ≡ script.version
+unfolding read_in
+own_version rows b script e =
+    let ss = said_in rows b in
+    ap (λ (s : Script). s.version) (accepts (least (faults_in rows b)) (script_of b.version (declared ss).names ss) script e).same
+
+-- the limits of a script's version
+record Limited (script : Script) : Type 0 where
+  version : Version
+  number : version_number version ≡ script.version
+  bounded : IsBounded (most_of version) script
+
+within_limits : (tables : Tables) (found : Result Beginning Fault) (script : Script) → read_behind tables found ≡ Ok script → Limited script
+within_limits tables (Err f) script e = absurd (let h : Err f ≡ Ok script = e in cc)
+within_limits tables (Ok b) script e = record { version = b.version; number = own_version (tables b.version) b script e; bounded = part_is_bounded (tables b.version) b script e }
+
+-- whatever the rows of the tables are
+read_is_within : (tables : Tables) (text : List ℕ) (script : Script) → read tables text ≡ Ok script → Limited script
+unfolding read
+read_is_within tables text script e = within_limits tables (heading 1 (lines_of text)) script e
+
+pub read_is_bounded : (tables : Tables) (text : List ℕ) (script : Script) → read tables text ≡ Ok script → IsBounded 256 script
+read_is_bounded tables text script e =
+    let h = read_is_within tables text script e in
+    let few = few_of h.version in
+    record { few = omega (arith, h.bounded.few); flattenable = h.bounded.flattenable }
+
+first_version : (v : Version) (script : Script) → version_number v ≡ script.version → script.version ≡ 1 → length (threads_of script) ≤ most_of v → length (threads_of script) ≤ 64
+first_version One script number one few = few
+first_version Two script number one few = absurd (omega (arith, number, one))
+
+pub first_is_bounded : (tables : Tables) (text : List ℕ) (script : Script) → read tables text ≡ Ok script → script.version ≡ 1 → length (threads_of script) ≤ 64
+first_is_bounded tables text script e one = let h = read_is_within tables text script e in first_version h.version script h.number one h.bounded.few

@@ -23,11 +23,11 @@ use Rattle.script_table.specs.declared.form.MessageCall.TheVariants as message
 use Rattle.script_tree.specs.declared.name_kind.NameKind.{NameKind}
 use Rattle.script_tree.specs.declared.name_kind.NameKind.TheVariants as kind
 use Rattle.script_table.specs.Names.{Entry}
-use Rattle.script_table.specs.Operands.{map_two, number_in, amount_at, priority_at, operand_at, signal_at, signals_at, named_at, fifo_at, rr_at, sporadic_at}
+use Rattle.script_table.specs.Operands.{map_two, number_in, amount_at, priority_at, operand_at, signal_at, signals_at, named_at, fifo_at, rr_at, sporadic_at, strict_at}
 use Rattle.script_table.specs.Calls.{thread_call, mutex_call, sem_call, time_call, signal_call, message_call, call_of}
 use Rattle.machine_flat.specs.KnownCalls.{Objects, KnowsObjects, IsNumber, IsOperand, IsSignal}
 use Rattle.machine_flat.specs.Runnable.{HasBudget, CallHasBudget}
-use Rattle.script_bounds.proofs.Operands.{mapped, mapped_two, mapped_three, mapped_four, mapped_five, Any, anything, IsFrom, number_within, amount_within, operand_within, signal_within, fifo_within, rr_within, sporadic_within, AllBelow, named_within}
+use Rattle.script_bounds.proofs.Operands.{mapped, mapped_two, mapped_three, mapped_four, mapped_five, Any, anything, IsFrom, number_within, amount_within, operand_within, signal_within, fifo_within, rr_within, sporadic_within, strict_within, AllBelow, named_within}
 
 -- how many there are of each kind that calls name by number
 abbrev pub objects_by : (NameKind → ℕ) → Objects
@@ -84,6 +84,7 @@ module _ (count : NameKind → ℕ) (es : List Entry) (below : AllBelow count es
   thread_fits thread.SetschedFifo = of_policy (fifo_at 3 words) (fifo_within 3 words)
   thread_fits thread.SetschedRr = of_policy (rr_at 3 words) (rr_within 3 words)
   thread_fits thread.SetschedSporadic = of_policy (sporadic_at words) (sporadic_within words)
+  thread_fits thread.SetschedStrict = of_policy (strict_at words) (strict_within words)
 
   mutex_fits : (f : MutexCall) → IfSome (mutex_call es f words) (Fits count)
   mutex_fits mutex.Lock = of_name kind.Mutex calls.Lock (λ k h. (h, tt))

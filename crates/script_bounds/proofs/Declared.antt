@@ -19,7 +19,7 @@ use Rattle.script_table.specs.declared.form.BodyForm.{BodyForm}
 use Rattle.script_table.specs.declared.form.BodyForm.TheVariants as body
 use Rattle.script_tree.specs.declared.name_kind.NameKind.TheVariants.{Handler}
 use Rattle.script_table.specs.Names.{Entry}
-use Rattle.script_table.specs.Operands.{map_two, number_in, amount_at, priority_at, signal_at, name_at, named_at, fifo_at, rr_at, sporadic_at}
+use Rattle.script_table.specs.Operands.{map_two, number_in, amount_at, priority_at, signal_at, name_at, named_at, fifo_at, rr_at, sporadic_at, strict_at}
 use Rattle.script_table.specs.Meaning.{protect, queue, kind_of_object, object_decl, ignores, runs, action_decl, thread_at, thread_dormant, kind_of_body, body_decl}
 use Rattle.machine_rules.specs.Declarations.{ThreadDecl, declared_thread}
 use Rattle.machine_rules.specs.Semaphores.{semaphore_limit}
@@ -28,7 +28,7 @@ use Rattle.machine_flat.specs.KnownCalls.{IsSignal}
 use Rattle.machine_flat.specs.Runnable.{ActionNames, HasBudget, HasSignal, HasValue}
 use Rattle.script_bounds.proofs.Bodies.{BodyHas, bodies_have}
 use Rattle.script_bounds.proofs.EachDecl.{Each, each_weaker}
-use Rattle.script_bounds.proofs.Operands.{IsFrom, mapped, mapped_two, number_within, signal_within, Any, anything, fifo_within, rr_within, sporadic_within}
+use Rattle.script_bounds.proofs.Operands.{IsFrom, mapped, mapped_two, number_within, signal_within, Any, anything, fifo_within, rr_within, sporadic_within, strict_within}
 
 -- P holds of each call of a body, a thread's policy has a budget, a semaphore a value, and a timer a signal
 abbrev pub KindRuns : (Call → Type 0) → Kind → Type 0
@@ -112,6 +112,8 @@ module _ (handlers : ℕ) (P : Call → Type 0) where
   own_kind_runs body.RrDormant words steps inside = dormant_runs (rr_at 3 words) steps inside (rr_within 3 words)
   own_kind_runs body.SporadicAt words steps inside = at_runs (sporadic_at words) (amount_at 9 words) steps inside (sporadic_within words)
   own_kind_runs body.SporadicDormant words steps inside = dormant_runs (sporadic_at words) steps inside (sporadic_within words)
+  own_kind_runs body.StrictAt words steps inside = at_runs (strict_at words) (amount_at 9 words) steps inside (strict_within words)
+  own_kind_runs body.StrictDormant words steps inside = dormant_runs (strict_at words) steps inside (strict_within words)
   own_kind_runs body.Handler words steps inside = inside
   own_kind_runs body.Cleanup words steps inside = inside
 

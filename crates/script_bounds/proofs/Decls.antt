@@ -23,7 +23,7 @@ use Rattle.script_table.specs.declared.form.BodyForm.{BodyForm}
 use Rattle.script_table.specs.declared.form.BodyForm.TheVariants as body
 use Rattle.script_tree.specs.declared.name_kind.NameKind.TheVariants as kind
 use Rattle.script_table.specs.Names.{Entry}
-use Rattle.script_table.specs.Operands.{map_two, number_in, amount_at, priority_at, signal_at, name_at, named_at, fifo_at, rr_at, sporadic_at}
+use Rattle.script_table.specs.Operands.{map_two, number_in, amount_at, priority_at, signal_at, name_at, named_at, fifo_at, rr_at, sporadic_at, strict_at}
 use Rattle.script_table.specs.Meaning.{protect, queue, kind_of_object, object_decl, runs, ignores, action_decl, thread_at, thread_dormant, body_decl, block_step}
 use Rattle.script_table.specs.Build.{Opened, Built, put_step, close_one}
 
@@ -195,6 +195,8 @@ module _ (steps : Block) (short : IsShort steps) (nested : IsShallow steps) wher
   decl_added body.RrDormant words = thread_dormant_added (name_at 1 words) (rr_at 3 words)
   decl_added body.SporadicAt words = thread_at_added (name_at 1 words) (sporadic_at words) (amount_at 9 words)
   decl_added body.SporadicDormant words = thread_dormant_added (name_at 1 words) (sporadic_at words)
+  decl_added body.StrictAt words = thread_at_added (name_at 1 words) (strict_at words) (amount_at 9 words)
+  decl_added body.StrictDormant words = thread_dormant_added (name_at 1 words) (strict_at words)
   decl_added body.Handler words = handler_added (name_at 1 words)
   decl_added body.Cleanup words = cleanup_added (name_at 1 words)
 

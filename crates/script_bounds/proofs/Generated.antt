@@ -162,7 +162,7 @@ module _ (number : ℕ) where
       let n : ℕ = length (handlers_of Own) in
       let all = decls_run n in
       record {
-        few = subst (λ k. k ≤ 64) (sym (length-threads count 0 (next (number % 65537)))) few_threads;
+        few = subst (λ k. k ≤ 256) (sym (length-threads count 0 (next (number % 65537)))) (let h = few_threads in omega arith);
         flattenable = flattenable;
         calls = all_bodies n (CallIsRunnable (objects_of Own)) Own.decls all;
         handlers = all_actions n (CallIsRunnable (objects_of Own)) Own.decls all;

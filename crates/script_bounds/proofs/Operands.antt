@@ -6,14 +6,14 @@ use Rattle.std.specs.Option.{IfSome, option_map}
 use Rattle.script_lex.proofs.Rejoined.{both}
 use Rattle.tick_num.specs.Parameters.{Parameters}
 use Rattle.script_tree.specs.declared.call.Operand.TheVariants.{Num, Reg}
-use Rattle.script_tree.specs.declared.policy.Policy.TheVariants.{Fifo, Rr, Sporadic}
+use Rattle.script_tree.specs.declared.policy.Policy.TheVariants.{Fifo, Rr, Sporadic, Strict}
 use Rattle.script_tree.specs.declared.name_kind.NameKind.{NameKind}
 use Rattle.script_tree.specs.Kinds.{same_kind}
 use Rattle.script_table.specs.Patterns.{greatest}
 use Rattle.script_table.specs.Words.{value_of, is_register}
 use Rattle.script_table.specs.Ranges.{word, is_within}
 use Rattle.script_table.specs.Names.{Entry, entry_of}
-use Rattle.script_table.specs.Operands.{map_two, map_three, map_four, map_five, number_in, amount_at, priority_at, operand_at, signal_at, number_of_kind, named_at, server_of, joined, server_at, fifo_at, rr_at, sporadic_at}
+use Rattle.script_table.specs.Operands.{map_two, map_three, map_four, map_five, number_in, amount_at, priority_at, operand_at, signal_at, number_of_kind, named_at, server_of, joined, server_at, fifo_at, rr_at, sporadic_at, strict_at}
 use Rattle.machine_flat.specs.KnownCalls.{IsNumber, IsOperand, IsSignal}
 use Rattle.machine_flat.specs.Runnable.{HasBudget}
 use Rattle.canonical_law.proofs.Bounds.{signal_of-small}
@@ -94,7 +94,7 @@ signal_case (Some k) small = small k refl
 pub signal_within : (k : ℕ) (words : List (List ℕ)) → IfSome (signal_at k words) IsSignal
 signal_within k words = signal_case (signal_at k words) (signal_of-small (word k words))
 
--- the parameters of a sporadic server
+-- the parameters of a server
 pub record IsServer (p : Parameters) : Type 0 where
   pub high : IsFrom 1 255 p.high
   pub low : IsFrom 1 255 p.low
@@ -137,6 +137,9 @@ rr_within k words = mapped Any HasBudget Rr (λ p h. tt) (priority_at k words) (
 
 pub sporadic_within : (words : List (List ℕ)) → IfSome (sporadic_at words) HasBudget
 sporadic_within words = mapped IsServer HasBudget Sporadic (λ p h. h.some_budget) (server_at words) (server_within words)
+
+pub strict_within : (words : List (List ℕ)) → IfSome (strict_at words) HasBudget
+strict_within words = mapped IsServer HasBudget Strict (λ p h. h.some_budget) (server_at words) (server_within words)
 
 -- the number of each entry is below how many there are of its kind
 abbrev pub AllBelow : (NameKind → ℕ) → List Entry → Type 0

@@ -15,8 +15,9 @@ use Rattle.script_table.specs.Table.{patterns}
 use Rattle.script_table.specs.Names.{Entry, declared}
 use Rattle.script_table.specs.Operands.{named_at}
 use Rattle.script_table.specs.Calls.{call_of}
+use Rattle.script_table.specs.Heading.{Beginning}
 use Rattle.script_table.specs.Build.{script_of}
-use Rattle.script_table.specs.Read.{said, read}
+use Rattle.script_table.specs.Read.{said_in, read}
 use Rattle.machine_rules.specs.Declarations.{handlers_of}
 use Rattle.machine_flat.specs.EachCall.{EachCall}
 use Rattle.machine_flat.specs.KnownCalls.{KnowsObjects, objects_of}
@@ -60,14 +61,14 @@ module _ (script : Script) (es : List Entry) (below : AllBelow (declared_count s
     none = tt;
     more = more_calls Runs;
     step = plain_calls Runs;
-    call = call_runs;
+    call = λ f words any. call_runs f words;
     block = λ f words run body inside. block_calls Runs es f words run body (block_runs f words run) inside;
     object = object_runs (length (handlers_of script)) Runs;
     action = λ f words. action_runs (length (handlers_of script)) Runs es f words (handler_known words);
-    body = body_runs (length (handlers_of script)) Runs;
+    body = λ f words steps any inside. body_runs (length (handlers_of script)) Runs f words steps inside;
   }
 
-decls_run : (script : Script) (es : List Entry) → IsBounded script → AllKnown es script.decls → Each (DeclRuns (length (handlers_of script)) (CallIsRunnable (objects_of script))) script.decls
+decls_run : (script : Script) (es : List Entry) → IsBounded 256 script → AllKnown es script.decls → Each (DeclRuns (length (handlers_of script)) (CallIsRunnable (objects_of script))) script.decls
     → IsRunnable script
 decls_run script es bounded known all =
     let ds : List Decl = script.decls in
@@ -86,12 +87,14 @@ decls_run script es bounded known all =
 
 pub accepted_can_be_run : (text : List ℕ) (script : Script) → read patterns text ≡ Ok script → IsRunnable script
 accepted_can_be_run text script e =
-    let ss : List Said = said patterns text in
+    let read' = is_read patterns the_table text script e in
+    let b : Beginning = read'.part in
+    let ss : List Said = said_in (patterns b.version) b in
     let es : List Entry = (declared ss).names in
-    let own : Script = script_of es ss in
-    let means : own ≡ script = (is_read patterns the_table text script e).means in
+    let own : Script = script_of b.version es ss in
+    let means : own ≡ script = read'.means in
     let known : AllKnown es own.decls = (statements patterns the_table text script e).known in
     let below : AllBelow (declared_count own.decls) es = all_below es own.decls known in
     let all : Each (DeclRuns (length (handlers_of own)) (CallIsRunnable (objects_of own))) own.decls =
     each_decl es (EachCall (CallIsRunnable (objects_of own))) (DeclRuns (length (handlers_of own)) (CallIsRunnable (objects_of own))) (lines_run own es below) ss in
-    subst IsRunnable means (decls_run own es (subst IsBounded (sym means) (read_is_bounded patterns text script e)) known all)
+    subst IsRunnable means (decls_run own es (subst (IsBounded 256) (sym means) (read_is_bounded patterns text script e)) known all)

@@ -1,4 +1,7 @@
 //! The flat code of a script, and the next unit of a body.
+//!
+//! Proved: `fetch` computes the flat search exactly, and gives the next unit, place and register of the tree; `units` gives the
+//! operations of one body, whose `fetch` does the same; it ends and takes no memory.
 #![tactic(auto)]
 
 mod code;

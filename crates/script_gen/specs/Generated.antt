@@ -89,6 +89,7 @@ shared =
 -- the script of a number: a quantum from 1 to 8, and 1 to 64 threads
 abbrev pub script_of : ℕ → Script
 script_of number = record {
+  version = 1;
   quantum = 1 + draw 8 (number % modulus);
   decls = shared ++ threads_from (1 + number % 64) 0 (next (number % modulus));
 }

@@ -234,6 +234,7 @@ pub fn make(alloc: Global, number: u64) -> Result<Script, AllocError>
         decls.push(thread(alloc, k, &mut draws)?)?;
     }
     Ok(Script {
+        version: 1,
         quantum,
         decls: Decls::new(decls),
     })

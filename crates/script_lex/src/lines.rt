@@ -66,6 +66,16 @@ impl<'a> Lines<'a> {
         self.number
     }
 
+    /// The same lines ahead once more.
+    pub fn again(&self) -> Lines<'a>
+        ensures { result ≡ self.now }
+    {
+        Lines {
+            rest: self.rest,
+            number: self.number,
+        }
+    }
+
     /// The next line; `None` exactly at the end of the text, where nothing changes.
     #[inline(always)]
     pub fn next_line(&mut self) -> Option<Line<'a>>

@@ -8,6 +8,8 @@ use Rattle.script_tree.specs.declared.decl.Decl.{Decl}
 use Rattle.script_tree.specs.declared.decl.Script.{Script}
 use Rattle.script_table.specs.declared.form.Form.{Form}
 use Rattle.script_table.specs.declared.form.Form.TheVariants as form
+use Rattle.script_table.specs.declared.version.Version.{Version}
+use Rattle.script_table.specs.Versions.{version_number}
 use Rattle.script_table.specs.Patterns.{greatest}
 use Rattle.script_table.specs.Structure.{Said}
 use Rattle.script_table.specs.Names.{Entry}
@@ -76,9 +78,9 @@ abbrev pub built_from : List Entry → Built → List Said → Built
 built_from es b [] = b
 built_from es b (s ∷ ss) = built_from es (after es b s) ss
 
-abbrev pub script_of_built : Built → Script
-script_of_built b = record { quantum = b.quantum; decls = b.decls }
+abbrev pub script_of_built : Version → Built → Script
+script_of_built version b = record { version = version_number version; quantum = b.quantum; decls = b.decls }
 
--- what the lines say
-abbrev pub script_of : List Entry → List Said → Script
-script_of es ss = script_of_built (built_from es nothing_built ss)
+-- what the lines of a text of this version say
+abbrev pub script_of : Version → List Entry → List Said → Script
+script_of version es ss = script_of_built version (built_from es nothing_built ss)

@@ -19,7 +19,7 @@ use Rattle.script_table.specs.declared.form.MessageCall.{MessageCall}
 use Rattle.script_table.specs.declared.form.MessageCall.TheVariants as message
 use Rattle.script_tree.specs.declared.name_kind.NameKind.TheVariants.{Thread, Mutex, Cond, Sem, Queue, Timer}
 use Rattle.script_table.specs.Names.{Entry}
-use Rattle.script_table.specs.Operands.{map_two, map_three, map_four, map_five, number_in, amount_at, priority_at, operand_at, signal_at, signals_at, named_at, fifo_at, rr_at, sporadic_at}
+use Rattle.script_table.specs.Operands.{map_two, map_three, map_four, map_five, number_in, amount_at, priority_at, operand_at, signal_at, signals_at, named_at, fifo_at, rr_at, sporadic_at, strict_at}
 
 abbrev pub thread_call : List Entry → ThreadCall → List (List ℕ) → Option Call
 thread_call es thread.Yield words = Some calls.Yield
@@ -34,6 +34,7 @@ thread_call es thread.Setprio words = map_two calls.Setprio (named_at Thread es 
 thread_call es thread.SetschedFifo words = map_two calls.Setsched (named_at Thread es 1 words) (fifo_at 3 words)
 thread_call es thread.SetschedRr words = map_two calls.Setsched (named_at Thread es 1 words) (rr_at 3 words)
 thread_call es thread.SetschedSporadic words = map_two calls.Setsched (named_at Thread es 1 words) (sporadic_at words)
+thread_call es thread.SetschedStrict words = map_two calls.Setsched (named_at Thread es 1 words) (strict_at words)
 
 abbrev pub mutex_call : List Entry → MutexCall → List (List ℕ) → Option Call
 mutex_call es mutex.Lock words = option_map calls.Lock (named_at Mutex es 1 words)

@@ -1,7 +1,7 @@
 -- Faults of a text, and the least of them. Their kinds and their order are this project's own.
 use Rattle.std.specs.Prelude.{ℕ, ◌==◌, ◌&&◌, ◌||◌, nat_lt, Bool, if◌then◌else◌, List, [], ◌∷◌, Option, None, Some, map, codes}
 use Rattle.script_table.specs.declared.faults.FaultKind.{FaultKind}
-use Rattle.script_table.specs.declared.faults.FaultKind.TheVariants.{BadByte, UnknownWord, WordCount, BadNumber, NumberRange, BadName, DuplicateName, UnknownName, WrongKind, NotHere, StrayClose, Unclosed, TooMany, NoThread, ServerRange}
+use Rattle.script_table.specs.declared.faults.FaultKind.TheVariants.{BadByte, UnknownWord, WordCount, BadNumber, NumberRange, BadName, DuplicateName, UnknownName, WrongKind, NotHere, StrayClose, Unclosed, TooMany, NoThread, ServerRange, BadVersion}
 
 abbrev pub number_of : FaultKind → ℕ
 number_of BadByte = 1
@@ -19,6 +19,7 @@ number_of Unclosed = 12
 number_of TooMany = 13
 number_of NoThread = 14
 number_of ServerRange = 15
+number_of BadVersion = 16
 
 abbrev pub name_of : FaultKind → List ℕ
 name_of BadByte = codes "BadByte"
@@ -36,6 +37,7 @@ name_of Unclosed = codes "Unclosed"
 name_of TooMany = codes "TooMany"
 name_of NoThread = codes "NoThread"
 name_of ServerRange = codes "ServerRange"
+name_of BadVersion = codes "BadVersion"
 
 -- the kind, where it is so
 abbrev pub when : Bool → FaultKind → List FaultKind

@@ -1,6 +1,7 @@
 pub mod Faults
 pub mod Words
 pub mod Patterns
+pub mod Versions
 pub mod Table
 pub mod LineFaults
 pub mod Structure
@@ -10,5 +11,6 @@ pub mod WordFaults
 pub mod Operands
 pub mod Calls
 pub mod Meaning
+pub mod Heading
 pub mod Build
 pub mod Read

@@ -26,7 +26,7 @@ use Rattle.script_table.specs.declared.form.CloseForm.TheVariants as close
 use Rattle.script_tree.specs.declared.name_kind.NameKind.TheVariants.{Handler, Cleanup}
 use Rattle.script_table.specs.Patterns.{greatest}
 use Rattle.script_table.specs.Names.{Entry}
-use Rattle.script_table.specs.Operands.{map_two, number_in, amount_at, priority_at, answer_at, signal_at, name_at, named_at, fifo_at, rr_at, sporadic_at}
+use Rattle.script_table.specs.Operands.{map_two, number_in, amount_at, priority_at, answer_at, signal_at, name_at, named_at, fifo_at, rr_at, sporadic_at, strict_at}
 
 -- a mutex of each protocol
 abbrev pub protect : Bool → Option ℕ → Option Kind
@@ -87,6 +87,8 @@ kind_of_body body.RrAt words steps = thread_at (rr_at 3 words) (amount_at 5 word
 kind_of_body body.RrDormant words steps = thread_dormant (rr_at 3 words) steps
 kind_of_body body.SporadicAt words steps = thread_at (sporadic_at words) (amount_at 9 words) steps
 kind_of_body body.SporadicDormant words steps = thread_dormant (sporadic_at words) steps
+kind_of_body body.StrictAt words steps = thread_at (strict_at words) (amount_at 9 words) steps
+kind_of_body body.StrictDormant words steps = thread_dormant (strict_at words) steps
 kind_of_body body.Handler words steps = Some (kinds.Handler steps)
 kind_of_body body.Cleanup words steps = Some (kinds.Cleanup steps)
 

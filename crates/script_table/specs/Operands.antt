@@ -5,7 +5,7 @@ use Rattle.tick_num.specs.Parameters.{Parameters}
 use Rattle.tick_num.specs.declared.res.Res.{Res}
 use Rattle.script_tree.specs.Names.{is_name}
 use Rattle.script_tree.specs.declared.policy.Policy.{Policy}
-use Rattle.script_tree.specs.declared.policy.Policy.TheVariants.{Fifo, Rr, Sporadic}
+use Rattle.script_tree.specs.declared.policy.Policy.TheVariants.{Fifo, Rr, Sporadic, Strict}
 use Rattle.script_tree.specs.declared.call.Operand.{Operand}
 use Rattle.script_tree.specs.declared.call.Operand.TheVariants.{Num, Reg}
 use Rattle.script_tree.specs.declared.name_kind.NameKind.{NameKind}
@@ -68,7 +68,7 @@ number_of_kind kind (Some e) = if same_kind e.kind kind && nat_lt e.number 256 t
 abbrev pub named_at : NameKind → List Entry → ℕ → List (List ℕ) → Option ℕ
 named_at kind es k words = number_of_kind kind (entry_of es (word k words))
 
--- the parameters of a sporadic server, where they fit one another
+-- the parameters of a server, where they fit one another
 abbrev pub server_of : ℕ → ℕ → ℕ → ℕ → ℕ → Option Parameters
 server_of high low period budget max =
     if nat_lt low high && (nat_le 1 budget && nat_le budget period)
@@ -92,3 +92,6 @@ rr_at k words = option_map Rr (priority_at k words)
 
 abbrev pub sporadic_at : List (List ℕ) → Option Policy
 sporadic_at words = option_map Sporadic (server_at words)
+
+abbrev pub strict_at : List (List ℕ) → Option Policy
+strict_at words = option_map Strict (server_at words)

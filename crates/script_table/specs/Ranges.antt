@@ -38,11 +38,14 @@ word k words = slice_index_or words k []
 abbrev pub capped_number_at : ℕ → List (List ℕ) → ℕ
 capped_number_at k words = min (greatest + 1) (value_of (word k words))
 
--- whether a line sets the parameters of a sporadic server, as its words 3 to 7: high, low, period, budget, max
+-- whether a line sets the parameters of a server, as its words 3 to 7: high, low, period, budget, max
 abbrev pub sets_server : Form → Bool
 sets_server (form.Body body.SporadicAt) = true
 sets_server (form.Body body.SporadicDormant) = true
+sets_server (form.Body body.StrictAt) = true
+sets_server (form.Body body.StrictDormant) = true
 sets_server (form.Call (call.Thread thread.SetschedSporadic)) = true
+sets_server (form.Call (call.Thread thread.SetschedStrict)) = true
 sets_server other = false
 
 -- the budget is at least 1 and at most the period, 1 to 16 replenishments may be pending, low is below high
@@ -63,16 +66,17 @@ object_kind object.QueueNonblock = kind.Queue
 object_kind object.Timer = kind.Timer
 object_kind mutex = kind.Mutex
 
--- how many there are so far, how deep the blocks are, and how many of those are push blocks
+-- how many threads, mutexes, conditions and semaphores there may be of each; how many there are so far, how deep the blocks are, and how many of those are push blocks
 pub record Tally : Type 0 where
+  pub most : ℕ
   pub counts : Counts
   pub quanta : ℕ
   pub steps : ℕ
   pub depth : ℕ
   pub pushes : ℕ
 
-abbrev pub no_tally : Tally
-no_tally = record { counts = no_counts; quanta = 0; steps = 0; depth = 0; pushes = 0 }
+abbrev pub no_tally : ℕ → Tally
+no_tally most = record { most = most; counts = no_counts; quanta = 0; steps = 0; depth = 0; pushes = 0 }
 
 abbrev pub entered : Tally → Closer → Tally
 entered t closer.End = record t { steps = t.steps + 1; depth = t.depth + 1 }
@@ -94,22 +98,22 @@ tallied t (form.Block f) = entered t (closer_of f)
 tallied t (form.Close f) = left t (closed_by f)
 
 -- there are too many of a kind; handlers and cleanups share one limit
-abbrev pub is_over : Counts → NameKind → Bool
-is_over c kind.Thread = nat_lt 64 c.threads
-is_over c kind.Mutex = nat_lt 64 c.mutexes
-is_over c kind.Cond = nat_lt 64 c.conds
-is_over c kind.Sem = nat_lt 64 c.sems
-is_over c kind.Queue = nat_lt 16 c.queues
-is_over c kind.Timer = nat_lt 32 c.timers
-is_over c kind.Handler = nat_lt 64 (c.handlers + c.cleanups)
-is_over c kind.Cleanup = nat_lt 64 (c.handlers + c.cleanups)
+abbrev pub is_over : ℕ → Counts → NameKind → Bool
+is_over most c kind.Thread = nat_lt most c.threads
+is_over most c kind.Mutex = nat_lt most c.mutexes
+is_over most c kind.Cond = nat_lt most c.conds
+is_over most c kind.Sem = nat_lt most c.sems
+is_over most c kind.Queue = nat_lt 16 c.queues
+is_over most c kind.Timer = nat_lt 32 c.timers
+is_over most c kind.Handler = nat_lt 64 (c.handlers + c.cleanups)
+is_over most c kind.Cleanup = nat_lt 64 (c.handlers + c.cleanups)
 
 -- with this line there are too many
 abbrev pub is_too_many : Tally → Form → Bool
 is_too_many t form.Quantum = nat_lt 1 t.quanta
-is_too_many t (form.Object f) = is_over t.counts (object_kind f)
+is_too_many t (form.Object f) = is_over t.most t.counts (object_kind f)
 is_too_many t (form.Action f) = false
-is_too_many t (form.Body f) = is_over t.counts (body_kind f)
+is_too_many t (form.Body f) = is_over t.most t.counts (body_kind f)
 is_too_many t (form.Step f) = nat_lt 65536 t.steps
 is_too_many t (form.Call f) = nat_lt 65536 t.steps
 is_too_many t (form.Block f) = nat_lt 65536 t.steps || (nat_lt 16 t.depth || nat_lt 8 t.pushes)

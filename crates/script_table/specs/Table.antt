@@ -16,6 +16,8 @@ use Rattle.script_table.specs.declared.form.TimeCall.TheVariants as time
 use Rattle.script_table.specs.declared.form.SignalCall.TheVariants as signal
 use Rattle.script_table.specs.declared.form.MessageCall.TheVariants as message
 use Rattle.script_tree.specs.declared.name_kind.NameKind.TheVariants as kind
+use Rattle.script_table.specs.declared.version.Version.{Version}
+use Rattle.script_table.specs.declared.version.Version.TheVariants.{One, Two}
 use Rattle.script_table.specs.declared.pattern.Bar.{Bar}
 use Rattle.script_table.specs.declared.pattern.Bar.TheVariants.{Nowhere, Handlers, HandlersAndCleanups}
 use Rattle.script_table.specs.Patterns.{Spot, Keyword, Answer, Number, Operand, Declares, Uses, Signal, Acts, Signals, Row, greatest}
@@ -124,6 +126,19 @@ call_patterns =
     row (form.Call (call.Message message.Notify)) Nowhere (Keyword (codes "mq_notify") ∷ Uses kind.Queue ∷ Signal ∷ Operand ∷ []) ∷
     []
 
--- all patterns of the language
-unfoldable pub patterns : List Row
-patterns = declaration_patterns ++ (step_patterns ++ call_patterns)
+-- strict servers, of version 2
+unfoldable pub strict_declarations : List Row
+strict_declarations =
+    row (form.Body body.StrictAt) Nowhere (Keyword (codes "thread") ∷ Declares kind.Thread ∷ Keyword (codes "strict") ∷ priority ∷ priority ∷ amount ∷ amount ∷ amount ∷ Keyword (codes "at") ∷ amount ∷ []) ∷
+    row (form.Body body.StrictDormant) Nowhere (Keyword (codes "thread") ∷ Declares kind.Thread ∷ Keyword (codes "strict") ∷ priority ∷ priority ∷ amount ∷ amount ∷ amount ∷ Keyword (codes "dormant") ∷ []) ∷
+    []
+
+unfoldable pub strict_calls : List Row
+strict_calls =
+    row (form.Call (call.Thread thread.SetschedStrict)) Nowhere (Keyword (codes "setsched") ∷ Uses kind.Thread ∷ Keyword (codes "strict") ∷ priority ∷ priority ∷ amount ∷ amount ∷ amount ∷ []) ∷
+    []
+
+-- all patterns of a version of the language
+unfoldable pub patterns : Version → List Row
+patterns One = declaration_patterns ++ (step_patterns ++ call_patterns)
+patterns Two = (declaration_patterns ++ strict_declarations) ++ (step_patterns ++ (call_patterns ++ strict_calls))

@@ -35,12 +35,14 @@ pub enum FaultKind {
     TooMany,
     /// No thread is declared.
     NoThread,
-    /// Parameters of a sporadic server that do not fit one another.
+    /// Parameters of a server that do not fit one another.
     ServerRange,
+    /// The first line with words begins with `version` and is not `version 2`.
+    BadVersion,
 }
 
 impl FaultKind {
-    /// Its number, 1 to 15.
+    /// Its number, 1 to 16.
     pub fn number(self) -> u8
         ensures { result ≡ number_of self }
     {
@@ -60,6 +62,7 @@ impl FaultKind {
             FaultKind::TooMany => 13,
             FaultKind::NoThread => 14,
             FaultKind::ServerRange => 15,
+            FaultKind::BadVersion => 16,
         }
     }
 
@@ -83,6 +86,7 @@ impl FaultKind {
             FaultKind::TooMany => "TooMany",
             FaultKind::NoThread => "NoThread",
             FaultKind::ServerRange => "ServerRange",
+            FaultKind::BadVersion => "BadVersion",
         }
     }
 }

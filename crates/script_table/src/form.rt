@@ -47,6 +47,9 @@ pub enum BodyForm {
     RrDormant,
     SporadicAt,
     SporadicDormant,
+    /// Of a script of version 2, as the next.
+    StrictAt,
+    StrictDormant,
     Handler,
     Cleanup,
 }
@@ -102,6 +105,8 @@ pub enum ThreadCall {
     SetschedFifo,
     SetschedRr,
     SetschedSporadic,
+    /// Of a script of version 2.
+    SetschedStrict,
 }
 
 /// Calls on mutexes and conditions.

@@ -1,4 +1,6 @@
 //! The patterns of a script's lines, what single words say, and the kinds of faults.
+//!
+//! Proved: the code's table of patterns is the definition's, row by row; what each word says; kinds of faults and their order.
 #![tactic(auto)]
 
 mod faults;
@@ -7,6 +9,7 @@ mod line_faults;
 mod pattern;
 mod ranges;
 mod table;
+mod version;
 mod word_faults;
 mod words;
 
@@ -19,5 +22,6 @@ pub use line_faults::{Fitting, any_agrees, fitting_pattern, pattern_of};
 pub use pattern::{Bar, Closer, Opening, Pattern, Place, Table};
 pub use script_tree::NameKind;
 pub use table::patterns;
+pub use version::Version;
 pub use word_faults::WordFaults;
 pub use words::{answer_of, capped_value, is_number, is_register, set_of, short_number, signal_of};

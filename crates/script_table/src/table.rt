@@ -1,12 +1,12 @@
 // The table of patterns: one line for each.
-ghost use Rattle.std.specs.Prelude.{◌≡◌, map};
+ghost use Rattle.std.specs.Prelude.{◌≡◌, ◌++◌, map};
 ghost use Rattle.script_table.specs.Patterns.{row_of, rows_of};
-ghost use Rattle.script_table.specs.Table.{declaration_patterns, step_patterns, call_patterns, patterns};
+ghost use Rattle.script_table.specs.Table.{declaration_patterns, step_patterns, call_patterns, strict_declarations, strict_calls, patterns};
 
 use crate::{
     ActionForm, Bar, BlockForm, BodyForm, CallForm, CloseForm, Form, MessageCall, MutexCall,
     NameKind, ObjectForm, Pattern, Place, SemCall, SignalCall, StepForm, Table, ThreadCall,
-    TimeCall,
+    TimeCall, Version,
 };
 use tick_num::GREATEST_NUMBER;
 
@@ -31,7 +31,8 @@ macro_rules! pattern {
     };
 }
 
-static DECLARATIONS: [Pattern; 22] = [
+// Those of strict servers stand last: version 1 does not have them.
+static DECLARATIONS: [Pattern; 24] = [
     pattern!(Form::Quantum, Nowhere => b"quantum" (in 1, GREATEST_NUMBER)),
     pattern!(Form::Body(BodyForm::FifoAt), Nowhere => b"thread" (new Thread) b"fifo" P b"at" N),
     pattern!(Form::Body(BodyForm::FifoDormant), Nowhere => b"thread" (new Thread) b"fifo" P b"dormant"),
@@ -54,6 +55,8 @@ static DECLARATIONS: [Pattern; 22] = [
     pattern!(Form::Object(ObjectForm::Timer), Nowhere => b"timer" (new Timer) SIG N),
     pattern!(Form::Action(ActionForm::Ignore), Nowhere => b"action" ACT b"ignore"),
     pattern!(Form::Action(ActionForm::Run), Nowhere => b"action" ACT b"run" (of Handler)),
+    pattern!(Form::Body(BodyForm::StrictAt), Nowhere => b"thread" (new Thread) b"strict" P P N N N b"at" N),
+    pattern!(Form::Body(BodyForm::StrictDormant), Nowhere => b"thread" (new Thread) b"strict" P P N N N b"dormant"),
 ];
 
 static STEPS: [Pattern; 12] = [
@@ -71,7 +74,8 @@ static STEPS: [Pattern; 12] = [
     pattern!(Form::Close(CloseForm::PopRun), Nowhere => b"pop" b"1"),
 ];
 
-static CALLS: [Pattern; 45] = [
+// As above.
+static CALLS: [Pattern; 46] = [
     pattern!(Form::Call(CallForm::Thread(ThreadCall::Yield)), Nowhere => b"yield"),
     pattern!(Form::Call(CallForm::Thread(ThreadCall::Create)), Nowhere => b"create" (of Thread)),
     pattern!(Form::Call(CallForm::Thread(ThreadCall::Join)), HandlersAndCleanups => b"join" (of Thread)),
@@ -117,11 +121,19 @@ static CALLS: [Pattern; 45] = [
     pattern!(Form::Call(CallForm::Message(MessageCall::Receive)), HandlersAndCleanups => b"mq_receive" (of Queue)),
     pattern!(Form::Call(CallForm::Message(MessageCall::Timedreceive)), HandlersAndCleanups => b"mq_timedreceive" (of Queue) V),
     pattern!(Form::Call(CallForm::Message(MessageCall::Notify)), Nowhere => b"mq_notify" (of Queue) SIG V),
+    pattern!(Form::Call(CallForm::Thread(ThreadCall::SetschedStrict)), Nowhere => b"setsched" (of Thread) b"strict" P P N N N),
 ];
 
 #[tactic(auto, unfolding(crate::specs::Table::declaration_patterns))]
 fn declarations() -> &'static [Pattern]
     ensures { map row_of result.now ≡ declaration_patterns }
+{
+    &DECLARATIONS[..22]
+}
+
+#[tactic(auto, unfolding(crate::specs::Table::declaration_patterns, crate::specs::Table::strict_declarations))]
+fn all_declarations() -> &'static [Pattern]
+    ensures { map row_of result.now ≡ declaration_patterns ++ strict_declarations }
 {
     &DECLARATIONS
 }
@@ -137,17 +149,31 @@ fn steps() -> &'static [Pattern]
 fn calls() -> &'static [Pattern]
     ensures { map row_of result.now ≡ call_patterns }
 {
+    &CALLS[..45]
+}
+
+#[tactic(auto, unfolding(crate::specs::Table::call_patterns, crate::specs::Table::strict_calls))]
+fn all_calls() -> &'static [Pattern]
+    ensures { map row_of result.now ≡ call_patterns ++ strict_calls }
+{
     &CALLS
 }
 
-/// The patterns of the language, in the order of the definition.
+/// The patterns of a version of the language, in the order of the definition.
 #[tactic(auto, unfolding(crate::specs::Table::patterns))]
-pub fn patterns() -> Table
-    ensures { rows_of result ≡ patterns }
+pub fn patterns(version: Version) -> Table
+    ensures { rows_of result ≡ patterns version }
 {
-    Table {
-        declarations: declarations(),
-        steps: steps(),
-        calls: calls(),
+    match version {
+        Version::One => Table {
+            declarations: declarations(),
+            steps: steps(),
+            calls: calls(),
+        },
+        Version::Two => Table {
+            declarations: all_declarations(),
+            steps: steps(),
+            calls: all_calls(),
+        },
     }
 }

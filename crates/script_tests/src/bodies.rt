@@ -37,7 +37,11 @@ fn code_of(alloc: Global, thread: Body, handler: Body, cleanup: Body) -> Result<
         Decl::Named(u, Kind::Cleanup { body: cleanup }),
     ]?;
     let decls = Decls::new(items);
-    let script = Script { quantum: 10, decls };
+    let script = Script {
+        version: 1,
+        quantum: 10,
+        decls,
+    };
     let code = Code::open(alloc, &script)?;
     Ok(code)
 }

@@ -12,4 +12,6 @@ mod canonical;
 #[cfg(test)]
 mod refused;
 #[cfg(test)]
+mod versions;
+#[cfg(test)]
 mod written;

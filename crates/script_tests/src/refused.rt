@@ -37,7 +37,11 @@ fn are_refused(alloc: Global, kind: FaultKind, cases: &[Case]) -> bool {
     true
 }
 
-static BAD_BYTE: [Case; 19] = [
+static BAD_BYTE: [Case; 23] = [
+    case!(1 b"version 2\x01\nfrob\n"),
+    case!(1 b"version\x012\nfrob\n"),
+    case!(1 b"# \x01\nversion 3\n"),
+    case!(1 b"version 2 # \x01\nfrob\n"),
     case!(1 b"\x00"),
     case!(1 b"\x0d\n"),
     case!(1 b"caf\xe9\n"),
@@ -71,7 +75,7 @@ fn bad_byte(rt: HostRuntime) {
     assert!(rt; are_refused(rt.alloc(), FaultKind::BadByte, &BAD_BYTE));
 }
 
-static UNKNOWN_WORD: [Case; 19] = [
+static UNKNOWN_WORD: [Case; 22] = [
     case!(1 b"a\tb\n"),
     case!(1 b"strict\n"),
     case!(1 b"frob\n# \x80\n"),
@@ -89,7 +93,10 @@ static UNKNOWN_WORD: [Case; 19] = [
     case!(1 b"queues q 1 1\nthread a fifo 5 at 0\nend\n"),
     case!(2 b"thread a fifo 5 at 0\nmq_recv q\nend\n"),
     case!(2 b"thread a fifo 5 at 0\nsigmask all\nend\n"),
-    case!(1 b"version 2\nthread a fifo 5 at 0\nend\n"),
+    case!(2 b"quantum 5\nversion 2\nthread a fifo 5 at 0\nend\n"),
+    case!(3 b"# c\nversion 2\nversion 2\nthread a fifo 5 at 0\nend\n"),
+    case!(1 b"thread s strict 8 2 10 4 1 at 0\nend\n"),
+    case!(2 b"thread s fifo 8 at 0\nsetsched s strict 8 2 10 4 1\nend\n"),
     case!(2 b"thread a fifo 5 at 0\nif 00\nend\nend\n"),
 ];
 
@@ -293,17 +300,38 @@ fn wrong_kind(rt: HostRuntime) {
     assert!(rt; are_refused(rt.alloc(), FaultKind::WrongKind, &WRONG_KIND));
 }
 
-static SERVER_RANGE: [Case; 5] = [
+static SERVER_RANGE: [Case; 7] = [
     case!(1 b"thread s sporadic 5 5 20 5 4 at 0\nend\n"),
     case!(1 b"thread s sporadic 8 2 20 0 4 at 0\nend\n"),
     case!(1 b"thread s sporadic 8 2 20 21 4 dormant\nend\n"),
     case!(1 b"thread s sporadic 8 2 20 5 17 at 0\nend\n"),
     case!(2 b"thread a fifo 5 at 0\nsetsched a sporadic 2 8 20 5 4\nend\n"),
+    case!(2 b"version 2\nthread s strict 8 8 10 4 1 at 0\nend\n"),
+    case!(3 b"version 2\nthread s fifo 8 at 0\nsetsched s strict 8 2 3 4 1\nend\n"),
 ];
 
 #[test]
 fn server_range(rt: HostRuntime) {
     assert!(rt; are_refused(rt.alloc(), FaultKind::ServerRange, &SERVER_RANGE));
+}
+
+static BAD_VERSION: [Case; 11] = [
+    case!(1 b"version\x01\nfrob\n"),
+    case!(1 b"\x01version 3\nfrob\n"),
+    case!(1 b"version 3\nthread a fifo 5 at 0\nend\n"),
+    case!(1 b"version\nfrob\n"),
+    case!(1 b"version 1\nthread a fifo 5 at 0\nend\n"),
+    case!(1 b"version 02\nthread a fifo 5 at 0\nend\n"),
+    case!(1 b"version 2 2\nthread a fifo 5 at 0\nend\n"),
+    case!(1 b"version two # 2"),
+    case!(3 b"# c\n\n\tversion 3 # 2\nend\n"),
+    case!(1 b"version 3\x01\nthread a fifo 5 at 0\nend\n"),
+    case!(1 b"version 3 # \x01\nthread a fifo 5 at 0\nend\n"),
+];
+
+#[test]
+fn bad_version(rt: HostRuntime) {
+    assert!(rt; are_refused(rt.alloc(), FaultKind::BadVersion, &BAD_VERSION));
 }
 
 static TOO_MANY: [Case; 19] = [

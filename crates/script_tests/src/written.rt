@@ -30,7 +30,11 @@ fn dormant(body: Body) -> Result<Kind, Fail> {
 // Whether the text of a script is `wanted`.
 fn is_written(alloc: Global, quantum: u64, decls: Vec<Decl>, wanted: &[u8]) -> Result<bool, Fail> {
     let decls = Decls::new(decls);
-    let script = Script { quantum, decls };
+    let script = Script {
+        version: 1,
+        quantum,
+        decls,
+    };
     let mut sink = MemSink::open(alloc, 4096, Vec::new(alloc))?;
     let result = write_script(&script, &mut sink);
     Ok(result.is_ok() && sink.text() == wanted)
@@ -65,7 +69,11 @@ fn up_to_a_failed_write(rt: HostRuntime) -> Result<(), Fail> {
     declare(&mut decls, "c", Kind::Cond)?;
     declare(&mut decls, "d", Kind::Cond)?;
     let decls = Decls::new(decls);
-    let script = Script { quantum: 1, decls };
+    let script = Script {
+        version: 1,
+        quantum: 1,
+        decls,
+    };
     assert!(rt; write_script(&script, &mut sink).is_err());
     assert_eq!(rt; sink.text(), b"quantum 1\n".as_slice());
     Ok(())

@@ -1,5 +1,5 @@
 -- The canonical text of a script: its lines, each as its words. The script language is this project's own.
-use Rattle.std.specs.Prelude.{ℕ, Bool, true, false, List, [], ◌∷◌, ◌++◌, map, Option, None, Some, codes, decimal}
+use Rattle.std.specs.Prelude.{ℕ, ◌==◌, if◌then◌else◌, Bool, true, false, List, [], ◌∷◌, ◌++◌, map, Option, None, Some, codes, decimal}
 use Rattle.tick_num.specs.declared.res.Res.{Res}
 use Rattle.tick_num.specs.Words.{res_text}
 use Rattle.script_tree.specs.declared.call.Call.{Call}
@@ -27,6 +27,7 @@ abbrev pub policy_words : Policy → Words
 policy_words (policy.Fifo prio) = codes "fifo" ∷ decimal prio ∷ []
 policy_words (policy.Rr prio) = codes "rr" ∷ decimal prio ∷ []
 policy_words (policy.Sporadic p) = codes "sporadic" ∷ decimal p.high ∷ decimal p.low ∷ decimal p.period ∷ decimal p.budget ∷ decimal p.max ∷ []
+policy_words (policy.Strict p) = codes "strict" ∷ decimal p.high ∷ decimal p.low ∷ decimal p.period ∷ decimal p.budget ∷ decimal p.max ∷ []
 
 -- when a thread starts by itself
 abbrev pub start_words : Option ℕ → Words
@@ -166,9 +167,20 @@ decls_lines decls (d ∷ ds) = decl_lines decls d ++ decls_lines decls ds
 abbrev pub quantum_words : ℕ → Words
 quantum_words quantum = codes "quantum" ∷ decimal quantum ∷ []
 
--- the lines of a script: the quantum first, then the declarations in order
+abbrev pub version_words : Words
+version_words = codes "version" ∷ codes "2" ∷ []
+
+-- version 2 has a line, and version 1 none
+abbrev pub version_lines : ℕ → List Words
+version_lines version = if version == 2 then version_words ∷ [] else []
+
+-- the lines of the quantum and of the declarations, in order
+abbrev pub body_lines : Script → List Words
+body_lines script = quantum_words script.quantum ∷ decls_lines script.decls script.decls
+
+-- the lines of a script
 abbrev pub script_lines : Script → List Words
-script_lines script = quantum_words script.quantum ∷ decls_lines script.decls script.decls
+script_lines script = version_lines script.version ++ body_lines script
 
 -- the text of lines: one blank between words, and an end behind each line
 abbrev pub text_of : List Words → List ℕ

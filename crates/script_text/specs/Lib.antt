@@ -3,3 +3,5 @@ pub mod Names
 pub mod Canon
 pub mod Line
 pub mod Writes
+pub mod Upgraded
+pub mod Firsts

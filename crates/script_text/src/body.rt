@@ -4,6 +4,8 @@ ghost use Rattle.tick_num.specs.Words.{res_text};
 ghost use Rattle.script_tree.specs.Tree.{block_of};
 ghost use Rattle.script_text.specs.Line.{line_text};
 ghost use Rattle.script_text.specs.Canon.{test_words, loop_words, pop_words, end_words, block_lines, text_of};
+ghost use Rattle.std.specs.Option.{option_map};
+ghost use Rattle.script_text.specs.Firsts.{step_words, block_in, closing_words};
 ghost use Rattle.script_text.specs.Writes.{Writes};
 
 use crate::call::call_line;
@@ -59,6 +61,49 @@ fn loop_line(times: Option<u64>) -> LineText
     }
 }
 
+/// The first line of a step, or the only one.
+pub(crate) fn step_line(decls: &[Decl], step: &Step) -> LineText
+    ensures { result.items ≡ line_text (step_words decls.now step.now) }
+{
+    match step {
+        Step::Run(ticks) => line_of(&[Keyword(b"run"), Number(*ticks)]),
+        Step::Make(call) => call_line(decls, call),
+        Step::Set(n) => line_of(&[Keyword(b"set"), Number(*n)]),
+        Step::Add(n) => line_of(&[Keyword(b"add"), Number(*n)]),
+        Step::Take => line_of(&[Keyword(b"take")]),
+        Step::Test { res, equal, .. } => test_line(*res, *equal),
+        Step::Loop { times, .. } => loop_line(*times),
+        Step::Guard { cleanup, .. } => {
+            line_of(&[
+                Keyword(b"push"),
+                Name(object(decls, NameKind::Cleanup, *cleanup)),
+            ])
+        }
+    }
+}
+
+/// The line that closes the block of a step.
+pub(crate) fn closing_line(step: &Step) -> LineText
+    ensures { result.items ≡ line_text (closing_words step.now) }
+{
+    match step {
+        Step::Guard { run, .. } => pop_line(*run),
+        _ => end_line(),
+    }
+}
+
+/// The block of a step, where it has one.
+pub(crate) fn block_in(step: &Step) -> Option<&Body>
+    ensures { option_map (λ b. b.now) result ≡ block_in step.now }
+{
+    match step {
+        Step::Test { body, .. } => Some(body),
+        Step::Loop { body, .. } => Some(body),
+        Step::Guard { body, .. } => Some(body),
+        _ => None,
+    }
+}
+
 /// Writes a block between the line that opens it and the line that closes it.
 #[cycle(blocks)]
 pub(crate) fn write_block<K: Sink>(
@@ -82,21 +127,10 @@ fn write_step<K: Sink>(sink: &mut K, decls: &[Decl], step: &Step) -> Result<(), 
     ensures { Writes K.text K.faults sink.old sink.new result
         (text_of (block_lines decls.now (block_of (step.now ∷ [])))) }
 {
-    match step {
-        Step::Run(ticks) => write_line(sink, line_of(&[Keyword(b"run"), Number(*ticks)])),
-        Step::Make(call) => write_line(sink, call_line(decls, call)),
-        Step::Set(n) => write_line(sink, line_of(&[Keyword(b"set"), Number(*n)])),
-        Step::Add(n) => write_line(sink, line_of(&[Keyword(b"add"), Number(*n)])),
-        Step::Take => write_line(sink, line_of(&[Keyword(b"take")])),
-        Step::Test { res, equal, body } => {
-            write_block(sink, decls, test_line(*res, *equal), body, end_line())
-        }
-        Step::Loop { times, body } => write_block(sink, decls, loop_line(*times), body, end_line()),
-        Step::Guard { cleanup, body, run } => {
-            let name = Name(object(decls, NameKind::Cleanup, *cleanup));
-            let opening = line_of(&[Keyword(b"push"), name]);
-            write_block(sink, decls, opening, body, pop_line(*run))
-        }
+    let opening = step_line(decls, step);
+    match block_in(step) {
+        None => write_line(sink, opening),
+        Some(body) => write_block(sink, decls, opening, body, closing_line(step)),
     }
 }
 

@@ -1,9 +1,10 @@
 // The lines of declarations.
 ghost use Rattle.std.specs.Prelude.{◌≡◌, ◌≤◌, ◌∷◌, ◌++◌, [], length, codes, decimal, true, false};
-ghost use Rattle.script_tree.specs.declared.policy.Policy.TheVariants as policy;
 ghost use Rattle.script_text.specs.Line.{line_text};
 ghost use Rattle.script_text.specs.Names.{name_of};
 ghost use Rattle.script_text.specs.Canon.{block_lines, policy_words, start_words, protocol_words, flag_words, kind_lines, action_words, decl_lines, text_of, end_words};
+ghost use Rattle.std.specs.Option.{option_map};
+ghost use Rattle.script_text.specs.Firsts.{named_words, body_in};
 ghost use Rattle.script_text.specs.Writes.{Writes};
 
 use crate::body::{end_line, write_block, write_line};
@@ -11,7 +12,7 @@ use crate::line::Word::{Keyword, Name, Number, Signal};
 use crate::line::{LineText, line_of};
 use crate::names::object;
 use rt_io::{Failed, Sink};
-use script_tree::{Decl, Kind, NameKind, Policy, Protocol};
+use script_tree::{Body, Decl, Kind, NameKind, Policy, Protocol};
 use tick_num::{ObjId, Params, Prio};
 
 // The line of a SCHED_FIFO or SCHED_RR thread.
@@ -45,15 +46,21 @@ fn plain_thread_line<'a>(
     }
 }
 
-// The line of a SCHED_SPORADIC thread.
-fn sporadic_thread_line(name: &[u8], params: Params, start: Option<u64>) -> LineText
-    requires { length name.now ≤ 32 }
-    ensures { result.items
-        ≡ line_text (codes "thread" ∷ name.now ∷ (policy_words (policy.Sporadic params) ++ start_words start)) }
+// The line of a thread with a server, by the word of the server's kind.
+fn server_thread_line<'a>(
+    name: &'a [u8],
+    kind: &'a [u8],
+    params: Params,
+    start: Option<u64>,
+) -> LineText
+    requires name { length name.now ≤ 32 }
+    requires kind { length kind.now ≤ 16 }
+    ensures { result.items ≡ line_text (codes "thread" ∷ name.now ∷ kind.now ∷ decimal params.high ∷ decimal params.low
+        ∷ decimal params.period ∷ decimal params.budget ∷ decimal params.max ∷ start_words start) }
 {
     let thread = Keyword(b"thread");
     let name = Name(name);
-    let sporadic = Keyword(b"sporadic");
+    let kind = Keyword(kind);
     let high = Number(u64::from(params.high.get()));
     let low = Number(u64::from(params.low.get()));
     let period = Number(params.period);
@@ -63,7 +70,7 @@ fn sporadic_thread_line(name: &[u8], params: Params, start: Option<u64>) -> Line
         Some(at) => line_of(&[
             thread,
             name,
-            sporadic,
+            kind,
             high,
             low,
             period,
@@ -75,7 +82,7 @@ fn sporadic_thread_line(name: &[u8], params: Params, start: Option<u64>) -> Line
         None => line_of(&[
             thread,
             name,
-            sporadic,
+            kind,
             high,
             low,
             period,
@@ -93,7 +100,8 @@ fn thread_line(name: &[u8], policy: Policy, start: Option<u64>) -> LineText
     match policy {
         Policy::Fifo(prio) => plain_thread_line(name, b"fifo", prio, start),
         Policy::Rr(prio) => plain_thread_line(name, b"rr", prio, start),
-        Policy::Sporadic(params) => sporadic_thread_line(name, params, start),
+        Policy::Sporadic(params) => server_thread_line(name, b"sporadic", params, start),
+        Policy::Strict(params) => server_thread_line(name, b"strict", params, start),
     }
 }
 
@@ -151,7 +159,8 @@ fn queue_line(name: &[u8], depth: u32, max_len: u32, nonblock: bool) -> LineText
     }
 }
 
-fn action_line(decls: &[Decl], sig: u8, handler: Option<ObjId>) -> LineText
+/// The line of a signal's action.
+pub(crate) fn action_line(decls: &[Decl], sig: u8, handler: Option<ObjId>) -> LineText
     ensures { result.items ≡ line_text (action_words decls.now sig handler) }
 {
     let action = Keyword(b"action");
@@ -161,6 +170,50 @@ fn action_line(decls: &[Decl], sig: u8, handler: Option<ObjId>) -> LineText
             line_of(&[action, Signal(sig), Keyword(b"run"), name])
         }
         None => line_of(&[action, Signal(sig), Keyword(b"ignore")]),
+    }
+}
+
+/// The first line of a named declaration, or the only one.
+pub(crate) fn named_line(name: &[u8], kind: &Kind) -> LineText
+    requires { length name.now ≤ 32 }
+    ensures { result.items ≡ line_text (named_words name.now kind.now) }
+{
+    match kind {
+        Kind::Thread { policy, start, .. } => thread_line(name, *policy, *start),
+        Kind::Handler { .. } => line_of(&[Keyword(b"handler"), Name(name)]),
+        Kind::Cleanup { .. } => line_of(&[Keyword(b"cleanup"), Name(name)]),
+        Kind::Mutex {
+            protocol,
+            recursive: true,
+        } => recursive_mutex_line(name, *protocol),
+        Kind::Mutex {
+            protocol,
+            recursive: false,
+        } => mutex_line(name, *protocol),
+        Kind::Cond => line_of(&[Keyword(b"cond"), Name(name)]),
+        Kind::Sem { value } => {
+            line_of(&[Keyword(b"sem"), Name(name), Number(u64::from(*value))])
+        }
+        Kind::Queue {
+            depth,
+            max_len,
+            nonblock,
+        } => queue_line(name, *depth, *max_len, *nonblock),
+        Kind::Timer { sig, value } => {
+            line_of(&[Keyword(b"timer"), Name(name), Signal(*sig), Number(*value)])
+        }
+    }
+}
+
+/// The body of a named declaration, where it has one.
+pub(crate) fn body_in(kind: &Kind) -> Option<&Body>
+    ensures { option_map (λ b. b.now) result ≡ body_in kind.now }
+{
+    match kind {
+        Kind::Thread { body, .. } => Some(body),
+        Kind::Handler { body } => Some(body),
+        Kind::Cleanup { body } => Some(body),
+        _ => None,
     }
 }
 
@@ -174,54 +227,10 @@ fn write_named<K: Sink>(
     requires { length name.now ≤ 32 }
     ensures { Writes K.text K.faults sink.old sink.new result (text_of (kind_lines decls.now name.now kind.now)) }
 {
-    match kind {
-        Kind::Thread {
-            policy,
-            start,
-            body,
-        } => {
-            write_block(
-                sink,
-                decls,
-                thread_line(name, *policy, *start),
-                body,
-                end_line(),
-            )
-        }
-        Kind::Handler { body } => {
-            let opening = line_of(&[Keyword(b"handler"), Name(name)]);
-            write_block(sink, decls, opening, body, end_line())
-        }
-        Kind::Cleanup { body } => {
-            let opening = line_of(&[Keyword(b"cleanup"), Name(name)]);
-            write_block(sink, decls, opening, body, end_line())
-        }
-        Kind::Mutex {
-            protocol,
-            recursive: true,
-        } => write_line(sink, recursive_mutex_line(name, *protocol)),
-        Kind::Mutex {
-            protocol,
-            recursive: false,
-        } => write_line(sink, mutex_line(name, *protocol)),
-        Kind::Cond => write_line(sink, line_of(&[Keyword(b"cond"), Name(name)])),
-        Kind::Sem { value } => {
-            write_line(
-                sink,
-                line_of(&[Keyword(b"sem"), Name(name), Number(u64::from(*value))]),
-            )
-        }
-        Kind::Queue {
-            depth,
-            max_len,
-            nonblock,
-        } => { write_line(sink, queue_line(name, *depth, *max_len, *nonblock)) }
-        Kind::Timer { sig, value } => {
-            write_line(
-                sink,
-                line_of(&[Keyword(b"timer"), Name(name), Signal(*sig), Number(*value)]),
-            )
-        }
+    let opening = named_line(name, kind);
+    match body_in(kind) {
+        None => write_line(sink, opening),
+        Some(body) => write_block(sink, decls, opening, body, end_line()),
     }
 }
 

@@ -1,6 +1,8 @@
 //! The canonical text of a script.
 //!
-//! It has the quantum first and then the declarations in their order, a line for each, for each step and
+//! Proved: `write_script` has the contract of one write of the whole canonical text, for every form; it takes no memory.
+//!
+//! That of version 2 begins with the line `version 2`. It has the quantum and then the declarations in their order, a line for each, for each step and
 //! for the end of each block; one blank between words, and no indentation; numbers without leading zeros;
 //! and a set of signals as `all`, `none`, or its signals rising.
 #![tactic(auto)]
@@ -8,8 +10,10 @@
 mod body;
 mod call;
 mod decl;
+mod length;
 mod line;
 mod names;
 mod write;
 
+pub use length::canon_len;
 pub use write::write_script;

@@ -3,7 +3,7 @@ ghost use Rattle.std.specs.Prelude.{◌≡◌};
 ghost use Rattle.rt_io.specs.Bytes.{WritesAll};
 ghost use Rattle.rt_io.specs.Causes.{HasCause};
 ghost use Rattle.script_text.specs.Line.{line_text};
-ghost use Rattle.script_text.specs.Canon.{quantum_words, decls_lines, text_of, canon};
+ghost use Rattle.script_text.specs.Canon.{version_words, version_lines, quantum_words, decls_lines, body_lines, text_of, canon};
 ghost use Rattle.script_text.specs.Writes.{Writes};
 
 use crate::body::write_line;
@@ -13,10 +13,35 @@ use crate::line::{LineText, line_of};
 use rt_io::{Failed, Sink};
 use script_tree::{Decl, Script};
 
-fn quantum_line(quantum: u64) -> LineText
+pub(crate) fn quantum_line(quantum: u64) -> LineText
     ensures { result.items ≡ line_text (quantum_words quantum) }
 {
     line_of(&[Keyword(b"quantum"), Number(quantum)])
+}
+
+pub(crate) fn version_line() -> LineText
+    ensures { result.items ≡ line_text version_words }
+{
+    line_of(&[Keyword(b"version"), Keyword(b"2")])
+}
+
+// Writes the line of the version, where it has one.
+fn write_version<K: Sink>(sink: &mut K, version: u8) -> Result<(), Failed>
+    ensures { Writes K.text K.faults sink.old sink.new result (text_of (version_lines version)) }
+{
+    if version == 2 {
+        write_line(sink, version_line())
+    } else {
+        Ok(())
+    }
+}
+
+// Writes the lines of the quantum and of the declarations.
+fn write_body<K: Sink>(sink: &mut K, script: &Script) -> Result<(), Failed>
+    ensures { Writes K.text K.faults sink.old sink.new result (text_of (body_lines script.now)) }
+{
+    write_line(sink, quantum_line(script.quantum))?;
+    write_decls(sink, script.decls.items())
 }
 
 fn write_decls<K: Sink>(sink: &mut K, decls: &[Decl]) -> Result<(), Failed>
@@ -36,6 +61,6 @@ pub fn write_script<K: Sink>(script: &Script, sink: &mut K) -> Result<(), Failed
     ensures written { WritesAll (K.text sink.old) (K.text sink.new) result (canon script.now) }
     ensures cause { HasCause (K.faults sink.old) (K.faults sink.new) result }
 {
-    write_line(sink, quantum_line(script.quantum))?;
-    write_decls(sink, script.decls.items())
+    write_version(sink, script.version)?;
+    write_body(sink, script)
 }

@@ -107,9 +107,10 @@ impl Decls {
     }
 }
 
-/// A script: the quantum of SCHED_RR in ticks, and what is declared.
+/// A script: the version of its language, 1 or 2, which no rule of the machine looks at; the quantum of SCHED_RR in ticks; and what is declared.
 #[derive(Drop)]
 pub struct Script {
+    pub version: u8,
     pub quantum: u64,
     pub decls: Decls,
 }

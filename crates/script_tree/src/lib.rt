@@ -1,4 +1,6 @@
 //! What a script of tasks says, as plain data. A body is a tree of steps; declarations stand in their order.
+//!
+//! Proved: names are names, and kinds are told apart; bodies are seen as trees, declarations as a list.
 #![tactic(auto)]
 
 mod body;

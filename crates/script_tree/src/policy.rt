@@ -10,6 +10,8 @@ pub enum Policy {
     Rr(Prio),
     /// SCHED_SPORADIC.
     Sporadic(Params),
+    /// A strict server (this project's own).
+    Strict(Params),
 }
 
 /// The protocol of a mutex, IEEE 1003.1-2017, pthread_mutexattr_setprotocol.

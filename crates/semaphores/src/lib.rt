@@ -1,5 +1,7 @@
 //! The values of semaphores. Who waits for them is kept elsewhere.
 //!
+//! Proved: each call changes the value as the machine changes it, and none is ever above 32,767.
+//!
 //! Contracts see the list of values, each at most 32,767, the greatest that a semaphore may have (`SEM_VALUE_MAX`).
 #![tactic(auto)]
 

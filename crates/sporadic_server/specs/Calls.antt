@@ -1,7 +1,9 @@
 -- Lists of calls of a server, and the law of the budget over all of them (this project's own).
 use Rattle.std.specs.Prelude.{◌≡◌, ℕ, ◌+◌, ◌<◌, ◌≤◌, ◌^◌, List, [], ◌∷◌, length, IsTrue}
 use Rattle.tick_num.specs.Parameters.{Parameters, AreParameters}
-use Rattle.sporadic_server.specs.Server.{ServerState, new_server, is_high, charge_ticks, activate, plan, refill, set_high, KeepsBudget}
+use Rattle.sporadic_server.specs.declared.ServerKind.{ServerKind}
+use Rattle.sporadic_server.specs.declared.ServerKind.TheVariants as kind
+use Rattle.sporadic_server.specs.Server.{ServerState, new_server_as, is_high, charge_ticks, activate, plan, refill, set_high, KeepsBudget}
 
 -- a call that changes a server
 pub data ServerCall : Type 0 where
@@ -11,11 +13,19 @@ pub data ServerCall : Type 0 where
   Refill : ServerCall
   SetHigh : ℕ → ServerCall
 
+-- what a plan asks for of the number that is pending
+abbrev pub MayPlanAs : ServerKind → ℕ → ℕ → Type 0
+MayPlanAs kind.Sporadic pending max = pending < max
+MayPlanAs kind.Strict pending max = Unit {0}
+
+abbrev pub MayPlan : ServerKind → ServerState → Type 0
+MayPlan k s = MayPlanAs k (length s.pending) s.params.max
+
 -- whether the call may be made: what the function of that name requires, and that its argument is of its type
 abbrev pub MayCall : ServerCall → ServerState → Type 0
 MayCall (Charge k) s = IsTrue (is_high s) × (k ≤ s.capacity) × (s.high_total + k ≤ 10 ^ 18)
 MayCall (Activate now) s = (s.consumed ≡ 0) × (now ≤ 10 ^ 18)
-MayCall Plan s = (1 ≤ s.consumed) × (length s.pending < s.params.max)
+MayCall Plan s = (1 ≤ s.consumed) × MayPlan s.kind s
 MayCall Refill s = Unit {0}
 MayCall (SetHigh p) s = (s.params.low < p) × (p ≤ 255)
 
@@ -39,5 +49,5 @@ MayCallAll (call ∷ calls) s = MayCall call s × MayCallAll calls (after_call c
 
 -- Whatever calls are made of a new server, one after another, it keeps its budget.
 abbrev pub BudgetLaw : Type 0
-BudgetLaw = (p : Parameters) (now : ℕ) (calls : List ServerCall) → AreParameters p → now ≤ 10 ^ 18 → MayCallAll calls (new_server p now) →
-    KeepsBudget (after_calls calls (new_server p now))
+BudgetLaw = (p : Parameters) (kind : ServerKind) (now : ℕ) (calls : List ServerCall) → AreParameters p → now ≤ 10 ^ 18 → MayCallAll calls (new_server_as kind p now) →
+    KeepsBudget (after_calls calls (new_server_as kind p now))

@@ -3,14 +3,18 @@
 -- Where no other source is named, a definition here is from IEEE 1003.1-2017, XSH 2.8.4 Process Scheduling, under
 -- Scheduling Policies, SCHED_SPORADIC. The unit of time is the tick. That execution time is counted in whole ticks,
 -- and the two totals, are this project's own.
-use Rattle.std.specs.Prelude.{◌≡◌, ℕ, zero, suc, ◌+◌, ◌-◌, ◌≤◌, ◌^◌, min, Bool, ◌&&◌, nat_lt, if◌then◌else◌, Option, List, [], ◌∷◌, ◌++◌, length, sum_by, All, slice_get}
+use Rattle.std.specs.Prelude.{◌≡◌, ℕ, zero, suc, ◌+◌, ◌-◌, ◌≤◌, ◌^◌, min, Bool, true, false, not, ◌&&◌, nat_lt, if◌then◌else◌, Option, List, [], ◌∷◌, ◌++◌, length, sum_by, All, slice_get}
 use Rattle.std.specs.Option.{option_map}
 use Rattle.tick_num.specs.Parameters.{Parameters, AreParameters}
 use Rattle.sporadic_server.specs.declared.Replenish.{Replenish}
+use Rattle.sporadic_server.specs.declared.ServerKind.{ServerKind}
+use Rattle.sporadic_server.specs.declared.ServerKind.TheVariants as kind
 use Rattle.sporadic_server.specs.declared.BudgetLine.{BudgetLine}
 
 -- what a server knows, at an instant
 pub record ServerState : Type 0 where
+  -- the rule by which it plans
+  pub kind : ServerKind
   -- the priorities, the replenishment period, the initial budget and the greatest number of pending replenishments
   pub params : Parameters
   -- the available execution capacity
@@ -29,6 +33,7 @@ pub record ServerState : Type 0 where
 -- A server begins with its initial budget as its capacity, and with nothing pending.
 abbrev pub new_server : Parameters → ℕ → ServerState
 new_server p now = record {
+  kind = kind.Sporadic;
   params = p;
   capacity = p.budget;
   activation = now;
@@ -38,9 +43,21 @@ new_server p now = record {
   refilled_total = 0;
 }
 
--- The assigned priority is the high one where capacity is left and one more replenishment may become pending.
+abbrev pub new_server_as : ServerKind → Parameters → ℕ → ServerState
+new_server_as kind p now = record (new_server p now) { kind = kind }
+
+-- whether one more replenishment may become pending
+abbrev pub has_room : ServerState → Bool
+has_room s = nat_lt (length s.pending) s.params.max
+
+-- The assigned priority is the high one where capacity is left and one more replenishment may become pending. A strict server asks
+-- for capacity alone (this project's own).
+abbrev pub is_high_as : ServerKind → ℕ → ℕ → ℕ → Bool
+is_high_as kind.Sporadic capacity pending max = nat_lt 0 capacity && nat_lt pending max
+is_high_as kind.Strict capacity pending max = nat_lt 0 capacity
+
 abbrev pub is_high : ServerState → Bool
-is_high s = nat_lt 0 s.capacity && nat_lt (length s.pending) s.params.max
+is_high s = is_high_as s.kind s.capacity (length s.pending) s.params.max
 
 abbrev pub assigned : ServerState → ℕ
 assigned s = if is_high s then s.params.high else s.params.low
@@ -67,9 +84,27 @@ activate now s = record s { activation = now }
 abbrev pub replenishment : ServerState → Replenish
 replenishment s = record { amount = s.consumed; due = s.activation + s.params.period }
 
--- That replenishment becomes the last of the pending ones, and nothing counts as used any more.
+-- An amount is added to the last of these, q and those after it, which takes the new due tick (this project's own).
+abbrev pub joined_after : Replenish → Replenish → List Replenish → List Replenish
+joined_after r q [] = record { amount = q.amount + r.amount; due = r.due } ∷ []
+joined_after r q (next ∷ rest) = q ∷ joined_after r next rest
+
+abbrev pub joined : Replenish → List Replenish → List Replenish
+joined r [] = r ∷ []
+joined r (q ∷ rest) = joined_after r q rest
+
+-- A strict server with the greatest number of pending replenishments joins the new one to the last (this project's own).
+abbrev pub joins_as : ServerKind → ℕ → ℕ → Bool
+joins_as kind.Sporadic pending max = false
+joins_as kind.Strict pending max = not (nat_lt pending max)
+
+abbrev pub planned_in : Bool → Replenish → List Replenish → List Replenish
+planned_in false r pending = pending ++ r ∷ []
+planned_in true r pending = joined r pending
+
+-- That replenishment becomes the last of the pending ones, or joins it, and nothing counts as used any more.
 abbrev pub plan : ServerState → ServerState
-plan s = record s { consumed = 0; pending = s.pending ++ replenishment s ∷ [] }
+plan s = record s { consumed = 0; pending = planned_in (joins_as s.kind (length s.pending) s.params.max) (replenishment s) s.pending }
 
 -- The capacity that an amount leads to: it is rounded down to the initial budget where it would become larger.
 abbrev pub replenished : ℕ → ServerState → ℕ

@@ -1,12 +1,15 @@
 //! The sporadic server of a thread: its capacity, its activation time and its replenishments.
 //!
+//! Proved: each call is its definition. `budget_law`: over every list of allowed calls capacity, pending and consumed add up to
+//! the initial budget, and high ticks are budget plus refills minus capacity.
+//!
 //! Times are instants in ticks; capacities, amounts and totals are numbers of ticks. The rules are those of SCHED_SPORADIC in
 //! IEEE 1003.1-2017, XSH 2.8.4; `specs/Server.antt` states them. No call takes memory.
 #![tactic(auto)]
 
-ghost use Rattle.std.specs.Prelude.{◌≡◌, ◌+◌, ◌^◌, ◌<◌, ◌≤◌, length, IsTrue};
-ghost use Rattle.sporadic_server.specs.Server.{AddsUp, new_server, is_high, assigned, charge_ticks, activate, plan, replenishment, refill, oldest_pending, next_due, set_high, totals};
-ghost use Rattle.sporadic_server.specs.Calls.{BudgetLaw};
+ghost use Rattle.std.specs.Prelude.{true, false, ◌≡◌, ◌+◌, ◌^◌, ◌<◌, ◌≤◌, length, sum_by, IsTrue};
+ghost use Rattle.sporadic_server.specs.Server.{AddsUp, new_server_as, is_high, has_room, joined, joins_as, planned_in, assigned, charge_ticks, activate, plan, replenishment, refill, oldest_pending, next_due, set_high, totals};
+ghost use Rattle.sporadic_server.specs.Calls.{BudgetLaw, MayPlan};
 
 use arrayvec::ArrayVec;
 use std::marker::Model;
@@ -32,9 +35,19 @@ pub struct BudgetLine {
     pub capacity: u64,
 }
 
-/// The server of one thread under SCHED_SPORADIC.
+/// The rule by which a server plans its replenishments.
+#[derive(Clone, Copy, Debug, PartialEq, Eq)]
+pub enum ServerKind {
+    /// SCHED_SPORADIC.
+    Sporadic,
+    /// One replenishment for each run of ticks at the high priority (this project's own).
+    Strict,
+}
+
+/// The server of one thread.
 #[derive(Drop)]
 pub struct Server {
+    kind: ServerKind,
     params: Params,
     capacity: u64,
     activation: Tick,
@@ -59,12 +72,13 @@ impl Model for Server {
 
 impl Server {
     /// A server with its whole budget as its capacity, activated now, with nothing pending and its totals at 0.
-    pub fn new(p: Params, now: Tick) -> Server
+    pub fn new(p: Params, kind: ServerKind, now: Tick) -> Server
         requires { now ≤ 10 ^ 18 }
-        ensures { result ≡ new_server p now }
+        ensures { result ≡ new_server_as kind p now }
     {
         let budget = p.budget;
         Server {
+            kind,
             params: p,
             capacity: budget,
             activation: now,
@@ -79,7 +93,27 @@ impl Server {
     pub fn is_high(&self) -> bool
         ensures { result ≡ is_high self.now }
     {
-        self.capacity > 0 && self.pending.len() < self.params.max as usize
+        match self.kind {
+            ServerKind::Sporadic => self.capacity > 0 && self.has_room(),
+            ServerKind::Strict => self.capacity > 0,
+        }
+    }
+
+    /// Whether the next replenishment joins the last one.
+    fn joins(&self) -> bool
+        ensures { result ≡ joins_as self.now.kind (length self.now.pending) self.now.params.max }
+    {
+        match self.kind {
+            ServerKind::Sporadic => false,
+            ServerKind::Strict => !self.has_room(),
+        }
+    }
+
+    /// Whether one more replenishment may become pending.
+    fn has_room(&self) -> bool
+        ensures { result ≡ has_room self.now }
+    {
+        self.pending.len() < self.params.max as usize
     }
 
     /// The assigned priority: the high one or the low one.
@@ -91,6 +125,13 @@ impl Server {
         } else {
             self.params.low
         }
+    }
+
+    /// The rule by which it plans.
+    pub fn kind(&self) -> ServerKind
+        ensures { result ≡ self.now.kind }
+    {
+        self.kind
     }
 
     /// The ticks that may still be run at the high priority before a refill.
@@ -152,15 +193,27 @@ impl Server {
     /// Plans that what was consumed comes back one period after the activation time.
     pub fn plan(&mut self) -> Replenish
         requires used { 1 ≤ self.old.consumed }
-        requires room { length self.old.pending < self.old.params.max }
+        requires room { MayPlan self.old.kind self.old }
         ensures value { result ≡ replenishment self.old }
         ensures after { self.new ≡ plan self.old }
     {
-        let amount = self.consumed;
-        let due = self.activation.after(self.params.period).unwrap();
-        self.pending.push(Replenish { amount, due });
+        let planned = self.replenishment();
+        let joins = self.joins();
+        let Replenish { amount, due } = planned;
+        put(&mut self.pending, joins, Replenish { amount, due });
         self.consumed = 0;
         Replenish { amount, due }
+    }
+
+    /// What was consumed, due one period after the activation time.
+    fn replenishment(&self) -> Replenish
+        ensures { result ≡ replenishment self.now }
+    {
+        let due = self.activation.after(self.params.period).unwrap();
+        Replenish {
+            amount: self.consumed,
+            due,
+        }
     }
 
     /// Carries out the oldest pending replenishment, and gives it. None exactly where none is pending.
@@ -192,6 +245,35 @@ impl Server {
     {
         self.params.high = p;
     }
+}
+
+// adds a replenishment as the last of these, or joins it to the last
+fn put(pending: &mut ArrayVec<Replenish, 16>, joins: bool, planned: Replenish)
+    requires some { joins ≡ true → 0 < length pending.old.items }
+    requires room { joins ≡ false → length pending.old.items < 16 }
+    requires few { length pending.old.items ≤ 16 }
+    requires small { sum_by (λ r. r.amount) pending.old.items + planned.amount ≤ 10 ^ 18 }
+    ensures { pending.new.items ≡ planned_in joins planned pending.old.items }
+{
+    if joins {
+        join(pending, planned);
+        return;
+    }
+    pending.push(planned);
+}
+
+// adds an amount to the last of these, which takes the new due tick
+fn join(pending: &mut ArrayVec<Replenish, 16>, planned: Replenish)
+    requires some { 0 < length pending.old.items }
+    requires few { length pending.old.items ≤ 16 }
+    requires small { sum_by (λ r. r.amount) pending.old.items + planned.amount ≤ 10 ^ 18 }
+    ensures { pending.new.items ≡ joined planned pending.old.items }
+{
+    let last = pending.pop().unwrap();
+    pending.push(Replenish {
+        amount: last.amount + planned.amount,
+        due: planned.due,
+    });
 }
 
 /// Whatever calls are made of a new server, one after another, nothing of its budget is lost or gained: capacity, pending amounts

@@ -1,4 +1,6 @@
 //! A count of steps that a call can only add to.
+//!
+//! Proved: `tick` adds one, and nothing else changes a count.
 #![tactic(auto)]
 
 ghost use Rattle.std.specs.Prelude.{◌≡◌, ◌+◌};

@@ -1,7 +1,7 @@
 -- The kind that is below all others.
 use Rattle.std.proofs.Common.{◌≡◌, List, [], ◌∷◌, refl, ap, Option, None, Some}
 use Rattle.script_table.specs.declared.faults.FaultKind.{FaultKind}
-use Rattle.script_table.specs.declared.faults.FaultKind.TheVariants.{BadByte, UnknownWord, WordCount, BadNumber, NumberRange, BadName, DuplicateName, UnknownName, WrongKind, NotHere, StrayClose, Unclosed, TooMany, NoThread, ServerRange}
+use Rattle.script_table.specs.declared.faults.FaultKind.TheVariants.{BadByte, UnknownWord, WordCount, BadNumber, NumberRange, BadName, DuplicateName, UnknownName, WrongKind, NotHere, StrayClose, Unclosed, TooMany, NoThread, ServerRange, BadVersion}
 use Rattle.script_table.specs.Faults.{lesser, lesser_first, least_kind}
 
 -- no kind is below BadByte
@@ -21,6 +21,7 @@ one_least Unclosed = refl
 one_least TooMany = refl
 one_least NoThread = refl
 one_least ServerRange = refl
+one_least BadVersion = refl
 
 bad_byte_before : (o : Option FaultKind) → lesser_first (Some BadByte) o ≡ Some BadByte
 bad_byte_before None = refl

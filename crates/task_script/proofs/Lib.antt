@@ -1,3 +1,4 @@
+pub mod Headings
 pub mod Least
 pub mod KindOrder
 pub mod PhaseOne

@@ -3,7 +3,6 @@ use Rattle.std.proofs.Common.{◌≡◌, ◌<◌, ℕ, ◌+◌, List, [], ◌∷
 use Rattle.std.specs.Prelude.{Result, Ok}
 use Rattle.std.specs.Option.{option_map}
 use Rattle.std.proofs.lemmas.Bool.Decides.{nat_tests}
-use Rattle.script_lex.specs.Lines.{lines_of}
 use Rattle.script_tree.specs.declared.decl.Script.{Script}
 use Rattle.task_script.specs.declared.end.ScriptEnd.{ScriptEnd}
 use Rattle.task_script.specs.declared.end.ScriptEnd.TheVariants as end
@@ -14,7 +13,9 @@ use Rattle.script_table.specs.Structure.{phase_one, Follows}
 use Rattle.script_table.specs.Names.{declared, phase_two}
 use Rattle.script_table.specs.Ranges.{phase_three, no_tally}
 use Rattle.script_table.specs.Build.{script_of}
-use Rattle.script_table.specs.Read.{said, faults, read, verdict}
+use Rattle.script_table.specs.Versions.{most_of}
+use Rattle.script_table.specs.Heading.{Beginning}
+use Rattle.script_table.specs.Read.{said_in, faults_in, read_in, verdict}
 use Rattle.task_script.proofs.Least.{Each, Each-append, Each-map, or_else, least_cut}
 use Rattle.task_script.proofs.PhaseOne.{From, phase_one-from}
 use Rattle.task_script.proofs.Phases.{two_from, three_from, said_follow}
@@ -38,22 +39,22 @@ by_phases n m k xs ys zs a b c =
     least_cut xs (ys ++ zs) (cut_phases 1 n xs (ys ++ zs) a (Each-append (Beyond 1) ys zs (Each-map (From 2 m) (Beyond 1) (beyond 1 2 m (omega arith)) ys b) (Each-map (From 3 k) (Beyond 1) (beyond 1 3 k (omega arith)) zs c)))
     ∙ ap (or_else (least xs)) (least_cut ys zs (cut_phases 2 m ys zs b (Each-map (From 3 k) (Beyond 2) (beyond 2 3 k (omega arith)) zs c)))
 
-pub least_of_faults : (rows : List Row) (text : List ℕ) → least (faults rows text) ≡
-    or_else (least (phase_one rows 1 (Some []) (lines_of text)))
-    (or_else (least (phase_two (declared (said rows text)) (said rows text))) (least (phase_three (1 + length (lines_of text)) no_tally (said rows text))))
-least_of_faults rows text =
-    let last : ℕ = 1 + length (lines_of text) in
-    let f : Follows last 1 (said rows text) = said_follow rows last 1 (lines_of text) (omega arith) in
-    by_phases 1 1 1 (phase_one rows 1 (Some []) (lines_of text)) (phase_two (declared (said rows text)) (said rows text)) (phase_three last no_tally (said rows text))
-    (phase_one-from rows 1 (Some []) (lines_of text))
-    (two_from last (declared (said rows text)) 1 (said rows text) f)
-    (three_from last no_tally 1 (said rows text) f)
+pub least_of_faults : (rows : List Row) (b : Beginning) → least (faults_in rows b) ≡
+    or_else (least (phase_one rows b.number (Some []) b.lines))
+    (or_else (least (phase_two (declared (said_in rows b)) (said_in rows b))) (least (phase_three (b.number + length b.lines) (no_tally (most_of b.version)) (said_in rows b))))
+least_of_faults rows b =
+    let last : ℕ = b.number + length b.lines in
+    let f : Follows last b.number (said_in rows b) = said_follow rows last b.number b.lines (omega arith) in
+    by_phases b.number b.number b.number (phase_one rows b.number (Some []) b.lines) (phase_two (declared (said_in rows b)) (said_in rows b)) (phase_three last (no_tally (most_of b.version)) (said_in rows b))
+    (phase_one-from rows b.number (Some []) b.lines)
+    (two_from last (declared (said_in rows b)) b.number (said_in rows b) f)
+    (three_from last (no_tally (most_of b.version)) b.number (said_in rows b) f)
 
 -- read, by the least faults of the phases
-read_by : (rows : List Row) (text : List ℕ) → read rows text ≡ verdict (or_else (least (phase_one rows 1 (Some []) (lines_of text)))
-    (or_else (least (phase_two (declared (said rows text)) (said rows text))) (least (phase_three (1 + length (lines_of text)) no_tally (said rows text))))) (script_of (declared (said rows text)).names (said rows text))
-unfolding read
-read_by rows text = ap (λ o. verdict o (script_of (declared (said rows text)).names (said rows text))) (least_of_faults rows text)
+read_by : (rows : List Row) (b : Beginning) → read_in rows b ≡ verdict (or_else (least (phase_one rows b.number (Some []) b.lines))
+    (or_else (least (phase_two (declared (said_in rows b)) (said_in rows b))) (least (phase_three (b.number + length b.lines) (no_tally (most_of b.version)) (said_in rows b))))) (script_of b.version (declared (said_in rows b)).names (said_in rows b))
+unfolding read_in
+read_by rows b = ap (λ o. verdict o (script_of b.version (declared (said_in rows b)).names (said_in rows b))) (least_of_faults rows b)
 
 -- a fault that is answered is the least one
 refused : (e : ScriptEnd) (o : Option Fault) (script : Script) (found : Result Script Fault) → found ≡ verdict o script → EndsBy e o → IsRefusal e found
@@ -74,27 +75,27 @@ by_fault : (e : ScriptEnd) (o : Option Fault) → option_map answered o ≡ Some
 by_fault end.OutOfMemory o h = tt
 by_fault (end.Fault line kind) o h = h
 
-module _ (rows : List Row) (text : List ℕ) where
-  pub ends_in_one : (e : ScriptEnd) → EndsBy e (least (phase_one rows 1 (Some []) (lines_of text))) → IsRefusal e (read rows text)
-  ends_in_one e h = refused e _ _ (read rows text) (read_by rows text) (ends_first e _ _ h)
+module _ (rows : List Row) (b : Beginning) where
+  pub ends_in_one : (e : ScriptEnd) → EndsBy e (least (phase_one rows b.number (Some []) b.lines)) → IsRefusal e (read_in rows b)
+  ends_in_one e h = refused e _ _ (read_in rows b) (read_by rows b) (ends_first e _ _ h)
 
-  pub ends_in_two : (e : ScriptEnd) → least (phase_one rows 1 (Some []) (lines_of text)) ≡ None →
-      option_map answered (least (phase_two (declared (said rows text)) (said rows text))) ≡ Some e → IsRefusal e (read rows text)
+  pub ends_in_two : (e : ScriptEnd) → least (phase_one rows b.number (Some []) b.lines) ≡ None →
+      option_map answered (least (phase_two (declared (said_in rows b)) (said_in rows b))) ≡ Some e → IsRefusal e (read_in rows b)
   ends_in_two e one h =
-      refused e _ _ (read rows text) (read_by rows text) (subst (λ o. EndsBy e (or_else o (or_else (least (phase_two (declared (said rows text)) (said rows text))) (least (phase_three (1 + length (lines_of text)) no_tally (said rows text)))))) (sym one)
+      refused e _ _ (read_in rows b) (read_by rows b) (subst (λ o. EndsBy e (or_else o (or_else (least (phase_two (declared (said_in rows b)) (said_in rows b))) (least (phase_three (b.number + length b.lines) (no_tally (most_of b.version)) (said_in rows b)))))) (sym one)
       (ends_first e _ _ (by_fault e _ h)))
 
-  pub ends_in_three : (e : ScriptEnd) → least (phase_one rows 1 (Some []) (lines_of text)) ≡ None →
-      least (phase_two (declared (said rows text)) (said rows text)) ≡ None →
-      option_map answered (least (phase_three (1 + length (lines_of text)) no_tally (said rows text))) ≡ Some e → IsRefusal e (read rows text)
+  pub ends_in_three : (e : ScriptEnd) → least (phase_one rows b.number (Some []) b.lines) ≡ None →
+      least (phase_two (declared (said_in rows b)) (said_in rows b)) ≡ None →
+      option_map answered (least (phase_three (b.number + length b.lines) (no_tally (most_of b.version)) (said_in rows b))) ≡ Some e → IsRefusal e (read_in rows b)
   ends_in_three e one two h =
-      refused e _ _ (read rows text) (read_by rows text) (subst (λ o. EndsBy e (or_else o (or_else (least (phase_two (declared (said rows text)) (said rows text))) (least (phase_three (1 + length (lines_of text)) no_tally (said rows text)))))) (sym one)
-      (subst (λ o. EndsBy e (or_else o (least (phase_three (1 + length (lines_of text)) no_tally (said rows text))))) (sym two) (by_fault e _ h)))
+      refused e _ _ (read_in rows b) (read_by rows b) (subst (λ o. EndsBy e (or_else o (or_else (least (phase_two (declared (said_in rows b)) (said_in rows b))) (least (phase_three (b.number + length b.lines) (no_tally (most_of b.version)) (said_in rows b)))))) (sym one)
+      (subst (λ o. EndsBy e (or_else o (least (phase_three (b.number + length b.lines) (no_tally (most_of b.version)) (said_in rows b))))) (sym two) (by_fault e _ h)))
 
-  pub no_fault_at_all : least (phase_one rows 1 (Some []) (lines_of text)) ≡ None →
-      least (phase_two (declared (said rows text)) (said rows text)) ≡ None →
-      least (phase_three (1 + length (lines_of text)) no_tally (said rows text)) ≡ None → read rows text ≡ Ok (script_of (declared (said rows text)).names (said rows text))
+  pub no_fault_at_all : least (phase_one rows b.number (Some []) b.lines) ≡ None →
+      least (phase_two (declared (said_in rows b)) (said_in rows b)) ≡ None →
+      least (phase_three (b.number + length b.lines) (no_tally (most_of b.version)) (said_in rows b)) ≡ None → read_in rows b ≡ Ok (script_of b.version (declared (said_in rows b)).names (said_in rows b))
   no_fault_at_all one two three =
-      read_by rows text ∙ (ap (λ o. verdict (or_else o (or_else (least (phase_two (declared (said rows text)) (said rows text))) (least (phase_three (1 + length (lines_of text)) no_tally (said rows text))))) (script_of (declared (said rows text)).names (said rows text))) one
-      ∙ (ap (λ o. verdict (or_else o (least (phase_three (1 + length (lines_of text)) no_tally (said rows text)))) (script_of (declared (said rows text)).names (said rows text))) two
-      ∙ ap (λ o. verdict o (script_of (declared (said rows text)).names (said rows text))) three))
+      read_by rows b ∙ (ap (λ o. verdict (or_else o (or_else (least (phase_two (declared (said_in rows b)) (said_in rows b))) (least (phase_three (b.number + length b.lines) (no_tally (most_of b.version)) (said_in rows b))))) (script_of b.version (declared (said_in rows b)).names (said_in rows b))) one
+      ∙ (ap (λ o. verdict (or_else o (least (phase_three (b.number + length b.lines) (no_tally (most_of b.version)) (said_in rows b)))) (script_of b.version (declared (said_in rows b)).names (said_in rows b))) two
+      ∙ ap (λ o. verdict o (script_of b.version (declared (said_in rows b)).names (said_in rows b))) three))

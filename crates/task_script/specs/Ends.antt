@@ -2,7 +2,8 @@
 use Rattle.std.specs.Prelude.{◌≡◌, ℕ, List, ◌++◌, codes, decimal, Option, Some, Result, Ok, Err}
 use Rattle.std.specs.Option.{option_map}
 use Rattle.script_tree.specs.declared.decl.Script.{Script}
-use Rattle.script_table.specs.Faults.{Fault, name_of}
+use Rattle.script_table.specs.Faults.{Fault, fault, name_of}
+use Rattle.script_table.specs.Heading.{Beginning}
 use Rattle.task_script.specs.declared.end.ScriptEnd.{ScriptEnd}
 use Rattle.task_script.specs.declared.end.ScriptEnd.TheVariants as end
 
@@ -14,6 +15,11 @@ answered f = end.Fault f.line f.kind
 abbrev pub EndsBy : ScriptEnd → Option Fault → Type 0
 EndsBy end.OutOfMemory least = Unit {0}
 EndsBy (end.Fault line kind) least = option_map answered least ≡ Some (end.Fault line kind)
+
+-- the end is want of memory, or the fault that the heading has
+abbrev pub EndsHeading : ScriptEnd → Result Beginning Fault → Type 0
+EndsHeading end.OutOfMemory found = Unit {0}
+EndsHeading (end.Fault line kind) found = found ≡ Err (fault 1 line kind)
 
 -- a fault is answered, by its line and kind, exactly where the least fault is read in place of a script
 abbrev pub IsRefusal : ScriptEnd → Result Script Fault → Type 0

@@ -3,3 +3,4 @@ pub mod NameMap
 pub mod Bounds
 pub mod Declarations
 pub mod ByLetter
+pub mod Begun

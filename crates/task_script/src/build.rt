@@ -17,7 +17,7 @@ use crate::structure::statement::{LineWords, Statement};
 use crate::{Body, Call, Decl, Decls, Script, Step};
 use calls::call_of;
 use meaning::{action_decl, block_step, body_decl, object_decl, plain_step, runs_cleanup};
-use script_table::{ActionForm, CallForm, Form, ObjectForm, ThreadCall};
+use script_table::{ActionForm, CallForm, Form, ObjectForm, ThreadCall, Version};
 use std::alloc::{AllocError, Global};
 use std::marker::Model;
 use tick_num::GREATEST_NUMBER;
@@ -240,20 +240,22 @@ impl<'a> Builder<'a> {
     }
 }
 
-/// The script that the statements say.
+/// The script that the statements of a text of this version say.
 #[inline(never)]
 pub(crate) fn script_of(
     alloc: Global,
+    version: Version,
     names: &NameIndex<'_>,
     statements: &[Statement<'_>],
 ) -> Result<Script, AllocError>
-    ensures { IfOk result (λ s. s ≡ script_of names.now statements.now) }
+    ensures { IfOk result (λ s. s ≡ script_of version names.now statements.now) }
 {
     let mut builder = Builder::new(alloc);
     for s in statements {
         builder.take(alloc, names, s)?;
     }
     Ok(Script {
+        version: version.number(),
         quantum: builder.quantum,
         decls: Decls::new(builder.decls),
     })

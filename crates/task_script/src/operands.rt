@@ -1,7 +1,7 @@
 // What the word at a place says.
 ghost use Rattle.std.specs.Prelude.{◌≡◌, ◌≤◌, ◌^◌, IfSome};
 ghost use Rattle.script_table.specs.Ranges.{capped_number_at};
-ghost use Rattle.script_table.specs.Operands.{number_in, amount_at, priority_at, operand_at, signal_at, signals_at, answer_at, name_at, named_at, server_of, server_at, fifo_at, rr_at, sporadic_at};
+ghost use Rattle.script_table.specs.Operands.{number_in, amount_at, priority_at, operand_at, signal_at, signals_at, answer_at, name_at, named_at, server_of, server_at, fifo_at, rr_at, sporadic_at, strict_at};
 ghost use Rattle.script_tree.specs.declared.name_kind.NameKind.TheVariants as kind;
 
 use crate::names::NameIndex;
@@ -125,7 +125,7 @@ fn server_of(high: Prio, low: Prio, period: u64, budget: u64, max: u64) -> Optio
     }
 }
 
-// The parameters of a sporadic server, at the words 3 to 7.
+// The parameters of a server, at the words 3 to 7.
 fn server(words: &LineWords<'_>) -> Option<Params>
     ensures { result ≡ server_at words.now }
 {
@@ -161,5 +161,14 @@ pub(crate) fn sporadic(words: &LineWords<'_>) -> Option<Policy>
     match server(words) {
         None => None,
         Some(params) => Some(Policy::Sporadic(params)),
+    }
+}
+
+pub(crate) fn strict(words: &LineWords<'_>) -> Option<Policy>
+    ensures { result ≡ strict_at words.now }
+{
+    match server(words) {
+        None => None,
+        Some(params) => Some(Policy::Strict(params)),
     }
 }

@@ -6,12 +6,13 @@ ghost use Rattle.std.specs.Option.{option_map};
 ghost use Rattle.script_table.specs.Faults.{least, least_kind, when};
 ghost use Rattle.script_table.specs.Structure.{IsRising};
 ghost use Rattle.script_table.specs.Ranges.{sets_server, is_server, server_faults, tallied, is_too_many, range_faults, phase_three, no_tally};
+ghost use Rattle.script_table.specs.Versions.{most_of};
 ghost use Rattle.task_script.specs.Ends.{answered};
 
 use crate::ScriptEnd;
 use crate::operands::capped_number_at;
 use crate::structure::statement::{LineWords, Statement};
-use script_table::{BodyForm, CallForm, FaultKind, Form, ThreadCall, lesser_first};
+use script_table::{BodyForm, CallForm, FaultKind, Form, ThreadCall, Version, lesser_first};
 use tally::Tally;
 
 fn sets_server(form: Form) -> bool
@@ -20,12 +21,15 @@ fn sets_server(form: Form) -> bool
     match form {
         Form::Body(BodyForm::SporadicAt) => true,
         Form::Body(BodyForm::SporadicDormant) => true,
+        Form::Body(BodyForm::StrictAt) => true,
+        Form::Body(BodyForm::StrictDormant) => true,
         Form::Call(CallForm::Thread(ThreadCall::SetschedSporadic)) => true,
+        Form::Call(CallForm::Thread(ThreadCall::SetschedStrict)) => true,
         _ => false,
     }
 }
 
-// Whether the parameters of a sporadic server fit one another.
+// Whether the parameters of a server fit one another.
 fn is_server(words: &LineWords<'_>) -> bool
     ensures { result ≡ is_server words.now }
 {
@@ -69,14 +73,18 @@ fn statement_fault(tally: &Tally, s: &Statement<'_>) -> Option<FaultKind>
     )
 }
 
-/// The least fault of phase 3; `last` is the number of the line behind the last.
+/// The least fault of phase 3 in a text of this version; `last` is the number of the line behind the last.
 #[inline(never)]
-pub(crate) fn check_ranges(last: u32, statements: &[Statement<'_>]) -> Result<(), ScriptEnd>
+pub(crate) fn check_ranges(
+    version: Version,
+    last: u32,
+    statements: &[Statement<'_>],
+) -> Result<(), ScriptEnd>
     requires { IsRising last statements.now }
-    ensures { MatchResult result (λ _. least (phase_three last no_tally statements.now) ≡ None)
-        (λ e. option_map answered (least (phase_three last no_tally statements.now)) ≡ Some e) }
+    ensures { MatchResult result (λ _. least (phase_three last (no_tally (most_of version)) statements.now) ≡ None)
+        (λ e. option_map answered (least (phase_three last (no_tally (most_of version)) statements.now)) ≡ Some e) }
 {
-    let mut tally = Tally::new();
+    let mut tally = Tally::new(version);
     for s in statements {
         tally.add(s.form());
         if let Some(kind) = statement_fault(&tally, s) {

@@ -1,10 +1,12 @@
 -- How long a thread that has taken its unit runs by its interval and its capacity, before and after some ticks.
-use Rattle.std.proofs.Common.{◌≡◌, ◌<◌, ◌+◌, ◌-◌, ◌==◌, ℕ, Bool, false, true, None, Some, Option, ap, arith, refl}
+use Rattle.std.proofs.Common.{◌≡◌, ◌<◌, ◌+◌, ◌-◌, ◌==◌, ℕ, Bool, false, true, None, Some, Option, ap, arith, length, refl}
 use Rattle.std.specs.Prelude.{◌&&◌, ◌||◌, if◌then◌else◌, is_some, max, min, option_map}
 use Rattle.std.proofs.lemmas.Grind.{common_steps}
 use Rattle.script_tree.specs.declared.policy.Policy.{Policy}
 use Rattle.script_tree.specs.declared.policy.Policy.TheVariants as policy
-use Rattle.sporadic_server.specs.Server.{ServerState, charge_ticks, is_high}
+use Rattle.sporadic_server.specs.declared.ServerKind.{ServerKind}
+use Rattle.sporadic_server.specs.declared.ServerKind.TheVariants as kind
+use Rattle.sporadic_server.specs.Server.{ServerState, charge_ticks, is_high, is_high_as}
 use Rattle.sporadic_server.proofs.Laws.{charge_ticks_is}
 use Rattle.machine_rules.specs.Servers.{has_high}
 use Rattle.machine_rules.specs.Ticks.{capacity_in, slice_is_used}
@@ -17,30 +19,42 @@ pub slice_left_after : (most quantum k slice : ℕ) (p : Policy) → slice_left 
 slice_left_after most quantum k slice (policy.Fifo q) = refl
 slice_left_after most quantum k slice (policy.Rr q) = omega arith
 slice_left_after most quantum k slice (policy.Sporadic params) = refl
+slice_left_after most quantum k slice (policy.Strict params) = refl
 
 pub slice_after_none : (slice : ℕ) (p : Policy) → slice_after 0 p slice ≡ slice
 slice_after_none slice (policy.Fifo q) = refl
 slice_after_none slice (policy.Rr q) = omega arith
 slice_after_none slice (policy.Sporadic params) = refl
+slice_after_none slice (policy.Strict params) = refl
 
 pub slice_after_both : (k j slice : ℕ) (p : Policy) → slice_after (k + j) p slice ≡ slice_after j p (slice_after k p slice)
 slice_after_both k j slice (policy.Fifo q) = refl
 slice_after_both k j slice (policy.Rr q) = omega arith
 slice_after_both k j slice (policy.Sporadic params) = refl
+slice_after_both k j slice (policy.Strict params) = refl
 
 slice_is_left : (most quantum k slice : ℕ) (p : Policy) → k < slice_left most quantum p slice → slice_is_used p (slice_after k p slice) quantum ≡ false
 slice_is_left most quantum k slice (policy.Fifo q) within = refl
 slice_is_left most quantum k slice (policy.Rr q) within = grind (arith, common_steps)
 slice_is_left most quantum k slice (policy.Sporadic params) within = refl
+slice_is_left most quantum k slice (policy.Strict params) within = refl
 
 -- ---- its capacity
 
+some_as : (k : ServerKind) (capacity pending max : ℕ) → is_high_as k capacity pending max ≡ true → 0 < capacity
+some_as kind.Sporadic capacity pending max high = grind (arith, common_steps)
+some_as kind.Strict capacity pending max high = grind (arith, common_steps)
+
+less_as : (k : ServerKind) (capacity less pending max : ℕ) → is_high_as k capacity pending max ≡ true → 0 < less → is_high_as k less pending max ≡ true
+less_as kind.Sporadic capacity less pending max high some = grind (arith, common_steps)
+less_as kind.Strict capacity less pending max high some = grind (arith, common_steps)
+
 -- a charge that leaves capacity leaves the server high
 stays_high : (k : ℕ) (s : ServerState) → is_high s ≡ true → k < s.capacity → is_high (charge_ticks k s) ≡ true
-stays_high k s high within = rw (charge_ticks_is k s) (grind (arith, common_steps))
+stays_high k s high within = rw (charge_ticks_is k s) (less_as s.kind s.capacity (s.capacity - k) (length s.pending) s.params.max high (omega arith))
 
 some_left : (s : ServerState) → is_high s ≡ true → 0 < s.capacity
-some_left s high = grind (arith, common_steps)
+some_left s high = some_as s.kind s.capacity (length s.pending) s.params.max high
 
 pub server_after_none : (o : Option ServerState) → option_map (server_after 0) o ≡ o
 server_after_none None = refl

@@ -172,6 +172,14 @@ module _ (code : NumberedBodies (List Op)) (most quantum : ℕ) (ran : Ran) (old
       let slice : old.slice ≡ slice_after (ran.passed + ran.ticks) old.policy old.slice = rw is refl in
       has_run code most quantum ran old new (rw (← limit, ← slice) spent) high
 
+  pub run_strict : (params : Parameters) → old.policy ≡ policy.Strict params →
+      HasSpent code (min most (capacity_left most old.server)) ran old.slice (option_map (server_after (ran.passed + ran.ticks)) old.server) old new →
+      ran.was_high ≡ has_high old.server → HasRun code most quantum ran old new
+  run_strict params is spent high =
+      let limit : min most (capacity_left most old.server) ≡ lasts most quantum old.policy old.slice old.server = rw is (omega arith) in
+      let slice : old.slice ≡ slice_after (ran.passed + ran.ticks) old.policy old.slice = rw is refl in
+      has_run code most quantum ran old new (rw (← limit, ← slice) spent) high
+
 -- ---- a unit that is over
 
 pub complete_is : (left k : ℕ) (fs : List (Frame Cursor)) → left ≡ top_left fs → leb left k ≡ (top_left (frames_after k fs) == 0)

@@ -30,6 +30,7 @@ impl Thread {
             Policy::Fifo(_) => self.run_unit(code, most, false),
             Policy::Rr(_) => self.run_slice(code, most, quantum),
             Policy::Sporadic(_) => self.run_capacity(code, most),
+            Policy::Strict(_) => self.run_capacity(code, most),
         }
     }
 

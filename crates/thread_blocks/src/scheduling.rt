@@ -27,6 +27,10 @@ impl Thread {
                 None => params.low,
                 Some(server) => server.assigned(),
             },
+            Policy::Strict(params) => match &self.server {
+                None => params.low,
+                Some(server) => server.assigned(),
+            },
         }
     }
 
@@ -38,6 +42,7 @@ impl Thread {
             Policy::Fifo(_) => true,
             Policy::Rr(_) => true,
             Policy::Sporadic(params) => params.low < p,
+            Policy::Strict(params) => params.low < p,
         }
     }
 
@@ -105,6 +110,12 @@ fn policy_at(policy: &Policy, p: Prio) -> Policy
         Policy::Sporadic(params) => {
             match Params::try_new(p, params.low, params.period, params.budget, params.max) {
                 Some(new) => Policy::Sporadic(new),
+                None => unreachable!(),
+            }
+        }
+        Policy::Strict(params) => {
+            match Params::try_new(p, params.low, params.period, params.budget, params.max) {
+                Some(new) => Policy::Strict(new),
                 None => unreachable!(),
             }
         }

@@ -2,40 +2,57 @@
 ghost use Rattle.std.specs.Prelude.{◌≡◌, ◌≤◌, ◌<◌, ◌^◌, length, None, option_map, option_and_then, true, false, is_some, Some};
 ghost use Rattle.sporadic_server.specs.Server.{ServerState, activate, is_high, next_due, plan, refill, totals};
 ghost use Rattle.machine_rules.specs.Priorities.{assigned_of};
-ghost use Rattle.machine_rules.specs.Servers.{has_high, high_server, server_of, with_server};
+ghost use Rattle.machine_rules.specs.Servers.{at_once, at_once_as, has_high, has_run, high_server, is_strict, may_open, opening_server, server_of, with_server};
 ghost use Rattle.leap_rules.specs.Quiet.{server_after};
 ghost use Rattle.thread_blocks.specs.Room.{ServerHasRoom};
 ghost use Rattle.thread_blocks.specs.Unused.{IsUnused};
 ghost use Rattle.machine_rules.specs.Machine.{budget_of};
 ghost use Rattle.machine_rules.specs.Ticks.{capacity_in, consumed_in};
 ghost use Rattle.thread_blocks.specs.Ends.{greatest_pending, planned_of, refilled_of};
+ghost use Rattle.sporadic_server.specs.Calls.{MayPlan};
 
 use crate::ends::{Planned, Refilled};
 use crate::thread::Thread;
 use pse52_trace::BudgetView;
 use script_tree::Policy;
-use sporadic_server::{BudgetLine, Server};
+use sporadic_server::{BudgetLine, Server, ServerKind};
 use tick_num::Tick;
 
 impl Thread {
-    /// The capacity of its server.
+    /// The capacity of its server, where an activation is made at once: a strict server is activated where a run of it opens.
     pub fn capacity(&self) -> Option<u64>
-        ensures { result ≡ option_map (λ (s : ServerState). s.capacity) self.now.server }
+        ensures { result ≡ option_map (λ (s : ServerState). s.capacity) (at_once self.now.server) }
     {
         match &self.server {
             None => None,
-            Some(server) => Some(server.capacity()),
+            Some(server) => capacity_at_once(server),
         }
     }
 
-    /// The capacity of its server, where the assigned priority is the high one.
+    /// The same, where the assigned priority is the high one.
     pub fn high_capacity(&self) -> Option<u64>
-        ensures { result ≡ option_map (λ (s : ServerState). s.capacity) (high_server self.now.server) }
+        ensures { result ≡ option_map (λ (s : ServerState). s.capacity) (at_once (high_server self.now.server)) }
     {
         match &self.server {
             None => None,
             Some(server) => {
                 if server.is_high() {
+                    capacity_at_once(server)
+                } else {
+                    None
+                }
+            }
+        }
+    }
+
+    /// The capacity of its server, where a run of it may open: a strict one at its high priority that has consumed nothing.
+    pub fn opening_capacity(&self) -> Option<u64>
+        ensures { result ≡ option_map (λ (s : ServerState). s.capacity) (opening_server self.now.server) }
+    {
+        match &self.server {
+            None => None,
+            Some(server) => {
+                if may_open(server) {
                     Some(server.capacity())
                 } else {
                     None
@@ -44,9 +61,19 @@ impl Thread {
         }
     }
 
+    /// Whether a run of its server is open: a strict one that has consumed what it did not plan.
+    pub fn has_run(&self) -> bool
+        ensures { result ≡ has_run self.now.server }
+    {
+        match &self.server {
+            None => false,
+            Some(server) => is_strict(server.kind()) && server.consumed() > 0,
+        }
+    }
+
     /// The activation time of its server is now.
     pub fn activate(&mut self, now: Tick)
-        requires unused { IsUnused self.old.server }
+        requires unused { consumed_in self.old.server ≡ 0 }
         requires small { now ≤ 10 ^ 18 }
         ensures { self.new ≡ with_server (activate now) self.old }
     {
@@ -143,6 +170,31 @@ impl Thread {
     }
 }
 
+// A strict server is activated where a run of it opens, and nowhere else.
+fn capacity_at_once(server: &Server) -> Option<u64>
+    ensures { result ≡ option_map (λ (s : ServerState). s.capacity) (at_once_as server.now.kind server.now) }
+{
+    match server.kind() {
+        ServerKind::Sporadic => Some(server.capacity()),
+        ServerKind::Strict => None,
+    }
+}
+
+fn is_strict(kind: ServerKind) -> bool
+    ensures { result ≡ is_strict kind }
+{
+    match kind {
+        ServerKind::Sporadic => false,
+        ServerKind::Strict => true,
+    }
+}
+
+fn may_open(server: &Server) -> bool
+    ensures { result ≡ may_open server.now }
+{
+    is_strict(server.kind()) && server.is_high() && server.consumed() == 0
+}
+
 pub(crate) fn new_server(policy: &Policy, now: Tick) -> Option<Server>
     requires { now ≤ 10 ^ 18 }
     ensures { result ≡ server_of policy.now now }
@@ -150,7 +202,8 @@ pub(crate) fn new_server(policy: &Policy, now: Tick) -> Option<Server>
     match policy {
         Policy::Fifo(_) => None,
         Policy::Rr(_) => None,
-        Policy::Sporadic(params) => Some(Server::new(*params, now)),
+        Policy::Sporadic(params) => Some(Server::new(*params, ServerKind::Sporadic, now)),
+        Policy::Strict(params) => Some(Server::new(*params, ServerKind::Strict, now)),
     }
 }
 
@@ -173,23 +226,24 @@ fn greatest_pending(policy: &Policy) -> usize
         Policy::Fifo(_) => 0,
         Policy::Rr(_) => 0,
         Policy::Sporadic(params) => params.max as usize,
+        Policy::Strict(params) => params.max as usize,
     }
 }
 
 // What the server, for which at most so many replenishments may be pending, consumed becomes one.
 fn plan_server(server: &mut Server, max: usize) -> Planned
     requires used { 1 ≤ server.old.consumed }
-    requires room { length server.old.pending < server.old.params.max }
+    requires room { MayPlan server.old.kind server.old }
     requires most { max ≡ server.old.params.max }
     ensures value { result ≡ planned_of server.old }
     ensures after { server.new ≡ plan server.old }
 {
-    let replenish = server.plan();
     let count = server.pending().len();
+    let replenish = server.plan();
     Planned {
         replenish,
-        is_first: count == 1,
-        has_room: count < max,
+        is_first: count == 0,
+        has_room: count + 1 < max,
     }
 }
 

@@ -17,7 +17,7 @@ use Rattle.machine_rules.specs.State.{Frame, SignalRecord, Thread, Wait, Waiting
 use Rattle.machine_rules.specs.Threads.{action_of, catches_signal, is_signal, no_thread, thread_at, thread_numbers, top_kind, waiting_of}
 use Rattle.machine_rules.specs.Turns.{Turn, changes, changes_pending, frames_answered, moves, settles_since, tells}
 use Rattle.machine_rules.specs.CallNames.{name_of}
-use Rattle.machine_rules.specs.Servers.{activates_server, high_server, with_server}
+use Rattle.machine_rules.specs.Servers.{activates_server, at_once, high_server, with_server}
 use Rattle.machine_rules.specs.Waking.{call_in, new_frame, on_top, woken}
 use Rattle.machine_rules.specs.Signals.{delivers, selected, tells_overrun, without_record}
 use Rattle.machine_rules.specs.Delivery.{acts, can_take, interrupts, may_be_interrupted, sweeps, sweeps_all, sweeps_thread, takes_record, ticks_left}
@@ -44,7 +44,7 @@ module _ {P : Type 0} where
   interrupts_catches (Some w) t u s =
       let value = ticks_left w.call w.due s.machine.now in
       let x = tells (event.Return t (name_of (call_in (waiting_of s.machine t))) res.Intr value) (moves t (changes t (woken res.Intr value) s)) in
-      activates_catches t u (high_server (thread_at x.machine t).server) x
+      activates_catches t u (at_once (high_server (thread_at x.machine t).server)) x
       ∙ changed-keeps no_thread t u (woken res.Intr value) catches_signal (λ th. ap is_signal (answered_kind res.Intr value th.frames)) s.machine.threads
 
   delivers_catches : (t u : ℕ) (r : SignalRecord) (s : Turn P) → catches_signal (thread_at (delivers t r s).machine u) ≡ catches_signal (thread_at s.machine u)

@@ -1,26 +1,28 @@
 -- What threads keep, ticks and runs keep.
-use Rattle.std.proofs.Common.{Bool, None, Option, Some, arith, false, length, refl, subst, suc, sym, true, zero, ℕ, ◌+◌, ◌∙◌, ◌≡◌}
+use Rattle.std.proofs.Common.{Bool, None, Option, Some, arith, false, length, refl, subst, suc, sym, true, zero, ℕ, ◌+◌, ◌∙◌, ◌≡◌, List, [], ◌∷◌}
 use Rattle.script_flat.specs.declared.unit.Unit as units
 use Rattle.pse52_trace.specs.declared.event.Event.{Event}
 use Rattle.pse52_trace.specs.declared.event.Event.TheVariants as event
 use Rattle.machine_rules.specs.Lists.{is}
 use Rattle.machine_rules.specs.State.{Machine, Thread}
-use Rattle.machine_rules.specs.Threads.{action_of, can_run, no_thread, thread_at, top_left}
+use Rattle.machine_rules.specs.Threads.{action_of, can_run, no_thread, thread_at, top_left, thread_numbers}
 use Rattle.machine_rules.specs.Turns.{Turn, becomes, changes, tells, turn_of}
-use Rattle.machine_rules.specs.Servers.{has_high, plans}
+use Rattle.machine_rules.specs.Servers.{has_high, plans, closes, closes_of, has_run, may_open, opens, opens_for, opens_if, plans_if}
 use Rattle.machine_rules.specs.Dispatch.{dispatch_event, dispatches, head, is_same, tells_unless}
 use Rattle.machine_rules.specs.DueItems.{instant, items_done}
 use Rattle.machine_rules.specs.Units.{in_unit}
-use Rattle.machine_rules.specs.Ticks.{TickEnd, completes_at, ends_tick, exhausting, later, nothing, planning, runs, runs_head, slicing, tick, tick_charged, tick_end, tick_ends, unit_ticked, unless_killed, without_slice}
+use Rattle.machine_rules.specs.Ticks.{TickEnd, completes_at, ends_tick, exhausting, later, nothing, planning, runs, runs_head, slicing, tick, tick_charged, tick_end, tick_ends, unit_ticked, unless_killed, without_slice, prepares}
 use Rattle.machine_rules.specs.Runs.{ticks}
 use Rattle.machine_rules.proofs.Reading.{changed-length}
 use Rattle.machine_rules.specs.Throughout.{HoldsThroughout}
 use Rattle.thread_laws.specs.EachThread.{ActionKnown, Closed, EachThread, Given, Lasts, Passes, UnitKnown}
 use Rattle.thread_laws.proofs.Objects.{ObjectsHold}
 use Rattle.thread_laws.proofs.Changes.{Holds, at_self, at_two, changes_hold}
-use Rattle.thread_laws.proofs.Waking.{moves_if_hold, moves_unless_boosted_hold, plans_hold}
+use Rattle.thread_laws.proofs.Waking.{moves_if_hold, moves_unless_boosted_hold, plans_hold, activates_server_hold}
 use Rattle.thread_laws.proofs.Table.{unit_effect_hold}
 use Rattle.thread_laws.proofs.Items.{instant_hold, items_done_hold, sweeps_hold}
+use Rattle.std.specs.Prelude.{not, ◌&&◌}
+use Rattle.sporadic_server.specs.Server.{ServerState}
 
 module _ {P : Type 0} (given : Given P) (Q : ℕ → ℕ → Thread P → Type 0) (closed : Closed given Q) where
   abbrev Holding : Turn P → Type 0
@@ -47,6 +49,31 @@ module _ {P : Type 0} (given : Given P) (Q : ℕ → ℕ → Thread P → Type 0
       told : (b : Bool) (e : Event) → Holding (tells_unless b e s)
       told true e = h
       told false e = h
+
+  -- what precedes the tick of the head
+  closes_hold : (to : Option ℕ) (ts : List ℕ) (s : Turn P) → Holding s → Holding (closes_of to ts s)
+  closes_hold to [] s h = h
+  closes_hold to (t ∷ ts) s h =
+      let b = not (is to t) && has_run (thread_at s.machine t).server in closes_hold to ts (plans_if b t s) (one b)
+    where
+      one : (b : Bool) → Holding (plans_if b t s)
+      one true = plans_hold given Q closed t (thread_at s.machine t).server s h
+      one false = h
+
+  opens_for_hold : (t : ℕ) (o : Option ServerState) (s : Turn P) → Holding s → Holding (opens_for t o s)
+  opens_for_hold t None s h = h
+  opens_for_hold t (Some x) s h = one (may_open x)
+    where
+      one : (b : Bool) → Holding (opens_if b t x s)
+      one true = activates_server_hold given Q closed t (Some x) s h
+      one false = h
+
+  opens_hold : (to : Option ℕ) (s : Turn P) → Holding s → Holding (opens to s)
+  opens_hold None s h = h
+  opens_hold (Some t) s h = opens_for_hold t (thread_at s.machine t).server s h
+
+  pub prepares_hold : (to : Option ℕ) (s : Turn P) → Holding s → Holding (prepares to s)
+  prepares_hold to s h = opens_hold to (dispatches to (closes to s)) (dispatches_hold to (closes to s) (closes_hold to (thread_numbers s.machine) s h))
 
 -- ---- a tick, from one law to another
 
@@ -94,7 +121,7 @@ module _ {P : Type 0} (given : Given P) (Q R : ℕ → ℕ → Thread P → Type
 -- a tick of the head
 pub runs_head_hold : {P : Type 0} (given : Given P) (Q R : ℕ → ℕ → Thread P → Type 0) → Closed given Q → Closed given R → (s : Turn P) → Passes given Q R (head s.machine) →
     Holds given Q s → Holds given R (runs_head given.bodies s)
-runs_head_hold given Q R first closed s passes h = runs_hold given Q R closed (head s.machine) passes (head s.machine) (dispatches (head s.machine) s) refl (dispatches_hold given Q first (head s.machine) s h)
+runs_head_hold given Q R first closed s passes h = runs_hold given Q R closed (head s.machine) passes (head s.machine) (prepares (head s.machine) s) refl (prepares_hold given Q first (head s.machine) s h)
 
 -- ---- runs
 

@@ -14,7 +14,7 @@ use Rattle.machine_rules.specs.Threads.{can_run, mutex_at, no_thread, thread_at,
 use Rattle.machine_rules.specs.Waiters.{Waiter, best_waiter, somebody_waits, waiters}
 use Rattle.machine_rules.specs.Turns.{Caller, Turn, answered, changes, changes_mutex, is_late, moves, moves_if, returns, tells}
 use Rattle.machine_rules.specs.CallNames.{name_of}
-use Rattle.machine_rules.specs.Servers.{activates_if, activates_server, amount_of, high_server, plans_server, refills_server, regains_high, with_server}
+use Rattle.machine_rules.specs.Servers.{activates_if, activates_server, amount_of, at_once, high_server, plans_server, refills_server, regains_high, with_server}
 use Rattle.machine_rules.specs.Waking.{blocks, blocks_unordered, call_in, cancelled_value, ending_with, put_to_wait, started, starts, wakes, wakes_cancelled, wakes_telling, woken}
 use Rattle.machine_rules.specs.Mutexes.{LockAnswer, counted_up, counts, hands_over, is_free, lock_answer, locks, carries_out_lock, moves_unless_boosted, must_wait, owned_by, owns, owns_boosting, refused, releases, returns_from_wait, taken_by, takes, unlocks, waits_for_mutex, wakes_owner}
 use Rattle.machine_rules.specs.Conditions.{broadcasts, contends, reacquires_or_waits, released_mutex, signals, signals_best_times, signals_waiter, waits, waits_on_condition, waits_with_other_mutex}
@@ -59,7 +59,7 @@ module _ {P : Type 0} (given : Given P) (Q : ℕ → ℕ → Thread P → Type 0
   activates_server_hold t (Some server) s h = changes_hold given Q t (with_server (activate s.machine.now)) s (λ lt q. closed.activates s.machine.now t (thread_at s.machine t) q) h
 
   pub activates_if_hold : (b : Bool) (t : ℕ) (s : Turn P) → Holding s → Holding (activates_if b t s)
-  activates_if_hold true t s h = activates_server_hold t (thread_at s.machine t).server s h
+  activates_if_hold true t s h = activates_server_hold t (at_once (thread_at s.machine t).server) s h
   activates_if_hold false t s h = h
 
   pub plans_hold : (t : ℕ) (o : Option ServerState) (s : Turn P) → Holding s → Holding (plans_server t o s)
@@ -84,7 +84,7 @@ module _ {P : Type 0} (given : Given P) (Q : ℕ → ℕ → Thread P → Type 0
   pub wakes_telling_hold : (e : Event) (t : ℕ) (r : Res) (value : ℕ) (s : Turn P) → Holding s → Holding (wakes_telling e t r value s)
   wakes_telling_hold e t r value s h =
       let x = tells e (moves t (changes t (woken r value) s)) in
-      activates_server_hold t (high_server (thread_at x.machine t).server) x
+      activates_server_hold t (at_once (high_server (thread_at x.machine t).server)) x
       (changes_hold given Q t (woken r value) s (λ lt q. closed.wakes s.machine.now t (thread_at s.machine t) r value q) h)
 
   pub wakes_hold : (t : ℕ) (r : Res) (value : ℕ) (s : Turn P) → Holding s → Holding (wakes t r value s)
@@ -101,7 +101,7 @@ module _ {P : Type 0} (given : Given P) (Q : ℕ → ℕ → Thread P → Type 0
   wakes_acts : (e : Event) (t u : ℕ) (r : Res) (value : ℕ) (s : Turn P) → request_acts (thread_at (wakes_telling e t r value s).machine u) ≡ request_acts (thread_at s.machine u)
   wakes_acts e t u r value s =
       let x = tells e (moves t (changes t (woken r value) s)) in
-      activates_acts t u (high_server (thread_at x.machine t).server) x ∙ changed-keeps no_thread t u (woken r value) request_acts (λ th. refl) s.machine.threads
+      activates_acts t u (at_once (high_server (thread_at x.machine t).server)) x ∙ changed-keeps no_thread t u (woken r value) request_acts (λ th. refl) s.machine.threads
 
   wakes_cancels : (t : ℕ) (s : Turn P) → Cancels given (thread_at s.machine t) → Cancels given (thread_at (wakes_telling (event.Cancel t) t res.Zero 0 s).machine t)
   wakes_cancels t s (inl acts) = inl (wakes_acts (event.Cancel t) t t res.Zero 0 s ∙ acts)
@@ -115,7 +115,7 @@ module _ {P : Type 0} (given : Given P) (Q : ℕ → ℕ → Thread P → Type 0
   starts_hold t mask s h =
       let f = started given.bodies t mask s.machine.now in
       let x = tells (event.Start t) (moves t (changes t f s)) in
-      activates_server_hold t (thread_at x.machine t).server x (changes_hold given Q t f s (λ lt q. closed.starts s.machine.now t (thread_at s.machine t) mask lt q) h)
+      activates_server_hold t (at_once (thread_at x.machine t).server) x (changes_hold given Q t f s (λ lt q. closed.starts s.machine.now t (thread_at s.machine t) mask lt q) h)
 
   -- ---- mutexes
 

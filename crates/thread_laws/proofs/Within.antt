@@ -50,11 +50,13 @@ high_new : (now : ℕ) (p : Policy) (at : ℕ) → HighWithin now (server_of p a
 high_new now (policy.Fifo p) at = tt
 high_new now (policy.Rr p) at = tt
 high_new now (policy.Sporadic params) at = omega arith
+high_new now (policy.Strict params) at = omega arith
 
 slice_later : (p : Policy) (now slice : ℕ) → slice ≤ now → slice_charged p slice ≤ now + 1
 slice_later (policy.Fifo p) now slice h = omega arith
 slice_later (policy.Rr p) now slice h = omega arith
 slice_later (policy.Sporadic params) now slice h = omega arith
+slice_later (policy.Strict params) now slice h = omega arith
 
 module _ {P : Type 0} where
   abbrev Within : ℕ → ℕ → Thread P → Type 0

@@ -1,6 +1,11 @@
 //! Laws of each single thread over whole runs of the list machine: what one thread keeps through all calls, due items, sweeps and ticks,
 //! whatever the others do.
 //!
+//! Proved: `head_runs`: each tick counts for the head of the highest list that is not empty, and for no other thread.
+//! `threads_are_within`: no thread, slice or server has counted more ticks than there were. `frames_are_placed`: over the flat
+//! code of a script whose bodies can be flattened and whose calls name what it declares, each frame stands at a place of the
+//! code, in order and at most three to a thread.
+//!
 //! Each function stands for a law, which its clause states. None of them does anything when it is called.
 #![tactic(auto)]
 

@@ -1,5 +1,7 @@
 //! A list of threads in which each thread stands at most once.
 //!
+//! Proved: each call leaves exactly the list of its definition.
+//!
 //! Since there are at most 256 threads, the list has room for all of them, and no call takes memory or can be refused for
 //! want of room.
 #![tactic(auto)]

@@ -75,7 +75,7 @@ armed_anew threads new timers dues t th small is others h = record {
 }
 
 -- a thread that changes, and whose items are armed anew
-pub armed_after : (threads : List (Thread Cursor)) (timers : List Timer) (dues new : List (Option ℕ)) (t : ℕ) (th : Thread Cursor) → length threads ≤ 64 → t < length threads →
+pub armed_after : (threads : List (Thread Cursor)) (timers : List Timer) (dues new : List (Option ℕ)) (t : ℕ) (th : Thread Cursor) → length threads ≤ 256 → t < length threads →
     new ≡ timed t (thread_in (slice_set threads t th) t) dues → AreArmed threads timers dues → AreArmed (slice_set threads t th) timers new
 armed_after threads timers dues new t th few known is h =
     rw is (armed_anew threads (slice_set threads t th) timers dues t (thread_in (slice_set threads t th) t) (omega (arith, few, known)) refl
@@ -87,7 +87,7 @@ due_kept : (dues : List (Option ℕ)) (i : ℕ) (d : Option ℕ) → due_of i du
 due_kept dues i d is = rw (← is) (set-get_or dues i None)
 
 -- a thread whose server alone changes
-pub armed_refilled : (threads : List (Thread Cursor)) (timers : List Timer) (dues new : List (Option ℕ)) (t : ℕ) (th : Thread Cursor) → length threads ≤ 64 → t < length threads →
+pub armed_refilled : (threads : List (Thread Cursor)) (timers : List Timer) (dues new : List (Option ℕ)) (t : ℕ) (th : Thread Cursor) → length threads ≤ 256 → t < length threads →
     start_of th ≡ start_of (thread_in threads t) → timeout_of th ≡ timeout_of (thread_in threads t) →
     new ≡ refilling t (thread_in (slice_set threads t th) t) dues → AreArmed threads timers dues → AreArmed (slice_set threads t th) timers new
 armed_refilled threads timers dues new t th few known start timeout is h =
@@ -103,7 +103,7 @@ armed_refilled threads timers dues new t th few known start timeout is h =
     armed_after threads timers dues new t th few known (is ∙ ap (λ (x : Thread Cursor). refilling t x dues) here ∙ sym all ∙ ap (λ (x : Thread Cursor). timed t x dues) (sym here)) h
 
 -- a thread that waits until then, with the server that it had
-pub armed_waiting : (threads : List (Thread Cursor)) (timers : List Timer) (dues new : List (Option ℕ)) (t : ℕ) (th : Thread Cursor) (due : Option ℕ) → length threads ≤ 64 → t < length threads →
+pub armed_waiting : (threads : List (Thread Cursor)) (timers : List Timer) (dues new : List (Option ℕ)) (t : ℕ) (th : Thread Cursor) (due : Option ℕ) → length threads ≤ 256 → t < length threads →
     refill_of th ≡ refill_of (thread_in threads t) → start_of th ≡ None → timeout_of th ≡ due →
     new ≡ waiting_until t due dues → AreArmed threads timers dues → AreArmed (slice_set threads t th) timers new
 armed_waiting threads timers dues new t th due few known refill start timeout is h =
@@ -156,7 +156,7 @@ take_there (th ∷ ths) zero (suc u) other = refl
 take_there (th ∷ ths) (suc n) zero other = let one : suc n + 1 ≡ suc (n + 1) = omega arith in rw one refl
 take_there (th ∷ ths) (suc n) (suc u) other = let one : suc n + 1 ≡ suc (n + 1) = omega arith in rw one (take_there ths n u (λ e. other (ap suc e)))
 
-pub one_armed : (ths : List (Thread Cursor)) (dues new : List (Option ℕ)) (n : ℕ) → length ths ≤ 64 → n < length ths → new ≡ timed n (thread_in ths n) dues → AreArmed (take n ths) [] dues →
+pub one_armed : (ths : List (Thread Cursor)) (dues new : List (Option ℕ)) (n : ℕ) → length ths ≤ 256 → n < length ths → new ≡ timed n (thread_in ths n) dues → AreArmed (take n ths) [] dues →
     AreArmed (take (n + 1) ths) [] new
 one_armed ths dues new n few lt is h = rw is (armed_anew (take n ths) (take (n + 1) ths) [] dues n (thread_in ths n) (omega (arith, few, lt)) (take_here ths n lt) (λ u other. take_there ths n u other) h)
 

@@ -105,7 +105,7 @@ module _ (passes : ℕ → Bool) where
 
 -- ---- the first item
 
-module _ (threads : List (Thread Cursor)) (mutexes : List Mutex) (timers : List Timer) (now : ℕ) (dues : List (Option ℕ)) (few : length threads ≤ 64) (armed : AreArmed threads timers dues)
+module _ (threads : List (Thread Cursor)) (mutexes : List Mutex) (timers : List Timer) (now : ℕ) (dues : List (Option ℕ)) (few : length threads ≤ 256) (armed : AreArmed threads timers dues)
     (small : now ≤ last_instant) where
   abbrev m : Machine Cursor
   m = machine_at now (record { threads = threads; mutexes = mutexes; timers = timers })

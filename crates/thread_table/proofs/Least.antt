@@ -115,7 +115,7 @@ module _ (kind : ℕ → Item) (due : ℕ → Option ℕ) where
 
 -- ---- what is to come of the threads and the timers
 
-module _ (threads : List (Thread Cursor)) (mutexes : List Mutex) (timers : List Timer) (dues : List (Option ℕ)) (few : length threads ≤ 64) (armed : AreArmed threads timers dues) where
+module _ (threads : List (Thread Cursor)) (mutexes : List Mutex) (timers : List Timer) (dues : List (Option ℕ)) (few : length threads ≤ 256) (armed : AreArmed threads timers dues) where
   abbrev whole : Machine Cursor
   whole = machine_with threads mutexes timers
 

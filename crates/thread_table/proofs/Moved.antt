@@ -60,7 +60,7 @@ pub record WaitSo (threads : List (Thread Cursor)) (places : List (Option Place)
   pub each : (u : ℕ) → u < length threads → bare (place_in places u) ≡ bare (place_of 0 (waiting_in (thread_in threads u).status))
 
 -- the ties of new threads
-pub tied_anew : (threads : List (Thread Cursor)) (new : Links) (before after : List (Option Place)) → length threads < 65 → new.claims ≡ claims threads → WaitSo threads before →
+pub tied_anew : (threads : List (Thread Cursor)) (new : Links) (before after : List (Option Place)) → length threads < 257 → new.claims ≡ claims threads → WaitSo threads before →
     ArePriced new before after → IsTied threads new after
 tied_anew threads new before after few same so priced_so = record {
   few = omega arith;

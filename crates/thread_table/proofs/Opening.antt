@@ -58,7 +58,7 @@ one_more threads n owned chain new places after lt none changed priced placed h 
     }
 
 -- all of them
-pub all_tied : (threads : List (Thread Cursor)) (owned : List Mutex) (chain : Links) (places : List (Option Place)) → length threads ≤ 64 → NoneWaits threads →
+pub all_tied : (threads : List (Thread Cursor)) (owned : List Mutex) (chain : Links) (places : List (Option Place)) → length threads ≤ 256 → NoneWaits threads →
     AreAssigned threads (length threads) owned chain places → IsTied threads chain places
 all_tied threads owned chain places few none h =
     let long : length (claims_of threads) ≡ length threads = length-map threads claim_of in

@@ -1,11 +1,13 @@
 -- What a plan and a refill keep.
 use Rattle.std.proofs.Common.{◌≡◌, ◌<◌, ◌+◌, ◌∙◌, ℕ, List, [], ◌∷◌, Bool, true, false, None, Option, Some, ap, arith, length, option_map, refl, sym}
-use Rattle.std.specs.Prelude.{◌++◌, ◌==◌, ◌&&◌, if◌then◌else◌, nat_lt, option_and_then}
+use Rattle.std.specs.Prelude.{◌++◌, ◌==◌, ◌&&◌, if◌then◌else◌, nat_lt, not, option_and_then}
 use Rattle.script_flat.specs.declared.cursor.Cursor.{Cursor}
 use Rattle.script_tree.specs.declared.policy.Policy.{Policy}
 use Rattle.script_tree.specs.declared.policy.Policy.TheVariants as policy
 use Rattle.sporadic_server.specs.declared.Replenish.{Replenish}
-use Rattle.sporadic_server.specs.Server.{ServerState, is_high, next_due, plan, replenishment}
+use Rattle.sporadic_server.specs.declared.ServerKind.{ServerKind}
+use Rattle.sporadic_server.specs.declared.ServerKind.TheVariants as kind
+use Rattle.sporadic_server.specs.Server.{ServerState, is_high, is_high_as, joins_as, next_due, plan, planned_in, replenishment}
 use Rattle.machine_rules.specs.Priorities.{Claim, assigned_in, assigned_of, assigned_under}
 use Rattle.machine_rules.specs.Servers.{with_server}
 use Rattle.machine_rules.specs.State.{Thread, Timer}
@@ -36,14 +38,27 @@ has_less n max h = grind arith
 
 -- where there is room for one more, the plan changes no priority
 plan_high : (s : ServerState) → nat_lt (length s.pending + 1) s.params.max ≡ true → is_high (plan s) ≡ is_high s
-plan_high s room =
-    ap (λ (b : Bool). nat_lt 0 s.capacity && b)
-    (ap (λ (n : ℕ). nat_lt n s.params.max) (longer s.pending (replenishment s)) ∙ room ∙ sym (has_less (length s.pending) s.params.max room))
+plan_high s room = by_kind s.kind
+  where
+    by_kind : (k : ServerKind) → is_high_as k s.capacity (length (planned_in (joins_as k (length s.pending) s.params.max) (replenishment s) s.pending)) s.params.max ≡ is_high_as k s.capacity (length s.pending) s.params.max
+    by_kind kind.Sporadic =
+        ap (λ (b : Bool). nat_lt 0 s.capacity && b)
+        (ap (λ (n : ℕ). nat_lt n s.params.max) (longer s.pending (replenishment s)) ∙ room ∙ sym (has_less (length s.pending) s.params.max room))
+    by_kind kind.Strict = refl
+
+-- and it joins no other
+not_joined : (k : ServerKind) (n max : ℕ) → nat_lt (n + 1) max ≡ true → joins_as k n max ≡ false
+not_joined kind.Sporadic n max room = refl
+not_joined kind.Strict n max room = ap not (has_less n max room)
+
+plan_due : (s : ServerState) → nat_lt (length s.pending + 1) s.params.max ≡ true → next_due (plan s) ≡ next_due (record s { pending = s.pending ++ replenishment s ∷ [] })
+plan_due s room = ap (λ (b : Bool). next_due (record s { pending = planned_in b (replenishment s) s.pending })) (not_joined s.kind (length s.pending) s.params.max room)
 
 plan_assigned : (p : Policy) (s : ServerState) → nat_lt (length s.pending + 1) s.params.max ≡ true → assigned_under p (Some (plan s)) ≡ assigned_under p (Some s)
 plan_assigned (policy.Fifo p) s room = refl
 plan_assigned (policy.Rr p) s room = refl
 plan_assigned (policy.Sporadic params) s room = ap (λ (b : Bool). if b then s.params.high else s.params.low) (plan_high s room)
+plan_assigned (policy.Strict params) s room = ap (λ (b : Bool). if b then s.params.high else s.params.low) (plan_high s room)
 
 nothing_due : (rs : List Replenish) (r : Replenish) (s : ServerState) → (length rs == 0) ≡ true → (next_due (record s { pending = rs }) ≡ None) × (next_due (record s { pending = rs ++ r ∷ [] }) ≡ Some r.due)
 nothing_due [] r s h = (refl, refl)
@@ -62,9 +77,9 @@ planned_one policy (Some s) p due before told armed assigned_so th same is =
     let one : p ≡ planned_of s = cc in
     let refills : refill_of th ≡ next_due (plan s) = ap (option_and_then next_due) is in
     record {
-      first = λ h. (let both = nothing_due s.pending (replenishment s) s (ap (λ (x : Planned). x.is_first) (sym one) ∙ h) in
-          (armed ∙ both.0, refills ∙ both.1 ∙ ap (λ (x : Planned). Some (x.replenish.due)) (sym one)));
-      later = λ h. armed ∙ due_later s.pending (replenishment s) s (ap (λ (x : Planned). x.is_first) (sym one) ∙ h) ∙ sym refills;
+      first = λ room h. (let both = nothing_due s.pending (replenishment s) s (ap (λ (x : Planned). x.is_first) (sym one) ∙ h) in
+          (armed ∙ both.0, refills ∙ plan_due s (ap (λ (x : Planned). x.has_room) (sym one) ∙ room) ∙ both.1 ∙ ap (λ (x : Planned). Some (x.replenish.due)) (sym one)));
+      later = λ room h. armed ∙ due_later s.pending (replenishment s) s (ap (λ (x : Planned). x.is_first) (sym one) ∙ h) ∙ sym (refills ∙ plan_due s (ap (λ (x : Planned). x.has_room) (sym one) ∙ room));
       same = λ h. ap (λ (x : Policy). assigned_under x th.server) same ∙ ap (assigned_under policy) is ∙ plan_assigned policy s (ap (λ (x : Planned). x.has_room) (sym one) ∙ h) ∙ sym assigned_so;
     }
 

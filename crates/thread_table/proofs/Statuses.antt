@@ -35,6 +35,8 @@ activated_under now (policy.Fifo p) o = refl
 activated_under now (policy.Rr p) o = refl
 activated_under now (policy.Sporadic params) None = refl
 activated_under now (policy.Sporadic params) (Some s) = refl
+activated_under now (policy.Strict params) None = refl
+activated_under now (policy.Strict params) (Some s) = refl
 
 -- an activation changes no priority
 pub activated_claim : {P : Type 0} (now : ℕ) (th : Thread P) → claim_of (with_server (activate now) th) ≡ claim_of th

@@ -12,9 +12,9 @@ use Rattle.thread_table.specs.Table.{Table, machine_with}
 abbrev pub set_awaited : Thread Cursor → ℕ
 set_awaited th = signals_awaited (waiting_in th.status)
 
--- there is room for 64 threads, and the sets of the first are theirs
+-- there is room for 256 threads, and the sets of the first are theirs
 pub record AreAwaited (threads : List (Thread Cursor)) (n : ℕ) (sets : List ℕ) : Type 0 where
-  pub long : length sets ≡ 64
+  pub long : length sets ≡ 256
   pub each : (t : ℕ) → t < n → slice_index_or sets t 0 ≡ set_awaited (thread_in threads t)
 
 -- the thread that accepts a record as it is generated

@@ -8,6 +8,6 @@ use Rattle.thread_table.specs.Times.{refill_of}
 
 -- a thread after a plan, where its refill was due and its assigned priority was that
 pub record IsPlanned (th : Thread Cursor) (due : Option ℕ) (assigned : ℕ) (p : Planned) : Type 0 where
-  pub first : p.is_first ≡ true → (due ≡ None) × (refill_of th ≡ Some p.replenish.due)
-  pub later : p.is_first ≡ false → due ≡ refill_of th
+  pub first : p.has_room ≡ true → p.is_first ≡ true → (due ≡ None) × (refill_of th ≡ Some p.replenish.due)
+  pub later : p.has_room ≡ true → p.is_first ≡ false → due ≡ refill_of th
   pub same : p.has_room ≡ true → assigned_of th ≡ assigned

@@ -18,7 +18,7 @@ pub record AreWaiting (threads : List (Thread Cursor)) (mutexes : List Mutex) (p
   pub each : (t : ℕ) → t < length threads → place_in places t ≡ place_of (exec_in (claims threads) mutexes t) (waiting_in (thread_in threads t).status)
 
 pub record IsTied (threads : List (Thread Cursor)) (chain : Links) (places : List (Option Place)) : Type 0 where
-  pub few : length threads ≤ 64
+  pub few : length threads ≤ 256
   pub claims : chain.claims ≡ claims threads
   pub waiting : AreWaiting threads chain.mutexes places
 

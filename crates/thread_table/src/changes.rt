@@ -12,7 +12,6 @@ ghost use Rattle.thread_blocks.specs.Ends.{refilled_of};
 ghost use Rattle.thread_blocks.specs.Handlers.{CanEnd, HandlersBegin};
 ghost use Rattle.thread_blocks.specs.Running.{HasRun, HasTime};
 ghost use Rattle.thread_blocks.specs.Sleeping.{waits_for_time};
-ghost use Rattle.thread_blocks.specs.Unused.{IsUnused};
 ghost use Rattle.thread_table.specs.Table as table;
 ghost use Rattle.thread_table.specs.Table.{with_thread};
 ghost use Rattle.thread_table.specs.Movers.{KeepsExec, TellsMoved};
@@ -82,7 +81,7 @@ impl Table {
     /// The activation time of its server is now. No execution priority changes.
     pub fn activate(&mut self, t: Tid, now: Tick)
         requires known { t < length self.old.threads }
-        requires unused { IsUnused (thread_in self.old.threads t).server }
+        requires unused { consumed_in (thread_in self.old.threads t).server ≡ 0 }
         requires early { now ≤ 10 ^ 18 }
         ensures table { self.new ≡ with_thread t (with_server (activate now)) self.old }
         ensures same { KeepsExec self.old self.new }

@@ -76,7 +76,7 @@ fn assign_all(threads: &Threads, chain: &mut Chain, waits: &mut Waits)
 impl Table {
     /// The dormant threads, the free mutexes and the disarmed timers of a script.
     pub fn open(alloc: Global, script: &Script) -> Result<Table, AllocError>
-        requires threads { length (threads_of script.now) ≤ 64 }
+        requires threads { length (threads_of script.now) ≤ 256 }
         requires timers { length (timers_of script.now) ≤ 32 }
         ensures { IfOk result (λ t. t ≡ record { threads = map thread_opened (threads_of script.now); mutexes = mutexes_of script.now; timers = timers_of script.now }) }
     {

@@ -4,6 +4,7 @@ ghost use Rattle.std.specs.List.{list_any};
 ghost use Rattle.machine_rules.specs.Lists.{is};
 ghost use Rattle.machine_rules.specs.Mutexes.{is_boosting};
 ghost use Rattle.machine_rules.specs.State.{Mutex};
+ghost use Rattle.machine_rules.specs.Servers.{has_run};
 ghost use Rattle.machine_rules.specs.Threads.{mutex_in, thread_in};
 ghost use Rattle.inherit_chain.specs.Chains.{IsPriority, OwnersAreThreads, closes_cycle_in};
 ghost use Rattle.machine_rules.specs.Priorities.{claims};
@@ -17,7 +18,7 @@ use tick_num::{ObjId, Prio, Tid};
 impl Table {
     pub fn count(&self) -> u16
         ensures value { result ≡ length self.now.threads }
-        ensures few { result ≤ 64 }
+        ensures few { result ≤ 256 }
     {
         self.threads.count()
     }
@@ -27,6 +28,13 @@ impl Table {
         ensures { result.now ≡ thread_in self.now.threads t }
     {
         self.threads.get(t)
+    }
+
+    /// Whether that thread has an open run of its server; none has where there is no such thread.
+    pub fn has_run(&self, t: Tid) -> bool
+        ensures { result ≡ has_run (thread_in self.now.threads t).server }
+    {
+        self.threads.has_run(t)
     }
 
     pub fn mutex(&self, k: ObjId) -> &MutexState

@@ -20,12 +20,13 @@ use machine_rules::{BodyOf, FrameKind};
 use script_flat::Code;
 use thread_blocks::Threads;
 use tick_num::{ObjId, SigSet, Tid};
+use wait_lists::WaitObj;
 
 // The signals that each thread waits for.
-fn awaited_sets(threads: &Threads) -> [SigSet; 64]
+fn awaited_sets(threads: &Threads) -> [SigSet; 256]
     ensures { AreAwaited threads.now (length threads.now) result }
 {
-    let mut sets = [SigSet::new(0); 64];
+    let mut sets = [SigSet::new(0); 256];
     for number in 0..threads.count() {
         sets[number as usize] = threads.get(tid_of(number)).awaited_signals();
     }
@@ -54,9 +55,24 @@ impl Table {
         self.threads.get_mut(t).catch_signal(code, h, value);
     }
 
-    /// The thread that accepts the signal, 0 to 31, for the process as it is generated; `None` exactly where none does.
-    #[tactic(auto, using(crate::proofs::Accepting::sets_many))]
+    /// The thread that accepts the signal, 0 to 31, for the process as it is generated; `None` exactly where none does. Where no thread
+    /// waits for a signal that is one comparison.
+    #[inline(always)]
     pub fn acceptor(&self, signal: u8) -> Option<Tid>
+        requires { signal < 32 }
+        ensures { (r : SignalRecord) → r.signal ≡ signal → r.target ≡ None → result ≡ acceptor_in self.now r }
+    {
+        self.waits.serve_by_the_rules();
+        if self.waits.best(WaitObj::SigWait).is_none() {
+            return None;
+        }
+        self.acceptor_among(signal)
+    }
+
+    // The same, where some thread waits for a signal.
+    #[inline(never)]
+    #[tactic(auto, using(crate::proofs::Accepting::sets_many))]
+    fn acceptor_among(&self, signal: u8) -> Option<Tid>
         requires { signal < 32 }
         ensures { (r : SignalRecord) → r.signal ≡ signal → r.target ≡ None → result ≡ acceptor_in self.now r }
     {

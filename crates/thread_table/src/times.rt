@@ -96,7 +96,7 @@ pub(crate) fn retime(threads: &Threads, wheel: &mut Wheel, t: Tid)
 
 /// The items of all threads are armed, where nothing was.
 pub(crate) fn time_all(threads: &Threads, wheel: &mut Wheel)
-    requires few { length threads.now ≤ 64 }
+    requires few { length threads.now ≤ 256 }
     requires first { AreArmed [] [] wheel.old.dues }
     ensures { AreArmed threads.now [] wheel.new.dues }
 {

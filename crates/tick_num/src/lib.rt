@@ -1,4 +1,7 @@
 //! The small numbers of the machine, each in its range, and the words that every layer shares.
+//!
+//! Proved: every function's result: ranges of numbers, `Item::of` and `number` undo one another, members of signal sets, texts of
+//! results.
 #![tactic(auto)]
 
 mod ids;

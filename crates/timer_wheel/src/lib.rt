@@ -1,7 +1,10 @@
 //! The due ticks of up to 1,024 items, in a wheel of eight levels: the lowest has 2,048 slots of one tick each, and each of the seven
 //! above it 256, of 2,048 ticks each and then of 256 times as many as at the level below.
 //!
-//! Contracts see a finite map from item number to due tick, and the last `now` of `pop_due`; `specs/Dues.antt` states what each call
+//! Proved: a finite map from item to due tick: `next` is the least due tick, `first_due` the least item that is due, and
+//! `pop_due` takes it out.
+//!
+//! Contracts see a finite map from item number to due tick, and the last `now` of `first_due` or `pop_due`; `specs/Dues.antt` states what each call
 //! answers. The wheel stands at a tick that is at most that last `now`. An item that is due later stands on the list of its slot, bits
 //! tell which slots are taken, and an item whose tick has passed is a bit of a set, so that the least
 //! number is found at once. The least later due tick is kept, so that `next` searches no slot, a tick before which nothing is due, so

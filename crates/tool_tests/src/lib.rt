@@ -25,4 +25,6 @@ mod parts;
 #[cfg(test)]
 mod responses;
 #[cfg(test)]
+mod upgrades;
+#[cfg(test)]
 mod waiters;

@@ -1,5 +1,8 @@
 //! Who waits for which object, with the priority and the serial that the order of service goes by.
 //!
+//! Proved: the place of each waiting thread; `best`, `next_waiter` and `best_for_signal` are the first by priority, then age, and
+//! with a machine's waits its best waiter and its acceptor of a signal for the process.
+//!
 //! Contracts see the place of each thread; the order of those that wait for one object follows from the places, and is that of
 //! `machine_rules`: the greatest priority first, and among equals the one that has waited longest. The waiters of each object stand
 //! on a linked list in that order, so that the first of them, and the one after each, is read and not searched. No call after `open`

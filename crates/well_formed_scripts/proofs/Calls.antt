@@ -21,9 +21,9 @@ use Rattle.script_table.specs.declared.form.MessageCall.{MessageCall}
 use Rattle.script_table.specs.declared.form.MessageCall.TheVariants as message
 use Rattle.script_tree.specs.declared.name_kind.NameKind.TheVariants.{Thread, Mutex, Cond, Sem, Queue, Timer}
 use Rattle.script_table.specs.Names.{Entry}
-use Rattle.script_table.specs.Operands.{map_two, map_three, map_four, map_five, number_in, amount_at, priority_at, operand_at, signal_at, signals_at, named_at, fifo_at, rr_at, sporadic_at}
+use Rattle.script_table.specs.Operands.{map_two, map_three, map_four, map_five, number_in, amount_at, priority_at, operand_at, signal_at, signals_at, named_at, fifo_at, rr_at, sporadic_at, strict_at}
 use Rattle.script_table.specs.Calls.{call_of, mutex_call, message_call, sem_call, signal_call, thread_call, time_call}
-use Rattle.well_formed_scripts.proofs.Operands.{Said, fifo_fits, map_said, priority_is, rr_fits, sporadic_fits, two_said}
+use Rattle.well_formed_scripts.proofs.Operands.{Said, fifo_fits, map_said, priority_is, rr_fits, sporadic_fits, strict_fits, two_said}
 
 pub record IsPlainCall (c : Call) : Type 0 where
   pub fits : CallFits c
@@ -75,6 +75,7 @@ thread_plain es thread.Setprio words =
 thread_plain es thread.SetschedFifo words = setsched (named_at Thread es 1 words) (fifo_at 3 words) (fifo_fits 3 words)
 thread_plain es thread.SetschedRr words = setsched (named_at Thread es 1 words) (rr_at 3 words) (rr_fits 3 words)
 thread_plain es thread.SetschedSporadic words = setsched (named_at Thread es 1 words) (sporadic_at words) (sporadic_fits words)
+thread_plain es thread.SetschedStrict words = setsched (named_at Thread es 1 words) (strict_at words) (strict_fits words)
 
 mutex_plain : (es : List Entry) (f : MutexCall) (words : List (List ℕ)) → Said IsPlainCall (mutex_call es f words)
 mutex_plain es mutex.Lock words = one calls.Lock (λ k. record { fits = tt; plain = refl }) (named_at Mutex es 1 words)

@@ -20,9 +20,9 @@ use Rattle.script_tree.specs.declared.name_kind.NameKind.{NameKind}
 use Rattle.script_tree.specs.declared.name_kind.NameKind.TheVariants as kind
 use Rattle.script_table.specs.Names.{Entry}
 use Rattle.script_table.specs.Structure.{body_kind}
-use Rattle.script_table.specs.Operands.{map_two, number_in, amount_at, priority_at, signal_at, name_at, named_at, fifo_at, rr_at, sporadic_at}
+use Rattle.script_table.specs.Operands.{map_two, number_in, amount_at, priority_at, signal_at, name_at, named_at, fifo_at, rr_at, sporadic_at, strict_at}
 use Rattle.script_table.specs.Meaning.{protect, queue, kind_of_object, object_decl, runs, ignores, action_decl, thread_at, thread_dormant, body_decl, kind_of_body}
-use Rattle.well_formed_scripts.proofs.Operands.{Said, fifo_fits, priority_is, rr_fits, sporadic_fits}
+use Rattle.well_formed_scripts.proofs.Operands.{Said, fifo_fits, priority_is, rr_fits, sporadic_fits, strict_fits}
 use Rattle.well_formed_scripts.proofs.Steps.{AreSound}
 
 pub record IsSoundDecl (d : Decl) : Type 0 where
@@ -112,6 +112,8 @@ module _ (steps : List Step) where
   bodies body.RrDormant words h = threads_dormant (rr_at 3 words) (rr_fits 3 words) h
   bodies body.SporadicAt words h = threads_at (sporadic_at words) (amount_at 9 words) (sporadic_fits words) h
   bodies body.SporadicDormant words h = threads_dormant (sporadic_at words) (sporadic_fits words) h
+  bodies body.StrictAt words h = threads_at (strict_at words) (amount_at 9 words) (strict_fits words) h
+  bodies body.StrictDormant words h = threads_dormant (strict_at words) (strict_fits words) h
   bodies body.Handler words h = record { fits = h.fits; guarded = (h.plain, (let d = h.deep in omega arith)) }
   bodies body.Cleanup words h = record { fits = h.fits; guarded = (h.plain, (let d = h.deep in omega arith)) }
 

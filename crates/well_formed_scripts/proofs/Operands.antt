@@ -2,12 +2,13 @@
 use Rattle.std.proofs.Common.{Bool, List, None, Option, Some, arith, false, refl, true, ℕ, ◌≡◌, ◌≤◌}
 use Rattle.std.specs.Option.{option_map}
 use Rattle.std.specs.Prelude.{nat_le, nat_lt, ◌&&◌, if◌then◌else◌}
-use Rattle.tick_num.specs.Parameters.{Parameters}
-use Rattle.script_tree.specs.declared.policy.Policy.TheVariants.{Fifo, Rr, Sporadic}
+use Rattle.tick_num.specs.Parameters.{Parameters, AreParameters}
+use Rattle.script_tree.specs.declared.policy.Policy.TheVariants.{Fifo, Rr, Sporadic, Strict}
 use Rattle.machine_rules.specs.WellFormed.{IsPriority, PolicyFits}
+use Rattle.script_table.specs.Patterns.{greatest}
 use Rattle.script_table.specs.Words.{value_of}
 use Rattle.script_table.specs.Ranges.{is_within, word}
-use Rattle.script_table.specs.Operands.{amount_at, fifo_at, joined, map_five, map_two, number_in, priority_at, rr_at, server_at, server_of, sporadic_at}
+use Rattle.script_table.specs.Operands.{amount_at, fifo_at, joined, map_five, map_two, number_in, priority_at, rr_at, server_at, server_of, sporadic_at, strict_at}
 
 -- of what is said, where something is
 abbrev pub Said : {A : Type 0} → (A → Type 0) → Option A → Type 0
@@ -46,23 +47,38 @@ priority_is k words = priority (priority_at k words) (number_between 1 255 k wor
 
 -- ---- policies
 
-abbrev ParametersFit : Parameters → Type 0
-ParametersFit params = IsPriority params.low × IsPriority params.high
+server_fits : (high low period budget max : ℕ) → IsPriority high → IsPriority low → period ≤ greatest → IsBetween 1 16 max → (b : Bool) → (nat_lt low high && (nat_le 1 budget && nat_le budget period)) ≡ b →
+    Said AreParameters (if b then Some (record { high = high; low = low; period = period; budget = budget; max = max }) else None)
+server_fits high low period budget max h k p m true e = record {
+  low_above_zero = k.positive;
+  low_below_high = grind arith;
+  high_small = h.small;
+  budget_above_zero = grind arith;
+  budget_within_period = grind arith;
+  period_small = p;
+  some_pending = m.least;
+  few_pending = m.most;
+}
+server_fits high low period budget max h k p m false e = tt
 
-server_fits : (high low period budget max : ℕ) → IsPriority high → IsPriority low → Said ParametersFit (server_of high low period budget max)
-server_fits high low period budget max h k = by_test (nat_lt low high && (nat_le 1 budget && nat_le budget period))
-  where
-    by_test : (b : Bool) → Said ParametersFit (if b then Some (record { high = high; low = low; period = period; budget = budget; max = max }) else None)
-    by_test true = (k, h)
-    by_test false = tt
+joined_fits : (a b c d e : Option ℕ) → Said IsPriority a → Said IsPriority b → Said (IsBetween 0 greatest) c → Said (IsBetween 1 16) e → Said AreParameters (joined (map_five server_of a b c d e))
+joined_fits None b c d e h k p m = tt
+joined_fits (Some high) None c d e h k p m = tt
+joined_fits (Some high) (Some low) None d e h k p m = tt
+joined_fits (Some high) (Some low) (Some period) None e h k p m = tt
+joined_fits (Some high) (Some low) (Some period) (Some budget) None h k p m = tt
+joined_fits (Some high) (Some low) (Some period) (Some budget) (Some max) h k p m = server_fits high low period budget max h k p.most m (nat_lt low high && (nat_le 1 budget && nat_le budget period)) refl
 
-joined_fits : (a b c d e : Option ℕ) → Said IsPriority a → Said IsPriority b → Said ParametersFit (joined (map_five server_of a b c d e))
-joined_fits None b c d e h k = tt
-joined_fits (Some high) None c d e h k = tt
-joined_fits (Some high) (Some low) None d e h k = tt
-joined_fits (Some high) (Some low) (Some period) None e h k = tt
-joined_fits (Some high) (Some low) (Some period) (Some budget) None h k = tt
-joined_fits (Some high) (Some low) (Some period) (Some budget) (Some max) h k = server_fits high low period budget max h k
+server_is : (words : List (List ℕ)) → Said AreParameters (server_at words)
+server_is words =
+    joined_fits (priority_at 3 words) (priority_at 4 words) (amount_at 5 words) (amount_at 6 words) (number_in 1 16 7 words) (priority_is 3 words) (priority_is 4 words)
+    (number_between 0 greatest 5 words) (number_between 1 16 7 words)
+
+-- parameters have priorities
+priorities : (p : Parameters) → AreParameters p → IsPriority p.low × IsPriority p.high
+priorities p h =
+    let a = h.low_above_zero in let b = h.low_below_high in let c = h.high_small in
+    (record { positive = a; small = omega arith }, record { positive = omega arith; small = c })
 
 pub fifo_fits : (k : ℕ) (words : List (List ℕ)) → Said PolicyFits (fifo_at k words)
 fifo_fits k words = map_said IsPriority PolicyFits Fifo (λ n h. h) (priority_at k words) (priority_is k words)
@@ -71,5 +87,7 @@ pub rr_fits : (k : ℕ) (words : List (List ℕ)) → Said PolicyFits (rr_at k w
 rr_fits k words = map_said IsPriority PolicyFits Rr (λ n h. h) (priority_at k words) (priority_is k words)
 
 pub sporadic_fits : (words : List (List ℕ)) → Said PolicyFits (sporadic_at words)
-sporadic_fits words = map_said ParametersFit PolicyFits Sporadic (λ params h. h) (server_at words)
-    (joined_fits (priority_at 3 words) (priority_at 4 words) (amount_at 5 words) (amount_at 6 words) (number_in 1 16 7 words) (priority_is 3 words) (priority_is 4 words))
+sporadic_fits words = map_said AreParameters PolicyFits Sporadic priorities (server_at words) (server_is words)
+
+pub strict_fits : (words : List (List ℕ)) → Said PolicyFits (strict_at words)
+strict_fits words = map_said AreParameters PolicyFits Strict (λ p h. let both = priorities p h in (both.0, both.1, h)) (server_at words) (server_is words)

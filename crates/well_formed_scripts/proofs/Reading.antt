@@ -1,6 +1,6 @@
 -- What is read without a fault is well formed.
 use Rattle.std.proofs.Common.{Bool, List, None, Ok, Option, Some, [], ap, arith, false, length, refl, subst, sym, true, ℕ, ◌+◌, ◌≡◌, ◌≤◌, ◌∷◌, ◌++◌, ◌∙◌}
-use Rattle.std.specs.Prelude.{nat_lt, not, option_to_list, unwrap_or, ◌||◌, if◌then◌else◌}
+use Rattle.std.specs.Prelude.{Result, Err, nat_lt, not, option_to_list, unwrap_or, ◌||◌, if◌then◌else◌}
 use Rattle.std.specs.Option.{option_map}
 use Rattle.std.proofs.lemmas.Bool.{ltb-false}
 use Rattle.script_lex.specs.Lines.{lines_of}
@@ -34,7 +34,10 @@ use Rattle.script_table.specs.Operands.{number_in}
 use Rattle.script_table.specs.Calls.{call_of}
 use Rattle.script_table.specs.Meaning.{action_decl, object_decl, plain_step, runs_cleanup}
 use Rattle.script_table.specs.Build.{Built, Opened, after, after_form, built_from, close_one, closed, nothing_built, script_of, script_of_built}
-use Rattle.script_table.specs.Read.{faults, read, said, verdict}
+use Rattle.script_table.specs.declared.version.Version.{Version}
+use Rattle.script_table.specs.Versions.{most_of}
+use Rattle.script_table.specs.Heading.{Beginning, heading}
+use Rattle.script_table.specs.Read.{faults_in, read_behind, read_in, read, said_in, verdict}
 use Rattle.well_formed_scripts.proofs.Operands as operands
 use Rattle.well_formed_scripts.proofs.Operands.{IsBetween, number_between}
 use Rattle.well_formed_scripts.proofs.Steps.{call_sound, own_guard, plain_sound}
@@ -184,50 +187,50 @@ keeps_after es t openings b (form.Close f) bar' words here few barred k =
 -- ---- all lines
 
 -- what these lines make of what is built before them
-abbrev Goes : List Entry → ℕ → ℕ → List (List ℕ) → Type 0
-Goes es n m lines = (t : Tally) (openings : List Opening) (b : Built) → phase_one patterns n (Some openings) lines ≡ [] → phase_three m t (said_from patterns n lines) ≡ [] → Keeps t openings b →
-    IsWellFormed (script_of_built (built_from es b (said_from patterns n lines)))
+abbrev Goes : Version → List Entry → ℕ → ℕ → List (List ℕ) → Type 0
+Goes v es n m lines = (t : Tally) (openings : List Opening) (b : Built) → phase_one (patterns v) n (Some openings) lines ≡ [] → phase_three m t (said_from (patterns v) n lines) ≡ [] → Keeps t openings b →
+    IsWellFormed (script_of_built v (built_from es b (said_from (patterns v) n lines)))
 
-well_formed_from : (es : List Entry) (n m : ℕ) (t : Tally) (openings : List Opening) (b : Built) (lines : List (List ℕ)) → phase_one patterns n (Some openings) lines ≡ [] →
-    phase_three m t (said_from patterns n lines) ≡ [] → Keeps t openings b → IsWellFormed (script_of_built (built_from es b (said_from patterns n lines)))
+well_formed_from : (v : Version) (es : List Entry) (n m : ℕ) (t : Tally) (openings : List Opening) (b : Built) (lines : List (List ℕ)) → phase_one (patterns v) n (Some openings) lines ≡ [] →
+    phase_three m t (said_from (patterns v) n lines) ≡ [] → Keeps t openings b → IsWellFormed (script_of_built v (built_from es b (said_from (patterns v) n lines)))
 unfolding phase_one said_from
-well_formed_from es n m t openings b [] one three k = record { quantum = k.quantum; priorities = k.decls.fit; guards = k.decls.guarded }
-well_formed_from es n m t openings b (line ∷ lines) one three k =
-    by_row (row_of_line patterns line) refl three (λ t' openings' b' more more' k'. well_formed_from es (n + 1) m t' openings' b' lines more more' k')
+well_formed_from v es n m t openings b [] one three k = record { quantum = k.quantum; priorities = k.decls.fit; guards = k.decls.guarded }
+well_formed_from v es n m t openings b (line ∷ lines) one three k =
+    by_row (row_of_line (patterns v) line) refl three (λ t' openings' b' more more' k'. well_formed_from v es (n + 1) m t' openings' b' lines more more' k')
   where
-    of_line : line_faults patterns (Some openings) line ≡ []
-    of_line = no_kinds 1 n (line_faults patterns (Some openings) line) (nil_left (faults_at 1 n (line_faults patterns (Some openings) line)) (phase_one patterns (n + 1) (behind_line patterns (Some openings) line) lines) one)
+    of_line : line_faults (patterns v) (Some openings) line ≡ []
+    of_line = no_kinds 1 n (line_faults (patterns v) (Some openings) line) (nil_left (faults_at 1 n (line_faults (patterns v) (Some openings) line)) (phase_one (patterns v) (n + 1) (behind_line (patterns v) (Some openings) line) lines) one)
 
-    behind_it : (o : Option Row) → row_of_line patterns line ≡ o → phase_one patterns (n + 1) (Some (opened_by o openings)) lines ≡ []
+    behind_it : (o : Option Row) → row_of_line (patterns v) line ≡ o → phase_one (patterns v) (n + 1) (Some (opened_by o openings)) lines ≡ []
     behind_it o e =
-        subst (λ (open' : Open). phase_one patterns (n + 1) open' lines ≡ []) (ap (λ (ks : List FaultKind). behind ks (row_of_line patterns line) (Some openings)) of_line ∙ ap (λ (o : Option Row). Some (opened_by o openings)) e)
-        (nil_right (faults_at 1 n (line_faults patterns (Some openings) line)) (phase_one patterns (n + 1) (behind_line patterns (Some openings) line) lines) one)
+        subst (λ (open' : Open). phase_one (patterns v) (n + 1) open' lines ≡ []) (ap (λ (ks : List FaultKind). behind ks (row_of_line (patterns v) line) (Some openings)) of_line ∙ ap (λ (o : Option Row). Some (opened_by o openings)) e)
+        (nil_right (faults_at 1 n (line_faults (patterns v) (Some openings) line)) (phase_one (patterns v) (n + 1) (behind_line (patterns v) (Some openings) line) lines) one)
 
-    place : place_of_row (Some openings) (row_of_line patterns line) ≡ []
+    place : place_of_row (Some openings) (row_of_line (patterns v) line) ≡ []
     place =
         let words = line_words line in
-        let spelled = faults_by (fitting_some patterns words) patterns words in
-        let found = place_of_row (Some openings) (row_of_line patterns line) in
+        let spelled = faults_by (fitting_some (patterns v) words) (patterns v) words in
+        let found = place_of_row (Some openings) (row_of_line (patterns v) line) in
         nil_right spelled found (nil_right (when (has_bad_byte line) BadByte) (spelled ++ found) of_line)
 
     said_of : Option Row → List Said
-    said_of o = option_to_list (option_map (λ row. record { line = n; row = row; words = line_words line }) o) ++ said_from patterns (n + 1) lines
+    said_of o = option_to_list (option_map (λ row. record { line = n; row = row; words = line_words line }) o) ++ said_from (patterns v) (n + 1) lines
 
-    by_row : (o : Option Row) → row_of_line patterns line ≡ o → phase_three m t (said_of o) ≡ [] → Goes es (n + 1) m lines → IsWellFormed (script_of_built (built_from es b (said_of o)))
+    by_row : (o : Option Row) → row_of_line (patterns v) line ≡ o → phase_three m t (said_of o) ≡ [] → Goes v es (n + 1) m lines → IsWellFormed (script_of_built v (built_from es b (said_of o)))
     by_row None e three' rest = rest t openings b (behind_it None e) three' k
     by_row (Some row) e three' rest =
         let s : Said = record { line = n; row = row; words = line_words line } in
         let t' = tallied t row.form in
-        let others = said_from patterns (n + 1) lines in
+        let others = said_from (patterns v) (n + 1) lines in
         let here = no_kinds 3 n (range_faults t' s) (nil_left (faults_at 3 n (range_faults t' s)) (phase_three m t' others) three') in
         let limits = nil_right (server_faults row.form s.words) (when (is_too_many t' row.form) TooMany)
         (nil_right (place_faults range_fault row.places s.words) (server_faults row.form s.words ++ when (is_too_many t' row.form) TooMany) here) in
         let stands : not_here row.form row.bar openings ≡ [] = subst (λ (o : Option Row). place_of_row (Some openings) o ≡ []) e place in
         rest t' (opened row.form openings) (after es b s) (behind_it (Some row) e) (nil_right (faults_at 3 n (range_faults t' s)) (phase_three m t' others) three')
-        (keeps_after es t openings b row.form row.bar s.words stands (not_so (is_too_many t' row.form) TooMany limits) (fitting_barred (line_words line) row e) k)
+        (keeps_after es t openings b row.form row.bar s.words stands (not_so (is_too_many t' row.form) TooMany limits) (fitting_barred v (line_words line) row e) k)
 
-keeps_nothing : Keeps no_tally [] nothing_built
-keeps_nothing = record { match = tt; pushes = refl; decls = record { fit = tt; guarded = tt }; quantum = omega arith }
+keeps_nothing : (most : ℕ) → Keeps (no_tally most) [] nothing_built
+keeps_nothing most = record { match = tt; pushes = refl; decls = record { fit = tt; guarded = tt }; quantum = omega arith }
 
 -- ---- a text without a fault
 
@@ -251,15 +254,26 @@ accepts : (o : Option Fault) (script accepted : Script) → verdict o script ≡
 accepts None script accepted e = record { none = refl; same = cc }
 accepts (Some f) script accepted e = cc
 
+of_lines : (b : Beginning) (script : Script) → read_in (patterns b.version) b ≡ Ok script → IsWellFormed script
+unfolding read_in
+of_lines b script e =
+    let rows = patterns b.version in
+    let ss = said_in rows b in
+    let t = no_tally (most_of b.version) in
+    let last = b.number + length b.lines in
+    let one = phase_one rows b.number (Some []) b.lines in
+    let two = phase_two (declared ss) ss in
+    let three = phase_three last t ss in
+    let a = accepts (least (faults_in rows b)) (script_of b.version (declared ss).names ss) script e in
+    let none = no_faults (faults_in rows b) a.none in
+    subst IsWellFormed a.same
+    (well_formed_from b.version (declared ss).names b.number last t [] nothing_built b.lines (nil_left one (two ++ three) none)
+    (nil_right two three (nil_right one (two ++ three) none)) (keeps_nothing (most_of b.version)))
+
+of_text : (found : Result Beginning Fault) (script : Script) → read_behind patterns found ≡ Ok script → IsWellFormed script
+of_text (Err f) script e = absurd (let h : Err f ≡ Ok script = e in cc)
+of_text (Ok b) script e = of_lines b script e
+
 pub accepted_is_well_formed : (text : List ℕ) (script : Script) → read patterns text ≡ Ok script → IsWellFormed script
 unfolding read
-accepted_is_well_formed text script e =
-    let ss = said patterns text in
-    let one = phase_one patterns 1 (Some []) (lines_of text) in
-    let two = phase_two (declared ss) ss in
-    let three = phase_three (1 + length (lines_of text)) no_tally ss in
-    let a = accepts (least (faults patterns text)) (script_of (declared ss).names ss) script e in
-    let none = no_faults (faults patterns text) a.none in
-    subst IsWellFormed a.same
-    (well_formed_from (declared ss).names 1 (1 + length (lines_of text)) no_tally [] nothing_built (lines_of text) (nil_left one (two ++ three) none)
-    (nil_right two three (nil_right one (two ++ three) none)) keeps_nothing)
+accepted_is_well_formed text script e = of_text (heading 1 (lines_of text)) script e

@@ -9,7 +9,9 @@ use Rattle.script_table.specs.declared.pattern.Bar.{Bar}
 use Rattle.script_table.specs.declared.pattern.Bar.TheVariants as bar
 use Rattle.script_table.specs.Patterns.{Row}
 use Rattle.script_table.specs.LineFaults.{fits, fitting_some}
-use Rattle.script_table.specs.Table.{call_patterns, declaration_patterns, patterns, step_patterns}
+use Rattle.script_table.specs.declared.version.Version.{Version}
+use Rattle.script_table.specs.declared.version.Version.TheVariants.{One, Two}
+use Rattle.script_table.specs.Table.{call_patterns, declaration_patterns, patterns, step_patterns, strict_calls, strict_declarations}
 
 abbrev pub is_barred_so : Form → Bar → Bool
 is_barred_so (form.Block block.Push) bar.HandlersAndCleanups = true
@@ -19,9 +21,10 @@ is_barred_so other b = true
 abbrev is_barred_row : Row → Bool
 is_barred_row row = is_barred_so row.form row.bar
 
-all_barred : list_all is_barred_row patterns ≡ true
-unfolding patterns declaration_patterns step_patterns call_patterns
-all_barred = refl
+all_barred : (v : Version) → list_all is_barred_row (patterns v) ≡ true
+unfolding patterns declaration_patterns step_patterns call_patterns strict_declarations strict_calls
+all_barred One = refl
+all_barred Two = refl
 
 -- what all members pass, the one that is found passes
 found_case : (b : Bool) (test : Row → Bool) (r : Row) (rows : List Row) (row : Row) → test r ≡ b → find test (r ∷ rows) ≡ Some row → (is_barred_row r && list_all is_barred_row rows) ≡ true →
@@ -38,6 +41,6 @@ found_barred : (test : Row → Bool) (rows : List Row) (row : Row) → find test
 found_barred test [] row found all = absurd (let none : None ≡ Some row = found in cc)
 found_barred test (r ∷ rows) row found all = found_case (test r) test r rows row refl found all (found_barred test rows row)
 
-pub fitting_barred : (words : List (List ℕ)) (row : Row) → fitting_some patterns words ≡ Some row → is_barred_so row.form row.bar ≡ true
-fitting_barred [] row found = absurd (let none : None ≡ Some row = found in cc)
-fitting_barred (word ∷ words) row found = found_barred (λ r. fits r.places (word ∷ words)) patterns row found all_barred
+pub fitting_barred : (v : Version) (words : List (List ℕ)) (row : Row) → fitting_some (patterns v) words ≡ Some row → is_barred_so row.form row.bar ≡ true
+fitting_barred v [] row found = absurd (let none : None ≡ Some row = found in cc)
+fitting_barred v (word ∷ words) row found = found_barred (λ r. fits r.places (word ∷ words)) (patterns v) row found (all_barred v)

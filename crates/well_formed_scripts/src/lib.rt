@@ -1,5 +1,9 @@
 //! What the reader's definition accepts, and what is generated, is well formed, so that the laws of the machine hold of its run. There is
 //! no code here: two laws, and their proofs.
+//!
+//! Proved: `accepted_scripts_are_well_formed`: what `read` accepts has a quantum of at least 1, priorities from 1 to 255 alone,
+//! and pushes and pops cleanup handlers by guarded blocks alone. `generated_scripts_are_well_formed`: so does the script of each
+//! number.
 #![tactic(auto)]
 
 ghost use Rattle.std.specs.Prelude.{ℕ, ◌≡◌, List, Ok};

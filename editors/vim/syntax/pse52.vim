@@ -8,16 +8,16 @@ syntax case match
 syntax match pse52Comment /#.*$/ contains=@Spell
 syntax match pse52Number /\<\d\+\>/
 syntax match pse52Signal /\<rt\%([0-9]\|[12][0-9]\|3[01]\)\>/
-syntax match pse52Declaration /^\s*\zs\%(quantum\|thread\|handler\|cleanup\|mutex\|cond\|sem\|queue\|timer\|action\)\>/
+syntax match pse52Declaration /^\s*\zs\%(version\|quantum\|thread\|handler\|cleanup\|mutex\|cond\|sem\|queue\|timer\|action\)\>/
 syntax match pse52Block /^\s*\zs\%(if\|unless\|loop\|forever\|push\|pop\|end\)\>/
 syntax match pse52Step /^\s*\zs\%(run\|set\|add\|take\)\>/
 syntax match pse52Call /^\s*\zs\%(yield\|create\|join\|exit\|cancel\|testcancel\|setcancel\|setprio\|setsched\)\>/
 syntax match pse52Call /^\s*\zs\%(lock\|timedlock\|trylock\|unlock\|wait\|timedwait\|signal\|broadcast\)\>/
 syntax match pse52Call /^\s*\zs\%(sem_wait\|sem_timedwait\|sem_trywait\|sem_getvalue\|sem_post\)\>/
-syntax match pse52Call /^\s*\zs\%(nanosleep\|clock_nanosleep\|gettime\|timer_settime\|timer_gettime\|timer_getoverrun\)\>/
+syntax match pse52Call /^\s*\zs\%(nanosleep\|clock_nanosleep\|gettime\|clock_settime\|real_gettime\|timer_settime\|timer_gettime\|timer_getoverrun\)\>/
 syntax match pse52Call /^\s*\zs\%(kill\|tkill\|sigqueue\|sigmask\|sigwaitinfo\|sigtimedwait\)\>/
 syntax match pse52Call /^\s*\zs\%(mq_send\|mq_timedsend\|mq_receive\|mq_timedreceive\|mq_notify\)\>/
-syntax keyword pse52Word fifo rr sporadic at dormant none inherit protect recursive nonblock ignore rel abs all reg enable disable block unblock
+syntax keyword pse52Word fifo rr sporadic strict at dormant none inherit protect recursive nonblock ignore rel abs all reg enable disable block unblock
 syntax keyword pse52Result EAGAIN EBUSY EDEADLK EINTR EINVAL EMSGSIZE EOVERFLOW EPERM ESRCH ETIMEDOUT
 
 highlight default link pse52Comment Comment

@@ -12,6 +12,7 @@ from explain.show import shown
 from explain.text import faults_of
 
 sys.path.insert(0, str(TOP / "tools" / "reference"))
+from forms import Stage  # noqa: E402
 from mutate import refused  # noqa: E402
 from reader import read  # noqa: E402
 from writer import accepted  # noqa: E402
@@ -48,6 +49,10 @@ CASES = [
     (BODY.format("run 1") + "end\n", 4, 1, "StrayClose", "closes nothing"),
     ("cleanup u\nend\n" + BODY.format("push u\nend"), 5, 1, "StrayClose", "`pop 1` or `pop 0`"),
     ("cleanup u\nlock m\nend\nmutex m none\n" + BODY.format("run 1"), 2, 1, "NotHere", "may not stand in a cleanup handler"),
+    ("version 3\n" + BODY.format("run 1"), 1, 9, "BadVersion", "write `version 2`"),
+    (BODY.format("version 2"), 2, 1, "UnknownWord", "first line"),
+    ("thread s strict 9 2 10 3 4 at 0\nend\n", 1, 10, "UnknownWord", "policy of version 2"),
+    ("version 2\nthread s strict 9 2 10 30 4 at 0\nend\n", 2, 24, "ServerRange", "budget 30 is above the period, 10"),
     ("quantum 5\nquantum 5\n" + BODY.format("run 1"), 2, 1, "TooMany", "said twice"),
 ]
 
@@ -94,7 +99,7 @@ class Agreement(unittest.TestCase):
 
     def test_refused(self) -> None:
         for seed in range(400):
-            text = refused(seed)
+            text = refused(seed, (Stage.WHOLE, Stage.VERSION2)[seed % 2])
             fault = read(text)[1]
             faults = faults_of(text)
             self.assertEqual(min(found.rank for found in faults), (fault.phase, fault.line, fault.kind.value), f"seed {seed}")
@@ -102,7 +107,7 @@ class Agreement(unittest.TestCase):
 
     def test_accepted(self) -> None:
         for seed in range(100):
-            self.assertEqual(faults_of(accepted(seed)[0]), [], f"seed {seed}")
+            self.assertEqual(faults_of(accepted(seed, (Stage.WHOLE, Stage.VERSION2)[seed % 2])[0]), [], f"seed {seed}")
 
     def test_worked(self) -> None:
         for path in sorted((TOP / "tests" / "worked").glob("*.task")):

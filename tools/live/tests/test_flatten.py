@@ -64,6 +64,10 @@ class UnfitScripts(unittest.TestCase):
         self.assertEqual([line.split(":")[0] for line in told], ["line 2", "line 3", "line 4"])
         self.assertIn("SCHED_SPORADIC", told[0])
 
+    def test_a_script_of_version_2(self) -> None:
+        self.assertEqual([line.split(",")[0] for line in self.why("version 2", "thread a fifo 5 at 0", "end")],
+                         ["line 1: version 2: the rig has room for the limits of version 1"])
+
     def test_a_script_that_fits(self) -> None:
         self.assertEqual(self.why("thread a fifo 98 at 0", "sigmask block all", "kill rt30", "end"), [])
 

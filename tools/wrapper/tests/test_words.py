@@ -18,7 +18,7 @@ WRONG = [
     ("run 1 s.task s.task", "a word too many"), ("rta 100000001", "100000000"), ("7", "a command comes before its numbers"),
     ("s.task", "pse52 run 100 s.task"), ("rum 7", "did you mean 'run'?"), ("frobnicate", "--help"), ("--frob", "no option"),
     ("soak 7", "needs two numbers"), ("gen", "pse52 gen S"), ("gen x", "a number from 0 to 10^18"), ("check 7 s.task", "a script and a trace"),
-    ("audit 3", "takes no number"), ("explain s.task s.task", "one script")]
+    ("upgrade 3", "takes no number"), ("audit 3", "takes no number"), ("explain s.task s.task", "one script")]
 
 
 class Words(unittest.TestCase):
@@ -41,7 +41,7 @@ class Words(unittest.TestCase):
         for word in ("--help", "-h", "help"):
             ended = self.checkout.run(word)
             self.assertEqual((ended.status, ended.err), (0, ""))
-            for command in ("run N", "check N", "rta N", "gen S", "soak S N", "audit", "explain", "--prove", "--released"):
+            for command in ("run N", "check N", "rta N", "gen S", "soak S N", "upgrade", "audit", "explain", "--prove", "--released"):
                 self.assertIn(f"\n  {command}", ended.out)
         self.assertEqual(self.checkout.run().err, self.checkout.run("--help").out)
         self.assertEqual(self.checkout.run().status, 1)
@@ -52,7 +52,7 @@ class Words(unittest.TestCase):
 
     def test_commands_reach_the_program_as_they_are(self) -> None:
         self.checkout.put_release()
-        for words in ("run 000", "run 1000000000000000000", "rta 100000000", "check 7", "audit"):
+        for words in ("run 000", "run 1000000000000000000", "rta 100000000", "check 7", "upgrade", "audit"):
             self.assertEqual(self.checkout.run(*words.split(), text="x\n").out, f"release: {words}\nx\n", words)
         self.assertEqual(self.checkout.run("gen", "7").out, "release: gen 7\n")
         self.assertEqual(self.checkout.run("soak", "7", "9").status, 5)
@@ -62,6 +62,7 @@ class Words(unittest.TestCase):
         self.checkout.write("t.trace", "trace\n")
         self.assertEqual(self.checkout.run("run", "7", "s.task").out, "release: run 7\n" + SCRIPT)
         self.assertEqual(self.checkout.run("run", "7", "-", text="x\n").out, "release: run 7\nx\n")
+        self.assertEqual(self.checkout.run("upgrade", "s.task").out, "release: upgrade\n" + SCRIPT)
         self.assertEqual(self.checkout.run("check", "7", "s.task", "t.trace").out, f"release: check 7\n{SCRIPT}%%\ntrace\n")
         self.assertEqual(self.checkout.run("audit", "s.task", "t.trace").out, f"release: audit\n{SCRIPT}%%\ntrace\n")
         for words, part in (("run 7 none.task", "no file"), ("run 7 bin", "folder"), ("check 7 s.task none", "no file")):

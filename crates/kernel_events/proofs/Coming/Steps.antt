@@ -13,7 +13,7 @@ use Rattle.machine_rules.specs.Lists.{changed_at}
 use Rattle.machine_rules.specs.Threads.{can_run, is_runnable, no_thread, thread_at, waiting_of}
 use Rattle.machine_rules.specs.Turns.{Caller, Turn, answered, changes, moves, moves_if, returns, tells, with_thread}
 use Rattle.machine_rules.specs.CallNames.{name_of}
-use Rattle.machine_rules.specs.Servers.{activates_if, activates_server, amount_of, high_server, refills_server, regains_high, with_server}
+use Rattle.machine_rules.specs.Servers.{activates_if, activates_server, amount_of, at_once, high_server, refills_server, regains_high, with_server}
 use Rattle.machine_rules.specs.Waking.{blocks, call_in, put_to_wait, started, starts, wakes, wakes_telling, woken}
 use Rattle.machine_rules.specs.Scheduling.{with_policy, with_priority}
 use Rattle.machine_rules.proofs.Reading.{changed-keeps, thread-other}
@@ -53,10 +53,10 @@ moved_comes t f e o s u off runs = by_eq (t == u) refl
 pub starts_come : {P : Type 0} (bodies : Bodies P) (t mask : ℕ) (s : Turn P) → HaveCome s.machine (starts bodies t mask s).direct (starts bodies t mask s).machine
 starts_come bodies t mask s =
     let f = started bodies t mask s.machine.now in
-    moved_comes t f (event.Start t) (thread_at (with_thread t f s.machine) t).server s
+    moved_comes t f (event.Start t) (at_once (thread_at (with_thread t f s.machine) t).server) s
 
 pub wakes_telling_come : {P : Type 0} (e : Event) (t : ℕ) (r : Res) (value : ℕ) (s : Turn P) → HaveCome s.machine (wakes_telling e t r value s).direct (wakes_telling e t r value s).machine
-wakes_telling_come e t r value s = moved_comes t (woken r value) e (high_server (thread_at (with_thread t (woken r value) s.machine) t).server) s
+wakes_telling_come e t r value s = moved_comes t (woken r value) e (at_once (high_server (thread_at (with_thread t (woken r value) s.machine) t).server)) s
 
 pub wakes_come : {P : Type 0} (t : ℕ) (r : Res) (value : ℕ) (s : Turn P) → HaveCome s.machine (wakes t r value s).direct (wakes t r value s).machine
 wakes_come t r value s = wakes_telling_come (event.Return t (name_of (call_in (waiting_of s.machine t))) r value) t r value s
@@ -83,7 +83,7 @@ pub changes_fewer : {P : Type 0} (t : ℕ) (f : Thread P → Thread P) (s : Turn
 changes_fewer t f s h u r = fewer_at f s.machine.threads t u h r
 
 pub activates_if_fewer : {P : Type 0} (b : Bool) (t : ℕ) (s : Turn P) → Fewer s.machine (activates_if b t s).machine
-activates_if_fewer true t s u r = sym (activated t (thread_at s.machine t).server s u) ∙ r
+activates_if_fewer true t s u r = sym (activated t (at_once (thread_at s.machine t).server) s u) ∙ r
 activates_if_fewer false t s u r = r
 
 pub refills_fewer : {P : Type 0} (t : ℕ) (o : Option ServerState) (s : Turn P) → Fewer s.machine (refills_server t o s).machine
@@ -185,7 +185,7 @@ KeepsMoves s r = (u : ℕ) → stands_in u s.direct ≡ true → stands_in u r.d
 pub woken_keeps : {P : Type 0} (e : Event) (t : ℕ) (r : Res) (value : ℕ) (s : Turn P) → KeepsMoves s (wakes_telling e t r value s)
 woken_keeps e t r value s u h =
     let up = tells e (moves t (changes t (woken r value) s)) in
-    ap (stands_in u) (activated_direct t (high_server (thread_at up.machine t).server) up) ∙ still_in u t s.direct h
+    ap (stands_in u) (activated_direct t (at_once (high_server (thread_at up.machine t).server)) up) ∙ still_in u t s.direct h
 
 pub if_keeps : {P : Type 0} (b : Bool) (x y s : Turn P) → KeepsMoves s x → KeepsMoves s y → KeepsMoves s (if b then x else y)
 if_keeps true x y s h k = h

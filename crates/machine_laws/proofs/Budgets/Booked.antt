@@ -4,7 +4,9 @@ use Rattle.std.specs.Prelude.{not, option_map, slice_get, ◌&&◌}
 use mathlib.Core.Path.{subst, ◌∙◌}
 use Rattle.tick_num.specs.Parameters.{Parameters}
 use Rattle.sporadic_server.specs.declared.Replenish.{Replenish}
-use Rattle.sporadic_server.specs.Server.{ServerState, activate, is_high, new_server, next_due, oldest_pending, refill, refill_from, set_high}
+use Rattle.sporadic_server.specs.declared.ServerKind.{ServerKind}
+use Rattle.sporadic_server.specs.declared.ServerKind.TheVariants as kind
+use Rattle.sporadic_server.specs.Server.{ServerState, activate, is_high, new_server, next_due, oldest_pending, refill, refill_from, set_high, new_server_as}
 use Rattle.machine_rules.specs.Budget.{ServerEvent, activated, refilled}
 use Rattle.machine_rules.specs.State.{Status}
 use Rattle.machine_rules.specs.Threads.{is_runnable}
@@ -12,19 +14,20 @@ use Rattle.machine_rules.specs.Servers.{amount_of, regains_high}
 use Rattle.machine_rules.specs.DueItems.{has_come}
 use Rattle.machine_moves.specs.Moves.{does}
 use Rattle.machine_laws.proofs.Budgets.Accounts.{Books, InStep, activated_books, activated_in_step, count_last, new_books, priced_books, refilled_books, since_last, stays_active}
+use Rattle.machine_laws.proofs.Servers.Right.{not_strict, refill_kind}
 
 -- Where something is consumed, or a tick may be charged, what was consumed is what was used since the activation.
 pub record Booked (now : ℕ) (status : Status) (x : ServerState) (acc : List ServerEvent) : Type 0 where
   pub books : Books now x acc
   pub consumed : 1 ≤ x.consumed → InStep x acc
-  pub ready : is_runnable status ≡ true → is_high x ≡ true → InStep x acc
+  pub ready : x.kind ≡ kind.Sporadic → is_runnable status ≡ true → is_high x ≡ true → InStep x acc
 
 -- nothing is consumed, and the thread may be activated
 abbrev pub Still : ℕ → Status → ServerState → List ServerEvent → Type 0
 Still now status x acc = Books now x acc × (x.consumed ≡ 0)
 
 abbrev pub IsNew : ℕ → Status → ServerState → List ServerEvent → Type 0
-IsNew now status x acc = (p : Parameters) × (x ≡ new_server p now)
+IsNew now status x acc = (p : Parameters) × (k : ServerKind) × (x ≡ new_server_as k p now)
 
 abbrev pub IsActive : ℕ → Status → ServerState → List ServerEvent → Type 0
 IsActive now status x acc = (y : ServerState) × (x ≡ activate now y) × Still now status y acc
@@ -39,24 +42,28 @@ active_booked now status x acc h =
     subst (λ (z : ServerState). Booked now status z (acc ++ activated now ∷ [])) (sym h.1) (record {
       books = activated_books now now h.0 acc h.2.0;
       consumed = λ some. let none = h.2.1 in absurd (omega arith);
-      ready = λ runs high. activated_in_step now h.0 acc h.2.1;
+      ready = λ k runs high. activated_in_step now h.0 acc h.2.1;
     })
 
-pub low_booked : (now : ℕ) (status : Status) (x : ServerState) (acc : List ServerEvent) → (is_runnable status ≡ true → is_high x ≡ true → ⊥) → Still now status x acc → Booked now status x acc
-low_booked now status x acc low h = record { books = h.0; consumed = λ some. let none = h.1 in absurd (omega arith); ready = λ runs high. absurd (low runs high) }
+pub low_booked : (now : ℕ) (status : Status) (x : ServerState) (acc : List ServerEvent) → (x.kind ≡ kind.Sporadic → is_runnable status ≡ true → is_high x ≡ true → ⊥) → Still now status x acc → Booked now status x acc
+low_booked now status x acc low h = record { books = h.0; consumed = λ some. let none = h.1 in absurd (omega arith); ready = λ k runs high. absurd (low k runs high) }
 
 pub priced_booked : (p now : ℕ) (status : Status) (x : ServerState) (acc : List ServerEvent) → Booked now status x acc → Booked now status (set_high p x) acc
 priced_booked p now status x acc h = record {
   books = priced_books p now x acc h.books;
   consumed = λ some. let g = h.consumed some in record { count = g.count; since = g.since; active = g.active };
-  ready = λ runs high. let g = h.ready runs high in record { count = g.count; since = g.since; active = g.active };
+  ready = λ k runs high. let g = h.ready k runs high in record { count = g.count; since = g.since; active = g.active };
 }
 
-pub new_still : (now : ℕ) (status : Status) (x : ServerState) → (p : Parameters) × (x ≡ new_server p now) → Still now status x []
-new_still now status x h = subst (λ (z : ServerState). Still now status z []) (sym h.1) (new_books h.0 now, refl)
+pub new_still : (now : ℕ) (status : Status) (x : ServerState) → (p : Parameters) × (k : ServerKind) × (x ≡ new_server_as k p now) → Still now status x []
+new_still now status x h = subst (λ (z : ServerState). Still now status z []) (sym h.2) (new_books h.1 h.0 now, refl)
 
 pub other_status : (now : ℕ) (status status' : Status) (x : ServerState) (acc : List ServerEvent) → (is_runnable status' ≡ true → is_runnable status ≡ true) → Booked now status x acc → Booked now status' x acc
-other_status now status status' x acc same h = record { books = h.books; consumed = h.consumed; ready = λ runs high. h.ready (same runs) high }
+other_status now status status' x acc same h = record { books = h.books; consumed = h.consumed; ready = λ k runs high. h.ready k (same runs) high }
+
+-- a strict server is not activated at once
+pub strict_booked : (now : ℕ) (status : Status) (x : ServerState) (acc : List ServerEvent) → x.kind ≡ kind.Strict → Still now status x acc → Booked now status x acc
+strict_booked now status x acc e h = low_booked now status x acc (λ k runs high. not_strict (sym e ∙ k)) h
 
 -- ---- a refill
 
@@ -91,7 +98,7 @@ pub refill_stays : (now : ℕ) (status : Status) (x : ServerState) (acc : List S
 refill_stays now status x acc come low h = record {
   books = refill_booked now x acc come h.books;
   consumed = λ some. refilled_step now (amount_of (oldest_pending x)) x acc (h.consumed (subst (λ (n : ℕ). 1 ≤ n) (refill_same x).0 some));
-  ready = λ runs high. refilled_step now (amount_of (oldest_pending x)) x acc (h.ready runs (was_high (is_high x) (is_high (refill x)) (is_runnable status) low high runs));
+  ready = λ k runs high. refilled_step now (amount_of (oldest_pending x)) x acc (h.ready (sym (refill_kind x) ∙ k) runs (was_high (is_high x) (is_high (refill x)) (is_runnable status) low high runs));
 }
   where
     was_high : (a b c : Bool) → ((not a && b) && c) ≡ false → b ≡ true → c ≡ true → a ≡ true

@@ -9,14 +9,16 @@ use Rattle.script_tree.specs.declared.policy.Policy.TheVariants as policy
 use Rattle.pse52_trace.specs.declared.event.Event.{Event}
 use Rattle.pse52_trace.specs.declared.event.Event.TheVariants as event
 use Rattle.pse52_trace.specs.Text.{Entry}
-use Rattle.sporadic_server.specs.Server.{ServerState, activate, is_high, new_server, next_due, oldest_pending, refill, set_high}
+use Rattle.sporadic_server.specs.declared.ServerKind.{ServerKind}
+use Rattle.sporadic_server.specs.declared.ServerKind.TheVariants as kind
+use Rattle.sporadic_server.specs.Server.{ServerState, activate, is_high, new_server, next_due, oldest_pending, refill, set_high, new_server_as}
 use Rattle.machine_rules.specs.Budget.{ServerEvent, activated, all_recorded, recorded, recorded_if, refilled}
 use Rattle.machine_rules.specs.Lists.{changed_at}
 use Rattle.machine_rules.specs.Bodies.{Bodies}
 use Rattle.machine_rules.specs.State.{Joiner, Status, Thread, Waiting, for_mutex_again}
 use Rattle.machine_rules.specs.Threads.{can_run, is_blocked, is_dormant, is_runnable, no_thread, thread_at, thread_in}
 use Rattle.machine_rules.specs.Turns.{Turn, changes, moves, tells}
-use Rattle.machine_rules.specs.Servers.{activates_if, activates_server, amount_of, high_server, refills_server, regains_high, server_of, with_server}
+use Rattle.machine_rules.specs.Servers.{activates_if, activates_server, amount_of, at_once, high_server, refills_server, regains_high, server_of, with_server, at_once_as}
 use Rattle.machine_rules.specs.Waking.{ending_with, on_top, put_to_wait, started, wakes_telling, woken}
 use Rattle.machine_rules.specs.Lives.{with_joiner, without_life, without_top}
 use Rattle.machine_rules.specs.Cancellation.{without_cleanup}
@@ -26,10 +28,10 @@ use Rattle.machine_rules.proofs.Reading.{changed-length, thread-other, thread-sa
 use Rattle.machine_moves.specs.Moves.{Core, MayAwake, Move, alters, begins, blocks_for, blocks_plainly, does, drops, ends_with, enters_frame, is_plain, is_quiet, leaves_frame, lives_no_more, prices, pushed, pushes, recasts, refills_one, rejoins, renews_with, tells_of, wakes_with}
 use Rattle.machine_moves.proofs.Waiters.Best.{blocked_within}
 use Rattle.machine_moves.proofs.Waiters.OfThreads.{changed_is}
-use Rattle.machine_laws.proofs.Servers.Right.{ServerIn, ThreadRight, none_consumed, only}
+use Rattle.machine_laws.proofs.Servers.Right.{ServerIn, ThreadRight, none_consumed, only, not_strict}
 use Rattle.machine_laws.proofs.Servers.Moves.{Awake, Threads, here, sleeper}
 use Rattle.machine_laws.proofs.Servers.Ends.{has_server}
-use Rattle.machine_laws.proofs.Budgets.Booked.{Booked, Still, IsNew, IsActive, contra, active_booked, low_booked, priced_booked, new_still, other_status, refill_same, refill_booked, refill_stays}
+use Rattle.machine_laws.proofs.Budgets.Booked.{Booked, Still, IsNew, IsActive, contra, active_booked, low_booked, priced_booked, new_still, other_status, refill_same, refill_booked, refill_stays, strict_booked}
 
 posted_last : (t : ℕ) (news : List Entry) (e : Entry) (acc : List ServerEvent) → all_recorded t (news ++ e ∷ []) acc ≡ recorded t e.time e.event (all_recorded t news acc)
 posted_last t [] e acc = refl
@@ -110,27 +112,38 @@ module _ {P : Type 0} (bodies : Bodies P) (t : ℕ) (pre : List Entry) (acc : Li
       told Booked Booked (event.Activate v server.capacity) (changes v (with_server (activate s.machine.now)) s) (λ x a k g. subst (Booked s.machine.now _ x) (sym (posted_not (v == t) (activated s.machine.now) a e)) g)
       (other Booked v (with_server (activate s.machine.now)) s e q)
 
-  activated_map : (now : ℕ) (status : Status) (o : Option ServerState) (a : List ServerEvent) → ((x : ServerState) → o ≡ Some x → Still now status x a) → (x : ServerState) → option_map (activate now) o ≡ Some x → IsActive now status x a
+  pub activated_map : (now : ℕ) (status : Status) (o : Option ServerState) (a : List ServerEvent) → ((x : ServerState) → o ≡ Some x → Still now status x a) → (x : ServerState) → option_map (activate now) o ≡ Some x → IsActive now status x a
   activated_map now status None a h x e = absurd (grind arith)
   activated_map now status (Some y) a h x e = (y, sym (only e), h y refl)
 
-  activates_some : (server : ServerState) (s : Turn P) → t < length s.machine.threads → Has Still s → Recorded (activates_server t (Some server) s)
+  pub activates_some : (server : ServerState) (s : Turn P) → t < length s.machine.threads → Has Still s → Recorded (activates_server t (Some server) s)
   activates_some server s within q =
       told IsActive Booked (event.Activate t server.capacity) (changes t (with_server (activate s.machine.now)) s)
       (λ x a k g. subst (Booked s.machine.now _ x) (sym (posted_so (t == t) (activated s.machine.now) a itself)) (active_booked s.machine.now _ x a g))
       (own Still IsActive (with_server (activate s.machine.now)) s within (λ a h. activated_map s.machine.now (thread_at s.machine t).status (thread_at s.machine t).server a h) q)
 
-  activates_own : (o : Option ServerState) (s : Turn P) → (thread_at s.machine t).server ≡ o → t < length s.machine.threads → Has Still s → Recorded (activates_server t o s)
-  activates_own None s e within q = (q.0, q.1, λ x k. absurd (grind arith))
+  at_once_none : (x : ServerState) → at_once_as x.kind x ≡ None → x.kind ≡ kind.Strict
+  at_once_none x e = by_kind x.kind refl e
+    where
+      by_kind : (k : ServerKind) → x.kind ≡ k → at_once_as k x ≡ None → x.kind ≡ kind.Strict
+      by_kind kind.Sporadic k e = absurd (grind arith)
+      by_kind kind.Strict k e = k
+
+  activates_own : (o : Option ServerState) (s : Turn P) → at_once (thread_at s.machine t).server ≡ o → t < length s.machine.threads → Has Still s → Recorded (activates_server t o s)
+  activates_own None s e within q = (
+    q.0,
+    q.1,
+    λ x k. strict_booked s.machine.now (thread_at s.machine t).status x (all_recorded t q.0 acc) (at_once_none x (sym (ap at_once k) ∙ e)) (q.2 x k),
+  )
   activates_own (Some server) s e within q = activates_some server s within q
 
   -- where the priority is high
-  activates_high : (o : Option ServerState) (s : Turn P) → high_server (thread_at s.machine t).server ≡ o → t < length s.machine.threads → Has Still s → Recorded (activates_server t o s)
-  activates_high None s e within q = (q.0, q.1, λ x k. low_booked s.machine.now (thread_at s.machine t).status x (all_recorded t q.0 acc) (λ runs high. not_low x (is_high x) high (ap high_server (sym k) ∙ e)) (q.2 x k))
+  activates_high : (o : Option ServerState) (s : Turn P) → at_once (high_server (thread_at s.machine t).server) ≡ o → t < length s.machine.threads → Has Still s → Recorded (activates_server t o s)
+  activates_high None s e within q = (q.0, q.1, λ x k. low_booked s.machine.now (thread_at s.machine t).status x (all_recorded t q.0 acc) (λ sort runs high. not_low x (is_high x) high (sym (ap (λ (o : Option ServerState). at_once (high_server o)) k) ∙ e) sort) (q.2 x k))
     where
-      not_low : (x : ServerState) (b : Bool) → b ≡ true → (if b then Some x else None) ≡ None → ⊥
-      not_low x true h k = absurd (grind arith)
-      not_low x false h k = absurd (grind arith)
+      not_low : (x : ServerState) (b : Bool) → b ≡ true → at_once (if b then Some x else None) ≡ None → x.kind ≡ kind.Sporadic → ⊥
+      not_low x true h k sort = not_strict (sym (at_once_none x k) ∙ sort)
+      not_low x false h k sort = absurd (grind arith)
   activates_high (Some server) s e within q = activates_some server s within q
 
   -- ---- a waking
@@ -145,18 +158,19 @@ module _ {P : Type 0} (bodies : Bodies P) (t : ℕ) (pre : List Entry) (acc : Li
           mine b none =
               let within : t < length s.machine.threads = blocked_within s.machine.threads t b in
               let up = tells e (moves t (changes t (woken r n) s)) in
-              activates_high (high_server (thread_at up.machine t).server) up refl (subst (λ (k : ℕ). t < k) (sym (changed-length no_thread t (woken r n) s.machine.threads)) within)
+              activates_high (at_once (high_server (thread_at up.machine t).server)) up refl (subst (λ (k : ℕ). t < k) (sym (changed-length no_thread t (woken r n) s.machine.threads)) within)
               (told_plainly Still e (moves t (changes t (woken r n) s)) plain (own Booked Still (woken r n) s within (λ a h x k. ((h x k).books, none x k)) q))
       by_eq false k =
           let up = tells e (moves v (changes v (woken r n) s)) in
-          activates_other v (high_server (thread_at up.machine v).server) up k (told_plainly Booked e (moves v (changes v (woken r n) s)) plain (other Booked v (woken r n) s k q))
+          activates_other v (at_once (high_server (thread_at up.machine v).server)) up k (told_plainly Booked e (moves v (changes v (woken r n) s)) plain (other Booked v (woken r n) s k q))
 
   -- ---- a new server
 
-  new_of : (rule : Policy) (now : ℕ) (x : ServerState) → server_of rule now ≡ Some x → (p : Parameters) × (x ≡ new_server p now)
+  new_of : (rule : Policy) (now : ℕ) (x : ServerState) → server_of rule now ≡ Some x → (p : Parameters) × (k : ServerKind) × (x ≡ new_server_as k p now)
   new_of (policy.Fifo p) now x e = absurd (grind arith)
   new_of (policy.Rr p) now x e = absurd (grind arith)
-  new_of (policy.Sporadic params) now x e = (params, sym (only e))
+  new_of (policy.Sporadic params) now x e = (params, kind.Sporadic, sym (only e))
+  new_of (policy.Strict params) now x e = (params, kind.Strict, sym (only e))
 
   reset : (b : Bool) → b ≡ true → (a : List ServerEvent) → (if b then [] else a) ≡ []
   reset true e a = refl
@@ -177,13 +191,13 @@ module _ {P : Type 0} (bodies : Bodies P) (t : ℕ) (pre : List Entry) (acc : Li
               let within : t < length s.machine.threads = here bodies None is_dormant refl s.machine.threads t d in
               let f = started bodies t mask s.machine.now in
               let up = tells (event.Start t) (moves t (changes t f s)) in
-              activates_own (thread_at up.machine t).server up refl (subst (λ (k : ℕ). t < k) (sym (changed-length no_thread t f s.machine.threads)) within)
+              activates_own (at_once (thread_at up.machine t).server) up refl (subst (λ (k : ℕ). t < k) (sym (changed-length no_thread t f s.machine.threads)) within)
               (told IsNew Still (event.Start t) (moves t (changes t f s)) (λ x a k g. subst (Still s.machine.now (thread_at (changes t f s).machine t).status x) (sym (reset (t == t) itself a)) (new_still s.machine.now (thread_at (changes t f s).machine t).status x g))
               (own Booked IsNew f s within (λ a h x k. new_of (thread_at s.machine t).policy s.machine.now x k) q))
       by_eq false k =
           let f = started bodies v mask s.machine.now in
           let up = tells (event.Start v) (moves v (changes v f s)) in
-          activates_other v (thread_at up.machine v).server up k
+          activates_other v (at_once (thread_at up.machine v).server) up k
           (told Booked Booked (event.Start v) (moves v (changes v f s)) (λ x a j g. subst (Booked s.machine.now _ x) (sym (unset (v == t) k a)) g) (other Booked v f s k q))
 
   -- a thread that has a new policy, where nothing is posted yet
@@ -207,18 +221,18 @@ module _ {P : Type 0} (bodies : Bodies P) (t : ℕ) (pre : List Entry) (acc : Li
 
       by_active : (active : Bool) → active ≡ can_run s.machine t → Recorded (activates_if active t (changes t (with_policy new s.machine.now) s))
       by_active true e =
-          activates_own (thread_at (changes t (with_policy new s.machine.now) s).machine t).server (changes t (with_policy new s.machine.now) s) refl
+          activates_own (at_once (thread_at (changes t (with_policy new s.machine.now) s).machine t).server) (changes t (with_policy new s.machine.now) s) refl
           (subst (λ (k : ℕ). t < k) (sym (changed-length no_thread t (with_policy new s.machine.now) s.machine.threads)) within) still
-      by_active false e = (still.0, still.1, λ x k. low_booked s.machine.now (thread_at (changes t (with_policy new s.machine.now) s).machine t).status x (all_recorded t still.0 acc) (λ runs high. not_running e runs) (still.2 x k))
+      by_active false e = (still.0, still.1, λ x k. low_booked s.machine.now (thread_at (changes t (with_policy new s.machine.now) s).machine t).status x (all_recorded t still.0 acc) (λ sort runs high. not_running e runs) (still.2 x k))
 
   pub renewed_other : (active : Bool) (v : ℕ) (new : Policy) (s : Turn P) → (v == t) ≡ false → Recorded s → Recorded (activates_if active v (changes v (with_policy new s.machine.now) s))
-  renewed_other true v new s e q = activates_other v (thread_at (changes v (with_policy new s.machine.now) s).machine v).server (changes v (with_policy new s.machine.now) s) e (other Booked v (with_policy new s.machine.now) s e q)
+  renewed_other true v new s e q = activates_other v (at_once (thread_at (changes v (with_policy new s.machine.now) s).machine v).server) (changes v (with_policy new s.machine.now) s) e (other Booked v (with_policy new s.machine.now) s e q)
   renewed_other false v new s e q = other Booked v (with_policy new s.machine.now) s e q
 
   -- ---- a refill
 
   activates_if_other : (b : Bool) (v : ℕ) (s : Turn P) → (v == t) ≡ false → Recorded s → Recorded (activates_if b v s)
-  activates_if_other true v s e q = activates_other v (thread_at s.machine v).server s e q
+  activates_if_other true v s e q = activates_other v (at_once (thread_at s.machine v).server) s e q
   activates_if_other false v s e q = q
 
   refills_other : (v : ℕ) (o : Option ServerState) (s : Turn P) → (v == t) ≡ false → Recorded s → Recorded (refills_server v o s)
@@ -280,7 +294,7 @@ module _ {P : Type 0} (bodies : Bodies P) (t : ℕ) (pre : List Entry) (acc : Li
       by_regain false k = told (IsRefilled server) Booked (event.Refill t (amount_of (oldest_pending server)) (refill server).capacity) (changes t (with_server refill) s) (λ x a j g. stays k x a g) done
       by_regain true k =
           let there = tells (event.Refill t (amount_of (oldest_pending server)) (refill server).capacity) (changes t (with_server refill) s) in
-          activates_own (thread_at there.machine t).server there refl (subst (λ (n : ℕ). t < n) (sym (changed-length no_thread t (with_server refill) s.machine.threads)) within)
+          activates_own (at_once (thread_at there.machine t).server) there refl (subst (λ (n : ℕ). t < n) (sym (changed-length no_thread t (with_server refill) s.machine.threads)) within)
           (told (IsRefilled server) Still (event.Refill t (amount_of (oldest_pending server)) (refill server).capacity) (changes t (with_server refill) s) (λ x a j g. regains k x a g) done)
 
   idle_low : (now : ℕ) (th : Thread P) (x : ServerState) → th.server ≡ Some x → ThreadRight false now th → is_high x ≡ false → x.consumed ≡ 0

@@ -1,7 +1,7 @@
 -- The books of a server through a unit and the end of a tick, and that nothing pending is due where no item is.
 use Rattle.std.proofs.Common.{Bool, List, None, Option, Some, [], ap, append_assoc, arith, false, length, refl, suc, sym, true, zero, ℕ, ◌+◌, ◌<◌, ◌≤◌, ◌∷◌, ◌++◌, ◌≡◌}
 use Rattle.std.specs.List.{range_with_len}
-use Rattle.std.specs.Prelude.{filter, slice_get, is_some, map, nat_lt, not, option_and_then, option_map, ◌-◌, ◌==◌, if◌then◌else◌}
+use Rattle.std.specs.Prelude.{filter, slice_get, is_some, map, nat_lt, not, option_and_then, option_map, ◌-◌, ◌==◌, if◌then◌else◌, ◌&&◌}
 use mathlib.Core.Path.{subst, ◌∙◌}
 use Rattle.tick_num.specs.declared.item.Item.{Item}
 use Rattle.tick_num.specs.declared.item.Item.TheVariants as item
@@ -16,6 +16,8 @@ use Rattle.script_flat.specs.Next.{ticks_of}
 use Rattle.pse52_trace.specs.declared.event.Event.TheVariants as event
 use Rattle.pse52_trace.specs.Text.{Entry}
 use Rattle.sporadic_server.specs.declared.Replenish.{Replenish}
+use Rattle.sporadic_server.specs.declared.ServerKind.{ServerKind}
+use Rattle.sporadic_server.specs.declared.ServerKind.TheVariants as kind
 use Rattle.sporadic_server.specs.Server.{ServerState, charge, is_high, next_due, plan, replenishment}
 use Rattle.machine_rules.specs.Budget.{ServerEvent, planned, recorded_if, renews, used}
 use Rattle.machine_rules.specs.Bodies.{Bodies}
@@ -23,7 +25,7 @@ use Rattle.machine_rules.specs.State.{Frame, Machine, Status, Thread, blocked, d
 use Rattle.machine_rules.specs.Threads.{can_run, is_blocked, is_live, is_runnable, lives, no_thread, thread_at, thread_numbers, top_left}
 use Rattle.machine_rules.specs.Turns.{Caller, Turn, answered, changes, moves_if, returns, tells}
 use Rattle.machine_rules.specs.CallNames.{name_of}
-use Rattle.machine_rules.specs.Servers.{activates_if, charged, has_high, plans_server, with_server}
+use Rattle.machine_rules.specs.Servers.{activates_if, charged, has_high, plans_server, with_server, is_strict, may_open}
 use Rattle.machine_rules.specs.Mutexes.{owns_boosting}
 use Rattle.machine_rules.specs.Lives.{with_joiner}
 use Rattle.machine_rules.specs.Scheduling.{with_policy}
@@ -38,12 +40,12 @@ use Rattle.machine_moves.proofs.Waiters.Best.{Each}
 use Rattle.machine_moves.proofs.Calls.Objects.{answered_status}
 use Rattle.machine_moves.proofs.Calls.Table.{unit_keep}
 use Rattle.machine_moves.proofs.Runs.Ticks.{RoundKeeps}
-use Rattle.machine_laws.proofs.Servers.Right.{Rising, only}
+use Rattle.machine_laws.proofs.Servers.Right.{Rising, only, high_parts, InTime}
 use Rattle.machine_laws.proofs.Servers.Moves.{here}
 use Rattle.machine_laws.proofs.Servers.Alert.{awake_of}
 use Rattle.machine_laws.proofs.Servers.Ends.{end_by, has_server}
 use Rattle.machine_laws.proofs.Servers.Ticks.{ServedDone, ServedMid, ServedRight, nobody_awake, served_renew, served_stop, served_tick}
-use Rattle.machine_laws.proofs.Budgets.Accounts.{later_books, planned_books, used_books, used_in_step}
+use Rattle.machine_laws.proofs.Budgets.Accounts.{later_books, planned_books, used_books, used_in_step, InStep}
 use Rattle.machine_laws.proofs.Budgets.Booked.{Booked}
 use Rattle.machine_laws.proofs.Budgets.Moves.{Recorded, joined_posted, other, own, posted_keep, posted_not, posted_so, renewed_other, renewed_posted, same_server, sleeps_posted, told, told_plainly}
 
@@ -112,24 +114,36 @@ NotDue now x = Each (λ (r : Replenish). now < r.due) x.pending
 pub booked_later : (now : ℕ) (status : Status) (x : ServerState) (acc : List ServerEvent) → NotDue now x → Booked now status x acc → Booked (now + 1) status x acc
 booked_later now status x acc none h = record { books = later_books now x acc none h.books; consumed = h.consumed; ready = h.ready }
 
-booked_charged : (now : ℕ) (status : Status) (x : ServerState) (acc : List ServerEvent) → NotDue now x → is_runnable status ≡ true → is_high x ≡ true → Booked now status x acc → Booked (now + 1) status (charge x) (acc ++ used ∷ [])
-booked_charged now status x acc none runs high h = let step = used_in_step x acc (h.ready runs high) in record {
-  books = later_books now (charge x) (acc ++ used ∷ []) none (used_books now x acc (some high) h.books);
+-- where a run may begin, it begins with an activation
+abbrev pub Begun : ServerState → List ServerEvent → Type 0
+Begun x acc = may_open x ≡ true → InStep x acc
+
+booked_charged : (now : ℕ) (status : Status) (x : ServerState) (acc : List ServerEvent) → NotDue now x → is_runnable status ≡ true → is_high x ≡ true → Begun x acc → Booked now status x acc → Booked (now + 1) status (charge x) (acc ++ used ∷ [])
+booked_charged now status x acc none runs high begun h = let step = used_in_step x acc (by_kind x.kind refl) in record {
+  books = later_books now (charge x) (acc ++ used ∷ []) none (used_books now x acc (high_parts x high).0 h.books);
   consumed = λ some. step;
-  ready = λ r k. step;
+  ready = λ k r e. step;
 }
   where
-    some : is_high x ≡ true → 1 ≤ x.capacity
-    some e = grind arith
+    three : (a b c : Bool) → a ≡ true → b ≡ true → c ≡ true → (a && b && c) ≡ true
+    three a b c p q r = grind arith
+
+    by_size : x.kind ≡ kind.Strict → (n : ℕ) → x.consumed ≡ n → InStep x acc
+    by_size k zero e = begun (three (is_strict x.kind) (is_high x) (x.consumed == 0) (ap is_strict k) high (rw e refl))
+    by_size k (suc n) e = h.consumed (omega arith)
+
+    by_kind : (k : ServerKind) → x.kind ≡ k → InStep x acc
+    by_kind kind.Sporadic k = h.ready k runs high
+    by_kind kind.Strict k = by_size k x.consumed refl
 
 -- a tick of the thread
-pub booked_ticked : (now : ℕ) (status : Status) (o : Option ServerState) (acc : List ServerEvent) → is_runnable status ≡ true → ((x : ServerState) → o ≡ Some x → NotDue now x) → ((x : ServerState) → o ≡ Some x → Booked now status x acc) →
+pub booked_ticked : (now : ℕ) (status : Status) (o : Option ServerState) (acc : List ServerEvent) → is_runnable status ≡ true → ((x : ServerState) → o ≡ Some x → NotDue now x) → ((x : ServerState) → o ≡ Some x → Begun x acc) → ((x : ServerState) → o ≡ Some x → Booked now status x acc) →
     (x : ServerState) → option_map charged o ≡ Some x → Booked (now + 1) status x (recorded_if (has_high o) used acc)
-booked_ticked now status None acc runs none h x e = absurd (grind arith)
-booked_ticked now status (Some y) acc runs none h x e = by_high (is_high y) refl e
+booked_ticked now status None acc runs none begun h x e = absurd (grind arith)
+booked_ticked now status (Some y) acc runs none begun h x e = by_high (is_high y) refl e
   where
     by_high : (b : Bool) → is_high y ≡ b → Some (if b then charge y else y) ≡ Some x → Booked (now + 1) status x (recorded_if (is_some (if b then Some y else None)) used acc)
-    by_high true k e = subst (λ (z : ServerState). Booked (now + 1) status z (acc ++ used ∷ [])) (only e) (booked_charged now status y acc (none y refl) runs k (h y refl))
+    by_high true k e = subst (λ (z : ServerState). Booked (now + 1) status z (acc ++ used ∷ [])) (only e) (booked_charged now status y acc (none y refl) runs k (begun y refl) (h y refl))
     by_high false k e = subst (λ (z : ServerState). Booked (now + 1) status z acc) (only e) (booked_later now status y acc (none y refl) (h y refl))
 
 -- ---- a unit that gives a thread a new policy
@@ -240,7 +254,7 @@ module _ {P : Type 0} (bodies : Bodies P) (t : ℕ) (pre : List Entry) (acc : Li
 
   -- ---- the tick's end
 
-  plans_other : (v : ℕ) (o : Option ServerState) (s : Turn P) → (v == t) ≡ false → Recorded bodies t pre acc s → Recorded bodies t pre acc (plans_server v o s)
+  pub plans_other : (v : ℕ) (o : Option ServerState) (s : Turn P) → (v == t) ≡ false → Recorded bodies t pre acc s → Recorded bodies t pre acc (plans_server v o s)
   plans_other v None s e q = q
   plans_other v (Some x) s e q =
       let up = changes v (with_server plan) s in
@@ -262,26 +276,27 @@ module _ {P : Type 0} (bodies : Bodies P) (t : ℕ) (pre : List Entry) (acc : Li
   planned_map now status server None a e h x k = absurd (grind arith)
   planned_map now status server (Some y) a e h x k = let it : y ≡ server = only e in (sym (only k) ∙ ap plan it, h server e)
 
-  planned_booked : (now : ℕ) (status : Status) (x : ServerState) (a : List ServerEvent) → 1 ≤ x.consumed → (is_runnable status ≡ true → x.capacity ≡ 0) → Booked now status x a → Booked now status (plan x) (a ++ planned now (replenishment x) ∷ [])
-  planned_booked now status x a some low h = record {
-    books = planned_books now x a some (h.consumed some) h.books;
+  planned_booked : (now : ℕ) (status : Status) (x : ServerState) (a : List ServerEvent) → 1 ≤ x.consumed → InTime now x → (x.kind ≡ kind.Sporadic → is_runnable status ≡ true → x.capacity ≡ 0) → Booked now status x a →
+      Booked now status (plan x) (a ++ planned now (replenishment x) ∷ [])
+  planned_booked now status x a some due low h = record {
+    books = planned_books now x a some (due some) (h.consumed some) h.books;
     consumed = λ more. absurd (omega arith);
-    ready = λ runs high. absurd (not_high (low runs) high);
+    ready = λ k runs high. absurd (not_high (low k runs) (high_parts (plan x) high).0);
   }
     where
-      not_high : x.capacity ≡ 0 → is_high (plan x) ≡ true → ⊥
-      not_high e k = grind arith
+      not_high : x.capacity ≡ 0 → 1 ≤ x.capacity → ⊥
+      not_high e k = omega arith
 
-  plans_mine : (o : Option ServerState) (s : Turn P) → (thread_at s.machine t).server ≡ o → 1 ≤ consumed_in o → (can_run s.machine t ≡ true → capacity_in o ≡ 0) → Recorded bodies t pre acc s → Recorded bodies t pre acc (plans_server t o s)
-  plans_mine None s e some low q = absurd (omega arith)
-  plans_mine (Some x) s e some low q =
+  pub plans_mine : (o : Option ServerState) (s : Turn P) → (thread_at s.machine t).server ≡ o → 1 ≤ consumed_in o → ((x : ServerState) → o ≡ Some x → InTime s.machine.now x) → ((x : ServerState) → o ≡ Some x → x.kind ≡ kind.Sporadic → can_run s.machine t ≡ true → x.capacity ≡ 0) → Recorded bodies t pre acc s → Recorded bodies t pre acc (plans_server t o s)
+  plans_mine None s e some due low q = absurd (omega arith)
+  plans_mine (Some x) s e some due low q =
       let up = changes t (with_server plan) s in
       let within : t < length s.machine.threads = has_server s.machine.threads t x e in
       let same : is_runnable (thread_at up.machine t).status ≡ can_run s.machine t = ap (λ (th : Thread P). is_runnable th.status) (thread-same s.machine t (with_server plan) within) in
       told bodies t pre acc (IsPlanned x) Booked (event.Plan t (replenishment x).amount (replenishment x).due) up
       (λ y a k g. subst (Booked s.machine.now (thread_at up.machine t).status y) (sym (posted_so (t == t) (planned s.machine.now (replenishment x)) a itself))
       (subst (λ (z : ServerState). Booked s.machine.now (thread_at up.machine t).status z (a ++ planned s.machine.now (replenishment x) ∷ [])) (sym g.0)
-      (planned_booked s.machine.now (thread_at up.machine t).status x a some (λ runs. low (sym same ∙ runs)) g.1)))
+      (planned_booked s.machine.now (thread_at up.machine t).status x a some (due x refl) (λ sort runs. low x refl sort (sym same ∙ runs)) g.1)))
       (own bodies t pre acc Booked (IsPlanned x) (with_server plan) s within (λ a h. planned_map s.machine.now (thread_at s.machine t).status x (thread_at s.machine t).server a e h) q)
     where
       itself : (t == t) ≡ true
@@ -293,8 +308,8 @@ module _ {P : Type 0} (bodies : Bodies P) (t : ℕ) (pre : List Entry) (acc : Li
   not_both (blocked w) p q = absurd (grind arith)
   not_both ended p q = absurd (grind arith)
 
-  ends_mine : (tolled : Bool) (quantum : ℕ) (s : Turn P) → Recorded bodies t pre acc s → Recorded bodies t pre acc (ends_tick (tick_end tolled quantum (thread_at s.machine t)) t s)
-  ends_mine tolled quantum s q =
+  ends_mine : (tolled : Bool) (quantum : ℕ) (s : Turn P) → ((x : ServerState) → (thread_at s.machine t).server ≡ Some x → InTime s.machine.now x) → Recorded bodies t pre acc s → Recorded bodies t pre acc (ends_tick (tick_end tolled quantum (thread_at s.machine t)) t s)
+  ends_mine tolled quantum s due q =
       by_all tolled (nat_lt 0 (consumed_in (thread_at s.machine t).server)) refl (is_blocked (thread_at s.machine t).status) refl (is_runnable (thread_at s.machine t).status) refl (capacity_in (thread_at s.machine t).server == 0) refl
       (slice_is_used (thread_at s.machine t).policy (thread_at s.machine t).slice quantum)
     where
@@ -305,20 +320,20 @@ module _ {P : Type 0} (bodies : Bodies P) (t : ℕ) (pre : List Entry) (acc : Li
       exhausts : 1 ≤ consumed_in (thread_at s.machine t).server → capacity_in (thread_at s.machine t).server ≡ 0 → Recorded bodies t pre acc (ends_tick exhausting t s)
       exhausts some empty =
           moved _ t (plans_server t (thread_at s.machine t).server (tells (event.Exhaust t) s))
-          (plans_mine (thread_at s.machine t).server (tells (event.Exhaust t) s) refl some (λ runs. empty) (told_plainly bodies t pre acc Booked (event.Exhaust t) s refl q))
+          (plans_mine (thread_at s.machine t).server (tells (event.Exhaust t) s) refl some due (λ x k sort runs. sym (ap capacity_in k) ∙ empty) (told_plainly bodies t pre acc Booked (event.Exhaust t) s refl q))
 
       by_all : (a b : Bool) → nat_lt 0 (consumed_in (thread_at s.machine t).server) ≡ b → (c : Bool) → is_blocked (thread_at s.machine t).status ≡ c → (d : Bool) → is_runnable (thread_at s.machine t).status ≡ d →
           (z : Bool) → (capacity_in (thread_at s.machine t).server == 0) ≡ z → (full : Bool) → Recorded bodies t pre acc (ends_tick (end_by a b c d z full) t s)
       by_all false b p c r d k z e full = no_plan full
       by_all true false p c r d k z e full = no_plan full
-      by_all true true p true r d k z e full = plans_mine (thread_at s.machine t).server s refl (grind arith) (λ runs. absurd (not_both (thread_at s.machine t).status r runs)) q
+      by_all true true p true r d k z e full = plans_mine (thread_at s.machine t).server s refl (grind arith) due (λ x k' sort runs. absurd (not_both (thread_at s.machine t).status r runs)) q
       by_all true true p false r false k z e full = no_plan full
       by_all true true p false r true k true e full = exhausts (grind arith) (grind arith)
       by_all true true p false r true k false e full = no_plan full
 
-  pub ends_booked : (tolled : Bool) (u : ℕ) (s : Turn P) → Recorded bodies t pre acc s → Recorded bodies t pre acc (ends_tick (tick_end tolled s.machine.quantum (thread_at s.machine u)) u s)
-  ends_booked tolled u s q = by_eq (u == t) refl
+  pub ends_booked : (tolled : Bool) (u : ℕ) (s : Turn P) → ((x : ServerState) → (thread_at s.machine t).server ≡ Some x → InTime s.machine.now x) → Recorded bodies t pre acc s → Recorded bodies t pre acc (ends_tick (tick_end tolled s.machine.quantum (thread_at s.machine u)) u s)
+  ends_booked tolled u s due q = by_eq (u == t) refl
     where
       by_eq : (b : Bool) → (u == t) ≡ b → Recorded bodies t pre acc (ends_tick (tick_end tolled s.machine.quantum (thread_at s.machine u)) u s)
-      by_eq true e = let it : t ≡ u = grind arith in subst (λ (v : ℕ). Recorded bodies t pre acc (ends_tick (tick_end tolled s.machine.quantum (thread_at s.machine v)) v s)) it (ends_mine tolled s.machine.quantum s q)
+      by_eq true e = let it : t ≡ u = grind arith in subst (λ (v : ℕ). Recorded bodies t pre acc (ends_tick (tick_end tolled s.machine.quantum (thread_at s.machine v)) v s)) it (ends_mine tolled s.machine.quantum s due q)
       by_eq false e = ends_other (tick_end tolled s.machine.quantum (thread_at s.machine u)) u s e q

@@ -19,7 +19,7 @@ use Rattle.machine_rules.specs.State.{Joiner, Message, Registration, SignalRecor
 use Rattle.machine_rules.specs.Threads.{can_run, is_dormant, lives, mutex_at, number_of, queue_at, semaphore_at, thread_at, timer_at, waiting_of}
 use Rattle.machine_rules.specs.Waiters.{Waiter, best_waiter, somebody_waits, waiters}
 use Rattle.machine_rules.specs.Turns.{Caller, Turn, changes, changes_pending, changes_queue, changes_timer, has_passed, is_late, moves, moves_if, returns, tells}
-use Rattle.machine_rules.specs.Servers.{activates_if, amount_of, plans_server, refills_server, regains_high, with_server}
+use Rattle.machine_rules.specs.Servers.{activates_if, amount_of, plans_server, refills_server, regains_high, with_server, at_once}
 use Rattle.machine_rules.specs.Waking.{blocks, cancelled_value, ending_with, started, starts, wakes}
 use Rattle.machine_rules.specs.Mutexes.{LockAnswer, counts, lock_answer, carries_out_lock, must_wait, owned_by, owns, owns_boosting, refused, takes, trylock_answer, unlocks}
 use Rattle.machine_rules.specs.Conditions.{signals_best_times, waits, waits_on_condition, waits_with_other_mutex}
@@ -150,7 +150,7 @@ module _ {P : Type 0} (bodies : Bodies P) (guards : BodyOf → P → List ℕ) (
   pub start_same : (t mask : ℕ) (s : Turn P) → is_dormant (thread_at s.machine t).status ≡ true → Same s (starts bodies t mask s)
   start_same t mask s e =
       let up = tells (event.Start t) (moves t (changes t (started bodies t mask s.machine.now) s)) in
-      λ i q. activated guards t (thread_at up.machine t).server up i (begun i (changed_is no_thread t i (started bodies t mask s.machine.now) s.machine.threads) q)
+      λ i q. activated guards t (at_once (thread_at up.machine t).server) up i (begun i (changed_is no_thread t i (started bodies t mask s.machine.now) s.machine.threads) q)
     where
       begun : (i : ℕ) → ((t ≡ i) × (thread_in (changed_at no_thread t (started bodies t mask s.machine.now) s.machine.threads) i ≡ started bodies t mask s.machine.now (thread_at s.machine t))) ⊎ (thread_in (changed_at no_thread t (started bodies t mask s.machine.now) s.machine.threads) i ≡ thread_at s.machine i) →
           Clean guards (thread_at s.machine i) → Clean guards (thread_at (changes t (started bodies t mask s.machine.now) s).machine i)

@@ -14,7 +14,7 @@ use Rattle.machine_rules.specs.Threads.{action_of, is_dormant, is_main, no_threa
 use Rattle.machine_rules.specs.Waiters.{Waiter, best_waiter}
 use Rattle.machine_rules.specs.CallNames.{name_of}
 use Rattle.machine_rules.specs.Turns.{Caller, Turn, answered, changes, changes_mutex, frames_answered, moves, returns, tells}
-use Rattle.machine_rules.specs.Servers.{activates_if, activates_server, high_server, with_server}
+use Rattle.machine_rules.specs.Servers.{activates_if, activates_server, at_once, high_server, with_server}
 use Rattle.machine_rules.specs.Waking.{blocks, call_in, cancelled_value, ending_with, put_to_wait, wakes, wakes_cancelled, wakes_telling, woken}
 use Rattle.machine_rules.specs.Mutexes.{hands_over, is_free, releases, returns_from_wait, taken_by, waits_for_mutex, wakes_owner}
 use Rattle.machine_rules.specs.Conditions.{contends, reacquires_or_waits, released_mutex, signals_best_times, signals_waiter, waits_on_condition}
@@ -85,13 +85,13 @@ module _ {P : Type 0} (guards : BodyOf → P → List ℕ) where
   activated t (Some server) s = change t (with_server (activate s.machine.now)) s (λ th q. q)
 
   pub activated_if : (b : Bool) (t : ℕ) (s : Turn P) → Same s (activates_if b t s)
-  activated_if true t s = activated t (thread_at s.machine t).server s
+  activated_if true t s = activated t (at_once (thread_at s.machine t).server) s
   activated_if false t s = λ i q. q
 
   pub woke : (e : Event) (t : ℕ) (r : Res) (v : ℕ) (s : Turn P) → Same s (wakes_telling e t r v s)
   woke e t r v s =
       let up = tells e (moves t (changes t (woken r v) s)) in
-      λ i q. (activated t (high_server (thread_at up.machine t).server) up) i ((change t (woken r v) s (woken_clean r v)) i q)
+      λ i q. (activated t (at_once (high_server (thread_at up.machine t).server)) up) i ((change t (woken r v) s (woken_clean r v)) i q)
 
   pub wakes_same : (t : ℕ) (r : Res) (v : ℕ) (s : Turn P) → Same s (wakes t r v s)
   wakes_same t r v s = woke (event.Return t (name_of (call_in (waiting_of s.machine t))) r v) t r v s

@@ -16,7 +16,7 @@ use Rattle.machine_rules.specs.Delivery.{sweeps}
 use Rattle.machine_rules.specs.DueItems.{handles, instant, item_bound, item_done, item_then, items_done, next_item}
 use Rattle.machine_rules.specs.Dispatch.{dispatches, head}
 use Rattle.machine_rules.specs.Units.{in_unit}
-use Rattle.machine_rules.specs.Ticks.{runs, runs_head, tick_charged, tick_end, tick_ends, unit_ticked, unless_killed}
+use Rattle.machine_rules.specs.Ticks.{runs, runs_head, tick_charged, tick_end, tick_ends, unit_ticked, unless_killed, planning, prepares}
 use Rattle.machine_rules.specs.GoodState.{CleanupsAreRight, main_guards}
 use Rattle.machine_rules.specs.Runs.{opening, thread_opened, ticks}
 use Rattle.machine_rules.proofs.ItemsEnd.{next_is_due}
@@ -26,11 +26,12 @@ use Rattle.machine_moves.specs.UnitRanges.{BodiesFit}
 use Rattle.machine_laws.specs.GuardedBodies.{BodiesGuarded, most_of}
 use Rattle.machine_moves.proofs.Waiters.Best.{Each, running_within}
 use Rattle.machine_moves.proofs.Runs.Listed.{AllRun, head_can_run}
+use Rattle.machine_moves.proofs.Runs.Preparing.{PreparingKeeps, alike_runs, prepares_keep}
 use Rattle.machine_moves.proofs.Runs.Ticks.{charged_runs, charged_turn, dispatched}
 use Rattle.machine_moves.proofs.Runs.Since.{Rests, instant_keep, run_since}
 use Rattle.machine_laws.proofs.Lists.Kept.{Placed, Placing, opening_placed, placed_tick}
 use Rattle.machine_laws.proofs.Parts.Opening.{opening_listed}
-use Rattle.machine_laws.proofs.Cleanups.Frames.{Clean, FrameFits}
+use Rattle.machine_laws.proofs.Cleanups.Frames.{Clean, FrameFits, activated}
 use Rattle.machine_laws.proofs.Cleanups.Calls.{end_same, item_same}
 use Rattle.machine_laws.proofs.Cleanups.Units.{Before, all_visited, charged_before, completed}
 
@@ -83,18 +84,26 @@ module _ {P : Type 0} (bodies : Bodies P) (fits : BodiesFit bodies) (guards : Bo
   dispatched_clean : (to : Option ℕ) (s : Turn P) → AllClean s.machine → AllClean (dispatches to s).machine
   dispatched_clean to s q = subst AllClean (sym (dispatched to s)) q
 
-  runs_clean : (to : Option ℕ) (s : Turn P) → head s.machine ≡ to → Still s → AllClean s.machine → AllClean (runs bodies to (dispatches to s)).machine
-  runs_clean None s e r q = dispatched_clean None s q
-  runs_clean (Some t) s e r q =
-      let to = dispatches (Some t) s in
-      let can : can_run s.machine t ≡ true = head_can_run s.machine t r.listed e in
-      let can' : can_run to.machine t ≡ true = ap (λ (m : Machine P). can_run m t) (dispatched (Some t) s) ∙ can in
-      let was_high = has_high (thread_at to.machine t).server in
-      let ticked = unit_ticked bodies to.machine t (in_unit bodies (thread_at to.machine t)) to in
-      sweep_clean (tick_ends was_high t ticked) (λ v. end_same bodies guards guarded (tick_end was_high ticked.machine.quantum (thread_at ticked.machine t)) t ticked v (ticked_clean t to can' (dispatched_clean (Some t) s q) v))
+  clean_prepared : PreparingKeeps (λ (s : Turn P). AllClean s.machine)
+  clean_prepared = record {
+    closes = λ t s run q v. end_same bodies guards guarded planning t s v (q v);
+    sent = λ to s off q. dispatched_clean to s q;
+    opens = λ t x s runs is may q v. activated guards t (Some x) s v (q v);
+  }
+
+  runs_clean : (to : Option ℕ) (s : Turn P) → ((t : ℕ) → to ≡ Some t → can_run s.machine t ≡ true) → AllClean s.machine → AllClean (runs bodies to s).machine
+  runs_clean None s can q = q
+  runs_clean (Some t) s can q =
+      let was_high = has_high (thread_at s.machine t).server in
+      let ticked = unit_ticked bodies s.machine t (in_unit bodies (thread_at s.machine t)) s in
+      sweep_clean (tick_ends was_high t ticked) (λ v. end_same bodies guards guarded (tick_end was_high ticked.machine.quantum (thread_at ticked.machine t)) t ticked v (ticked_clean t s (can t refl) q v))
 
   goes_on_clean : (killed : Option ℕ) (s : Turn P) → Still s → AllClean s.machine → AllClean (unless_killed killed (runs_head bodies) s).machine
-  goes_on_clean None s r q = runs_clean (head s.machine) s refl r q
+  goes_on_clean None s r q =
+      let to = head s.machine in
+      let can = λ (t : ℕ) (e : to ≡ Some t). head_can_run s.machine t r.listed e in
+      let k = prepares_keep (λ (x : Turn P). AllClean x.machine) clean_prepared to s can q in
+      runs_clean to (prepares to s) (λ t e. alike_runs s.machine (prepares to s).machine t k.1 (can t e)) k.0
   goes_on_clean (Some signal) s r q = q
 
   pub run_clean : (n : ℕ) (start : Machine P) → Placed start → AllRun start start.lists → AllClean start → AllClean (ticks bodies n start).machine

@@ -10,7 +10,7 @@ use Rattle.machine_rules.specs.Bodies.{Bodies}
 use Rattle.machine_rules.specs.State.{Machine, Thread, for_end, waits_to_join}
 use Rattle.machine_rules.specs.Threads.{can_run, is_runnable, no_thread, thread_at, thread_in}
 use Rattle.machine_rules.specs.Turns.{Turn, changes, moves, moves_if, tells}
-use Rattle.machine_rules.specs.Servers.{activates_if, activates_server, amount_of, high_server, plans_server, refills_server, regains_high, with_server}
+use Rattle.machine_rules.specs.Servers.{activates_if, activates_server, amount_of, at_once, high_server, plans_server, refills_server, regains_high, with_server}
 use Rattle.machine_rules.specs.Waking.{ending_with, on_top, put_to_wait, started, woken}
 use Rattle.machine_rules.specs.Lives.{with_joiner, without_life, without_top}
 use Rattle.machine_rules.specs.Cancellation.{without_cleanup}
@@ -78,7 +78,7 @@ module _ {P : Type 0} (before : Machine P) where
   activated_come t (Some server) s q = let k = kept_come t (with_server (activate s.machine.now)) s (λ th. refl) q in record { lists = k.lists; each = k.each }
 
   activated_if_come : (b : Bool) (t : ℕ) (s : Turn P) → Come before s → Come before (activates_if b t s)
-  activated_if_come true t s q = activated_come t (thread_at s.machine t).server s q
+  activated_if_come true t s q = activated_come t (at_once (thread_at s.machine t).server) s q
   activated_if_come false t s q = q
 
   refilled_come : (t : ℕ) (o : Option ServerState) (s : Turn P) → Come before s → Come before (refills_server t o s)
@@ -110,13 +110,13 @@ module _ {P : Type 0} (before : Machine P) where
     come_keep (renews_with active t new) s may q = activated_if_come active t (changes t (with_policy new s.machine.now) s) (kept_come t (with_policy new s.machine.now) s (λ th. refl) q)
     come_keep (wakes_with t e r v) s may q =
         let up = tells e (moves t (changes t (woken r v) s)) in let k = came t (woken r v) s q in
-        activated_come t (high_server (thread_at up.machine t).server) up (record { lists = k.lists; each = k.each })
+        activated_come t (at_once (high_server (thread_at up.machine t).server)) up (record { lists = k.lists; each = k.each })
     come_keep (blocks_for by wait due) s may q =
         let k = off_come by.thread (put_to_wait (record { wait = wait; serial = s.machine.next_serial; due = due; call = by.call })) s (λ th. refl) q in record { lists = k.lists; each = k.each }
     come_keep (blocks_plainly by wait due) s may q = absurd may
     come_keep (begins t mask) s may q =
         let up = tells (event.Start t) (moves t (changes t (started bodies t mask s.machine.now) s)) in let k = came t (started bodies t mask s.machine.now) s q in
-        activated_come t (thread_at up.machine t).server up (record { lists = k.lists; each = k.each })
+        activated_come t (at_once (thread_at up.machine t).server) up (record { lists = k.lists; each = k.each })
     come_keep (lives_no_more t) s may q = let k = off_come t without_life s (λ th. refl) q in record { lists = k.lists; each = k.each }
     come_keep (recasts t f) s may q = absurd may
     come_keep (rejoins t j) s may q = kept_come t (with_joiner j) s (λ th. refl) q

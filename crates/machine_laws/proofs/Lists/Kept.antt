@@ -1,6 +1,6 @@
 -- At every instant of every run each runnable thread stands once, on the list of its execution priority, and no other on any.
-use Rattle.std.proofs.Common.{Bool, List, None, Option, Some, [], ap, arith, false, refl, suc, sym, true, zero, ℕ, ◌+◌, ◌∷◌, ◌≡◌}
-use Rattle.std.specs.Prelude.{filter_map, map, replicate}
+use Rattle.std.proofs.Common.{Bool, List, None, Option, Some, [], ap, arith, false, refl, suc, sym, true, zero, ℕ, ◌+◌, ◌∷◌, ◌≡◌, length}
+use Rattle.std.specs.Prelude.{filter_map, map, replicate, option_map, ◌-◌, ◌==◌}
 use mathlib.Core.Path.{subst, ◌∙◌}
 use Rattle.script_tree.specs.declared.decl.Decl.{Decl}
 use Rattle.script_tree.specs.declared.decl.Decl.TheVariants as decl
@@ -8,7 +8,9 @@ use Rattle.script_tree.specs.declared.decl.Kind.TheVariants as kind
 use Rattle.script_tree.specs.declared.decl.Script.{Script}
 use Rattle.script_tree.specs.declared.policy.Policy.{Policy}
 use Rattle.script_tree.specs.declared.policy.Policy.TheVariants as policy
-use Rattle.sporadic_server.specs.Server.{ServerState, plan}
+use Rattle.sporadic_server.specs.declared.ServerKind.{ServerKind}
+use Rattle.sporadic_server.specs.declared.ServerKind.TheVariants as server_kind
+use Rattle.sporadic_server.specs.Server.{ServerState, activate, is_high, is_high_as, plan}
 use Rattle.pse52_trace.specs.declared.event.Event.TheVariants as event
 use Rattle.machine_rules.specs.declared.dispatch.LastDispatch.{LastDispatch}
 use Rattle.machine_rules.specs.Lists.{changed_at}
@@ -17,7 +19,7 @@ use Rattle.machine_rules.specs.State.{Frame, Machine, Thread, for_end, waits_to_
 use Rattle.machine_rules.specs.Threads.{can_run, is_runnable, no_thread, thread_at, thread_in}
 use Rattle.machine_rules.specs.Declarations.{ThreadDecl, mutex_kind, named, threads_of}
 use Rattle.machine_rules.specs.Turns.{Turn, changes, moves_if, tells}
-use Rattle.machine_rules.specs.Servers.{plans_server, with_server}
+use Rattle.machine_rules.specs.Servers.{plans_server, with_server, activates_server, has_run}
 use Rattle.machine_rules.specs.Waking.{put_to_wait}
 use Rattle.machine_rules.specs.Lives.{with_joiner}
 use Rattle.machine_rules.specs.Settling.{settled}
@@ -26,21 +28,30 @@ use Rattle.machine_rules.specs.Dispatch.{dispatch_of, dispatches}
 use Rattle.machine_rules.specs.Units.{Following, advances, advancing, begins_finish, cleaning_up, continuing, finishing, following, in_unit, takes_unit}
 use Rattle.machine_rules.specs.Ticks.{TickEnd, ends_tick, exhausting, nothing, planning, slicing, tick_charged, without_slice}
 use Rattle.machine_rules.specs.Runs.{opening, thread_opened}
-use Rattle.machine_rules.proofs.Standing.{stands}
+use Rattle.machine_rules.proofs.Standing.{stands, one_if}
 use Rattle.machine_rules.specs.WellFormed.{DeclsFit, PolicyFits, IsWellFormed}
 use Rattle.machine_moves.specs.Moves.{KeepsRenewing, Sleeps}
 use Rattle.machine_moves.proofs.Waiters.Best.{Each}
 use Rattle.machine_laws.proofs.Lists.Places.{Stand, stand_again}
-use Rattle.machine_laws.proofs.Lists.Priorities.{AllFit, MutexFits, ThreadFits, charged_fits, fitting_keep, one, planned_fits, priorities}
+use Rattle.machine_laws.proofs.Lists.Priorities.{AllFit, MutexFits, ThreadFits, charged_fits, fitting_keep, one, planned_fits, priorities, same_parameters}
 use Rattle.machine_laws.proofs.Lists.Arrivals.{Come, changed_come, come_keep, come_stop, ended_come}
 use Rattle.machine_moves.proofs.Runs.Units.{threads_fit}
 use Rattle.machine_moves.proofs.Runs.Ticks.{charged_turn, dispatched}
 use Rattle.machine_moves.proofs.Runs.Since.{TickSince, dispatched_direct}
-use Rattle.machine_laws.proofs.Parts.Kept.{PartsRight, elsewhere, parts_renewing, parts_stop, parts_tick}
+use Rattle.machine_laws.proofs.Parts.Kept.{PartsRight, elsewhere, parts_renewing, parts_stop, parts_tick, recast}
 use Rattle.machine_laws.proofs.Parts.Opening.{opening_right}
 use Rattle.machine_moves.proofs.Runs.Units as units_fit
+use Rattle.machine_rules.specs.Priorities.{Claim, assigned_under, claim_of, exec_in, mutex_awaited_by}
+use Rattle.machine_rules.proofs.Reading.{changed-keeps}
+use Rattle.machine_laws.proofs.Servers.Right.{not_strict, run_parts}
+use Rattle.machine_moves.proofs.Runs.Preparing.{PreparingKeeps}
 
 -- between settlings' effects
+-- a strict server goes by its capacity alone
+pub strict_high : (k : ServerKind) (c n n' max : ℕ) → k ≡ server_kind.Strict → is_high_as k c n max ≡ is_high_as k c n' max
+strict_high server_kind.Sporadic c n n' max e = absurd (not_strict (sym e))
+strict_high server_kind.Strict c n n' max e = refl
+
 pub record Placed {P : Type 0} (m : Machine P) : Type 0 where
   pub parts : PartsRight m
   pub fit : AllFit m
@@ -194,16 +205,87 @@ module _ {P : Type 0} (bodies : Bodies P) where
     };
   }
 
+  -- ---- a run that is closed or opened leaves every priority
+
+  pub claims_at : (t : ℕ) (f : Thread P → Thread P) (ths : List (Thread P)) → claim_of (f (thread_in ths t)) ≡ claim_of (thread_in ths t) → map claim_of (changed_at no_thread t f ths) ≡ map claim_of ths
+  claims_at t f [] h = refl
+  claims_at zero f (th ∷ ths) h = ap (λ (c : Claim). c ∷ map claim_of ths) h
+  claims_at (suc t) f (th ∷ ths) h = ap (λ (cs : List Claim). claim_of th ∷ cs) (claims_at t f ths h)
+
+  stand_served : (t : ℕ) (f : ServerState → ServerState) (s : Turn P) → claim_of (with_server f (thread_at s.machine t)) ≡ claim_of (thread_at s.machine t) → Stand s.machine → Stand (changes t (with_server f) s).machine
+  stand_served t f s h q =
+      let same = λ (u : ℕ). changed-keeps no_thread t u (with_server f) (λ (th : Thread P). is_runnable th.status) (λ th. refl) s.machine.threads in
+      let claims = claims_at t (with_server f) s.machine.threads h in
+      record {
+        every = q.every;
+        runs = λ u i runs. q.runs u i (sym (same u) ∙ runs) ∙ ap (λ (cs : List Claim). one_if (exec_in cs s.machine.mutexes u - 1 == i)) (sym claims);
+        others = λ u i off. q.others u i (sym (same u) ∙ off);
+      }
+
+  same_assigned : (f : ServerState → ServerState) (p : Policy) (x : ServerState) → is_high (f x) ≡ is_high x → (f x).params ≡ x.params → assigned_under p (Some (f x)) ≡ assigned_under p (Some x)
+  same_assigned f (policy.Fifo n) x e k = refl
+  same_assigned f (policy.Rr n) x e k = refl
+  same_assigned f (policy.Sporadic params) x e k = rw (e, k) refl
+  same_assigned f (policy.Strict params) x e k = rw (e, k) refl
+
+  pub claim_at : (f : ServerState → ServerState) (th : Thread P) (x : ServerState) → th.server ≡ Some x → is_high (f x) ≡ is_high x → (f x).params ≡ x.params → claim_of (with_server f th) ≡ claim_of th
+  claim_at f th x is e k =
+      let here : assigned_under th.policy (option_map f th.server) ≡ assigned_under th.policy th.server = ap (λ (o : Option ServerState). assigned_under th.policy (option_map f o)) is ∙ same_assigned f th.policy x e k ∙ ap (assigned_under th.policy) (sym is) in
+      ap (λ (n : ℕ). record { assigned = n; awaited = mutex_awaited_by th }) here
+
+  -- what precedes the tick of the head leaves the lists right
+  pub stand_prepared : PreparingKeeps (λ (s : Turn P). Stand s.machine)
+  stand_prepared = record {
+    closes = λ t s run q. closes_stand t (thread_at s.machine t).server s refl run q;
+    sent = λ to s off q. subst Stand (sym (dispatched to s)) (stand_elsewhere s.machine s.machine.now (dispatch_of to) q);
+    opens = λ t x s runs is may q. again (activates_server t (Some x) s) (changes t (with_server (activate s.machine.now)) s) refl (stand_served t (activate s.machine.now) s (claim_at (activate s.machine.now) (thread_at s.machine t) x is refl refl) q);
+  }
+    where
+      again : (x y : Turn P) → x.machine ≡ y.machine → Stand y.machine → Stand x.machine
+      again x y e q = subst Stand (sym e) q
+
+      closes_stand : (t : ℕ) (o : Option ServerState) (s : Turn P) → (thread_at s.machine t).server ≡ o → has_run o ≡ true → Stand s.machine → Stand (plans_server t o s).machine
+      closes_stand t None s e run q = q
+      closes_stand t (Some x) s e run q =
+          let stood = stand_served t plan s (claim_at plan (thread_at s.machine t) x e (strict_high x.kind x.capacity (length (plan x).pending) (length x.pending) x.params.max (run_parts x run).0) refl) q in
+          record { every = stood.every; runs = stood.runs; others = stood.others }
+
+  closed_placed : (t : ℕ) (o : Option ServerState) (s : Turn P) → (thread_at s.machine t).server ≡ o → has_run o ≡ true → Placed s.machine → Placed (plans_server t o s).machine
+  closed_placed t None s e run q = q
+  closed_placed t (Some x) s e run q =
+      let fit = planned t (Some x) s q.fit in
+      let strict = (run_parts x run).0 in record {
+        parts = recast bodies None t (with_server plan) s refl refl q.parts;
+        fit = fit;
+        stand = again (stand_served t plan s (claim_at plan (thread_at s.machine t) x e (strict_high x.kind x.capacity (length (plan x).pending) (length x.pending) x.params.max strict) refl) q.stand);
+      }
+    where
+      again : Stand (changes t (with_server plan) s).machine → Stand (plans_server t (Some x) s).machine
+      again stood = record { every = stood.every; runs = stood.runs; others = stood.others }
+
+  opened_placed : (t : ℕ) (x : ServerState) (s : Turn P) → Placed s.machine → Placed (activates_server t (Some x) s).machine
+  opened_placed t x s q = record {
+    parts = recast bodies None t (with_server (activate s.machine.now)) s refl refl q.parts;
+    fit = (let fit = one bodies None t (with_server (activate s.machine.now)) s (λ th h. (h.0, same_parameters (activate s.machine.now) (λ y. (refl, refl)) th.policy th.server h.1)) q.fit in record { threads = fit.threads; mutexes = fit.mutexes });
+    stand = (let stood = stand_served t (activate s.machine.now) s (by_server (thread_at s.machine t).server refl) q.stand in record { every = stood.every; runs = stood.runs; others = stood.others });
+  }
+    where
+      by_server : (o : Option ServerState) → (thread_at s.machine t).server ≡ o → claim_of (with_server (activate s.machine.now) (thread_at s.machine t)) ≡ claim_of (thread_at s.machine t)
+      by_server None e = let th = thread_at s.machine t in ap (λ (n : ℕ). record { assigned = n; awaited = mutex_awaited_by th }) (ap (λ (o : Option ServerState). assigned_under th.policy (option_map (activate s.machine.now) o)) e ∙ ap (assigned_under th.policy) (sym e))
+      by_server (Some y) e = claim_at (activate s.machine.now) (thread_at s.machine t) y e refl refl
+
   pub placed_tick : TickSince bodies Placed Placing (λ was_high t. Placing) (λ was_high t. Placing) (λ was_high t. Placed)
   placed_tick = record {
     opens = opened;
     moves = placing_keep None;
     joined = λ before s q. q.parts.joiners;
     settles = placed_again;
-    charges = λ t s still none runs q.
-        let to = dispatches (Some t) s in
-        let can : can_run to.machine t ≡ true = ap (λ (m : Machine P). can_run m t) (dispatched (Some t) s) ∙ runs in
-        charged_placing t to (dispatched_direct (Some t) s ∙ still) can (placed_dispatched (Some t) s q) ((parts_tick bodies).charges t s none runs q.parts);
+    prepares = record {
+      closes = λ t s run q. closed_placed t (thread_at s.machine t).server s refl run q;
+      sent = λ to s off q. placed_dispatched to s q;
+      opens = λ t x s runs is may q. opened_placed t x s q;
+    };
+    charges = λ t s still ready runs q. charged_placing t s still runs q ((parts_tick bodies).charges t s ready runs q.parts);
     unit_moves = λ was_high t. placing_keep (Some t);
     unit_joined = λ was_high t before s q. q.parts.joiners;
     unit_stops = λ was_high t. placing_stop (Some t);
@@ -214,7 +296,7 @@ module _ {P : Type 0} (bodies : Bodies P) where
       stood = q.stand;
       come = ended_come s.machine _ t s (opened s still q).come;
     };
-    idles = λ s none q. let to = dispatches None s in placed_elsewhere to.machine (to.machine.now + 1) to.machine.last (placed_dispatched None s q);
+    idles = λ s ready q. placed_elsewhere s.machine (s.machine.now + 1) s.machine.last q;
   }
 
 -- ---- the opening
@@ -227,6 +309,7 @@ opened_fit P (d ∷ ds) each = ((each.0.0, none_fits d.policy), opened_fit P ds 
     none_fits (policy.Fifo p) = refl
     none_fits (policy.Rr p) = refl
     none_fits (policy.Sporadic params) = tt
+    none_fits (policy.Strict params) = tt
 
 mutexes_fit : (ds : List Decl) → DeclsFit ds → Each MutexFits (filter_map (named mutex_kind) ds)
 mutexes_fit [] h = tt

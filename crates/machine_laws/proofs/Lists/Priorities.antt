@@ -9,21 +9,22 @@ use Rattle.script_tree.specs.declared.policy.Protocol.{Protocol}
 use Rattle.script_tree.specs.declared.policy.Protocol.TheVariants as protocol
 use Rattle.pse52_trace.specs.declared.event.Event.TheVariants as event
 use Rattle.sporadic_server.specs.declared.Replenish.{Replenish}
-use Rattle.sporadic_server.specs.Server.{ServerState, activate, is_high, oldest_pending, plan, refill, refill_from, set_high}
+use Rattle.sporadic_server.specs.Server.{ServerState, activate, is_high, oldest_pending, plan, refill, refill_from, set_high, charge}
 use Rattle.machine_rules.specs.Lists.{changed_at, greatest, is}
 use Rattle.machine_rules.specs.Bodies.{Bodies}
 use Rattle.machine_rules.specs.State.{Machine, Mutex, Thread}
 use Rattle.machine_rules.specs.Threads.{can_run, no_mutex, no_thread, thread_at}
 use Rattle.machine_rules.specs.Priorities.{Claim, assigned_in, assigned_under, base_in, owner_ceiling, ceiling_under, claims, exec_in, exec_within, inherit_waiters_in}
 use Rattle.machine_rules.specs.Turns.{Turn, changes, changes_mutex, moves, tells}
-use Rattle.machine_rules.specs.Servers.{activates_if, activates_server, amount_of, charged, high_server, refills_server, regains_high, server_of, with_server}
+use Rattle.machine_rules.specs.Servers.{activates_if, activates_server, amount_of, at_once, charged, high_server, refills_server, regains_high, server_of, with_server}
 use Rattle.machine_rules.specs.Waking.{ending_with, on_top, put_to_wait, started, woken}
 use Rattle.machine_rules.specs.Mutexes.{counted_down, counted_up, freed, taken_by}
 use Rattle.machine_rules.specs.Lives.{with_joiner, without_life, without_top}
 use Rattle.machine_rules.specs.Cancellation.{without_cleanup}
-use Rattle.machine_rules.specs.Scheduling.{at_priority, with_policy, with_priority}
+use Rattle.machine_rules.specs.Scheduling.{at_priority, with_policy, with_priority, takes_priority}
 use Rattle.machine_rules.specs.GoodState.{HasParameters}
 use Rattle.machine_rules.specs.WellFormed.{IsPriority, PolicyFits, ProtocolFits}
+use Rattle.tick_num.specs.Parameters.{AreParameters}
 use Rattle.machine_moves.specs.Moves.{Core, KeepsRenewing, alters, begins, blocks_for, blocks_plainly, core_of, counts_down, counts_up, drops, ends_with, enters_frame, frees, leaves_frame, lives_no_more, prices, pushed, pushes, recasts, refills_one, rejoins, renews_with, takes_for, wakes_with}
 use Rattle.machine_moves.proofs.Waiters.Best.{Each}
 use Rattle.machine_laws.proofs.Lists.Places.{HavePriorities}
@@ -52,8 +53,14 @@ assigned_fits (policy.Sporadic params) None h k = h.0
 assigned_fits (policy.Sporadic params) (Some s) h k = by_high (is_high s)
   where
     by_high : (b : Bool) → IsPriority (if b then s.params.high else s.params.low)
-    by_high true = subst (λ (p : Parameters). IsPriority p.high) (sym k) h.1
-    by_high false = subst (λ (p : Parameters). IsPriority p.low) (sym k) h.0
+    by_high true = subst (λ (p : Parameters). IsPriority p.high) (sym k.0) h.1
+    by_high false = subst (λ (p : Parameters). IsPriority p.low) (sym k.0) h.0
+assigned_fits (policy.Strict params) None h k = h.0
+assigned_fits (policy.Strict params) (Some s) h k = by_high (is_high s)
+  where
+    by_high : (b : Bool) → IsPriority (if b then s.params.high else s.params.low)
+    by_high true = subst (λ (p : Parameters). IsPriority p.high) (sym k.0) h.1
+    by_high false = subst (λ (p : Parameters). IsPriority p.low) (sym k.0) h.0
 
 abbrev no_claim : Claim
 no_claim = record { assigned = 0; awaited = None }
@@ -119,45 +126,73 @@ module _ {P : Type 0} (m : Machine P) (fits : AllFit m) where
     small = λ t. within_small (length (claims m.threads)) t;
   }
 
+each_changed_at : {X : Type 0} (Law : X → Type 0) (none : X) (n : ℕ) (f : X → X) (xs : List X) → (Law (slice_index_or xs n none) → Law (f (slice_index_or xs n none))) → Each Law xs → Each Law (changed_at none n f xs)
+each_changed_at Law none n f [] h each = tt
+each_changed_at Law none zero f (x ∷ xs) h each = (h each.0, each.1)
+each_changed_at Law none (suc n) f (x ∷ xs) h each = (each.0, each_changed_at Law none n f xs h each.1)
+
 -- ---- what is done to a thread
 
-same_parameters : (f : ServerState → ServerState) → ((s : ServerState) → (f s).params ≡ s.params) → (p : Policy) (o : Option ServerState) → HasParameters p o → HasParameters p (option_map f o)
+pub same_parameters : (f : ServerState → ServerState) → ((s : ServerState) → ((f s).params ≡ s.params) × ((f s).kind ≡ s.kind)) → (p : Policy) (o : Option ServerState) → HasParameters p o → HasParameters p (option_map f o)
 same_parameters f h (policy.Fifo p) o k = ap (option_map f) k
 same_parameters f h (policy.Rr p) o k = ap (option_map f) k
 same_parameters f h (policy.Sporadic params) None k = k
-same_parameters f h (policy.Sporadic params) (Some s) k = h s ∙ k
+same_parameters f h (policy.Sporadic params) (Some s) k = ((h s).0 ∙ k.0, (h s).1 ∙ k.1)
+same_parameters f h (policy.Strict params) None k = k
+same_parameters f h (policy.Strict params) (Some s) k = ((h s).0 ∙ k.0, (h s).1 ∙ k.1)
 
-refilled_parameters : (s : ServerState) → (refill s).params ≡ s.params
+refilled_parameters : (s : ServerState) → ((refill s).params ≡ s.params) × ((refill s).kind ≡ s.kind)
 refilled_parameters s = by_pending s.pending
   where
-    by_pending : (rs : List Replenish) → (refill_from rs s).params ≡ s.params
-    by_pending [] = refl
-    by_pending (r ∷ rs) = refl
+    by_pending : (rs : List Replenish) → ((refill_from rs s).params ≡ s.params) × ((refill_from rs s).kind ≡ s.kind)
+    by_pending [] = (refl, refl)
+    by_pending (r ∷ rs) = (refl, refl)
 
-charged_parameters : (s : ServerState) → (charged s).params ≡ s.params
-charged_parameters s = grind arith
+charged_parameters : (s : ServerState) → ((charged s).params ≡ s.params) × ((charged s).kind ≡ s.kind)
+charged_parameters s = by_high (is_high s)
+  where
+    by_high : (b : Bool) → ((if b then charge s else s).params ≡ s.params) × ((if b then charge s else s).kind ≡ s.kind)
+    by_high true = (refl, refl)
+    by_high false = (refl, refl)
 
 pub charged_fits : (p : Policy) (o : Option ServerState) → HasParameters p o → HasParameters p (option_map charged o)
 charged_fits = same_parameters charged charged_parameters
 
 pub planned_fits : {P : Type 0} (th : Thread P) → ThreadFits th → ThreadFits (with_server plan th)
-planned_fits th h = (h.0, same_parameters plan (λ s. refl) th.policy th.server h.1)
+planned_fits th h = (h.0, same_parameters plan (λ s. (refl, refl)) th.policy th.server h.1)
 
 new_fits : (p : Policy) (now : ℕ) → HasParameters p (server_of p now)
 new_fits (policy.Fifo p) now = refl
 new_fits (policy.Rr p) now = refl
-new_fits (policy.Sporadic params) now = refl
+new_fits (policy.Sporadic params) now = (refl, refl)
+new_fits (policy.Strict params) now = (refl, refl)
 
 none_fits : (p : Policy) → HasParameters p None
 none_fits (policy.Fifo p) = refl
 none_fits (policy.Rr p) = refl
 none_fits (policy.Sporadic params) = tt
+none_fits (policy.Strict params) = tt
 
-priced_fits : (n : ℕ) (p : Policy) (o : Option ServerState) → IsPriority n → PolicyFits p → HasParameters p o → PolicyFits (at_priority n p) × HasParameters (at_priority n p) (option_map (set_high n) o)
-priced_fits n (policy.Fifo p) o small h k = (small, ap (option_map (set_high n)) k)
-priced_fits n (policy.Rr p) o small h k = (small, ap (option_map (set_high n)) k)
-priced_fits n (policy.Sporadic params) None small h k = ((h.0, small), tt)
-priced_fits n (policy.Sporadic params) (Some s) small h k = ((h.0, small), ap (λ (q : Parameters). record q { high = n }) k)
+-- another high priority above the low one
+priced_parameters : (n : ℕ) (p : Parameters) → IsPriority n → p.low < n → AreParameters p → AreParameters (record p { high = n })
+priced_parameters n p small above h = record {
+  low_above_zero = h.low_above_zero;
+  low_below_high = above;
+  high_small = small.small;
+  budget_above_zero = h.budget_above_zero;
+  budget_within_period = h.budget_within_period;
+  period_small = h.period_small;
+  some_pending = h.some_pending;
+  few_pending = h.few_pending;
+}
+
+priced_fits : (n : ℕ) (p : Policy) (o : Option ServerState) → IsPriority n → takes_priority p n ≡ true → PolicyFits p → HasParameters p o → PolicyFits (at_priority n p) × HasParameters (at_priority n p) (option_map (set_high n) o)
+priced_fits n (policy.Fifo p) o small takes h k = (small, ap (option_map (set_high n)) k)
+priced_fits n (policy.Rr p) o small takes h k = (small, ap (option_map (set_high n)) k)
+priced_fits n (policy.Sporadic params) None small takes h k = ((h.0, small), tt)
+priced_fits n (policy.Sporadic params) (Some s) small takes h k = ((h.0, small), (ap (λ (q : Parameters). record q { high = n }) k.0, k.1))
+priced_fits n (policy.Strict params) None small takes h k = ((h.0, small, priced_parameters n params small (grind arith) h.2), tt)
+priced_fits n (policy.Strict params) (Some s) small takes h k = ((h.0, small, priced_parameters n params small (grind arith) h.2), (ap (λ (q : Parameters). record q { high = n }) k.0, k.1))
 
 module _ {P : Type 0} (bodies : Bodies P) (who : Option ℕ) where
   abbrev Law : Turn P → Type 0
@@ -171,10 +206,10 @@ module _ {P : Type 0} (bodies : Bodies P) (who : Option ℕ) where
 
   activated : (t : ℕ) (o : Option ServerState) (s : Turn P) → Law s → Law (activates_server t o s)
   activated t None s q = q
-  activated t (Some server) s q = let fit = one t (with_server (activate s.machine.now)) s (λ th h. (h.0, same_parameters (activate s.machine.now) (λ x. refl) th.policy th.server h.1)) q in record { threads = fit.threads; mutexes = fit.mutexes }
+  activated t (Some server) s q = let fit = one t (with_server (activate s.machine.now)) s (λ th h. (h.0, same_parameters (activate s.machine.now) (λ x. (refl, refl)) th.policy th.server h.1)) q in record { threads = fit.threads; mutexes = fit.mutexes }
 
   activated_if : (b : Bool) (t : ℕ) (s : Turn P) → Law s → Law (activates_if b t s)
-  activated_if true t s q = activated t (thread_at s.machine t).server s q
+  activated_if true t s q = activated t (at_once (thread_at s.machine t).server) s q
   activated_if false t s q = q
 
   refilled : (t : ℕ) (o : Option ServerState) (s : Turn P) → Law s → Law (refills_server t o s)
@@ -194,18 +229,21 @@ module _ {P : Type 0} (bodies : Bodies P) (who : Option ℕ) where
   fitting_keep (leaves_frame t) s may q = one t without_top s (λ th h. h) q
   fitting_keep (pushes t u) s may q = one t (pushed u) s (λ th h. h) q
   fitting_keep (drops t) s may q = one t without_cleanup s (λ th h. h) q
-  fitting_keep (prices t p) s may q = one t (with_priority p) s (λ th h. priced_fits p th.policy th.server may.2 h.0 h.1) q
+  fitting_keep (prices t p) s may q = record {
+    threads = each_changed_at ThreadFits no_thread t (with_priority p) s.machine.threads (λ h. priced_fits p (thread_at s.machine t).policy (thread_at s.machine t).server may.2 may.1 h.0 h.1) q.threads;
+    mutexes = q.mutexes;
+  }
   fitting_keep (renews_with active t new) s may q = activated_if active t (changes t (with_policy new s.machine.now) s) (one t (with_policy new s.machine.now) s (λ th h. (may.2, new_fits new s.machine.now)) q)
   fitting_keep (wakes_with t e r v) s may q =
       let up = tells e (moves t (changes t (woken r v) s)) in let fit = one t (woken r v) s (λ th h. h) q in
-      activated t (high_server (thread_at up.machine t).server) up (record { threads = fit.threads; mutexes = fit.mutexes })
+      activated t (at_once (high_server (thread_at up.machine t).server)) up (record { threads = fit.threads; mutexes = fit.mutexes })
   fitting_keep (blocks_for by wait due) s may q =
       let fit = one by.thread (put_to_wait (record { wait = wait; serial = s.machine.next_serial; due = due; call = by.call })) s (λ th h. h) q in record { threads = fit.threads; mutexes = fit.mutexes }
   fitting_keep (blocks_plainly by wait due) s may q = absurd may
   fitting_keep (begins t mask) s may q =
       let up = tells (event.Start t) (moves t (changes t (started bodies t mask s.machine.now) s)) in
       let fit = one t (started bodies t mask s.machine.now) s (λ th h. (h.0, new_fits th.policy s.machine.now)) q in
-      activated t (thread_at up.machine t).server up (record { threads = fit.threads; mutexes = fit.mutexes })
+      activated t (at_once (thread_at up.machine t).server) up (record { threads = fit.threads; mutexes = fit.mutexes })
   fitting_keep (lives_no_more t) s may q = let fit = one t without_life s (λ th h. (h.0, none_fits th.policy)) q in record { threads = fit.threads; mutexes = fit.mutexes }
   fitting_keep (recasts t f) s may q = absurd may
   fitting_keep (rejoins t j) s may q = one t (with_joiner j) s (λ th h. h) q

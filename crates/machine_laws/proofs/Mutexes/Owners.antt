@@ -12,7 +12,7 @@ use Rattle.machine_rules.specs.Threads.{can_run, is_runnable, mutex_at, no_mutex
 use Rattle.machine_rules.specs.Priorities.{mutex_awaited_by, mutex_waited}
 use Rattle.machine_rules.specs.Waiters.{somebody_waits, waits_so}
 use Rattle.machine_rules.specs.Turns.{Caller, Turn, changes, changes_mutex, moves, tells}
-use Rattle.machine_rules.specs.Servers.{activates_if, activates_server, amount_of, high_server, refills_server, regains_high, with_server}
+use Rattle.machine_rules.specs.Servers.{activates_if, activates_server, amount_of, at_once, high_server, refills_server, regains_high, with_server}
 use Rattle.machine_rules.specs.Waking.{ending_with, on_top, put_to_wait, started, woken}
 use Rattle.machine_rules.specs.Lives.{with_joiner, without_life, without_top}
 use Rattle.machine_rules.specs.Cancellation.{without_cleanup}
@@ -74,7 +74,7 @@ module _ {P : Type 0} where
   activated_many t (Some server) s = changed-length no_thread t (with_server (activate s.machine.now)) s.machine.threads
 
   activated_if_many : (b : Bool) (t : ℕ) (s : Turn P) → length (activates_if b t s).machine.threads ≡ length s.machine.threads
-  activated_if_many true t s = activated_many t (thread_at s.machine t).server s
+  activated_if_many true t s = activated_many t (at_once (thread_at s.machine t).server) s
   activated_if_many false t s = refl
 
   refilled_many : (t : ℕ) (o : Option ServerState) (s : Turn P) → length (refills_server t o s).machine.threads ≡ length s.machine.threads
@@ -95,12 +95,12 @@ module _ {P : Type 0} where
       activated_if_many active t (changes t (with_policy new s.machine.now) s) ∙ changed-length no_thread t (with_policy new s.machine.now) s.machine.threads
   as_many bodies (wakes_with t ev r v) s =
       let up = tells ev (moves t (changes t (woken r v) s)) in
-      activated_many t (high_server (thread_at up.machine t).server) up ∙ changed-length no_thread t (woken r v) s.machine.threads
+      activated_many t (at_once (high_server (thread_at up.machine t).server)) up ∙ changed-length no_thread t (woken r v) s.machine.threads
   as_many bodies (blocks_for by wait due) s = changed-length no_thread by.thread (put_to_wait (record { wait = wait; serial = s.machine.next_serial; due = due; call = by.call })) s.machine.threads
   as_many bodies (blocks_plainly by wait due) s = changed-length no_thread by.thread (put_to_wait (record { wait = wait; serial = 0; due = due; call = by.call })) s.machine.threads
   as_many bodies (begins t mask) s =
       let up = tells (event.Start t) (moves t (changes t (started bodies t mask s.machine.now) s)) in
-      activated_many t (thread_at up.machine t).server up ∙ changed-length no_thread t (started bodies t mask s.machine.now) s.machine.threads
+      activated_many t (at_once (thread_at up.machine t).server) up ∙ changed-length no_thread t (started bodies t mask s.machine.now) s.machine.threads
   as_many bodies (lives_no_more t) s = changed-length no_thread t without_life s.machine.threads
   as_many bodies (recasts t f) s = changed-length no_thread t f s.machine.threads
   as_many bodies (rejoins t j) s = changed-length no_thread t (with_joiner j) s.machine.threads

@@ -2,7 +2,7 @@
 use Rattle.std.proofs.Common.{Bool, List, None, Option, Some, [], ap, arith, false, inl, inr, refl, sym, true, ℕ, ◌+◌, ◌∷◌, ◌≡◌, ◌⊎◌}
 use Rattle.std.specs.Prelude.{◌==◌}
 use mathlib.Core.Path.{subst, ◌∙◌}
-use Rattle.sporadic_server.specs.Server.{ServerState, plan}
+use Rattle.sporadic_server.specs.Server.{ServerState, plan, activate}
 use Rattle.pse52_trace.specs.declared.event.Event.TheVariants as event
 use Rattle.machine_rules.specs.declared.dispatch.LastDispatch.{LastDispatch}
 use Rattle.machine_rules.specs.Bodies.{Bodies}
@@ -211,10 +211,14 @@ module _ {P : Type 0} (bodies : Bodies P) where
     unit_stops = λ was_high t. parts_stop bodies (Some t);
     unit_renews = λ was_high t. parts_renew bodies (Some t);
     unit_settles = λ was_high t before s q. elsewhere s.machine s.machine.now s.machine.last (settled before s.direct s.machine).lists q;
-    charges = λ t s none runs q.
-        let to = dispatches (Some t) s in let th = thread_at to.machine t in let f : Thread P → Thread P = λ x. tick_charged (in_unit bodies th).thread in
-        elsewhere (changes t f to).machine (to.machine.now + 1) to.machine.last to.machine.lists
-        (recast bodies None t f to (in_unit_status bodies th) (in_unit_joiner th) (dispatched_right (Some t) s q));
-    idles = λ s none q. let to = dispatches None s in elsewhere to.machine (to.machine.now + 1) to.machine.last to.machine.lists (dispatched_right None s q);
+    prepares = record {
+      closes = λ t s run q. ends_keep bodies None planning t s q;
+      sent = λ to s off q. dispatched_right to s q;
+      opens = λ t x s runs is may q. recast bodies None t (with_server (activate s.machine.now)) s refl refl q;
+    };
+    charges = λ t s ready runs q.
+        let th = thread_at s.machine t in let f : Thread P → Thread P = λ x. tick_charged (in_unit bodies th).thread in
+        elsewhere (changes t f s).machine (s.machine.now + 1) s.machine.last s.machine.lists (recast bodies None t f s (in_unit_status bodies th) (in_unit_joiner th) q);
+    idles = λ s ready q. elsewhere s.machine (s.machine.now + 1) s.machine.last s.machine.lists q;
     ends = λ was_high t s q. ends_keep bodies None _ t s q;
   }

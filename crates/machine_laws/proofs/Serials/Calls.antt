@@ -23,7 +23,7 @@ use Rattle.machine_rules.specs.State.{Joiner, Message, Registration, SignalRecor
 use Rattle.machine_rules.specs.Threads.{can_run, is_dormant, is_live, is_signal, lives, mutex_at, number_of, queue_at, semaphore_at, thread_at, timer_at, top_kind, waiting_of}
 use Rattle.machine_rules.specs.Waiters.{Waiter, best_waiter, somebody_waits, waiters}
 use Rattle.machine_rules.specs.Turns.{Caller, Turn, changes, changes_pending, changes_queue, changes_timer, has_passed, is_late, moves, moves_if, returns, tells}
-use Rattle.machine_rules.specs.Servers.{activates_if, amount_of, plans_server, refills_server, regains_high, with_server}
+use Rattle.machine_rules.specs.Servers.{activates_if, amount_of, at_once, plans_server, refills_server, regains_high, with_server}
 use Rattle.machine_rules.specs.Waking.{blocks, cancelled_value, ending_with, new_frame, on_top, started, starts, wakes}
 use Rattle.machine_rules.specs.Mutexes.{LockAnswer, counts, lock_answer, carries_out_lock, must_wait, owned_by, owns, owns_boosting, refused, takes, trylock_answer, unlocks}
 use Rattle.machine_rules.specs.Conditions.{signals_best_times, waits, waits_on_condition, waits_with_other_mutex}
@@ -155,7 +155,7 @@ module _ {P : Type 0} (bodies : Bodies P) where
       let none = dead_of (thread_at s.machine t).status (top_kind (thread_at s.machine t).frames) e in
       let a = change 0 t (started bodies t mask s.machine.now) s (omega arith) in
       let up = tells (event.Start t) (moves t (changes t (started bodies t mask s.machine.now) s)) in
-      let b = activated t (thread_at up.machine t).server up in omega arith
+      let b = activated t (at_once (thread_at up.machine t).server) up in omega arith
 
   create_cost : (by : Caller) (u : ℕ) (s : Turn P) → Costs 2 s (creates bodies by u s)
   create_cost by u s =

@@ -16,7 +16,7 @@ use Rattle.machine_rules.specs.Threads.{action_of, is_live, is_signal, no_thread
 use Rattle.machine_rules.specs.Waiters.{Waiter, best_waiter}
 use Rattle.machine_rules.specs.CallNames.{name_of}
 use Rattle.machine_rules.specs.Turns.{Caller, Turn, answered, changes, changes_mutex, changes_pending, frames_answered, moves, returns, tells}
-use Rattle.machine_rules.specs.Servers.{activates_if, activates_server, high_server, with_server}
+use Rattle.machine_rules.specs.Servers.{activates_if, activates_server, at_once, high_server, with_server}
 use Rattle.machine_rules.specs.Waking.{blocks, call_in, cancelled_value, ending_with, put_to_wait, wakes, wakes_cancelled, wakes_telling, woken}
 use Rattle.machine_rules.specs.Mutexes.{hands_over, is_free, releases, returns_from_wait, taken_by, waits_for_mutex, wakes_owner}
 use Rattle.machine_rules.specs.Conditions.{contends, reacquires_or_waits, released_mutex, signals_best_times, signals_waiter, waits_on_condition}
@@ -169,14 +169,14 @@ module _ {P : Type 0} where
   activated t (Some server) s = same t (with_server (activate s.machine.now)) s (λ th. refl) (λ th. refl)
 
   pub activated_if : (b : Bool) (t : ℕ) (s : Turn P) → Costs 0 s (activates_if b t s)
-  activated_if true t s = activated t (thread_at s.machine t).server s
+  activated_if true t s = activated t (at_once (thread_at s.machine t).server) s
   activated_if false t s = omega arith
 
   pub woke : (e : Event) (t : ℕ) (r : Res) (v : ℕ) (s : Turn P) → Costs 0 s (wakes_telling e t r v s)
   woke e t r v s =
       let first = live_change runnable (woken r v) t s refl refl (λ th. refl) (λ th. answered_top r v th.frames) in
       let up = tells e (moves t (changes t (woken r v) s)) in
-      let then' = activated t (high_server (thread_at up.machine t).server) up in omega arith
+      let then' = activated t (at_once (high_server (thread_at up.machine t).server)) up in omega arith
 
   pub wakes_cost : (t : ℕ) (r : Res) (v : ℕ) (s : Turn P) → Costs 0 s (wakes t r v s)
   wakes_cost t r v s = woke (event.Return t (name_of (call_in (waiting_of s.machine t))) r v) t r v s

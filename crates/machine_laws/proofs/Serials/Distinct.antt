@@ -11,7 +11,7 @@ use Rattle.machine_rules.specs.Bodies.{Bodies}
 use Rattle.machine_rules.specs.State.{Machine, SignalRecord, Status, Thread, Wait, Waiting, for_end, for_time, waits_to_join}
 use Rattle.machine_rules.specs.Threads.{can_run, no_thread, thread_at, thread_in, waiting_in}
 use Rattle.machine_rules.specs.Turns.{Caller, Turn, changes, changes_pending, moves, moves_if, tells}
-use Rattle.machine_rules.specs.Servers.{activates_if, activates_server, amount_of, high_server, plans_server, refills_server, regains_high, with_server}
+use Rattle.machine_rules.specs.Servers.{activates_if, activates_server, amount_of, at_once, high_server, plans_server, refills_server, regains_high, with_server}
 use Rattle.machine_rules.specs.Waking.{ending_with, on_top, put_to_wait, started, woken}
 use Rattle.machine_rules.specs.Queues.{record_of_notification}
 use Rattle.machine_rules.specs.Lives.{with_joiner, without_life, without_top}
@@ -108,7 +108,7 @@ module _ {P : Type 0} (bodies : Bodies P) (who : Option ℕ) where
   activated t (Some server) s q = same t (with_server (activate s.machine.now)) s (λ th. refl) q
 
   activated_if : (b : Bool) (t : ℕ) (s : Turn P) → Serials s.machine → Serials (activates_if b t s).machine
-  activated_if true t s q = activated t (thread_at s.machine t).server s q
+  activated_if true t s q = activated t (at_once (thread_at s.machine t).server) s q
   activated_if false t s q = q
 
   refilled : (t : ℕ) (o : Option ServerState) (s : Turn P) → Serials s.machine → Serials (refills_server t o s).machine
@@ -129,11 +129,11 @@ module _ {P : Type 0} (bodies : Bodies P) (who : Option ℕ) where
   serials_keep (prices t p) s may q = same t (with_priority p) s (λ th. refl) q
   serials_keep (renews_with active t new) s may q = activated_if active t (changes t (with_policy new s.machine.now) s) (same t (with_policy new s.machine.now) s (λ th. refl) q)
   serials_keep (wakes_with t e r v) s may q =
-      let up = tells e (moves t (changes t (woken r v) s)) in activated t (high_server (thread_at up.machine t).server) up (awake t (woken r v) s (λ th. refl) q)
+      let up = tells e (moves t (changes t (woken r v) s)) in activated t (at_once (high_server (thread_at up.machine t).server)) up (awake t (woken r v) s (λ th. refl) q)
   serials_keep (blocks_for by wait due) s may q = slept by wait due s q
   serials_keep (blocks_plainly by wait due) s may q = absurd may
   serials_keep (begins t mask) s may q =
-      let up = tells (event.Start t) (moves t (changes t (started bodies t mask s.machine.now) s)) in activated t (thread_at up.machine t).server up (awake t (started bodies t mask s.machine.now) s (λ th. refl) q)
+      let up = tells (event.Start t) (moves t (changes t (started bodies t mask s.machine.now) s)) in activated t (at_once (thread_at up.machine t).server) up (awake t (started bodies t mask s.machine.now) s (λ th. refl) q)
   serials_keep (lives_no_more t) s may q = awake t without_life s (λ th. refl) q
   serials_keep (recasts t f) s may q = absurd may
   serials_keep (rejoins t j) s may q = same t (with_joiner j) s (λ th. refl) q
@@ -243,4 +243,5 @@ module _ {P : Type 0} (bodies : Bodies P) where
     elsewhere = λ m now last lists q. q;
     charged = λ t s runs q. one bodies None t (λ th. tick_charged (in_unit bodies (thread_at s.machine t)).thread) s (λ n. (let e = ap (held n) (in_unit_status bodies (thread_at s.machine t)) in omega arith)) q;
     ended = ended;
+    opened = λ t x s is q. activated bodies None t (Some x) s q;
   }

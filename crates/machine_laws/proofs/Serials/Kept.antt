@@ -10,12 +10,12 @@ use Rattle.machine_rules.specs.State.{Machine, Thread}
 use Rattle.machine_rules.specs.Threads.{can_run, is_live, thread_at, thread_numbers, top_left}
 use Rattle.machine_rules.specs.Declarations.{ThreadDecl, threads_of}
 use Rattle.machine_rules.specs.Turns.{Turn, settles_since, turn_of}
-use Rattle.machine_rules.specs.Servers.{has_high}
+use Rattle.machine_rules.specs.Servers.{has_high, activates_server, plans}
 use Rattle.machine_rules.specs.Delivery.{sweeps, sweeps_all, sweeps_thread}
 use Rattle.machine_rules.specs.DueItems.{handles, instant, item_bound, item_done, item_then, items_done, next_item}
 use Rattle.machine_rules.specs.Dispatch.{dispatches, head}
 use Rattle.machine_rules.specs.Units.{in_unit}
-use Rattle.machine_rules.specs.Ticks.{completes_at, runs, runs_head, tick, tick_end, tick_ends, unit_ticked, unless_killed}
+use Rattle.machine_rules.specs.Ticks.{completes_at, runs, runs_head, tick, tick_end, tick_ends, unit_ticked, unless_killed, planning, prepares}
 use Rattle.machine_rules.specs.Runs.{opening, thread_opened, ticks}
 use Rattle.machine_rules.proofs.ItemsEnd.{instant_ends, next_is_due}
 use Rattle.machine_rules.specs.WellFormed.{IsWellFormed}
@@ -24,17 +24,18 @@ use Rattle.machine_moves.proofs.Calls.Table.{sweeps_all_keep}
 use Rattle.machine_moves.proofs.Runs.Listed.{AllRun, head_can_run}
 use Rattle.machine_moves.proofs.Runs.Units.{in_unit_fits}
 use Rattle.machine_moves.proofs.Runs.Ticks.{charged_runs, charged_turn, dispatched}
-use Rattle.machine_moves.proofs.Runs.Since.{Rests, TickSince, asleep, completes_keep, ends_keep, handles_keep, instant_keep, item_done_keep, narrowed, run_since, settles_keep}
+use Rattle.machine_moves.proofs.Runs.Since.{Rests, TickSince, asleep, completes_keep, ends_keep, handles_keep, instant_keep, item_done_keep, narrowed, run_since, settles_keep, prepares_rest}
 use Rattle.machine_moves.proofs.Runs.Beside.{both}
 use Rattle.machine_moves.proofs.Runs.MachineLaws.{law_beside}
 use Rattle.machine_laws.proofs.Sweeps.Kept.{EndHeard, InHeard, LawHeard, RestHeard, opening_rest, tick_heard}
 use Rattle.machine_laws.proofs.Parts.Opening.{opening_listed}
 use Rattle.machine_laws.proofs.Signals.Takers.{Taker, charge_of, charged_taker}
 use Rattle.machine_laws.proofs.Serials.Distinct.{Serials, at_most_one, one_if, pends, serials_law, waits}
-use Rattle.machine_laws.proofs.Serials.Costs.{Costs, CostsOf, bonus, cost_changed, debt, sleepers, sleeping}
+use Rattle.machine_laws.proofs.Serials.Costs.{Costs, CostsOf, bonus, cost_changed, debt, sleepers, sleeping, activated}
 use Rattle.machine_laws.proofs.Serials.Calls.{end_cost, item_cost, unit_cost}
 use Rattle.machine_laws.proofs.Signals.Sources.{Plain, plain_law}
 use Rattle.machine_laws.proofs.Serials.Sweeps.{Few, visit_cost}
+use Rattle.machine_moves.proofs.Runs.Preparing.{IsReady, PreparingKeeps, alike_runs, prepared, prepares_keep}
 
 module _ {P : Type 0} (bodies : Bodies P) where
   abbrev pub RestOrdered : Machine P → Type 0
@@ -125,35 +126,46 @@ module _ {P : Type 0} (bodies : Bodies P) (fits : BodiesFit bodies) where
   dispatched_few : (to : Option ℕ) (s : Turn P) → Few s.machine → Few (dispatches to s).machine
   dispatched_few to s few = subst Few (sym (dispatched to s)) few
 
-  runs_few : (to : Option ℕ) (s : Turn P) → head s.machine ≡ to → next_item s.machine ≡ None → Still s → Few s.machine → Few (runs bodies to (dispatches to s)).machine
-  runs_few None s e none r few = let k = dispatched_few None s few in omega arith
-  runs_few (Some t) s e none r few =
-      let to = dispatches (Some t) s in
-      let can : can_run s.machine t ≡ true = head_can_run s.machine t r.listed e in
-      let charged = charged_turn bodies t to in
-      let was_high = has_high (thread_at to.machine t).server in
-      let unit = in_unit bodies (thread_at to.machine t) in
-      let can' : can_run to.machine t ≡ true = ap (λ (m : Machine P). can_run m t) (dispatched (Some t) s) ∙ can in
-      let ticked = unit_ticked bodies to.machine t unit to in
+  few_prepared : PreparingKeeps (λ (s : Turn P). Few s.machine)
+  few_prepared = record {
+    closes = λ t s run few. let k = end_cost bodies planning t s in few_after s (plans t s) few k;
+    sent = λ to s off few. dispatched_few to s few;
+    opens = λ t x s runs is may few. few_after s (activates_server t (Some x) s) few (activated t (Some x) s);
+  }
+    where
+      few_after : (s s' : Turn P) → Few s.machine → Costs 0 s s' → Few s'.machine
+      few_after s s' few k = omega arith
+
+  runs_few : (to : Option ℕ) (s : Turn P) → ((t : ℕ) → to ≡ Some t → can_run s.machine t ≡ true) → IsReady to s.machine → Still s → Few s.machine → Few (runs bodies to s).machine
+  runs_few None s can ready r few = omega arith
+  runs_few (Some t) s can ready r few =
+      let charged = charged_turn bodies t s in
+      let was_high = has_high (thread_at s.machine t).server in
+      let unit = in_unit bodies (thread_at s.machine t) in
+      let ticked = unit_ticked bodies s.machine t unit s in
       let left = top_left (thread_at charged.machine t).frames in
-      let mid : InSourced bodies was_high t to.machine charged = (tick_sourced bodies).charges t s r.still none can r.rest in
-      let done : InSourced bodies was_high t to.machine (completes_at bodies left t unit.unit charged) =
-      completes_keep bodies fits (RestSourced bodies) (LawSourced bodies) (InSourced bodies) (InSourced bodies) (EndSourced bodies) (tick_sourced bodies) was_high left t unit.unit to.machine charged (in_unit_fits bodies fits (thread_at to.machine t)) (charged_runs bodies t to can') mid in
-      let begun = dispatched_few (Some t) s few in
-      let gain = charge_brings bodies t to in
+      let mid : InSourced bodies was_high t s.machine charged = (tick_sourced bodies).charges t s r.still ready (can t refl) r.rest in
+      let done : InSourced bodies was_high t s.machine (completes_at bodies left t unit.unit charged) =
+      completes_keep bodies fits (RestSourced bodies) (LawSourced bodies) (InSourced bodies) (InSourced bodies) (EndSourced bodies) (tick_sourced bodies) was_high left t unit.unit s.machine charged (in_unit_fits bodies fits (thread_at s.machine t)) (charged_runs bodies t s (can t refl)) mid in
+      let gain = charge_brings bodies t s in
       let cost = completes_cost left t unit.unit charged mid.1 mid.0.1 in
       let over = end_cost bodies (tick_end was_high ticked.machine.quantum (thread_at ticked.machine t)) t ticked in
       sweep_few (tick_ends was_high t ticked)
-      (ends_keep bodies fits (RestSourced bodies) (LawSourced bodies) (InSourced bodies) (InSourced bodies) (EndSourced bodies) (tick_sourced bodies) was_high t ticked refl ((tick_sourced bodies).unit_settles was_high t to.machine (completes_at bodies left t unit.unit charged) done)) (omega arith)
+      (ends_keep bodies fits (RestSourced bodies) (LawSourced bodies) (InSourced bodies) (InSourced bodies) (EndSourced bodies) (tick_sourced bodies) was_high t ticked refl ((tick_sourced bodies).unit_settles was_high t s.machine (completes_at bodies left t unit.unit charged) done)) (omega arith)
 
-  goes_on_few : (killed : Option ℕ) (s : Turn P) → next_item s.machine ≡ None → Still s → Few s.machine → Few (unless_killed killed (runs_head bodies) s).machine
-  goes_on_few None s none r few = runs_few (head s.machine) s refl none r few
-  goes_on_few (Some signal) s none r few = few
+  goes_on_few : (killed : Option ℕ) (s : Turn P) → Still s → Few s.machine → Few (unless_killed killed (runs_head bodies) s).machine
+  goes_on_few None s r few =
+      let to = head s.machine in
+      let can = λ (t : ℕ) (e : to ≡ Some t). head_can_run s.machine t r.listed e in
+      let k = prepares_keep (λ (x : Turn P). Few x.machine) few_prepared to s can few in
+      runs_few to (prepares to s) (λ t e. alike_runs s.machine (prepares to s).machine t k.1 (can t e)) (prepared to s)
+      (prepares_rest bodies fits (RestSourced bodies) (LawSourced bodies) (InSourced bodies) (InSourced bodies) (EndSourced bodies) (tick_sourced bodies) to s can r) k.0
+  goes_on_few (Some signal) s r few = few
 
   tick_few : (s : Turn P) → Still s → Few s.machine → Few (tick bodies s).machine
   tick_few s r few =
       let ready = instant bodies s in
-      goes_on_few ready.machine.killed ready (instant_ends bodies s) (instant_keep bodies fits (RestSourced bodies) (LawSourced bodies) (InSourced bodies) (InSourced bodies) (EndSourced bodies) (tick_sourced bodies) s r) (items_few (item_bound s.machine) s r few)
+      goes_on_few ready.machine.killed ready (instant_keep bodies fits (RestSourced bodies) (LawSourced bodies) (InSourced bodies) (InSourced bodies) (EndSourced bodies) (tick_sourced bodies) s r) (items_few (item_bound s.machine) s r few)
 
   pub run_few_from : (n : ℕ) (start : Machine P) → RestSourced bodies start → AllRun start start.lists → Few start → Few (ticks bodies n start).machine
   run_few_from zero start q listed few = few

@@ -18,7 +18,7 @@ use Rattle.machine_rules.specs.State.{Frame, Machine, SignalRecord, Thread, Wait
 use Rattle.machine_rules.specs.Threads.{action_of, catches_signal, is_live, is_signal, no_thread, thread_at, thread_in, top_kind, waiting_of}
 use Rattle.machine_rules.specs.Waiters.{waits_so}
 use Rattle.machine_rules.specs.Turns.{Turn, changes, changes_pending, frames_answered, moves, tells}
-use Rattle.machine_rules.specs.Servers.{activates_server, high_server, with_server}
+use Rattle.machine_rules.specs.Servers.{activates_server, at_once, high_server, with_server}
 use Rattle.machine_rules.specs.Waking.{new_frame, on_top, wakes_telling, woken}
 use Rattle.machine_rules.specs.Signals.{delivers, tells_overrun, without_record}
 use Rattle.machine_rules.specs.Delivery.{acts, catches, interrupts, may_be_interrupted, sweeps_thread, taken_by_sweep, takes_record, ticks_left}
@@ -67,7 +67,7 @@ module _ {P : Type 0} where
   ready_woken : (e : Event) (t : ℕ) (r : Res) (v : ℕ) (s : Turn P) → Ready s.machine.threads t → Ready (wakes_telling e t r v s).machine.threads t
   ready_woken e t r v s k =
       let up = tells e (moves t (changes t (woken r v) s)) in
-      ready_activated t (high_server (thread_at up.machine t).server) up (ready_changed t (woken r v) s.machine.threads (λ th e. refl) (answered_top r v) k)
+      ready_activated t (at_once (high_server (thread_at up.machine t).server)) up (ready_changed t (woken r v) s.machine.threads (λ th e. refl) (answered_top r v) k)
 
   ready_interrupted : (o : Option Waiting) (t : ℕ) (s : Turn P) → Ready s.machine.threads t → Ready (interrupts o t s).machine.threads t
   ready_interrupted None t s r = r

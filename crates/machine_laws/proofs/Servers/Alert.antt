@@ -6,13 +6,14 @@ use mathlib.Core.Path.{subst, ◌∙◌}
 use Rattle.script_tree.specs.declared.policy.Policy.{Policy}
 use Rattle.script_tree.specs.declared.policy.Policy.TheVariants as policy
 use Rattle.pse52_trace.specs.declared.event.Event.TheVariants as event
-use Rattle.sporadic_server.specs.Server.{ServerState, activate, new_server, set_high}
+use Rattle.sporadic_server.specs.declared.ServerKind.TheVariants as kind
+use Rattle.sporadic_server.specs.Server.{ServerState, activate, new_server, new_server_as, set_high}
 use Rattle.machine_rules.specs.Lists.{changed_at, is}
 use Rattle.machine_rules.specs.Bodies.{Bodies}
 use Rattle.machine_rules.specs.State.{Status, Thread, Waiting, blocked, dormant, ended, for_mutex_again, runnable}
 use Rattle.machine_rules.specs.Threads.{is_blocked, no_thread, thread_at, thread_in, waiting_in}
 use Rattle.machine_rules.specs.Turns.{Turn, changes, moves, tells}
-use Rattle.machine_rules.specs.Servers.{activates_if, activates_server, charged, high_server, server_of, with_server}
+use Rattle.machine_rules.specs.Servers.{activates_if, activates_server, at_once, charged, high_server, server_of, with_server}
 use Rattle.machine_rules.specs.Waking.{ending_with, on_top, put_to_wait, started, woken}
 use Rattle.machine_rules.specs.Lives.{with_joiner, without_life, without_top}
 use Rattle.machine_rules.specs.Cancellation.{without_cleanup}
@@ -38,6 +39,7 @@ none_mapped f h (Some y) none x e = let it : f y ≡ x = only e in sym (ap (λ (
 pub none_of_new : (new : Policy) (now : ℕ) → NoneOf (server_of new now)
 none_of_new (policy.Fifo p) now x e = absurd (grind arith)
 none_of_new (policy.Rr p) now x e = absurd (grind arith)
+none_of_new (policy.Strict params) now x e = let it : new_server_as kind.Strict params now ≡ x = only e in sym (ap (λ (z : ServerState). z.consumed) it)
 none_of_new (policy.Sporadic params) now x e = let it : new_server params now ≡ x = only e in sym (ap (λ (z : ServerState). z.consumed) it)
 
 -- It does not block, and where its tick was not charged nothing is consumed.
@@ -71,7 +73,7 @@ module _ {P : Type 0} (bodies : Bodies P) (tolled : Bool) (t : ℕ) where
   alert_activated v (Some server) s q = alert_one v (with_server (activate s.machine.now)) s (λ th h. (h.0, λ c. none_mapped (activate s.machine.now) (λ x. refl) th.server (h.1 c))) q
 
   alert_activated_if : (b : Bool) (v : ℕ) (s : Turn P) → AlertAt s → AlertAt (activates_if b v s)
-  alert_activated_if true v s q = alert_activated v (thread_at s.machine v).server s q
+  alert_activated_if true v s q = alert_activated v (at_once (thread_at s.machine v).server) s q
   alert_activated_if false v s q = q
 
   waits_blocked : (status : Status) → option_map_or (λ (w : Waiting). is_in_condition_wait w.wait) (waiting_in status) false ≡ true → is_blocked status ≡ true
@@ -94,14 +96,14 @@ module _ {P : Type 0} (bodies : Bodies P) (tolled : Bool) (t : ℕ) where
   alert_keep (renews_with active v new) s may q = absurd may
   alert_keep (wakes_with v e r x) s may q =
       let up = tells e (moves v (changes v (woken r x) s)) in
-      alert_activated v (high_server (thread_at up.machine v).server) up (alert_one v (woken r x) s (λ th h. (refl, h.1)) q)
+      alert_activated v (at_once (high_server (thread_at up.machine v).server)) up (alert_one v (woken r x) s (λ th h. (refl, h.1)) q)
   alert_keep (blocks_for by (for_mutex_again k how) due) s may q =
       alert_other by.thread (put_to_wait (record { wait = for_mutex_again k how; serial = s.machine.next_serial; due = due; call = by.call })) s (waits_blocked (thread_at s.machine by.thread).status may.0) q
   alert_keep (blocks_for by wait due) s may q = absurd may
   alert_keep (blocks_plainly by wait due) s may q = absurd may
   alert_keep (begins v mask) s may q =
       let up = tells (event.Start v) (moves v (changes v (started bodies v mask s.machine.now) s)) in
-      alert_activated v (thread_at up.machine v).server up (alert_one v (started bodies v mask s.machine.now) s (λ th h. (refl, λ c. none_of_new th.policy s.machine.now)) q)
+      alert_activated v (at_once (thread_at up.machine v).server) up (alert_one v (started bodies v mask s.machine.now) s (λ th h. (refl, λ c. none_of_new th.policy s.machine.now)) q)
   alert_keep (lives_no_more v) s may q = alert_one v without_life s (λ th h. (refl, λ c. none_of_none)) q
   alert_keep (recasts v f) s may q = absurd may
   alert_keep (rejoins v j) s may q = alert_one v (with_joiner j) s (λ th h. h) q

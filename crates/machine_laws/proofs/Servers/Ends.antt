@@ -17,7 +17,7 @@ use Rattle.machine_rules.specs.Ticks.{TickEnd, capacity_in, consumed_in, ends_ti
 use Rattle.machine_rules.specs.GoodState.{HasParameters, is_sporadic}
 use Rattle.machine_rules.proofs.Reading.{changed-keeps, thread-other, thread-same}
 use Rattle.machine_moves.specs.Moves.{Runs}
-use Rattle.machine_laws.proofs.Servers.Right.{ServerIn, ThreadIn, ThreadRight, only, planned_in}
+use Rattle.machine_laws.proofs.Servers.Right.{ServerIn, ThreadIn, ThreadRight, high_again, only, planned_in}
 use Rattle.machine_laws.proofs.Servers.Moves.{Threads, one}
 use Rattle.machine_laws.proofs.Servers.Alert.{NoneOf, contra}
 use Rattle.machine_laws.proofs.Servers.Charges.{thread_sleeps}
@@ -41,18 +41,15 @@ server_ends : (tolled used : Bool) (now : ℕ) (status : Status) (s : ServerStat
 server_ends tolled used now status s live idle h = by_all tolled refl (nat_lt 0 s.consumed) refl status refl (s.capacity == 0) refl
   where
     plans : 1 ≤ s.consumed → (is_runnable status ≡ true → s.capacity ≡ 0) → ServerIn false now status (plan s)
-    plans some low = planned_in false now status s some low h
+    plans some low = planned_in false now status s some (λ k. low) h
 
     -- nothing is consumed, or the thread runs on at its high priority
     stays : (1 ≤ s.consumed → (is_runnable status ≡ true) × (1 ≤ s.capacity)) → ServerIn false now status s
     stays goes = record {
       sound = h.sound;
-      consumed = λ some. let c = h.consumed some in record { fresh = c.fresh; before = c.before; room = c.room; runs = λ e. ((goes some).0, high (goes some).1 c.room) };
+      consumed = λ some. let c = h.consumed some in record { fresh = c.fresh; before = c.before; room = c.room; unbroken = c.unbroken; runs = λ e. ((goes some).0, high_again s (goes some).1 c.room) };
       ready = h.ready;
     }
-      where
-        high : 1 ≤ s.capacity → length s.pending < s.params.max → is_high s ≡ true
-        high some room = grind arith
 
     kept : (used : Bool) → (1 ≤ s.consumed → (is_runnable status ≡ true) × (1 ≤ s.capacity)) → ServerIn false now status (ended_server (if used then slicing else nothing) s)
     kept used goes = subst (ServerIn false now status) (sym (no_plan used s)) (stays goes)
@@ -141,8 +138,9 @@ module _ {P : Type 0} (bodies : Bodies P) (t : ℕ) where
           both a b e = grind arith
 
       of_server : (o : Option ServerState) → th.server ≡ o → ThreadIn false now th.status th.policy (option_map (ended_server (tick_end tolled quantum th)) o)
-      of_server None e = record { having = subst (λ (o : Option ServerState). is_some o ≡ (is_live th.status && is_sporadic th.policy)) e h.having; parameters = subst (HasParameters th.policy) e h.parameters; each = λ x k. absurd (grind arith) }
+      of_server None e = record { serves = h.serves; having = subst (λ (o : Option ServerState). is_some o ≡ (is_live th.status && is_sporadic th.policy)) e h.having; parameters = subst (HasParameters th.policy) e h.parameters; each = λ x k. absurd (grind arith) }
       of_server (Some y) e = record {
+        serves = h.serves;
         having = subst (λ (o : Option ServerState). is_some o ≡ (is_live th.status && is_sporadic th.policy)) e h.having;
         parameters = params_of (tick_end tolled quantum th) th.policy (subst (HasParameters th.policy) e h.parameters);
         each = λ x k. subst (ServerIn false now th.status) (ap (λ (o : Option ServerState). ended_server (end_at o) y) (sym e) ∙ only k)
@@ -152,16 +150,17 @@ module _ {P : Type 0} (bodies : Bodies P) (t : ℕ) where
           end_at : Option ServerState → TickEnd
           end_at o = end_by tolled (nat_lt 0 (consumed_in o)) (is_blocked th.status) (is_runnable th.status) (capacity_in o == 0) (slice_is_used th.policy th.slice quantum)
 
-          same_params : (e : TickEnd) → (ended_server e y).params ≡ y.params
-          same_params planning = refl
-          same_params exhausting = refl
-          same_params slicing = refl
-          same_params nothing = refl
+          same_params : (e : TickEnd) → ((ended_server e y).params ≡ y.params) × ((ended_server e y).kind ≡ y.kind)
+          same_params planning = (refl, refl)
+          same_params exhausting = (refl, refl)
+          same_params slicing = (refl, refl)
+          same_params nothing = (refl, refl)
 
           params_of : (e : TickEnd) (rule : Policy) → HasParameters rule (Some y) → HasParameters rule (Some (ended_server e y))
           params_of e (policy.Fifo p) k = absurd (grind arith)
           params_of e (policy.Rr p) k = absurd (grind arith)
-          params_of e (policy.Sporadic params) k = same_params e ∙ k
+          params_of e (policy.Sporadic params) k = let same = same_params e in (same.0 ∙ k.0, same.1 ∙ k.1)
+          params_of e (policy.Strict params) k = let same = same_params e in (same.0 ∙ k.0, same.1 ∙ k.1)
 
   -- ---- the unit's own thread blocks
 

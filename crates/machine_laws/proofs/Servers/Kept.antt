@@ -15,8 +15,11 @@ use Rattle.machine_rules.specs.Declarations.{ThreadDecl, threads_of}
 use Rattle.machine_rules.specs.Turns.{turn_of}
 use Rattle.machine_rules.specs.Runs.{opening, thread_opened}
 use Rattle.machine_rules.specs.GoodState.{HasParameters, ServerIsRight, ServersAreRight, is_sporadic}
+use Rattle.machine_rules.specs.WellFormed.{IsWellFormed}
 use Rattle.machine_moves.proofs.Waiters.Best.{Each}
-use Rattle.machine_laws.proofs.Servers.Right.{Rising, ServerIn, ThreadRight}
+use Rattle.machine_moves.proofs.Runs.Units as units_fit
+use Rattle.machine_moves.proofs.Runs.Units.{threads_fit}
+use Rattle.machine_laws.proofs.Servers.Right.{MayServe, Rising, ServerIn, ThreadRight, fits_serve}
 use Rattle.machine_laws.proofs.Servers.Moves.{Threads}
 use Rattle.machine_laws.proofs.Servers.Ticks.{ServedRight}
 use Rattle.machine_laws.proofs.Parts.Opening.{opening_right}
@@ -42,7 +45,7 @@ server_right m t s h = record {
   rising = rising_all s.pending h.sound.rising;
   within_period = each_all (λ (r : Replenish). r.due < m.now + s.params.period) s.pending h.sound.within;
   activated = h.sound.activated;
-  consuming = λ some. let c = h.consumed some in record { runnable = (c.runs refl).0; high = (c.runs refl).1; before = c.before };
+  consuming = λ some. let c = h.consumed some in record { runnable = (c.runs refl).0; high = (c.runs refl).1; before = c.before; unbroken = c.unbroken };
 }
 
 pub servers_right : {P : Type 0} (bodies : Bodies P) (m : Machine P) → Threads bodies None (turn_of m) → ServersAreRight m
@@ -50,8 +53,9 @@ servers_right bodies m all = record { having = λ t. (all t).having; parameters 
 
 -- ---- the opening
 
-no_server : {P : Type 0} (now : ℕ) (th : Thread P) → th.server ≡ None → is_live th.status ≡ false → ThreadRight false now th
-no_server now th none dead = record {
+no_server : {P : Type 0} (now : ℕ) (th : Thread P) → MayServe th.policy → th.server ≡ None → is_live th.status ≡ false → ThreadRight false now th
+no_server now th serves none dead = record {
+  serves = serves;
   having = ap is_some none ∙ ap (λ (live : Bool). live && is_sporadic th.policy) (sym dead);
   parameters = subst (HasParameters th.policy) (sym none) (without th.policy);
   each = λ x k. absurd (grind arith);
@@ -61,6 +65,7 @@ no_server now th none dead = record {
     without (policy.Fifo p) = refl
     without (policy.Rr p) = refl
     without (policy.Sporadic params) = tt
+    without (policy.Strict params) = tt
 
 pub opened_server : (P : Type 0) (ds : List ThreadDecl) (t : ℕ) → (thread_in (map (λ (d : ThreadDecl). thread_opened {P = P} d) ds) t).server ≡ None
 opened_server P [] t = refl
@@ -72,6 +77,14 @@ opened_dead P [] t = refl
 opened_dead P (d ∷ ds) zero = refl
 opened_dead P (d ∷ ds) (suc t) = opened_dead P ds t
 
-module _ {P : Type 0} (bodies : Bodies P) (script : Script) where
+opened_serves : (P : Type 0) (ds : List ThreadDecl) (t : ℕ) → Each units_fit.ThreadFits ds → MayServe (thread_in (map (λ (d : ThreadDecl). thread_opened {P = P} d) ds) t).policy
+opened_serves P [] t each = tt
+opened_serves P (d ∷ ds) zero each = fits_serve d.policy each.0.0
+opened_serves P (d ∷ ds) (suc t) each = opened_serves P ds t each.1
+
+module _ {P : Type 0} (bodies : Bodies P) (script : Script) (fits : IsWellFormed script) where
   pub opening_served : ServedRight bodies (turn_of (opening script))
-  opening_served = (opening_right P script, λ t. no_server 0 (thread_at (opening script) t) (opened_server P (threads_of script) t) (opened_dead P (threads_of script) t))
+  opening_served = (
+    opening_right P script,
+    λ t. no_server 0 (thread_at (opening script) t) (opened_serves P (threads_of script) t (threads_fit script.decls fits.priorities)) (opened_server P (threads_of script) t) (opened_dead P (threads_of script) t),
+  )

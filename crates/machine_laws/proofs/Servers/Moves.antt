@@ -8,13 +8,15 @@ use Rattle.script_tree.specs.declared.policy.Policy.{Policy}
 use Rattle.script_tree.specs.declared.policy.Policy.TheVariants as policy
 use Rattle.pse52_trace.specs.declared.event.Event.{Event}
 use Rattle.pse52_trace.specs.declared.event.Event.TheVariants as event
-use Rattle.sporadic_server.specs.Server.{ServerState, activate, is_high, new_server, oldest_pending, refill}
+use Rattle.sporadic_server.specs.declared.ServerKind.{ServerKind}
+use Rattle.sporadic_server.specs.declared.ServerKind.TheVariants as kind
+use Rattle.sporadic_server.specs.Server.{ServerState, activate, is_high, new_server, new_server_as, oldest_pending, refill}
 use Rattle.machine_rules.specs.Lists.{changed_at, is}
 use Rattle.machine_rules.specs.Bodies.{Bodies}
 use Rattle.machine_rules.specs.State.{Status, Thread, Waiting, blocked, dormant, ended, for_mutex_again, runnable}
 use Rattle.machine_rules.specs.Threads.{can_run, is_blocked, is_dormant, is_live, no_thread, thread_at, thread_in, waiting_in}
 use Rattle.machine_rules.specs.Turns.{Turn, changes, moves, tells}
-use Rattle.machine_rules.specs.Servers.{activates_if, activates_server, amount_of, high_server, refills_server, regains_high, server_of, with_server}
+use Rattle.machine_rules.specs.Servers.{activates_if, activates_server, amount_of, at_once, at_once_as, high_server, refills_server, regains_high, server_of, with_server}
 use Rattle.machine_rules.specs.Waking.{ending_with, on_top, put_to_wait, started, wakes_telling, woken}
 use Rattle.machine_rules.specs.Lives.{with_joiner, without_life, without_top}
 use Rattle.machine_rules.specs.Cancellation.{without_cleanup}
@@ -24,7 +26,7 @@ use Rattle.machine_rules.proofs.Reading.{changed-length, changed-twice, thread-o
 use Rattle.machine_moves.specs.Moves.{Core, MayAwake, Move, alters, begins, blocks_for, blocks_plainly, core_of, does, drops, ends_with, enters_frame, leaves_frame, lives_no_more, prices, pushed, pushes, recasts, refills_one, rejoins, renews_with, wakes_with}
 use Rattle.machine_moves.proofs.Waiters.Best.{blocked_within}
 use Rattle.machine_moves.proofs.Waiters.OfThreads.{changed_is}
-use Rattle.machine_laws.proofs.Servers.Right.{ServerIn, ThreadIn, ThreadRight, activated_in, new_thread_in, none_consumed, only, priced_in, refill_params, refilled_in, refilled_of, with_other, woken_in, woken_server}
+use Rattle.machine_laws.proofs.Servers.Right.{MayServe, ServerIn, ThreadIn, ThreadRight, activated_as, activated_in, new_thread_in, none_consumed, only, priced_in, refill_kind, refill_params, refilled_in, refilled_of, with_other, woken_if, woken_in, woken_server}
 
 module _ {P : Type 0} (bodies : Bodies P) (who : Option ℕ) where
   -- the servers of all threads are right, that of the thread whose unit is under way as its tick left it
@@ -53,26 +55,38 @@ module _ {P : Type 0} (bodies : Bodies P) (who : Option ℕ) where
     runs : (thread_at s.machine t).status ≡ runnable
     within : t < length s.machine.threads
 
-  low_same : (now : ℕ) (o : Option ServerState) → high_server o ≡ None → option_map (woken_server now) o ≡ o
+  low_same : (now : ℕ) (o : Option ServerState) → at_once (high_server o) ≡ None → option_map (woken_server now) o ≡ o
   low_same now None e = refl
   low_same now (Some s) e = by_high (is_high s) e
     where
-      by_high : (b : Bool) → (if b then Some s else None) ≡ None → Some (if b then activate now s else s) ≡ Some s
-      by_high true e = absurd (grind arith)
-      by_high false e = refl
+      up : (k : ServerKind) → at_once_as k s ≡ None → Some (woken_if true k now s) ≡ Some s
+      up kind.Sporadic e = absurd (grind arith)
+      up kind.Strict e = refl
 
-  high_same : (now : ℕ) (o : Option ServerState) (h : ServerState) → high_server o ≡ Some h → option_map (woken_server now) o ≡ option_map (activate now) o
+      down : (k : ServerKind) → Some (woken_if false k now s) ≡ Some s
+      down kind.Sporadic = refl
+      down kind.Strict = refl
+
+      by_high : (b : Bool) → at_once (if b then Some s else None) ≡ None → Some (woken_if b s.kind now s) ≡ Some s
+      by_high true e = up s.kind e
+      by_high false e = down s.kind
+
+  high_same : (now : ℕ) (o : Option ServerState) (h : ServerState) → at_once (high_server o) ≡ Some h → option_map (woken_server now) o ≡ option_map (activate now) o
   high_same now None h e = absurd (grind arith)
   high_same now (Some s) h e = by_high (is_high s) e
     where
-      by_high : (b : Bool) → (if b then Some s else None) ≡ Some h → Some (if b then activate now s else s) ≡ Some (activate now s)
-      by_high true e = refl
+      up : (k : ServerKind) → at_once_as k s ≡ Some h → Some (woken_if true k now s) ≡ Some (activate now s)
+      up kind.Sporadic e = refl
+      up kind.Strict e = absurd (grind arith)
+
+      by_high : (b : Bool) → at_once (if b then Some s else None) ≡ Some h → Some (woken_if b s.kind now s) ≡ Some (activate now s)
+      by_high true e = up s.kind e
       by_high false e = absurd (grind arith)
 
   same_one : (t u : ℕ) → (t == u) ≡ true → t ≡ u
   same_one t u e = grind arith
 
-  awoken : (t : ℕ) (s : Turn P) → Waking t s → (o : Option ServerState) → high_server (thread_at s.machine t).server ≡ o → Threads (activates_server t o s)
+  awoken : (t : ℕ) (s : Turn P) → Waking t s → (o : Option ServerState) → at_once (high_server (thread_at s.machine t).server) ≡ o → Threads (activates_server t o s)
   awoken t s w None e u = by_eq (t == u) refl
     where
       here : ThreadRight (is who t) s.machine.now (thread_at s.machine t)
@@ -93,7 +107,7 @@ module _ {P : Type 0} (bodies : Bodies P) (who : Option ℕ) where
 
   -- a thread is woken
   wakes_right : (t : ℕ) (e : Event) (r : Res) (v : ℕ) (s : Turn P) → is_blocked (thread_at s.machine t).status ≡ true → is who t ≡ false → Threads s → Threads (wakes_telling e t r v s)
-  wakes_right t e r v s b mine all = awoken t (tells e (moves t (changes t (woken r v) s))) waking (high_server (thread_at (changes t (woken r v) s).machine t).server) refl
+  wakes_right t e r v s b mine all = awoken t (tells e (moves t (changes t (woken r v) s))) waking (at_once (high_server (thread_at (changes t (woken r v) s).machine t).server)) refl
     where
       there : t < length s.machine.threads
       there = blocked_within s.machine.threads t b
@@ -119,16 +133,17 @@ module _ {P : Type 0} (bodies : Bodies P) (who : Option ℕ) where
   new_server_in : (now : ℕ) (new : Policy) (s : ServerState) → server_of new now ≡ Some s → s.consumed ≡ 0
   new_server_in now (policy.Fifo p) s e = absurd (grind arith)
   new_server_in now (policy.Rr p) s e = absurd (grind arith)
+  new_server_in now (policy.Strict params) s e = let it : new_server_as kind.Strict params now ≡ s = only e in sym (ap (λ (x : ServerState). x.consumed) it)
   new_server_in now (policy.Sporadic params) s e = let it : new_server params now ≡ s = only e in sym (ap (λ (x : ServerState). x.consumed) it)
 
-  activates_right : (t : ℕ) (o : Option ServerState) (s : Turn P) → (thread_at s.machine t).server ≡ o → ((x : ServerState) → o ≡ Some x → x.consumed ≡ 0) → Threads s → Threads (activates_server t o s)
-  activates_right t None s e none all = all
-  activates_right t (Some server) s e none all =
+  pub activates_right : (t : ℕ) (o : Option ServerState) (s : Turn P) → ((x : ServerState) → (thread_at s.machine t).server ≡ Some x → x.consumed ≡ 0) → Threads s → Threads (activates_server t o s)
+  activates_right t None s none all = all
+  activates_right t (Some server) s none all =
       one t (with_server (activate s.machine.now)) s (λ h. with_other (is who t) (is who t) s.machine.now s.machine.now (thread_at s.machine t).status (thread_at s.machine t).status (thread_at s.machine t).policy (thread_at s.machine t).server
-      (activate s.machine.now) refl (λ x. refl) (λ x k g. activated_in (is who t) s.machine.now (thread_at s.machine t).status x (none x (sym e ∙ k)) g.sound) h) all
+      (activate s.machine.now) refl (λ x. (refl, refl)) (λ x k g. activated_in (is who t) s.machine.now (thread_at s.machine t).status x (none x k) g.sound) h) all
 
   activates_if_right : (b : Bool) (t : ℕ) (s : Turn P) → ((x : ServerState) → (thread_at s.machine t).server ≡ Some x → x.consumed ≡ 0) → Threads s → Threads (activates_if b t s)
-  activates_if_right true t s none all = activates_right t (thread_at s.machine t).server s refl none all
+  activates_if_right true t s none all = activates_right t (at_once (thread_at s.machine t).server) s none all
   activates_if_right false t s none all = all
 
   -- ---- a refill
@@ -153,23 +168,50 @@ module _ {P : Type 0} (bodies : Bodies P) (who : Option ℕ) where
           (subst (λ (c : Bool). ServerIn (is who t) s.machine.now (thread_at s.machine t).status (refilled_of c s.machine.now server)) k
           (refilled_in (is who t) s.machine.now (thread_at s.machine t).status server mine (subst (ServerIn (is who t) s.machine.now (thread_at s.machine t).status) (sym (only (sym e ∙ h))) g)))) (all t)
         where
-          same_params : (b : Bool) (x : ServerState) → (refilled_of b s.machine.now x).params ≡ x.params
-          same_params true x = refill_params x
-          same_params false x = refill_params x
+          as_kind : (k : ServerKind) (x : ServerState) → ((activated_as k s.machine.now x).params ≡ x.params) × ((activated_as k s.machine.now x).kind ≡ x.kind)
+          as_kind kind.Sporadic x = (refl, refl)
+          as_kind kind.Strict x = (refl, refl)
+
+          same_params : (b : Bool) (x : ServerState) → ((refilled_of b s.machine.now x).params ≡ x.params) × ((refilled_of b s.machine.now x).kind ≡ x.kind)
+          same_params true x = let same = as_kind x.kind (refill x) in (same.0 ∙ refill_params x, same.1 ∙ refill_kind x)
+          same_params false x = (refill_params x, refill_kind x)
 
       by_regain : (b : Bool) → (regains_high server && can_run s.machine t) ≡ b → Threads (activates_if b t (tells (event.Refill t (amount_of (oldest_pending server)) (refill server).capacity) (changes t (with_server refill) s)))
       by_regain false k = one t (with_server refill) s (λ h. after false k) all
       by_regain true k =
           let up = tells (event.Refill t (amount_of (oldest_pending server)) (refill server).capacity) (changes t (with_server refill) s) in
           let has : (thread_at up.machine t).server ≡ Some (refill server) = ap (λ (th : Thread P). th.server) (thread-same s.machine t (with_server refill) there) ∙ ap (option_map refill) e in
-          subst (λ (o : Option ServerState). Threads (activates_server t o up)) (sym has)
-          (subst (λ (threads : List (Thread P)). (u : ℕ) → ThreadRight (is who u) s.machine.now (thread_in threads u)) (sym (changed-twice no_thread t (with_server refill) (with_server (activate s.machine.now)) s.machine.threads))
-          (one t (λ th. with_server (activate s.machine.now) (with_server refill th)) s
-          (λ h. subst (ThreadIn (is who t) s.machine.now (thread_at s.machine t).status (thread_at s.machine t).policy) (sym (two_maps (thread_at s.machine t).server)) (after true k)) all))
+          subst (λ (o : Option ServerState). Threads (activates_server t (at_once o) up)) (sym has) (by_kind (refill server).kind refl)
         where
-          two_maps : (o : Option ServerState) → option_map (activate s.machine.now) (option_map refill o) ≡ option_map (refilled_of true s.machine.now) o
-          two_maps None = refl
-          two_maps (Some x) = refl
+          up : Turn P
+          up = tells (event.Refill t (amount_of (oldest_pending server)) (refill server).capacity) (changes t (with_server refill) s)
+
+          Both : Type 0
+          Both = Threads (activates_server t (at_once (Some (refill server))) up)
+
+          two_maps : (o : Option ServerState) → o ≡ Some server → server.kind ≡ kind.Sporadic → option_map (activate s.machine.now) (option_map refill o) ≡ option_map (refilled_of true s.machine.now) o
+          two_maps None k q = refl
+          two_maps (Some x) k q =
+              let it : x ≡ server = only k in
+              let sort : x.kind ≡ kind.Sporadic = ap (λ (y : ServerState). y.kind) it ∙ q in
+              ap (λ (c : ServerKind). Some (activated_as c s.machine.now (refill x))) (sym sort)
+
+          one_map : (o : Option ServerState) → o ≡ Some server → server.kind ≡ kind.Strict → option_map refill o ≡ option_map (refilled_of true s.machine.now) o
+          one_map None k q = refl
+          one_map (Some x) k q =
+              let it : x ≡ server = only k in
+              let sort : x.kind ≡ kind.Strict = ap (λ (y : ServerState). y.kind) it ∙ q in
+              ap (λ (c : ServerKind). Some (activated_as c s.machine.now (refill x))) (sym sort)
+
+          by_kind : (c : ServerKind) → (refill server).kind ≡ c → Threads (activates_server t (at_once_as (refill server).kind (refill server)) up)
+          by_kind kind.Sporadic q =
+              subst (λ (c : ServerKind). Threads (activates_server t (at_once_as c (refill server)) up)) (sym q)
+              (subst (λ (threads : List (Thread P)). (u : ℕ) → ThreadRight (is who u) s.machine.now (thread_in threads u)) (sym (changed-twice no_thread t (with_server refill) (with_server (activate s.machine.now)) s.machine.threads))
+              (one t (λ th. with_server (activate s.machine.now) (with_server refill th)) s
+              (λ h. subst (ThreadIn (is who t) s.machine.now (thread_at s.machine t).status (thread_at s.machine t).policy) (sym (two_maps (thread_at s.machine t).server e (sym (refill_kind server) ∙ q))) (after true k)) all))
+          by_kind kind.Strict q =
+              subst (λ (c : ServerKind). Threads (activates_server t (at_once_as c (refill server)) up)) (sym q)
+              (one t (with_server refill) s (λ h. subst (ThreadIn (is who t) s.machine.now (thread_at s.machine t).status (thread_at s.machine t).policy) (sym (one_map (thread_at s.machine t).server e (sym (refill_kind server) ∙ q))) (after true k)) all)
 
   -- ---- every move
 
@@ -187,9 +229,10 @@ module _ {P : Type 0} (bodies : Bodies P) (who : Option ℕ) where
   blocked_in : (own : Bool) (now : ℕ) (w : Waiting) (status : Status) (rule : Policy) (server : Option ServerState) → own ≡ false → is_blocked status ≡ true → ThreadIn own now status rule server → ThreadIn own now (blocked w) rule server
   blocked_in own now w status rule server mine b h = record {
     having = h.having ∙ ap (λ (live : Bool). live && is_sporadic rule) (live status b);
+    serves = h.serves;
     parameters = h.parameters;
     each = λ x k. let g = h.each x k in let none = none_consumed now status x b (subst (λ (own : Bool). ServerIn own now status x) mine g) in
-        record { sound = g.sound; consumed = λ some. absurd (omega arith); ready = λ runs high. absurd (grind arith) };
+        record { sound = g.sound; consumed = λ some. absurd (omega arith); ready = λ sort runs high. absurd (grind arith) };
   }
     where
       live : (status : Status) → is_blocked status ≡ true → is_live status ≡ is_live (blocked w)
@@ -213,13 +256,14 @@ module _ {P : Type 0} (bodies : Bodies P) (who : Option ℕ) where
   here passes none (th ∷ ths) zero e = omega arith
   here passes none (th ∷ ths) (suc t) e = let rest = here passes none ths t e in omega arith
 
-  dead_in : (own : Bool) (now : ℕ) (rule : Policy) → ThreadIn own now ended rule None
-  dead_in own now rule = record { having = refl; parameters = without rule; each = λ x k. absurd (grind arith) }
+  dead_in : (own : Bool) (now : ℕ) (rule : Policy) → MayServe rule → ThreadIn own now ended rule None
+  dead_in own now rule serves = record { having = refl; serves = serves; parameters = without rule; each = λ x k. absurd (grind arith) }
     where
       without : (rule : Policy) → HasParameters rule None
       without (policy.Fifo p) = refl
       without (policy.Rr p) = refl
       without (policy.Sporadic params) = tt
+      without (policy.Strict params) = tt
 
   pub in_wait : (status : Status) → option_map_or (λ (w : Waiting). is_in_condition_wait w.wait) (waiting_in status) false ≡ true → is_blocked status ≡ true
   in_wait (dormant at) e = absurd (grind arith)
@@ -227,11 +271,11 @@ module _ {P : Type 0} (bodies : Bodies P) (who : Option ℕ) where
   in_wait (blocked w) e = refl
   in_wait ended e = absurd (grind arith)
 
-  pub threads_renewed : (active : Bool) (t : ℕ) (new : Policy) (s : Turn P) → is_live (thread_at s.machine t).status ≡ true → Threads s → Threads (activates_if active t (changes t (with_policy new s.machine.now) s))
-  threads_renewed active t new s live all =
+  pub threads_renewed : (active : Bool) (t : ℕ) (new : Policy) (s : Turn P) → is_live (thread_at s.machine t).status ≡ true → MayServe new → Threads s → Threads (activates_if active t (changes t (with_policy new s.machine.now) s))
+  threads_renewed active t new s live serves all =
       let there : t < length s.machine.threads = here is_live refl s.machine.threads t live in
       activates_if_right active t (changes t (with_policy new s.machine.now) s) (renewed_none t new s there)
-      (one t (with_policy new s.machine.now) s (λ h. new_thread_in (is who t) s.machine.now (thread_at s.machine t).status new live) all)
+      (one t (with_policy new s.machine.now) s (λ h. new_thread_in (is who t) s.machine.now (thread_at s.machine t).status new live serves) all)
 
   pub threads_keep : (move : Move P) (s : Turn P) → MayAwake who move s → Awake s → Threads s → Threads (does bodies move s)
   threads_keep (alters t f) s may awake all = one t f s (of_core (is who t) s.machine.now (f (thread_at s.machine t)) (thread_at s.machine t) (may (thread_at s.machine t))) all
@@ -253,9 +297,9 @@ module _ {P : Type 0} (bodies : Bodies P) (who : Option ℕ) where
   threads_keep (begins t mask) s may awake all =
       let there : t < length s.machine.threads = here is_dormant refl s.machine.threads t may in
       let up = tells (event.Start t) (moves t (changes t (started bodies t mask s.machine.now) s)) in
-      activates_right t (thread_at up.machine t).server up refl (begun_none t mask s there)
-      (one t (started bodies t mask s.machine.now) s (λ h. new_thread_in (is who t) s.machine.now runnable (thread_at s.machine t).policy refl) all)
-  threads_keep (lives_no_more t) s may awake all = one t without_life s (λ h. dead_in (is who t) s.machine.now (thread_at s.machine t).policy) all
+      activates_right t (at_once (thread_at up.machine t).server) up (begun_none t mask s there)
+      (one t (started bodies t mask s.machine.now) s (λ h. new_thread_in (is who t) s.machine.now runnable (thread_at s.machine t).policy refl h.serves) all)
+  threads_keep (lives_no_more t) s may awake all = one t without_life s (λ h. dead_in (is who t) s.machine.now (thread_at s.machine t).policy h.serves) all
   threads_keep (recasts t f) s may awake all = absurd may
   threads_keep (rejoins t j) s may awake all = one t (with_joiner j) s (λ h. h) all
   threads_keep (refills_one t) s may awake all = refills_right t (thread_at s.machine t).server s refl (ap (λ (o : Option ℕ). is o t) may.1) all

@@ -12,6 +12,7 @@ use Rattle.machine_rules.specs.WellFormed.{IsWellFormed}
 use Rattle.machine_moves.specs.UnitRanges.{BodiesFit}
 use Rattle.machine_laws.specs.Rest.{ServersRest}
 use Rattle.machine_laws.proofs.Items.{servers_throughout}
+use Rattle.machine_laws.proofs.Servers.Right.{high_parts}
 
 none_where : (n : ℕ) → (1 ≤ n → ⊥) → n ≡ 0
 none_where zero h = omega arith
@@ -20,17 +21,11 @@ none_where (suc n) h = absurd (h (omega arith))
 contra : {b : Bool} → b ≡ true → b ≡ false → ⊥
 contra p q = grind arith
 
-room_of : (s : ServerState) → is_high s ≡ true → length s.pending < s.params.max
-room_of s e = second (nat_lt 0 s.capacity) (length s.pending) s.params.max e
-  where
-    second : (a : Bool) (n m : ℕ) → (a && nat_lt n m) ≡ true → n < m
-    second a n m e = grind arith
-
 pub servers_rest : {P : Type 0} (m : Machine P) → ServersAreRight m → ServersRest m
 servers_rest m right = record {
   idle = λ t s e off. none_where s.consumed (λ some. contra (((right.each t s e).consuming some).runnable) off);
   low = λ t s e low. none_where s.consumed (λ some. contra (((right.each t s e).consuming some).high) low);
-  room = λ t s e some. room_of s (((right.each t s e).consuming some).high);
+  room = λ t s e some. (high_parts s (((right.each t s e).consuming some).high)).1;
 }
 
 module _ {P : Type 0} (bodies : Bodies P) (ranges : BodiesFit bodies) (script : Script) (fits : IsWellFormed script) where

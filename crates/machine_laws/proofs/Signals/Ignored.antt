@@ -83,7 +83,12 @@ module _ {P : Type 0} (bodies : Bodies P) where
     opens = λ s still p q. q;
     moves = λ before move s may p q. heard_keep bodies None move s may q;
     settles = λ before s p q. q;
-    charges = λ t s still none runs p q. same_heard s.machine (dispatches (Some t) s).machine (ap sent (dispatched (Some t) s)) q;
+    prepares = record {
+      closes = λ t s run q. ended planning t s q;
+      sent = λ to s off q. same_heard s.machine (dispatches to s).machine (ap sent (dispatched to s)) q;
+      opens = λ t x s runs is may q. q;
+    };
+    charges = λ t s still ready runs p q. q;
     unit_moves = λ b t before move s may p q. heard_keep bodies (Some t) move s may q;
     unit_stops = λ b t before. record {
       done = λ s p q. q;
@@ -93,5 +98,5 @@ module _ {P : Type 0} (bodies : Bodies P) where
     };
     unit_settles = λ b t before s p q. q;
     ends = λ b t s still p q. ended _ t s q;
-    idles = λ s none p q. same_heard s.machine (dispatches None s).machine (ap sent (dispatched None s)) q;
+    idles = λ s ready p q. q;
   }

@@ -71,4 +71,5 @@ module _ {P : Type 0} (bodies : Bodies P) where
     elsewhere = λ m now last lists q. q;
     charged = λ t s runs q. q;
     ended = ended;
+    opened = λ t x s is q. q;
   }

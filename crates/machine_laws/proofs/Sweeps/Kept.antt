@@ -4,15 +4,15 @@ use mathlib.Core.Path.{subst, ◌∙◌}
 use Rattle.tick_num.specs.declared.item.Item.{Item}
 use Rattle.script_tree.specs.declared.decl.Script.{Script}
 use Rattle.machine_rules.specs.Bodies.{Bodies}
-use Rattle.machine_rules.specs.State.{Machine}
-use Rattle.machine_rules.specs.Threads.{can_run, thread_at, top_left}
-use Rattle.machine_rules.specs.Turns.{Turn, becomes, settles_since, turn_of}
-use Rattle.machine_rules.specs.Servers.{has_high}
+use Rattle.machine_rules.specs.State.{Machine, Thread}
+use Rattle.machine_rules.specs.Threads.{can_run, thread_at, top_left, no_thread}
+use Rattle.machine_rules.specs.Turns.{Turn, becomes, settles_since, turn_of, changes}
+use Rattle.machine_rules.specs.Servers.{has_high, plans_server, with_server}
 use Rattle.machine_rules.specs.Delivery.{may_be_interrupted, sweeps}
 use Rattle.machine_rules.specs.DueItems.{handles, instant, item_bound, item_done, item_then, items_done, next_item}
 use Rattle.machine_rules.specs.Dispatch.{dispatches, head}
 use Rattle.machine_rules.specs.Units.{in_unit}
-use Rattle.machine_rules.specs.Ticks.{completes_at, later, runs, runs_head, tick, tick_ends, unit_ticked, unless_killed}
+use Rattle.machine_rules.specs.Ticks.{completes_at, later, runs, runs_head, tick, tick_ends, unit_ticked, unless_killed, prepares}
 use Rattle.machine_rules.specs.Runs.{opening, ticks}
 use Rattle.machine_rules.proofs.ItemsEnd.{instant_ends, next_is_due}
 use Rattle.machine_rules.specs.WellFormed.{IsWellFormed}
@@ -20,20 +20,24 @@ use Rattle.machine_moves.specs.UnitRanges.{BodiesFit}
 use Rattle.machine_moves.proofs.Runs.Listed.{AllRun, head_can_run}
 use Rattle.machine_moves.proofs.Runs.Units.{in_unit_fits}
 use Rattle.machine_moves.proofs.Runs.Ticks.{charged_runs, charged_turn, dispatched}
-use Rattle.machine_moves.proofs.Runs.Since.{Rests, TickSince, completes_keep, ends_keep, handles_keep, instant_keep, item_done_keep, run_since, settles_keep}
+use Rattle.machine_moves.proofs.Runs.Since.{Rests, TickSince, completes_keep, ends_keep, handles_keep, instant_keep, item_done_keep, run_since, settles_keep, prepares_rest}
 use Rattle.machine_moves.proofs.Runs.Beside.{TickBeside, both}
 use Rattle.machine_laws.proofs.Lists.Kept.{Placed, Placing, opening_placed, placed_tick}
 use Rattle.machine_laws.proofs.Slices.{In, Slices, opening_slices, slices_tick}
-use Rattle.machine_laws.proofs.Signals.Ignored.{Heard, Hears, heard_tick}
-use Rattle.machine_laws.proofs.Sweeps.Visits.{Quiet, sweeps_quiet}
+use Rattle.machine_laws.proofs.Signals.Ignored.{Heard, Hears, heard_tick, sent}
+use Rattle.machine_laws.proofs.Sweeps.Visits.{Quiet, sweeps_quiet, taken_of}
 use Rattle.machine_laws.proofs.Parts.Opening.{opening_listed}
+use Rattle.machine_moves.proofs.Runs.Preparing.{IsReady, PreparingKeeps, alike_runs, prepared, prepares_keep}
+use Rattle.machine_rules.proofs.Reading.{changed-keeps}
+use Rattle.sporadic_server.specs.Server.{ServerState, activate, plan}
 
 module _ {P : Type 0} (bodies : Bodies P) (fits : BodiesFit bodies) (Rest : Machine P → Type 0) (Law : Machine P → Turn P → Type 0) (Mid Done : Bool → ℕ → Machine P → Turn P → Type 0) (End : Bool → ℕ → Machine P → Type 0)
     (all : TickSince bodies Rest Law Mid Done End) (After : Machine P → Type 0) where
   -- a sweep brings it, and an idle tick leaves it
   pub record SweepBrings : Type 0 where
     pub sweep : (s : Turn P) → Rest s.machine → After (sweeps bodies s).machine
-    pub idle : (s : Turn P) → After s.machine → After (becomes later (dispatches None s)).machine
+    pub prepares : PreparingKeeps (λ (s : Turn P). After s.machine)
+    pub idle : (s : Turn P) → After s.machine → After (becomes later s).machine
 
   module _ (brings : SweepBrings) where
     abbrev Still : Turn P → Type 0
@@ -52,25 +56,26 @@ module _ {P : Type 0} (bodies : Bodies P) (fits : BodiesFit bodies) (Rest : Mach
     items_after zero s r a = a
     items_after (suc most) s r a = then_after (next_item s.machine) (items_done bodies most) s refl (items_after most) r a
 
-    runs_after : (to : Option ℕ) (s : Turn P) → head s.machine ≡ to → next_item s.machine ≡ None → Still s → After s.machine → After (runs bodies to (dispatches to s)).machine
-    runs_after None s e none r a = brings.idle s a
-    runs_after (Some t) s e none r a =
-        let to = dispatches (Some t) s in
-        let can : can_run s.machine t ≡ true = head_can_run s.machine t r.listed e in
-        let charged = charged_turn bodies t to in
-        let was_high = has_high (thread_at to.machine t).server in
-        let unit = in_unit bodies (thread_at to.machine t) in
-        let can' : can_run to.machine t ≡ true = ap (λ (m : Machine P). can_run m t) (dispatched (Some t) s) ∙ can in
-        let ticked = unit_ticked bodies to.machine t unit to in
+    runs_after : (to : Option ℕ) (s : Turn P) → ((t : ℕ) → to ≡ Some t → can_run s.machine t ≡ true) → IsReady to s.machine → Still s → After s.machine → After (runs bodies to s).machine
+    runs_after None s can ready r a = brings.idle s a
+    runs_after (Some t) s can ready r a =
+        let charged = charged_turn bodies t s in
+        let was_high = has_high (thread_at s.machine t).server in
+        let unit = in_unit bodies (thread_at s.machine t) in
+        let ticked = unit_ticked bodies s.machine t unit s in
         let left = top_left (thread_at charged.machine t).frames in
-        let done : Done was_high t to.machine (completes_at bodies left t unit.unit charged) =
-        completes_keep bodies fits Rest Law Mid Done End all was_high left t unit.unit to.machine charged (in_unit_fits bodies fits (thread_at to.machine t)) (charged_runs bodies t to can') (all.charges t s r.still none can r.rest) in
+        let done : Done was_high t s.machine (completes_at bodies left t unit.unit charged) =
+        completes_keep bodies fits Rest Law Mid Done End all was_high left t unit.unit s.machine charged (in_unit_fits bodies fits (thread_at s.machine t)) (charged_runs bodies t s (can t refl)) (all.charges t s r.still ready (can t refl) r.rest) in
         brings.sweep (tick_ends was_high t ticked)
-        (ends_keep bodies fits Rest Law Mid Done End all was_high t ticked refl (all.unit_settles was_high t to.machine (completes_at bodies left t unit.unit charged) done)).rest
+        (ends_keep bodies fits Rest Law Mid Done End all was_high t ticked refl (all.unit_settles was_high t s.machine (completes_at bodies left t unit.unit charged) done)).rest
 
-    goes_on_after : (killed : Option ℕ) (s : Turn P) → next_item s.machine ≡ None → Still s → After s.machine → After (unless_killed killed (runs_head bodies) s).machine
-    goes_on_after None s none r a = runs_after (head s.machine) s refl none r a
-    goes_on_after (Some signal) s none r a = a
+    goes_on_after : (killed : Option ℕ) (s : Turn P) → Still s → After s.machine → After (unless_killed killed (runs_head bodies) s).machine
+    goes_on_after None s r a =
+        let to = head s.machine in
+        let can = λ (t : ℕ) (e : to ≡ Some t). head_can_run s.machine t r.listed e in
+        let k = prepares_keep (λ (x : Turn P). After x.machine) brings.prepares to s can a in
+        runs_after to (prepares to s) (λ t e. alike_runs s.machine (prepares to s).machine t k.1 (can t e)) (prepared to s) (prepares_rest bodies fits Rest Law Mid Done End all to s can r) k.0
+    goes_on_after (Some signal) s r a = a
 
     pub instant_after : (s : Turn P) → Still s → After s.machine → After (instant bodies s).machine
     instant_after s r a = items_after (item_bound s.machine) s r a
@@ -78,7 +83,7 @@ module _ {P : Type 0} (bodies : Bodies P) (fits : BodiesFit bodies) (Rest : Mach
     tick_after : (s : Turn P) → Still s → After s.machine → After (tick bodies s).machine
     tick_after s r a =
         let ready = instant bodies s in
-        goes_on_after ready.machine.killed ready (instant_ends bodies s) (instant_keep bodies fits Rest Law Mid Done End all s r) (instant_after s r a)
+        goes_on_after ready.machine.killed ready (instant_keep bodies fits Rest Law Mid Done End all s r) (instant_after s r a)
 
     pub run_after : (n : ℕ) (start : Machine P) → Rest start → AllRun start start.lists → After start → After (ticks bodies n start).machine
     run_after zero start q listed a = a
@@ -121,7 +126,8 @@ module _ {P : Type 0} (bodies : Bodies P) where
     opens = λ s still p q. k.opens s still p.0 q;
     moves = λ before move s may p q. k.moves before move s may p.0 q;
     settles = λ before s p q. k.settles before s p.0 q;
-    charges = λ t s still none runs p q. k.charges t s still none runs p.0 q;
+    prepares = k.prepares;
+    charges = λ t s still ready runs p q. k.charges t s still ready runs p.0 q;
     unit_moves = λ b t before move s may p q. k.unit_moves b t before move s may p.0 q;
     unit_stops = λ b t before. let stop = k.unit_stops b t before in record {
       done = λ s p q. stop.done s p.0 q;
@@ -144,11 +150,24 @@ module _ {P : Type 0} (bodies : Bodies P) where
   pub swept_dispatched : (to : Option ℕ) (s : Turn P) → Swept s.machine → Swept (dispatches to s).machine
   swept_dispatched to s a = subst Swept (sym (dispatched to s)) a
 
+  -- what a thread takes does not go by its server
+  pub swept_served : (t : ℕ) (f : ServerState → ServerState) (s : Turn P) → Swept s.machine → Swept (changes t (with_server f) s).machine
+  swept_served t f s a alive u = changed-keeps no_thread t u (with_server f) (λ (th : Thread P). taken_of bodies th u (sent s.machine)) (λ th. refl) s.machine.threads ∙ a alive u
+
+  pub swept_planned : (t : ℕ) (o : Option ServerState) (s : Turn P) → Swept s.machine → Swept (plans_server t o s).machine
+  swept_planned t None s a = a
+  swept_planned t (Some x) s a = swept_served t plan s a
+
 module _ {P : Type 0} (bodies : Bodies P) (ranges : BodiesFit bodies) (script : Script) (fits : IsWellFormed script) where
   pub brings : SweepBrings bodies ranges (RestHeard bodies) (LawHeard bodies) (InHeard bodies) (InHeard bodies) (EndHeard bodies) (tick_heard bodies) (Swept bodies)
   brings = record {
     sweep = λ s r alive t. sweeps_quiet bodies s r.1 alive t;
-    idle = λ s a. swept_dispatched bodies None s a;
+    prepares = record {
+      closes = λ t s run a. swept_planned bodies t (thread_at s.machine t).server s a;
+      sent = λ to s off a. swept_dispatched bodies to s a;
+      opens = λ t x s runs is may a. swept_served bodies t (activate s.machine.now) s a;
+    };
+    idle = λ s a. a;
   }
 
   pub opening_rest : RestHeard bodies (opening {P = P} script)

@@ -21,7 +21,7 @@ use Rattle.machine_rules.specs.Bodies.{Bodies}
 use Rattle.machine_rules.specs.State.{Frame, Machine, SignalRecord, Thread, Waiting}
 use Rattle.machine_rules.specs.Threads.{action_of, no_thread, thread_at, thread_in, thread_numbers, waiting_in, waiting_of}
 use Rattle.machine_rules.specs.Turns.{Turn, changes, changes_pending, moves, tells, turn_of}
-use Rattle.machine_rules.specs.Servers.{activates_server, high_server, with_server}
+use Rattle.machine_rules.specs.Servers.{activates_server, at_once, high_server, with_server}
 use Rattle.machine_rules.specs.Waking.{new_frame, on_top, wakes_telling, woken}
 use Rattle.machine_rules.specs.Signals.{delivers, may_go_to, is_ignore, is_kill, is_selected_before, selected, tells_overrun, without_record}
 use Rattle.machine_rules.specs.Delivery.{acts, can_take, catches, defers_handlers, interrupts, may_be_interrupted, sweeps, sweeps_all, sweeps_thread, taken_by_sweep, takes_record, ticks_left}
@@ -44,7 +44,7 @@ module _ {P : Type 0} (t u : ℕ) (h : (t == u) ≡ false) where
   wakes_other : (e : Event) (r : Res) (v : ℕ) (s : Turn P) → thread_at (wakes_telling e t r v s).machine u ≡ thread_at s.machine u
   wakes_other e r v s =
       let up = tells e (moves t (changes t (woken r v) s)) in
-      activates_other (high_server (thread_at up.machine t).server) up ∙ thread-other s.machine t u (woken r v) h
+      activates_other (at_once (high_server (thread_at up.machine t).server)) up ∙ thread-other s.machine t u (woken r v) h
 
   interrupts_other : (o : Option Waiting) (s : Turn P) → thread_at (interrupts o t s).machine u ≡ thread_at s.machine u
   interrupts_other None s = refl

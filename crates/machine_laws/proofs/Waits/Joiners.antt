@@ -11,7 +11,7 @@ use Rattle.machine_rules.specs.Bodies.{Bodies}
 use Rattle.machine_rules.specs.State.{Status, Thread, Waiting, blocked, dormant, ended, for_end, for_mutex_again, runnable, waits_to_join}
 use Rattle.machine_rules.specs.Threads.{can_run, is_dormant, is_runnable, no_thread, thread_at, thread_in, waiting_in, waiting_of}
 use Rattle.machine_rules.specs.Turns.{Turn, changes, moves, tells}
-use Rattle.machine_rules.specs.Servers.{activates_if, activates_server, amount_of, high_server, refills_server, regains_high, with_server}
+use Rattle.machine_rules.specs.Servers.{activates_if, activates_server, amount_of, at_once, high_server, refills_server, regains_high, with_server}
 use Rattle.machine_rules.specs.Waking.{ending_with, on_top, put_to_wait, started, woken}
 use Rattle.machine_rules.specs.Lives.{with_joiner, without_life, without_top}
 use Rattle.machine_rules.specs.Cancellation.{without_cleanup}
@@ -57,7 +57,7 @@ module _ {P : Type 0} (bodies : Bodies P) (who : Option ℕ) where
   activated_keep t (Some server) s j = kept t (with_server (activate s.machine.now)) s (λ th. refl) (λ th. refl) j
 
   activated_if_keep : (b : Bool) (t : ℕ) (s : Turn P) → JoinersWait s → JoinersWait (activates_if b t s)
-  activated_if_keep true t s j = activated_keep t (thread_at s.machine t).server s j
+  activated_if_keep true t s j = activated_keep t (at_once (thread_at s.machine t).server) s j
   activated_if_keep false t s j = j
 
   refilled_keep : (t : ℕ) (o : Option ServerState) (s : Turn P) → JoinersWait s → JoinersWait (refills_server t o s)
@@ -104,7 +104,7 @@ module _ {P : Type 0} (bodies : Bodies P) (who : Option ℕ) where
   joiners_keep (renews_with active t new) s may j = absurd may
   joiners_keep (wakes_with t ev r v) s may j =
       let up = tells ev (moves t (changes t (woken r v) s)) in
-      activated_keep t (high_server (thread_at up.machine t).server) up (changed_joiners t (woken r v) s (λ u e. e) (λ w x e h k. absurd (no_end t s may.2 w x e h k)) j)
+      activated_keep t (at_once (high_server (thread_at up.machine t).server)) up (changed_joiners t (woken r v) s (λ u e. e) (λ w x e h k. absurd (no_end t s may.2 w x e h k)) j)
   joiners_keep (blocks_for by (for_mutex_again k how) due) s may j =
       changed_joiners by.thread (put_to_wait (record { wait = for_mutex_again k how; serial = s.machine.next_serial; due = due; call = by.call })) s (λ u e. e)
       (λ w v e h x. absurd (in_condition (waiting_of s.machine by.thread) may.0 w v e h)) j
@@ -112,7 +112,7 @@ module _ {P : Type 0} (bodies : Bodies P) (who : Option ℕ) where
   joiners_keep (blocks_plainly by wait due) s may j = absurd may
   joiners_keep (begins t mask) s may j =
       let up = tells (event.Start t) (moves t (changes t (started bodies t mask s.machine.now) s)) in
-      activated_keep t (thread_at up.machine t).server up (idle t (started bodies t mask s.machine.now) s (λ th. refl) (dormant_idle (thread_at s.machine t).status may) j)
+      activated_keep t (at_once (thread_at up.machine t).server) up (idle t (started bodies t mask s.machine.now) s (λ th. refl) (dormant_idle (thread_at s.machine t).status may) j)
   joiners_keep (lives_no_more t) s may j = idle t without_life s (λ th. refl) (running_idle (thread_at s.machine t).status may.0) j
   joiners_keep (recasts t f) s may j = absurd may
   joiners_keep (rejoins t x) s may j = changed_joiners t (with_joiner x) s (λ u e. absurd (may u e)) (λ w v e h k. e) j

@@ -1,4 +1,4 @@
-use Rattle.machine_laws.proofs.Scripts.{rests, runs_in_time}
+use Rattle.machine_laws.proofs.Scripts.{latest, rests, runs_in_time}
 use Rattle.machine_laws.proofs.threads_run_in_time.Goals as goal
 
 pub returns-clause-times : goal.returns-clause-times
@@ -6,3 +6,6 @@ returns-clause-times c = runs_in_time
 
 pub returns-clause-rest : goal.returns-clause-rest
 returns-clause-rest c = rests
+
+pub returns-clause-latest : goal.returns-clause-latest
+returns-clause-latest c = latest

@@ -27,7 +27,9 @@ use Rattle.machine_laws.proofs.Lists.Kept.{Plans, in_unit_plans}
 use Rattle.machine_laws.proofs.Signals.Takers.{charge_of}
 use Rattle.machine_leaps.proofs.Quiet.Runs.{charges}
 use Rattle.machine_leaps.proofs.Quiet.Once.{Begins, begins_on, charges_once, idle_once, unit_of}
-use Rattle.machine_leaps.proofs.Leaps.Calm.{Calm, EndsAt, Handled}
+use Rattle.machine_leaps.proofs.Quiet.Prepared.{plain_charges}
+use Rattle.machine_leaps.proofs.Leaps.Calm.{Calm}
+use Rattle.machine_leaps.proofs.Leaps.Bridge.{PlainCalm, PlainEndsAt}
 use Rattle.machine_leaps.proofs.Leaps.LastTick.{head_at, high_same, is_x}
 
 -- ---- how long a leap may be
@@ -40,6 +42,7 @@ abbrev pub SliceLasts : ℕ → ℕ → Policy → ℕ → Type 0
 SliceLasts k quantum (policy.Fifo p) slice = Unit {0}
 SliceLasts k quantum (policy.Rr p) slice = slice + k ≤ quantum
 SliceLasts k quantum (policy.Sporadic params) slice = Unit {0}
+SliceLasts k quantum (policy.Strict params) slice = Unit {0}
 
 abbrev pub CapacityLasts : ℕ → Option ServerState → Type 0
 CapacityLasts k None = Unit {0}
@@ -86,6 +89,7 @@ slice_lasts i j quantum (policy.Rr p) slice lt h = some h
     some : slice + suc j ≤ quantum → (slice + suc i == quantum) ≡ false
     some h = grind arith
 slice_lasts i j quantum (policy.Sporadic params) slice lt h = refl
+slice_lasts i j quantum (policy.Strict params) slice lt h = refl
 
 capacity_lasts : (i j : ℕ) (o : Option ServerState) → i < j → CapacityLasts (suc j) o → (has_high o && capacity_in (option_map (server_after (suc i)) o) == 0) ≡ false
 capacity_lasts i j None lt h = refl
@@ -174,29 +178,42 @@ module _ {P : Type 0} (bodies : Bodies P) where
       by_last Law i small before here true same = (let it : j ≡ i = grind arith in subst Law it here)
       by_last Law i small before here false other = before i (let apart : i ≡ j → ⊥ = λ q. absurd (grind arith) in omega (arith, apart))
 
-  module _ (t : ℕ) (m : Machine P) (b : Begins bodies t m) (h : Handled bodies m) where
-    thread_after : (i : ℕ) → Calm bodies i m → charge_of bodies (thread_at (charges bodies i m) t) ≡ after_ticks (suc i) (unit_of bodies t m)
+  pub no_plain : (m : Machine P) → PlainCalm bodies 0 m
+  no_plain m = record { quiet = λ i small. absurd (omega arith); idle = λ i small. absurd (omega arith) }
+
+  pub more_plain : (j : ℕ) (m : Machine P) → PlainCalm bodies j m → unless_ended bodies (plain_charges bodies j m).killed (plain_charges bodies j m) ≡ false → next_item (plain_charges bodies (suc j) m) ≡ None → PlainCalm bodies (suc j) m
+  more_plain j m c e none = record {
+    quiet = λ i small. by_last (λ (n : ℕ). unless_ended bodies (plain_charges bodies n m).killed (plain_charges bodies n m) ≡ false) i small c.quiet e (i == j) refl;
+    idle = λ i small. by_last (λ (n : ℕ). next_item (plain_charges bodies (suc n) m) ≡ None) i small c.idle none (i == j) refl;
+  }
+    where
+      by_last : (Law : ℕ → Type 0) (i : ℕ) → i < suc j → ((n : ℕ) → n < j → Law n) → Law j → (b : Bool) → (i == j) ≡ b → Law i
+      by_last Law i small before here true same = (let it : j ≡ i = grind arith in subst Law it here)
+      by_last Law i small before here false other = before i (let apart : i ≡ j → ⊥ = λ q. absurd (grind arith) in omega (arith, apart))
+
+  module _ (t : ℕ) (m : Machine P) (b : Begins bodies t m) where
+    thread_after : (i : ℕ) → PlainCalm bodies i m → charge_of bodies (thread_at (plain_charges bodies i m) t) ≡ after_ticks (suc i) (unit_of bodies t m)
     thread_after i c =
-        sym (head_at bodies t (charges bodies i m) (begins_on bodies i t m b))
+        sym (head_at bodies t (plain_charges bodies i m) (begins_on bodies i t m b))
         ∙ ap (λ (n : Machine P). thread_at n t) (charges_once bodies i t m b c.quiet)
         ∙ thread-same m t (λ th. after_ticks (suc i) (unit_of bodies t m)) b.here
 
     high_first : has_high (thread_at m t).server ≡ has_high (unit_of bodies t m).server
     high_first = sym (ap (λ (p : Plans). has_high p.server) (in_unit_plans bodies (thread_at m t)))
 
-    high_at : (i : ℕ) → Calm bodies i m → has_high (thread_at (charges bodies i m) t).server ≡ has_high (unit_of bodies t m).server
+    high_at : (i : ℕ) → PlainCalm bodies i m → has_high (thread_at (plain_charges bodies i m) t).server ≡ has_high (unit_of bodies t m).server
     high_at zero c = high_first
     high_at (suc i) c =
-        ap (λ (n : Machine P). has_high (thread_at n t).server) (is_x bodies t m b i h c) ∙ high_same bodies t m b i h c ∙ high_first
+        ap (λ (n : Machine P). has_high (thread_at n t).server) (is_x bodies t m b i c) ∙ high_same bodies t m b i c ∙ high_first
 
-    quantum_at : (i : ℕ) → Calm bodies i m → (charges bodies i m).quantum ≡ m.quantum
+    quantum_at : (i : ℕ) → PlainCalm bodies i m → (plain_charges bodies i m).quantum ≡ m.quantum
     quantum_at zero c = refl
-    quantum_at (suc i) c = ap (λ (n : Machine P). n.quantum) (is_x bodies t m b i h c)
+    quantum_at (suc i) c = ap (λ (n : Machine P). n.quantum) (is_x bodies t m b i c)
 
     -- whether the tick after i calm ones matters
-    matters_is : (i : ℕ) → Calm bodies i m → unless_ended bodies (charges bodies i m).killed (charges bodies i m) ≡ tick_matters (has_high (unit_of bodies t m).server) m.quantum (after_ticks (suc i) (unit_of bodies t m))
+    matters_is : (i : ℕ) → PlainCalm bodies i m → unless_ended bodies (plain_charges bodies i m).killed (plain_charges bodies i m) ≡ tick_matters (has_high (unit_of bodies t m).server) m.quantum (after_ticks (suc i) (unit_of bodies t m))
     matters_is i c =
-        let n = charges bodies i m in
+        let n = plain_charges bodies i m in
         let on = begins_on bodies i t m b in
         ap (λ (k : Option ℕ). unless_ended bodies k n) on.alive
         ∙ ap (λ (o : Option ℕ). head_matters bodies o n) on.first
@@ -204,34 +221,34 @@ module _ {P : Type 0} (bodies : Bodies P) where
         ∙ ap (λ (q : ℕ). tick_matters (has_high (unit_of bodies t m).server) q (charge_of bodies (thread_at n t))) (quantum_at i c)
         ∙ ap (tick_matters (has_high (unit_of bodies t m).server) m.quantum) (thread_after i c)
 
-    due_at : (i : ℕ) → Calm bodies i m → next_item (charges bodies (suc i) m) ≡ next_item (later_by (suc i) m)
+    due_at : (i : ℕ) → PlainCalm bodies i m → next_item (plain_charges bodies (suc i) m) ≡ next_item (later_by (suc i) m)
     due_at i c = ap next_item (charges_once bodies i t m b c.quiet) ∙ next_after (suc i) t m
 
-    calm_to : (j : ℕ) → Lasts (suc j) m.quantum (unit_of bodies t m) → NothingDue (suc j) m → (i : ℕ) → i ≤ j → Calm bodies i m
-    calm_to j lasts none zero le = no_calm m
+    calm_to : (j : ℕ) → Lasts (suc j) m.quantum (unit_of bodies t m) → NothingDue (suc j) m → (i : ℕ) → i ≤ j → PlainCalm bodies i m
+    calm_to j lasts none zero le = no_plain m
     calm_to j lasts none (suc i) le =
         let c = calm_to j lasts none i (omega arith) in
-        more_calm i m c (matters_is i c ∙ lasts_on i j m.quantum (unit_of bodies t m) (omega arith) lasts) (due_at i c ∙ none (suc i) (omega arith))
+        more_plain i m c (matters_is i c ∙ lasts_on i j m.quantum (unit_of bodies t m) (omega arith) lasts) (due_at i c ∙ none (suc i) (omega arith))
 
     -- what bounds a leap of j + 1 ticks makes all but the last of them calm
-    pub lasts_calm : (j : ℕ) → Lasts (suc j) m.quantum (unit_of bodies t m) → NothingDue (suc j) m → Calm bodies j m
+    pub lasts_calm : (j : ℕ) → Lasts (suc j) m.quantum (unit_of bodies t m) → NothingDue (suc j) m → PlainCalm bodies j m
     lasts_calm j lasts none = calm_to j lasts none j (omega arith)
 
     -- and where one of the bounds is reached, the leap ends at an eventful instant
-    pub stops_ends : (j : ℕ) → Calm bodies j m → Stops (suc j) (unit_of bodies t m) m → EndsAt bodies j m
+    pub stops_ends : (j : ℕ) → PlainCalm bodies j m → Stops (suc j) (unit_of bodies t m) m → PlainEndsAt bodies j m
     stops_ends j c stops = record { due = λ e. ap is_some (due_at j c) ∙ stops (sym (matters_is j c) ∙ e) }
 
   -- while nobody runs
   module _ (m : Machine P) (alive : m.killed ≡ None) (nobody : head m ≡ None) where
-    idle_quiet : (i : ℕ) → unless_ended bodies (charges bodies i m).killed (charges bodies i m) ≡ false
+    idle_quiet : (i : ℕ) → unless_ended bodies (plain_charges bodies i m).killed (plain_charges bodies i m) ≡ false
     idle_quiet zero = ap (λ (k : Option ℕ). unless_ended bodies k m) alive ∙ ap (λ (o : Option ℕ). head_matters bodies o m) nobody
     idle_quiet (suc i) =
         let n : Machine P = record m { now = m.now + suc i; last = last.Idle } in
         ap (λ (x : Machine P). unless_ended bodies x.killed x) (idle_once bodies i m alive nobody)
         ∙ ap (λ (k : Option ℕ). unless_ended bodies k n) alive ∙ ap (λ (o : Option ℕ). head_matters bodies o n) nobody
 
-    pub idle_calm : (j : ℕ) → NothingDue (suc j) m → Calm bodies j m
+    pub idle_calm : (j : ℕ) → NothingDue (suc j) m → PlainCalm bodies j m
     idle_calm j none = record { quiet = λ i small. idle_quiet i; idle = λ i small. ap next_item (idle_once bodies i m alive nobody) ∙ none (suc i) (omega arith) }
 
-    pub idle_ends : (j : ℕ) → has_item (later_by (suc j) m) ≡ true → EndsAt bodies j m
+    pub idle_ends : (j : ℕ) → has_item (later_by (suc j) m) ≡ true → PlainEndsAt bodies j m
     idle_ends j due = record { due = λ e. ap has_item (idle_once bodies j m alive nobody) ∙ due }

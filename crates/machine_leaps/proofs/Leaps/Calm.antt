@@ -14,18 +14,19 @@ use Rattle.machine_rules.specs.Eventful.{has_item, is_eventful, next_tick_matter
 use Rattle.machine_rules.specs.DueItems.{instant, item_bound, next_item}
 use Rattle.machine_rules.specs.Runs.{Ran, follow, tick_of, ticks}
 use Rattle.machine_rules.specs.Eventful.{head_matters, unless_ended}
-use Rattle.machine_rules.specs.Ticks.{goes_on}
+use Rattle.machine_rules.specs.Ticks.{goes_on, prepares}
 use Rattle.machine_rules.proofs.Standing.{one_if}
 use Rattle.machine_moves.proofs.Waiters.Best.{Each}
-use Rattle.machine_moves.proofs.Runs.Listed.{AllRun}
+use Rattle.machine_moves.proofs.Runs.Listed.{AllRun, head_can_run}
 use Rattle.machine_laws.proofs.Lists.Places.{Stand}
 use Rattle.machine_laws.proofs.Sweeps.Visits.{Quiet}
 use Rattle.machine_leaps.proofs.Quiet.Ticks.{idle_items}
 use Rattle.leap_rules.specs.Quiet.{after_quiet}
-use Rattle.machine_leaps.proofs.Quiet.Charges.{QuietTick, charged_can_run, charged_exec, charged_quiet, goes_on_quiet}
+use Rattle.machine_leaps.proofs.Quiet.Charges.{QuietTick, StaysSo, charged_can_run, charged_exec, charged_quiet, goes_on_quiet, stays_so}
 use Rattle.leap_rules.specs.Quiet.{charged_head, charged_unless_killed, one_charge, told_with_dispatch}
 use Rattle.machine_leaps.proofs.Quiet.Runs.{charges}
 use Rattle.machine_leaps.proofs.Quiet.Events.{nothing_more, silent}
+use Rattle.machine_moves.proofs.Runs.Preparing.{alike_listed}
 
 each_by : {X : Type 0} (A B : X → Type 0) → ((x : X) → A x → B x) → (xs : List X) → Each A xs → Each B xs
 each_by A B f [] each = tt
@@ -57,29 +58,42 @@ module _ {P : Type 0} (bodies : Bodies P) where
     stand : Stand n
     swept : n.killed ≡ None → (u : ℕ) → Quiet bodies n u
 
-  head_stays : (t : ℕ) (m : Machine P) → Handled m → m.killed ≡ None → head_matters bodies (Some t) m ≡ false → Stays m (after_quiet bodies t m)
-  head_stays t m h alive matters =
+  head_stays : (t : ℕ) (m : Machine P) → AllRun m m.lists → Stand m → (m.killed ≡ None → (u : ℕ) → Quiet bodies m u) → m.killed ≡ None → head_matters bodies (Some t) m ≡ false → Stays m (after_quiet bodies t m)
+  head_stays t m listed stand swept alive matters =
       let s = turn_of m in
       record {
         listed = each_by (Each (λ (u : ℕ). can_run m u ≡ true)) (Each (λ (u : ℕ). can_run (after_quiet bodies t m) u ≡ true))
-            (λ us all. each_by (λ (u : ℕ). can_run m u ≡ true) (λ (u : ℕ). can_run (after_quiet bodies t m) u ≡ true) (λ u e. charged_can_run bodies t s u ∙ e) us all) m.lists h.listed;
+            (λ us all. each_by (λ (u : ℕ). can_run m u ≡ true) (λ (u : ℕ). can_run (after_quiet bodies t m) u ≡ true) (λ u e. charged_can_run bodies t s u ∙ e) us all) m.lists listed;
         stand = record {
-          every = h.stand.every;
-          runs = λ u i e. h.stand.runs u i (sym (charged_can_run bodies t s u) ∙ e) ∙ ap (λ (n : ℕ). one_if (n - 1 == i)) (sym (charged_exec bodies t s matters u));
-          others = λ u i e. h.stand.others u i (sym (charged_can_run bodies t s u) ∙ e);
+          every = stand.every;
+          runs = λ u i e. stand.runs u i (sym (charged_can_run bodies t s u) ∙ e) ∙ ap (λ (n : ℕ). one_if (n - 1 == i)) (sym (charged_exec bodies t s matters u));
+          others = λ u i e. stand.others u i (sym (charged_can_run bodies t s u) ∙ e);
         };
-        swept = λ e. charged_quiet bodies t s (h.swept alive);
+        swept = λ e. charged_quiet bodies t s (swept alive);
       }
+
+  -- the machine as its head begins its tick
+  pub record Steady (to : Option ℕ) (m : Machine P) : Type 0 where
+    pub listed : AllRun (prepares to (turn_of m)).machine (prepares to (turn_of m)).machine.lists
+    pub so : StaysSo bodies to (turn_of m)
+
+  pub steady : (to : Option ℕ) (m : Machine P) → Handled m → head m ≡ to → Steady to m
+  steady to m h e =
+      let so = stays_so bodies to (turn_of m) (λ t f. head_can_run m t h.listed (e ∙ f)) h.stand h.swept in
+      record { listed = alike_listed m (prepares to (turn_of m)).machine so.alike h.listed; so = so }
 
   charge_stays : (m : Machine P) → Handled m → unless_ended bodies m.killed m ≡ false → Stays m (one_charge bodies m)
   charge_stays m h = by_killed m.killed refl
     where
-      by_head : (o : Option ℕ) → m.killed ≡ None → head_matters bodies o m ≡ false → Stays m (charged_head bodies o m)
-      by_head None alive e = record { listed = h.listed; stand = record { every = h.stand.every; runs = h.stand.runs; others = h.stand.others }; swept = λ k. h.swept alive }
-      by_head (Some t) alive e = head_stays t m h alive e
+      by_head : (o : Option ℕ) → head m ≡ o → m.killed ≡ None → head_matters bodies o m ≡ false → Stays m (charged_head bodies o (prepares o (turn_of m)).machine)
+      by_head None first alive e = let k = steady None m h first in record { listed = k.listed; stand = (let s = k.so.stand in record { every = s.every; runs = s.runs; others = s.others }); swept = λ q. k.so.swept alive }
+      by_head (Some t) first alive e =
+          let k = steady (Some t) m h first in
+          let s = head_stays t (prepares (Some t) (turn_of m)).machine k.listed k.so.stand (λ q. k.so.swept alive) (k.so.alike.killed ∙ alive) (k.so.matters ∙ e) in
+          record { listed = s.listed; stand = s.stand; swept = s.swept }
 
       by_killed : (k : Option ℕ) → m.killed ≡ k → unless_ended bodies k m ≡ false → Stays m (charged_unless_killed bodies k m)
-      by_killed None alive e = by_head (head m) alive e
+      by_killed None alive e = by_head (head m) refl alive e
       by_killed (Some signal) dead e = record { listed = h.listed; stand = h.stand; swept = h.swept }
 
   charge_handled : (m : Machine P) → Handled m → unless_ended bodies m.killed m ≡ false → next_item (one_charge bodies m) ≡ None → Handled (one_charge bodies m)

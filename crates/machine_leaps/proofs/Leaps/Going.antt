@@ -37,28 +37,31 @@ use Rattle.machine_leaps.proofs.Quiet.Charges.{claims_same}
 use Rattle.machine_leaps.proofs.Quiet.Ticks.{idle_items, no_end}
 use Rattle.machine_leaps.proofs.Leaps.Bounds.{charged_capacity}
 use Rattle.machine_leaps.proofs.Leaps.LastTick.{dispatched_again}
+use Rattle.machine_leaps.proofs.Quiet.Once.{less_high}
 
 -- ---- what a charge leaves of a thread whose capacity is not used up
+
+high_after : (k : ℕ) (s : ServerState) → (has_high (Some s) && capacity_in (Some (server_after k s)) == 0) ≡ false → assigned (server_after k s) ≡ assigned s
+high_after k s e = by_high (is_high s) refl
+  where
+    by_high : (b : Bool) → is_high s ≡ b → assigned (server_after k s) ≡ assigned s
+    by_high false h = ap (λ (b : Bool). assigned (if b then charge_ticks k s else s)) h
+    by_high true h =
+        let left : ((charge_ticks k s).capacity == 0) ≡ false = (rw h at e) in
+        let some : (s.capacity - k == 0) ≡ false = subst (λ (n : ℕ). (n == 0) ≡ false) (charged_capacity k s) left in
+        let still = less_high k s h some in
+        ap (λ (b : Bool). assigned (if b then charge_ticks k s else s)) h
+        ∙ ap assigned (charge_ticks_is k s)
+        ∙ ap (λ (b : Bool). if b then s.params.high else s.params.low) (still ∙ sym h)
 
 assigned_after : (k : ℕ) (p : Policy) (o : Option ServerState) → (has_high o && capacity_in (option_map (server_after k) o) == 0) ≡ false →
     assigned_under p (option_map (server_after k) o) ≡ assigned_under p o
 assigned_after k (policy.Fifo p) o e = refl
 assigned_after k (policy.Rr p) o e = refl
 assigned_after k (policy.Sporadic params) None e = refl
-assigned_after k (policy.Sporadic params) (Some s) e = by_high (is_high s) refl
-  where
-    both : (c j : ℕ) (b : Bool) → (nat_lt 0 c && b) ≡ true → (c - j == 0) ≡ false → (nat_lt 0 (c - j) && b) ≡ true
-    both c j b h l = grind arith
-
-    by_high : (b : Bool) → is_high s ≡ b → assigned (server_after k s) ≡ assigned s
-    by_high false h = ap (λ (b : Bool). assigned (if b then charge_ticks k s else s)) h
-    by_high true h =
-        let left : ((charge_ticks k s).capacity == 0) ≡ false = (rw h at e) in
-        let some : (s.capacity - k == 0) ≡ false = subst (λ (n : ℕ). (n == 0) ≡ false) (charged_capacity k s) left in
-        let still = both s.capacity k (nat_lt (length s.pending) s.params.max) h some in
-        ap (λ (b : Bool). assigned (if b then charge_ticks k s else s)) h
-        ∙ ap assigned (charge_ticks_is k s)
-        ∙ ap (λ (b : Bool). if b then s.params.high else s.params.low) (still ∙ sym h)
+assigned_after k (policy.Sporadic params) (Some s) e = high_after k s e
+assigned_after k (policy.Strict params) None e = refl
+assigned_after k (policy.Strict params) (Some s) e = high_after k s e
 
 module _ {P : Type 0} (bodies : Bodies P) where
   claim_after : (k : ℕ) (th : Thread P) → (has_high th.server && capacity_in (after_ticks k (in_unit bodies th).thread).server == 0) ≡ false →

@@ -19,7 +19,7 @@ use Rattle.machine_rules.specs.Servers.{has_high}
 use Rattle.machine_rules.specs.Delivery.{sweeps}
 use Rattle.machine_rules.specs.Dispatch.{dispatch_event, dispatches, is_same, tells_unless}
 use Rattle.machine_rules.specs.Units.{Following, InUnit, advances, advancing, begins_finish, choice, cleaning_up, continuing, finishing, following, in_cleanup, in_unit, is_at_end, takes_unit}
-use Rattle.machine_rules.specs.Ticks.{completes, completes_at, frames_charged, runs, runs_head, tick_ends, unit_ticked, unless_killed}
+use Rattle.machine_rules.specs.Ticks.{completes, completes_at, frames_charged, runs, runs_head, tick_ends, unit_ticked, unless_killed, prepares}
 use Rattle.machine_rules.specs.Runs.{ran, tick_of}
 use Rattle.machine_rules.specs.Eventful.{head_matters, unless_ended}
 use Rattle.machine_rules.proofs.Reading.{thread-same}
@@ -30,12 +30,11 @@ use Rattle.machine_moves.proofs.Runs.Ticks.{charged_turn}
 use Rattle.machine_leaps.proofs.Quiet.Ticks.{left_over}
 use Rattle.leap_rules.specs.Quiet.{after_quiet}
 use Rattle.machine_leaps.proofs.Quiet.Charges.{charged_can_run, charged_exec}
-use Rattle.leap_rules.specs.Quiet.{one_charge}
 use Rattle.machine_laws.proofs.Signals.Takers.{charge_of}
-use Rattle.machine_leaps.proofs.Quiet.Runs.{charges}
 use Rattle.machine_leaps.proofs.Quiet.Once.{Begins, StaysHigh, begins_on, charges_once, matters_of, one_is, stays_high}
-use Rattle.machine_leaps.proofs.Quiet.Events.{same_again}
-use Rattle.machine_leaps.proofs.Leaps.Calm.{Calm, Handled, charges_handled, fewer_calm, tick_handled}
+use Rattle.machine_leaps.proofs.Quiet.Prepared.{Begun, one_plain, plain_charges, prepares_nothing, same_again}
+use Rattle.machine_leaps.proofs.Leaps.Calm.{Handled, tick_handled}
+use Rattle.machine_leaps.proofs.Leaps.Bridge.{PlainCalm, fewer_plain}
 
 -- ---- a settling goes by the priorities before it alone
 
@@ -111,28 +110,28 @@ module _ {P : Type 0} (bodies : Bodies P) where
   pub left_at : (t : ℕ) (n : Machine P) → Begins bodies t n → unless_ended bodies n.killed n ≡ false → (l : ℕ) × (top_left (charge_of bodies (thread_at n t)).frames ≡ suc l)
   left_at t n b e = left_over (has_high (thread_at n t).server) n.quantum (charge_of bodies (thread_at n t)) (matters_of bodies t n b.alive b.first e)
 
-  pub head_at : (t : ℕ) (n : Machine P) → Begins bodies t n → thread_at (one_charge bodies n) t ≡ charge_of bodies (thread_at n t)
+  pub head_at : (t : ℕ) (n : Machine P) → Begins bodies t n → thread_at (one_plain bodies n) t ≡ charge_of bodies (thread_at n t)
   head_at t n b = ap (λ (x : Machine P). thread_at x t) (one_is bodies t n b.alive b.first) ∙ thread-same n t (λ th. charge_of bodies (thread_at n t)) b.here
 
   module _ (t : ℕ) (m : Machine P) (b : Begins bodies t m) where
     matters_at : (n : Machine P) → Begins bodies t n → unless_ended bodies n.killed n ≡ false → head_matters bodies (Some t) n ≡ false
     matters_at n on e = matters_of bodies t n on.alive on.first e
 
-    charges_can : (j : ℕ) → Calm bodies j m → (u : ℕ) → can_run (charges bodies j m) u ≡ can_run m u
+    charges_can : (j : ℕ) → PlainCalm bodies j m → (u : ℕ) → can_run (plain_charges bodies j m) u ≡ can_run m u
     charges_can zero c u = refl
     charges_can (suc j) c u =
-        let at = charges bodies j m in
+        let at = plain_charges bodies j m in
         let on = begins_on bodies j t m b in
-        ap (λ (n : Machine P). can_run n u) (one_is bodies t at on.alive on.first) ∙ charged_can_run bodies t (turn_of at) u ∙ charges_can j (fewer_calm bodies j m c) u
+        ap (λ (n : Machine P). can_run n u) (one_is bodies t at on.alive on.first) ∙ charged_can_run bodies t (turn_of at) u ∙ charges_can j (fewer_plain bodies j m c) u
 
-    charges_exec : (j : ℕ) → Calm bodies j m → (u : ℕ) → exec (charges bodies j m) u ≡ exec m u
+    charges_exec : (j : ℕ) → PlainCalm bodies j m → (u : ℕ) → exec (plain_charges bodies j m) u ≡ exec m u
     charges_exec zero c u = refl
     charges_exec (suc j) c u =
-        let at = charges bodies j m in
+        let at = plain_charges bodies j m in
         let on = begins_on bodies j t m b in
         ap (λ (n : Machine P). exec n u) (one_is bodies t at on.alive on.first)
         ∙ charged_exec bodies t (turn_of at) (matters_at at on (c.quiet j (omega arith))) u
-        ∙ charges_exec j (fewer_calm bodies j m c) u
+        ∙ charges_exec j (fewer_plain bodies j m c) u
 
     -- ---- the last tick
 
@@ -142,26 +141,23 @@ module _ {P : Type 0} (bodies : Bodies P) where
     abbrev given : Machine P
     given = record m { last = last.Ran t }
 
-    module _ (j : ℕ) (h : Handled bodies m) (c : Calm bodies (suc j) m) where
+    module _ (j : ℕ) (c : PlainCalm bodies (suc j) m) where
       abbrev x : Machine P
       x = head_after bodies (suc j) t m
 
       abbrev all : Machine P
       all = head_after bodies (suc (suc j)) t m
 
-      pub is_x : charges bodies (suc j) m ≡ x
+      pub is_x : plain_charges bodies (suc j) m ≡ x
       is_x = charges_once bodies j t m b (λ i small. c.quiet i (omega arith))
 
       is_all : after_quiet bodies t x ≡ all
       is_all =
-          sym (one_is bodies t x b.alive b.first) ∙ ap (one_charge bodies) (sym is_x) ∙ charges_once bodies (suc j) t m b c.quiet
-
-      handled_x : Handled bodies x
-      handled_x = subst (Handled bodies) is_x (charges_handled bodies (suc j) m h c)
+          sym (one_is bodies t x b.alive b.first) ∙ ap (one_plain bodies) (sym is_x) ∙ charges_once bodies (suc j) t m b c.quiet
 
       left_x : (l : ℕ) × (top_left (thread_at x t).frames ≡ suc l)
       left_x =
-          let at = charges bodies j m in
+          let at = plain_charges bodies j m in
           let on = begins_on bodies j t m b in
           let l = left_at t at on (c.quiet j (omega arith)) in
           (l.0, ap (λ (n : Machine P). top_left (thread_at n t).frames) (sym is_x) ∙ ap (λ (th : Thread P). top_left th.frames) (head_at t at on) ∙ l.1)
@@ -220,12 +216,12 @@ module _ {P : Type 0} (bodies : Bodies P) where
           ∙ high_of (thread_at m t).server (subst (λ (p : Plans). StaysHigh (suc (suc j)) p.server) (in_unit_plans bodies (thread_at m t)) (stays_high bodies (suc j) t m b c.quiet))
 
       -- the last tick, from so many charges, is the end of one leap of all of them
-      pub last_is_leap : tick_of bodies (charges bodies (suc j) m) ≡ ran (leap_runs bodies (suc (suc j)) (Some t) (turn_of given))
-      last_is_leap =
+      pub last_is_leap : Handled bodies (plain_charges bodies (suc j) m) → Begun (Some t) (plain_charges bodies (suc j) m) → tick_of bodies (plain_charges bodies (suc j) m) ≡ ran (leap_runs bodies (suc (suc j)) (Some t) (turn_of given))
+      last_is_leap hx begun =
           ap (tick_of bodies) is_x
-          ∙ tick_handled bodies x handled_x
+          ∙ tick_handled bodies x (subst (Handled bodies) is_x hx)
           ∙ ap (λ (o : Option ℕ). ran (unless_killed o (runs_head bodies) (turn_of x))) b.alive
-          ∙ ap (λ (o : Option ℕ). ran (runs bodies o (dispatches o (turn_of x)))) b.first
-          ∙ ap (λ (s : Turn P). ran (runs bodies (Some t) s)) (dispatched_again t x refl)
+          ∙ ap (λ (o : Option ℕ). ran (runs bodies o (prepares o (turn_of x)))) b.first
+          ∙ ap (λ (s : Turn P). ran (runs bodies (Some t) s)) (prepares_nothing (Some t) x (subst (Begun (Some t)) is_x begun))
           ∙ ap (λ (s : Turn P). ran (sweeps bodies (tick_ends (has_high (thread_at x t).server) t s))) units_same
           ∙ ap (λ (was_high : Bool). ran (sweeps bodies (tick_ends was_high t leapt_unit))) high_same

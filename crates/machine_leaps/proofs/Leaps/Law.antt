@@ -14,7 +14,7 @@ use Rattle.machine_rules.specs.Delivery.{sweeps}
 use Rattle.machine_rules.specs.DueItems.{instant}
 use Rattle.machine_rules.specs.Dispatch.{dispatch_event, dispatch_of, dispatches, head, is_same, tells_unless}
 use Rattle.machine_rules.specs.Units.{in_unit}
-use Rattle.machine_rules.specs.Ticks.{completes, later, runs, runs_head, tick_ends, unless_killed}
+use Rattle.machine_rules.specs.Ticks.{completes, later, runs, runs_head, tick_ends, unless_killed, prepares}
 use Rattle.machine_rules.specs.Runs.{Ran, ran, tick_of, ticks}
 use Rattle.machine_rules.proofs.Behind.{AddsBehind, behind}
 use Rattle.machine_rules.proofs.BehindTicks.{completes_behind, sweeps_behind, tick_ends_behind}
@@ -26,10 +26,15 @@ use Rattle.machine_moves.proofs.Runs.Ticks.{dispatched}
 use Rattle.machine_moves.proofs.Runs.Since.{dispatched_direct}
 use Rattle.leap_rules.specs.Quiet.{told_with_dispatch}
 use Rattle.machine_leaps.proofs.Quiet.Runs.{charges}
-use Rattle.machine_leaps.proofs.Quiet.Once.{StaysHigh, charged_is, idle_once}
+use Rattle.machine_leaps.proofs.Quiet.Once.{StaysHigh, charged_is, idle_once, Begins}
 use Rattle.machine_leaps.proofs.Quiet.Events.{nothing_more}
-use Rattle.machine_leaps.proofs.Leaps.Calm.{Calm, Handled, calm_then_tick, charges_handled, tick_handled}
+use Rattle.machine_leaps.proofs.Leaps.Calm.{Calm, Handled, calm_then_tick, charges_handled, tick_handled, steady}
 use Rattle.machine_leaps.proofs.Leaps.LastTick.{last_is_leap}
+use Rattle.machine_rules.proofs.Parts.{prepares_unended}
+use Rattle.machine_moves.proofs.Runs.Preparing.{alike_runs}
+use Rattle.machine_leaps.proofs.Quiet.Prepared.{Begun, prepares_nothing}
+use Rattle.machine_leaps.proofs.Quiet.Charges.{prepared_machine, sent_last}
+use Rattle.machine_leaps.proofs.Leaps.Bridge.{bridge, going_at, plain_of, ready_alive, ready_first}
 
 module _ {P : Type 0} (bodies : Bodies P) where
   pub leap_runs_behind : (k : ℕ) (to : Option ℕ) → AddsBehind (leap_runs bodies k to)
@@ -58,47 +63,50 @@ module _ {P : Type 0} (bodies : Bodies P) where
 
   -- ---- the last tick of more, by the head
 
-  abbrev given : Option ℕ → Machine P → Machine P
-  given to m = record m { last = dispatch_of to }
-
-  idle_again : (x : Machine P) → x.last ≡ last.Idle → dispatches None (turn_of x) ≡ turn_of x
-  idle_again x e =
-      ap (λ (b : Bool). record (tells_unless b (dispatch_event x None) (turn_of x)) { machine = record ((tells_unless b (dispatch_event x None) (turn_of x)).machine) { last = last.Idle } })
-      (ap (λ (l : LastDispatch). is_same l None) e)
-      ∙ ap (λ (l : LastDispatch). turn_of (record x { last = l })) (sym e)
-
-  last_by : (to : Option ℕ) (j : ℕ) (m : Machine P) → m.killed ≡ None → head m ≡ to → Handled bodies m → Calm bodies (suc j) m → tick_of bodies (charges bodies (suc j) m) ≡ ran (leap_runs bodies (suc (suc j)) to (turn_of (given to m)))
+  last_by : (to : Option ℕ) (j : ℕ) (m : Machine P) → m.killed ≡ None → head m ≡ to → Handled bodies m → Calm bodies (suc j) m → tick_of bodies (charges bodies (suc j) m) ≡ ran (leap_runs bodies (suc (suc j)) to (turn_of (prepares to (turn_of m)).machine))
   last_by None j m alive first h c =
-      let x : Machine P = record m { now = m.now + suc j; last = last.Idle } in
-      let is_x = idle_once bodies j m alive first in
-      let more : m.now + suc j + 1 ≡ m.now + suc (suc j) = omega arith in
-      ap (tick_of bodies) is_x
-      ∙ tick_handled bodies x (subst (Handled bodies) is_x (charges_handled bodies (suc j) m h c))
-      ∙ ap (λ (o : Option ℕ). ran (unless_killed o (runs_head bodies) (turn_of x))) alive
-      ∙ ap (λ (o : Option ℕ). ran (runs bodies o (dispatches o (turn_of x)))) first
-      ∙ ap (λ (s : Turn P). ran (runs bodies None s)) (idle_again x refl)
-      ∙ ap (λ (n : ℕ). ran (turn_of (record m { now = n; last = last.Idle }))) more
+      let r = (prepares None (turn_of m)).machine in
+      let x : Machine P = record r { now = r.now + suc j; last = last.Idle } in
+      let g = going_at bodies None m alive first j in
+      let is_x = idle_once bodies j r (ready_alive bodies None m alive first) (ready_first bodies None m alive first) in
+      let more : r.now + suc j + 1 ≡ r.now + suc (suc j) = omega arith in
+      let sent' = sent_last bodies None (turn_of m) in
+      ap (tick_of bodies) (bridge bodies None m alive first j ∙ is_x)
+      ∙ tick_handled bodies x (subst (Handled bodies) (bridge bodies None m alive first j ∙ is_x) (charges_handled bodies (suc j) m h c))
+      ∙ ap (λ (o : Option ℕ). ran (unless_killed o (runs_head bodies) (turn_of x))) (ready_alive bodies None m alive first)
+      ∙ ap (λ (o : Option ℕ). ran (runs bodies o (prepares o (turn_of x)))) (ready_first bodies None m alive first)
+      ∙ ap (λ (s : Turn P). ran (runs bodies None s)) (prepares_nothing None x (subst (Begun None) is_x g.begun))
+      ∙ ap (λ (n : ℕ). ran (turn_of (record r { now = n; last = last.Idle }))) more
+      ∙ ap (λ (l : LastDispatch). ran (turn_of (record r { now = r.now + suc (suc j); last = l }))) (sym sent')
   last_by (Some t) j m alive first h c =
-      last_is_leap bodies t m (record { alive = alive; first = first; here = running_within m.threads t (head_can_run m t h.listed first) }) j h c
+      let r = (prepares (Some t) (turn_of m)).machine in
+      let can = head_can_run m t h.listed first in
+      let so = (steady bodies (Some t) m h first).so in
+      let g = going_at bodies (Some t) m alive first j in
+      let same = bridge bodies (Some t) m alive first j in
+      let begins : Begins bodies t r = record { alive = ready_alive bodies (Some t) m alive first; first = ready_first bodies (Some t) m alive first; here = running_within r.threads t (alike_runs m r t so.alike can) } in
+      ap (tick_of bodies) same
+      ∙ last_is_leap bodies t r begins j (plain_of bodies (Some t) m alive first h (suc j) c) (subst (Handled bodies) same (charges_handled bodies (suc j) m h c)) g.begun
+      ∙ ap (λ (l : LastDispatch). ran (leap_runs bodies (suc (suc j)) (Some t) (turn_of (record r { last = l })))) (sym (sent_last bodies (Some t) (turn_of m)))
 
   -- ---- the law
 
-  begun_is : (to : Option ℕ) (s : Turn P) → s.direct ≡ [] → dispatches to s ≡ behind (dispatches to s).events (turn_of (given to s.machine))
+  begun_is : (to : Option ℕ) (s : Turn P) → s.direct ≡ [] → prepares to s ≡ behind (prepares to s).events (turn_of (prepares to (turn_of s.machine)).machine)
   begun_is to s none =
-      let d = dispatches to s in
-      ap (λ (m : Machine P). record { machine = m; direct = d.direct; events = d.events }) (dispatched to s)
-      ∙ ap (λ (ns : List ℕ). record { machine = given to s.machine; direct = ns; events = d.events }) (dispatched_direct to s ∙ none)
-      ∙ ap (λ (es : List Entry). record { machine = given to s.machine; direct = []; events = es }) (sym (nothing_more d.events))
+      let d = prepares to s in
+      ap (λ (m : Machine P). record { machine = m; direct = d.direct; events = d.events }) (prepared_machine bodies to s none)
+      ∙ ap (λ (ns : List ℕ). record { machine = (prepares to (turn_of s.machine)).machine; direct = ns; events = d.events }) ((prepares_unended to s).direct ∙ none)
+      ∙ ap (λ (es : List Entry). record { machine = (prepares to (turn_of s.machine)).machine; direct = []; events = es }) (sym (nothing_more d.events))
 
-  -- what a leap tells after its dispatch
+  -- what a leap tells after what precedes the tick of the head
   leap_told : (k : ℕ) (to : Option ℕ) (s : Turn P) → s.direct ≡ [] →
-      let l = ran (leap_runs bodies k to (turn_of (given to s.machine))) in
-      ran (leap_runs bodies k to (dispatches to s)) ≡ record { machine = l.machine; events = (dispatches to s).events ++ l.events }
+      let l = ran (leap_runs bodies k to (turn_of (prepares to (turn_of s.machine)).machine)) in
+      ran (leap_runs bodies k to (prepares to s)) ≡ record { machine = l.machine; events = (prepares to s).events ++ l.events }
   leap_told k to s none =
       ap (λ (x : Turn P). ran (leap_runs bodies k to x)) (begun_is to s none)
-      ∙ ap ran (leap_runs_behind k to (dispatches to s).events (turn_of (given to s.machine)))
+      ∙ ap ran (leap_runs_behind k to (prepares to s).events (turn_of (prepares to (turn_of s.machine)).machine))
 
-  leap_alive : (k : ℕ) (s : Turn P) → s.machine.killed ≡ None → leap_goes_on bodies k s ≡ leap_runs bodies k (head s.machine) (dispatches (head s.machine) s)
+  leap_alive : (k : ℕ) (s : Turn P) → s.machine.killed ≡ None → leap_goes_on bodies k s ≡ leap_runs bodies k (head s.machine) (prepares (head s.machine) s)
   leap_alive k s alive = ap (λ (o : Option ℕ). unless_killed o (leap_head bodies k) s) alive
 
   pub leap_is_ticks : (j : ℕ) (m : Machine P) → let s = instant bodies (turn_of m) in s.direct ≡ [] → Handled bodies s.machine → s.machine.killed ≡ None → Calm bodies j s.machine →
@@ -106,7 +114,7 @@ module _ {P : Type 0} (bodies : Bodies P) where
   leap_is_ticks zero m none h alive c =
       let s = instant bodies (turn_of m) in
       ap ran (leap_alive 1 s alive)
-      ∙ ap ran (sym (one_leap (head s.machine) (dispatches (head s.machine) s)))
+      ∙ ap ran (sym (one_leap (head s.machine) (prepares (head s.machine) s)))
       ∙ sym (ap (λ (o : Option ℕ). ran (unless_killed o (runs_head bodies) s)) alive)
   leap_is_ticks (suc j) m none h alive c =
       let s = instant bodies (turn_of m) in
@@ -115,4 +123,4 @@ module _ {P : Type 0} (bodies : Bodies P) where
       ∙ leap_told (suc (suc j)) to s none
       ∙ sym (calm_then_tick bodies j m none h c
       ∙ ap (λ (r : Ran P). record { machine = r.machine; events = told_with_dispatch s.machine.killed s ++ r.events }) (last_by to j s.machine alive refl h c)
-      ∙ ap (λ (o : Option ℕ). (let l = ran (leap_runs bodies (suc (suc j)) to (turn_of (given to s.machine))) in record { machine = l.machine; events = told_with_dispatch o s ++ l.events })) alive)
+      ∙ ap (λ (o : Option ℕ). (let l = ran (leap_runs bodies (suc (suc j)) to (turn_of (prepares to (turn_of s.machine)).machine)) in record { machine = l.machine; events = told_with_dispatch o s ++ l.events })) alive)

@@ -5,27 +5,31 @@ use Rattle.std.specs.Prelude.{filter, is_some, map, max, min, nat_le, option_map
 use mathlib.Core.Path.{subst, ◌∙◌}
 use Rattle.script_tree.specs.declared.policy.Policy.{Policy}
 use Rattle.script_tree.specs.declared.policy.Policy.TheVariants as policy
-use Rattle.sporadic_server.specs.Server.{ServerState, charge_ticks, is_high}
+use Rattle.pse52_trace.specs.declared.event.Event.{Event}
+use Rattle.sporadic_server.specs.Server.{ServerState, activate, charge_ticks, is_high, plan}
 use Rattle.machine_rules.specs.Bodies.{Bodies}
 use Rattle.machine_rules.specs.State.{Frame, Machine, Thread}
-use Rattle.machine_rules.specs.Threads.{thread_at, top_left}
-use Rattle.machine_rules.specs.Turns.{turn_of}
-use Rattle.machine_rules.specs.Servers.{has_high}
+use Rattle.machine_rules.specs.Threads.{can_run, no_thread, thread_at, top_left}
+use Rattle.machine_rules.specs.Turns.{Turn, changes, turn_of}
+use Rattle.machine_rules.specs.Servers.{has_high, plans_server, with_server}
 use Rattle.machine_rules.specs.Agenda.{Coming, agenda, due_by, items_due}
 use Rattle.machine_rules.specs.DueItems.{first_item, instant, next_item}
-use Rattle.machine_rules.specs.Dispatch.{head}
-use Rattle.machine_rules.specs.Ticks.{capacity_in, slice_is_used, unless_killed}
+use Rattle.machine_rules.specs.Dispatch.{dispatch_event, dispatch_of, head, is_same, tells_unless}
+use Rattle.machine_rules.specs.Ticks.{capacity_in, prepares, slice_is_used, unless_killed}
 use Rattle.machine_rules.specs.Runs.{Ran, ran, ticks}
 use Rattle.machine_rules.specs.Eventful.{has_item, is_eventful, next_tick_matters, tick_matters}
+use Rattle.machine_rules.proofs.Reading.{changed-keeps}
 use Rattle.machine_moves.proofs.Waiters.Best.{running_within}
+use Rattle.machine_moves.proofs.Runs.Preparing.{PreparingKeeps, alike_runs, prepares_keep}
 use Rattle.machine_moves.proofs.Runs.Listed.{head_can_run}
 use Rattle.machine_laws.proofs.Agenda.{due_are_of_agenda}
 use Rattle.machine_laws.proofs.Lists.Kept.{Plans, in_unit_plans}
 use Rattle.leap_rules.specs.Quiet.{after_ticks, frames_after, server_after, slice_after}
 use Rattle.leap_rules.specs.Leap.{IsLeap, capacity_left, head_lasts, later_by, leap_head, leap_length, length_from, slice_left, thread_lasts, ticks_to_next}
 use Rattle.machine_leaps.proofs.Quiet.Once.{Begins, unit_of}
-use Rattle.machine_leaps.proofs.Leaps.Calm.{Calm, EndsAt, Handled, calm_ticks, ends_eventful, matters_after}
-use Rattle.machine_leaps.proofs.Leaps.Bounds.{CapacityLasts, Lasts, NothingDue, SliceLasts, charged_capacity, idle_calm, idle_ends, lasts_calm, no_calm, stops_ends}
+use Rattle.machine_leaps.proofs.Leaps.Calm.{Calm, EndsAt, Handled, calm_ticks, ends_eventful, matters_after, steady}
+use Rattle.machine_leaps.proofs.Leaps.Bounds.{CapacityLasts, Lasts, NothingDue, SliceLasts, charged_capacity, idle_calm, idle_ends, lasts_calm, no_plain, stops_ends}
+use Rattle.machine_leaps.proofs.Leaps.Bridge.{PlainCalm, PlainEndsAt, calm_of, ends_of, ready_alive, ready_first}
 use Rattle.machine_leaps.proofs.Leaps.Law.{leap_is_ticks}
 use Rattle.machine_leaps.proofs.Leaps.Ended.{ended_calm, ended_ticks}
 
@@ -74,6 +78,7 @@ slice_lasts : (most k quantum : ℕ) (p : Policy) (slice : ℕ) → 1 ≤ k → 
 slice_lasts most k quantum (policy.Fifo p) slice some le = tt
 slice_lasts most k quantum (policy.Rr p) slice some le = omega arith
 slice_lasts most k quantum (policy.Sporadic params) slice some le = tt
+slice_lasts most k quantum (policy.Strict params) slice some le = tt
 
 capacity_lasts : (most k : ℕ) (o : Option ServerState) → k ≤ capacity_left most o → CapacityLasts k o
 capacity_lasts most k None le = tt
@@ -106,6 +111,7 @@ slice_ends most k quantum (policy.Rr p) slice room lt le top = (let same : slice
     equal : slice + k ≡ quantum → (slice + k == quantum) ≡ true
     equal e = grind arith
 slice_ends most k quantum (policy.Sporadic params) slice room lt le top = absurd (omega arith)
+slice_ends most k quantum (policy.Strict params) slice room lt le top = absurd (omega arith)
 
 capacity_ends : (most k : ℕ) (o : Option ServerState) → capacity_left most o < most → capacity_left most o ≤ k → (has_high o && capacity_in (option_map (server_after k) o) == 0) ≡ true
 capacity_ends most k None lt le = absurd (omega arith)
@@ -186,44 +192,81 @@ module _ {P : Type 0} (bodies : Bodies P) where
       (ap (λ (x : Ran P). has_item x.machine) (calm_ticks bodies i m r.still r.handled calm quiet) ∙ ap is_some (c.idle i (omega arith)))
       (matters_after bodies i m r.still r.handled calm ∙ quiet)
 
-  module _ (m : Machine P) (alive : m.killed ≡ None) (h : Handled bodies m) (slices : (t : ℕ) → (thread_at m t).slice < m.quantum) (most j : ℕ) where
-    abbrev to_next : ℕ
-    to_next = ticks_to_next most m.now (agenda m)
+  -- what precedes the tick of the head leaves the intervals of all
+  abbrev InSlices : Turn P → Type 0
+  InSlices s = (u : ℕ) → (thread_at s.machine u).slice < s.machine.quantum
 
-    begins : (t : ℕ) → head m ≡ Some t → Begins bodies t m
-    begins t e = record { alive = alive; first = e; here = running_within m.threads t (head_can_run m t h.listed e) }
+  one_slice : (t : ℕ) (f : ServerState → ServerState) (s : Turn P) → InSlices s → InSlices (changes t (with_server f) s)
+  one_slice t f s q u = subst (λ (n : ℕ). n < s.machine.quantum) (sym (changed-keeps no_thread t u (with_server f) (λ (th : Thread P). th.slice) (λ th. refl) s.machine.threads)) (q u)
+
+  plans_slice : (t : ℕ) (o : Option ServerState) (s : Turn P) → InSlices s → InSlices (plans_server t o s)
+  plans_slice t None s q = q
+  plans_slice t (Some x) s q = one_slice t plan s q
+
+  sent_slice : (b : Bool) (to : Option ℕ) (e : Event) (s : Turn P) → InSlices s → InSlices (record s { machine = record (tells_unless b e s).machine { last = dispatch_of to }; direct = (tells_unless b e s).direct; events = (tells_unless b e s).events })
+  sent_slice true to e s q = q
+  sent_slice false to e s q = q
+
+  in_slices : PreparingKeeps InSlices
+  in_slices = record {
+    closes = λ t s run q. plans_slice t (thread_at s.machine t).server s q;
+    sent = λ to s off q. sent_slice (is_same s.machine.last to) to (dispatch_event s.machine to) s q;
+    opens = λ t x s runs is may q. one_slice t (activate s.machine.now) s q;
+  }
+
+  module _ (to : Option ℕ) (m : Machine P) (alive : m.killed ≡ None) (first : head m ≡ to) (h : Handled bodies m) (slices : (t : ℕ) → (thread_at m t).slice < m.quantum) (most j : ℕ) where
+    abbrev r : Machine P
+    r = (prepares to (turn_of m)).machine
+
+    abbrev to_next : ℕ
+    to_next = ticks_to_next most r.now (agenda r)
+
+    r_alive : r.killed ≡ None
+    r_alive = ready_alive bodies to m alive first
+
+    r_first : head r ≡ to
+    r_first = ready_first bodies to m alive first
+
+    can : (t : ℕ) → to ≡ Some t → can_run m t ≡ true
+    can t e = head_can_run m t h.listed (first ∙ e)
+
+    r_slices : (t : ℕ) → (thread_at r t).slice < r.quantum
+    r_slices = (prepares_keep InSlices in_slices to (turn_of m) can slices).0
+
+    begins : (t : ℕ) → to ≡ Some t → Begins bodies t r
+    begins t e = record { alive = r_alive; first = r_first ∙ e; here = running_within r.threads t (alike_runs m r t (steady bodies to m h first).so.alike (can t e)) }
 
     -- all ticks but the last are calm
-    calm_by : (to : Option ℕ) → head m ≡ to → suc j ≤ max 1 (min to_next (head_lasts bodies most to m)) → Calm bodies j m
-    calm_by to e le = by_number j refl le
+    plain_by : suc j ≤ max 1 (min to_next (head_lasts bodies most to r)) → PlainCalm bodies j r
+    plain_by le = by_number j refl le
       where
-        by_number : (i : ℕ) → j ≡ i → suc j ≤ max 1 (min to_next (head_lasts bodies most to m)) → Calm bodies j m
-        by_number zero same le = subst (λ (n : ℕ). Calm bodies n m) (sym same) (no_calm bodies m)
-        by_number (suc i) same le = by_head to e (omega arith) (omega arith)
+        by_number : (i : ℕ) → j ≡ i → suc j ≤ max 1 (min to_next (head_lasts bodies most to r)) → PlainCalm bodies j r
+        by_number zero same le = subst (λ (n : ℕ). PlainCalm bodies n r) (sym same) (no_plain bodies r)
+        by_number (suc i) same le = by_head to refl (omega arith) (omega arith)
           where
-            by_head : (o : Option ℕ) → head m ≡ o → suc j ≤ to_next → suc j ≤ head_lasts bodies most o m → Calm bodies j m
-            by_head None e near long = idle_calm bodies m alive e j (none_before m alive (suc j) most near)
-            by_head (Some t) e near long = lasts_calm bodies t m (begins t e) h j (lasts most (suc j) m.quantum (unit_of bodies t m) (omega arith) long) (none_before m alive (suc j) most near)
+            by_head : (o : Option ℕ) → to ≡ o → suc j ≤ to_next → suc j ≤ head_lasts bodies most o r → PlainCalm bodies j r
+            by_head None e near long = idle_calm bodies r r_alive (r_first ∙ e) j (none_before r r_alive (suc j) most near)
+            by_head (Some t) e near long = lasts_calm bodies t r (begins t e) j (lasts most (suc j) r.quantum (unit_of bodies t r) (omega arith) long) (none_before r r_alive (suc j) most near)
 
     -- where it goes no further than to the nearest due tick
-    ends_due : (to : Option ℕ) → head m ≡ to → Calm bodies j m → to_next < most → to_next ≤ suc j → EndsAt bodies j m
-    ends_due None e c lt le = idle_ends bodies m alive e j (comes_at m alive (suc j) most lt le)
-    ends_due (Some t) e c lt le = stops_ends bodies t m (begins t e) h j c (λ quiet. comes_at m alive (suc j) most lt le)
+    ends_due : (o : Option ℕ) → to ≡ o → PlainCalm bodies j r → to_next < most → to_next ≤ suc j → PlainEndsAt bodies j r
+    ends_due None e c lt le = idle_ends bodies r r_alive (r_first ∙ e) j (comes_at r r_alive (suc j) most lt le)
+    ends_due (Some t) e c lt le = stops_ends bodies t r (begins t e) j c (λ quiet. comes_at r r_alive (suc j) most lt le)
 
     -- where it goes no further than the head lasts
-    ends_unit : (to : Option ℕ) → head m ≡ to → Calm bodies j m → head_lasts bodies most to m < most → head_lasts bodies most to m ≤ suc j → suc j ≤ max 1 (head_lasts bodies most to m) → EndsAt bodies j m
+    ends_unit : (o : Option ℕ) → to ≡ o → PlainCalm bodies j r → head_lasts bodies most o r < most → head_lasts bodies most o r ≤ suc j → suc j ≤ max 1 (head_lasts bodies most o r) → PlainEndsAt bodies j r
     ends_unit None e c lt le top = absurd (omega arith)
     ends_unit (Some t) e c lt le top =
-        let unit = unit_of bodies t m in
-        let room : unit.slice < m.quantum = subst (λ (n : ℕ). n < m.quantum) (sym (ap (λ (p : Plans). p.slice) (in_unit_plans bodies (thread_at m t)))) (slices t) in
-        let ends = thread_ends most (suc j) m.quantum unit room lt le top in
-        stops_ends bodies t m (begins t e) h j c (λ quiet. absurd (contra ends quiet))
+        let unit = unit_of bodies t r in
+        let room : unit.slice < r.quantum = subst (λ (n : ℕ). n < r.quantum) (sym (ap (λ (p : Plans). p.slice) (in_unit_plans bodies (thread_at r t)))) (r_slices t) in
+        let ends = thread_ends most (suc j) r.quantum unit room lt le top in
+        stops_ends bodies t r (begins t e) j c (λ quiet. absurd (contra ends quiet))
       where
         contra : {b : Bool} → b ≡ true → b ≡ false → ⊥
         contra p q = grind arith
 
-    ends_by : Calm bodies j m → suc j ≡ max 1 (min most (min to_next (head_lasts bodies most (head m) m))) → suc j < most → EndsAt bodies j m
-    ends_by c e lt = by_nearer (nat_le to_next (head_lasts bodies most (head m) m)) refl
+    plain_ends : PlainCalm bodies j r → suc j ≡ max 1 (min most (min to_next (head_lasts bodies most to r))) → suc j < most → PlainEndsAt bodies j r
+    plain_ends c e lt = by_nearer (nat_le to_next (head_lasts bodies most to r)) refl
       where
         first_near : (n l : ℕ) → suc j ≡ max 1 (min most (min n l)) → nat_le n l ≡ true → (n < most) × (n ≤ suc j)
         first_near n l e h = (grind arith, grind arith)
@@ -231,9 +274,15 @@ module _ {P : Type 0} (bodies : Bodies P) where
         second_near : (n l : ℕ) → suc j ≡ max 1 (min most (min n l)) → nat_le n l ≡ false → (l < most) × (l ≤ suc j) × (suc j ≤ max 1 l)
         second_near n l e h = (grind arith, grind arith, grind arith)
 
-        by_nearer : (b : Bool) → nat_le to_next (head_lasts bodies most (head m) m) ≡ b → EndsAt bodies j m
-        by_nearer true h = let k = first_near to_next (head_lasts bodies most (head m) m) e h in ends_due (head m) refl c k.0 k.1
-        by_nearer false h = let k = second_near to_next (head_lasts bodies most (head m) m) e h in ends_unit (head m) refl c k.0 k.1 k.2
+        by_nearer : (b : Bool) → nat_le to_next (head_lasts bodies most to r) ≡ b → PlainEndsAt bodies j r
+        by_nearer true h = let k = first_near to_next (head_lasts bodies most to r) e h in ends_due to refl c k.0 k.1
+        by_nearer false h = let k = second_near to_next (head_lasts bodies most to r) e h in ends_unit to refl c k.0 k.1 k.2
+
+    calm_by : suc j ≤ max 1 (min to_next (head_lasts bodies most to r)) → Calm bodies j m
+    calm_by le = calm_of bodies to m alive first h j (plain_by le)
+
+    ends_by : suc j ≡ max 1 (min most (min to_next (head_lasts bodies most to r))) → suc j < most → EndsAt bodies j m
+    ends_by e lt = ends_of bodies to m alive first h j (plain_ends (plain_by (omega (arith, e))) e lt)
 
   -- ---- the law
 
@@ -241,13 +290,14 @@ module _ {P : Type 0} (bodies : Bodies P) where
   leap_alive m most zero some r alive e = absurd (omega arith)
   leap_alive m most (suc j) some r alive e =
       let s = instant bodies (turn_of m) in
-      let c = calm_by s.machine alive r.handled r.slices most j (head s.machine) refl (omega arith) in
+      let n = s.machine in
+      let c : Calm bodies j n = calm_by (head n) n alive refl r.handled r.slices most j (omega (arith, e)) in
       record {
         some = omega arith;
         within = omega arith;
         same = leap_is_ticks bodies j m r.still r.handled alive c;
         inside = calm_inside j m r c;
-        ends = λ lt. ends_eventful bodies j m r.still r.handled c (ends_by s.machine alive r.handled r.slices most j c e lt);
+        ends = λ lt. ends_eventful bodies j m r.still r.handled c (ends_by (head n) n alive refl r.handled r.slices most j e lt);
       }
 
   leap_ended : (m : Machine P) (most : ℕ) (signal : ℕ) → 1 ≤ most → IsReady m → (instant bodies (turn_of m)).machine.killed ≡ Some signal → IsLeap bodies most most m

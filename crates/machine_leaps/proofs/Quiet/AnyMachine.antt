@@ -22,9 +22,12 @@ use Rattle.leap_rules.specs.Quiet.{AreCharges, IsHandled, IsQuiet, at_once, one_
 use Rattle.machine_leaps.proofs.Quiet.Ticks.{idle_items}
 use Rattle.machine_leaps.proofs.Quiet.Runs.{charges, first_of, nothing_due, second_of}
 use Rattle.machine_leaps.proofs.Quiet.Once.{charges_once, idle_once}
-use Rattle.machine_leaps.proofs.Leaps.Calm.{Calm, Handled, calm_ticks, matters_after}
+use Rattle.machine_leaps.proofs.Leaps.Calm.{Calm, Handled, calm_ticks, matters_after, steady}
 use Rattle.machine_leaps.proofs.Leaps.Bounds.{more_calm, no_calm}
 use Rattle.machine_leaps.proofs.Leaps.Ended.{ended_stays}
+use Rattle.machine_rules.specs.Ticks.{prepares}
+use Rattle.machine_moves.proofs.Runs.Preparing.{alike_runs}
+use Rattle.machine_leaps.proofs.Leaps.Bridge.{bridge, matters_at, ready_alive, ready_first}
 
 -- ---- where the threads stand, by the index of a list
 
@@ -84,9 +87,14 @@ module _ {P : Type 0} (bodies : Bodies P) where
   pub charged_at_once : (j : ℕ) (m : Machine P) → Handled bodies m → ((i : ℕ) → i < j → unless_ended bodies (charges bodies i m).killed (charges bodies i m) ≡ false) → charges bodies (suc j) m ≡ at_once bodies (suc j) m
   charged_at_once j m h quiet = by_killed m.killed refl
     where
-      by_head : (o : Option ℕ) → m.killed ≡ None → head m ≡ o → charges bodies (suc j) m ≡ ticks_of_head bodies (suc j) o m
-      by_head None alive e = idle_once bodies j m alive e
-      by_head (Some t) alive e = charges_once bodies j t m (record { alive = alive; first = e; here = running_within m.threads t (head_can_run m t h.listed e) }) quiet
+      by_head : (o : Option ℕ) → m.killed ≡ None → head m ≡ o → charges bodies (suc j) m ≡ ticks_of_head bodies (suc j) o (prepares o (turn_of m)).machine
+      by_head None alive e = bridge bodies None m alive e j ∙ idle_once bodies j (prepares None (turn_of m)).machine (ready_alive bodies None m alive e) (ready_first bodies None m alive e)
+      by_head (Some t) alive e =
+          let r = (prepares (Some t) (turn_of m)).machine in
+          let so = (steady bodies (Some t) m h e).so in
+          bridge bodies (Some t) m alive e j
+          ∙ charges_once bodies j t r (record { alive = ready_alive bodies (Some t) m alive e; first = ready_first bodies (Some t) m alive e; here = running_within r.threads t (alike_runs m r t so.alike (head_can_run m t h.listed e)) })
+          (λ i small. sym (matters_at bodies (Some t) m alive e h i) ∙ quiet i small)
 
       by_killed : (o : Option ℕ) → m.killed ≡ o → charges bodies (suc j) m ≡ ticks_unless_killed bodies (suc j) o m
       by_killed None alive = by_head (head m) alive refl

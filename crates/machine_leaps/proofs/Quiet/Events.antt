@@ -15,34 +15,40 @@ use Rattle.machine_rules.specs.WellFormed.{IsWellFormed}
 use Rattle.leap_rules.specs.Quiet.{IsQuietBetween, told_with_dispatch}
 use Rattle.leap_rules.specs.Quiet.{charged_head, charged_unless_killed, one_charge, told_with_dispatch}
 use Rattle.machine_leaps.proofs.Quiet.Runs.{first_of, handled, handled_nothing, later_by, later_is, tick_charges, tick_quiet}
+use Rattle.ready_lists.specs.Lists.{highest}
+use Rattle.machine_rules.specs.Ticks.{prepares}
+use Rattle.machine_rules.proofs.Parts.{prepares_unended}
+use Rattle.machine_moves.proofs.Runs.Preparing.{prepared}
+use Rattle.machine_leaps.proofs.Quiet.Prepared.{charged_begun, prepared_lists, prepares_nothing}
 
 pub nothing_more : {X : Type 0} (xs : List X) → xs ++ [] ≡ xs
 nothing_more [] = refl
 nothing_more (x ∷ xs) = ap (λ ys. x ∷ ys) (nothing_more xs)
 
-pub same_again : (o : Option ℕ) → is_same (dispatch_of o) o ≡ true
-same_again None = refl
-same_again (Some t) = grind arith
-
 module _ {P : Type 0} (bodies : Bodies P) where
+  pub charged_killed : (o : Option ℕ) (m : Machine P) → (charged_head bodies o m).killed ≡ m.killed
+  charged_killed None m = refl
+  charged_killed (Some t) m = refl
+
+  pub charged_lists : (o : Option ℕ) (m : Machine P) → head (charged_head bodies o m) ≡ head m
+  charged_lists None m = refl
+  charged_lists (Some t) m = refl
+
   abbrev pub told : Turn P → List Entry
   told s = told_with_dispatch s.machine.killed s
-
-  -- a dispatch of the same is not told
-  dispatched_silent : (m : Machine P) (o : Option ℕ) → m.last ≡ dispatch_of o → (dispatches o (turn_of m)).events ≡ []
-  dispatched_silent m o e = ap (λ (b : Bool). (tells_unless b (dispatch_event m o) (turn_of m)).events) (ap (λ l. is_same l o) e ∙ same_again o)
 
   -- nothing is told in a tick from a machine that one charge left
   pub silent : (m : Machine P) → told (turn_of (one_charge bodies m)) ≡ []
   silent m = by_killed m.killed refl
     where
-      by_head : (o : Option ℕ) → head m ≡ o → m.killed ≡ None → told (turn_of (charged_head bodies o m)) ≡ []
-      by_head None first alive =
-          let n = charged_head bodies None m in
-          ap (λ (k : Option ℕ). told_with_dispatch k (turn_of n)) alive ∙ ap (λ (o : Option ℕ). (dispatches o (turn_of n)).events) first ∙ dispatched_silent n None refl
-      by_head (Some t) first alive =
-          let n = charged_head bodies (Some t) m in
-          ap (λ (k : Option ℕ). told_with_dispatch k (turn_of n)) alive ∙ ap (λ (o : Option ℕ). (dispatches o (turn_of n)).events) first ∙ dispatched_silent n (Some t) refl
+      by_head : (o : Option ℕ) → head m ≡ o → m.killed ≡ None → told (turn_of (charged_head bodies o (prepares o (turn_of m)).machine)) ≡ []
+      by_head o first alive =
+          let ready = prepares o (turn_of m) in
+          let n = charged_head bodies o ready.machine in
+          let begun = charged_begun bodies o ready.machine (prepared o (turn_of m)).closed in
+          ap (λ (k : Option ℕ). told_with_dispatch k (turn_of n)) (charged_killed o ready.machine ∙ (prepares_unended o (turn_of m)).killed ∙ alive)
+          ∙ ap (λ (to : Option ℕ). (prepares to (turn_of n)).events) (charged_lists o ready.machine ∙ ap highest (prepared_lists o m) ∙ first)
+          ∙ ap (λ (s : Turn P). s.events) (prepares_nothing o n begun)
 
       by_killed : (k : Option ℕ) → m.killed ≡ k → told (turn_of (charged_unless_killed bodies k m)) ≡ []
       by_killed None alive = by_head (head m) refl alive

@@ -4,7 +4,9 @@ use Rattle.std.specs.Prelude.{nat_lt, option_map, ◌-◌, ◌==◌, ◌&&◌, �
 use mathlib.Core.Path.{subst, ◌∙◌}
 use Rattle.script_tree.specs.declared.policy.Policy.{Policy}
 use Rattle.script_tree.specs.declared.policy.Policy.TheVariants as policy
-use Rattle.sporadic_server.specs.Server.{ServerState, charge, charge_ticks, is_high}
+use Rattle.sporadic_server.specs.declared.ServerKind.{ServerKind}
+use Rattle.sporadic_server.specs.declared.ServerKind.TheVariants as kind
+use Rattle.sporadic_server.specs.Server.{ServerState, charge, charge_ticks, is_high, is_high_as}
 use Rattle.machine_rules.specs.declared.dispatch.LastDispatch.TheVariants as last
 use Rattle.machine_rules.specs.Lists.{changed_at}
 use Rattle.machine_rules.specs.Bodies.{Bodies}
@@ -21,9 +23,23 @@ use Rattle.leap_rules.specs.Quiet.{after_ticks, frames_after, head_after, server
 use Rattle.machine_laws.proofs.Lists.Kept.{Plans, in_unit_plans}
 use Rattle.machine_leaps.proofs.Quiet.Ticks.{left_over}
 use Rattle.leap_rules.specs.Quiet.{after_quiet}
-use Rattle.leap_rules.specs.Quiet.{charged_head, charged_unless_killed, one_charge}
+use Rattle.leap_rules.specs.Quiet.{charged_head}
 use Rattle.machine_laws.proofs.Signals.Takers.{charge_of}
-use Rattle.machine_leaps.proofs.Quiet.Runs.{charges}
+use Rattle.machine_leaps.proofs.Quiet.Prepared.{one_plain, plain_charges, plain_unless_killed}
+
+-- a server stays high while capacity is left
+pub less_high : (k : ℕ) (s : ServerState) → is_high s ≡ true → (s.capacity - k == 0) ≡ false → is_high_as s.kind (s.capacity - k) (length s.pending) s.params.max ≡ true
+less_high k s h e = by_kind s.kind h
+  where
+    both : (c : ℕ) (b : Bool) → (nat_lt 0 c && b) ≡ true → (c - k == 0) ≡ false → (nat_lt 0 (c - k) && b) ≡ true
+    both c b h l = grind arith
+
+    one : (c : ℕ) → (c - k == 0) ≡ false → nat_lt 0 (c - k) ≡ true
+    one c l = grind arith
+
+    by_kind : (x : ServerKind) → is_high_as x s.capacity (length s.pending) s.params.max ≡ true → is_high_as x (s.capacity - k) (length s.pending) s.params.max ≡ true
+    by_kind kind.Sporadic h = both s.capacity (nat_lt (length s.pending) s.params.max) h e
+    by_kind kind.Strict h = one s.capacity e
 
 -- ---- a charge of k ticks
 
@@ -40,11 +56,13 @@ no_slice : (p : Policy) (slice : ℕ) → slice_after 0 p slice ≡ slice
 no_slice (policy.Fifo p) slice = refl
 no_slice (policy.Rr p) slice = omega arith
 no_slice (policy.Sporadic params) slice = refl
+no_slice (policy.Strict params) slice = refl
 
 more_slice : (k : ℕ) (p : Policy) (slice : ℕ) → slice_charged p (slice_after k p slice) ≡ slice_after (suc k) p slice
 more_slice k (policy.Fifo p) slice = refl
 more_slice k (policy.Rr p) slice = omega arith
 more_slice k (policy.Sporadic params) slice = refl
+more_slice k (policy.Strict params) slice = refl
 
 no_server : (o : Option ServerState) → option_map (server_after 0) o ≡ o
 no_server None = refl
@@ -109,8 +127,8 @@ module _ {P : Type 0} (bodies : Bodies P) where
   head_times k t m = record (with_thread t (λ th. charged_times k (in_unit bodies (thread_at m t)).thread) m) { now = m.now + k; last = last.Ran t }
 
   -- what a machine with that head and that process is charged to
-  pub one_is : (t : ℕ) (m : Machine P) → m.killed ≡ None → head m ≡ Some t → one_charge bodies m ≡ after_quiet bodies t m
-  one_is t m alive first = ap (λ (k : Option ℕ). charged_unless_killed bodies k m) alive ∙ ap (λ (o : Option ℕ). charged_head bodies o m) first
+  pub one_is : (t : ℕ) (m : Machine P) → m.killed ≡ None → head m ≡ Some t → one_plain bodies m ≡ after_quiet bodies t m
+  one_is t m alive first = ap (λ (k : Option ℕ). plain_unless_killed bodies k m) alive ∙ ap (λ (o : Option ℕ). charged_head bodies o m) first
 
   first_of : (a b c : Bool) → (a || b || c) ≡ false → a ≡ false
   first_of a b c e = grind arith
@@ -130,17 +148,17 @@ module _ {P : Type 0} (bodies : Bodies P) where
     here = (let same = changed-length no_thread t (λ th. charge_of bodies (thread_at m t)) m.threads in let h = b.here in omega arith);
   }
 
-  pub begins_on : (k t : ℕ) (m : Machine P) → Begins t m → Begins t (charges bodies k m)
+  pub begins_on : (k t : ℕ) (m : Machine P) → Begins t m → Begins t (plain_charges bodies k m)
   begins_on zero t m b = b
-  begins_on (suc k) t m b = let on = begins_on k t m b in subst (Begins t) (sym (one_is t (charges bodies k m) on.alive on.first)) (charged_begins t (charges bodies k m) on)
+  begins_on (suc k) t m b = let on = begins_on k t m b in subst (Begins t) (sym (one_is t (plain_charges bodies k m) on.alive on.first)) (charged_begins t (plain_charges bodies k m) on)
 
   -- after a charge that does not matter the head is in the midst of its unit
-  in_midst : (t : ℕ) (m : Machine P) → Begins t m → unless_ended bodies m.killed m ≡ false → (in_unit bodies (thread_at (one_charge bodies m) t)).thread ≡ thread_at (one_charge bodies m) t
+  in_midst : (t : ℕ) (m : Machine P) → Begins t m → unless_ended bodies m.killed m ≡ false → (in_unit bodies (thread_at (one_plain bodies m) t)).thread ≡ thread_at (one_plain bodies m) t
   in_midst t m b e =
       let left = left_over (has_high (thread_at m t).server) m.quantum (charge_of bodies (thread_at m t)) (matters_of t m b.alive b.first e) in
-      let it : thread_at (one_charge bodies m) t ≡ charge_of bodies (thread_at m t) =
+      let it : thread_at (one_plain bodies m) t ≡ charge_of bodies (thread_at m t) =
       ap (λ (n : Machine P). thread_at n t) (one_is t m b.alive b.first) ∙ thread-same m t (λ th. charge_of bodies (thread_at m t)) b.here in
-      in_unit_on (thread_at (one_charge bodies m) t) left.0 (ap (λ (th : Thread P). top_left th.frames) it ∙ left.1)
+      in_unit_on (thread_at (one_plain bodies m) t) left.0 (ap (λ (th : Thread P). top_left th.frames) it ∙ left.1)
 
   charged_on : (k t : ℕ) (m : Machine P) → t < length m.threads →
       record (with_thread t (λ th. tick_charged (thread_at (head_times k t m) t)) (head_times k t m)) { now = m.now + k + 1; last = last.Ran t } ≡ head_times (suc k) t m
@@ -152,13 +170,13 @@ module _ {P : Type 0} (bodies : Bodies P) where
       ∙ ap (λ (ths : List (Thread P)). record m { threads = ths; now = m.now + k + 1; last = last.Ran t }) (changed-twice no_thread t (λ y. charged_times k x) (λ y. tick_charged (charged_times k x)) m.threads)
       ∙ ap (λ (n : ℕ). record m { threads = changed_at no_thread t (λ y. charged_times (suc k) x) m.threads; now = n; last = last.Ran t }) more
 
-  charges_are : (k t : ℕ) (m : Machine P) → Begins t m → ((i : ℕ) → i < k → unless_ended bodies (charges bodies i m).killed (charges bodies i m) ≡ false) → charges bodies (suc k) m ≡ head_times (suc k) t m
+  charges_are : (k t : ℕ) (m : Machine P) → Begins t m → ((i : ℕ) → i < k → unless_ended bodies (plain_charges bodies i m).killed (plain_charges bodies i m) ≡ false) → plain_charges bodies (suc k) m ≡ head_times (suc k) t m
   charges_are zero t m b h = one_is t m b.alive b.first
   charges_are (suc k) t m b h =
       let on = begins_on (suc k) t m b in
-      let at = charges bodies (suc k) m in
+      let at = plain_charges bodies (suc k) m in
       let before = charges_are k t m b (λ i small. h i (omega arith)) in
-      let midst = in_midst t (charges bodies k m) (begins_on k t m b) (h k (omega arith)) in
+      let midst = in_midst t (plain_charges bodies k m) (begins_on k t m b) (h k (omega arith)) in
       one_is t at on.alive on.first
       ∙ ap (λ (th : Thread P). record (with_thread t (λ y. tick_charged th) at) { now = at.now + 1; last = last.Ran t }) midst
       ∙ ap (λ (n : Machine P). record (with_thread t (λ y. tick_charged (thread_at n t)) n) { now = n.now + 1; last = last.Ran t }) before
@@ -167,10 +185,7 @@ module _ {P : Type 0} (bodies : Bodies P) where
   -- ---- the server
 
   one_high : (s : ServerState) → (has_high (Some s) && capacity_in (Some (charged s)) == 0) ≡ false → is_high s ≡ true → is_high (charge s) ≡ true
-  one_high s e h = both s.capacity (nat_lt (length s.pending) s.params.max) h (rw h at e)
-    where
-      both : (c : ℕ) (b : Bool) → (nat_lt 0 c && b) ≡ true → (c - 1 == 0) ≡ false → (nat_lt 0 (c - 1) && b) ≡ true
-      both c b h k = grind arith
+  one_high s e h = less_high 1 s h (rw h at e)
 
   last_of : (a b c : Bool) → (a || b || c) ≡ false → c ≡ false
   last_of a b c e = grind arith
@@ -178,18 +193,18 @@ module _ {P : Type 0} (bodies : Bodies P) where
   abbrev pub unit_of : ℕ → Machine P → Thread P
   unit_of t m = (in_unit bodies (thread_at m t)).thread
 
-  server_at : (k t : ℕ) (m : Machine P) → Begins t m → ((i : ℕ) → i < k → unless_ended bodies (charges bodies i m).killed (charges bodies i m) ≡ false) → StaysHigh k (unit_of t m).server →
-      (thread_at (charges bodies k m) t).server ≡ option_map (server_after k) (unit_of t m).server
+  server_at : (k t : ℕ) (m : Machine P) → Begins t m → ((i : ℕ) → i < k → unless_ended bodies (plain_charges bodies i m).killed (plain_charges bodies i m) ≡ false) → StaysHigh k (unit_of t m).server →
+      (thread_at (plain_charges bodies k m) t).server ≡ option_map (server_after k) (unit_of t m).server
   server_at zero t m b h high = sym (no_server (unit_of t m).server ∙ ap (λ (p : Plans). p.server) (in_unit_plans bodies (thread_at m t)))
   server_at (suc k) t m b h high =
       ap (λ (n : Machine P). (thread_at n t).server) (charges_are k t m b (λ i small. h i (omega arith)))
       ∙ ap (λ (th : Thread P). th.server) (thread-same m t (λ th. charged_times (suc k) (unit_of t m)) b.here ∙ charged_is (suc k) (unit_of t m) high)
 
   -- where the charge of such a server does not matter
-  next_high : (k t : ℕ) (m : Machine P) (s : ServerState) → Begins t m → ((i : ℕ) → i < suc k → unless_ended bodies (charges bodies i m).killed (charges bodies i m) ≡ false) → StaysHigh (suc k) (unit_of t m).server →
+  next_high : (k t : ℕ) (m : Machine P) (s : ServerState) → Begins t m → ((i : ℕ) → i < suc k → unless_ended bodies (plain_charges bodies i m).killed (plain_charges bodies i m) ≡ false) → StaysHigh (suc k) (unit_of t m).server →
       (unit_of t m).server ≡ Some s → is_high s ≡ true → is_high (charge_ticks k s) ≡ true → is_high (charge_ticks (suc k) s) ≡ true
   next_high k t m s b h high it e now =
-      let at = charges bodies k m in
+      let at = plain_charges bodies k m in
       let on = begins_on k t m b in
       let server : (thread_at at t).server ≡ Some (charge_ticks k s) =
       server_at k t m b (λ i small. h i (omega arith)) (fewer_high k (unit_of t m).server high) ∙ ap (option_map (server_after k)) it ∙ ap (λ (b : Bool). Some (if b then charge_ticks k s else s)) e in
@@ -208,7 +223,7 @@ module _ {P : Type 0} (bodies : Bodies P) where
   at_server : (k : ℕ) (o : Option ServerState) → StaysHigh k o → (s : ServerState) → o ≡ Some s → is_high s ≡ true → (i : ℕ) → i < k → is_high (charge_ticks i s) ≡ true
   at_server k o h s e = subst (StaysHigh k) e h
 
-  pub stays_high : (k t : ℕ) (m : Machine P) → Begins t m → ((i : ℕ) → i < k → unless_ended bodies (charges bodies i m).killed (charges bodies i m) ≡ false) → StaysHigh (suc k) (unit_of t m).server
+  pub stays_high : (k t : ℕ) (m : Machine P) → Begins t m → ((i : ℕ) → i < k → unless_ended bodies (plain_charges bodies i m).killed (plain_charges bodies i m) ≡ false) → StaysHigh (suc k) (unit_of t m).server
   stays_high zero t m b h = of_server 1 (unit_of t m).server (λ s it e i small. (let none : i ≡ 0 = omega arith in subst (λ (n : ℕ). is_high (charge_ticks n s) ≡ true) (sym none) e))
   stays_high (suc k) t m b h =
       let before : StaysHigh (suc k) (unit_of t m).server = stays_high k t m b (λ i small. h i (omega arith)) in
@@ -222,21 +237,21 @@ module _ {P : Type 0} (bodies : Bodies P) where
           let less : i < suc k = (let apart : i ≡ suc k → ⊥ = λ q. absurd (grind arith) in omega (arith, apart)) in at_server (suc k) (unit_of t m).server before s it e i less
 
   -- k ticks that do not matter, and one that may, of a head
-  pub charges_once : (k t : ℕ) (m : Machine P) → Begins t m → ((i : ℕ) → i < k → unless_ended bodies (charges bodies i m).killed (charges bodies i m) ≡ false) → charges bodies (suc k) m ≡ head_after bodies (suc k) t m
+  pub charges_once : (k t : ℕ) (m : Machine P) → Begins t m → ((i : ℕ) → i < k → unless_ended bodies (plain_charges bodies i m).killed (plain_charges bodies i m) ≡ false) → plain_charges bodies (suc k) m ≡ head_after bodies (suc k) t m
   charges_once k t m b h =
       charges_are k t m b h
       ∙ ap (λ (th : Thread P). record (with_thread t (λ y. th) m) { now = m.now + suc k; last = last.Ran t }) (charged_is (suc k) (unit_of t m) (stays_high k t m b h))
 
   -- ---- an idle processor
 
-  pub idle_once : (k : ℕ) (m : Machine P) → m.killed ≡ None → head m ≡ None → charges bodies (suc k) m ≡ record m { now = m.now + suc k; last = last.Idle }
+  pub idle_once : (k : ℕ) (m : Machine P) → m.killed ≡ None → head m ≡ None → plain_charges bodies (suc k) m ≡ record m { now = m.now + suc k; last = last.Idle }
   idle_once zero m alive none = idle_is m alive none
     where
-      idle_is : (m : Machine P) → m.killed ≡ None → head m ≡ None → one_charge bodies m ≡ record m { now = m.now + 1; last = last.Idle }
-      idle_is m alive none = ap (λ (k : Option ℕ). charged_unless_killed bodies k m) alive ∙ ap (λ (o : Option ℕ). charged_head bodies o m) none
+      idle_is : (m : Machine P) → m.killed ≡ None → head m ≡ None → one_plain bodies m ≡ record m { now = m.now + 1; last = last.Idle }
+      idle_is m alive none = ap (λ (k : Option ℕ). plain_unless_killed bodies k m) alive ∙ ap (λ (o : Option ℕ). charged_head bodies o m) none
   idle_once (suc k) m alive none =
       let on : Machine P = record m { now = m.now + suc k; last = last.Idle } in
       let more : m.now + suc k + 1 ≡ m.now + suc (suc k) = omega arith in
-      ap (one_charge bodies) (idle_once k m alive none)
-      ∙ (ap (λ (k : Option ℕ). charged_unless_killed bodies k on) alive ∙ ap (λ (o : Option ℕ). charged_head bodies o on) none)
+      ap (one_plain bodies) (idle_once k m alive none)
+      ∙ (ap (λ (k : Option ℕ). plain_unless_killed bodies k on) alive ∙ ap (λ (o : Option ℕ). charged_head bodies o on) none)
       ∙ ap (λ (n : ℕ). record m { now = n; last = last.Idle }) more

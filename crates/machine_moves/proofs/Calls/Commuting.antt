@@ -14,7 +14,7 @@ use Rattle.machine_rules.specs.State.{Frame, Machine, Mutex, Thread, Wait, for_m
 use Rattle.machine_rules.specs.Threads.{can_run, is_blocked, is_runnable, no_thread, thread_at, waiting_in, waiting_of}
 use Rattle.machine_rules.specs.CallNames.{name_of}
 use Rattle.machine_rules.specs.Turns.{Caller, Turn, answered, changes, changes_mutex, frames_answered, moves, tells}
-use Rattle.machine_rules.specs.Servers.{activates_if_high, activates_server, high_server, with_server}
+use Rattle.machine_rules.specs.Servers.{activates_if_high, activates_server, at_once, high_server, with_server}
 use Rattle.machine_rules.specs.Waking.{blocks, call_in, cancelled_value, ending_with, put_to_wait, wakes, wakes_telling, woken}
 use Rattle.machine_rules.specs.Mutexes.{returns_from_wait, wakes_owner}
 use Rattle.machine_rules.proofs.Reading.{changed-keeps, thread-other, thread-same}
@@ -46,13 +46,13 @@ pub woken_runs : {P : Type 0} (e : Event) (t : ℕ) (r : Res) (v : ℕ) (s : Tur
 woken_runs e t r v s b =
     let up = tells e (moves t (changes t (woken r v) s)) in
     let within : t < length s.machine.threads = blocked_within s.machine.threads t b in
-    ap is_runnable (activates_status t t (high_server (thread_at up.machine t).server) up ∙ ap (λ th. th.status) (thread-same s.machine t (woken r v) within))
+    ap is_runnable (activates_status t t (at_once (high_server (thread_at up.machine t).server)) up ∙ ap (λ th. th.status) (thread-same s.machine t (woken r v) within))
 
 pub woken_other : {P : Type 0} (e : Event) (t u : ℕ) (r : Res) (v : ℕ) (s : Turn P) → (t == u) ≡ false →
     (thread_at (wakes_telling e t r v s).machine u).status ≡ (thread_at s.machine u).status
 woken_other e t u r v s h =
     let up = tells e (moves t (changes t (woken r v) s)) in
-    activates_status t u (high_server (thread_at up.machine t).server) up ∙ ap (λ th. th.status) (thread-other s.machine t u (woken r v) h)
+    activates_status t u (at_once (high_server (thread_at up.machine t).server)) up ∙ ap (λ th. th.status) (thread-other s.machine t u (woken r v) h)
 
 -- ---- a mutex changes before or after
 
@@ -67,7 +67,7 @@ module _ {P : Type 0} (k : ℕ) (f : Mutex → Mutex) where
   pub wakes_telling_passes : (e : Event) (t : ℕ) (r : Res) (v : ℕ) → PassesMutex (wakes_telling e t r v)
   wakes_telling_passes e t r v s =
       let up = tells e (moves t (changes t (woken r v) s)) in
-      activates_passes t (high_server (thread_at up.machine t).server) up
+      activates_passes t (at_once (high_server (thread_at up.machine t).server)) up
 
   pub returns_from_wait_passes : (how : CondEnd) (t : ℕ) → PassesMutex (returns_from_wait how t)
   returns_from_wait_passes cond_end.Signalled t s = wakes_telling_passes _ t res.Zero 0 s
@@ -109,8 +109,8 @@ module _ {P : Type 0} (by : Caller) (wait : Wait) (due : Option ℕ) (t : ℕ) (
       let up = tells e (moves t (changes t (woken r v) s)) in
       let other : (by.thread == t) ≡ false = grind arith in
       ap (λ (x : Turn P). activates_if_high t (tells e (moves t x))) (changes_swap (woken r v) s)
-      ∙ ap (λ (th : Thread P). activates_server t (high_server th.server) (blocking up)) (thread-other up.machine by.thread t (waiting_now up) other)
-      ∙ activates_swap (high_server (thread_at up.machine t).server) up
+      ∙ ap (λ (th : Thread P). activates_server t (at_once (high_server th.server)) (blocking up)) (thread-other up.machine by.thread t (waiting_now up) other)
+      ∙ activates_swap (at_once (high_server (thread_at up.machine t).server)) up
 
   named_swap : (r : Res) (s : Turn P) → wakes t r 0 (blocking s) ≡ blocking (wakes t r 0 s)
   named_swap r s =
@@ -142,7 +142,7 @@ module _ {P : Type 0} {X : Type 0} (part : Machine P → X) where
   pub wakes_telling_part : OfNoThread → (e : Event) (t : ℕ) (r : Res) (v : ℕ) (s : Turn P) → part (wakes_telling e t r v s).machine ≡ part s.machine
   wakes_telling_part h e t r v s =
       let up = tells e (moves t (changes t (woken r v) s)) in
-      activates_part h t (high_server (thread_at up.machine t).server) up ∙ h s.machine _
+      activates_part h t (at_once (high_server (thread_at up.machine t).server)) up ∙ h s.machine _
 
   pub returns_from_wait_part : OfNoThread → (how : CondEnd) (t : ℕ) (s : Turn P) → part (returns_from_wait how t s).machine ≡ part s.machine
   returns_from_wait_part h cond_end.Signalled t s = wakes_telling_part h _ t res.Zero 0 s

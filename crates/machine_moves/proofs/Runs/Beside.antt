@@ -9,12 +9,11 @@ use Rattle.machine_rules.specs.Turns.{Caller, Turn, becomes, changes}
 use Rattle.machine_rules.specs.Servers.{has_high}
 use Rattle.machine_rules.specs.Waking.{blocks, blocks_unordered}
 use Rattle.machine_rules.specs.Lives.{is_nobody, with_joiner}
-use Rattle.machine_rules.specs.DueItems.{next_item}
-use Rattle.machine_rules.specs.Dispatch.{dispatches}
 use Rattle.machine_rules.specs.Ticks.{ends_tick, later, tick_end}
 use Rattle.machine_moves.specs.Moves.{MayRenewing, MayWait, MayWaitPlainly, Move, Runs, does, is_for_end}
 use Rattle.machine_moves.proofs.Runs.Ticks.{charged_turn}
 use Rattle.machine_moves.proofs.Runs.Since.{TickSince}
+use Rattle.machine_moves.proofs.Runs.Preparing.{IsReady, PreparingKeeps}
 
 module _ {P : Type 0} (bodies : Bodies P) (Rest : Machine P → Type 0) (Law : Machine P → Turn P → Type 0) (Mid Done : Bool → ℕ → Machine P → Turn P → Type 0) (End : Bool → ℕ → Machine P → Type 0)
     (Rest' : Machine P → Type 0) (Law' : Machine P → Turn P → Type 0) (Mid' Done' : Bool → ℕ → Machine P → Turn P → Type 0) (End' : Bool → ℕ → Machine P → Type 0) where
@@ -31,13 +30,13 @@ module _ {P : Type 0} (bodies : Bodies P) (Rest : Machine P → Type 0) (Law : M
     pub opens : (s : Turn P) → s.direct ≡ [] → Rest s.machine → Rest' s.machine → Law' s.machine s
     pub moves : (before : Machine P) (move : Move P) (s : Turn P) → MayRenewing None move s → Law before s → Law' before s → Law' before (does bodies move s)
     pub settles : (before : Machine P) (s : Turn P) → Law before s → Law' before s → Rest' (settled before s.direct s.machine)
-    pub charges : (t : ℕ) (s : Turn P) → s.direct ≡ [] → next_item s.machine ≡ None → can_run s.machine t ≡ true → Rest s.machine → Rest' s.machine →
-        Mid' (has_high (thread_at (dispatches (Some t) s).machine t).server) t (dispatches (Some t) s).machine (charged_turn bodies t (dispatches (Some t) s))
+    pub prepares : PreparingKeeps (λ (s : Turn P). Rest' s.machine)
+    pub charges : (t : ℕ) (s : Turn P) → s.direct ≡ [] → IsReady (Some t) s.machine → can_run s.machine t ≡ true → Rest s.machine → Rest' s.machine → Mid' (has_high (thread_at s.machine t).server) t s.machine (charged_turn bodies t s)
     pub unit_moves : (b : Bool) (t : ℕ) (before : Machine P) (move : Move P) (s : Turn P) → MayRenewing (Some t) move s → Mid b t before s → Mid' b t before s → Mid' b t before (does bodies move s)
     pub unit_stops : (b : Bool) (t : ℕ) (before : Machine P) → StopsBeside b t before
     pub unit_settles : (b : Bool) (t : ℕ) (before : Machine P) (s : Turn P) → Done b t before s → Done' b t before s → End' b t (settled before s.direct s.machine)
     pub ends : (b : Bool) (t : ℕ) (s : Turn P) → s.direct ≡ [] → End b t s.machine → End' b t s.machine → Law' s.machine (ends_tick (tick_end b s.machine.quantum (thread_at s.machine t)) t s)
-    pub idles : (s : Turn P) → next_item s.machine ≡ None → Rest s.machine → Rest' s.machine → Rest' (becomes later (dispatches None s)).machine
+    pub idles : (s : Turn P) → IsReady None s.machine → Rest s.machine → Rest' s.machine → Rest' (becomes later s).machine
 
   pub both : TickSince bodies Rest Law Mid Done End → TickBeside →
       TickSince bodies (λ m. Rest m × Rest' m) (λ before s. Law before s × Law' before s) (λ b t before s. Mid b t before s × Mid' b t before s) (λ b t before s. Done b t before s × Done' b t before s) (λ b t m. End b t m × End' b t m)
@@ -46,6 +45,11 @@ module _ {P : Type 0} (bodies : Bodies P) (Rest : Machine P → Type 0) (Law : M
     moves = λ before move s may q. (a.moves before move s may q.0, k.moves before move s may q.0 q.1);
     joined = λ before s q. a.joined before s q.0;
     settles = λ before s q. (a.settles before s q.0, k.settles before s q.0 q.1);
+    prepares = record {
+      closes = λ t s run q. (a.prepares.closes t s run q.0, k.prepares.closes t s run q.1);
+      sent = λ to s off q. (a.prepares.sent to s off q.0, k.prepares.sent to s off q.1);
+      opens = λ t x s runs is may q. (a.prepares.opens t x s runs is may q.0, k.prepares.opens t x s runs is may q.1);
+    };
     charges = λ t s still none runs q. (a.charges t s still none runs q.0, k.charges t s still none runs q.0 q.1);
     unit_moves = λ b t before move s may q. (a.unit_moves b t before move s may q.0, k.unit_moves b t before move s may q.0 q.1);
     unit_joined = λ b t before s q. a.unit_joined b t before s q.0;

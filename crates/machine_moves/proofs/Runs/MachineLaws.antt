@@ -1,17 +1,19 @@
 -- A law of the machine alone that every move keeps, beside the laws of its ticks.
 use Rattle.std.proofs.Common.{Bool, List, None, Option, Some, ap, sym, true, ℕ, ◌+◌, ◌≡◌}
 use mathlib.Core.Path.{subst, ◌∙◌}
+use Rattle.sporadic_server.specs.Server.{ServerState}
 use Rattle.machine_rules.specs.declared.dispatch.LastDispatch.{LastDispatch}
 use Rattle.machine_rules.specs.Bodies.{Bodies}
 use Rattle.machine_rules.specs.State.{Machine, Wait, for_end, waits_to_join}
 use Rattle.machine_rules.specs.Threads.{can_run, thread_at}
 use Rattle.machine_rules.specs.Settling.{settled}
 use Rattle.machine_rules.specs.Turns.{Caller, Turn, changes}
+use Rattle.machine_rules.specs.Servers.{activates_server}
 use Rattle.machine_rules.specs.Waking.{blocks, blocks_unordered}
 use Rattle.machine_rules.specs.Lives.{with_joiner}
 use Rattle.machine_rules.specs.Dispatch.{dispatch_of, dispatches}
 use Rattle.machine_rules.specs.Units.{in_unit}
-use Rattle.machine_rules.specs.Ticks.{TickEnd, ends_tick, tick_charged}
+use Rattle.machine_rules.specs.Ticks.{TickEnd, ends_tick, planning, tick_charged}
 use Rattle.machine_moves.specs.Moves.{MayRenewing, MayWaitPlainly, Move, does}
 use Rattle.machine_moves.proofs.Runs.Ticks.{dispatched}
 use Rattle.machine_moves.proofs.Runs.Beside.{TickBeside}
@@ -26,6 +28,8 @@ module _ {P : Type 0} (bodies : Bodies P) where
     pub elsewhere : (m : Machine P) (now : ℕ) (last : LastDispatch) (lists : List (List ℕ)) → Q m → Q (record m { now = now; last = last; lists = lists })
     pub charged : (t : ℕ) (s : Turn P) → can_run s.machine t ≡ true → Q s.machine → Q (changes t (λ th. tick_charged (in_unit bodies (thread_at s.machine t)).thread) s).machine
     pub ended : (e : TickEnd) (t : ℕ) (s : Turn P) → Q s.machine → Q (ends_tick e t s).machine
+    -- the run of the head is opened
+    pub opened : (t : ℕ) (x : ServerState) (s : Turn P) → (thread_at s.machine t).server ≡ Some x → Q s.machine → Q (activates_server t (Some x) s).machine
 
   module _ (Rest : Machine P → Type 0) (Law : Machine P → Turn P → Type 0) (Mid Done : Bool → ℕ → Machine P → Turn P → Type 0) (End : Bool → ℕ → Machine P → Type 0) (Q : Machine P → Type 0) where
     abbrev pub Holds : Machine P → Turn P → Type 0
@@ -36,11 +40,14 @@ module _ {P : Type 0} (bodies : Bodies P) where
       opens = λ s still p q. q;
       moves = λ before move s may p q. k.moves None move s may q;
       settles = λ before s p q. k.elsewhere s.machine s.machine.now s.machine.last (settled before s.direct s.machine).lists q;
-      charges = λ t s still none runs p q.
-          let to = dispatches (Some t) s in
-          let can : can_run to.machine t ≡ true = ap (λ (m : Machine P). can_run m t) (dispatched (Some t) s) ∙ runs in
-          let here = changes t (λ th. tick_charged (in_unit bodies (thread_at to.machine t)).thread) to in
-          k.elsewhere here.machine (here.machine.now + 1) here.machine.last here.machine.lists (k.charged t to can (on (Some t) s q));
+      prepares = record {
+        closes = λ t s run q. k.ended planning t s q;
+        sent = λ to s off q. on to s q;
+        opens = λ t x s runs is may q. k.opened t x s is q;
+      };
+      charges = λ t s still ready runs p q.
+          let here = changes t (λ th. tick_charged (in_unit bodies (thread_at s.machine t)).thread) s in
+          k.elsewhere here.machine (here.machine.now + 1) here.machine.last here.machine.lists (k.charged t s runs q);
       unit_moves = λ b t before move s may p q. k.moves (Some t) move s may q;
       unit_stops = λ b t before. record {
         done = λ s p q. q;
@@ -50,7 +57,7 @@ module _ {P : Type 0} (bodies : Bodies P) where
       };
       unit_settles = λ b t before s p q. k.elsewhere s.machine s.machine.now s.machine.last (settled before s.direct s.machine).lists q;
       ends = λ b t s still p q. k.ended _ t s q;
-      idles = λ s none p q. let to = dispatches None s in k.elsewhere to.machine (to.machine.now + 1) to.machine.last to.machine.lists (on None s q);
+      idles = λ s ready p q. k.elsewhere s.machine (s.machine.now + 1) s.machine.last s.machine.lists q;
     }
       where
         on : (to : Option ℕ) (s : Turn P) → Q s.machine → Q (dispatches to s).machine

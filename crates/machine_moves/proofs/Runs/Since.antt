@@ -14,16 +14,17 @@ use Rattle.machine_rules.specs.Delivery.{sweeps, sweeps_all}
 use Rattle.machine_rules.specs.DueItems.{handles, has_come, instant, item_bound, item_done, item_then, items_done, next_item, start_due, start_in}
 use Rattle.machine_rules.specs.Dispatch.{dispatches, head, tells_unless}
 use Rattle.machine_rules.specs.Units.{in_unit}
-use Rattle.machine_rules.specs.Ticks.{completes_at, ends_tick, later, runs, runs_head, tick, tick_end, tick_ends, unit_ticked, unless_killed}
+use Rattle.machine_rules.specs.Ticks.{completes_at, ends_tick, later, prepares, runs, runs_head, tick, tick_end, tick_ends, unit_ticked, unless_killed}
 use Rattle.machine_rules.specs.Runs.{ticks}
 use Rattle.pse52_trace.specs.declared.event.Event.{Event}
 use Rattle.machine_rules.specs.Dispatch.{dispatch_event, is_same}
-use Rattle.machine_rules.proofs.ItemsEnd.{instant_ends, is_due, next_is_due}
+use Rattle.machine_rules.proofs.ItemsEnd.{is_due, next_is_due}
 use Rattle.machine_moves.specs.Moves.{KeepsAwake, KeepsRenewing, Sleeps, Stops, begins, refills_one, renews_with}
 use Rattle.machine_moves.specs.UnitRanges.{BodiesFit, UnitFits}
 use Rattle.machine_moves.proofs.Calls.Signals.{expires_keep}
 use Rattle.machine_moves.proofs.Calls.Table.{JoinersWait, sweeps_all_keep, times_out_keep, unit_keep}
 use Rattle.machine_moves.proofs.Runs.Listed.{AllRun, head_can_run, settled_run}
+use Rattle.machine_moves.proofs.Runs.Preparing.{IsReady, PreparingKeeps, alike_listed, alike_runs, prepared, prepares_keep}
 use Rattle.machine_moves.proofs.Runs.Units.{in_unit_fits}
 use Rattle.machine_moves.proofs.Runs.Ticks.{charged_runs, charged_turn, dispatched}
 
@@ -55,15 +56,16 @@ pub record TickSince {P : Type 0} (bodies : Bodies P) (Rest : Machine P → Type
   pub moves : (before : Machine P) → KeepsRenewing bodies None (Law before)
   pub joined : (before : Machine P) (s : Turn P) → Law before s → JoinersWait s
   pub settles : (before : Machine P) (s : Turn P) → Law before s → Rest (settled before s.direct s.machine)
-  -- the head is dispatched and its tick is charged, where nothing is due any more
-  pub charges : (t : ℕ) (s : Turn P) → s.direct ≡ [] → next_item s.machine ≡ None → can_run s.machine t ≡ true → Rest s.machine →
-      Mid (has_high (thread_at (dispatches (Some t) s).machine t).server) t (dispatches (Some t) s).machine (charged_turn bodies t (dispatches (Some t) s))
+  -- what precedes the tick of the head
+  pub prepares : PreparingKeeps (λ (s : Turn P). Rest s.machine)
+  -- the head's tick is charged, where all is ready for it
+  pub charges : (t : ℕ) (s : Turn P) → s.direct ≡ [] → IsReady (Some t) s.machine → can_run s.machine t ≡ true → Rest s.machine → Mid (has_high (thread_at s.machine t).server) t s.machine (charged_turn bodies t s)
   pub unit_moves : (was_high : Bool) (t : ℕ) (before : Machine P) → KeepsRenewing bodies (Some t) (Mid was_high t before)
   pub unit_joined : (was_high : Bool) (t : ℕ) (before : Machine P) (s : Turn P) → Mid was_high t before s → JoinersWait s
   pub unit_stops : (was_high : Bool) (t : ℕ) (before : Machine P) → Sleeps (Some t) (Mid was_high t before) (Done was_high t before)
   pub unit_settles : (was_high : Bool) (t : ℕ) (before : Machine P) (s : Turn P) → Done was_high t before s → End was_high t (settled before s.direct s.machine)
   pub ends : (was_high : Bool) (t : ℕ) (s : Turn P) → s.direct ≡ [] → End was_high t s.machine → Law s.machine (ends_tick (tick_end was_high s.machine.quantum (thread_at s.machine t)) t s)
-  pub idles : (s : Turn P) → next_item s.machine ≡ None → Rest s.machine → Rest (becomes later (dispatches None s)).machine
+  pub idles : (s : Turn P) → IsReady None s.machine → Rest s.machine → Rest (becomes later s).machine
 
 unless_direct : {P : Type 0} (b : Bool) (e : Event) (s : Turn P) → (tells_unless b e s).direct ≡ s.direct
 unless_direct true e s = refl
@@ -141,31 +143,37 @@ module _ {P : Type 0} (bodies : Bodies P) (fits : BodiesFit bodies) (Rest : Mach
   pub ends_keep : (b : Bool) (t : ℕ) (s : Turn P) → s.direct ≡ [] → End b t s.machine → Rests (tick_ends b t s)
   ends_keep b t s still q = settles_keep s.machine (ends_tick (tick_end b s.machine.quantum (thread_at s.machine t)) t s) (all.ends b t s still q)
 
-  runs_keep : (to : Option ℕ) (s : Turn P) → head s.machine ≡ to → next_item s.machine ≡ None → Rests s → Rests (runs bodies to (dispatches to s))
-  runs_keep None s e none r = record {
-    rest = all.idles s none r.rest;
-    listed = subst (λ (m : Machine P). AllRun (later m) m.lists) (sym (dispatched None s)) r.listed;
-    still = dispatched_direct None s ∙ r.still;
-  }
-  runs_keep (Some t) s e none r =
-      let to = dispatches (Some t) s in
-      let can : can_run s.machine t ≡ true = head_can_run s.machine t r.listed e in
-      let charged = charged_turn bodies t to in
-      let was_high = has_high (thread_at to.machine t).server in
-      let unit = in_unit bodies (thread_at to.machine t) in
-      let can' : can_run to.machine t ≡ true = ap (λ (m : Machine P). can_run m t) (dispatched (Some t) s) ∙ can in
-      let ticked = unit_ticked bodies to.machine t unit to in
+  runs_keep : (to : Option ℕ) (s : Turn P) → ((t : ℕ) → to ≡ Some t → can_run s.machine t ≡ true) → IsReady to s.machine → Rests s → Rests (runs bodies to s)
+  runs_keep None s can ready r = record { rest = all.idles s ready r.rest; listed = r.listed; still = r.still }
+  runs_keep (Some t) s can ready r =
+      let charged = charged_turn bodies t s in
+      let was_high = has_high (thread_at s.machine t).server in
+      let unit = in_unit bodies (thread_at s.machine t) in
+      let ticked = unit_ticked bodies s.machine t unit s in
       let left = top_left (thread_at charged.machine t).frames in
-      let done : Done was_high t to.machine (completes_at bodies left t unit.unit charged) =
-      completes_keep was_high left t unit.unit to.machine charged (in_unit_fits bodies fits (thread_at to.machine t)) (charged_runs bodies t to can') (all.charges t s r.still none can r.rest) in
-      sweeps_keep (tick_ends was_high t ticked) (ends_keep was_high t ticked refl (all.unit_settles was_high t to.machine (completes_at bodies left t unit.unit charged) done))
+      let done : Done was_high t s.machine (completes_at bodies left t unit.unit charged) =
+      completes_keep was_high left t unit.unit s.machine charged (in_unit_fits bodies fits (thread_at s.machine t)) (charged_runs bodies t s (can t refl)) (all.charges t s r.still ready (can t refl) r.rest) in
+      sweeps_keep (tick_ends was_high t ticked) (ends_keep was_high t ticked refl (all.unit_settles was_high t s.machine (completes_at bodies left t unit.unit charged) done))
 
-  goes_on_keep : (killed : Option ℕ) (s : Turn P) → next_item s.machine ≡ None → Rests s → Rests (unless_killed killed (runs_head bodies) s)
-  goes_on_keep None s none r = runs_keep (head s.machine) s refl none r
-  goes_on_keep (Some signal) s none r = r
+  -- what precedes the tick of the head
+  pub prepares_rest : (to : Option ℕ) (s : Turn P) → ((t : ℕ) → to ≡ Some t → can_run s.machine t ≡ true) → Rests s → Rests (prepares to s)
+  prepares_rest to s can r =
+      let k = prepares_keep (λ (x : Turn P). Rest x.machine) all.prepares to s can r.rest in
+      record { rest = k.0; listed = alike_listed s.machine (prepares to s).machine k.1 r.listed; still = k.2 ∙ r.still }
+
+  head_keep : (s : Turn P) → Rests s → Rests (runs_head bodies s)
+  head_keep s r =
+      let to = head s.machine in
+      let can = λ (t : ℕ) (e : to ≡ Some t). head_can_run s.machine t r.listed e in
+      let k = prepares_keep (λ (x : Turn P). Rest x.machine) all.prepares to s can r.rest in
+      runs_keep to (prepares to s) (λ t e. alike_runs s.machine (prepares to s).machine t k.1 (can t e)) (prepared to s) (prepares_rest to s can r)
+
+  goes_on_keep : (killed : Option ℕ) (s : Turn P) → Rests s → Rests (unless_killed killed (runs_head bodies) s)
+  goes_on_keep None s r = head_keep s r
+  goes_on_keep (Some signal) s r = r
 
   pub tick_keep : (s : Turn P) → Rests s → Rests (tick bodies s)
-  tick_keep s r = let ready = instant bodies s in goes_on_keep ready.machine.killed ready (instant_ends bodies s) (instant_keep s r)
+  tick_keep s r = let ready = instant bodies s in goes_on_keep ready.machine.killed ready (instant_keep s r)
 
   -- ---- a run
 

@@ -14,9 +14,9 @@ use Rattle.machine_rules.specs.Delivery.{sweeps, sweeps_all}
 use Rattle.machine_rules.specs.DueItems.{handles, has_come, instant, item_bound, item_done, item_then, items_done, next_item, start_due, start_in}
 use Rattle.machine_rules.specs.Dispatch.{dispatch_event, dispatch_of, dispatches, head, is_same, tells_unless}
 use Rattle.machine_rules.specs.Units.{Following, advances, advancing, begins_finish, cleaning_up, continuing, finishing, following, in_unit, takes_unit}
-use Rattle.machine_rules.specs.Ticks.{completes_at, ends_tick, later, runs, runs_head, tick, tick_charged, tick_end, tick_ends, unit_ticked, unless_killed}
+use Rattle.machine_rules.specs.Ticks.{completes_at, ends_tick, later, prepares, runs, runs_head, tick, tick_charged, tick_end, tick_ends, unit_ticked, unless_killed}
 use Rattle.machine_rules.specs.Runs.{ticks}
-use Rattle.machine_rules.proofs.ItemsEnd.{instant_ends, is_due, next_is_due}
+use Rattle.machine_rules.proofs.ItemsEnd.{is_due, next_is_due}
 use Rattle.machine_rules.proofs.Reading.{thread-same}
 use Rattle.machine_moves.specs.Moves.{KeepsAwake, Stops, begins, refills_one}
 use Rattle.machine_moves.specs.UnitRanges.{BodiesFit, UnitFits}
@@ -25,6 +25,7 @@ use Rattle.machine_moves.proofs.Calls.Signals.{expires_keep}
 use Rattle.machine_moves.proofs.Calls.Table.{JoinersWait, sweeps_all_keep, times_out_keep, unit_keep}
 use Rattle.machine_moves.proofs.Runs.Units.{in_unit_fits}
 use Rattle.machine_moves.proofs.Runs.Listed.{AllRun, head_can_run, settled_run}
+use Rattle.machine_moves.proofs.Runs.Preparing.{IsReady, PreparingKeeps, alike_listed, alike_runs, prepared, prepares_keep}
 
 -- the turn in which the head's tick is charged
 abbrev pub charged_turn : {P : Type 0} → Bodies P → ℕ → Turn P → Turn P
@@ -41,10 +42,11 @@ pub record TickKeeps {P : Type 0} (bodies : Bodies P) (Law : Turn P → Type 0) 
   pub unit_stops : (was_high : Bool) (t : ℕ) → Stops (Some t) (Mid was_high t) (Done was_high t)
   pub unit_renews : (was_high : Bool) (t u : ℕ) → (unit_stops was_high t).renewable u ≡ true
   pub unit_settles : (was_high : Bool) (t : ℕ) (before : Machine P) (s : Turn P) → Done was_high t s → Done was_high t (settles_since before s)
-  -- the head is dispatched and its tick is charged, where nothing is due any more
-  pub charges : (t : ℕ) (s : Turn P) → next_item s.machine ≡ None → can_run s.machine t ≡ true → Law s →
-      Mid (has_high (thread_at (dispatches (Some t) s).machine t).server) t (charged_turn bodies t (dispatches (Some t) s))
-  pub idles : (s : Turn P) → next_item s.machine ≡ None → Law s → Law (becomes later (dispatches None s))
+  -- what precedes the tick of the head
+  pub prepares : PreparingKeeps Law
+  -- the head's tick is charged, where all is ready for it
+  pub charges : (t : ℕ) (s : Turn P) → IsReady (Some t) s.machine → can_run s.machine t ≡ true → Law s → Mid (has_high (thread_at s.machine t).server) t (charged_turn bodies t s)
+  pub idles : (s : Turn P) → IsReady None s.machine → Law s → Law (becomes later s)
   pub ends : (was_high : Bool) (t : ℕ) (s : Turn P) → Done was_high t s → Law (ends_tick (tick_end was_high s.machine.quantum (thread_at s.machine t)) t s)
 
 -- ---- the unit of a thread leaves its status
@@ -149,26 +151,30 @@ module _ {P : Type 0} (bodies : Bodies P) (fits : BodiesFit bodies) (Law : Turn 
   completes_keep b zero t u s known runs q = unit_keep bodies (Some t) (Mid b t) (Done b t) (all.unit_moves b t) (all.unit_stops b t) (all.unit_joined b t) t u s known (runs, refl) (λ v e. all.unit_renews b t v) q
   completes_keep b (suc left) t u s known runs q = (all.unit_stops b t).done s q
 
-  runs_keep : (to : Option ℕ) (s : Turn P) → head s.machine ≡ to → next_item s.machine ≡ None → Rests bodies Law s → Rests bodies Law (runs bodies to (dispatches to s))
-  runs_keep None s e none r = (all.idles s none r.0, subst (λ (m : Machine P). AllRun (later m) m.lists) (sym (dispatched None s)) r.1)
-  runs_keep (Some t) s e none r =
-      let to = dispatches (Some t) s in
-      let can : can_run s.machine t ≡ true = head_can_run s.machine t r.1 e in
-      let charged = charged_turn bodies t to in
-      let was_high = has_high (thread_at to.machine t).server in
-      let unit = in_unit bodies (thread_at to.machine t) in
-      let can' : can_run to.machine t ≡ true = ap (λ (m : Machine P). can_run m t) (dispatched (Some t) s) ∙ can in
-      let ticked = unit_ticked bodies to.machine t unit to in
-      let done : Done was_high t ticked = all.unit_settles was_high t to.machine (completes_at bodies (top_left (thread_at charged.machine t).frames) t unit.unit charged)
-      (completes_keep was_high (top_left (thread_at charged.machine t).frames) t unit.unit charged (in_unit_fits bodies fits (thread_at to.machine t)) (charged_runs bodies t to can') (all.charges t s none can r.0)) in
+  runs_keep : (to : Option ℕ) (s : Turn P) → ((t : ℕ) → to ≡ Some t → can_run s.machine t ≡ true) → IsReady to s.machine → Rests bodies Law s → Rests bodies Law (runs bodies to s)
+  runs_keep None s can ready r = (all.idles s ready r.0, r.1)
+  runs_keep (Some t) s can ready r =
+      let charged = charged_turn bodies t s in
+      let was_high = has_high (thread_at s.machine t).server in
+      let unit = in_unit bodies (thread_at s.machine t) in
+      let ticked = unit_ticked bodies s.machine t unit s in
+      let done : Done was_high t ticked = all.unit_settles was_high t s.machine (completes_at bodies (top_left (thread_at charged.machine t).frames) t unit.unit charged)
+      (completes_keep was_high (top_left (thread_at charged.machine t).frames) t unit.unit charged (in_unit_fits bodies fits (thread_at s.machine t)) (charged_runs bodies t s (can t refl)) (all.charges t s ready (can t refl) r.0)) in
       sweeps_keep bodies Law (round_of all) (tick_ends was_high t ticked) (all.settles ticked.machine (ends_tick (tick_end was_high ticked.machine.quantum (thread_at ticked.machine t)) t ticked) (all.ends was_high t ticked done))
 
-  goes_on_keep : (killed : Option ℕ) (s : Turn P) → next_item s.machine ≡ None → Rests bodies Law s → Rests bodies Law (unless_killed killed (runs_head bodies) s)
-  goes_on_keep None s none r = runs_keep (head s.machine) s refl none r
-  goes_on_keep (Some signal) s none r = r
+  head_keep : (s : Turn P) → Rests bodies Law s → Rests bodies Law (runs_head bodies s)
+  head_keep s r =
+      let to = head s.machine in
+      let can = λ (t : ℕ) (e : to ≡ Some t). head_can_run s.machine t r.1 e in
+      let k = prepares_keep Law all.prepares to s can r.0 in
+      runs_keep to (prepares to s) (λ t e. alike_runs s.machine (prepares to s).machine t k.1 (can t e)) (prepared to s) (k.0, alike_listed s.machine (prepares to s).machine k.1 r.1)
+
+  goes_on_keep : (killed : Option ℕ) (s : Turn P) → Rests bodies Law s → Rests bodies Law (unless_killed killed (runs_head bodies) s)
+  goes_on_keep None s r = head_keep s r
+  goes_on_keep (Some signal) s r = r
 
   pub tick_keep : (s : Turn P) → Rests bodies Law s → Rests bodies Law (tick bodies s)
-  tick_keep s r = let ready = instant bodies s in goes_on_keep ready.machine.killed ready (instant_ends bodies s) (instant_keep bodies Law (round_of all) s r)
+  tick_keep s r = let ready = instant bodies s in goes_on_keep ready.machine.killed ready (instant_keep bodies Law (round_of all) s r)
 
 -- ---- a run, for a law of the machine alone
 

@@ -11,7 +11,7 @@ use Rattle.machine_rules.specs.State.{Machine, Status, Thread, Wait, Waiting}
 use Rattle.machine_rules.specs.Threads.{can_run, no_thread, thread_at, waiting_in}
 use Rattle.machine_rules.specs.Waiters.{somebody_waits, waits_so}
 use Rattle.machine_rules.specs.Turns.{Turn, changes, moves, tells}
-use Rattle.machine_rules.specs.Servers.{activates_if, activates_server, amount_of, high_server, refills_server, regains_high, with_server}
+use Rattle.machine_rules.specs.Servers.{activates_if, activates_server, amount_of, at_once, high_server, refills_server, regains_high, with_server}
 use Rattle.machine_rules.specs.Waking.{ending_with, on_top, put_to_wait, started, woken}
 use Rattle.machine_rules.specs.Lives.{with_joiner, without_life, without_top}
 use Rattle.machine_rules.specs.Cancellation.{without_cleanup}
@@ -40,7 +40,7 @@ module _ {P : Type 0} (passes : Wait → Bool) where
   activated_same t (Some server) s = kept_by t (with_server (activate s.machine.now)) (λ th. refl) s
 
   activated_if_same : (b : Bool) (t : ℕ) (s : Turn P) → somebody (activates_if b t s) ≡ somebody s
-  activated_if_same true t s = activated_same t (thread_at s.machine t).server s
+  activated_if_same true t s = activated_same t (at_once (thread_at s.machine t).server) s
   activated_if_same false t s = refl
 
   refilled_same : (t : ℕ) (o : Option ServerState) (s : Turn P) → somebody (refills_server t o s) ≡ somebody s
@@ -65,13 +65,13 @@ module _ {P : Type 0} (passes : Wait → Bool) where
       sym (activated_if_same active t (changes t (with_policy new s.machine.now) s) ∙ kept_by t (with_policy new s.machine.now) (λ th. refl) s) ∙ e
   waited_before bodies who (wakes_with t ev r v) s may h e =
       let up = tells ev (moves t (changes t (woken r v) s)) in
-      before_change t (woken r v) s refl (sym (activated_same t (high_server (thread_at up.machine t).server) up) ∙ e)
+      before_change t (woken r v) s refl (sym (activated_same t (at_once (high_server (thread_at up.machine t).server)) up) ∙ e)
   waited_before bodies who (blocks_for by wait due) s may h e =
       before_change by.thread (put_to_wait (record { wait = wait; serial = s.machine.next_serial; due = due; call = by.call })) s h e
   waited_before bodies who (blocks_plainly by wait due) s may h e = before_change by.thread (put_to_wait (record { wait = wait; serial = 0; due = due; call = by.call })) s h e
   waited_before bodies who (begins t mask) s may h e =
       let up = tells (event.Start t) (moves t (changes t (started bodies t mask s.machine.now) s)) in
-      before_change t (started bodies t mask s.machine.now) s refl (sym (activated_same t (thread_at up.machine t).server up) ∙ e)
+      before_change t (started bodies t mask s.machine.now) s refl (sym (activated_same t (at_once (thread_at up.machine t).server) up) ∙ e)
   waited_before bodies who (lives_no_more t) s may h e = before_change t without_life s refl e
   waited_before bodies who (recasts t f) s may h e =
       sym (any_same no_thread t f (waits_so passes) s.machine.threads (ap (λ (status : Status). option_map_or (λ (w : Waiting). passes w.wait) (waiting_in status) false) may)) ∙ e
@@ -83,7 +83,7 @@ module _ {P : Type 0} (passes : Wait → Bool) where
 
 module _ {P : Type 0} {X : Type 0} (part : Machine P → X) (h : OfNoThread part) where
   part_activated : (b : Bool) (t : ℕ) (s : Turn P) → part (activates_if b t s).machine ≡ part s.machine
-  part_activated true t s = activates_part part h t (thread_at s.machine t).server s
+  part_activated true t s = activates_part part h t (at_once (thread_at s.machine t).server) s
   part_activated false t s = refl
 
   part_refilled : (t : ℕ) (o : Option ServerState) (s : Turn P) → part (refills_server t o s).machine ≡ part s.machine
@@ -99,7 +99,7 @@ module _ {P : Type 0} {X : Type 0} (part : Machine P → X) (h : OfNoThread part
   pub part_begun : (bodies : Bodies P) (t mask : ℕ) (s : Turn P) → part (does bodies (begins t mask) s).machine ≡ part s.machine
   part_begun bodies t mask s =
       let up = tells (event.Start t) (moves t (changes t (started bodies t mask s.machine.now) s)) in
-      activates_part part h t (thread_at up.machine t).server up ∙ h s.machine _
+      activates_part part h t (at_once (thread_at up.machine t).server) up ∙ h s.machine _
 
   pub part_refill : (bodies : Bodies P) (t : ℕ) (s : Turn P) → part (does bodies (refills_one t) s).machine ≡ part s.machine
   part_refill bodies t s = part_refilled t (thread_at s.machine t).server s

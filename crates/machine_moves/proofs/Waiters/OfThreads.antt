@@ -9,7 +9,7 @@ use Rattle.machine_rules.specs.Bodies.{Bodies}
 use Rattle.machine_rules.specs.State.{Thread, Wait, Waiting}
 use Rattle.machine_rules.specs.Threads.{can_run, no_thread, thread_at, thread_in, waiting_in, waiting_of}
 use Rattle.machine_rules.specs.Turns.{Caller, Turn, changes, moves, tells}
-use Rattle.machine_rules.specs.Servers.{activates_if, activates_server, amount_of, high_server, refills_server, regains_high, with_server}
+use Rattle.machine_rules.specs.Servers.{activates_if, activates_server, amount_of, at_once, high_server, refills_server, regains_high, with_server}
 use Rattle.machine_rules.specs.Waking.{ending_with, on_top, put_to_wait, started, woken}
 use Rattle.machine_rules.specs.Lives.{with_joiner, without_life, without_top}
 use Rattle.machine_rules.specs.Cancellation.{without_cleanup}
@@ -75,7 +75,7 @@ module _ {P : Type 0} (u : ℕ) (w : Waiting) where
   activated t (Some server) s e = kept_by t (with_server (activate s.machine.now)) (λ th. refl) s e
 
   activated_if : (b : Bool) (t : ℕ) (s : Turn P) → Waits (activates_if b t s) → Waits s
-  activated_if true t s e = activated t (thread_at s.machine t).server s e
+  activated_if true t s e = activated t (at_once (thread_at s.machine t).server) s e
   activated_if false t s e = e
 
   refilled : (t : ℕ) (o : Option ServerState) (s : Turn P) → Waits (refills_server t o s) → Waits s
@@ -94,12 +94,12 @@ module _ {P : Type 0} (u : ℕ) (w : Waiting) where
   waited bodies who (prices t p) s may e = inl (kept_by t (with_priority p) (λ th. refl) s e)
   waited bodies who (renews_with active t new) s may e = inl (kept_by t (with_policy new s.machine.now) (λ th. refl) s (activated_if active t (changes t (with_policy new s.machine.now) s) e))
   waited bodies who (wakes_with t ev r v) s may e =
-      let up = tells ev (moves t (changes t (woken r v) s)) in inl (not_by t (woken r v) (λ th. refl) s (activated t (high_server (thread_at up.machine t).server) up e))
+      let up = tells ev (moves t (changes t (woken r v) s)) in inl (not_by t (woken r v) (λ th. refl) s (activated t (at_once (high_server (thread_at up.machine t).server)) up e))
   waited bodies who (blocks_for by wait due) s may e = begun_by by (record { wait = wait; serial = s.machine.next_serial; due = due; call = by.call }) s e
   waited bodies who (blocks_plainly by wait due) s may e = begun_by by (record { wait = wait; serial = 0; due = due; call = by.call }) s e
   waited bodies who (begins t mask) s may e =
       let up = tells (event.Start t) (moves t (changes t (started bodies t mask s.machine.now) s)) in
-      inl (not_by t (started bodies t mask s.machine.now) (λ th. refl) s (activated t (thread_at up.machine t).server up e))
+      inl (not_by t (started bodies t mask s.machine.now) (λ th. refl) s (activated t (at_once (thread_at up.machine t).server) up e))
   waited bodies who (lives_no_more t) s may e = inl (not_by t without_life (λ th. refl) s e)
   waited bodies who (recasts t f) s may e = inl (same_at t f s may e)
   waited bodies who (rejoins t j) s may e = inl (kept_by t (with_joiner j) (λ th. refl) s e)

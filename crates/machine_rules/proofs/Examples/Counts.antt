@@ -2,6 +2,7 @@
 use Rattle.std.proofs.Common.{List, [], arith, ◌∷◌, ◌≡◌, Some, refl}
 use Rattle.std.specs.Prelude.{codes}
 use Rattle.tick_num.specs.declared.item.Item.TheVariants as item
+use Rattle.sporadic_server.specs.declared.ServerKind.TheVariants as server_kind
 use Rattle.sporadic_server.specs.Server.{ServerState}
 use Rattle.script_tree.specs.declared.call.Call.TheVariants as call
 use Rattle.script_tree.specs.declared.policy.Policy.TheVariants as policy
@@ -19,6 +20,7 @@ use Rattle.machine_rules.proofs.Examples.Servers.{six_high_ticks_in_one_period_s
 
 abbrev two_sleepers_and_a_runner : Script
 two_sleepers_and_a_runner = record {
+  version = 1;
   quantum = 10;
   decls =
       decl.Named (codes "a") (kind.Thread (policy.Fifo 5) (Some 0) (Making (call.Nanosleep 60) Nothing))
@@ -56,7 +58,7 @@ two_sleeps_are_to_come = refl
 
 -- The account of a plan that no activation stands before.
 abbrev spent : ServerState
-spent = record { params = record { high = 2; low = 1; period = 5; budget = 1; max = 1 }; capacity = 0; activation = 0; consumed = 0; pending = record { amount = 1; due = 5 } ∷ []; high_total = 1; refilled_total = 0 }
+spent = record { kind = server_kind.Sporadic; params = record { high = 2; low = 1; period = 5; budget = 1; max = 1 }; capacity = 0; activation = 0; consumed = 0; pending = record { amount = 1; due = 5 } ∷ []; high_total = 1; refilled_total = 0 }
 
 abbrev planned_from_nowhere : List ServerEvent
 planned_from_nowhere = used ∷ planned 1 (record { amount = 1; due = 5 }) ∷ []

@@ -14,6 +14,7 @@ use Rattle.machine_rules.proofs.Examples.Trace.{text_of}
 -- A preempted thread becomes the head of its list.
 abbrev preempted_thread_resumes_at_the_head_script : Script
 preempted_thread_resumes_at_the_head_script = record {
+  version = 1;
   quantum = 10;
   decls =
       decl.Named (codes "a") (kind.Thread (policy.Fifo 5) (Some 0) (Running 4 Nothing))
@@ -44,6 +45,7 @@ preempted_thread_resumes_at_the_head = refl
 -- A round robin thread that is preempted has the rest of its interval when it runs again.
 abbrev round_robin_interval_survives_preemption_script : Script
 round_robin_interval_survives_preemption_script = record {
+  version = 1;
   quantum = 4;
   decls =
       decl.Named (codes "a") (kind.Thread (policy.Rr 5) (Some 0) (Running 6 Nothing))
@@ -75,6 +77,7 @@ round_robin_interval_survives_preemption = refl
 -- pthread_setschedprio to a lower priority makes the thread the head of its list, pthread_setschedparam the tail.
 abbrev lowered_priority_goes_to_the_head_and_setsched_to_the_tail_script : Script
 lowered_priority_goes_to_the_head_and_setsched_to_the_tail_script = record {
+  version = 1;
   quantum = 10;
   decls =
       decl.Named (codes "a") (kind.Thread (policy.Fifo 7) (Some 0) (Running 2 Nothing))

@@ -15,6 +15,7 @@ use Rattle.machine_rules.proofs.Examples.Trace.{text_of}
 -- A message that enters an empty queue fires the registration, and one that is handed to a receiver does not.
 abbrev notification_of_an_empty_queue_script : Script
 notification_of_an_empty_queue_script = record {
+  version = 1;
   quantum = 10;
   decls =
       decl.Named (codes "q") (kind.Queue 2 8 false)
@@ -50,6 +51,7 @@ notification_of_an_empty_queue = refl
 -- A receiver makes room for the message of a sender that waits.
 abbrev full_queue_hands_over_from_its_sender_script : Script
 full_queue_hands_over_from_its_sender_script = record {
+  version = 1;
   quantum = 10;
   decls =
       decl.Named (codes "q") (kind.Queue 1 8 false)
@@ -83,6 +85,7 @@ full_queue_hands_over_from_its_sender = refl
 -- Each answer of pthread_join.
 abbrev join_answers_script : Script
 join_answers_script = record {
+  version = 1;
   quantum = 10;
   decls =
       decl.Named (codes "a") (kind.Thread (policy.Fifo 5) (Some 0) (Making (call.Join 1) (Making (call.Create 1) (Making (call.Join 1) (Making (call.Join 1) (Making (call.Join 0) Nothing))))))

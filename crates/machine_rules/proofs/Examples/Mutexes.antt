@@ -16,6 +16,7 @@ use Rattle.machine_rules.proofs.Examples.Trace.{text_of}
 -- Inheritance passes from waiter to owner along a chain, and a timeout takes it back.
 abbrev inheritance_along_a_chain_of_owners_script : Script
 inheritance_along_a_chain_of_owners_script = record {
+  version = 1;
   quantum = 10;
   decls =
       decl.Named (codes "m1") (kind.Mutex protocol.Inherit false)
@@ -66,6 +67,7 @@ inheritance_along_a_chain_of_owners = refl
 -- A tick settles twice: an owner is raised by its waiter, and falls again as the waiter plans, to the head of its list.
 abbrev owner_rises_and_falls_in_one_tick_script : Script
 owner_rises_and_falls_in_one_tick_script = record {
+  version = 1;
   quantum = 10;
   decls =
       decl.Named (codes "m") (kind.Mutex protocol.Inherit false)
@@ -96,6 +98,7 @@ owner_rises_and_falls_in_one_tick = refl
 -- A cancelled condition wait owns its mutex before its cleanup handler runs.
 abbrev pub cancelled_condition_wait_owns_the_mutex_first_script : Script
 cancelled_condition_wait_owns_the_mutex_first_script = record {
+  version = 1;
   quantum = 10;
   decls =
       decl.Named (codes "m") (kind.Mutex protocol.Plain false)

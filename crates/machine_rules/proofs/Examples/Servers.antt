@@ -16,6 +16,7 @@ use Rattle.machine_rules.proofs.Examples.Trace.{text_of}
 -- A budget that is used up late comes back early: six ticks at the high priority in one period of ten, with a budget of three.
 abbrev pub six_high_ticks_in_one_period_script : Script
 six_high_ticks_in_one_period_script = record {
+  version = 1;
   quantum = 10;
   decls =
       decl.Named (codes "s") (kind.Thread (policy.Sporadic (record { high = 8; low = 2; period = 10; budget = 3; max = 4 })) (Some 2) (Running 8 Nothing))
@@ -42,9 +43,67 @@ pub six_high_ticks_in_one_period : trace six_high_ticks_in_one_period_script 17 
 unfolding digits exec_in
 six_high_ticks_in_one_period = refl
 
+-- The same under a strict server: three.
+abbrev three_high_ticks_in_one_period_script : Script
+three_high_ticks_in_one_period_script = record {
+  version = 2;
+  quantum = 10;
+  decls =
+      decl.Named (codes "s") (kind.Thread (policy.Strict (record { high = 8; low = 2; period = 10; budget = 3; max = 4 })) (Some 2) (Running 8 Nothing))
+      ∷ decl.Named (codes "h") (kind.Thread (policy.Fifo 9) (Some 0) (Running 8 Nothing))
+      ∷ [];
+}
+
+pub three_high_ticks_in_one_period : trace three_high_ticks_in_one_period_script 17 ≡ text_of (codes "0 start h"
+    ∷ codes "0 dispatch h 9"
+    ∷ codes "2 start s"
+    ∷ codes "9 exit h"
+    ∷ codes "9 dispatch s 8"
+    ∷ codes "9 activate s 3"
+    ∷ codes "12 exhaust s"
+    ∷ codes "12 plan s 3 19"
+    ∷ codes "17 end"
+    ∷ codes "thread s ticks 8 high 3 init 3 refilled 0 capacity 0"
+    ∷ codes "thread h ticks 9"
+    ∷ [])
+unfolding digits exec_in
+three_high_ticks_in_one_period = refl
+
+-- A run that is preempted is closed, and what is planned with one pending at most joins it.
+abbrev a_preempted_run_is_closed_script : Script
+a_preempted_run_is_closed_script = record {
+  version = 2;
+  quantum = 10;
+  decls =
+      decl.Named (codes "s") (kind.Thread (policy.Strict (record { high = 8; low = 2; period = 10; budget = 4; max = 1 })) (Some 0) (Running 20 Nothing))
+      ∷ decl.Named (codes "h") (kind.Thread (policy.Fifo 9) (Some 2) (Running 1 Nothing))
+      ∷ [];
+}
+
+pub a_preempted_run_is_closed : trace a_preempted_run_is_closed_script 16 ≡ text_of (codes "0 start s"
+    ∷ codes "0 dispatch s 8"
+    ∷ codes "0 activate s 4"
+    ∷ codes "2 start h"
+    ∷ codes "2 plan s 2 10"
+    ∷ codes "2 dispatch h 9"
+    ∷ codes "4 exit h"
+    ∷ codes "4 dispatch s 8"
+    ∷ codes "4 activate s 2"
+    ∷ codes "6 exhaust s"
+    ∷ codes "6 plan s 2 14"
+    ∷ codes "14 refill s 4 4"
+    ∷ codes "14 activate s 4"
+    ∷ codes "16 end"
+    ∷ codes "thread s ticks 14 high 6 init 4 refilled 4 capacity 2"
+    ∷ codes "thread h ticks 2"
+    ∷ [])
+unfolding digits exec_in
+a_preempted_run_is_closed = refl
+
 -- A thread that blocks plans what it consumed, and a refill of a blocked thread activates it only when it wakes.
 abbrev blocking_plans_what_was_consumed_script : Script
 blocking_plans_what_was_consumed_script = record {
+  version = 1;
   quantum = 10;
   decls =
       decl.Named (codes "tm") (kind.Timer 1 5)
@@ -84,6 +143,7 @@ blocking_plans_what_was_consumed = refl
 -- A replenishment whose time has passed when it is planned is carried out at that instant.
 abbrev overdue_refill_is_made_at_once_script : Script
 overdue_refill_is_made_at_once_script = record {
+  version = 1;
   quantum = 10;
   decls =
       decl.Named (codes "s") (kind.Thread (policy.Sporadic (record { high = 8; low = 2; period = 10; budget = 3; max = 4 })) (Some 0) (Running 6 Nothing))
@@ -118,6 +178,7 @@ overdue_refill_is_made_at_once = refl
 -- A thread whose capacity this tick used up locks a mutex at its low priority.
 abbrev ceiling_is_compared_after_the_charge_script : Script
 ceiling_is_compared_after_the_charge_script = record {
+  version = 1;
   quantum = 10;
   decls =
       decl.Named (codes "m") (kind.Mutex (protocol.Protect 5) false)

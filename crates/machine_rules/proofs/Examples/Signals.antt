@@ -14,6 +14,7 @@ use Rattle.machine_rules.proofs.Examples.Trace.{text_of}
 -- A handler interrupts a sleep, which returns the ticks that were left.
 abbrev sleep_is_interrupted_with_ticks_left_script : Script
 sleep_is_interrupted_with_ticks_left_script = record {
+  version = 1;
   quantum = 10;
   decls =
       decl.Action 1 (Some 0)
@@ -44,6 +45,7 @@ sleep_is_interrupted_with_ticks_left = refl
 -- The default action ends the process at the instant of its delivery.
 abbrev default_action_ends_the_process_script : Script
 default_action_ends_the_process_script = record {
+  version = 1;
   quantum = 10;
   decls =
       decl.Named (codes "a") (kind.Thread (policy.Fifo 5) (Some 0) (Making (call.Kill 3) Nothing))
@@ -63,6 +65,7 @@ default_action_ends_the_process = refl
 -- Expiries of a timer whose signal is pending are overruns.
 abbrev expiries_while_pending_are_overruns_script : Script
 expiries_while_pending_are_overruns_script = record {
+  version = 1;
   quantum = 10;
   decls =
       decl.Named (codes "t") (kind.Timer 2 9)

@@ -14,6 +14,7 @@ use Rattle.machine_rules.specs.Machine.{machine}
 -- The lower thread owns the mutex when the higher one starts and asks for it.
 abbrev mutex_is_handed_over_script : Script
 mutex_is_handed_over_script = record {
+  version = 1;
   quantum = 10;
   decls =
       decl.Named (codes "m") (kind.Mutex protocol.Plain false)
@@ -34,6 +35,7 @@ handed_over_counts_once = refl
 -- A round robin thread sleeps after two ticks of its interval.
 abbrev round_robin_thread_sleeps_script : Script
 round_robin_thread_sleeps_script = record {
+  version = 1;
   quantum = 4;
   decls = decl.Named (codes "a") (kind.Thread (policy.Rr 5) (Some 0) (Running 2 (Making (call.Nanosleep 3) (Running 5 Nothing)))) ∷ [];
 }

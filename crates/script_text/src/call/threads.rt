@@ -42,5 +42,15 @@ pub(super) fn setsched(decls: &[Decl], t: Tid, policy: Policy) -> LineText
             Number(params.budget),
             Number(u64::from(params.max)),
         ]),
+        Policy::Strict(params) => line_of(&[
+            word,
+            name,
+            Keyword(b"strict"),
+            Number(u64::from(params.high.get())),
+            Number(u64::from(params.low.get())),
+            Number(params.period),
+            Number(params.budget),
+            Number(u64::from(params.max)),
+        ]),
     }
 }

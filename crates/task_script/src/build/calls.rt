@@ -5,7 +5,8 @@ ghost use Rattle.script_table.specs.Calls.{thread_call, mutex_call, sem_call, ti
 use crate::Call;
 use crate::names::NameIndex;
 use crate::operands::{
-    amount, fifo, number_in, object, operand, priority, rr, signal, signals, sporadic, thread,
+    amount, fifo, number_in, object, operand, priority, rr, signal, signals, sporadic, strict,
+    thread,
 };
 use crate::structure::statement::LineWords;
 use script_table::{
@@ -28,6 +29,7 @@ fn thread_call(names: &NameIndex<'_>, form: ThreadCall, words: &LineWords<'_>) -
         ThreadCall::SetschedFifo => Call::Setsched(thread(names, 1, words)?, fifo(3, words)?),
         ThreadCall::SetschedRr => Call::Setsched(thread(names, 1, words)?, rr(3, words)?),
         ThreadCall::SetschedSporadic => Call::Setsched(thread(names, 1, words)?, sporadic(words)?),
+        ThreadCall::SetschedStrict => Call::Setsched(thread(names, 1, words)?, strict(words)?),
     })
 }
 

@@ -5,6 +5,7 @@ ghost use Rattle.script_table.specs.Meaning.{kind_of_object, object_decl, action
 use crate::names::NameIndex;
 use crate::operands::{
     amount, answer, fifo, first_number, name, number_in, object, priority, rr, signal, sporadic,
+    strict,
 };
 use crate::structure::statement::LineWords;
 use crate::{Body, Decl, Kind, Protocol, Step};
@@ -91,6 +92,8 @@ fn kind_of_body(form: BodyForm, words: &LineWords<'_>, body: Body) -> Option<Kin
         BodyForm::RrDormant => (rr(3, words)?, None),
         BodyForm::SporadicAt => (sporadic(words)?, Some(amount(9, words)?)),
         BodyForm::SporadicDormant => (sporadic(words)?, None),
+        BodyForm::StrictAt => (strict(words)?, Some(amount(9, words)?)),
+        BodyForm::StrictDormant => (strict(words)?, None),
         BodyForm::Handler => return Some(Kind::Handler { body }),
         BodyForm::Cleanup => return Some(Kind::Cleanup { body }),
     };

@@ -84,15 +84,15 @@ impl Counts {
         }
     }
 
-    /// Whether there are too many of a kind.
-    pub(crate) fn is_over(&self, kind: NameKind) -> bool
-        ensures { result ≡ is_over self.now kind }
+    /// Whether there are too many of a kind, where there may be `most` threads, mutexes, conditions and semaphores of each.
+    pub(crate) fn is_over(&self, most: u64, kind: NameKind) -> bool
+        ensures { result ≡ is_over most self.now kind }
     {
         match kind {
-            NameKind::Thread => self.threads > 64,
-            NameKind::Mutex => self.mutexes > 64,
-            NameKind::Cond => self.conds > 64,
-            NameKind::Sem => self.sems > 64,
+            NameKind::Thread => self.threads > most,
+            NameKind::Mutex => self.mutexes > most,
+            NameKind::Cond => self.conds > most,
+            NameKind::Sem => self.sems > most,
             NameKind::Queue => self.queues > 16,
             NameKind::Timer => self.timers > 32,
             NameKind::Handler => self.handlers as u128 + self.cleanups as u128 > 64,

@@ -1,11 +1,12 @@
 // How many lines of each kind there are so far, and how deep the blocks are.
 ghost use Rattle.std.specs.Prelude.{◌≡◌, ◌≤◌, ◌<◌, ◌^◌, ◌==◌};
 ghost use Rattle.script_table.specs.Ranges.{object_kind, entered, left, tallied, is_too_many, no_tally};
+ghost use Rattle.script_table.specs.Versions.{most_of};
 ghost use Rattle.task_script.specs.Bounds.{AreTallyBelow};
 
 use crate::names::counts::Counts;
 use crate::structure::blocks::{body_kind, closed_by, closer_of};
-use script_table::{Closer, Form, NameKind, ObjectForm};
+use script_table::{Closer, Form, NameKind, ObjectForm, Version};
 use std::marker::Model;
 
 fn object_kind(form: ObjectForm) -> NameKind
@@ -23,6 +24,8 @@ fn object_kind(form: ObjectForm) -> NameKind
 
 #[derive(Drop)]
 pub(crate) struct Tally {
+    // How many threads, mutexes, conditions and semaphores there may be of each.
+    most: u64,
     counts: Counts,
     quanta: u64,
     steps: u64,
@@ -36,6 +39,7 @@ impl Model for Tally {
     ghost Value = { TallyOfLines };
 
     ghost view = { λ t. record {
+      most = t.most;
       counts = t.counts;
       quanta = t.quanta;
       steps = t.steps;
@@ -45,10 +49,11 @@ impl Model for Tally {
 }
 
 impl Tally {
-    pub(crate) fn new() -> Tally
-        ensures { result ≡ no_tally }
+    pub(crate) fn new(version: Version) -> Tally
+        ensures { result ≡ no_tally (most_of version) }
     {
         Tally {
+            most: version.most(),
             counts: Counts::new(),
             quanta: 0,
             steps: 0,
@@ -105,9 +110,9 @@ impl Tally {
     {
         match form {
             Form::Quantum => self.quanta > 1,
-            Form::Object(form) => self.counts.is_over(object_kind(form)),
+            Form::Object(form) => self.counts.is_over(self.most, object_kind(form)),
             Form::Action(_) => false,
-            Form::Body(form) => self.counts.is_over(body_kind(form)),
+            Form::Body(form) => self.counts.is_over(self.most, body_kind(form)),
             Form::Step(_) => self.steps > 65_536,
             Form::Call(_) => self.steps > 65_536,
             Form::Block(_) => self.steps > 65_536 || (self.depth > 16 || self.pushes > 8),

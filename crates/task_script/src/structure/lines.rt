@@ -1,7 +1,6 @@
 // What the lines of a text say.
 ghost use Rattle.std.specs.Prelude.{◌+◌, ◌≡◌, ◌≤◌, ◌∷◌, [], map, None, Some, MatchResult, length, option_to_list};
 ghost use Rattle.std.specs.Option.{option_map};
-ghost use Rattle.script_lex.specs.Lines.{lines_of};
 ghost use Rattle.script_table.specs.Faults.{Fault, least, least_kind, fault};
 ghost use Rattle.script_table.specs.Patterns.{rows_of};
 ghost use Rattle.script_table.specs.Structure.{line_faults, said_line, said_from, behind_line, phase_one};
@@ -15,9 +14,6 @@ use crate::structure::statement::Statement;
 use script_lex::{Line, Lines};
 use script_table::{FaultKind, Table};
 use std::alloc::Global;
-
-// How many steps a script may have.
-const MOST_STEPS: usize = 65_536;
 
 // What a line says, where it has no fault of phase 1.
 fn read_line<'a>(
@@ -52,24 +48,22 @@ pub(crate) struct Reading<'a> {
     pub last: u32,
 }
 
-// What the lines of a text say by these patterns, where none has a fault of phase 1.
+// What lines say by these patterns, where none has a fault of phase 1. So many statements have room at first.
 #[inline(never)]
 fn statements_by<'a>(
     alloc: Global,
     patterns: &ByLetter,
-    text: &'a [u8],
+    room: usize,
+    mut lines: Lines<'a>,
 ) -> Result<Reading<'a>, ScriptEnd>
-    requires { length text.now ≤ 67_108_864 }
     ensures { MatchResult result
-        (λ v. (least (phase_one patterns.now 1 (Some []) (lines_of text.now)) ≡ None) ×
-        (v.statements.items ≡ said_from patterns.now 1 (lines_of text.now)) ×
-        (v.last ≡ 1 + length (lines_of text.now)))
-        (λ e. EndsBy e (least (phase_one patterns.now 1 (Some []) (lines_of text.now)))) }
+        (λ v. (least (phase_one patterns.now lines.entry.number (Some []) lines.entry.lines) ≡ None) ×
+        (v.statements.items ≡ said_from patterns.now lines.entry.number lines.entry.lines) ×
+        (v.last ≡ lines.entry.number + length lines.entry.lines))
+        (λ e. EndsBy e (least (phase_one patterns.now lines.entry.number (Some []) lines.entry.lines))) }
 {
-    // The shortest line that says something is `end`: the room is not moved while the text is read, unless blocks are very many.
-    let mut statements = Vec::with_capacity(alloc, (text.len() / 4 + 1).min(MOST_STEPS))?;
+    let mut statements = Vec::with_capacity(alloc, room)?;
     let mut blocks = Blocks::new(alloc);
-    let mut lines = Lines::new(text);
     while let Some(line) = lines.next_line() {
         if let Some(statement) = read_line(patterns, line, &mut blocks)? {
             statements.push(statement)?;
@@ -84,19 +78,19 @@ fn statements_by<'a>(
     })
 }
 
-/// What the lines of a text say, where none has a fault of phase 1.
+/// What lines say, where none has a fault of phase 1. So many statements have room at first.
 pub(crate) fn statements<'a>(
     alloc: Global,
     table: &Table,
-    text: &'a [u8],
+    room: usize,
+    lines: Lines<'a>,
 ) -> Result<Reading<'a>, ScriptEnd>
-    requires { length text.now ≤ 67_108_864 }
     ensures { MatchResult result
-        (λ v. (least (phase_one (rows_of table.now) 1 (Some []) (lines_of text.now)) ≡ None) ×
-        (v.statements.items ≡ said_from (rows_of table.now) 1 (lines_of text.now)) ×
-        (v.last ≡ 1 + length (lines_of text.now)))
-        (λ e. EndsBy e (least (phase_one (rows_of table.now) 1 (Some []) (lines_of text.now)))) }
+        (λ v. (least (phase_one (rows_of table.now) lines.entry.number (Some []) lines.entry.lines) ≡ None) ×
+        (v.statements.items ≡ said_from (rows_of table.now) lines.entry.number lines.entry.lines) ×
+        (v.last ≡ lines.entry.number + length lines.entry.lines))
+        (λ e. EndsBy e (least (phase_one (rows_of table.now) lines.entry.number (Some []) lines.entry.lines))) }
 {
     let patterns = ByLetter::new(alloc, table)?;
-    statements_by(alloc, &patterns, text)
+    statements_by(alloc, &patterns, room, lines)
 }

@@ -4,4 +4,4 @@ use Rattle.canonical_law.proofs.LineLaws.{keeps_pattern}
 use Rattle.canonical_law.proofs.lines.lines_keep_their_patterns.Goals as goal
 
 pub returns : goal.returns
-returns c = keeps_pattern patterns the_table
+returns c = λ version row line sound. keeps_pattern (patterns version) (the_table version) row line sound

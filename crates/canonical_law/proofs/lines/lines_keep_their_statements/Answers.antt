@@ -4,4 +4,4 @@ use Rattle.canonical_law.proofs.Text.{statements_kept}
 use Rattle.canonical_law.proofs.lines.lines_keep_their_statements.Goals as goal
 
 pub returns : goal.returns
-returns c = statements_kept patterns the_table
+returns c = λ b clean. statements_kept (patterns b.version) (the_table b.version) b clean

@@ -20,7 +20,7 @@ pub visit-requires-clause-room : goal.visit-requires-clause-room
 visit-requires-clause-room g c =
     let end = c.count-number-end.ensures.few in
     let within = c.loop-number-test.true in
-    let lt : c.loop-number.number < 64 = omega (arith, end, within) in
+    let lt : c.loop-number.number < 256 = omega (arith, end, within) in
     room_midway c.args.p.now c.loop-number.p c.loop-number.number c.loop-number.invariant.state c.requires.quiet lt
 
 pub visit-requires-clause-thread : goal.visit-requires-clause-thread

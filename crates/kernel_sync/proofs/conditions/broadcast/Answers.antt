@@ -1,4 +1,4 @@
-use Rattle.std.proofs.Common.{◌≡◌, ℕ, subst, sym}
+use Rattle.std.proofs.Common.{◌≡◌, ◌∙◌, ℕ, ap, subst, sym}
 use Rattle.tick_num.specs.declared.res.Res.TheVariants as res
 use Rattle.pse52_trace.specs.Tells.{Tells}
 use Rattle.machine_rules.specs.Conditions.{signals_best_times}
@@ -8,20 +8,27 @@ use Rattle.script_flat.specs.declared.cursor.Cursor.{Cursor}
 use Rattle.kernel_state.specs.Kernel.{Kernel, after, by, told, turn}
 use Rattle.kernel_sync.specs.Waits.{WaitsFit}
 use Rattle.kernel_sync.proofs.Returned.{returned_fits}
+use Rattle.kernel_sync.proofs.WaitersLeft.{answered_left, left}
 use Rattle.kernel_state.proofs.Turns.{then_state, then_told}
 use Rattle.kernel_sync.proofs.conditions.broadcast.Goals as goal
 
 pub returns-clause-state : goal.returns-clause-state
 returns-clause-state g c =
     let first = returns (by c.args.t c.args.call.now) res.Zero 0 in
-    subst (λ (n : ℕ). c.signal_all.new.p ≡ after (λ (s : Turn Cursor). signals_best_times n c.args.c (first s)) c.args.p.now) c.waiting_count-count.ensures.value
-    (then_state first (signals_best_times c.waiting_count-count.result c.args.c) _ _ _ (signals_best_of_behind c.waiting_count-count.result c.args.c) c.returns.ensures.state c.signal_all.ensures.state)
+    let n = left c.args.c c.returns.new.self.machine in
+    let same : n ≡ left c.args.c c.args.p.now.machine =
+    ap (λ (k : Kernel). left c.args.c k.machine) c.returns.ensures.state ∙ answered_left c.args.c (by c.args.t c.args.call.now) res.Zero 0 (turn c.args.p.now) in
+    subst (λ (j : ℕ). c.signal_all.new.p ≡ after (λ (s : Turn Cursor). signals_best_times j c.args.c (first s)) c.args.p.now) same
+    (then_state first (signals_best_times n c.args.c) _ _ _ (signals_best_of_behind n c.args.c) c.returns.ensures.state c.signal_all.ensures.state)
 
 pub returns-clause-told : goal.returns-clause-told
 returns-clause-told g c =
     let first = returns (by c.args.t c.args.call.now) res.Zero 0 in
-    subst (λ (n : ℕ). Tells g.K.Sink.text g.K.Sink.faults c.args.p.now.names c.args.out.now c.signal_all.new.out (told (λ (s : Turn Cursor). signals_best_times n c.args.c (first s)) c.args.p.now)) c.waiting_count-count.ensures.value
-    (then_told _ _ first (signals_best_times c.waiting_count-count.result c.args.c) _ _ _ _ _ (signals_best_of_behind c.waiting_count-count.result c.args.c) c.returns.ensures.state c.returns.ensures.told c.signal_all.ensures.told)
+    let n = left c.args.c c.returns.new.self.machine in
+    let same : n ≡ left c.args.c c.args.p.now.machine =
+    ap (λ (k : Kernel). left c.args.c k.machine) c.returns.ensures.state ∙ answered_left c.args.c (by c.args.t c.args.call.now) res.Zero 0 (turn c.args.p.now) in
+    subst (λ (j : ℕ). Tells g.K.Sink.text g.K.Sink.faults c.args.p.now.names c.args.out.now c.signal_all.new.out (told (λ (s : Turn Cursor). signals_best_times j c.args.c (first s)) c.args.p.now)) same
+    (then_told _ _ first (signals_best_times n c.args.c) _ _ _ _ _ (signals_best_of_behind n c.args.c) c.returns.ensures.state c.returns.ensures.told c.signal_all.ensures.told)
 
 pub signal_all-requires-clause-fits : goal.signal_all-requires-clause-fits
 signal_all-requires-clause-fits g c =

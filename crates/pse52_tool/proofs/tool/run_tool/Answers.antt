@@ -4,6 +4,7 @@ use Rattle.pse52_tool.specs.declared.command.Command.{Command}
 use Rattle.pse52_tool.specs.Answer.{Told, answer}
 use Rattle.pse52_tool.specs.Command.{command, limit_of, reads}
 use Rattle.pse52_tool.proofs.Audits.{holds_where_told}
+use Rattle.pse52_tool.proofs.Promises.{reads_upgraded}
 use Rattle.pse52_tool.proofs.Whole.{answer_unread, told_whole}
 use Rattle.pse52_tool.proofs.tool.run_tool.Goals as goal
 
@@ -62,3 +63,6 @@ pub returns-then-not-reads-clause-soaks : goal.returns-then-not-reads-clause-soa
 returns-then-not-reads-clause-soaks g c seed n run =
     let is : command (map string_bytes c.args.words.now) ≡ Some c.in-Some.command = sym c.command_of_words.ensures.command ∙ c.in-Some.is in
     c.answer_text.ensures.soaks seed n (same_command (sym is ∙ run))
+
+pub returns-then-not-reads-clause-upgrades_read : goal.returns-then-not-reads-clause-upgrades_read
+returns-then-not-reads-clause-upgrades_read g c bytes script read = reads_upgraded bytes script read

@@ -1,6 +1,7 @@
 use Rattle.std.proofs.Common.{arith}
-use Rattle.script_text.proofs.Writes.{writes_then, writes_failed}
-use Rattle.script_text.proofs.Text.{text_of-block, steps_text_more, steps_text_split}
+use Rattle.script_text.proofs.Writes.{writes_then, writes_failed, writes_as}
+use Rattle.script_text.proofs.Text.{steps_text_more, steps_text_split}
+use Rattle.script_text.proofs.Firsts.{block_step}
 use Rattle.script_text.proofs.Counts.{item_le}
 use Rattle.script_text.proofs.body.+blocks.Goals as goal
 
@@ -35,13 +36,7 @@ write_body-loop-step-preserved g t c =
     let text = steps_text_more c.args.decls.now c.steps-step-items.result.now c.loop-step.step-index c.step-item.result c.loop-step-test.true c.step-item.is in
     rw (← text) (writes_then _ _ _ _ _ _ _ _ c.loop-step.invariant (rw c.in_ok-write_step.was at c.write_step.ensures))
 
-pub write_step-returns-in-Test : goal.write_step-returns-in-Test
-write_step-returns-in-Test g t c = rw (c.in-Test.is, text_of-block) (rw (c.test_line.ensures, c.end_line.ensures) at c.write_block.ensures)
-
-pub write_step-returns-in-Loop : goal.write_step-returns-in-Loop
-write_step-returns-in-Loop g t c =
-    rw (c.in-Loop.is, text_of-block) (rw (c.loop_line.ensures, c.end_line-in-Loop.ensures) at c.write_block-in-Loop.ensures)
-
-pub write_step-returns-in-Guard : goal.write_step-returns-in-Guard
-write_step-returns-in-Guard g t c =
-    rw (c.in-Guard.is, text_of-block) (rw (c.line_of-opening.ensures, c.object.ensures.name, c.pop_line.ensures) at c.write_block-in-Guard.ensures)
+pub write_step-returns-in-Some : goal.write_step-returns-in-Some
+write_step-returns-in-Some g t c =
+    writes_as _ _ _ _ _ _ _ (block_step c.args.decls.now c.args.step.now c.in-Some.body.now c.in-Some.ensures)
+    (rw (c.step_line-opening.ensures, c.closing_line.ensures) at c.write_block.ensures)

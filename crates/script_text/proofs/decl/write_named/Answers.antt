@@ -1,14 +1,8 @@
-use Rattle.script_text.proofs.Text.{text_of-block}
+use Rattle.script_text.proofs.Writes.{writes_as}
+use Rattle.script_text.proofs.Firsts.{block_kind}
 use Rattle.script_text.proofs.decl.write_named.Goals as goal
 
-pub returns-in-Thread : goal.returns-in-Thread
-returns-in-Thread g c = rw (c.in-Thread.is, text_of-block) (rw (c.thread_line.ensures, c.end_line.ensures) at c.write_block.ensures)
-
-pub returns-in-Handler : goal.returns-in-Handler
-returns-in-Handler g c =
-    rw (c.in-Handler.is, text_of-block) (rw (c.line_of-opening.ensures, c.end_line-in-Handler.ensures) at c.write_block-in-Handler.ensures)
-
-pub returns-in-Cleanup : goal.returns-in-Cleanup
-returns-in-Cleanup g c =
-    rw (c.in-Cleanup.is, text_of-block)
-    (rw (c.line_of-opening-in-Cleanup.ensures, c.end_line-in-Cleanup.ensures) at c.write_block-in-Cleanup.ensures)
+pub returns-in-Some : goal.returns-in-Some
+returns-in-Some g c =
+    writes_as _ _ _ _ _ _ _ (block_kind c.args.decls.now c.args.name.now c.args.kind.now c.in-Some.body.now c.in-Some.ensures)
+    (rw (c.named_line-opening.ensures, c.end_line.ensures) at c.write_block.ensures)

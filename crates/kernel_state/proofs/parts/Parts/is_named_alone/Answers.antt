@@ -7,4 +7,4 @@ pub returns : goal.returns
 returns c = λ alone.
     let s = c.self.inside in
     subst (λ (k : Kernel). StandFrom k.machine (c.args.t + 1)) c.self.view_is
-    (λ u low. c.self.invariant.stand.others u (c.is_alone.ensures alone u (λ same. omega (arith, low, same))))
+    (λ u low. c.self.invariant.stand.others u (c.is_alone.ensures.0 alone u (λ same. omega (arith, low, same))))

@@ -2,7 +2,7 @@ use Rattle.std.proofs.Common.{◌∙◌, ap, subst, sym}
 use Rattle.script_flat.specs.declared.cursor.Cursor.{Cursor}
 use Rattle.machine_rules.specs.GoodState.{HasParameters}
 use Rattle.machine_rules.specs.State.{Thread}
-use Rattle.thread_blocks.proofs.Charged.{run_fifo, run_rr, run_sporadic}
+use Rattle.thread_blocks.proofs.Charged.{run_fifo, run_rr, run_sporadic, run_strict}
 use Rattle.thread_blocks.proofs.thread.Thread.run.Goals as goal
 
 pub returns-in-Fifo : goal.returns-in-Fifo
@@ -21,3 +21,8 @@ pub returns-in-Sporadic : goal.returns-in-Sporadic
 returns-in-Sporadic c =
     run_sporadic c.args.code.now c.args.most c.args.quantum c.run_capacity.result c.args.self.now c.run_capacity.new.self c.in-Sporadic.field-0
     (sym (ap (λ (t : Thread Cursor). t.policy) c.self.view_is) ∙ c.in-Sporadic.is) c.run_capacity.ensures.spent c.run_capacity.ensures.high
+
+pub returns-in-Strict : goal.returns-in-Strict
+returns-in-Strict c =
+    run_strict c.args.code.now c.args.most c.args.quantum c.run_capacity-in-Strict.result c.args.self.now c.run_capacity-in-Strict.new.self c.in-Strict.field-0
+    (sym (ap (λ (t : Thread Cursor). t.policy) c.self.view_is) ∙ c.in-Strict.is) c.run_capacity-in-Strict.ensures.spent c.run_capacity-in-Strict.ensures.high

@@ -1,8 +1,8 @@
-use Rattle.thread_table.proofs.Accepting.{accepted_by}
+use Rattle.thread_table.proofs.Accepting.{none_accepts}
 use Rattle.thread_table.proofs.table.Table.acceptor.Goals as goal
 
-pub returns : goal.returns
-returns c = λ r same free.
+pub returns-then-is_none : goal.returns-then-is_none
+returns-then-is_none c = λ r same free.
     let s = c.self.inside in
     rw (← c.self.view_is)
-    (accepted_by s.timers s.threads s.chain s.waits c.awaited_sets-sets.result c.args.signal c.best_for_signal.result c.best_for_signal.ensures c.awaited_sets-sets.ensures c.serve_by_the_rules.ensures.acceptors c.self.invariant.tied r same free)
+    (none_accepts s.timers s.threads s.chain s.waits c.best.result c.if-is_none.ensures c.best.ensures c.serve_by_the_rules.ensures.acceptors c.self.invariant.tied r free)

@@ -16,7 +16,7 @@ pub invariant_of-result : goal.invariant_of-result
 invariant_of-result c = record {
   tied = (let value = c.count.ensures.value in
       let most = c.count.ensures.few in
-      let few : length c.in_ok-threads.threads ≤ 64 = omega (arith, value, most) in
+      let few : length c.in_ok-threads.threads ≤ 256 = omega (arith, value, most) in
       let none = subst (λ (ths : List (Thread Cursor)). NoneWaits ths) (sym c.in_ok-threads.ensures) (none_waits (threads_of c.args.script.now)) in
       all_tied c.in_ok-threads.threads _ c.assign_all.new.chain c.assign_all.new.waits few none c.assign_all.ensures);
   armed = rw c.in_ok-timers.ensures (disarmed c.in_ok-threads.threads _ c.time_all.new.wheel.dues c.requires.timers (all_disarmed c.args.script.now.decls) c.time_all.ensures);

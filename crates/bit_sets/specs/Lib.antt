@@ -1,0 +1,3 @@
+pub mod Sets
+pub mod Wide
+pub mod Words

@@ -1,0 +1,32 @@
+-- A server that is activated has consumed nothing that is not planned.
+use Rattle.std.proofs.Common.{Bool, None, Option, Some, arith, false, refl, true, ℕ, ◌≡◌}
+use Rattle.std.specs.Prelude.{option_map, ◌==◌, ◌&&◌, if◌then◌else◌}
+use Rattle.sporadic_server.specs.declared.ServerKind.{ServerKind}
+use Rattle.sporadic_server.specs.declared.ServerKind.TheVariants as kind
+use Rattle.sporadic_server.specs.Server.{ServerState, is_high}
+use Rattle.machine_rules.specs.Servers.{at_once, at_once_as, high_server, is_strict, may_open, opening_server}
+use Rattle.machine_rules.specs.Ticks.{consumed_in}
+use Rattle.thread_blocks.specs.Unused.{IsUnused, IsUnusedAs}
+
+by_kind : (k : ServerKind) (s : ServerState) (c : ℕ) → IsUnusedAs k s → option_map (λ (x : ServerState). x.capacity) (at_once_as k s) ≡ Some c → s.consumed ≡ 0
+by_kind kind.Sporadic s c h e = h
+by_kind kind.Strict s c h e = absurd (grind arith)
+
+pub some_unused : (o : Option ServerState) (c : ℕ) → IsUnused o → option_map (λ (x : ServerState). x.capacity) (at_once o) ≡ Some c → consumed_in o ≡ 0
+some_unused None c h e = refl
+some_unused (Some s) c h e = by_kind s.kind s c h e
+
+pub high_unused : (o : Option ServerState) (c : ℕ) → IsUnused o → option_map (λ (x : ServerState). x.capacity) (at_once (high_server o)) ≡ Some c → consumed_in o ≡ 0
+high_unused None c h e = refl
+high_unused (Some s) c h e = by_high (is_high s) e
+  where
+    by_high : (b : Bool) → option_map (λ (x : ServerState). x.capacity) (at_once (if b then Some s else None)) ≡ Some c → s.consumed ≡ 0
+    by_high true e = by_kind s.kind s c h e
+    by_high false e = absurd (grind arith)
+
+pub opening_unused : (o : Option ServerState) (c : ℕ) → option_map (λ (x : ServerState). x.capacity) (opening_server o) ≡ Some c → consumed_in o ≡ 0
+opening_unused None c e = refl
+opening_unused (Some s) c e = by_may (is_strict s.kind) (is_high s) e
+  where
+    by_may : (a b : Bool) → option_map (λ (x : ServerState). x.capacity) (if a && b && s.consumed == 0 then Some s else None) ≡ Some c → s.consumed ≡ 0
+    by_may a b e = grind arith

@@ -1,0 +1,4 @@
+pub mod Units
+pub mod Declared
+pub mod FirstVersion
+pub mod Before

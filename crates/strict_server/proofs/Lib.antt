@@ -1,0 +1,6 @@
+mod Examples
+pub mod Sums
+pub mod Parts
+pub mod Window
+pub mod Order
+pub mod Lives
