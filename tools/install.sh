@@ -61,7 +61,7 @@ for folder in tools/*/; do
 done
 install -m 644 docs/*.1 "$root/share/man/man1/"
 install -m 644 README.md LICENSE LICENSE-MIT LICENSE-APACHE NOTICE CHANGELOG.md docs/*.md "$doc/"
-install -m 644 crates/raw_links/LICENSE-circular-buffer "$doc/"
+install -m 644 crates/parts_links/LICENSE-circular-buffer "$doc/"
 mkdir -p "$doc/examples/real" "$lib/examples"
 install -m 644 examples/*.task "$lib/examples/"
 install -m 644 examples/*.task examples/*.rta "$doc/examples/"

@@ -1,7 +1,7 @@
 #!/usr/bin/env bash
 # Times the ready lists before and after they stood on linked cells, and the timer wheel beside a plain search, in one run.
 # Usage: tools/bench/run.sh [COMMIT], COMMIT being the one whose ready lists are the earlier ones; without it the last before they
-# took up `raw_links`. README.md says what is compared.
+# took up `parts_links`. README.md says what is compared.
 set -u
 here=$(cd "$(dirname "$0")" && pwd) || exit 1
 top=$(cd "$here/../.." && pwd) || exit 1
@@ -13,7 +13,7 @@ cleanup() {
 }
 trap cleanup EXIT
 
-turned=$(git -C "$top" log --format=%H -S'use raw_links::Links' -- crates/ready_lists/src/lib.rt | tail -n 1)
+turned=$(git -C "$top" log --format=%H -S'use parts_links::Links' -- crates/parts_ready/src/lib.rt | tail -n 1)
 commit=${1:-$turned~1}
 git -C "$top" worktree add --detach "$earlier" "$commit" >/dev/null 2>&1 || {
     echo "bench: no commit $commit"

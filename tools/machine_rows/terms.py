@@ -6,7 +6,7 @@ from script import (
     Action, AddRegister, Call, CleanupKind, CondKind, Fifo, Guard, HandlerKind, Loop, MutexKind, Named, QueueKind, Rr,
     Run, Script, SemKind, SetRegister, Sporadic, Strict, TakeValue, Test, ThreadKind, TimerKind)
 
-SPECS = "Rattle.machine_rules.specs"
+SPECS = "Rattle.rules_machine.specs"
 VARIANTS = {
     "res": "tick_num.specs.declared.res.Res",
     "call": "script_tree.specs.declared.call.Call",
@@ -20,8 +20,8 @@ HEADER = "".join([
     "use Rattle.std.specs.Prelude.{ℕ, List, [], ◌∷◌, ◌≡◌, Some, None, true, false, codes, refl}\n",
     "use Rattle.std.specs.Fmt.{digits}\n",
     *(f"use Rattle.{path}.TheVariants as {alias}\n" for alias, path in VARIANTS.items()),
-    "use Rattle.script_tree.specs.Block.{Nothing, Running, Making, Setting, Adding, Taking, Testing, Looping, Guarding}\n",
-    "use Rattle.script_tree.specs.declared.decl.Script.{Script}\n",
+    "use Rattle.words_script.specs.Block.{Nothing, Running, Making, Setting, Adding, Taking, Testing, Looping, Guarding}\n",
+    "use Rattle.words_script.specs.declared.decl.Script.{Script}\n",
     f"use {SPECS}.Priorities.{{exec_in}}\n",
     f"use {SPECS}.Machine.{{trace}}\n",
 ])

@@ -1,9 +1,5 @@
-pub mod Same
-pub mod Visited
-pub mod Delivered
-pub mod Sent
-pub mod Swept
-pub mod Midway
-pub mod Awaited
-pub mod Generated
-pub mod Expired
+pub mod ByAge
+pub mod Keeping
+pub mod Selecting
+pub mod Walking
+pub mod Killing

@@ -1,1 +1,5 @@
-pub mod Sweeping
+pub mod Ages
+pub mod Choice
+pub mod Kept
+pub mod Walks
+pub mod Actions

@@ -1,23 +1,19 @@
-//! Signals: sending them, masks, waiting for them, the sweep that delivers those that are pending, and the interval timers that send
-//! them. Each is a step of a turn of the machine.
+//! What signals do, and the pending ones: the records that were generated and not taken yet.
 //!
-//! Proved: each answer of the calls of signals and of timers by its row, with the lines told. `generate`: a signal goes to the
-//! thread that waits for it and is served first, or is ignored, or becomes pending. `expire`: an expiry generates its timer's
-//! signal, or counts one overrun more where that is pending. `sweep`: each thread by number takes the record that is selected for
-//! it, by its handler or as the end of the process, with the moves.
+//! Proved: pending signals: `next_in` and `next_for` give the record that is selected for a wait, and for a thread in the sweep;
+//! `is_full` where 64 of `kill`, `tkill` and `sigqueue` are pending; the actions are those that the script declares.
+//!
+//! Contracts see the pending records of the machine, in the order in which they became pending. A record that is selected is the one of
+//! the lowest signal, and of that signal the oldest: each signal has a list of its own, so that no record of a higher signal is looked
+//! at. The room for all records that can be pending is taken by `open`, and no later call takes memory.
 #![tactic(auto)]
 
-mod catching;
-mod generating;
-mod masks;
-mod sending;
-mod sweeping;
-mod timers;
-mod waiting;
+mod actions;
+mod ages;
+mod choice;
+mod pending;
+mod record;
 
-pub use generating::generate;
-pub use masks::{block, set, unblock};
-pub use sending::{kill, kill_thread, queue};
-pub use sweeping::sweep;
-pub use timers::{expire, expiry_after, expiry_at, read_overrun, read_timer, set_timer};
-pub use waiting::wait;
+pub use actions::Actions;
+pub use pending::Pending;
+pub use record::SignalRecord;

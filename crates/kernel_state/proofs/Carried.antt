@@ -1,17 +1,17 @@
 -- What a change of threads and mutexes leaves of the ties, and who is named with it.
 use Rattle.std.proofs.Common.{◌≡◌, ◌≢◌, ◌<◌, ◌≤◌, ◌∙◌, ℕ, true, false, List, None, Option, Some, ap, arith, length, refl, subst, sym}
 use Rattle.std.specs.Prelude.{IfSome, ◌==◌}
-use Rattle.script_flat.specs.declared.cursor.Cursor.{Cursor}
-use Rattle.script_flat.specs.declared.op.Op.{Op}
-use Rattle.script_flat.specs.Flat.{NumberedBodies}
-use Rattle.machine_rules.specs.Lists.{is}
-use Rattle.machine_rules.specs.State.{Mutex, Thread}
-use Rattle.machine_rules.specs.Threads.{is_runnable, no_thread}
-use Rattle.machine_rules.proofs.Reading.{changed-length, changed-other}
-use Rattle.thread_table.specs.Movers.{KeepsExec, KeepsOthers, TellsMoved, TellsMovedBeside}
-use Rattle.thread_table.specs.Table.{Table, thread_at, with_mutex, with_thread}
-use Rattle.thread_table.proofs.ToldMoves.{keeps}
-use Rattle.bit_sets.specs.Sets.{Turns, has}
+use Rattle.script_code.specs.declared.cursor.Cursor.{Cursor}
+use Rattle.script_code.specs.declared.op.Op.{Op}
+use Rattle.script_code.specs.Flat.{NumberedBodies}
+use Rattle.rules_machine.specs.Lists.{is}
+use Rattle.rules_machine.specs.State.{Mutex, Thread}
+use Rattle.rules_machine.specs.Threads.{is_runnable, no_thread}
+use Rattle.rules_machine.proofs.Reading.{changed-length, changed-other}
+use Rattle.kernel_table.specs.Movers.{KeepsExec, KeepsOthers, TellsMoved, TellsMovedBeside}
+use Rattle.kernel_table.specs.Table.{Table, thread_at, with_mutex, with_thread}
+use Rattle.kernel_table.proofs.ToldMoves.{keeps}
+use Rattle.parts_bits.specs.Sets.{Turns, has}
 use Rattle.kernel_state.specs.Members.{TakesIn}
 use Rattle.kernel_state.specs.Standing.{OthersStand}
 use Rattle.kernel_state.specs.Tied.{IsTied}

@@ -2,12 +2,12 @@
 use Rattle.std.proofs.Common.{◌≡◌, ◌∙◌, ℕ, Option, None, Some, ap, refl}
 use Rattle.std.specs.Prelude.{option_map}
 use Rattle.std.specs.Option.{option_map_or}
-use Rattle.script_flat.specs.declared.cursor.Cursor.{Cursor}
-use Rattle.machine_rules.specs.Queues.{message_of}
-use Rattle.machine_rules.specs.State.{Machine, Message, Waiting, for_time}
-use Rattle.machine_rules.specs.Threads.{waiting_of}
-use Rattle.thread_blocks.specs.Plain.{wait_of}
-use Rattle.thread_blocks.specs.declared.status.Wait as plain
+use Rattle.script_code.specs.declared.cursor.Cursor.{Cursor}
+use Rattle.rules_machine.specs.Queues.{message_of}
+use Rattle.rules_machine.specs.State.{Machine, Message, Waiting, for_time}
+use Rattle.rules_machine.specs.Threads.{waiting_of}
+use Rattle.kernel_threads.specs.Plain.{wait_of}
+use Rattle.kernel_threads.specs.declared.status.Wait as plain
 use Rattle.kernel_state.specs.Messages.{waiting_message}
 
 abbrev in_wait : Option Waiting → Message

@@ -4,11 +4,11 @@ use Rattle.std.specs.Prelude.{◌&&◌, Bool, Option, Some, None, false, map, sl
 use Rattle.std.proofs.lemmas.List.{length-map}
 use Rattle.std.proofs.Math.ListN.{get_or-eq_default}
 use Rattle.kernel_state.specs.Settled.{HavePriorities}
-use Rattle.machine_rules.specs.Lists.{greatest, is, numbers_from}
-use Rattle.machine_rules.specs.State.{Machine, Mutex}
-use Rattle.machine_rules.specs.Threads.{mutex_in, no_mutex}
-use Rattle.machine_rules.specs.Priorities.{Claim, base_in, owner_ceiling, claim_of, claims, exec, exec_in, exec_within, is_inherit, inherit_waiters_in, is_inherit_mutex_of}
-use Rattle.inherit_chain.specs.Chains.{IsPriority, OwnersAreThreads}
+use Rattle.rules_machine.specs.Lists.{greatest, is, numbers_from}
+use Rattle.rules_machine.specs.State.{Machine, Mutex}
+use Rattle.rules_machine.specs.Threads.{mutex_in, no_mutex}
+use Rattle.rules_machine.specs.Priorities.{Claim, base_in, owner_ceiling, claim_of, claims, exec, exec_in, exec_within, is_inherit, inherit_waiters_in, is_inherit_mutex_of}
+use Rattle.parts_owners.specs.Chains.{IsPriority, OwnersAreThreads}
 
 -- the thread owns none of these
 abbrev OwnsNone : ℕ → List Mutex → Type 0

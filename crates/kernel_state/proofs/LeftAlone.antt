@@ -1,9 +1,9 @@
 -- A mutex that is put back as it is changes nothing.
 use Rattle.std.proofs.Common.{List, ap, ℕ, ◌≡◌}
 use Rattle.std.proofs.lemmas.List.{set-get_or}
-use Rattle.machine_rules.specs.State.{Mutex}
-use Rattle.machine_rules.specs.Threads.{no_mutex}
-use Rattle.machine_rules.specs.Turns.{changes_mutex}
+use Rattle.rules_machine.specs.State.{Mutex}
+use Rattle.rules_machine.specs.Threads.{no_mutex}
+use Rattle.rules_machine.specs.Turns.{changes_mutex}
 use Rattle.kernel_state.specs.Kernel.{Kernel, after}
 
 pub left_alone : (p : Kernel) (k : ℕ) → after (changes_mutex k (λ (m : Mutex). m)) p ≡ p

@@ -1,10 +1,10 @@
 -- The ticks to the nearest due tick, by the least of all.
 use Rattle.std.proofs.Common.{◌≡◌, ◌≤◌, ◌+◌, ℕ, List, [], ◌∷◌, Bool, true, false, Option, None, Some, ap, arith, refl, sym, ◌∙◌}
 use Rattle.std.specs.Prelude.{◌-◌, ◌^◌, min, nat_le, if◌then◌else◌}
-use Rattle.machine_rules.specs.Agenda.{Coming}
-use Rattle.leap_rules.specs.Leap.{ticks_to_next}
-use Rattle.timer_wheel.specs.Dues.{earlier}
-use Rattle.thread_table.specs.Times.{in_time, last_instant, least_due}
+use Rattle.rules_machine.specs.Agenda.{Coming}
+use Rattle.rules_leaps.specs.Leap.{ticks_to_next}
+use Rattle.parts_wheel.specs.Dues.{earlier}
+use Rattle.kernel_table.specs.Times.{in_time, last_instant, least_due}
 
 abbrev pub near : ℕ → ℕ → Option ℕ → ℕ
 near most now None = most

@@ -2,13 +2,13 @@
 use Rattle.std.proofs.Common.{◌≡◌, ◌≢◌, ◌<◌, ◌≤◌, ◌-◌, ◌+◌, ◌∙◌, inl, inr, ℕ, Bool, true, false, List, [], ◌∷◌, None, Option, Some, ap, arith, length, refl, sym}
 use Rattle.std.specs.Prelude.{if◌then◌else◌, slice_index}
 use Rattle.std.proofs.lemmas.Bool.Decides.{eqb_tells}
-use Rattle.script_flat.specs.declared.cursor.Cursor.{Cursor}
-use Rattle.ready_lists.specs.Lists.{prio_of, to_tail, without}
-use Rattle.machine_rules.specs.State.{Machine}
-use Rattle.machine_rules.specs.Threads.{can_run, thread_numbers}
-use Rattle.machine_rules.specs.Priorities.{exec}
-use Rattle.machine_rules.specs.Settling.{fell, left_runnable, moved_all, rose, shift_between, shifted, stayed, Shift}
-use Rattle.machine_rules.proofs.Standing.{without_length}
+use Rattle.script_code.specs.declared.cursor.Cursor.{Cursor}
+use Rattle.parts_ready.specs.Lists.{prio_of, to_tail, without}
+use Rattle.rules_machine.specs.State.{Machine}
+use Rattle.rules_machine.specs.Threads.{can_run, thread_numbers}
+use Rattle.rules_machine.specs.Priorities.{exec}
+use Rattle.rules_machine.specs.Settling.{fell, left_runnable, moved_all, rose, shift_between, shifted, stayed, Shift}
+use Rattle.rules_machine.proofs.Standing.{without_length}
 use Rattle.kernel_state.specs.Kernel.{Kernel}
 use Rattle.kernel_state.specs.Settled.{HavePriorities, left_one, moved, placed, placed_all, settled_now, shifted_from, with_lists}
 use Rattle.kernel_state.specs.Standing.{IsNext, StandFrom, StandsRight, table_in}

@@ -2,21 +2,21 @@
 use Rattle.std.proofs.Common.{◌≡◌, ◌<◌, ℕ, zero, suc, List, [], ◌∷◌, Bool, true, false, ap, arith, length, refl, sym, replicate, ◌∙◌, Some}
 use Rattle.std.specs.Prelude.{map, slice_get, slice_index, slice_index_or}
 use Rattle.std.proofs.lemmas.List.{length-map}
-use Rattle.script_tree.specs.Block.{Block, Nothing}
-use Rattle.script_tree.specs.declared.decl.Script.{Script}
-use Rattle.script_flat.specs.Flat as flat
-use Rattle.script_flat.specs.Next.{body_start}
-use Rattle.script_flat.proofs.Opens.{is_body_of_script}
-use Rattle.thread_lists.specs.Threads.{times}
-use Rattle.script_flat.specs.declared.cursor.Cursor.{Cursor}
-use Rattle.machine_rules.specs.Declarations.{ThreadDecl, threads_of}
-use Rattle.machine_rules.specs.Threads.{is_runnable, no_thread}
-use Rattle.machine_rules.specs.Machine.{names_of}
-use Rattle.machine_rules.specs.Runs.{opening, thread_opened}
-use Rattle.machine_flat.proofs.Numbered.{Numbered, cleanup_blocks, handler_blocks, known, thread_blocks}
-use Rattle.machine_flat.specs.FlatBodies.{code_of}
-use Rattle.machine_flat.specs.Runnable.{IsRunnable}
-use Rattle.thread_blocks.specs.Handlers.{CatchersBegin, HandlerBegins, HandlersBegin}
+use Rattle.words_script.specs.Block.{Block, Nothing}
+use Rattle.words_script.specs.declared.decl.Script.{Script}
+use Rattle.script_code.specs.Flat as flat
+use Rattle.script_code.specs.Next.{body_start}
+use Rattle.script_code.proofs.Opens.{is_body_of_script}
+use Rattle.parts_lists.specs.Threads.{times}
+use Rattle.script_code.specs.declared.cursor.Cursor.{Cursor}
+use Rattle.rules_machine.specs.Declarations.{ThreadDecl, threads_of}
+use Rattle.rules_machine.specs.Threads.{is_runnable, no_thread}
+use Rattle.rules_machine.specs.Machine.{names_of}
+use Rattle.rules_machine.specs.Runs.{opening, thread_opened}
+use Rattle.rules_flat_code.proofs.Numbered.{Numbered, cleanup_blocks, handler_blocks, known, thread_blocks}
+use Rattle.rules_flat_code.specs.FlatBodies.{code_of}
+use Rattle.rules_flat_code.specs.Runnable.{IsRunnable}
+use Rattle.kernel_threads.specs.Handlers.{CatchersBegin, HandlerBegins, HandlersBegin}
 use Rattle.kernel_state.specs.Settled.{HavePriorities}
 use Rattle.kernel_state.specs.Stood.{StoodRight}
 use Rattle.kernel_state.specs.Tied.{IsTied}

@@ -2,16 +2,16 @@
 use Rattle.std.proofs.Common.{◌≡◌, ◌≢◌, ◌<◌, ◌≤◌, inl, inr, ◌+◌, ◌-◌, ◌∙◌, ℕ, zero, suc, Bool, true, false, List, [], ◌∷◌, None, Option, Some, ap, arith, length, refl, sym}
 use Rattle.std.specs.Prelude.{IfSome, MatchOption, replicate}
 use Rattle.std.proofs.lemmas.Bool.Decides.{eqb_tells}
-use Rattle.script_flat.specs.declared.cursor.Cursor.{Cursor}
-use Rattle.ready_lists.specs.Lists.{empty_lists, prio_from, prio_of, to_head, to_tail, without}
-use Rattle.machine_rules.specs.Lists.{changed_at, is}
-use Rattle.machine_rules.specs.State.{Thread}
-use Rattle.machine_rules.specs.Threads.{is_runnable, no_thread, thread_in}
-use Rattle.machine_rules.proofs.Standing.{head_length, tail_length, without_length}
-use Rattle.thread_table.specs.Movers.{IsFree}
-use Rattle.thread_table.specs.Table.{Table, exec, thread_at, with_thread}
-use Rattle.thread_table.proofs.ToldMoves.{runs_free}
-use Rattle.bit_sets.specs.Sets.{HasNoneFrom, IsFirstFrom, Turns, has}
+use Rattle.script_code.specs.declared.cursor.Cursor.{Cursor}
+use Rattle.parts_ready.specs.Lists.{empty_lists, prio_from, prio_of, to_head, to_tail, without}
+use Rattle.rules_machine.specs.Lists.{changed_at, is}
+use Rattle.rules_machine.specs.State.{Thread}
+use Rattle.rules_machine.specs.Threads.{is_runnable, no_thread, thread_in}
+use Rattle.rules_machine.proofs.Standing.{head_length, tail_length, without_length}
+use Rattle.kernel_table.specs.Movers.{IsFree}
+use Rattle.kernel_table.specs.Table.{Table, exec, thread_at, with_thread}
+use Rattle.kernel_table.proofs.ToldMoves.{runs_free}
+use Rattle.parts_bits.specs.Sets.{HasNoneFrom, IsFirstFrom, Turns, has}
 use Rattle.kernel_state.specs.Members.{TakesIn}
 use Rattle.kernel_state.specs.Standing.{OthersStand, ComesNext, StandsRight}
 use Rattle.kernel_state.proofs.OnLists.{gone, gone_apart, head_apart, head_there, tail_apart, tail_there}

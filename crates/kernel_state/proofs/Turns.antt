@@ -1,15 +1,15 @@
 -- One effect after another, over the parts.
 use Rattle.std.proofs.Common.{◌≡◌, ℕ, List, Option, ap, append-nil, subst, sym, ◌∙◌}
-use Rattle.pse52_trace.specs.Tells.{Tells}
-use Rattle.pse52_trace.specs.declared.tracer.Tracer.{Tracer}
-use Rattle.pse52_trace.proofs.Tells.{tells_both}
-use Rattle.script_flat.specs.declared.cursor.Cursor.{Cursor}
-use Rattle.script_flat.specs.declared.op.Op.{Op}
-use Rattle.script_flat.specs.Flat as flat
-use Rattle.machine_rules.specs.Bodies.{Bodies}
-use Rattle.machine_rules.specs.Turns.{Turn}
-use Rattle.machine_flat.specs.FlatBodies.{flat_bodies}
-use Rattle.machine_rules.proofs.Behind.{AddsBehind, behind}
+use Rattle.words_trace.specs.Tells.{Tells}
+use Rattle.words_trace.specs.declared.tracer.Tracer.{Tracer}
+use Rattle.words_trace.proofs.Tells.{tells_both}
+use Rattle.script_code.specs.declared.cursor.Cursor.{Cursor}
+use Rattle.script_code.specs.declared.op.Op.{Op}
+use Rattle.script_code.specs.Flat as flat
+use Rattle.rules_machine.specs.Bodies.{Bodies}
+use Rattle.rules_machine.specs.Turns.{Turn}
+use Rattle.rules_flat_code.specs.FlatBodies.{flat_bodies}
+use Rattle.rules_machine.proofs.Behind.{AddsBehind, behind}
 use Rattle.kernel_state.specs.Kernel.{Kernel, after, told, turn}
 
 pub after_told : (f g : Turn Cursor → Turn Cursor) (k : Kernel) → AddsBehind g → g (f (turn k)) ≡ behind (told f k) (g (turn (after f k)))

@@ -1,18 +1,18 @@
 -- What is known of a thread that begins to wait, and of the one that is served first.
 use Rattle.std.proofs.Common.{◌≡◌, ◌<◌, ◌∙◌, ℕ, zero, suc, Bool, true, false, List, [], ◌∷◌, Option, None, Some, arith, length, refl}
 use Rattle.std.specs.Prelude.{IfSome, option_map}
-use Rattle.script_flat.specs.declared.cursor.Cursor.{Cursor}
-use Rattle.machine_rules.specs.State.{Machine, Status, Thread, Wait, Waiting, blocked, dormant, ended, runnable}
-use Rattle.machine_rules.specs.Threads.{can_run, is_blocked, is_runnable, thread_at, thread_in, waiting_in, waiting_of}
-use Rattle.machine_rules.specs.Priorities.{claims, mutex_awaited_by}
-use Rattle.machine_rules.specs.Mutexes.{closes_cycle}
-use Rattle.machine_rules.specs.Waiters.{Waiter, best_waiter}
-use Rattle.machine_moves.proofs.Waiters.Best.{best_waits}
-use Rattle.wait_lists.specs.declared.WaitObj.{WaitObj}
-use Rattle.wait_lists.specs.Ties.{is_object, object_of}
-use Rattle.inherit_chain.specs.Chains.{closes_cycle_in}
-use Rattle.inherit_chain.proofs.Machine.{closes_cycle_is}
-use Rattle.thread_table.specs.Table.{CanAwait}
+use Rattle.script_code.specs.declared.cursor.Cursor.{Cursor}
+use Rattle.rules_machine.specs.State.{Machine, Status, Thread, Wait, Waiting, blocked, dormant, ended, runnable}
+use Rattle.rules_machine.specs.Threads.{can_run, is_blocked, is_runnable, thread_at, thread_in, waiting_in, waiting_of}
+use Rattle.rules_machine.specs.Priorities.{claims, mutex_awaited_by}
+use Rattle.rules_machine.specs.Mutexes.{closes_cycle}
+use Rattle.rules_machine.specs.Waiters.{Waiter, best_waiter}
+use Rattle.laws_moves.proofs.Waiters.Best.{best_waits}
+use Rattle.parts_waiters.specs.declared.WaitObj.{WaitObj}
+use Rattle.parts_waiters.specs.Ties.{is_object, object_of}
+use Rattle.parts_owners.specs.Chains.{closes_cycle_in}
+use Rattle.parts_owners.proofs.Machine.{closes_cycle_is}
+use Rattle.kernel_table.specs.Table.{CanAwait}
 use Rattle.kernel_state.specs.Waits.{CanWait}
 
 not_off : {X : Type 0} → false ≡ true → X

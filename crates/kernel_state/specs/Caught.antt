@@ -1,11 +1,11 @@
 -- What signals ask of a kernel.
 use Rattle.std.specs.Prelude.{◌<◌, ℕ, All, length}
-use Rattle.script_flat.specs.declared.cursor.Cursor.{Cursor}
-use Rattle.machine_rules.specs.declared.signal.SigAction.{SigAction}
-use Rattle.machine_rules.specs.declared.signal.SigAction.TheVariants as action
-use Rattle.machine_rules.specs.State.{Machine, SignalRecord}
-use Rattle.machine_rules.specs.Threads.{action_of}
-use Rattle.rt_signals.specs.Kept.{room}
+use Rattle.script_code.specs.declared.cursor.Cursor.{Cursor}
+use Rattle.rules_machine.specs.declared.signal.SigAction.{SigAction}
+use Rattle.rules_machine.specs.declared.signal.SigAction.TheVariants as action
+use Rattle.rules_machine.specs.State.{Machine, SignalRecord}
+use Rattle.rules_machine.specs.Threads.{action_of}
+use Rattle.kernel_signals.specs.Kept.{room}
 use Rattle.kernel_state.specs.Kernel.{Kernel}
 
 -- an action names one of so many handlers

@@ -1,27 +1,27 @@
 -- What contracts see of the parts of a kernel, and how they say which turn of the machine a call is.
 use Rattle.std.specs.Prelude.{ℕ, Bool, List, None, Option, Some, [], ◌&&◌}
-use Rattle.pse52_trace.specs.Text.{Entry}
-use Rattle.script_tree.specs.declared.call.Call.{Call}
-use Rattle.script_flat.specs.declared.cursor.Cursor.{Cursor}
-use Rattle.script_flat.specs.declared.op.Op.{Op}
-use Rattle.script_flat.specs.Flat as flat
-use Rattle.machine_rules.specs.State.{Machine}
-use Rattle.machine_rules.specs.declared.dispatch.LastDispatch.{LastDispatch}
-use Rattle.machine_rules.specs.declared.dispatch.LastDispatch.TheVariants as last
-use Rattle.pse52_trace.specs.declared.event.Event.TheVariants as event
-use Rattle.sporadic_server.specs.Server.{activate}
-use Rattle.machine_rules.specs.Servers.{activates_if, with_server}
-use Rattle.thread_blocks.specs.declared.ends.Refilled.{Refilled}
-use Rattle.tick_num.specs.declared.res.Res.TheVariants as res
-use Rattle.script_tree.specs.declared.policy.Policy.{Policy}
-use Rattle.script_tree.specs.declared.decl.Script.{Script}
-use Rattle.machine_rules.specs.Turns.{Caller, Turn, changes, moves, returns, tells, ◌▷◌}
-use Rattle.machine_rules.specs.Scheduling.{with_policy}
-use Rattle.machine_rules.specs.Runs.{opening}
-use Rattle.machine_rules.specs.Machine.{names_of}
-use Rattle.machine_flat.specs.FlatBodies.{code_of}
-use Rattle.machine_rules.specs.Waking.{started}
-use Rattle.machine_rules.specs.Bodies.{Bodies}
+use Rattle.words_trace.specs.Text.{Entry}
+use Rattle.words_script.specs.declared.call.Call.{Call}
+use Rattle.script_code.specs.declared.cursor.Cursor.{Cursor}
+use Rattle.script_code.specs.declared.op.Op.{Op}
+use Rattle.script_code.specs.Flat as flat
+use Rattle.rules_machine.specs.State.{Machine}
+use Rattle.rules_machine.specs.declared.dispatch.LastDispatch.{LastDispatch}
+use Rattle.rules_machine.specs.declared.dispatch.LastDispatch.TheVariants as last
+use Rattle.words_trace.specs.declared.event.Event.TheVariants as event
+use Rattle.parts_server.specs.Server.{activate}
+use Rattle.rules_machine.specs.Servers.{activates_if, with_server}
+use Rattle.kernel_threads.specs.declared.ends.Refilled.{Refilled}
+use Rattle.words_numbers.specs.declared.res.Res.TheVariants as res
+use Rattle.words_script.specs.declared.policy.Policy.{Policy}
+use Rattle.words_script.specs.declared.decl.Script.{Script}
+use Rattle.rules_machine.specs.Turns.{Caller, Turn, changes, moves, returns, tells, ◌▷◌}
+use Rattle.rules_machine.specs.Scheduling.{with_policy}
+use Rattle.rules_machine.specs.Runs.{opening}
+use Rattle.rules_machine.specs.Machine.{names_of}
+use Rattle.rules_flat_code.specs.FlatBodies.{code_of}
+use Rattle.rules_machine.specs.Waking.{started}
+use Rattle.rules_machine.specs.Bodies.{Bodies}
 
 -- the names of the threads, the flat code, the machine over its places, and the direct moves since the last settling
 pub record Kernel : Type 0 where

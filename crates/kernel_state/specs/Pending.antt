@@ -1,11 +1,11 @@
 -- What records that become pending ask of a machine, and the numbers of what sends them.
 use Rattle.std.specs.Prelude.{◌≡◌, ◌<◌, ℕ, All, Some, false, length}
-use Rattle.script_flat.specs.declared.cursor.Cursor.{Cursor}
-use Rattle.machine_rules.specs.Signals.{is_full}
-use Rattle.machine_rules.specs.State.{Machine, Message, Registration, SignalRecord, Waiting, for_room}
-use Rattle.machine_rules.specs.Threads.{queue_at, timer_at, waiting_of}
-use Rattle.machine_rules.specs.Timers.{is_pending_from}
-use Rattle.rt_signals.specs.Kept.{room}
+use Rattle.script_code.specs.declared.cursor.Cursor.{Cursor}
+use Rattle.rules_machine.specs.Signals.{is_full}
+use Rattle.rules_machine.specs.State.{Machine, Message, Registration, SignalRecord, Waiting, for_room}
+use Rattle.rules_machine.specs.Threads.{queue_at, timer_at, waiting_of}
+use Rattle.rules_machine.specs.Timers.{is_pending_from}
+use Rattle.kernel_signals.specs.Kept.{room}
 
 -- there is room for a record of a call, of a timer, or of a queue's notification, wherever one may become pending
 pub record PendingFits (m : Machine Cursor) : Type 0 where

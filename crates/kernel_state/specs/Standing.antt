@@ -1,11 +1,11 @@
 -- Where the threads stand that no settling has to look at.
 use Rattle.std.specs.Prelude.{◌≡◌, ◌≤◌, ◌<◌, ℕ, List, Some, false, length, true}
-use Rattle.script_flat.specs.declared.cursor.Cursor.{Cursor}
-use Rattle.ready_lists.specs.Lists.{prio_of}
-use Rattle.machine_rules.specs.State.{Machine}
-use Rattle.machine_rules.specs.Threads.{is_runnable}
-use Rattle.thread_table.specs.Table.{Table, exec, thread_at}
-use Rattle.bit_sets.specs.Sets.{has}
+use Rattle.script_code.specs.declared.cursor.Cursor.{Cursor}
+use Rattle.parts_ready.specs.Lists.{prio_of}
+use Rattle.rules_machine.specs.State.{Machine}
+use Rattle.rules_machine.specs.Threads.{is_runnable}
+use Rattle.kernel_table.specs.Table.{Table, exec, thread_at}
+use Rattle.parts_bits.specs.Sets.{has}
 
 -- where it stands on a list, it can run, and the list is that of its execution priority
 pub record StandsRight (table : Table) (lists : List (List ℕ)) (t : ℕ) : Type 0 where

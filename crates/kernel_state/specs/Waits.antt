@@ -1,9 +1,9 @@
 -- What a thread may begin to wait for.
 use Rattle.std.specs.Prelude.{◌≡◌, ◌<◌, ℕ, IsSome, None, Option, Some, false, length}
-use Rattle.script_flat.specs.declared.cursor.Cursor.{Cursor}
-use Rattle.machine_rules.specs.State.{Machine}
-use Rattle.machine_rules.specs.Threads.{mutex_at}
-use Rattle.machine_rules.specs.Mutexes.{closes_cycle}
+use Rattle.script_code.specs.declared.cursor.Cursor.{Cursor}
+use Rattle.rules_machine.specs.State.{Machine}
+use Rattle.rules_machine.specs.Threads.{mutex_at}
+use Rattle.rules_machine.specs.Mutexes.{closes_cycle}
 
 -- a mutex is owned, and to wait for it closes no cycle
 abbrev pub CanWait : Machine Cursor → ℕ → Option ℕ → Type 0

@@ -1,34 +1,34 @@
 // The smallest changes of a thread. Each names those that may no longer stand where they are to stand.
 ghost use Rattle.std.specs.Prelude.{◌≡◌, ◌≤◌, ◌<◌, ◌^◌, length, option_map, true};
-ghost use Rattle.sporadic_server.specs.Server.{activate};
-ghost use Rattle.machine_rules.specs.Servers.{with_server};
-ghost use Rattle.thread_blocks.specs.Sleeping.{waits_for_time};
-ghost use Rattle.thread_blocks.specs.Unused.{IsUnused};
-ghost use Rattle.machine_rules.specs.Threads.{can_run, thread_at, waiting_in};
-ghost use Rattle.machine_rules.specs.Lives.{without_life};
-ghost use Rattle.machine_rules.specs.Scheduling.{takes_priority, with_policy, with_priority};
-ghost use Rattle.machine_rules.specs.Waking.{new_frame, started};
-ghost use Rattle.machine_rules.specs.Ticks.{without_slice};
-ghost use Rattle.script_flat.specs.Fetched.{call_of};
-ghost use Rattle.machine_flat.specs.FlatBodies.{flat_bodies};
-ghost use Rattle.machine_rules.specs.Turns.{answered, changes};
-ghost use Rattle.machine_rules.specs.Waking.{put_to_wait, woken};
-ghost use Rattle.machine_rules.specs.Priorities.{mutex_awaited_by, mutex_waited};
-ghost use Rattle.thread_blocks.specs.Plain.{wait_of, waiting_of};
+ghost use Rattle.parts_server.specs.Server.{activate};
+ghost use Rattle.rules_machine.specs.Servers.{with_server};
+ghost use Rattle.kernel_threads.specs.Sleeping.{waits_for_time};
+ghost use Rattle.kernel_threads.specs.Unused.{IsUnused};
+ghost use Rattle.rules_machine.specs.Threads.{can_run, thread_at, waiting_in};
+ghost use Rattle.rules_machine.specs.Lives.{without_life};
+ghost use Rattle.rules_machine.specs.Scheduling.{takes_priority, with_policy, with_priority};
+ghost use Rattle.rules_machine.specs.Waking.{new_frame, started};
+ghost use Rattle.rules_machine.specs.Ticks.{without_slice};
+ghost use Rattle.script_code.specs.Fetched.{call_of};
+ghost use Rattle.rules_flat_code.specs.FlatBodies.{flat_bodies};
+ghost use Rattle.rules_machine.specs.Turns.{answered, changes};
+ghost use Rattle.rules_machine.specs.Waking.{put_to_wait, woken};
+ghost use Rattle.rules_machine.specs.Priorities.{mutex_awaited_by, mutex_waited};
+ghost use Rattle.kernel_threads.specs.Plain.{wait_of, waiting_of};
 ghost use Rattle.kernel_state.specs.Waits.{CanWait};
 ghost use Rattle.kernel_state.specs.Kernel.{after};
 ghost use Rattle.std.specs.Prelude.{None, Some, is_some};
-ghost use Rattle.sporadic_server.specs.Server.{plan, refill, replenishment};
-ghost use Rattle.machine_rules.specs.Ticks.{consumed_in};
-ghost use Rattle.thread_blocks.specs.Ends.{refilled_of};
+ghost use Rattle.parts_server.specs.Server.{plan, refill, replenishment};
+ghost use Rattle.rules_machine.specs.Ticks.{consumed_in};
+ghost use Rattle.kernel_threads.specs.Ends.{refilled_of};
 
 use crate::parts::Parts;
-use machine_rules::{BodyOf, FrameKind};
-use script_flat::CallPlace;
-use script_tree::{Call, Policy};
-use sporadic_server::Replenish;
-use thread_blocks::{Frame, Refilled, Waiting};
-use tick_num::{Prio, Res, SigSet, Tid};
+use rules_machine::{BodyOf, FrameKind};
+use script_code::CallPlace;
+use words_script::{Call, Policy};
+use parts_server::Replenish;
+use kernel_threads::{Frame, Refilled, Waiting};
+use words_numbers::{Prio, Res, SigSet, Tid};
 
 impl Parts {
     pub fn answer_thread(&mut self, t: Tid, res: Res, value: u64)

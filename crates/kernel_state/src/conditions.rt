@@ -1,20 +1,20 @@
 // Who waits for a condition, and what its end asks for.
 ghost use Rattle.std.specs.Prelude.{◌≡◌, ◌<◌, ◌^◌, None, Some, length, option_and_then};
-ghost use Rattle.machine_rules.specs.Conditions.{released_mutex, waits_with_other_mutex};
-ghost use Rattle.machine_rules.specs.Mutexes.{owned_by};
-ghost use Rattle.machine_rules.specs.Priorities.{mutex_awaited_by};
-ghost use Rattle.machine_rules.specs.State.{for_mutex_again};
-ghost use Rattle.machine_rules.specs.State as machine;
-ghost use Rattle.machine_rules.specs.Threads.{thread_at, waiting_of as waiting_at};
-ghost use Rattle.machine_rules.specs.Waiters.{somebody_waits, waits_so};
-ghost use Rattle.machine_rules.specs.Waking.{blocks, call_in};
+ghost use Rattle.rules_machine.specs.Conditions.{released_mutex, waits_with_other_mutex};
+ghost use Rattle.rules_machine.specs.Mutexes.{owned_by};
+ghost use Rattle.rules_machine.specs.Priorities.{mutex_awaited_by};
+ghost use Rattle.rules_machine.specs.State.{for_mutex_again};
+ghost use Rattle.rules_machine.specs.State as machine;
+ghost use Rattle.rules_machine.specs.Threads.{thread_at, waiting_of as waiting_at};
+ghost use Rattle.rules_machine.specs.Waiters.{somebody_waits, waits_so};
+ghost use Rattle.rules_machine.specs.Waking.{blocks, call_in};
 ghost use Rattle.kernel_state.specs.Kernel.{after, by};
 ghost use Rattle.kernel_state.specs.Waits.{CanWait};
 
 use crate::parts::Parts;
-use machine_rules::CondEnd;
-use thread_blocks::{Wait, Waiting};
-use tick_num::{ObjId, Tid};
+use rules_machine::CondEnd;
+use kernel_threads::{Wait, Waiting};
+use words_numbers::{ObjId, Tid};
 
 impl Parts {
     // Whether a thread waits for the condition with another mutex.

@@ -2,7 +2,7 @@
 ghost use Rattle.std.specs.Prelude.{◌≡◌, ◌<◌, ◌++◌, ◌∷◌, [], length, slice_index};
 
 use std::marker::Model;
-use tick_num::Tid;
+use words_numbers::Tid;
 
 // How many they are at most: a call finds fewer than 128, and a broadcast moves each of 256 threads at most once.
 const ROOM: usize = 512;

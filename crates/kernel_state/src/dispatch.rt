@@ -1,19 +1,19 @@
 // What precedes a tick: the dispatch, by which the head of the highest list that is not empty runs (IEEE 1003.1-2017, XSH 2.8.4), and the
 // runs of strict servers, which are this project's own.
 ghost use Rattle.std.specs.Prelude.{◌≡◌, ◌<◌, ◌≤◌, ◌^◌, ℕ, false, length, true, IfSome};
-ghost use Rattle.pse52_trace.specs.Tells.{Tells};
-ghost use Rattle.machine_rules.specs.declared.dispatch.LastDispatch.TheVariants as last;
-ghost use Rattle.machine_rules.specs.Dispatch.{dispatch_event, dispatches, head, is_same};
-ghost use Rattle.machine_rules.specs.Servers.{closes, has_run};
-ghost use Rattle.machine_rules.specs.Threads.{thread_at};
-ghost use Rattle.machine_rules.specs.Ticks.{prepares};
-ghost use Rattle.machine_rules.specs.Turns.{tells, ◌▷◌};
+ghost use Rattle.words_trace.specs.Tells.{Tells};
+ghost use Rattle.rules_machine.specs.declared.dispatch.LastDispatch.TheVariants as last;
+ghost use Rattle.rules_machine.specs.Dispatch.{dispatch_event, dispatches, head, is_same};
+ghost use Rattle.rules_machine.specs.Servers.{closes, has_run};
+ghost use Rattle.rules_machine.specs.Threads.{thread_at};
+ghost use Rattle.rules_machine.specs.Ticks.{prepares};
+ghost use Rattle.rules_machine.specs.Turns.{tells, ◌▷◌};
 ghost use Rattle.kernel_state.specs.Kernel.{Kernel, after, told};
 
 use crate::parts::Parts;
-use pse52_trace::{Event, Tracer};
-use rt_io::Sink;
-use tick_num::Tid;
+use words_trace::{Event, Tracer};
+use parts_io::Sink;
+use words_numbers::Tid;
 
 impl Parts {
     // The processor is given to another thread, or to none.

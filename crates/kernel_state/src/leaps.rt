@@ -1,18 +1,18 @@
 // So many ticks at once.
 ghost use Rattle.std.specs.Prelude.{◌≡◌, ◌≤◌, ◌<◌, ◌+◌, ◌^◌, length, max, true};
-ghost use Rattle.machine_rules.specs.Threads.{thread_at};
-ghost use Rattle.machine_rules.specs.Turns.{becomes, changes};
-ghost use Rattle.leap_rules.specs.Leap.{later_by};
-ghost use Rattle.machine_flat.specs.Placed.{ArePlaced};
-ghost use Rattle.thread_blocks.specs.Handlers.{CanEnd};
-ghost use Rattle.thread_blocks.specs.Running.{HasRun, HasTime};
+ghost use Rattle.rules_machine.specs.Threads.{thread_at};
+ghost use Rattle.rules_machine.specs.Turns.{becomes, changes};
+ghost use Rattle.rules_leaps.specs.Leap.{later_by};
+ghost use Rattle.rules_flat_code.specs.Placed.{ArePlaced};
+ghost use Rattle.kernel_threads.specs.Handlers.{CanEnd};
+ghost use Rattle.kernel_threads.specs.Running.{HasRun, HasTime};
 ghost use Rattle.kernel_state.specs.Kernel.{after};
 
 use crate::parts::Parts;
 use std::sync::ledger::Ledger;
-use step_counter::Steps;
-use thread_blocks::Ran;
-use tick_num::Tid;
+use parts_steps::Steps;
+use kernel_threads::Ran;
+use words_numbers::Tid;
 
 impl Parts {
     /// A thread runs by itself for at most so many ticks, but one at least. The instant stays.

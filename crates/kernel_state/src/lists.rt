@@ -1,15 +1,15 @@
 // The ready lists, and the priorities that threads stand at.
 ghost use Rattle.std.specs.Prelude.{◌≡◌, ◌<◌, ◌+◌, IfSome, MatchOption, length, true};
-ghost use Rattle.ready_lists.specs.Lists.{AreReadyLists, highest, prio_of, to_head, to_tail, without};
-ghost use Rattle.machine_rules.specs.Priorities.{exec};
-ghost use Rattle.machine_rules.specs.Threads.{can_run};
+ghost use Rattle.parts_ready.specs.Lists.{AreReadyLists, highest, prio_of, to_head, to_tail, without};
+ghost use Rattle.rules_machine.specs.Priorities.{exec};
+ghost use Rattle.rules_machine.specs.Threads.{can_run};
 ghost use Rattle.kernel_state.specs.Settled.{with_lists};
 ghost use Rattle.kernel_state.specs.Standing.{IsNext, MachineStands, StandFrom};
 ghost use Rattle.kernel_state.specs.Kernel.{after};
-ghost use Rattle.machine_rules.specs.Mutexes.{moves_unless_boosted};
+ghost use Rattle.rules_machine.specs.Mutexes.{moves_unless_boosted};
 
 use crate::parts::Parts;
-use tick_num::{Prio, Tid};
+use words_numbers::{Prio, Tid};
 
 impl Parts {
     /// The execution priority.

@@ -1,25 +1,25 @@
 // Joiners, requests and cleanup handlers.
 ghost use Rattle.std.specs.Prelude.{◌≡◌, ◌≤◌, ◌<◌, ◌^◌, ◌∷◌, Some, length, slice_get};
-ghost use Rattle.pse52_trace.specs.Tells.{Tells};
-ghost use Rattle.machine_rules.specs.declared.frame.BodyOf.{BodyOf};
-ghost use Rattle.machine_rules.specs.declared.frame.FrameKind.{FrameKind};
-ghost use Rattle.machine_rules.specs.Cancellation.{is_cancelled, request_acts, requested, without_cleanup};
-ghost use Rattle.machine_rules.specs.Lives.{with_joiner, without_top};
-ghost use Rattle.machine_rules.specs.Mutexes.{taken_by};
-ghost use Rattle.machine_rules.specs.Threads.{mutex_at, thread_at, top_kind};
-ghost use Rattle.machine_rules.specs.Turns.{changes, changes_mutex, ◌▷◌};
-ghost use Rattle.machine_rules.specs.Waking.{ending_with, new_frame, on_top, wakes_cancelled};
-ghost use Rattle.machine_flat.specs.FlatBodies.{flat_bodies};
-ghost use Rattle.thread_blocks.specs.Plain.{joiner_of};
-ghost use Rattle.thread_blocks.specs.Unused.{IsUnused};
+ghost use Rattle.words_trace.specs.Tells.{Tells};
+ghost use Rattle.rules_machine.specs.declared.frame.BodyOf.{BodyOf};
+ghost use Rattle.rules_machine.specs.declared.frame.FrameKind.{FrameKind};
+ghost use Rattle.rules_machine.specs.Cancellation.{is_cancelled, request_acts, requested, without_cleanup};
+ghost use Rattle.rules_machine.specs.Lives.{with_joiner, without_top};
+ghost use Rattle.rules_machine.specs.Mutexes.{taken_by};
+ghost use Rattle.rules_machine.specs.Threads.{mutex_at, thread_at, top_kind};
+ghost use Rattle.rules_machine.specs.Turns.{changes, changes_mutex, ◌▷◌};
+ghost use Rattle.rules_machine.specs.Waking.{ending_with, new_frame, on_top, wakes_cancelled};
+ghost use Rattle.rules_flat_code.specs.FlatBodies.{flat_bodies};
+ghost use Rattle.kernel_threads.specs.Plain.{joiner_of};
+ghost use Rattle.kernel_threads.specs.Unused.{IsUnused};
 ghost use Rattle.kernel_state.specs.Kernel.{after, told};
 
 use crate::parts::Parts;
-use machine_rules::{BodyOf, FrameKind};
-use pse52_trace::{Event, Tracer};
-use rt_io::Sink;
-use thread_blocks::Joiner;
-use tick_num::{ObjId, Res, Tid};
+use rules_machine::{BodyOf, FrameKind};
+use words_trace::{Event, Tracer};
+use parts_io::Sink;
+use kernel_threads::Joiner;
+use words_numbers::{ObjId, Res, Tid};
 
 /// The value of a cancelled thread, as `PTHREAD_CANCELED`.
 const CANCELLED_VALUE: u64 = 3_000_000_000_000_000_000;

@@ -1,22 +1,22 @@
 // Message queues: what they hold, who waits for them, and the notification that is asked of each.
 ghost use Rattle.std.specs.Prelude.{◌≡◌, ◌<◌, ◌==◌, IfSome, length, nat_lt, option_map, true};
 ghost use Rattle.std.specs.List.{list_any};
-ghost use Rattle.machine_rules.specs.Lists.{is};
-ghost use Rattle.machine_rules.specs.Queues.{has_room, message_of as message_in_wait, registered, waits_to_receive, waits_to_send, with_message};
-ghost use Rattle.machine_rules.specs.State as machine;
-ghost use Rattle.machine_rules.specs.Threads.{is_blocked, queue_at, thread_at};
-ghost use Rattle.machine_rules.specs.Turns.{changes_queue};
-ghost use Rattle.machine_rules.specs.Waiters.{Waiter, best_waiter};
-ghost use Rattle.message_queues.specs.Queues.{next_value, without_next};
-ghost use Rattle.thread_blocks.specs.Plain.{message_of, wait_of};
+ghost use Rattle.rules_machine.specs.Lists.{is};
+ghost use Rattle.rules_machine.specs.Queues.{has_room, message_of as message_in_wait, registered, waits_to_receive, waits_to_send, with_message};
+ghost use Rattle.rules_machine.specs.State as machine;
+ghost use Rattle.rules_machine.specs.Threads.{is_blocked, queue_at, thread_at};
+ghost use Rattle.rules_machine.specs.Turns.{changes_queue};
+ghost use Rattle.rules_machine.specs.Waiters.{Waiter, best_waiter};
+ghost use Rattle.kernel_queues.specs.Queues.{next_value, without_next};
+ghost use Rattle.kernel_threads.specs.Plain.{message_of, wait_of};
 ghost use Rattle.kernel_state.specs.Kernel.{after};
 ghost use Rattle.kernel_state.specs.Messages.{waiting_message};
 
 use crate::parts::Parts;
-use message_queues::Registration;
-use thread_blocks::{Message, Wait};
-use tick_num::{ObjId, Tid};
-use wait_lists::WaitObj;
+use kernel_queues::Registration;
+use kernel_threads::{Message, Wait};
+use words_numbers::{ObjId, Tid};
+use parts_waiters::WaitObj;
 
 // The message that a wait is for room for; for another wait one of priority 0 and value 0.
 fn message_in(wait: &Wait) -> Message

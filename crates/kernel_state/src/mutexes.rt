@@ -1,27 +1,27 @@
 // Owners and counts of mutexes, and who waits for them.
 ghost use Rattle.std.specs.Prelude.{◌≡◌, ◌≤◌, ◌<◌, ◌^◌, Bool, IfSome, None, Some, length, option_map, true};
-ghost use Rattle.pse52_trace.specs.Tells.{Tells};
-ghost use Rattle.machine_rules.specs.Mutexes.{closes_cycle, freed, is_above_ceiling, taken_by};
-ghost use Rattle.machine_rules.specs.Priorities.{mutex_awaited_by};
-ghost use Rattle.machine_rules.specs.State.{Wait};
-ghost use Rattle.wait_lists.specs.declared.WaitObj.TheVariants as wait_obj;
-ghost use Rattle.wait_lists.specs.Ties.{is_object, object_of};
-ghost use Rattle.machine_rules.specs.Threads.{is_blocked, mutex_at, thread_at};
-ghost use Rattle.machine_rules.specs.Turns.{changes, changes_mutex, ◌▷◌};
-ghost use Rattle.machine_rules.specs.Waiters.{Waiter, best_waiter};
-ghost use Rattle.machine_rules.specs.Waking.{wakes, woken};
-ghost use Rattle.inherit_chain.specs.Chains.{counted, freed_if, is_plainly_free, taken_if};
-ghost use Rattle.thread_blocks.specs.Unused.{IsUnused};
+ghost use Rattle.words_trace.specs.Tells.{Tells};
+ghost use Rattle.rules_machine.specs.Mutexes.{closes_cycle, freed, is_above_ceiling, taken_by};
+ghost use Rattle.rules_machine.specs.Priorities.{mutex_awaited_by};
+ghost use Rattle.rules_machine.specs.State.{Wait};
+ghost use Rattle.parts_waiters.specs.declared.WaitObj.TheVariants as wait_obj;
+ghost use Rattle.parts_waiters.specs.Ties.{is_object, object_of};
+ghost use Rattle.rules_machine.specs.Threads.{is_blocked, mutex_at, thread_at};
+ghost use Rattle.rules_machine.specs.Turns.{changes, changes_mutex, ◌▷◌};
+ghost use Rattle.rules_machine.specs.Waiters.{Waiter, best_waiter};
+ghost use Rattle.rules_machine.specs.Waking.{wakes, woken};
+ghost use Rattle.parts_owners.specs.Chains.{counted, freed_if, is_plainly_free, taken_if};
+ghost use Rattle.kernel_threads.specs.Unused.{IsUnused};
 ghost use Rattle.kernel_state.specs.Kernel.{after, told};
 
 use crate::parts::Parts;
-use inherit_chain::MutexState;
-use machine_rules::call_name;
-use pse52_trace::{Event, Tracer};
-use rt_io::Sink;
-use script_tree::Protocol;
-use tick_num::{ObjId, Res, Tid};
-use wait_lists::WaitObj;
+use parts_owners::MutexState;
+use rules_machine::call_name;
+use words_trace::{Event, Tracer};
+use parts_io::Sink;
+use words_script::Protocol;
+use words_numbers::{ObjId, Res, Tid};
+use parts_waiters::WaitObj;
 
 impl Parts {
     /// A mutex as it stands.

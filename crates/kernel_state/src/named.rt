@@ -1,10 +1,10 @@
 // The threads that a settling looks at.
 ghost use Rattle.std.specs.Prelude.{◌≡◌, ◌<◌, ◌↔◌, ℕ, IfSome, MatchOption, false, true};
-ghost use Rattle.bit_sets.specs.Sets.{HasNoneFrom, HasNoOther, IsFirstFrom, Turns, has};
+ghost use Rattle.parts_bits.specs.Sets.{HasNoneFrom, HasNoOther, IsFirstFrom, Turns, has};
 ghost use Rattle.kernel_state.specs.Members.{TakesIn};
 
-use bit_sets::BitSet;
-use tick_num::Tid;
+use parts_bits::BitSet;
+use words_numbers::Tid;
 
 /// A set of threads, which are at most 256.
 #[derive(Drop)]

@@ -1,26 +1,26 @@
 // The kernel of a script.
 ghost use Rattle.std.specs.Prelude.{◌≡◌, ◌≤◌, ◌<◌, ◌+◌, ◌++◌, map, length, option_to_list, IfOk};
-ghost use Rattle.machine_rules.specs.Declarations.{declared_thread, threads_of};
-ghost use Rattle.machine_rules.specs.Machine.{names_of};
-ghost use Rattle.thread_blocks.specs.Opening.{with_name};
+ghost use Rattle.rules_machine.specs.Declarations.{declared_thread, threads_of};
+ghost use Rattle.rules_machine.specs.Machine.{names_of};
+ghost use Rattle.kernel_threads.specs.Opening.{with_name};
 ghost use Rattle.kernel_state.specs.Kernel.{Kernel, opened};
-ghost use Rattle.machine_flat.specs.Runnable.{IsRunnable};
+ghost use Rattle.rules_flat_code.specs.Runnable.{IsRunnable};
 ghost use Rattle.kernel_state.specs.Settled.{HavePriorities};
 
 use crate::direct::Direct;
 use crate::named::Named;
 use crate::parts::Parts;
-use machine_rules::LastDispatch;
-use message_queues::Queues;
-use pse52_trace::Names;
-use ready_lists::Ready;
-use rt_signals::{Actions, Pending};
-use script_flat::Code;
-use script_tree::{Decl, Kind, Script};
-use semaphores::Semaphores;
+use rules_machine::LastDispatch;
+use kernel_queues::Queues;
+use words_trace::Names;
+use parts_ready::Ready;
+use kernel_signals::{Actions, Pending};
+use script_code::Code;
+use words_script::{Decl, Kind, Script};
+use kernel_semaphores::Semaphores;
 use std::alloc::{AllocError, Global};
-use thread_table::Table;
-use tick_num::{Tick, Tid};
+use kernel_table::Table;
+use words_numbers::{Tick, Tid};
 
 fn tid_of(place: usize) -> Tid
     requires { place < 256 }

@@ -1,25 +1,25 @@
 // All parts of the kernel, and the smallest changes of them.
 ghost use Rattle.std.specs.Prelude.{◌≡◌, ◌≤◌, ◌<◌, ◌^◌, [], length, slice_index, false};
-ghost use Rattle.pse52_trace.specs.Text.{IsNamed};
-ghost use Rattle.pse52_trace.specs.Tells.{Tells};
-ghost use Rattle.machine_rules.specs.Dispatch.{dispatch_of, is_same};
-ghost use Rattle.machine_rules.specs.Turns.{becomes, moves, takes_serial, tells};
+ghost use Rattle.words_trace.specs.Text.{IsNamed};
+ghost use Rattle.words_trace.specs.Tells.{Tells};
+ghost use Rattle.rules_machine.specs.Dispatch.{dispatch_of, is_same};
+ghost use Rattle.rules_machine.specs.Turns.{becomes, moves, takes_serial, tells};
 ghost use Rattle.kernel_state.specs.Kernel.{after, ran, told};
 ghost use Rattle.std.specs.Prelude.{Some, is_some};
 
 use crate::direct::Direct;
 use crate::named::Named;
-use machine_rules::LastDispatch;
-use message_queues::Queues;
-use pse52_trace::{Event, Names, Tracer};
-use ready_lists::Ready;
-use rt_io::Sink;
-use rt_signals::{Actions, Pending};
-use script_flat::Code;
-use semaphores::Semaphores;
+use rules_machine::LastDispatch;
+use kernel_queues::Queues;
+use words_trace::{Event, Names, Tracer};
+use parts_ready::Ready;
+use parts_io::Sink;
+use kernel_signals::{Actions, Pending};
+use script_code::Code;
+use kernel_semaphores::Semaphores;
 use std::marker::Model;
-use thread_table::Table;
-use tick_num::{Tick, Tid};
+use kernel_table::Table;
+use words_numbers::{Tick, Tid};
 
 /// All parts of the kernel.
 #[derive(Drop)]

@@ -1,12 +1,12 @@
 // The values of semaphores.
 ghost use Rattle.std.specs.Prelude.{◌≡◌, ◌≤◌, ◌<◌, length, pred, suc};
-ghost use Rattle.machine_rules.specs.Semaphores.{semaphore_limit};
-ghost use Rattle.machine_rules.specs.Threads.{semaphore_at};
-ghost use Rattle.machine_rules.specs.Turns.{changes_semaphore};
+ghost use Rattle.rules_machine.specs.Semaphores.{semaphore_limit};
+ghost use Rattle.rules_machine.specs.Threads.{semaphore_at};
+ghost use Rattle.rules_machine.specs.Turns.{changes_semaphore};
 ghost use Rattle.kernel_state.specs.Kernel.{after};
 
 use crate::parts::Parts;
-use tick_num::ObjId;
+use words_numbers::ObjId;
 
 impl Parts {
     /// The value of a semaphore, at most 32,767.

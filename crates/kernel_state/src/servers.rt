@@ -1,21 +1,21 @@
 // What is told of a server beside its changes: activations, plans, and the runs of a strict one (the rules are those of SCHED_SPORADIC,
 // IEEE 1003.1-2017, XSH 2.8.4; runs are this project's own).
 ghost use Rattle.std.specs.Prelude.{◌≡◌, ◌≤◌, ◌<◌, ◌^◌, ℕ, IfSome, false, length, true};
-ghost use Rattle.pse52_trace.specs.Tells.{Tells};
-ghost use Rattle.sporadic_server.specs.Server.{activate};
-ghost use Rattle.machine_rules.specs.declared.dispatch.LastDispatch.TheVariants as last;
-ghost use Rattle.machine_rules.specs.Dispatch.{is_same};
-ghost use Rattle.machine_rules.specs.Servers.{activates, activates_if_high, closes, has_run, opens, plans, with_server};
-ghost use Rattle.machine_rules.specs.Threads.{thread_at};
-ghost use Rattle.machine_rules.specs.Ticks.{consumed_in};
-ghost use Rattle.machine_rules.specs.Turns.{changes};
-ghost use Rattle.thread_blocks.specs.Unused.{IsUnused};
+ghost use Rattle.words_trace.specs.Tells.{Tells};
+ghost use Rattle.parts_server.specs.Server.{activate};
+ghost use Rattle.rules_machine.specs.declared.dispatch.LastDispatch.TheVariants as last;
+ghost use Rattle.rules_machine.specs.Dispatch.{is_same};
+ghost use Rattle.rules_machine.specs.Servers.{activates, activates_if_high, closes, has_run, opens, plans, with_server};
+ghost use Rattle.rules_machine.specs.Threads.{thread_at};
+ghost use Rattle.rules_machine.specs.Ticks.{consumed_in};
+ghost use Rattle.rules_machine.specs.Turns.{changes};
+ghost use Rattle.kernel_threads.specs.Unused.{IsUnused};
 ghost use Rattle.kernel_state.specs.Kernel.{Kernel, activates_now, after, told};
 
 use crate::parts::Parts;
-use pse52_trace::{Event, Tracer};
-use rt_io::Sink;
-use tick_num::Tid;
+use words_trace::{Event, Tracer};
+use parts_io::Sink;
+use words_numbers::Tid;
 
 impl Parts {
     // The activation time of a server with that capacity is now.

@@ -1,28 +1,28 @@
 // Signals: what they do, and the pending ones.
 ghost use Rattle.std.specs.Prelude.{◌≡◌, ◌≤◌, ◌<◌, ◌^◌, ◌↔◌, ◌&&◌, [], Contains, IfSome, IsTrue, None, Some, length, option_map, true, if◌then◌else◌};
-ghost use Rattle.tick_num.specs.Signals.{has_signal};
-ghost use Rattle.pse52_trace.specs.Tells.{Tells};
-ghost use Rattle.script_flat.specs.Next.{capped};
-ghost use Rattle.machine_rules.specs.declared.frame.BodyOf.{BodyOf};
-ghost use Rattle.machine_rules.specs.declared.frame.FrameKind.{FrameKind};
-ghost use Rattle.machine_rules.specs.Delivery.{kills, taken_by_sweep, ticks_left};
-ghost use Rattle.machine_rules.specs.Lives.{without_target};
-ghost use Rattle.machine_rules.specs.Signals.{accepts, acceptor, becomes_pending, may_go_to, is_full, selected, tells_overrun, with_signals, without_record, without_signals};
-ghost use Rattle.machine_rules.specs.State as machine;
-ghost use Rattle.machine_rules.specs.Threads.{action_of, is_blocked, thread_at, waiting_of as waiting_at};
-ghost use Rattle.machine_rules.specs.Turns.{changes, changes_pending};
-ghost use Rattle.machine_rules.specs.Waiters.{Waiter, waits_so};
-ghost use Rattle.machine_rules.specs.Waking.{new_frame, on_top};
-ghost use Rattle.machine_flat.specs.FlatBodies.{flat_bodies};
+ghost use Rattle.words_numbers.specs.Signals.{has_signal};
+ghost use Rattle.words_trace.specs.Tells.{Tells};
+ghost use Rattle.script_code.specs.Next.{capped};
+ghost use Rattle.rules_machine.specs.declared.frame.BodyOf.{BodyOf};
+ghost use Rattle.rules_machine.specs.declared.frame.FrameKind.{FrameKind};
+ghost use Rattle.rules_machine.specs.Delivery.{kills, taken_by_sweep, ticks_left};
+ghost use Rattle.rules_machine.specs.Lives.{without_target};
+ghost use Rattle.rules_machine.specs.Signals.{accepts, acceptor, becomes_pending, may_go_to, is_full, selected, tells_overrun, with_signals, without_record, without_signals};
+ghost use Rattle.rules_machine.specs.State as machine;
+ghost use Rattle.rules_machine.specs.Threads.{action_of, is_blocked, thread_at, waiting_of as waiting_at};
+ghost use Rattle.rules_machine.specs.Turns.{changes, changes_pending};
+ghost use Rattle.rules_machine.specs.Waiters.{Waiter, waits_so};
+ghost use Rattle.rules_machine.specs.Waking.{new_frame, on_top};
+ghost use Rattle.rules_flat_code.specs.FlatBodies.{flat_bodies};
 ghost use Rattle.kernel_state.specs.Caught.{HasRoomToPend};
 ghost use Rattle.kernel_state.specs.Kernel.{after, told};
 
 use crate::parts::Parts;
-use machine_rules::SigAction;
-use pse52_trace::{Event, Tracer};
-use rt_io::Sink;
-use rt_signals::SignalRecord;
-use tick_num::{ObjId, SigSet, Tid};
+use rules_machine::SigAction;
+use words_trace::{Event, Tracer};
+use parts_io::Sink;
+use kernel_signals::SignalRecord;
+use words_numbers::{ObjId, SigSet, Tid};
 
 impl Parts {
     /// Whether nothing is pending.

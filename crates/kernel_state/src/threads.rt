@@ -1,22 +1,22 @@
 // What can be asked of a thread.
 ghost use Rattle.std.specs.Prelude.{◌≡◌, ◌≤◌, ◌<◌, ◌*◌, ◌^◌, is_some, length, option_map, true};
-ghost use Rattle.sporadic_server.specs.Server.{ServerState, totals};
-ghost use Rattle.machine_rules.specs.Servers.{at_once, has_run, high_server, opening_server};
-ghost use Rattle.machine_rules.specs.Threads.{can_run, is_dormant, lives, number_of, thread_at, waiting_of as waiting_at};
-ghost use Rattle.machine_rules.specs.State.{Waiting};
-ghost use Rattle.machine_flat.specs.KnownCalls.{IsOperand};
-ghost use Rattle.thread_blocks.specs.Plain.{wait_of};
-ghost use Rattle.machine_rules.specs.Lives.{inherited_mask};
-ghost use Rattle.machine_rules.specs.Scheduling.{takes_priority};
-ghost use Rattle.machine_rules.specs.Waking.{call_in};
-ghost use Rattle.machine_rules.specs.Ticks.{tick_end};
-ghost use Rattle.thread_blocks.specs.Ends.{end_of};
+ghost use Rattle.parts_server.specs.Server.{ServerState, totals};
+ghost use Rattle.rules_machine.specs.Servers.{at_once, has_run, high_server, opening_server};
+ghost use Rattle.rules_machine.specs.Threads.{can_run, is_dormant, lives, number_of, thread_at, waiting_of as waiting_at};
+ghost use Rattle.rules_machine.specs.State.{Waiting};
+ghost use Rattle.rules_flat_code.specs.KnownCalls.{IsOperand};
+ghost use Rattle.kernel_threads.specs.Plain.{wait_of};
+ghost use Rattle.rules_machine.specs.Lives.{inherited_mask};
+ghost use Rattle.rules_machine.specs.Scheduling.{takes_priority};
+ghost use Rattle.rules_machine.specs.Waking.{call_in};
+ghost use Rattle.rules_machine.specs.Ticks.{tick_end};
+ghost use Rattle.kernel_threads.specs.Ends.{end_of};
 
 use crate::parts::Parts;
-use script_tree::{Call, Operand};
-use sporadic_server::BudgetLine;
-use thread_blocks::{TickEnd, Wait};
-use tick_num::{Prio, SigSet, Tick, Tid};
+use words_script::{Call, Operand};
+use parts_server::BudgetLine;
+use kernel_threads::{TickEnd, Wait};
+use words_numbers::{Prio, SigSet, Tick, Tid};
 
 impl Parts {
     pub fn is_runnable(&self, t: Tid) -> bool

@@ -1,14 +1,14 @@
 // The interval timers.
 ghost use Rattle.std.specs.Prelude.{◌≡◌, ◌≤◌, ◌<◌, ◌^◌, length};
-ghost use Rattle.machine_rules.specs.Signals.{with_overrun_told};
-ghost use Rattle.machine_rules.specs.Threads.{timer_at};
-ghost use Rattle.machine_rules.specs.Timers.{armed, armed_again, is_pending_from, overrun_once_more, record_of_timer, ticks_to};
-ghost use Rattle.machine_rules.specs.Turns.{changes_timer};
+ghost use Rattle.rules_machine.specs.Signals.{with_overrun_told};
+ghost use Rattle.rules_machine.specs.Threads.{timer_at};
+ghost use Rattle.rules_machine.specs.Timers.{armed, armed_again, is_pending_from, overrun_once_more, record_of_timer, ticks_to};
+ghost use Rattle.rules_machine.specs.Turns.{changes_timer};
 ghost use Rattle.kernel_state.specs.Kernel.{after};
 
 use crate::parts::Parts;
-use rt_signals::SignalRecord;
-use tick_num::{ObjId, Tick};
+use kernel_signals::SignalRecord;
+use words_numbers::{ObjId, Tick};
 
 impl Parts {
     /// The timer is due at that tick, and then again after each interval of so many ticks, at most 10^18; with an interval of 0 once.

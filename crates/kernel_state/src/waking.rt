@@ -1,27 +1,27 @@
 // Answers, waits and wakes.
 ghost use Rattle.std.specs.Prelude.{◌≡◌, ◌≤◌, ◌<◌, ◌+◌, ◌^◌, ◌∷◌, [], length};
-ghost use Rattle.pse52_trace.specs.declared.event.Event.TheVariants as event;
-ghost use Rattle.pse52_trace.specs.Text.{IsNamed};
-ghost use Rattle.pse52_trace.specs.Tells.{Tells};
-ghost use Rattle.machine_rules.specs.Threads.{can_run, thread_at};
-ghost use Rattle.machine_rules.specs.Turns.{answered, changes, moves, returns, takes_serial, tells, ◌▷◌};
-ghost use Rattle.machine_rules.specs.Servers.{activates_if_high};
-ghost use Rattle.machine_rules.specs.Waking.{blocks, blocks_unordered, put_to_wait, starts, wakes, wakes_telling, woken};
+ghost use Rattle.words_trace.specs.declared.event.Event.TheVariants as event;
+ghost use Rattle.words_trace.specs.Text.{IsNamed};
+ghost use Rattle.words_trace.specs.Tells.{Tells};
+ghost use Rattle.rules_machine.specs.Threads.{can_run, thread_at};
+ghost use Rattle.rules_machine.specs.Turns.{answered, changes, moves, returns, takes_serial, tells, ◌▷◌};
+ghost use Rattle.rules_machine.specs.Servers.{activates_if_high};
+ghost use Rattle.rules_machine.specs.Waking.{blocks, blocks_unordered, put_to_wait, starts, wakes, wakes_telling, woken};
 ghost use Rattle.std.specs.Prelude.{None, true};
-ghost use Rattle.machine_rules.specs.Priorities.{mutex_waited};
-ghost use Rattle.thread_blocks.specs.Plain.{wait_of, waiting_of};
+ghost use Rattle.rules_machine.specs.Priorities.{mutex_waited};
+ghost use Rattle.kernel_threads.specs.Plain.{wait_of, waiting_of};
 ghost use Rattle.kernel_state.specs.Waits.{CanWait};
-ghost use Rattle.thread_blocks.specs.Unused.{IsUnused};
-ghost use Rattle.machine_flat.specs.FlatBodies.{flat_bodies};
+ghost use Rattle.kernel_threads.specs.Unused.{IsUnused};
+ghost use Rattle.rules_flat_code.specs.FlatBodies.{flat_bodies};
 ghost use Rattle.kernel_state.specs.Kernel.{Kernel, after, by, told, starts_telling};
 
 use crate::parts::Parts;
-use machine_rules::call_name;
-use pse52_trace::{Event, Tracer};
-use rt_io::Sink;
-use script_tree::Call;
-use thread_blocks::{Wait, Waiting};
-use tick_num::{Res, SigSet, Tick, Tid};
+use rules_machine::call_name;
+use words_trace::{Event, Tracer};
+use parts_io::Sink;
+use words_script::Call;
+use kernel_threads::{Wait, Waiting};
+use words_numbers::{Res, SigSet, Tick, Tid};
 
 impl Parts {
     /// The caller's call returns.

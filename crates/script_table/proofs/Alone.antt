@@ -5,7 +5,7 @@ use Rattle.std.specs.List.{list_all}
 use Rattle.std.proofs.lemmas.Bool.Decides.{nat_tests}
 use Rattle.script_lex.specs.Words.{words_of}
 use Rattle.script_lex.proofs.Split.{in_word, one_word}
-use Rattle.script_tree.specs.Names.{is_digit}
+use Rattle.words_script.specs.Names.{is_digit}
 use Rattle.script_table.specs.Words.{is_number}
 use Rattle.script_table.specs.Faults.{least_kind}
 use Rattle.script_table.specs.Patterns.{Spot, Number}

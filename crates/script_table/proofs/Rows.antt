@@ -1,13 +1,13 @@
 -- Worked texts: what is read of them is computed.
 use Rattle.std.proofs.Common.{◌≡◌, ℕ, List, [], ◌∷◌, ◌++◌, refl, None, Some}
 use Rattle.std.specs.Prelude.{Ok, Err, codes, true, false}
-use Rattle.script_tree.specs.Block.{Nothing, Running, Making}
-use Rattle.script_tree.specs.declared.call.Call.TheVariants.{Lock, MqSend, SigmaskBlock, Setsched}
-use Rattle.script_tree.specs.declared.call.Operand.TheVariants.{Reg}
-use Rattle.script_tree.specs.declared.decl.Decl.TheVariants.{Named, Action}
-use Rattle.script_tree.specs.declared.decl.Kind.TheVariants.{Thread, Mutex, Queue, Handler}
-use Rattle.script_tree.specs.declared.policy.Policy.TheVariants.{Fifo, Strict}
-use Rattle.script_tree.specs.declared.policy.Protocol.TheVariants.{Plain, Inherit}
+use Rattle.words_script.specs.Block.{Nothing, Running, Making}
+use Rattle.words_script.specs.declared.call.Call.TheVariants.{Lock, MqSend, SigmaskBlock, Setsched}
+use Rattle.words_script.specs.declared.call.Operand.TheVariants.{Reg}
+use Rattle.words_script.specs.declared.decl.Decl.TheVariants.{Named, Action}
+use Rattle.words_script.specs.declared.decl.Kind.TheVariants.{Thread, Mutex, Queue, Handler}
+use Rattle.words_script.specs.declared.policy.Policy.TheVariants.{Fifo, Strict}
+use Rattle.words_script.specs.declared.policy.Protocol.TheVariants.{Plain, Inherit}
 use Rattle.script_table.specs.declared.faults.FaultKind.TheVariants.{BadByte, DuplicateName, NumberRange, BadName, UnknownName, UnknownWord, NoThread, Unclosed, WrongKind, ServerRange, StrayClose, NotHere, BadVersion}
 use Rattle.script_table.specs.Faults.{fault}
 use Rattle.script_table.specs.Table.{patterns, declaration_patterns, step_patterns, call_patterns, strict_declarations, strict_calls}

@@ -1,11 +1,11 @@
 -- The script that statements say. This project's own.
 use Rattle.std.specs.Prelude.{ℕ, Bool, List, [], ◌∷◌, ◌++◌, Option, None, Some, unwrap_or, option_to_list}
 use Rattle.std.specs.Option.{option_map}
-use Rattle.script_tree.specs.Tree.{block_of}
-use Rattle.script_tree.specs.declared.body.Step.{Step}
-use Rattle.script_tree.specs.declared.body.Step.TheVariants.{Make}
-use Rattle.script_tree.specs.declared.decl.Decl.{Decl}
-use Rattle.script_tree.specs.declared.decl.Script.{Script}
+use Rattle.words_script.specs.Tree.{block_of}
+use Rattle.words_script.specs.declared.body.Step.{Step}
+use Rattle.words_script.specs.declared.body.Step.TheVariants.{Make}
+use Rattle.words_script.specs.declared.decl.Decl.{Decl}
+use Rattle.words_script.specs.declared.decl.Script.{Script}
 use Rattle.script_table.specs.declared.form.Form.{Form}
 use Rattle.script_table.specs.declared.form.Form.TheVariants as form
 use Rattle.script_table.specs.declared.version.Version.{Version}

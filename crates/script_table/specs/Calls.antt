@@ -1,8 +1,8 @@
 -- The call that a line makes: the calls of IEEE 1003.1-2017 by this project's own words for them.
 use Rattle.std.specs.Prelude.{ℕ, List, true, false, Option, Some}
 use Rattle.std.specs.Option.{option_map}
-use Rattle.script_tree.specs.declared.call.Call.{Call}
-use Rattle.script_tree.specs.declared.call.Call.TheVariants as calls
+use Rattle.words_script.specs.declared.call.Call.{Call}
+use Rattle.words_script.specs.declared.call.Call.TheVariants as calls
 use Rattle.script_table.specs.declared.form.CallForm.{CallForm}
 use Rattle.script_table.specs.declared.form.CallForm.TheVariants as call
 use Rattle.script_table.specs.declared.form.ThreadCall.{ThreadCall}
@@ -17,7 +17,7 @@ use Rattle.script_table.specs.declared.form.SignalCall.{SignalCall}
 use Rattle.script_table.specs.declared.form.SignalCall.TheVariants as signal
 use Rattle.script_table.specs.declared.form.MessageCall.{MessageCall}
 use Rattle.script_table.specs.declared.form.MessageCall.TheVariants as message
-use Rattle.script_tree.specs.declared.name_kind.NameKind.TheVariants.{Thread, Mutex, Cond, Sem, Queue, Timer}
+use Rattle.words_script.specs.declared.name_kind.NameKind.TheVariants.{Thread, Mutex, Cond, Sem, Queue, Timer}
 use Rattle.script_table.specs.Names.{Entry}
 use Rattle.script_table.specs.Operands.{map_two, map_three, map_four, map_five, number_in, amount_at, priority_at, operand_at, signal_at, signals_at, named_at, fifo_at, rr_at, sporadic_at, strict_at}
 

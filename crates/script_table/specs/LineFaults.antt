@@ -2,7 +2,7 @@
 use Rattle.std.specs.Prelude.{ℕ, ◌&&◌, ◌||◌, Bool, true, false, if◌then◌else◌, List, [], ◌∷◌, Option, None, Some, is_some, find, option_to_list, ◌++◌}
 use Rattle.std.specs.Str.{bytes_eq}
 use Rattle.std.specs.List.{list_any}
-use Rattle.script_tree.specs.Names.{is_name}
+use Rattle.words_script.specs.Names.{is_name}
 use Rattle.script_table.specs.declared.faults.FaultKind.{FaultKind}
 use Rattle.script_table.specs.declared.faults.FaultKind.TheVariants.{UnknownWord, WordCount, BadNumber, BadName}
 use Rattle.script_table.specs.Words.{is_number, is_register, signal_of, set_of, answer_of}

@@ -1,16 +1,16 @@
 -- What a line declares, and which step it is. This project's own.
 use Rattle.std.specs.Prelude.{ℕ, Bool, true, false, List, Option, None, Some}
 use Rattle.std.specs.Option.{option_map}
-use Rattle.tick_num.specs.declared.res.Res.{Res}
-use Rattle.script_tree.specs.Block.{Block}
-use Rattle.script_tree.specs.declared.body.Step.{Step}
-use Rattle.script_tree.specs.declared.body.Step.TheVariants as steps
-use Rattle.script_tree.specs.declared.policy.Policy.{Policy}
-use Rattle.script_tree.specs.declared.policy.Protocol.TheVariants.{Plain, Inherit, Protect}
-use Rattle.script_tree.specs.declared.decl.Kind.{Kind}
-use Rattle.script_tree.specs.declared.decl.Kind.TheVariants as kinds
-use Rattle.script_tree.specs.declared.decl.Decl.{Decl}
-use Rattle.script_tree.specs.declared.decl.Decl.TheVariants.{Named, Action}
+use Rattle.words_numbers.specs.declared.res.Res.{Res}
+use Rattle.words_script.specs.Block.{Block}
+use Rattle.words_script.specs.declared.body.Step.{Step}
+use Rattle.words_script.specs.declared.body.Step.TheVariants as steps
+use Rattle.words_script.specs.declared.policy.Policy.{Policy}
+use Rattle.words_script.specs.declared.policy.Protocol.TheVariants.{Plain, Inherit, Protect}
+use Rattle.words_script.specs.declared.decl.Kind.{Kind}
+use Rattle.words_script.specs.declared.decl.Kind.TheVariants as kinds
+use Rattle.words_script.specs.declared.decl.Decl.{Decl}
+use Rattle.words_script.specs.declared.decl.Decl.TheVariants.{Named, Action}
 use Rattle.script_table.specs.declared.form.ObjectForm.{ObjectForm}
 use Rattle.script_table.specs.declared.form.ObjectForm.TheVariants as object
 use Rattle.script_table.specs.declared.form.ActionForm.{ActionForm}
@@ -23,7 +23,7 @@ use Rattle.script_table.specs.declared.form.BlockForm.{BlockForm}
 use Rattle.script_table.specs.declared.form.BlockForm.TheVariants as block
 use Rattle.script_table.specs.declared.form.CloseForm.{CloseForm}
 use Rattle.script_table.specs.declared.form.CloseForm.TheVariants as close
-use Rattle.script_tree.specs.declared.name_kind.NameKind.TheVariants.{Handler, Cleanup}
+use Rattle.words_script.specs.declared.name_kind.NameKind.TheVariants.{Handler, Cleanup}
 use Rattle.script_table.specs.Patterns.{greatest}
 use Rattle.script_table.specs.Names.{Entry}
 use Rattle.script_table.specs.Operands.{map_two, number_in, amount_at, priority_at, answer_at, signal_at, name_at, named_at, fifo_at, rr_at, sporadic_at, strict_at}

@@ -3,10 +3,10 @@ use Rattle.std.specs.Prelude.{ℕ, ◌+◌, nat_lt, if◌then◌else◌, List, [
 use Rattle.std.specs.Str.{bytes_eq}
 use Rattle.script_table.specs.declared.faults.FaultKind.{FaultKind}
 use Rattle.script_table.specs.declared.faults.FaultKind.TheVariants.{DuplicateName, UnknownName, WrongKind}
-use Rattle.script_tree.specs.declared.name_kind.NameKind.{NameKind}
-use Rattle.script_tree.specs.declared.name_kind.NameKind.TheVariants as kind
+use Rattle.words_script.specs.declared.name_kind.NameKind.{NameKind}
+use Rattle.words_script.specs.declared.name_kind.NameKind.TheVariants as kind
 use Rattle.script_table.specs.Faults.{Fault, faults_at}
-use Rattle.script_tree.specs.Kinds.{same_kind}
+use Rattle.words_script.specs.Kinds.{same_kind}
 use Rattle.script_table.specs.Patterns.{Spot, Declares, Uses, Acts}
 use Rattle.script_table.specs.LineFaults.{place_faults}
 use Rattle.script_table.specs.Structure.{Said}

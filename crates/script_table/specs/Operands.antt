@@ -1,16 +1,16 @@
 -- What the word at a place says, where it says what the place wants. This project's own.
 use Rattle.std.specs.Prelude.{ℕ, ◌&&◌, nat_lt, nat_le, if◌then◌else◌, List, Option, None, Some}
 use Rattle.std.specs.Option.{option_map}
-use Rattle.tick_num.specs.Parameters.{Parameters}
-use Rattle.tick_num.specs.declared.res.Res.{Res}
-use Rattle.script_tree.specs.Names.{is_name}
-use Rattle.script_tree.specs.declared.policy.Policy.{Policy}
-use Rattle.script_tree.specs.declared.policy.Policy.TheVariants.{Fifo, Rr, Sporadic, Strict}
-use Rattle.script_tree.specs.declared.call.Operand.{Operand}
-use Rattle.script_tree.specs.declared.call.Operand.TheVariants.{Num, Reg}
-use Rattle.script_tree.specs.declared.name_kind.NameKind.{NameKind}
+use Rattle.words_numbers.specs.Parameters.{Parameters}
+use Rattle.words_numbers.specs.declared.res.Res.{Res}
+use Rattle.words_script.specs.Names.{is_name}
+use Rattle.words_script.specs.declared.policy.Policy.{Policy}
+use Rattle.words_script.specs.declared.policy.Policy.TheVariants.{Fifo, Rr, Sporadic, Strict}
+use Rattle.words_script.specs.declared.call.Operand.{Operand}
+use Rattle.words_script.specs.declared.call.Operand.TheVariants.{Num, Reg}
+use Rattle.words_script.specs.declared.name_kind.NameKind.{NameKind}
 use Rattle.script_table.specs.Words.{value_of, is_register, signal_of, set_of, answer_of}
-use Rattle.script_tree.specs.Kinds.{same_kind}
+use Rattle.words_script.specs.Kinds.{same_kind}
 use Rattle.script_table.specs.Patterns.{greatest}
 use Rattle.script_table.specs.Names.{Entry, entry_of}
 use Rattle.script_table.specs.Ranges.{word, is_within}

@@ -1,8 +1,8 @@
 -- Patterns of lines: keywords and operand places. The script language is this project's own.
 use Rattle.std.specs.Prelude.{ℕ, ◌^◌, Bool, true, false, List, ◌∷◌, ◌++◌, map}
-use Rattle.script_tree.specs.Kinds.{same_kind}
-use Rattle.script_tree.specs.declared.name_kind.NameKind.{NameKind}
-use Rattle.script_tree.specs.declared.name_kind.NameKind.TheVariants as kind
+use Rattle.words_script.specs.Kinds.{same_kind}
+use Rattle.words_script.specs.declared.name_kind.NameKind.{NameKind}
+use Rattle.words_script.specs.declared.name_kind.NameKind.TheVariants as kind
 use Rattle.script_table.specs.declared.pattern.Closer.{Closer}
 use Rattle.script_table.specs.declared.pattern.Closer.TheVariants as closer
 use Rattle.script_table.specs.declared.pattern.Bar.{Bar}

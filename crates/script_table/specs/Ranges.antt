@@ -10,8 +10,8 @@ use Rattle.script_table.specs.declared.form.ObjectForm.TheVariants as object
 use Rattle.script_table.specs.declared.form.BodyForm.TheVariants as body
 use Rattle.script_table.specs.declared.form.CallForm.TheVariants as call
 use Rattle.script_table.specs.declared.form.ThreadCall.TheVariants as thread
-use Rattle.script_tree.specs.declared.name_kind.NameKind.{NameKind}
-use Rattle.script_tree.specs.declared.name_kind.NameKind.TheVariants as kind
+use Rattle.words_script.specs.declared.name_kind.NameKind.{NameKind}
+use Rattle.words_script.specs.declared.name_kind.NameKind.TheVariants as kind
 use Rattle.script_table.specs.declared.pattern.Closer.{Closer}
 use Rattle.script_table.specs.declared.pattern.Closer.TheVariants as closer
 use Rattle.script_table.specs.Faults.{Fault, faults_at, when}

@@ -1,7 +1,7 @@
 -- The script of a text, or its least fault. This project's own.
 use Rattle.std.specs.Prelude.{ℕ, ◌+◌, List, [], ◌∷◌, ◌++◌, length, Option, None, Some, Result, Ok, Err}
 use Rattle.script_lex.specs.Lines.{lines_of}
-use Rattle.script_tree.specs.declared.decl.Script.{Script}
+use Rattle.words_script.specs.declared.decl.Script.{Script}
 use Rattle.script_table.specs.declared.version.Version.{Version}
 use Rattle.script_table.specs.Versions.{most_of}
 use Rattle.script_table.specs.Faults.{Fault, least}

@@ -12,8 +12,8 @@ use Rattle.script_table.specs.declared.form.BlockForm.{BlockForm}
 use Rattle.script_table.specs.declared.form.BlockForm.TheVariants as block
 use Rattle.script_table.specs.declared.form.CloseForm.{CloseForm}
 use Rattle.script_table.specs.declared.form.CloseForm.TheVariants as close
-use Rattle.script_tree.specs.declared.name_kind.NameKind.{NameKind}
-use Rattle.script_tree.specs.declared.name_kind.NameKind.TheVariants as kind
+use Rattle.words_script.specs.declared.name_kind.NameKind.{NameKind}
+use Rattle.words_script.specs.declared.name_kind.NameKind.TheVariants as kind
 use Rattle.script_table.specs.declared.pattern.Closer.{Closer}
 use Rattle.script_table.specs.declared.pattern.Closer.TheVariants as closer
 use Rattle.script_table.specs.declared.pattern.Bar.{Bar}

@@ -15,7 +15,7 @@ use Rattle.script_table.specs.declared.form.SemCall.TheVariants as sem
 use Rattle.script_table.specs.declared.form.TimeCall.TheVariants as time
 use Rattle.script_table.specs.declared.form.SignalCall.TheVariants as signal
 use Rattle.script_table.specs.declared.form.MessageCall.TheVariants as message
-use Rattle.script_tree.specs.declared.name_kind.NameKind.TheVariants as kind
+use Rattle.words_script.specs.declared.name_kind.NameKind.TheVariants as kind
 use Rattle.script_table.specs.declared.version.Version.{Version}
 use Rattle.script_table.specs.declared.version.Version.TheVariants.{One, Two}
 use Rattle.script_table.specs.declared.pattern.Bar.{Bar}

@@ -2,11 +2,11 @@
 use Rattle.std.specs.Prelude.{ℕ, ◌+◌, ◌-◌, ◌*◌, ◌==◌, ◌&&◌, nat_le, not, Bool, if◌then◌else◌, List, [], ◌∷◌, length, fold, Option, None, Some, codes}
 use Rattle.std.specs.List.{list_all}
 use Rattle.std.specs.Str.{bytes_eq}
-use Rattle.tick_num.specs.declared.res.Res.{Res}
-use Rattle.tick_num.specs.declared.res.Res.TheVariants as res
-use Rattle.tick_num.specs.Words.{res_text}
-use Rattle.tick_num.specs.Signals.{every_signal, with_signal}
-use Rattle.script_tree.specs.Names.{is_digit}
+use Rattle.words_numbers.specs.declared.res.Res.{Res}
+use Rattle.words_numbers.specs.declared.res.Res.TheVariants as res
+use Rattle.words_numbers.specs.Words.{res_text}
+use Rattle.words_numbers.specs.Signals.{every_signal, with_signal}
+use Rattle.words_script.specs.Names.{is_digit}
 
 -- one digit or more
 abbrev pub is_number : List ℕ → Bool

@@ -20,7 +20,7 @@ pub use form::{
 };
 pub use line_faults::{Fitting, any_agrees, fitting_pattern, pattern_of};
 pub use pattern::{Bar, Closer, Opening, Pattern, Place, Table};
-pub use script_tree::NameKind;
+pub use words_script::NameKind;
 pub use table::patterns;
 pub use version::Version;
 pub use word_faults::WordFaults;

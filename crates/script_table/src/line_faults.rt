@@ -7,13 +7,13 @@ ghost use Rattle.script_table.specs.Patterns.{spot_of, row_of, rows_of};
 ghost use Rattle.script_table.specs.LineFaults.{stands, agrees, fits, any_agrees, fitting_row, place_faults, spelling, fitting_some, unless};
 ghost use Rattle.script_table.specs.Ranges.{range_fault};
 ghost use Rattle.script_table.specs.WordFaults.{AreFaultsIn};
-ghost use Rattle.script_tree.specs.Names.{is_name};
+ghost use Rattle.words_script.specs.Names.{is_name};
 
 use crate::word_faults::{is_short_within, no_faults, with_word};
 use crate::words::{answer_of, is_number, is_register, set_of, signal_of};
 use crate::{FaultKind, Pattern, Place, Table, WordFaults};
 use script_lex::Words;
-use script_tree::Name;
+use words_script::Name;
 
 // Words are short: byte by byte is the quickest.
 fn are_same(word: &[u8], keyword: &[u8]) -> bool

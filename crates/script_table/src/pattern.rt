@@ -1,6 +1,6 @@
 // Patterns of lines.
 use crate::Form;
-use script_tree::NameKind;
+use words_script::NameKind;
 
 /// The word that closes a block.
 #[derive(Clone, Copy)]

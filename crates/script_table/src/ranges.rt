@@ -6,7 +6,7 @@ ghost use Rattle.script_table.specs.Ranges.{is_within, range_fault};
 use crate::line_faults::unless;
 use crate::words::{capped_value, is_register};
 use crate::{FaultKind, Place};
-use tick_num::GREATEST_NUMBER;
+use words_numbers::GREATEST_NUMBER;
 
 // Whether the value of digits lies in a range.
 fn is_within(low: u64, high: u64, word: &[u8]) -> bool

@@ -8,7 +8,7 @@ use crate::{
     NameKind, ObjectForm, Pattern, Place, SemCall, SignalCall, StepForm, Table, ThreadCall,
     TimeCall, Version,
 };
-use tick_num::GREATEST_NUMBER;
+use words_numbers::GREATEST_NUMBER;
 
 // A place: a keyword, a priority P, a number N, an operand V, an answer R, signals, a name that is new or of a kind, a range.
 macro_rules! place {

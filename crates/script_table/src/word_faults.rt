@@ -11,7 +11,7 @@ use crate::line_faults::spelling;
 use crate::ranges::range_fault;
 use crate::words::short_number;
 use crate::{FaultKind, Place};
-use tick_num::GREATEST_NUMBER;
+use words_numbers::GREATEST_NUMBER;
 
 /// The least kind of what is misspelled in the words of a line, and of what is out of its range.
 #[derive(Clone, Copy)]

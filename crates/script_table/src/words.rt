@@ -2,10 +2,10 @@
 ghost use Rattle.std.specs.Prelude.{◌≡◌, ◌≤◌, ◌<◌, ◌+◌, ◌^◌, ◌==◌, true, not, [], ◌∷◌, min, length, IfSome};
 ghost use Rattle.std.specs.List.{list_all, prefix_len};
 ghost use Rattle.std.specs.Option.{option_map};
-ghost use Rattle.script_tree.specs.Names.{is_digit};
+ghost use Rattle.words_script.specs.Names.{is_digit};
 ghost use Rattle.script_table.specs.Words.{is_number, value_of, signal_number, signal_of, with_parts, parts_of, parts_ahead, set_of, answer_of, is_register};
 
-use tick_num::{GREATEST_NUMBER, Res, SigSet};
+use words_numbers::{GREATEST_NUMBER, Res, SigSet};
 
 fn is_digit(byte: u8) -> bool
     ensures { result ≡ is_digit byte }

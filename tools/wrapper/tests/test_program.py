@@ -172,7 +172,7 @@ class Programs(unittest.TestCase):
         self.checkout.put_release()
         for name in ("docs", "completions", "examples", "README.md", "LICENSE", "LICENSE-MIT", "LICENSE-APACHE", "NOTICE", "CHANGELOG.md"):
             (self.checkout.top / name).symlink_to(Path(__file__).resolve().parents[3] / name)
-        self.checkout.write("crates/raw_links/LICENSE-circular-buffer", "notice\n")
+        self.checkout.write("crates/parts_links/LICENSE-circular-buffer", "notice\n")
         with tempfile.TemporaryDirectory() as prefix:
             install = ["sh", str(self.checkout.top / "tools/install.sh")]
             subprocess.run([*install, "", prefix], check=True, capture_output=True)

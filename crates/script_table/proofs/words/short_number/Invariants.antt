@@ -1,6 +1,6 @@
 use Rattle.std.proofs.Common.{◌≡◌, ◌<◌, take, true}
 use Rattle.std.specs.List.{list_all}
-use Rattle.script_tree.specs.Names.{is_digit}
+use Rattle.words_script.specs.Names.{is_digit}
 use Rattle.script_table.specs.Words.{value_of}
 use Rattle.script_table.proofs.words.short_number.Given as goal
 

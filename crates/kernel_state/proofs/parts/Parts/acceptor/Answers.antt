@@ -1,8 +1,8 @@
 use Rattle.std.proofs.Common.{◌≡◌, ◌<◌, ◌∙◌, ℕ, None, Option, Some, arith, length, refl, subst, sym}
 use Rattle.std.specs.Prelude.{IfSome, option_map}
-use Rattle.machine_rules.specs.Signals.{accepts, acceptor}
-use Rattle.machine_rules.specs.Threads.{thread_at}
-use Rattle.machine_rules.specs.Waiters.{Waiter, waits_so}
+use Rattle.rules_machine.specs.Signals.{accepts, acceptor}
+use Rattle.rules_machine.specs.Threads.{thread_at}
+use Rattle.rules_machine.specs.Waiters.{Waiter, waits_so}
 use Rattle.kernel_state.specs.Kernel.{Kernel}
 use Rattle.kernel_state.proofs.Targets.{acceptor_blocked, acceptor_known, aimed_at}
 use Rattle.kernel_state.proofs.parts.Parts.acceptor.Goals as goal

@@ -1,6 +1,6 @@
-use Rattle.script_flat.specs.declared.cursor.Cursor.{Cursor}
-use Rattle.machine_rules.specs.State.{Thread}
-use Rattle.machine_rules.specs.Waking.{ending_with}
+use Rattle.script_code.specs.declared.cursor.Cursor.{Cursor}
+use Rattle.rules_machine.specs.State.{Thread}
+use Rattle.rules_machine.specs.Waking.{ending_with}
 use Rattle.kernel_state.proofs.Carried.{as_many, none_thread, tied_again}
 use Rattle.kernel_state.proofs.parts.Parts.begin_end.Goals as goal
 

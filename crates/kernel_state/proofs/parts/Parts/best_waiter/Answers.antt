@@ -1,6 +1,6 @@
 use Rattle.std.proofs.Common.{subst}
 use Rattle.std.specs.Prelude.{◌≡◌, ◌<◌, IfSome, length, true}
-use Rattle.machine_rules.specs.Threads.{is_blocked, thread_at}
+use Rattle.rules_machine.specs.Threads.{is_blocked, thread_at}
 use Rattle.kernel_state.specs.Kernel.{Kernel}
 use Rattle.kernel_state.specs.View.{machine_of}
 use Rattle.kernel_state.proofs.Waits.{best_is_blocked, best_is_known}

@@ -1,8 +1,8 @@
 use Rattle.std.proofs.Common.{arith}
-use Rattle.script_flat.specs.declared.cursor.Cursor.{Cursor}
-use Rattle.machine_rules.specs.State.{Thread}
-use Rattle.machine_rules.specs.Waking.{put_to_wait}
-use Rattle.thread_blocks.specs.Plain.{waiting_of}
+use Rattle.script_code.specs.declared.cursor.Cursor.{Cursor}
+use Rattle.rules_machine.specs.State.{Thread}
+use Rattle.rules_machine.specs.Waking.{put_to_wait}
+use Rattle.kernel_threads.specs.Plain.{waiting_of}
 use Rattle.kernel_state.proofs.Carried.{as_many, fit, self_thread, tied_again, told_keeps, told_there}
 use Rattle.kernel_state.proofs.parts.Parts.block_runner.Goals as goal
 

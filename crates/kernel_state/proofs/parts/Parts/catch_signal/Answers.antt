@@ -1,10 +1,10 @@
-use Rattle.script_flat.specs.Next.{capped}
-use Rattle.script_flat.specs.declared.cursor.Cursor.{Cursor}
-use Rattle.machine_rules.specs.State.{Thread}
-use Rattle.machine_rules.specs.declared.frame.BodyOf.TheVariants as body_of
-use Rattle.machine_rules.specs.declared.frame.FrameKind.TheVariants as kind
-use Rattle.machine_rules.specs.Waking.{new_frame, on_top}
-use Rattle.machine_flat.specs.FlatBodies.{flat_bodies}
+use Rattle.script_code.specs.Next.{capped}
+use Rattle.script_code.specs.declared.cursor.Cursor.{Cursor}
+use Rattle.rules_machine.specs.State.{Thread}
+use Rattle.rules_machine.specs.declared.frame.BodyOf.TheVariants as body_of
+use Rattle.rules_machine.specs.declared.frame.FrameKind.TheVariants as kind
+use Rattle.rules_machine.specs.Waking.{new_frame, on_top}
+use Rattle.rules_flat_code.specs.FlatBodies.{flat_bodies}
 use Rattle.kernel_state.proofs.Carried.{as_many, none_thread, tied_again}
 use Rattle.kernel_state.proofs.parts.Parts.catch_signal.Goals as goal
 

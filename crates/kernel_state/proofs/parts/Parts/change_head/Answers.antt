@@ -1,9 +1,9 @@
 use Rattle.std.proofs.Common.{Bool, ap, false, subst, sym, ◌≡◌, ◌∙◌}
-use Rattle.pse52_trace.specs.Tells.{Tells}
-use Rattle.machine_rules.specs.declared.dispatch.LastDispatch.{LastDispatch}
-use Rattle.machine_rules.specs.Dispatch.{dispatch_event, dispatches, is_same, tells_unless}
-use Rattle.machine_rules.specs.Servers.{closes}
-use Rattle.machine_rules.proofs.BehindTicks.{dispatches_behind}
+use Rattle.words_trace.specs.Tells.{Tells}
+use Rattle.rules_machine.specs.declared.dispatch.LastDispatch.{LastDispatch}
+use Rattle.rules_machine.specs.Dispatch.{dispatch_event, dispatches, is_same, tells_unless}
+use Rattle.rules_machine.specs.Servers.{closes}
+use Rattle.rules_machine.proofs.BehindTicks.{dispatches_behind}
 use Rattle.kernel_state.specs.Kernel.{Kernel, told, turn}
 use Rattle.kernel_state.proofs.LastRun.{closes_left}
 use Rattle.kernel_state.proofs.Turns.{then_told}

@@ -1,8 +1,8 @@
 use Rattle.std.proofs.Common.{Option, Some, None, ap, subst, sym, ◌≡◌, ◌∙◌, true, false}
-use Rattle.pse52_trace.specs.Tells.{Tells}
-use Rattle.pse52_trace.proofs.Tells.{tells_nothing}
-use Rattle.script_flat.specs.declared.cursor.Cursor.{Cursor}
-use Rattle.machine_rules.specs.Turns.{Turn}
+use Rattle.words_trace.specs.Tells.{Tells}
+use Rattle.words_trace.proofs.Tells.{tells_nothing}
+use Rattle.script_code.specs.declared.cursor.Cursor.{Cursor}
+use Rattle.rules_machine.specs.Turns.{Turn}
 use Rattle.kernel_state.specs.Kernel.{Kernel}
 use Rattle.kernel_state.proofs.LastRun.{last_closes, none_closes, run_consumes}
 use Rattle.kernel_state.proofs.parts.Parts.close_last.Goals as goal

@@ -1,7 +1,7 @@
 use Rattle.std.proofs.Common.{arith}
-use Rattle.script_flat.specs.declared.cursor.Cursor.{Cursor}
-use Rattle.machine_rules.specs.State.{Thread}
-use Rattle.machine_rules.specs.Lives.{without_life}
+use Rattle.script_code.specs.declared.cursor.Cursor.{Cursor}
+use Rattle.rules_machine.specs.State.{Thread}
+use Rattle.rules_machine.specs.Lives.{without_life}
 use Rattle.kernel_state.proofs.Carried.{as_many, beside_keeps, beside_there, fit, self_thread, tied_again}
 use Rattle.kernel_state.proofs.parts.Parts.end_thread.Goals as goal
 

@@ -1,8 +1,8 @@
 use Rattle.std.proofs.Common.{arith}
-use Rattle.script_flat.specs.declared.cursor.Cursor.{Cursor}
-use Rattle.machine_rules.specs.Mutexes.{freed, taken_by}
-use Rattle.machine_rules.specs.State.{Thread}
-use Rattle.machine_rules.specs.Waking.{woken}
+use Rattle.script_code.specs.declared.cursor.Cursor.{Cursor}
+use Rattle.rules_machine.specs.Mutexes.{freed, taken_by}
+use Rattle.rules_machine.specs.State.{Thread}
+use Rattle.rules_machine.specs.Waking.{woken}
 use Rattle.kernel_state.proofs.Carried.{fit, handed_many, handed_named, released_there, tied_again, woken_there}
 use Rattle.kernel_state.proofs.parts.Parts.hand_over.Goals as goal
 

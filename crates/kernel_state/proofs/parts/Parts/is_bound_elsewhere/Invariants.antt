@@ -1,7 +1,7 @@
 use Rattle.std.proofs.Common.{drop, ◌≡◌}
 use Rattle.std.specs.List.{list_any}
-use Rattle.machine_rules.specs.Conditions.{waits_with_other_mutex}
-use Rattle.machine_rules.specs.Waiters.{waits_so}
+use Rattle.rules_machine.specs.Conditions.{waits_with_other_mutex}
+use Rattle.rules_machine.specs.Waiters.{waits_so}
 use Rattle.kernel_state.proofs.parts.Parts.is_bound_elsewhere.Given as goal
 
 abbrev pub invariant-loop-number : goal.invariant-loop-number

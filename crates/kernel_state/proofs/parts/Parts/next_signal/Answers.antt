@@ -1,8 +1,8 @@
 use Rattle.std.proofs.Common.{◌≡◌, ◌∙◌, true, ap, arith, subst}
-use Rattle.script_flat.specs.declared.cursor.Cursor.{Cursor}
-use Rattle.machine_rules.specs.Delivery.{may_be_interrupted, taken_by_sweep}
-use Rattle.machine_rules.specs.State.{Thread}
-use Rattle.thread_blocks.specs.Signals.{runs_handlers}
+use Rattle.script_code.specs.declared.cursor.Cursor.{Cursor}
+use Rattle.rules_machine.specs.Delivery.{may_be_interrupted, taken_by_sweep}
+use Rattle.rules_machine.specs.State.{Thread}
+use Rattle.kernel_threads.specs.Signals.{runs_handlers}
 use Rattle.kernel_state.specs.Kernel.{Kernel}
 use Rattle.kernel_state.specs.View.{machine_of}
 use Rattle.kernel_state.proofs.Targets.{taken_is}

@@ -1,11 +1,11 @@
 use Rattle.std.proofs.Common.{Option, arith, subst, ℕ, ◌≤◌}
-use Rattle.pse52_trace.specs.Tells.{Tells}
-use Rattle.script_flat.specs.declared.cursor.Cursor.{Cursor}
-use Rattle.machine_rules.specs.Dispatch.{dispatches}
-use Rattle.machine_rules.specs.Servers.{closes, opens}
-use Rattle.machine_rules.specs.Ticks.{prepares}
-use Rattle.machine_rules.specs.Turns.{Turn}
-use Rattle.machine_rules.proofs.BehindTicks.{opens_behind}
+use Rattle.words_trace.specs.Tells.{Tells}
+use Rattle.script_code.specs.declared.cursor.Cursor.{Cursor}
+use Rattle.rules_machine.specs.Dispatch.{dispatches}
+use Rattle.rules_machine.specs.Servers.{closes, opens}
+use Rattle.rules_machine.specs.Ticks.{prepares}
+use Rattle.rules_machine.specs.Turns.{Turn}
+use Rattle.rules_machine.proofs.BehindTicks.{opens_behind}
 use Rattle.kernel_state.specs.Kernel.{told}
 use Rattle.kernel_state.proofs.LastRun.{given_now}
 use Rattle.kernel_state.proofs.Turns.{then_told}

@@ -1,5 +1,5 @@
 use Rattle.std.proofs.Common.{◌≡◌, arith, subst, sym, true}
-use Rattle.machine_rules.specs.Threads.{can_run}
+use Rattle.rules_machine.specs.Threads.{can_run}
 use Rattle.kernel_state.specs.Kernel.{Kernel}
 use Rattle.kernel_state.proofs.StandOn.{kept_tail}
 use Rattle.kernel_state.proofs.parts.Parts.put_last_as_named.Goals as goal

@@ -1,9 +1,9 @@
 use Rattle.std.proofs.Common.{subst}
-use Rattle.pse52_trace.specs.Tells.{Tells}
-use Rattle.script_flat.specs.declared.cursor.Cursor.{Cursor}
-use Rattle.machine_rules.specs.Turns.{Turn, moves, tells, ◌▷◌}
-use Rattle.machine_rules.specs.Servers.{activates_if_high}
-use Rattle.machine_rules.proofs.Behind.{activates_server_behind}
+use Rattle.words_trace.specs.Tells.{Tells}
+use Rattle.script_code.specs.declared.cursor.Cursor.{Cursor}
+use Rattle.rules_machine.specs.Turns.{Turn, moves, tells, ◌▷◌}
+use Rattle.rules_machine.specs.Servers.{activates_if_high}
+use Rattle.rules_machine.proofs.Behind.{activates_server_behind}
 use Rattle.kernel_state.specs.Kernel.{Kernel, told}
 use Rattle.kernel_state.proofs.Turns.{then_told}
 use Rattle.kernel_state.proofs.parts.Parts.rise.Goals as goal

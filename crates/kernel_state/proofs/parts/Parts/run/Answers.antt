@@ -1,10 +1,10 @@
 use Rattle.std.proofs.Common.{ap, refl, true, ◌∙◌}
-use Rattle.script_flat.specs.declared.cursor.Cursor.{Cursor}
-use Rattle.machine_rules.specs.State.{Thread}
-use Rattle.machine_rules.specs.Threads.{is_runnable, thread_in}
-use Rattle.machine_flat.specs.FlatBodies.{flat_bodies}
-use Rattle.thread_table.specs.Table.{with_thread}
-use Rattle.thread_table.proofs.Charges.{run_past, runs_keep}
+use Rattle.script_code.specs.declared.cursor.Cursor.{Cursor}
+use Rattle.rules_machine.specs.State.{Thread}
+use Rattle.rules_machine.specs.Threads.{is_runnable, thread_in}
+use Rattle.rules_flat_code.specs.FlatBodies.{flat_bodies}
+use Rattle.kernel_table.specs.Table.{with_thread}
+use Rattle.kernel_table.proofs.Charges.{run_past, runs_keep}
 use Rattle.kernel_state.proofs.Carried.{as_many, fit, tied_again, told_there, told_thread}
 use Rattle.kernel_state.proofs.parts.Parts.run.Goals as goal
 

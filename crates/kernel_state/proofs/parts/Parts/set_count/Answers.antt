@@ -1,6 +1,6 @@
 use Rattle.std.proofs.Common.{ap, length}
-use Rattle.inherit_chain.specs.Chains.{counted}
-use Rattle.thread_table.specs.Table.{Table}
+use Rattle.parts_owners.specs.Chains.{counted}
+use Rattle.kernel_table.specs.Table.{Table}
 use Rattle.kernel_state.proofs.Carried.{none_mutex, tied_again}
 use Rattle.kernel_state.proofs.parts.Parts.set_count.Goals as goal
 

@@ -1,5 +1,5 @@
-use Rattle.script_flat.specs.declared.cursor.Cursor.{Cursor}
-use Rattle.machine_rules.specs.State.{Thread}
+use Rattle.script_code.specs.declared.cursor.Cursor.{Cursor}
+use Rattle.rules_machine.specs.State.{Thread}
 use Rattle.kernel_state.proofs.Carried.{as_many, none_thread, tied_again}
 use Rattle.kernel_state.proofs.parts.Parts.set_enabled.Goals as goal
 

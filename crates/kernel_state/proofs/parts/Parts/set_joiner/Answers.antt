@@ -1,7 +1,7 @@
-use Rattle.script_flat.specs.declared.cursor.Cursor.{Cursor}
-use Rattle.machine_rules.specs.State.{Thread}
-use Rattle.machine_rules.specs.Lives.{with_joiner}
-use Rattle.thread_blocks.specs.Plain.{joiner_of}
+use Rattle.script_code.specs.declared.cursor.Cursor.{Cursor}
+use Rattle.rules_machine.specs.State.{Thread}
+use Rattle.rules_machine.specs.Lives.{with_joiner}
+use Rattle.kernel_threads.specs.Plain.{joiner_of}
 use Rattle.kernel_state.proofs.Carried.{as_many, none_thread, tied_again}
 use Rattle.kernel_state.proofs.parts.Parts.set_joiner.Goals as goal
 

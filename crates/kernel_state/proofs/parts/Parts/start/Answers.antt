@@ -1,6 +1,6 @@
-use Rattle.machine_rules.specs.Servers.{activates}
-use Rattle.machine_rules.proofs.Behind.{activates_server_behind}
-use Rattle.machine_flat.specs.FlatBodies.{flat_bodies}
+use Rattle.rules_machine.specs.Servers.{activates}
+use Rattle.rules_machine.proofs.Behind.{activates_server_behind}
+use Rattle.rules_flat_code.specs.FlatBodies.{flat_bodies}
 use Rattle.kernel_state.specs.Kernel.{starts_telling}
 use Rattle.kernel_state.proofs.Turns.{then_told}
 use Rattle.kernel_state.proofs.parts.Parts.start.Goals as goal

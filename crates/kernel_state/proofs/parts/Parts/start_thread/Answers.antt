@@ -1,9 +1,9 @@
 use Rattle.std.proofs.Common.{[], ◌∷◌, arith}
-use Rattle.script_flat.specs.declared.cursor.Cursor.{Cursor}
-use Rattle.machine_rules.specs.State.{Thread}
-use Rattle.machine_rules.specs.Servers.{server_of}
-use Rattle.thread_blocks.specs.declared.status.Status.TheVariants as Status
-use Rattle.thread_blocks.specs.Plain.{status_of}
+use Rattle.script_code.specs.declared.cursor.Cursor.{Cursor}
+use Rattle.rules_machine.specs.State.{Thread}
+use Rattle.rules_machine.specs.Servers.{server_of}
+use Rattle.kernel_threads.specs.declared.status.Status.TheVariants as Status
+use Rattle.kernel_threads.specs.Plain.{status_of}
 use Rattle.kernel_state.proofs.Carried.{as_many, beside_keeps, beside_there, fit, self_thread, tied_again}
 use Rattle.kernel_state.proofs.parts.Parts.start_thread.Goals as goal
 

@@ -1,6 +1,6 @@
 use Rattle.std.proofs.Common.{ap, length}
-use Rattle.inherit_chain.specs.Chains.{taken_if}
-use Rattle.thread_table.specs.Table.{Table}
+use Rattle.parts_owners.specs.Chains.{taken_if}
+use Rattle.kernel_table.specs.Table.{Table}
 use Rattle.kernel_state.proofs.Carried.{none_mutex, tied_again}
 use Rattle.kernel_state.proofs.parts.Parts.take_at_once.Goals as goal
 

@@ -1,7 +1,7 @@
 use Rattle.std.proofs.Common.{ap, length}
-use Rattle.machine_rules.specs.Mutexes.{taken_by}
-use Rattle.machine_rules.specs.State.{Mutex}
-use Rattle.thread_table.specs.Table.{Table}
+use Rattle.rules_machine.specs.Mutexes.{taken_by}
+use Rattle.rules_machine.specs.State.{Mutex}
+use Rattle.kernel_table.specs.Table.{Table}
 use Rattle.kernel_state.proofs.Carried.{fit, tied_again, told_mutex, told_there}
 use Rattle.kernel_state.proofs.parts.Parts.take_mutex.Goals as goal
 

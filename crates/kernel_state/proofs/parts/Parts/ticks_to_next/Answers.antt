@@ -1,6 +1,6 @@
 use Rattle.std.proofs.Common.{rules, ◌≡◌, ◌≤◌, ◌+◌, ◌-◌, ◌^◌, None, Some, subst, sym, ◌∙◌}
-use Rattle.machine_rules.specs.Agenda.{agenda}
-use Rattle.leap_rules.specs.Leap.{ticks_to_next}
+use Rattle.rules_machine.specs.Agenda.{agenda}
+use Rattle.rules_leaps.specs.Leap.{ticks_to_next}
 use Rattle.kernel_state.specs.Kernel.{Kernel}
 use Rattle.kernel_state.specs.View.{machine_of}
 use Rattle.kernel_state.proofs.Nearest.{near, nearest}

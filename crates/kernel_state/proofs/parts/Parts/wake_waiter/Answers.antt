@@ -1,7 +1,7 @@
 use Rattle.std.proofs.Common.{refl}
-use Rattle.script_flat.specs.declared.cursor.Cursor.{Cursor}
-use Rattle.machine_rules.specs.State.{Thread}
-use Rattle.machine_rules.specs.Waking.{woken}
+use Rattle.script_code.specs.declared.cursor.Cursor.{Cursor}
+use Rattle.rules_machine.specs.State.{Thread}
+use Rattle.rules_machine.specs.Waking.{woken}
 use Rattle.kernel_state.proofs.Carried.{as_many, fit, tied_again, told_there, told_thread}
 use Rattle.kernel_state.proofs.parts.Parts.wake_waiter.Goals as goal
 

@@ -1,9 +1,0 @@
-use Rattle.std.proofs.Common.{w64}
-use Rattle.std.proofs.lemmas.Nat.Bits.{bit_at_set_other, bit_at_set_same}
-use Rattle.bit_sets.proofs.words.with_bit.Goals as goal
-
-pub returns-clause-itself : goal.returns-clause-itself
-returns-clause-itself c = bit_at_set_same w64 c.args.word c.args.bit c.requires
-
-pub returns-clause-others : goal.returns-clause-others
-returns-clause-others c = λ k other. bit_at_set_other w64 c.args.word c.args.bit c.requires k other

@@ -1,6 +1,0 @@
--- What contracts see of the watch of a server.
-use Rattle.budget_audit.specs.Watch.{Watched}
-use Rattle.budget_audit.specs.declared.watched.ServerWatch.TheInside.{Inside}
-
-abbrev pub watched_of : Inside → Watched
-watched_of i = record { server = record { name = i.name; limits = i.account.limits }; account = i.account.account; closed = i.closed }

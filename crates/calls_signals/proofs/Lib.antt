@@ -1,0 +1,9 @@
+pub mod Same
+pub mod Visited
+pub mod Delivered
+pub mod Sent
+pub mod Swept
+pub mod Midway
+pub mod Awaited
+pub mod Generated
+pub mod Expired

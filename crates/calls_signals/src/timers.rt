@@ -1,0 +1,131 @@
+// Interval timers: setting and reading them, and their expiries.
+ghost use Rattle.std.specs.Prelude.{◌≡◌, ◌≤◌, ◌<◌, ◌+◌, ◌^◌, length};
+ghost use Rattle.words_trace.specs.Tells.{Tells};
+ghost use Rattle.rules_machine.specs.Signals.{generates};
+ghost use Rattle.rules_machine.specs.Threads.{timer_at};
+ghost use Rattle.rules_machine.specs.Timers.{expires, first_expiry, reads_overrun, reads_timer, record_of_timer, sets_timer, signals_expiry};
+ghost use Rattle.kernel_state.specs.Caught.{HasRoomToPend};
+ghost use Rattle.kernel_state.specs.Kernel.{after, by, told};
+ghost use Rattle.kernel_state.specs.Pending.{PendingFits, SignalsFit};
+ghost use Rattle.calls_signals.specs.Sweeping.{AllRest};
+
+use crate::generating::generate;
+use kernel_state::Parts;
+use words_trace::Tracer;
+use parts_io::Sink;
+use words_script::Call;
+use words_numbers::{ObjId, Res, Tick, Tid};
+
+/// When a timer that is set for so many ticks from now first expires. `None` exactly where that is 0: it is disarmed.
+pub fn expiry_after(now: Tick, n: u64) -> Option<Tick>
+    requires now { now ≤ 10 ^ 18 }
+    requires ticks { n ≤ 10 ^ 18 }
+    ensures { result ≡ first_expiry n (now + n) }
+{
+    if n == 0 { None } else { now.after(n) }
+}
+
+/// When a timer that is set for a tick first expires. `None` exactly where that is 0: it is disarmed.
+pub fn expiry_at(at: Tick) -> Option<Tick>
+    ensures { result ≡ first_expiry at at }
+{
+    if at.get() == 0 { None } else { Some(at) }
+}
+
+/// `timer_settime`: the timer is due at that tick, and then again after each interval of so many ticks; with an interval of 0 once. With
+/// `None` it is disarmed.
+pub fn set_timer<K: Sink>(
+    p: &mut Parts,
+    t: Tid,
+    call: &Call,
+    k: ObjId,
+    due: Option<Tick>,
+    interval: u64,
+    out: &mut Tracer<'_, K>,
+)
+    requires known { t < length p.old.names }
+    requires timer { k < length p.old.machine.timers }
+    requires interval { interval ≤ 10 ^ 18 }
+    ensures state { p.new ≡ after (sets_timer (by t call.now) k due interval) p.old }
+    ensures told { Tells K.text K.faults p.old.names out.old out.new (told (sets_timer (by t call.now) k due interval) p.old) }
+{
+    p.set_timer(k, due, interval);
+    p.returns(t, call, Res::Zero, 0, out);
+}
+
+/// `timer_gettime`: the answer is the ticks from now until the timer expires; 0 where it is disarmed, or due by now.
+pub fn read_timer<K: Sink>(p: &mut Parts, t: Tid, call: &Call, k: ObjId, out: &mut Tracer<'_, K>)
+    requires known { t < length p.old.names }
+    requires timer { k < length p.old.machine.timers }
+    ensures state { p.new ≡ after (reads_timer (by t call.now) k) p.old }
+    ensures told { Tells K.text K.faults p.old.names out.old out.new (told (reads_timer (by t call.now) k) p.old) }
+{
+    let left = p.ticks_to_expiry(k);
+    p.returns(t, call, Res::Zero, left, out);
+}
+
+/// `timer_getoverrun`: the answer is the overrun of the timer's last signal, at most 2,147,483,647.
+pub fn read_overrun<K: Sink>(p: &mut Parts, t: Tid, call: &Call, k: ObjId, out: &mut Tracer<'_, K>)
+    requires known { t < length p.old.names }
+    requires timer { k < length p.old.machine.timers }
+    ensures state { p.new ≡ after (reads_overrun (by t call.now) k) p.old }
+    ensures told { Tells K.text K.faults p.old.names out.old out.new (told (reads_overrun (by t call.now) k) p.old) }
+{
+    let overrun = p.overrun(k);
+    p.returns(t, call, Res::Zero, overrun as u64, out);
+}
+
+// The signal of an expiry is generated.
+#[tactic(auto, using(crate::proofs::Expired::has_signal))]
+fn generate_expiry<K: Sink>(p: &mut Parts, k: ObjId, out: &mut Tracer<'_, K>)
+    requires timer { k < length p.old.machine.timers }
+    requires room { length p.old.direct < 256 }
+    requires rests { AllRest p.old.machine }
+    requires pends { HasRoomToPend p.old.machine }
+    requires signals { SignalsFit p.old.machine }
+    requires serial { p.old.machine.next_serial < 2 ^ 63 }
+    requires early { p.old.machine.now ≤ 10 ^ 18 }
+    ensures state { p.new ≡ after (generates (record_of_timer k (timer_at p.old.machine k))) p.old }
+    ensures told { Tells K.text K.faults p.old.names out.old out.new (told (generates (record_of_timer k (timer_at p.old.machine k))) p.old) }
+{
+    let r = p.timer_record(k);
+    generate(p, &r, out);
+}
+
+// Where a record of the timer is pending, that is one overrun more; else its signal is generated.
+#[tactic(auto, using(crate::proofs::Expired::as_overrun, crate::proofs::Expired::as_generated, crate::proofs::Expired::told_overrun, crate::proofs::Expired::told_generated, crate::proofs::Expired::has_room))]
+fn signal_expiry<K: Sink>(p: &mut Parts, k: ObjId, out: &mut Tracer<'_, K>)
+    requires timer { k < length p.old.machine.timers }
+    requires room { length p.old.direct < 256 }
+    requires rests { AllRest p.old.machine }
+    requires pends { PendingFits p.old.machine }
+    requires signals { SignalsFit p.old.machine }
+    requires serial { p.old.machine.next_serial < 2 ^ 63 }
+    requires early { p.old.machine.now ≤ 10 ^ 18 }
+    ensures state { p.new ≡ after (signals_expiry k) p.old }
+    ensures told { Tells K.text K.faults p.old.names out.old out.new (told (signals_expiry k) p.old) }
+{
+    if p.is_timer_pending(k) {
+        p.overrun_once_more(k);
+    } else {
+        generate_expiry(p, k, out);
+    }
+}
+
+/// A timer expires: its signal is generated, unless a record of the timer is pending still, which is one overrun more. Then it is due
+/// again after its interval, or disarmed where it has none.
+#[tactic(auto, using(crate::proofs::Expired::signalled_now, crate::proofs::Expired::signalled_many, crate::proofs::Expired::armed_after))]
+pub fn expire<K: Sink>(p: &mut Parts, k: ObjId, out: &mut Tracer<'_, K>)
+    requires timer { k < length p.old.machine.timers }
+    requires room { length p.old.direct < 256 }
+    requires rests { AllRest p.old.machine }
+    requires pends { PendingFits p.old.machine }
+    requires signals { SignalsFit p.old.machine }
+    requires serial { p.old.machine.next_serial < 2 ^ 63 }
+    requires early { p.old.machine.now ≤ 10 ^ 18 }
+    ensures state { p.new ≡ after (expires k) p.old }
+    ensures told { Tells K.text K.faults p.old.names out.old out.new (told (expires k) p.old) }
+{
+    signal_expiry(p, k, out);
+    p.arm_timer_again(k);
+}

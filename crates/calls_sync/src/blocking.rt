@@ -1,0 +1,40 @@
+// A call that must wait.
+ghost use Rattle.std.specs.Prelude.{◌≡◌, ◌<◌, ◌^◌, None, length, true};
+ghost use Rattle.words_trace.specs.Tells.{Tells};
+ghost use Rattle.rules_machine.specs.Priorities.{mutex_waited};
+ghost use Rattle.rules_machine.specs.Semaphores.{blocks_unless_late};
+ghost use Rattle.rules_machine.specs.Threads.{can_run};
+ghost use Rattle.kernel_threads.specs.Plain.{wait_of};
+ghost use Rattle.kernel_state.specs.Kernel.{after, by, told};
+
+use crate::answers::is_late;
+use kernel_state::Parts;
+use words_trace::Tracer;
+use parts_io::Sink;
+use words_script::Call;
+use kernel_threads::Wait;
+use words_numbers::{Res, Tick, Tid};
+
+/// The caller waits for something that is no mutex, until that tick where there is one; where the tick is not in the future, its call
+/// returns at once.
+pub fn block_unless_late<K: Sink>(
+    p: &mut Parts,
+    t: Tid,
+    call: &Call,
+    wait: Wait,
+    due: Option<Tick>,
+    out: &mut Tracer<'_, K>,
+)
+    requires known { t < length p.old.names }
+    requires runs { can_run p.old.machine t ≡ true }
+    requires other { mutex_waited (wait_of wait) ≡ None }
+    requires serial { p.old.machine.next_serial < 2 ^ 63 }
+    ensures state { p.new ≡ after (blocks_unless_late (by t call.now) (wait_of wait) due) p.old }
+    ensures told { Tells K.text K.faults p.old.names out.old out.new (told (blocks_unless_late (by t call.now) (wait_of wait) due) p.old) }
+{
+    if is_late(p, &due) {
+        p.returns(t, call, Res::Timedout, 0, out);
+    } else {
+        p.block(t, call, wait, due);
+    }
+}

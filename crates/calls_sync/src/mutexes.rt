@@ -1,0 +1,226 @@
+// Locking and unlocking.
+ghost use Rattle.std.specs.Prelude.{◌≡◌, ◌≤◌, ◌<◌, ◌==◌, ◌^◌, None, Some, IfSome, false, length, option_map, true};
+ghost use Rattle.words_numbers.specs.declared.res.Res.TheVariants as res;
+ghost use Rattle.words_trace.specs.Tells.{Tells};
+ghost use Rattle.rules_machine.specs.Mutexes.{counted_up, counted_down, locks, carries_out_lock, recursion_limit, releases, taken_by, tries_lock, unlocks, waits_for_mutex};
+ghost use Rattle.rules_machine.specs.Threads.{can_run, mutex_at};
+ghost use Rattle.rules_machine.specs.Turns.{changes_mutex, returns, ◌▷◌};
+ghost use Rattle.rules_machine.specs.Waiters.{Waiter, best_waiter};
+ghost use Rattle.kernel_state.specs.Kernel.{after, by, told};
+ghost use Rattle.calls_sync.specs.Answers.{CanAct, answer_of};
+ghost use Rattle.calls_sync.specs.Waits.{BlockedRest, MutexWaitersRest};
+
+use crate::answers::{
+    LockAnswer, answer_as_owner, is_cancelled_waiter, lock_answer, trylock_answer,
+};
+use kernel_state::Parts;
+use words_trace::Tracer;
+use parts_io::Sink;
+use words_script::Call;
+use kernel_threads::Wait;
+use words_numbers::{ObjId, Res, Tick, Tid};
+use parts_waiters::WaitObj;
+
+// The caller's mutex is counted once more.
+fn count_up<K: Sink>(p: &mut Parts, t: Tid, call: &Call, k: ObjId, out: &mut Tracer<'_, K>)
+    requires known { t < length p.old.names }
+    requires mutex { k < length p.old.machine.mutexes }
+    requires below { ((mutex_at p.old.machine k).count == recursion_limit) ≡ false }
+    ensures state { p.new ≡ after (λ s. s ▷ changes_mutex k counted_up ▷ returns (by t call.now) res.Zero 0) p.old }
+    ensures told { Tells K.text K.faults p.old.names out.old out.new (told (λ s. s ▷ changes_mutex k counted_up ▷ returns (by t call.now) res.Zero 0) p.old) }
+{
+    let count = p.mutex(k).count();
+    p.set_count(k, count + 1);
+    p.returns(t, call, Res::Zero, 0, out);
+}
+
+// The caller takes the mutex, which was free.
+#[inline(always)]
+#[tactic(auto, using(crate::proofs::Acts::awaits_none))]
+fn take<K: Sink>(p: &mut Parts, t: Tid, call: &Call, k: ObjId, out: &mut Tracer<'_, K>)
+    requires known { t < length p.old.names }
+    requires runs { can_run p.old.machine t ≡ true }
+    requires mutex { k < length p.old.machine.mutexes }
+    requires free { (mutex_at p.old.machine k).owner ≡ None }
+    ensures state { p.new ≡ after (λ s. s ▷ changes_mutex k (taken_by t) ▷ returns (by t call.now) res.Zero 0) p.old }
+    ensures told { Tells K.text K.faults p.old.names out.old out.new (told (λ s. s ▷ changes_mutex k (taken_by t) ▷ returns (by t call.now) res.Zero 0) p.old) }
+{
+    p.take_mutex(k, t);
+    p.returns(t, call, Res::Zero, 0, out);
+}
+
+// What an answer does.
+#[inline(always)]
+fn act<K: Sink>(
+    p: &mut Parts,
+    t: Tid,
+    call: &Call,
+    k: ObjId,
+    due: Option<Tick>,
+    answer: LockAnswer,
+    out: &mut Tracer<'_, K>,
+)
+    requires known { t < length p.old.names }
+    requires runs { can_run p.old.machine t ≡ true }
+    requires mutex { k < length p.old.machine.mutexes }
+    requires can { CanAct p.old.machine t k (answer_of answer) }
+    requires serial { p.old.machine.next_serial < 2 ^ 63 }
+    ensures state { p.new ≡ after (carries_out_lock (answer_of answer) (by t call.now) k due) p.old }
+    ensures told { Tells K.text K.faults p.old.names out.old out.new (told (carries_out_lock (answer_of answer) (by t call.now) k due) p.old) }
+{
+    match answer {
+        LockAnswer::Refused(refusal) => p.returns(t, call, refusal, 0, out),
+        LockAnswer::Counts => count_up(p, t, call, k, out),
+        LockAnswer::Takes => take(p, t, call, k, out),
+        LockAnswer::MustWait => p.block(t, call, Wait::Mutex(k), due),
+    }
+}
+
+/// `pthread_mutex_lock`, and with a time `pthread_mutex_timedlock`. Mostly the mutex is free, and to take it raises nobody.
+#[inline(always)]
+#[tactic(auto, using(crate::proofs::Acts::awaits_none))]
+pub fn lock<K: Sink>(
+    p: &mut Parts,
+    t: Tid,
+    call: &Call,
+    k: ObjId,
+    due: Option<Tick>,
+    out: &mut Tracer<'_, K>,
+)
+    requires known { t < length p.old.names }
+    requires runs { can_run p.old.machine t ≡ true }
+    requires mutex { k < length p.old.machine.mutexes }
+    requires serial { p.old.machine.next_serial < 2 ^ 63 }
+    ensures state { p.new ≡ after (locks (by t call.now) k due) p.old }
+    ensures told { Tells K.text K.faults p.old.names out.old out.new (told (locks (by t call.now) k due) p.old) }
+{
+    if p.take_at_once(k, t) {
+        p.returns(t, call, Res::Zero, 0, out);
+    } else {
+        lock_any(p, t, call, k, due, out);
+    }
+}
+
+// The lock of any mutex, as it comes out.
+#[inline(never)]
+#[tactic(auto, using(crate::proofs::Acts::lock_acts))]
+fn lock_any<K: Sink>(
+    p: &mut Parts,
+    t: Tid,
+    call: &Call,
+    k: ObjId,
+    due: Option<Tick>,
+    out: &mut Tracer<'_, K>,
+)
+    requires known { t < length p.old.names }
+    requires runs { can_run p.old.machine t ≡ true }
+    requires mutex { k < length p.old.machine.mutexes }
+    requires serial { p.old.machine.next_serial < 2 ^ 63 }
+    ensures state { p.new ≡ after (locks (by t call.now) k due) p.old }
+    ensures told { Tells K.text K.faults p.old.names out.old out.new (told (locks (by t call.now) k due) p.old) }
+{
+    let answer = lock_answer(p, t, k, &due);
+    act(p, t, call, k, due, answer, out);
+}
+
+/// `pthread_mutex_trylock`. It never waits.
+#[tactic(auto, using(crate::proofs::Acts::trylock_can))]
+pub fn try_lock<K: Sink>(p: &mut Parts, t: Tid, call: &Call, k: ObjId, out: &mut Tracer<'_, K>)
+    requires known { t < length p.old.names }
+    requires runs { can_run p.old.machine t ≡ true }
+    requires mutex { k < length p.old.machine.mutexes }
+    requires serial { p.old.machine.next_serial < 2 ^ 63 }
+    ensures state { p.new ≡ after (tries_lock (by t call.now) k) p.old }
+    ensures told { Tells K.text K.faults p.old.names out.old out.new (told (tries_lock (by t call.now) k) p.old) }
+{
+    let answer = trylock_answer(p, t, k);
+    act(p, t, call, k, None, answer, out);
+}
+
+// The owner's mutex goes to its best waiter.
+#[inline(never)]
+#[tactic(auto, using(crate::proofs::Resting::best_rests))]
+fn hand_over<K: Sink>(p: &mut Parts, t: Tid, k: ObjId, w: Tid, out: &mut Tracer<'_, K>)
+    requires known { w < length p.old.names }
+    requires mutex { k < length p.old.machine.mutexes }
+    requires owned { (mutex_at p.old.machine k).owner ≡ Some t }
+    requires best { Some w ≡ option_map (λ (v : Waiter). v.thread) (best_waiter p.old.machine (waits_for_mutex k)) }
+    requires room { length p.old.direct < 256 }
+    requires rests { MutexWaitersRest p.old.machine k }
+    requires early { p.old.machine.now ≤ 10 ^ 18 }
+    ensures state { p.new ≡ after (releases k) p.old }
+    ensures told { Tells K.text K.faults p.old.names out.old out.new (told (releases k) p.old) }
+{
+    if is_cancelled_waiter(p, w) {
+        p.wake_cancelled_owner(k, t, w, out);
+    } else {
+        let answer = answer_as_owner(p, w);
+        p.wake_owner(k, t, w, answer, out);
+    }
+}
+
+/// The owner's mutex goes to its best waiter, or is free.
+pub(crate) fn release<K: Sink>(p: &mut Parts, t: Tid, k: ObjId, out: &mut Tracer<'_, K>)
+    requires mutex { k < length p.old.machine.mutexes }
+    requires owned { (mutex_at p.old.machine k).owner ≡ Some t }
+    requires room { length p.old.direct < 256 }
+    requires rests { MutexWaitersRest p.old.machine k }
+    requires early { p.old.machine.now ≤ 10 ^ 18 }
+    ensures state { p.new ≡ after (releases k) p.old }
+    ensures told { Tells K.text K.faults p.old.names out.old out.new (told (releases k) p.old) }
+{
+    match p.best_waiter(WaitObj::Mutex(k)) {
+        None => p.release_mutex(k, t),
+        Some(w) => hand_over(p, t, k, w, out),
+    }
+}
+
+// The caller's mutex is counted once less.
+fn count_down<K: Sink>(p: &mut Parts, t: Tid, call: &Call, k: ObjId, out: &mut Tracer<'_, K>)
+    requires known { t < length p.old.names }
+    requires mutex { k < length p.old.machine.mutexes }
+    requires counted { 1 < (mutex_at p.old.machine k).count }
+    ensures state { p.new ≡ after (λ s. s ▷ returns (by t call.now) res.Zero 0 ▷ changes_mutex k counted_down) p.old }
+    ensures told { Tells K.text K.faults p.old.names out.old out.new (told (λ s. s ▷ returns (by t call.now) res.Zero 0 ▷ changes_mutex k counted_down) p.old) }
+{
+    p.returns(t, call, Res::Zero, 0, out);
+    let count = p.mutex(k).count();
+    p.set_count(k, count - 1);
+}
+
+// The caller, which has locked the mutex once, gives it up.
+#[tactic(auto, using(crate::proofs::Returned::returned_waiters))]
+fn give_up<K: Sink>(p: &mut Parts, t: Tid, call: &Call, k: ObjId, out: &mut Tracer<'_, K>)
+    requires known { t < length p.old.names }
+    requires runs { can_run p.old.machine t ≡ true }
+    requires mutex { k < length p.old.machine.mutexes }
+    requires owned { (mutex_at p.old.machine k).owner ≡ Some t }
+    requires room { length p.old.direct < 256 }
+    requires rests { BlockedRest p.old.machine }
+    requires early { p.old.machine.now ≤ 10 ^ 18 }
+    ensures state { p.new ≡ after (λ s. s ▷ returns (by t call.now) res.Zero 0 ▷ releases k) p.old }
+    ensures told { Tells K.text K.faults p.old.names out.old out.new (told (λ s. s ▷ returns (by t call.now) res.Zero 0 ▷ releases k) p.old) }
+{
+    p.returns(t, call, Res::Zero, 0, out);
+    release(p, t, k, out);
+}
+
+/// `pthread_mutex_unlock`.
+pub fn unlock<K: Sink>(p: &mut Parts, t: Tid, call: &Call, k: ObjId, out: &mut Tracer<'_, K>)
+    requires known { t < length p.old.names }
+    requires runs { can_run p.old.machine t ≡ true }
+    requires mutex { k < length p.old.machine.mutexes }
+    requires room { length p.old.direct < 256 }
+    requires rests { BlockedRest p.old.machine }
+    requires early { p.old.machine.now ≤ 10 ^ 18 }
+    ensures state { p.new ≡ after (unlocks (by t call.now) k) p.old }
+    ensures told { Tells K.text K.faults p.old.names out.old out.new (told (unlocks (by t call.now) k) p.old) }
+{
+    if !p.mutex(k).is_owned_by(t) {
+        p.returns(t, call, Res::Perm, 0, out);
+    } else if p.mutex(k).count() > 1 {
+        count_down(p, t, call, k, out);
+    } else {
+        give_up(p, t, call, k, out);
+    }
+}

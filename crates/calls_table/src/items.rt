@@ -1,0 +1,131 @@
+// The due items.
+ghost use Rattle.std.specs.Prelude.{◌≡◌, ◌≤◌, ◌<◌, ◌+◌, ◌^◌, [], length, true, false};
+ghost use Rattle.words_trace.specs.Tells.{Tells};
+ghost use Rattle.rules_machine.specs.Threads.{is_blocked, thread_at, waiting_of};
+ghost use Rattle.rules_machine.specs.Turns.{settles_since, ◌▷◌};
+ghost use Rattle.rules_machine.specs.Servers.{has_high, refills};
+ghost use Rattle.rules_machine.specs.DueItems.{handles, item_done, times_out};
+ghost use Rattle.rules_flat_code.specs.FlatBodies.{flat_bodies};
+ghost use Rattle.kernel_threads.specs.Unused.{IsUnused};
+ghost use Rattle.kernel_state.specs.Due.{IsKnown};
+ghost use Rattle.calls_sync.specs.Waits.{WaitsFit};
+ghost use Rattle.calls_signals.specs.Sweeping.{CanSweep};
+ghost use Rattle.calls_table.specs.Handled.{CanHandle};
+ghost use Rattle.kernel_state.specs.Kernel.{Kernel, after, refilled_telling, told};
+ghost use Rattle.kernel_state.specs.Stood.{StoodRight};
+
+use calls_signals::{expire, sweep};
+use kernel_state::Parts;
+use calls_sync::contend;
+use rules_machine::CondEnd;
+use words_trace::{Event, Tracer};
+use parts_io::Sink;
+use kernel_threads::{Refilled, Wait};
+use words_numbers::{Item, Res, SigSet, Tid};
+
+// It is told, and the thread is activated where it got its high priority back and can run.
+fn tell_refill<K: Sink>(p: &mut Parts, t: Tid, r: &Refilled, runs: bool, out: &mut Tracer<'_, K>)
+    requires known { t < length p.old.names }
+    requires unused { r.now.regains_high ≡ true → IsUnused (thread_at p.old.machine t).server }
+    requires early { p.old.machine.now ≤ 10 ^ 18 }
+    ensures state { p.new ≡ after (refilled_telling t r.now runs) p.old }
+    ensures told { Tells K.text K.faults p.old.names out.old out.new (told (refilled_telling t r.now runs) p.old) }
+{
+    p.tell(&Event::Refill(t, r.amount, r.capacity), out);
+    if r.regains_high && runs {
+        p.activate(t, out);
+    }
+}
+
+// The oldest pending replenishment of a server is carried out.
+fn refill<K: Sink>(p: &mut Parts, t: Tid, out: &mut Tracer<'_, K>)
+    requires known { t < length p.old.names }
+    requires rests { has_high (thread_at p.old.machine t).server ≡ false → IsUnused (thread_at p.old.machine t).server }
+    requires early { p.old.machine.now ≤ 10 ^ 18 }
+    ensures state { p.new ≡ after (refills t) p.old }
+    ensures told { Tells K.text K.faults p.old.names out.old out.new (told (refills t) p.old) }
+{
+    if !p.has_server(t) {
+        return;
+    }
+    let runs = p.is_runnable(t);
+    let r = p.refill_thread(t);
+    tell_refill(p, t, &r, runs, out);
+}
+
+// A wait ends at its time: a sleep is over, and what was waited for is given up.
+fn time_out<K: Sink>(p: &mut Parts, t: Tid, out: &mut Tracer<'_, K>)
+    requires known { t < length p.old.names }
+    requires fits { WaitsFit p.old.machine }
+    requires serial { p.old.machine.next_serial < 2 ^ 62 }
+    requires quiet { p.old.direct ≡ [] }
+    requires early { p.old.machine.now ≤ 10 ^ 18 }
+    ensures state { p.new ≡ after (λ s. times_out (waiting_of s.machine t) t s) p.old }
+    ensures told { Tells K.text K.faults p.old.names out.old out.new (told (λ s. times_out (waiting_of s.machine t) t s) p.old) }
+{
+    match p.wait(t) {
+        None => return,
+        Some(Wait::Time) => p.wake(t, Res::Zero, 0, out),
+        Some(Wait::Mutex(_)) => p.wake(t, Res::Timedout, 0, out),
+        Some(Wait::MutexAgain(_, _)) => p.wake(t, Res::Timedout, 0, out),
+        Some(Wait::End(_)) => p.wake(t, Res::Timedout, 0, out),
+        Some(Wait::Semaphore(_)) => p.wake(t, Res::Timedout, 0, out),
+        Some(Wait::Condition(_, _)) => contend(p, t, CondEnd::Timedout, out),
+        Some(Wait::Signal(_)) => p.wake(t, Res::Again, 0, out),
+        Some(Wait::Room(_, _)) => p.wake(t, Res::Timedout, 0, out),
+        Some(Wait::Message(_)) => p.wake(t, Res::Timedout, 0, out),
+    }
+}
+
+// A due item, before its moves.
+fn handle<K: Sink>(p: &mut Parts, i: Item, out: &mut Tracer<'_, K>)
+    requires known { IsKnown (length p.old.names) (length p.old.machine.timers) i }
+    requires quiet { p.old.direct ≡ [] }
+    requires fits { CanHandle p.old.machine }
+    requires serial { p.old.machine.next_serial < 2 ^ 62 }
+    requires early { p.old.machine.now ≤ 10 ^ 18 }
+    ensures state { p.new ≡ after (handles (flat_bodies p.old.code) i) p.old }
+    ensures told { Tells K.text K.faults p.old.names out.old out.new (told (handles (flat_bodies p.old.code) i) p.old) }
+{
+    match i {
+        Item::Refill(t) => refill(p, t, out),
+        Item::Start(t) => p.start(t, SigSet::new(0), out),
+        Item::Timeout(t) => time_out(p, t, out),
+        Item::Timer(k) => expire(p, k, out),
+    }
+}
+
+// A due item, with its moves.
+fn settle_item<K: Sink>(p: &mut Parts, i: Item, out: &mut Tracer<'_, K>)
+    requires known { IsKnown (length p.old.names) (length p.old.machine.timers) i }
+    requires quiet { p.old.direct ≡ [] }
+    requires stood { StoodRight p.old.machine }
+    requires fits { CanHandle p.old.machine }
+    requires serial { p.old.machine.next_serial < 2 ^ 62 }
+    requires early { p.old.machine.now ≤ 10 ^ 18 }
+    ensures state { p.new ≡ after (λ s. s ▷ handles (flat_bodies p.old.code) i ▷ settles_since s.machine) p.old }
+    ensures told { Tells K.text K.faults p.old.names out.old out.new (told (λ s. s ▷ handles (flat_bodies p.old.code) i ▷ settles_since s.machine) p.old) }
+    ensures stood { StoodRight p.new.machine }
+{
+    handle(p, i, out);
+    p.settle();
+}
+
+/// A due item, with its moves and the sweep.
+pub fn do_item<K: Sink>(p: &mut Parts, i: Item, out: &mut Tracer<'_, K>)
+    requires known { IsKnown (length p.old.names) (length p.old.machine.timers) i }
+    requires quiet { p.old.direct ≡ [] }
+    requires stood { StoodRight p.old.machine }
+    requires fits { CanHandle p.old.machine }
+    requires serial { p.old.machine.next_serial < 2 ^ 62 }
+    requires sweeps { CanSweep (after (λ s. s ▷ handles (flat_bodies p.old.code) i ▷ settles_since s.machine) p.old) }
+    requires early { p.old.machine.now ≤ 10 ^ 18 }
+    ensures state { p.new ≡ after (item_done (flat_bodies p.old.code) i) p.old }
+    ensures told { Tells K.text K.faults p.old.names out.old out.new (told (item_done (flat_bodies p.old.code) i) p.old) }
+    ensures stood { StoodRight p.new.machine }
+    ensures quiet { p.new.direct ≡ [] }
+    ensures time { p.new.machine.now ≡ p.old.machine.now }
+{
+    settle_item(p, i, out);
+    sweep(p, out);
+}

@@ -1,0 +1,132 @@
+// Yielding, and scheduling parameters that change.
+ghost use Rattle.std.specs.Prelude.{◌≡◌, ◌≤◌, ◌<◌, ◌^◌, length};
+ghost use Rattle.words_trace.specs.Tells.{Tells};
+ghost use Rattle.rules_machine.specs.Threads.{thread_at};
+ghost use Rattle.rules_machine.specs.Turns.{returns, ◌▷◌};
+ghost use Rattle.rules_machine.specs.Threads.{can_run};
+ghost use Rattle.rules_machine.specs.Servers.{activates_if};
+ghost use Rattle.rules_machine.specs.Mutexes.{moves_unless_boosted};
+ghost use Rattle.rules_machine.specs.Scheduling.{sets_policy, sets_priority, takes_priority, yields};
+ghost use Rattle.kernel_threads.specs.Unused.{IsUnused};
+ghost use Rattle.kernel_state.specs.Kernel.{after, by, changes_policy, told};
+
+use kernel_state::Parts;
+use words_trace::Tracer;
+use parts_io::Sink;
+use words_script::{Call, Policy};
+use words_numbers::{Prio, Res, Tid};
+
+/// `sched_yield`.
+pub(crate) fn make_yield<K: Sink>(p: &mut Parts, t: Tid, call: &Call, out: &mut Tracer<'_, K>)
+    requires known { t < length p.old.names }
+    requires room { length p.old.direct < 256 }
+    ensures state { p.new ≡ after (yields (by t call.now)) p.old }
+    ensures told { Tells K.text K.faults p.old.names out.old out.new (told (yields (by t call.now)) p.old) }
+{
+    p.move_later(t);
+    p.returns(t, call, Res::Zero, 0, out);
+}
+
+/// `pthread_setschedprio`.
+pub(crate) fn make_setprio<K: Sink>(
+    p: &mut Parts,
+    t: Tid,
+    call: &Call,
+    u: Tid,
+    prio: Prio,
+    out: &mut Tracer<'_, K>,
+)
+    requires known { t < length p.old.names }
+    requires thread { u < length p.old.names }
+    ensures state { p.new ≡ after (sets_priority (by t call.now) u prio) p.old }
+    ensures told { Tells K.text K.faults p.old.names out.old out.new (told (sets_priority (by t call.now) u prio) p.old) }
+{
+    if !p.is_live(u) {
+        p.returns(t, call, Res::Srch, 0, out);
+        return;
+    }
+    if !p.takes_priority(u, prio) {
+        p.returns(t, call, Res::Inval, 0, out);
+        return;
+    }
+    p.set_thread_priority(u, prio);
+    p.returns(t, call, Res::Zero, 0, out);
+}
+
+// The thread has its new policy, and a server that is new where it is sporadic.
+fn change_policy<K: Sink>(
+    p: &mut Parts,
+    t: Tid,
+    call: &Call,
+    u: Tid,
+    policy: Policy,
+    out: &mut Tracer<'_, K>,
+)
+    requires known { t < length p.old.names }
+    requires thread { u < length p.old.names }
+    requires early { p.old.machine.now ≤ 10 ^ 18 }
+    ensures state { p.new ≡ after (changes_policy (by t call.now) u policy p.old.machine.now) p.old }
+    ensures told { Tells K.text K.faults p.old.names out.old out.new (told (changes_policy (by t call.now) u policy p.old.machine.now) p.old) }
+    ensures unused { IsUnused (thread_at p.new.machine u).server }
+{
+    p.returns(t, call, Res::Zero, 0, out);
+    p.set_thread_policy(u, policy);
+}
+
+// A runnable thread is activated, where it has a server.
+fn activate_if<K: Sink>(p: &mut Parts, runs: bool, u: Tid, out: &mut Tracer<'_, K>)
+    requires known { u < length p.old.names }
+    requires unused { IsUnused (thread_at p.old.machine u).server }
+    requires early { p.old.machine.now ≤ 10 ^ 18 }
+    ensures state { p.new ≡ after (activates_if runs u) p.old }
+    ensures told { Tells K.text K.faults p.old.names out.old out.new (told (activates_if runs u) p.old) }
+{
+    if runs {
+        p.activate(u, out);
+    }
+}
+
+// A live thread has its new policy, and becomes the tail of its list.
+fn set_policy<K: Sink>(
+    p: &mut Parts,
+    t: Tid,
+    call: &Call,
+    u: Tid,
+    policy: Policy,
+    out: &mut Tracer<'_, K>,
+)
+    requires known { t < length p.old.names }
+    requires thread { u < length p.old.names }
+    requires room { length p.old.direct < 256 }
+    requires early { p.old.machine.now ≤ 10 ^ 18 }
+    ensures state { p.new ≡ after (λ s. s ▷ changes_policy (by t call.now) u policy s.machine.now ▷ activates_if (can_run s.machine u) u ▷ moves_unless_boosted u) p.old }
+    ensures told { Tells K.text K.faults p.old.names out.old out.new (told (λ s. s ▷ changes_policy (by t call.now) u policy s.machine.now ▷ activates_if (can_run s.machine u) u ▷ moves_unless_boosted u) p.old) }
+{
+    let runs = p.is_runnable(u);
+    change_policy(p, t, call, u, policy, out);
+    activate_if(p, runs, u, out);
+    p.move_unless_boosted(u);
+}
+
+/// `pthread_setschedparam`.
+pub(crate) fn make_setsched<K: Sink>(
+    p: &mut Parts,
+    t: Tid,
+    call: &Call,
+    u: Tid,
+    policy: Policy,
+    out: &mut Tracer<'_, K>,
+)
+    requires known { t < length p.old.names }
+    requires thread { u < length p.old.names }
+    requires room { length p.old.direct < 256 }
+    requires early { p.old.machine.now ≤ 10 ^ 18 }
+    ensures state { p.new ≡ after (sets_policy (by t call.now) u policy) p.old }
+    ensures told { Tells K.text K.faults p.old.names out.old out.new (told (sets_policy (by t call.now) u policy) p.old) }
+{
+    if !p.is_live(u) {
+        p.returns(t, call, Res::Srch, 0, out);
+        return;
+    }
+    set_policy(p, t, call, u, policy, out);
+}

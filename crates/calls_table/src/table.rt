@@ -1,0 +1,171 @@
+// The table of calls: the effect of each.
+ghost use Rattle.std.specs.Prelude.{◌≡◌, ◌≤◌, ◌<◌, ◌^◌, length, true};
+ghost use Rattle.words_trace.specs.Tells.{Tells};
+ghost use Rattle.rules_machine.specs.Threads.{can_run, thread_at};
+ghost use Rattle.rules_machine.specs.Turns.{returns};
+ghost use Rattle.rules_machine.specs.Calls.{call_effect, makes_call};
+ghost use Rattle.calls_table.specs.Calls.{HasRoomFor, objects_in};
+ghost use Rattle.rules_flat_code.specs.FlatBodies.{flat_bodies};
+ghost use Rattle.rules_flat_code.specs.Runnable.{CallIsRunnable};
+ghost use Rattle.calls_threads.specs.Joins.{JoinsFit};
+ghost use Rattle.calls_sync.specs.Waits.{WaitsFit};
+ghost use Rattle.kernel_state.specs.Kernel.{after, by, told};
+ghost use Rattle.kernel_state.specs.Pending.{PendingFits, SignalsFit};
+
+use crate::lives::make_create;
+use crate::scheduling::{make_setprio, make_setsched, make_yield};
+use crate::time::{end_of_sleep, sleep_until};
+use calls_threads::{
+    acts_in_place, cancel, exit, join, pop_cleanup, push_cleanup, set_cancelability,
+};
+use calls_queues::{ask_notification, receive, send};
+use calls_signals::{
+    block, expiry_after, expiry_at, kill, kill_thread, queue, read_overrun, read_timer,
+    set as set_mask, set_timer, unblock, wait as wait_for_signal,
+};
+use kernel_state::Parts;
+use calls_sync::{
+    broadcast, cond_wait, get_value, lock, post, signal, try_lock, try_wait, unlock, wait,
+};
+use words_trace::Tracer;
+use parts_io::Sink;
+use words_script::Call;
+use words_numbers::{Res, Tid};
+
+/// The effect of a call.
+#[inline(always)]
+fn do_call<K: Sink>(p: &mut Parts, t: Tid, call: &Call, out: &mut Tracer<'_, K>)
+    requires known { t < length p.old.names }
+    requires runnable { CallIsRunnable (objects_in p.old) call.now }
+    requires guards { HasRoomFor (length p.old.code.cleanups) (thread_at p.old.machine t) call.now }
+    requires threads { length p.old.machine.threads ≡ length p.old.names }
+    requires runs { can_run p.old.machine t ≡ true }
+    requires fits { WaitsFit p.old.machine }
+    requires joins { JoinsFit p.old.machine }
+    requires pends { PendingFits p.old.machine }
+    requires signals { SignalsFit p.old.machine }
+    requires serial { p.old.machine.next_serial < 2 ^ 62 }
+    requires room { length p.old.direct < 128 }
+    requires early { p.old.machine.now ≤ 10 ^ 18 }
+    ensures state { p.new ≡ after (call_effect (flat_bodies p.old.code) (by t call.now) call.now) p.old }
+    ensures told { Tells K.text K.faults p.old.names out.old out.new (told (call_effect (flat_bodies p.old.code) (by t call.now) call.now) p.old) }
+{
+    match call {
+        Call::Yield => make_yield(p, t, call, out),
+        Call::Create(u) => make_create(p, t, call, *u, out),
+        Call::Join(u) => join(p, t, call, *u, out),
+        Call::Cancel(u) => cancel(p, t, call, *u, out),
+        Call::Testcancel => p.returns(t, call, Res::Zero, 0, out),
+        Call::Setcancel(on) => set_cancelability(p, t, call, *on, out),
+        Call::Push(u) => push_cleanup(p, t, call, *u, out),
+        Call::Pop(runs) => pop_cleanup(p, t, call, *runs, out),
+        Call::Exit(v) => exit(p, t, call, p.number(t, v)),
+        Call::Setprio(u, prio) => make_setprio(p, t, call, *u, *prio, out),
+        Call::Setsched(u, policy) => make_setsched(p, t, call, *u, *policy, out),
+        Call::Lock(k) => lock(p, t, call, *k, None, out),
+        Call::Timedlock { mutex, at } => lock(p, t, call, *mutex, Some(p.moment(t, at)), out),
+        Call::Trylock(k) => try_lock(p, t, call, *k, out),
+        Call::Unlock(k) => unlock(p, t, call, *k, out),
+        Call::Wait(c, k) => cond_wait(p, t, call, *c, *k, None, out),
+        Call::Timedwait { cond, mutex, at } => {
+            cond_wait(p, t, call, *cond, *mutex, Some(p.moment(t, at)), out)
+        }
+        Call::Signal(c) => signal(p, t, call, *c, out),
+        Call::Broadcast(c) => broadcast(p, t, call, *c, out),
+        Call::SemWait(k) => wait(p, t, call, *k, None, out),
+        Call::SemTimedwait { sem, at } => wait(p, t, call, *sem, Some(p.moment(t, at)), out),
+        Call::SemTrywait(k) => try_wait(p, t, call, *k, out),
+        Call::SemGetvalue(k) => get_value(p, t, call, *k, out),
+        Call::SemPost(k) => post(p, t, call, *k, out),
+        Call::Nanosleep(n) => sleep_until(p, t, call, end_of_sleep(p.instant(), *n), out),
+        Call::ClockNanosleep { at } => sleep_until(p, t, call, p.moment(t, at), out),
+        Call::Gettime => p.returns(t, call, Res::Zero, p.instant().get(), out),
+        Call::TimerSettimeRel(k, n, interval) => {
+            set_timer(
+                p,
+                t,
+                call,
+                *k,
+                expiry_after(p.instant(), *n),
+                *interval,
+                out,
+            )
+        }
+        Call::TimerSettimeAbs(k, at, interval) => {
+            set_timer(p, t, call, *k, expiry_at(p.moment(t, at)), *interval, out)
+        }
+        Call::TimerGettime(k) => read_timer(p, t, call, *k, out),
+        Call::TimerGetoverrun(k) => read_overrun(p, t, call, *k, out),
+        Call::Kill(signal) => kill(p, t, call, *signal, out),
+        Call::Tkill(u, signal) => kill_thread(p, t, call, *u, *signal, out),
+        Call::Sigqueue(signal, v) => queue(p, t, call, *signal, p.number(t, v), out),
+        Call::SigmaskBlock(set) => block(p, t, call, *set, out),
+        Call::SigmaskUnblock(set) => unblock(p, t, call, *set, out),
+        Call::SigmaskSet(set) => set_mask(p, t, call, *set, out),
+        Call::Sigwaitinfo(set) => wait_for_signal(p, t, call, *set, None, out),
+        Call::Sigtimedwait(set, n) => wait_for_signal(p, t, call, *set, Some(*n), out),
+        Call::MqSend(q, len, priority, v) => {
+            send(p, t, call, *q, *len, *priority, p.number(t, v), None, out)
+        }
+        Call::MqTimedsend {
+            queue,
+            len,
+            prio,
+            value,
+            at,
+        } => send(
+            p,
+            t,
+            call,
+            *queue,
+            *len,
+            *prio,
+            p.number(t, value),
+            Some(p.moment(t, at)),
+            out,
+        ),
+        Call::MqReceive(q) => receive(p, t, call, *q, None, out),
+        Call::MqTimedreceive { queue, at } => receive(
+            p,
+            t,
+            call,
+            *queue,
+            Some(p.moment(t, at)),
+            out,
+        ),
+        Call::MqNotify(q, signal, v) => ask_notification(
+            p,
+            t,
+            call,
+            *q,
+            *signal,
+            p.number(t, v),
+            out,
+        ),
+    }
+}
+
+/// A call is made, or a request acts in its place.
+#[inline(always)]
+pub fn make_call<K: Sink>(p: &mut Parts, t: Tid, call: &Call, out: &mut Tracer<'_, K>)
+    requires known { t < length p.old.names }
+    requires runnable { CallIsRunnable (objects_in p.old) call.now }
+    requires guards { HasRoomFor (length p.old.code.cleanups) (thread_at p.old.machine t) call.now }
+    requires threads { length p.old.machine.threads ≡ length p.old.names }
+    requires runs { can_run p.old.machine t ≡ true }
+    requires fits { WaitsFit p.old.machine }
+    requires joins { JoinsFit p.old.machine }
+    requires pends { PendingFits p.old.machine }
+    requires signals { SignalsFit p.old.machine }
+    requires serial { p.old.machine.next_serial < 2 ^ 62 }
+    requires room { length p.old.direct < 128 }
+    requires early { p.old.machine.now ≤ 10 ^ 18 }
+    ensures state { p.new ≡ after (makes_call (flat_bodies p.old.code) (by t call.now)) p.old }
+    ensures told { Tells K.text K.faults p.old.names out.old out.new (told (makes_call (flat_bodies p.old.code) (by t call.now)) p.old) }
+{
+    if acts_in_place(p, t, call) {
+        p.cancel_now(t, out);
+    } else {
+        do_call(p, t, call, out);
+    }
+}

@@ -1,0 +1,46 @@
+// Sleeping.
+ghost use Rattle.std.specs.Prelude.{◌≡◌, ◌≤◌, ◌<◌, ◌+◌, ◌*◌, ◌^◌, length, true};
+ghost use Rattle.words_trace.specs.Tells.{Tells};
+ghost use Rattle.rules_machine.specs.Threads.{can_run};
+ghost use Rattle.rules_machine.specs.Turns.{returns};
+ghost use Rattle.rules_machine.specs.Timers.{sleeps_until};
+ghost use Rattle.kernel_state.specs.Kernel.{after, by, told};
+
+use kernel_state::Parts;
+use words_trace::Tracer;
+use parts_io::Sink;
+use words_script::Call;
+use kernel_threads::Wait;
+use words_numbers::{Res, Tick, Tid};
+
+/// `nanosleep` and `clock_nanosleep`.
+#[inline(always)]
+pub(crate) fn sleep_until<K: Sink>(
+    p: &mut Parts,
+    t: Tid,
+    call: &Call,
+    at: Tick,
+    out: &mut Tracer<'_, K>,
+)
+    requires known { t < length p.old.names }
+    requires runs { can_run p.old.machine t ≡ true }
+    ensures state { p.new ≡ after (sleeps_until (by t call.now) at) p.old }
+    ensures told { Tells K.text K.faults p.old.names out.old out.new (told (sleeps_until (by t call.now) at) p.old) }
+{
+    if at <= p.instant() {
+        p.returns(t, call, Res::Zero, 0, out);
+    } else {
+        p.block_unordered(t, call, Wait::Time, Some(at));
+    }
+}
+
+/// When a sleep of so many ticks ends.
+pub(crate) fn end_of_sleep(now: Tick, n: u64) -> Tick
+    requires { now + n ≤ 2 * 10 ^ 18 }
+    ensures { result ≡ now + n }
+{
+    match now.after(n) {
+        Some(at) => at,
+        None => unreachable!(),
+    }
+}

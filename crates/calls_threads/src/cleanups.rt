@@ -1,0 +1,58 @@
+// Cleanup handlers.
+ghost use Rattle.std.specs.Prelude.{◌≡◌, ℕ, ◌≤◌, ◌<◌, IfSome, List, length, slice_get};
+ghost use Rattle.words_trace.specs.Tells.{Tells};
+ghost use Rattle.rules_machine.specs.Cancellation.{pops_cleanup, pushes_cleanup, runs_cleanup_if};
+ghost use Rattle.rules_machine.specs.Threads.{thread_at};
+ghost use Rattle.rules_machine.specs.Turns.{changes};
+ghost use Rattle.rules_flat_code.specs.FlatBodies.{flat_bodies};
+ghost use Rattle.kernel_threads.specs.Handlers.{AreHandlers};
+ghost use Rattle.kernel_state.specs.Kernel.{after, by, told};
+
+use kernel_state::Parts;
+use words_trace::Tracer;
+use parts_io::Sink;
+use words_script::Call;
+use words_numbers::{ObjId, Res, Tid};
+
+/// `pthread_cleanup_push`.
+pub fn push_cleanup<K: Sink>(p: &mut Parts, t: Tid, call: &Call, u: ObjId, out: &mut Tracer<'_, K>)
+    requires known { t < length p.old.names }
+    requires room { length (thread_at p.old.machine t).cleanups < 8 }
+    ensures state { p.new ≡ after (pushes_cleanup (by t call.now) u) p.old }
+    ensures told { Tells K.text K.faults p.old.names out.old out.new (told (pushes_cleanup (by t call.now) u) p.old) }
+{
+    p.put_cleanup(t, u);
+    p.returns(t, call, Res::Zero, 0, out);
+}
+
+// The cleanup handler that was pushed last runs in a frame of its own, if it is to.
+#[tactic(auto, using(crate::proofs::Popped::none_runs, crate::proofs::Popped::one_runs))]
+fn run_last(p: &mut Parts, t: Tid, last: Option<ObjId>, runs: bool)
+    requires known { t < length p.old.names }
+    requires handler { IfSome last (λ u. u < length p.old.code.cleanups) }
+    requires room { length (thread_at p.old.machine t).frames ≤ 2 }
+    ensures { (us : List ℕ) → last ≡ slice_get us 0 → p.new ≡ after (changes t (runs_cleanup_if runs (flat_bodies p.old.code) us)) p.old }
+{
+    if !runs {
+        return;
+    }
+    match last {
+        None => return,
+        Some(u) => p.run_cleanup(t, u),
+    }
+}
+
+/// `pthread_cleanup_pop`.
+#[tactic(auto, using(crate::proofs::Popped::first_known, crate::proofs::Popped::frames_kept))]
+pub fn pop_cleanup<K: Sink>(p: &mut Parts, t: Tid, call: &Call, runs: bool, out: &mut Tracer<'_, K>)
+    requires known { t < length p.old.names }
+    requires handlers { AreHandlers (length p.old.code.cleanups) (thread_at p.old.machine t).cleanups }
+    requires room { length (thread_at p.old.machine t).frames ≤ 2 }
+    ensures state { p.new ≡ after (pops_cleanup (flat_bodies p.old.code) (by t call.now) runs) p.old }
+    ensures told { Tells K.text K.faults p.old.names out.old out.new (told (pops_cleanup (flat_bodies p.old.code) (by t call.now) runs) p.old) }
+{
+    let last = p.last_cleanup(t);
+    p.drop_cleanup(t);
+    p.returns(t, call, Res::Zero, 0, out);
+    run_last(p, t, last, runs);
+}

@@ -1,0 +1,110 @@
+// The ends of threads and of handlers.
+ghost use Rattle.std.specs.Prelude.{◌≡◌, ◌≤◌, ◌<◌, ◌^◌, length};
+ghost use Rattle.words_numbers.specs.declared.res.Res.TheVariants as res;
+ghost use Rattle.words_trace.specs.declared.event.Event.TheVariants as event;
+ghost use Rattle.words_trace.specs.Tells.{Tells};
+ghost use Rattle.rules_machine.specs.Lives.{ends, exits, finishes, wakes_joiner, with_joiner, without_life, without_target};
+ghost use Rattle.rules_machine.specs.State.{has_joined};
+ghost use Rattle.rules_machine.specs.Threads.{thread_at};
+ghost use Rattle.rules_machine.specs.Turns.{changes, changes_pending, tells, ◌▷◌};
+ghost use Rattle.rules_machine.specs.Waking.{wakes};
+ghost use Rattle.kernel_threads.specs.Plain.{joiner_of};
+ghost use Rattle.kernel_threads.specs.Unused.{IsUnused};
+ghost use Rattle.kernel_state.specs.Kernel.{after, by, told};
+ghost use Rattle.calls_sync.specs.Waits.{BlockedRest};
+ghost use Rattle.calls_threads.specs.Joins.{JoinerFits, JoinsFit};
+
+use kernel_state::Parts;
+use rules_machine::FrameKind;
+use words_trace::{Event, Tracer};
+use parts_io::Sink;
+use words_script::Call;
+use kernel_threads::Joiner;
+use words_numbers::{Res, Tid};
+
+// The thread that waits to join one that has ended wakes with its value.
+#[tactic(auto, using(crate::proofs::Joined::joined_unused))]
+fn wake_waiting<K: Sink>(p: &mut Parts, t: Tid, u: Tid, out: &mut Tracer<'_, K>)
+    requires known { t < length p.old.names }
+    requires joiner { u < length p.old.names }
+    requires room { length p.old.direct < 256 }
+    requires unused { IsUnused (thread_at p.old.machine u).server }
+    requires early { p.old.machine.now ≤ 10 ^ 18 }
+    ensures state { p.new ≡ after (λ s. s ▷ changes t (with_joiner has_joined) ▷ wakes u res.Zero (thread_at p.old.machine t).exit_value) p.old }
+    ensures told { Tells K.text K.faults p.old.names out.old out.new (told (λ s. s ▷ changes t (with_joiner has_joined) ▷ wakes u res.Zero (thread_at p.old.machine t).exit_value) p.old) }
+{
+    let value = p.exit_value(t);
+    p.set_joiner(t, Joiner::HasJoined);
+    p.wake(u, Res::Zero, value, out);
+}
+
+// Who waits to join a thread that has ended wakes.
+fn wake_joiner<K: Sink>(p: &mut Parts, joiner: Joiner, t: Tid, out: &mut Tracer<'_, K>)
+    requires known { t < length p.old.names }
+    requires threads { length p.old.machine.threads ≡ length p.old.names }
+    requires joiner { JoinerFits p.old.machine (joiner_of joiner) }
+    requires room { length p.old.direct < 256 }
+    requires early { p.old.machine.now ≤ 10 ^ 18 }
+    ensures state { p.new ≡ after (wakes_joiner (joiner_of joiner) t) p.old }
+    ensures told { Tells K.text K.faults p.old.names out.old out.new (told (wakes_joiner (joiner_of joiner) t) p.old) }
+{
+    match joiner {
+        Joiner::Nobody => return,
+        Joiner::HasJoined => return,
+        Joiner::WaitsToJoin(u) => wake_waiting(p, t, u, out),
+    }
+}
+
+// The thread ends, and the signals directed to it.
+fn end_life<K: Sink>(p: &mut Parts, t: Tid, out: &mut Tracer<'_, K>)
+    requires known { t < length p.old.names }
+    ensures state { p.new ≡ after (λ s. s ▷ changes t without_life ▷ tells (event.Exit t) ▷ changes_pending (without_target t)) p.old }
+    ensures told { Tells K.text K.faults p.old.names out.old out.new (told (λ s. s ▷ changes t without_life ▷ tells (event.Exit t) ▷ changes_pending (without_target t)) p.old) }
+{
+    p.end_thread(t);
+    p.tell(&Event::Exit(t), out);
+    p.drop_pending(t);
+}
+
+// The thread ends, and its joiner wakes.
+#[tactic(auto, using(crate::proofs::Ended::joiner_fits))]
+fn end<K: Sink>(p: &mut Parts, t: Tid, out: &mut Tracer<'_, K>)
+    requires known { t < length p.old.names }
+    requires threads { length p.old.machine.threads ≡ length p.old.names }
+    requires rests { BlockedRest p.old.machine }
+    requires joins { JoinsFit p.old.machine }
+    requires room { length p.old.direct < 256 }
+    requires early { p.old.machine.now ≤ 10 ^ 18 }
+    ensures state { p.new ≡ after (ends t) p.old }
+    ensures told { Tells K.text K.faults p.old.names out.old out.new (told (ends t) p.old) }
+{
+    let joiner = p.joiner(t);
+    end_life(p, t, out);
+    wake_joiner(p, joiner, t, out);
+}
+
+/// A body ends: a handler returns to what it interrupted, and the end of the main body is that of the thread.
+pub fn finish<K: Sink>(p: &mut Parts, t: Tid, out: &mut Tracer<'_, K>)
+    requires known { t < length p.old.names }
+    requires threads { length p.old.machine.threads ≡ length p.old.names }
+    requires rests { BlockedRest p.old.machine }
+    requires joins { JoinsFit p.old.machine }
+    requires room { length p.old.direct < 256 }
+    requires early { p.old.machine.now ≤ 10 ^ 18 }
+    ensures state { p.new ≡ after (finishes t) p.old }
+    ensures told { Tells K.text K.faults p.old.names out.old out.new (told (finishes t) p.old) }
+{
+    match p.top_kind(t) {
+        FrameKind::Main => end(p, t, out),
+        FrameKind::Cleanup => p.drop_frame(t),
+        FrameKind::Signal => p.drop_frame(t),
+    }
+}
+
+/// `pthread_exit`: the thread is ending, and its cleanup handlers come first.
+pub fn exit(p: &mut Parts, t: Tid, _call: &Call, value: u64)
+    requires { t < length p.old.names }
+    ensures { p.new ≡ after (exits (by t _call.now) value) p.old }
+{
+    p.begin_end(t, value);
+}

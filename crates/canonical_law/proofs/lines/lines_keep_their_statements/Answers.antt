@@ -1,7 +1,0 @@
-use Rattle.script_table.specs.Table.{patterns}
-use Rattle.canonical_law.proofs.Table.{the_table}
-use Rattle.canonical_law.proofs.Text.{statements_kept}
-use Rattle.canonical_law.proofs.lines.lines_keep_their_statements.Goals as goal
-
-pub returns : goal.returns
-returns c = λ b clean. statements_kept (patterns b.version) (the_table b.version) b clean

@@ -1,9 +1,0 @@
-use Rattle.std.proofs.Common.{arith}
-use Rattle.canonical_law.proofs.Decimals.{is_number-decimal, value_of-decimal}
-use Rattle.canonical_law.proofs.words.numbers_read_back.Goals as goal
-
-pub returns-clause-number : goal.returns-clause-number
-returns-clause-number c = is_number-decimal c.args.n (omega arith)
-
-pub returns-clause-value : goal.returns-clause-value
-returns-clause-value c = value_of-decimal c.args.n (omega arith)

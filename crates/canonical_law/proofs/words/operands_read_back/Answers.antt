@@ -1,5 +1,0 @@
-use Rattle.canonical_law.proofs.Decimals.{operand_back}
-use Rattle.canonical_law.proofs.words.operands_read_back.Goals as goal
-
-pub returns : goal.returns
-returns c = operand_back c.args.operand c.requires

@@ -1,6 +1,0 @@
-use Rattle.std.proofs.Common.{arith}
-use Rattle.canonical_law.proofs.Sets.{set_of-set_word}
-use Rattle.canonical_law.proofs.words.sets_read_back.Goals as goal
-
-pub returns : goal.returns
-returns c = set_of-set_word c.args.set (omega (arith, c.bits.ensures))

@@ -1,6 +1,0 @@
-use Rattle.std.proofs.Common.{drop, ◌≡◌}
-use Rattle.inherit_chain.proofs.Owned.{owns_one}
-use Rattle.inherit_chain.proofs.boosts.owns_boosting.Given as goal
-
-abbrev pub invariant-loop-k : goal.invariant-loop-k
-invariant-loop-k l = owns_one l.t (drop l.k-index l.mutexes) ≡ owns_one l.t l.mutexes

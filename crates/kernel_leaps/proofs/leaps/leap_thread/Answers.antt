@@ -1,0 +1,61 @@
+use Rattle.std.proofs.Common.{◌-◌}
+use Rattle.kernel_threads.specs.Running.{all_of}
+use Rattle.kernel_leaps.proofs.Passing.{begun_at, may_here}
+use Rattle.kernel_leaps.proofs.ThreadLeap.{acts, can_complete, has_leapt, in_time, leapt_state, leapt_told, may_be_swept, settled_stood}
+use Rattle.kernel_leaps.proofs.leaps.leap_thread.Goals as goal
+
+-- ---- the running
+
+pub run_thread-ran-requires-clause-placed : goal.run_thread-ran-requires-clause-placed
+run_thread-ran-requires-clause-placed g c = (may_here c.args.near c.args.t c.args.p.now c.requires.may).fits.thread.placed
+
+pub run_thread-ran-requires-clause-ends : goal.run_thread-ran-requires-clause-ends
+run_thread-ran-requires-clause-ends g c = (may_here c.args.near c.args.t c.args.p.now c.requires.may).fits.thread.can.ends
+
+pub run_thread-ran-requires-clause-within : goal.run_thread-ran-requires-clause-within
+run_thread-ran-requires-clause-within g c = (may_here c.args.near c.args.t c.args.p.now c.requires.may).fits.thread.room
+
+pub run_thread-ran-requires-clause-early : goal.run_thread-ran-requires-clause-early
+run_thread-ran-requires-clause-early g c = (may_here c.args.near c.args.t c.args.p.now c.requires.may).early
+
+-- ---- the parts of the leap
+
+pub complete_at_end-requires-clause-can : goal.complete_at_end-requires-clause-can
+complete_at_end-requires-clause-can g c =
+    let b = begun_at c.args.near c.args.t c.run_thread-ran.result c.args.p.now c.run_thread-ran.new.p c.requires.may c.run_thread-ran.ensures.ran c.run_thread-ran.ensures.state in
+    can_complete (c.args.near - all_of b.units) c.args.t c.run_thread-ran.result.ticks c.run_thread-ran.result.unit c.run_thread-ran.result.was_high b.behind c.run_thread-ran.new.p b.may b.long b.state b.unit b.high
+
+pub complete_at_end-requires-clause-acts : goal.complete_at_end-requires-clause-acts
+complete_at_end-requires-clause-acts g c =
+    let b = begun_at c.args.near c.args.t c.run_thread-ran.result c.args.p.now c.run_thread-ran.new.p c.requires.may c.run_thread-ran.ensures.ran c.run_thread-ran.ensures.state in
+    acts (c.args.near - all_of b.units) c.args.t c.run_thread-ran.result.ticks c.run_thread-ran.result.unit c.run_thread-ran.result.was_high b.behind c.run_thread-ran.new.p b.may b.long b.state b.unit b.high
+
+pub end_tick-requires-clause-stood : goal.end_tick-requires-clause-stood
+end_tick-requires-clause-stood g c =
+    let b = begun_at c.args.near c.args.t c.run_thread-ran.result c.args.p.now c.run_thread-ran.new.p c.requires.may c.run_thread-ran.ensures.ran c.run_thread-ran.ensures.state in
+    settled_stood (c.args.near - all_of b.units) c.args.t c.run_thread-ran.result.ticks c.run_thread-ran.result.unit c.run_thread-ran.result.was_high b.behind c.run_thread-ran.new.p b.may b.long b.state b.unit b.high
+    c.complete_at_end.new.p c.complete_at_end.ensures.state c.settle.new.self c.settle.ensures.state c.settle.ensures.fits
+
+pub sweep-requires-clause-can : goal.sweep-requires-clause-can
+sweep-requires-clause-can g c =
+    let b = begun_at c.args.near c.args.t c.run_thread-ran.result c.args.p.now c.run_thread-ran.new.p c.requires.may c.run_thread-ran.ensures.ran c.run_thread-ran.ensures.state in
+    may_be_swept (c.args.near - all_of b.units) c.args.t c.run_thread-ran.result.ticks c.run_thread-ran.result.unit c.run_thread-ran.result.was_high b.behind c.run_thread-ran.new.p b.may b.long b.state b.unit b.high
+    c.complete_at_end.new.p c.complete_at_end.ensures.state c.settle.new.self c.settle.ensures.state c.settle.ensures.fits c.end_tick.new.p c.end_tick.ensures.state
+
+pub sweep-requires-clause-early : goal.sweep-requires-clause-early
+sweep-requires-clause-early g c =
+    let b = begun_at c.args.near c.args.t c.run_thread-ran.result c.args.p.now c.run_thread-ran.new.p c.requires.may c.run_thread-ran.ensures.ran c.run_thread-ran.ensures.state in
+    in_time (c.args.near - all_of b.units) c.args.t c.run_thread-ran.result.ticks c.run_thread-ran.result.unit c.run_thread-ran.result.was_high b.behind c.run_thread-ran.new.p b.may b.long b.state b.unit b.high
+    c.complete_at_end.new.p c.complete_at_end.ensures.state c.settle.new.self c.settle.ensures.state c.settle.ensures.fits c.end_tick.new.p c.end_tick.ensures.state
+
+-- ---- the leap
+
+pub returns-clause-leapt : goal.returns-clause-leapt
+returns-clause-leapt g c =
+    let b = begun_at c.args.near c.args.t c.run_thread-ran.result c.args.p.now c.run_thread-ran.new.p c.requires.may c.run_thread-ran.ensures.ran c.run_thread-ran.ensures.state in
+    let state = leapt_state (c.args.near - all_of b.units) c.args.t c.run_thread-ran.result.ticks c.run_thread-ran.result.unit c.run_thread-ran.result.was_high b.behind c.run_thread-ran.new.p b.may b.long b.state b.unit b.high
+    c.complete_at_end.new.p c.complete_at_end.ensures.state c.settle.new.self c.settle.ensures.state c.settle.ensures.fits c.end_tick.new.p c.end_tick.ensures.state c.sweep.new.p c.sweep.ensures.state in
+    let tells = leapt_told (c.args.near - all_of b.units) c.args.t c.run_thread-ran.result.ticks c.run_thread-ran.result.unit c.run_thread-ran.result.was_high b.behind c.run_thread-ran.new.p b.may b.long b.state b.unit b.high
+    c.complete_at_end.new.p c.complete_at_end.ensures.state c.settle.new.self c.settle.ensures.state c.settle.ensures.fits c.end_tick.new.p c.end_tick.ensures.state c.sweep.new.p c.sweep.ensures.state
+    g.K.Sink.text g.K.Sink.faults c.args.out.now c.complete_at_end.new.out c.end_tick.new.out c.sweep.new.out c.complete_at_end.ensures.told c.end_tick.ensures.told c.sweep.ensures.told in
+    has_leapt g.K.Sink.text g.K.Sink.faults c.args.near c.args.t c.run_thread-ran.result c.args.p.now c.run_thread-ran.new.p c.sweep.new.p c.args.out.now c.sweep.new.out b state tells

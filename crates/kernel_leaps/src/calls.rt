@@ -1,0 +1,62 @@
+// Calls that have a function of their own, so that the loop of leaps needs no room for what they use.
+ghost use Rattle.std.specs.Prelude.{◌≡◌, ◌≤◌, ◌<◌, ◌^◌, length};
+ghost use Rattle.words_trace.specs.Tells.{Tells};
+ghost use Rattle.script_code.specs.Fetched.{call_of};
+ghost use Rattle.words_script.specs.declared.call.Call.TheVariants as call;
+ghost use Rattle.rules_machine.specs.Calls.{makes_call};
+ghost use Rattle.rules_machine.specs.Threads.{thread_at};
+ghost use Rattle.rules_flat_code.specs.FlatBodies.{flat_bodies};
+ghost use Rattle.calls_table.specs.Calls.{objects_in};
+ghost use Rattle.kernel_leaps.specs.Completes.{CanAct, CanMake};
+ghost use Rattle.kernel_state.specs.Kernel.{after, by, told};
+
+use calls_table::make_call;
+use kernel_state::Parts;
+use words_trace::Tracer;
+use parts_io::Sink;
+use script_code::CallPlace;
+use words_script::Call;
+use words_numbers::{ObjId, Tid};
+
+/// The call that stands at a place.
+#[inline(never)]
+pub(crate) fn make_any<K: Sink>(p: &mut Parts, t: Tid, place: CallPlace, out: &mut Tracer<'_, K>)
+    requires known { t < length p.old.names }
+    requires can { CanMake (objects_in p.old) (thread_at p.old.machine t) (call_of p.old.code place) }
+    requires acts { CanAct p.old t }
+    requires room { length p.old.direct < 128 }
+    requires early { p.old.machine.now ≤ 10 ^ 18 }
+    ensures state { p.new ≡ after (makes_call (flat_bodies p.old.code) (by t (call_of p.old.code place))) p.old }
+    ensures told { Tells K.text K.faults p.old.names out.old out.new (told (makes_call (flat_bodies p.old.code) (by t (call_of p.old.code place))) p.old) }
+{
+    let call = p.call(&place);
+    make_call(p, t, &call, out);
+}
+
+/// `pthread_mutex_lock`.
+#[inline(never)]
+pub(crate) fn make_lock<K: Sink>(p: &mut Parts, t: Tid, k: ObjId, out: &mut Tracer<'_, K>)
+    requires known { t < length p.old.names }
+    requires can { CanMake (objects_in p.old) (thread_at p.old.machine t) (call.Lock k) }
+    requires acts { CanAct p.old t }
+    requires room { length p.old.direct < 128 }
+    requires early { p.old.machine.now ≤ 10 ^ 18 }
+    ensures state { p.new ≡ after (makes_call (flat_bodies p.old.code) (by t (call.Lock k))) p.old }
+    ensures told { Tells K.text K.faults p.old.names out.old out.new (told (makes_call (flat_bodies p.old.code) (by t (call.Lock k))) p.old) }
+{
+    make_call(p, t, &Call::Lock(k), out);
+}
+
+/// `nanosleep`.
+#[inline(never)]
+pub(crate) fn make_sleep<K: Sink>(p: &mut Parts, t: Tid, n: u64, out: &mut Tracer<'_, K>)
+    requires known { t < length p.old.names }
+    requires can { CanMake (objects_in p.old) (thread_at p.old.machine t) (call.Nanosleep n) }
+    requires acts { CanAct p.old t }
+    requires room { length p.old.direct < 128 }
+    requires early { p.old.machine.now ≤ 10 ^ 18 }
+    ensures state { p.new ≡ after (makes_call (flat_bodies p.old.code) (by t (call.Nanosleep n))) p.old }
+    ensures told { Tells K.text K.faults p.old.names out.old out.new (told (makes_call (flat_bodies p.old.code) (by t (call.Nanosleep n))) p.old) }
+{
+    make_call(p, t, &Call::Nanosleep(n), out);
+}

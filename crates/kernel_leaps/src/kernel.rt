@@ -1,0 +1,139 @@
+// The kernel of a script.
+ghost use Rattle.std.specs.Prelude.{ℕ, ◌≡◌, ◌≤◌, ◌<◌, ◌+◌, ◌-◌, ◌^◌, [], None, Some, length, false, true, option_map, IfOk};
+ghost use Rattle.words_trace.specs.Prints.{Prints};
+ghost use Rattle.words_trace.specs.Tells.{Tells};
+ghost use Rattle.parts_server.specs.Server.{totals};
+ghost use Rattle.words_script.specs.declared.decl.Script as tree;
+ghost use Rattle.rules_machine.specs.Budget.{KeepsBudgets};
+ghost use Rattle.rules_leaps.specs.Leap.{in_leaps};
+ghost use Rattle.rules_machine.specs.Eventful.{busy};
+ghost use Rattle.rules_machine.specs.Machine.{closing};
+ghost use Rattle.rules_machine.specs.Runs.{ticks};
+ghost use Rattle.rules_machine.specs.Threads.{thread_at};
+ghost use Rattle.rules_flat_code.specs.FlatBodies.{flat_bodies};
+ghost use Rattle.rules_machine.specs.WellFormed.{IsWellFormed};
+ghost use Rattle.rules_flat_code.specs.Runnable.{IsRunnable};
+ghost use Rattle.kernel_state.specs.Kernel.{opened, ran};
+ghost use Rattle.kernel_state.specs.Stood.{StoodRight};
+ghost use Rattle.calls_table.specs.Calls.{objects_in};
+ghost use Rattle.kernel_leaps.specs.Fits.{StaysFit};
+ghost use Rattle.kernel_leaps.specs.Good.{IsGood};
+ghost use Rattle.kernel_leaps.specs.Ran.{ticked_by};
+
+use crate::run::{RunEnd, run_leaps};
+use kernel_state::Parts;
+use words_trace::Tracer;
+use parts_io::Sink;
+use words_script::Script;
+use parts_server::BudgetLine;
+use std::alloc::{AllocError, Global};
+use std::marker::Model;
+use std::sync::ledger::Ledger;
+use parts_steps::Steps;
+use words_numbers::{Tick, Tid};
+
+/// A kernel that runs a script. It stands for a state of the machine over the script's flat code, which contracts see.
+#[derive(Drop)]
+pub struct Kernel {
+    parts: Parts,
+}
+
+impl Model for Kernel {
+    ghost use Rattle.kernel_state.specs.Kernel as state;
+
+    ghost Value = { state.Kernel };
+
+    ghost use Rattle.kernel_leaps.specs.Ready.{IsReady};
+
+    ghost view = { λ k. k.parts };
+
+    ghost invariant = { λ k. IsReady k.parts };
+}
+
+impl Kernel {
+    /// The kernel of a script, before the first tick. It takes all memory that the run needs.
+    pub fn open(alloc: Global, script: &Script) -> Result<Kernel, AllocError>
+        requires runnable { IsRunnable script.now }
+        requires well_formed { IsWellFormed script.now }
+        ensures { IfOk result (λ k. k ≡ opened script.now) }
+    {
+        let parts = open_parts(alloc, script)?;
+        Ok(Kernel { parts })
+    }
+
+    /// The instant, in ticks from the start.
+    pub fn now(&self) -> Tick
+        ensures { result ≡ self.now.machine.now }
+    {
+        self.parts.instant()
+    }
+
+    /// The thread of the last tick. `None` exactly where that tick was idle, or there was none.
+    pub fn running(&self) -> Option<Tid>
+        ensures { result ≡ ran self.now.machine.last }
+    {
+        self.parts.last_dispatch()
+    }
+
+    /// The totals of a thread's server since it was new, in ticks. `None` exactly where the thread is not a live sporadic one.
+    pub fn totals(&self, t: Tid) -> Option<BudgetLine>
+        requires { t < length self.now.names }
+        ensures { result ≡ option_map totals (thread_at self.now.machine t).server }
+    {
+        self.parts.totals(t)
+    }
+
+    /// Runs to the horizon, at most 10^18, until a signal ends the process, or until a write fails. It takes no memory, and is one step a
+    /// leap: from where something falls due, or a unit, an interval or a capacity ends, to where that happens next. Unless a write failed,
+    /// the state is that of the machine run tick by tick to the horizon, where an ended process stays as it is; what it printed is what
+    /// happens until then, or a part of it where a write failed. The answer is `Killed` also where the process had ended before.
+    /// A kernel that stopped may be asked for `now` alone.
+    pub fn run_until<K: Sink, L: Ledger>(
+        &mut self,
+        horizon: Tick,
+        out: &mut Tracer<'_, K>,
+        steps: &mut Steps<L>,
+    ) -> RunEnd
+        requires ahead { self.old.machine.now ≤ horizon }
+        requires limit { horizon ≤ 10 ^ 18 }
+        requires unfailed { out.old.failed ≡ false }
+        ensures state { out.new.failed ≡ false → self.new ≡ ticked_by (horizon - self.old.machine.now) self.old }
+        ensures told { Tells K.text K.faults self.old.names out.old out.new
+            (ticks (flat_bodies self.old.code) (horizon - self.old.machine.now) self.old.machine).events }
+        ensures ended { result ≡ RunEnd.Ended → (out.new.failed ≡ false) × (self.new.machine.killed ≡ None) }
+        ensures killed { (signal : ℕ) → result ≡ RunEnd.Killed signal → (out.new.failed ≡ false) × (self.new.machine.killed ≡ Some signal) }
+        ensures stopped { result ≡ RunEnd.Stopped → out.new.failed ≡ true }
+        ensures later { self.old.machine.now ≤ self.new.machine.now }
+        ensures not_beyond { self.new.machine.now ≤ horizon }
+        ensures steps { steps.new ≤ steps.old + (in_leaps (flat_bodies self.old.code) (horizon - self.old.machine.now) self.old.machine).count }
+        ensures busy { steps.new ≤ steps.old + busy (flat_bodies self.old.code) self.old.machine 0 (horizon - self.old.machine.now) + 1 }
+
+        // The state that it leaves is good, and each server keeps its budget in the runs of well formed scripts.
+        ensures good { out.new.failed ≡ false → IsGood (flat_bodies self.new.code) self.new.machine }
+        ensures budgets { (script : tree.Script) → IsWellFormed script → self.old ≡ opened script
+            → (n k : ℕ) → KeepsBudgets (flat_bodies self.old.code) self.old.machine n k }
+    {
+        run_leaps(&mut self.parts, horizon, out, steps)
+    }
+
+    /// Prints the closing lines.
+    pub fn report<K: Sink>(&self, out: &mut Tracer<'_, K>)
+        ensures { Prints K.text K.faults out.old out.new (closing self.now.names self.now.machine) }
+    {
+        self.parts.report(out)
+    }
+}
+
+// The parts of a script's kernel, all of whose threads stand right.
+#[tactic(auto, using(crate::proofs::Opened::script_fits))]
+fn open_parts(alloc: Global, script: &Script) -> Result<Parts, AllocError>
+    requires runnable { IsRunnable script.now }
+    requires well_formed { IsWellFormed script.now }
+    ensures kernel { IfOk result (λ k. k ≡ opened script.now) }
+    ensures stood { IfOk result (λ k. StoodRight k.machine) }
+    ensures fits { IfOk result (λ k. StaysFit k (objects_in k)) }
+{
+    let parts = Parts::open(alloc, script)?;
+    parts.know_priorities();
+    Ok(parts)
+}

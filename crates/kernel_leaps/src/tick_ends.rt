@@ -1,0 +1,76 @@
+// The rule of the tick's end.
+ghost use Rattle.std.specs.Prelude.{◌≡◌, ◌≤◌, ◌<◌, ◌+◌, [], false, length};
+ghost use Rattle.words_trace.specs.Tells.{Tells};
+ghost use Rattle.rules_machine.specs.Servers.{plans};
+ghost use Rattle.rules_machine.specs.Threads.{can_run, thread_at};
+ghost use Rattle.rules_machine.specs.Ticks.{consumed_in, ends_tick, exhausting, nothing, slicing, tick_end, tick_ends};
+ghost use Rattle.kernel_threads.specs.Ends.{end_of};
+ghost use Rattle.kernel_state.specs.Kernel.{Kernel, after, told};
+ghost use Rattle.kernel_state.specs.Stood.{StoodRight};
+
+use kernel_state::Parts;
+use words_trace::{Event, Tracer};
+use parts_io::Sink;
+use kernel_threads::TickEnd;
+use words_numbers::Tid;
+
+// The round robin interval is used up: the thread goes to the tail.
+#[inline(never)]
+fn use_slice(p: &mut Parts, t: Tid)
+    requires known { t < length p.old.names }
+    requires quiet { p.old.direct ≡ [] }
+    ensures { p.new ≡ after (ends_tick slicing t) p.old }
+{
+    let runs = p.is_runnable(t);
+    p.clear_slice(t);
+    if runs {
+        p.move_later(t);
+    }
+}
+
+// The capacity is used up.
+#[inline(never)]
+fn exhaust<K: Sink>(p: &mut Parts, t: Tid, out: &mut Tracer<'_, K>)
+    requires known { t < length p.old.names }
+    requires quiet { p.old.direct ≡ [] }
+    requires used { 1 ≤ consumed_in (thread_at p.old.machine t).server }
+    ensures state { p.new ≡ after (ends_tick exhausting t) p.old }
+    ensures told { Tells K.text K.faults p.old.names out.old out.new (told (ends_tick exhausting t) p.old) }
+{
+    p.tell(&Event::Exhaust(t), out);
+    p.plan(t, out);
+    p.move_unless_boosted(t);
+}
+
+// The rule of the tick's end, before its moves: whether it did anything.
+#[inline(always)]
+fn end_by_rule<K: Sink>(p: &mut Parts, was_high: bool, t: Tid, out: &mut Tracer<'_, K>) -> bool
+    requires known { t < length p.old.names }
+    requires quiet { p.old.direct ≡ [] }
+    ensures none { result ≡ false → tick_end was_high p.old.machine.quantum (thread_at p.old.machine t) ≡ nothing }
+    ensures state { p.new ≡ after (ends_tick (tick_end was_high p.old.machine.quantum (thread_at p.old.machine t)) t) p.old }
+    ensures told { Tells K.text K.faults p.old.names out.old out.new (told (ends_tick (tick_end was_high p.old.machine.quantum (thread_at p.old.machine t)) t) p.old) }
+{
+    match p.tick_end(t, was_high) {
+        TickEnd::Planning => p.plan(t, out),
+        TickEnd::Exhausting => exhaust(p, t, out),
+        TickEnd::Slicing => use_slice(p, t),
+        TickEnd::Nothing => return false,
+    }
+    true
+}
+
+/// The rule of the tick's end, with its moves. Where it does nothing, nobody has to move since the last settling.
+#[inline(always)]
+pub(crate) fn end_tick<K: Sink>(p: &mut Parts, was_high: bool, t: Tid, out: &mut Tracer<'_, K>)
+    requires known { t < length p.old.names }
+    requires quiet { p.old.direct ≡ [] }
+    requires stood { StoodRight p.old.machine }
+    ensures state { p.new ≡ after (tick_ends was_high t) p.old }
+    ensures told { Tells K.text K.faults p.old.names out.old out.new (told (tick_ends was_high t) p.old) }
+    ensures stood { StoodRight p.new.machine }
+{
+    if end_by_rule(p, was_high, t, out) {
+        p.settle();
+    }
+}

@@ -1,0 +1,91 @@
+// A thread's units: its running, and what a unit does at its end.
+ghost use Rattle.std.specs.Prelude.{◌≡◌, ◌≤◌, ◌<◌, ◌+◌, ◌^◌, ◌==◌, length, max, true};
+ghost use Rattle.words_trace.specs.Tells.{Tells};
+ghost use Rattle.script_code.specs.Fetched.{unit_of};
+ghost use Rattle.rules_machine.specs.Calls.{unit_effect};
+ghost use Rattle.rules_machine.specs.Threads.{thread_at, top_left};
+ghost use Rattle.rules_machine.specs.Ticks.{completes};
+ghost use Rattle.rules_machine.specs.Turns.{becomes, changes, ◌▷◌};
+ghost use Rattle.rules_flat_code.specs.FlatBodies.{flat_bodies};
+ghost use Rattle.rules_leaps.specs.Leap.{later_by};
+ghost use Rattle.rules_flat_code.specs.Placed.{ArePlaced};
+ghost use Rattle.kernel_threads.specs.Handlers.{CanEnd};
+ghost use Rattle.kernel_threads.specs.Running.{HasRun};
+ghost use Rattle.laws_threads.specs.Within.{IsWithin};
+ghost use Rattle.calls_table.specs.Calls.{objects_in};
+ghost use Rattle.kernel_leaps.specs.Completes.{CanAct, CanComplete};
+ghost use Rattle.kernel_state.specs.Kernel.{Kernel, after, told};
+
+use crate::calls::{make_any, make_lock, make_sleep};
+use calls_table::make_call;
+use calls_threads::finish;
+use kernel_state::Parts;
+use words_trace::Tracer;
+use parts_io::Sink;
+use script_code::{CallPlace, Fetched};
+use words_script::Call;
+use std::sync::ledger::Ledger;
+use parts_steps::Steps;
+use kernel_threads::Ran;
+use words_numbers::Tid;
+
+/// A thread runs by itself for at most so many ticks, but one at least, and the instant moves on.
+#[inline(always)]
+pub(crate) fn run_thread<L: Ledger>(p: &mut Parts, t: Tid, near: u64, steps: &mut Steps<L>) -> Ran
+    requires known { t < length p.old.names }
+    requires placed { ArePlaced p.old.code (thread_at p.old.machine t).frames }
+    requires ends { (thread_at p.old.machine t).is_ending ≡ true → CanEnd (length p.old.code.cleanups) (thread_at p.old.machine t) }
+    requires within { IsWithin p.old.machine.now (thread_at p.old.machine t) }
+    requires early { p.old.machine.now + max 1 near ≤ 10 ^ 18 }
+    ensures ran { HasRun p.old.code near p.old.machine.quantum result (thread_at p.old.machine t) (thread_at p.new.machine t) }
+    ensures state { p.new ≡ after (λ s. s ▷ changes t (λ th. thread_at p.new.machine t) ▷ becomes (later_by (result.passed + result.ticks))) p.old }
+    ensures few { result.passed + result.ticks ≤ max 1 near }
+    ensures step { steps.new ≡ steps.old + 1 }
+{
+    let ran = p.run(t, near);
+    p.leap(ran.passed + ran.ticks, steps);
+    ran
+}
+
+// What a unit does once it is complete. The calls that are made most often are told by the unit itself, so that nothing is looked up.
+#[inline(always)]
+fn complete<K: Sink>(p: &mut Parts, t: Tid, unit: &Fetched, out: &mut Tracer<'_, K>)
+    requires known { t < length p.old.names }
+    requires can { CanComplete (objects_in p.old) (thread_at p.old.machine t) (unit_of p.old.code unit.now) }
+    requires acts { CanAct p.old t }
+    requires room { length p.old.direct < 128 }
+    requires early { p.old.machine.now ≤ 10 ^ 18 }
+    ensures state { p.new ≡ after (unit_effect (flat_bodies p.old.code) t (unit_of p.old.code unit.now)) p.old }
+    ensures told { Tells K.text K.faults p.old.names out.old out.new (told (unit_effect (flat_bodies p.old.code) t (unit_of p.old.code unit.now)) p.old) }
+{
+    match unit {
+        Fetched::Run(_) | Fetched::Jump => (),
+        Fetched::Make(place) => {
+            let CallPlace { body, op } = *place;
+            make_any(p, t, CallPlace { body, op }, out)
+        }
+        Fetched::Yield => make_call(p, t, &Call::Yield, out),
+        Fetched::Lock(k) => make_lock(p, t, *k, out),
+        Fetched::Unlock(k) => make_call(p, t, &Call::Unlock(*k), out),
+        Fetched::Post(k) => make_call(p, t, &Call::SemPost(*k), out),
+        Fetched::Sleep(n) => make_sleep(p, t, *n, out),
+        Fetched::Finish => finish(p, t, out),
+    }
+}
+
+/// The effect of the unit, where no tick of it is left.
+#[inline(always)]
+pub(crate) fn complete_at_end<K: Sink>(p: &mut Parts, t: Tid, ran: &Ran, out: &mut Tracer<'_, K>)
+    requires known { t < length p.old.names }
+    requires complete { ran.now.is_complete ≡ (top_left (thread_at p.old.machine t).frames == 0) }
+    requires can { CanComplete (objects_in p.old) (thread_at p.old.machine t) (unit_of p.old.code ran.now.unit) }
+    requires acts { CanAct p.old t }
+    requires room { length p.old.direct < 128 }
+    requires early { p.old.machine.now ≤ 10 ^ 18 }
+    ensures state { p.new ≡ after (completes (flat_bodies p.old.code) t (unit_of p.old.code ran.now.unit)) p.old }
+    ensures told { Tells K.text K.faults p.old.names out.old out.new (told (completes (flat_bodies p.old.code) t (unit_of p.old.code ran.now.unit)) p.old) }
+{
+    if ran.is_complete {
+        complete(p, t, &ran.unit, out);
+    }
+}

@@ -1,0 +1,125 @@
+// One message queue.
+ghost use Rattle.std.specs.Prelude.{◌≡◌, ◌≤◌, ◌<◌, ◌==◌, [], None, true, not, nat_lt, length, replicate, IfOk, IfSome};
+ghost use Rattle.rules_machine.specs.Queues.{has_room, registered, with_message};
+ghost use Rattle.kernel_queues.specs.Queues.{next_value, without_next};
+
+use crate::registration::Registration;
+use parts_arrivals::Arrivals;
+use std::alloc::{AllocError, Global};
+use std::marker::Model;
+
+// The room of a queue is in its nodes; the value of the message at node n is `values[n]`.
+#[derive(Drop)]
+pub(crate) struct MessageQueue {
+    depth: u32,
+    longest: u32,
+    is_nonblock: bool,
+    registration: Option<Registration>,
+    // each message by its node, with its priority as the rank
+    arrivals: Arrivals,
+    values: Vec<u64>,
+}
+
+impl Model for MessageQueue {
+    ghost use Rattle.std.specs.Prelude.{◌≡◌, length};
+    ghost use Rattle.rules_machine.specs.State as machine;
+    ghost use Rattle.kernel_queues.specs.Messages.{messages_of};
+
+    ghost Value = { machine.Queue };
+
+    ghost view = { λ q. record { depth = q.depth; longest = q.longest; is_nonblock = q.is_nonblock; messages = messages_of q.values.items q.arrivals.order; registration = q.registration } };
+
+    ghost invariant = { λ q. (q.arrivals.nodes ≡ q.depth) × (length q.values.items ≡ q.depth) };
+}
+
+fn no_values(alloc: Global, count: u32) -> Result<Vec<u64>, AllocError>
+    ensures { IfOk result (λ v. v.items ≡ replicate count 0) }
+{
+    let mut values = Vec::with_capacity(alloc, count as usize)?;
+    for _ in 0..count {
+        values.push(0)?;
+    }
+    Ok(values)
+}
+
+impl MessageQueue {
+    // An empty queue without a registration; there is no memory for more than 65,536 messages.
+    pub(crate) fn open(
+        alloc: Global,
+        depth: u32,
+        longest: u32,
+        is_nonblock: bool,
+    ) -> Result<MessageQueue, AllocError>
+        ensures { IfOk result (λ q. q ≡ record { depth = depth; longest = longest; is_nonblock = is_nonblock; messages = []; registration = None }) }
+    {
+        if depth > 65_536 {
+            return Err(AllocError);
+        }
+        let arrivals = Arrivals::open(alloc, depth)?;
+        let values = no_values(alloc, depth)?;
+        Ok(MessageQueue {
+            depth,
+            longest,
+            is_nonblock,
+            registration: None,
+            arrivals,
+            values,
+        })
+    }
+
+    pub(crate) fn put(&mut self, priority: u8, value: u64)
+        requires priority { priority < 32 }
+        requires room { has_room self.old ≡ true }
+        ensures { self.new ≡ with_message (record { priority = priority; value = value }) self.old }
+    {
+        let node = self.arrivals.enter(priority);
+        self.values[node as usize] = value;
+    }
+
+    pub(crate) fn take(&mut self) -> Option<u64>
+        ensures value { result ≡ next_value self.old }
+        ensures rest { self.new ≡ without_next self.old }
+        ensures room { IfSome result (λ _. has_room self.new ≡ true) }
+    {
+        let priority = self.arrivals.highest()?;
+        let node = self.arrivals.first(priority).unwrap();
+        self.arrivals.leave(node);
+        Some(self.values[node as usize])
+    }
+
+    pub(crate) fn register(&mut self, registration: Option<Registration>)
+        ensures { self.new ≡ registered registration self.old }
+    {
+        self.registration = registration;
+    }
+
+    pub(crate) fn registration(&self) -> Option<Registration>
+        ensures { result ≡ self.now.registration }
+    {
+        self.registration
+    }
+
+    pub(crate) fn is_nonblock(&self) -> bool
+        ensures { result ≡ self.now.is_nonblock }
+    {
+        self.is_nonblock
+    }
+
+    pub(crate) fn has_room(&self) -> bool
+        ensures { result ≡ has_room self.now }
+    {
+        self.arrivals.len() < self.depth
+    }
+
+    pub(crate) fn len(&self) -> u32
+        ensures { result ≡ length self.now.messages }
+    {
+        self.arrivals.len()
+    }
+
+    pub(crate) fn is_too_long(&self, len: u32) -> bool
+        ensures { result ≡ nat_lt self.now.longest len }
+    {
+        self.longest < len
+    }
+}

@@ -1,0 +1,89 @@
+-- Where a thread that can run, or waits for an instant, stands among the waiters and in the wheel.
+use Rattle.std.proofs.Common.{◌≡◌, ◌<◌, ◌+◌, ◌∙◌, ℕ, List, true, false, None, Option, Some, length, refl}
+use Rattle.script_code.specs.declared.cursor.Cursor.{Cursor}
+use Rattle.rules_machine.specs.Priorities.{claims, exec_in}
+use Rattle.rules_machine.specs.State.{Status, Thread, Timer, Wait, Waiting, blocked, dormant, ended, for_condition, for_end, for_message, for_mutex, for_mutex_again, for_room, for_semaphore, for_signal, for_time, runnable}
+use Rattle.rules_machine.specs.Threads.{is_runnable, thread_in, waiting_in}
+use Rattle.parts_waiters.specs.declared.Place.{Place}
+use Rattle.parts_waiters.specs.Places.{place_in}
+use Rattle.parts_waiters.specs.Ties.{object_of, place_at, place_of}
+use Rattle.parts_owners.specs.Chains.{Links}
+use Rattle.parts_wheel.specs.Dues.{due_of}
+use Rattle.kernel_threads.specs.Sleeping.{is_for_time, waits_for_time}
+use Rattle.kernel_table.specs.Tied.{AreArmed, IsTied}
+use Rattle.kernel_table.specs.Times.{start_of, timeout_of}
+
+off : {X : Type 0} → false ≡ true → X
+off h = absurd cc
+
+-- ---- a thread that can run
+
+runs_place : (status : Status) (p : ℕ) → is_runnable status ≡ true → place_of p (waiting_in status) ≡ None
+runs_place (dormant at) p h = off h
+runs_place runnable p h = refl
+runs_place (blocked w) p h = off h
+runs_place ended p h = off h
+
+runs_unstarted : (th : Thread Cursor) → is_runnable th.status ≡ true → start_of th ≡ None
+runs_unstarted th h = by_status th.status h
+  where
+    by_status : (status : Status) → is_runnable status ≡ true → start_of (record th { status = status }) ≡ None
+    by_status (dormant at) e = off e
+    by_status runnable e = refl
+    by_status (blocked w) e = off e
+    by_status ended e = off e
+
+runs_unlimited : (th : Thread Cursor) → is_runnable th.status ≡ true → timeout_of th ≡ None
+runs_unlimited th h = by_status th.status h
+  where
+    by_status : (status : Status) → is_runnable status ≡ true → timeout_of (record th { status = status }) ≡ None
+    by_status (dormant at) e = off e
+    by_status runnable e = refl
+    by_status (blocked w) e = off e
+    by_status ended e = off e
+
+pub runner_nowhere : (threads : List (Thread Cursor)) (chain : Links) (places : List (Option Place)) (t : ℕ) → t < length threads → is_runnable (thread_in threads t).status ≡ true →
+    IsTied threads chain places → place_in places t ≡ None
+runner_nowhere threads chain places t known runs tied = tied.waiting.each t known ∙ runs_place (thread_in threads t).status (exec_in (claims threads) chain.mutexes t) runs
+
+pub runner_started : (threads : List (Thread Cursor)) (timers : List Timer) (dues : List (Option ℕ)) (t : ℕ) → t < 256 → is_runnable (thread_in threads t).status ≡ true →
+    AreArmed threads timers dues → due_of (256 + t) dues ≡ None
+runner_started threads timers dues t small runs armed = armed.starts t small ∙ runs_unstarted (thread_in threads t) runs
+
+pub runner_untimed : (threads : List (Thread Cursor)) (timers : List Timer) (dues : List (Option ℕ)) (t : ℕ) → t < 256 → is_runnable (thread_in threads t).status ≡ true →
+    AreArmed threads timers dues → due_of (512 + t) dues ≡ None
+runner_untimed threads timers dues t small runs armed = armed.timeouts t small ∙ runs_unlimited (thread_in threads t) runs
+
+-- ---- a thread that waits for nothing but an instant
+
+time_nowhere : (w : Wait) (p serial : ℕ) → is_for_time w ≡ true → place_at p serial (object_of w) ≡ None
+time_nowhere (for_mutex k) p serial h = off h
+time_nowhere (for_mutex_again k how) p serial h = off h
+time_nowhere (for_condition c k) p serial h = off h
+time_nowhere (for_end u) p serial h = refl
+time_nowhere (for_semaphore k) p serial h = off h
+time_nowhere for_time p serial h = refl
+time_nowhere (for_room q message) p serial h = off h
+time_nowhere (for_message q) p serial h = off h
+time_nowhere (for_signal signals) p serial h = off h
+
+sleeps_place : (o : Option Waiting) (p : ℕ) → waits_for_time o ≡ true → place_of p o ≡ None
+sleeps_place None p h = refl
+sleeps_place (Some w) p h = time_nowhere w.wait p w.serial h
+
+sleeps_started : (th : Thread Cursor) → waits_for_time (waiting_in th.status) ≡ true → start_of th ≡ None
+sleeps_started th h = by_status th.status h
+  where
+    by_status : (status : Status) → waits_for_time (waiting_in status) ≡ true → start_of (record th { status = status }) ≡ None
+    by_status (dormant at) e = off e
+    by_status runnable e = refl
+    by_status (blocked w) e = refl
+    by_status ended e = refl
+
+pub sleeper_nowhere : (threads : List (Thread Cursor)) (chain : Links) (places : List (Option Place)) (t : ℕ) → t < length threads → waits_for_time (waiting_in (thread_in threads t).status) ≡ true →
+    IsTied threads chain places → place_in places t ≡ None
+sleeper_nowhere threads chain places t known sleeps tied = tied.waiting.each t known ∙ sleeps_place (waiting_in (thread_in threads t).status) (exec_in (claims threads) chain.mutexes t) sleeps
+
+pub sleeper_started : (threads : List (Thread Cursor)) (timers : List Timer) (dues : List (Option ℕ)) (t : ℕ) → t < 256 → waits_for_time (waiting_in (thread_in threads t).status) ≡ true →
+    AreArmed threads timers dues → due_of (256 + t) dues ≡ None
+sleeper_started threads timers dues t small sleeps armed = armed.starts t small ∙ sleeps_started (thread_in threads t) sleeps

@@ -1,0 +1,22 @@
+use Rattle.std.proofs.Common.{refl}
+use Rattle.parts_server.specs.Server.{activate}
+use Rattle.rules_machine.specs.Servers.{with_server}
+use Rattle.kernel_table.proofs.Statuses.{activated_claim}
+use Rattle.kernel_table.proofs.Ties.{still_tied}
+use Rattle.kernel_table.proofs.ToldMoves.{claims_kept, table_with}
+use Rattle.kernel_table.proofs.Armed.{still_armed, activated_due}
+use Rattle.kernel_table.proofs.table.Table.activate.Goals as goal
+
+pub invariant_of-self : goal.invariant_of-self
+invariant_of-self c = record {
+  tied = (rw (c.activate.ensures, c.get_mut.ensures.value)
+      (still_tied c.self.inside.threads c.self.inside.chain c.self.inside.waits c.args.t (with_server (activate c.args.now)) (λ th. activated_claim c.args.now th) (λ th. refl) c.self.invariant.tied));
+  armed = (let s = c.self.inside in
+      rw (c.activate.ensures, c.get_mut.ensures.value)
+      (still_armed s.threads s.timers s.wheel.dues c.args.t (with_server (activate c.args.now)) (λ th. activated_due c.args.now th.server) (λ th. refl) (λ th. refl) c.self.invariant.armed));
+}
+
+pub returns-clause-same : goal.returns-clause-same
+returns-clause-same c = λ u _.
+    let s = c.self.inside in
+    rw (c.activate.ensures, c.get_mut.ensures.value, ← c.self.view_is) (claims_kept (table_with s.timers s.threads s.chain) c.args.t (with_server (activate c.args.now)) (λ th. activated_claim c.args.now th) u)

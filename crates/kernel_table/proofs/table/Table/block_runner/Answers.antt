@@ -1,0 +1,50 @@
+use Rattle.std.proofs.Common.{ap, slice_set, ◌∙◌, arith}
+use Rattle.std.proofs.lemmas.List.{length-set}
+use Rattle.rules_machine.specs.Waking.{put_to_wait}
+use Rattle.kernel_threads.specs.Plain.{waiting_of}
+use Rattle.kernel_table.specs.Times.{refill_of, start_of, timeout_of}
+use Rattle.kernel_table.proofs.Moved.{begun_tied}
+use Rattle.kernel_table.proofs.ToldMoves.{told}
+use Rattle.kernel_table.proofs.Armed.{armed_waiting}
+use Rattle.kernel_table.proofs.Runs.{runner_nowhere, runner_started, runner_untimed}
+use Rattle.kernel_table.proofs.table.Table.block_runner.Goals as goal
+
+pub stands_nowhere-requires-clause-nowhere : goal.stands_nowhere-requires-clause-nowhere
+stands_nowhere-requires-clause-nowhere c =
+    let s = c.self.inside in
+    runner_nowhere s.threads s.chain s.waits c.args.t (rw (← c.self.view_is) at c.requires.known) (rw (← c.self.view_is) at c.requires.runs) c.self.invariant.tied
+
+pub time_runner-requires-clause-numbers : goal.time_runner-requires-clause-numbers
+time_runner-requires-clause-numbers c = c.self.invariant.armed.numbers
+
+pub time_runner-requires-clause-started : goal.time_runner-requires-clause-started
+time_runner-requires-clause-started c =
+    let s = c.self.inside in
+    let known = rw (← c.self.view_is) at c.requires.known in
+    runner_started s.threads s.timers s.wheel.dues c.args.t (omega (arith, known, c.self.invariant.tied.few)) (rw (← c.self.view_is) at c.requires.runs) c.self.invariant.armed
+
+pub time_runner-requires-clause-runs : goal.time_runner-requires-clause-runs
+time_runner-requires-clause-runs c =
+    let s = c.self.inside in
+    let known = rw (← c.self.view_is) at c.requires.known in
+    runner_untimed s.threads s.timers s.wheel.dues c.args.t (omega (arith, known, c.self.invariant.tied.few)) (rw (← c.self.view_is) at c.requires.runs) c.self.invariant.armed
+
+pub invariant_of-self : goal.invariant_of-self
+invariant_of-self c = record {
+  tied = (let s = c.self.inside in
+      let w = waiting_of c.args.waiting in
+      let known = rw (← c.self.view_is) at c.requires.known in
+      begun_tied s.threads s.chain s.chain c.begin_waiting-moved.new.chain s.waits s.waits c.begin_waiting-moved.new.waits c.args.t w c.block.new.self known
+      (c.block.ensures ∙ ap (put_to_wait w) c.get_mut.ensures.value) c.stands_nowhere.ensures.chain c.stands_nowhere.ensures.waits c.begin_waiting-moved.ensures.chain c.begin_waiting-moved.ensures.waits c.self.invariant.tied);
+  armed = (let s = c.self.inside in
+      let is = c.block.ensures ∙ ap (put_to_wait (waiting_of c.args.waiting)) c.get_mut.ensures.value in
+      armed_waiting s.threads s.timers s.wheel.dues _ c.args.t c.block.new.self c.args.waiting.due c.self.invariant.tied.few (rw (← c.self.view_is) at c.requires.known) (ap refill_of is) (ap start_of is) (ap timeout_of is) c.time_runner.ensures c.self.invariant.armed);
+}
+
+pub returns-clause-moved : goal.returns-clause-moved
+returns-clause-moved c =
+    let s = c.self.inside in
+    let b = c.begin_waiting-moved in
+    rw (← c.self.view_is, c.thread_of.ensures)
+    (told s.timers s.threads (slice_set s.threads c.args.t c.block.new.self) s.chain b.new.chain s.waits b.new.waits b.result (length-set s.threads c.args.t c.block.new.self) c.self.invariant.tied
+    (invariant_of-self c).tied b.ensures.moved)

@@ -1,0 +1,20 @@
+use Rattle.std.proofs.Common.{refl}
+use Rattle.rules_machine.specs.Cancellation.{without_cleanup}
+use Rattle.kernel_table.proofs.Ties.{still_tied}
+use Rattle.kernel_table.proofs.ToldMoves.{claims_kept, table_with}
+use Rattle.kernel_table.proofs.Armed.{still_armed}
+use Rattle.kernel_table.proofs.table.Table.drop_cleanup.Goals as goal
+
+pub invariant_of-self : goal.invariant_of-self
+invariant_of-self c = record {
+  tied = (rw (c.drop_cleanup.ensures, c.get_mut.ensures.value)
+      (still_tied c.self.inside.threads c.self.inside.chain c.self.inside.waits c.args.t without_cleanup (λ th. refl) (λ th. refl) c.self.invariant.tied));
+  armed = (let s = c.self.inside in
+      rw (c.drop_cleanup.ensures, c.get_mut.ensures.value)
+      (still_armed s.threads s.timers s.wheel.dues c.args.t without_cleanup (λ th. refl) (λ th. refl) (λ th. refl) c.self.invariant.armed));
+}
+
+pub returns-clause-same : goal.returns-clause-same
+returns-clause-same c = λ u _.
+    let s = c.self.inside in
+    rw (c.drop_cleanup.ensures, c.get_mut.ensures.value, ← c.self.view_is) (claims_kept (table_with s.timers s.threads s.chain) c.args.t without_cleanup (λ th. refl) u)

@@ -1,0 +1,20 @@
+use Rattle.std.proofs.Common.{refl}
+use Rattle.rules_machine.specs.Lives.{without_top}
+use Rattle.kernel_table.proofs.Ties.{still_tied}
+use Rattle.kernel_table.proofs.ToldMoves.{claims_kept, table_with}
+use Rattle.kernel_table.proofs.Armed.{still_armed}
+use Rattle.kernel_table.proofs.table.Table.drop_frame.Goals as goal
+
+pub invariant_of-self : goal.invariant_of-self
+invariant_of-self c = record {
+  tied = (rw (c.drop_frame.ensures, c.get_mut.ensures.value)
+      (still_tied c.self.inside.threads c.self.inside.chain c.self.inside.waits c.args.t without_top (λ th. refl) (λ th. refl) c.self.invariant.tied));
+  armed = (let s = c.self.inside in
+      rw (c.drop_frame.ensures, c.get_mut.ensures.value)
+      (still_armed s.threads s.timers s.wheel.dues c.args.t without_top (λ th. refl) (λ th. refl) (λ th. refl) c.self.invariant.armed));
+}
+
+pub returns-clause-same : goal.returns-clause-same
+returns-clause-same c = λ u _.
+    let s = c.self.inside in
+    rw (c.drop_frame.ensures, c.get_mut.ensures.value, ← c.self.view_is) (claims_kept (table_with s.timers s.threads s.chain) c.args.t without_top (λ th. refl) u)

@@ -1,0 +1,21 @@
+use Rattle.std.proofs.Common.{refl, ◌∷◌}
+use Rattle.script_code.specs.declared.cursor.Cursor.{Cursor}
+use Rattle.rules_machine.specs.State.{Thread}
+use Rattle.kernel_table.proofs.Ties.{still_tied}
+use Rattle.kernel_table.proofs.ToldMoves.{claims_kept, table_with}
+use Rattle.kernel_table.proofs.Armed.{still_armed}
+use Rattle.kernel_table.proofs.table.Table.push_cleanup.Goals as goal
+
+pub invariant_of-self : goal.invariant_of-self
+invariant_of-self c = record {
+  tied = (rw (c.push_cleanup.ensures, c.get_mut.ensures.value)
+      (still_tied c.self.inside.threads c.self.inside.chain c.self.inside.waits c.args.t (λ (th : Thread Cursor). record th { cleanups = c.args.u ∷ th.cleanups }) (λ th. refl) (λ th. refl) c.self.invariant.tied));
+  armed = (let s = c.self.inside in
+      rw (c.push_cleanup.ensures, c.get_mut.ensures.value)
+      (still_armed s.threads s.timers s.wheel.dues c.args.t (λ (th : Thread Cursor). record th { cleanups = c.args.u ∷ th.cleanups }) (λ th. refl) (λ th. refl) (λ th. refl) c.self.invariant.armed));
+}
+
+pub returns-clause-same : goal.returns-clause-same
+returns-clause-same c = λ u _.
+    let s = c.self.inside in
+    rw (c.push_cleanup.ensures, c.get_mut.ensures.value, ← c.self.view_is) (claims_kept (table_with s.timers s.threads s.chain) c.args.t (λ (th : Thread Cursor). record th { cleanups = c.args.u ∷ th.cleanups }) (λ th. refl) u)

@@ -1,0 +1,23 @@
+use Rattle.std.proofs.Common.{refl}
+use Rattle.rules_machine.specs.declared.frame.BodyOf.TheVariants as body_of
+use Rattle.rules_machine.specs.declared.frame.FrameKind.TheVariants as frame
+use Rattle.rules_machine.specs.Waking.{new_frame, on_top}
+use Rattle.rules_flat_code.specs.FlatBodies.{flat_bodies}
+use Rattle.kernel_table.proofs.Ties.{still_tied}
+use Rattle.kernel_table.proofs.ToldMoves.{claims_kept, table_with}
+use Rattle.kernel_table.proofs.Armed.{still_armed}
+use Rattle.kernel_table.proofs.table.Table.run_cleanup.Goals as goal
+
+pub invariant_of-self : goal.invariant_of-self
+invariant_of-self c = record {
+  tied = (rw (c.run_cleanup.ensures, c.get_mut.ensures.value)
+      (still_tied c.self.inside.threads c.self.inside.chain c.self.inside.waits c.args.t (on_top (new_frame (flat_bodies c.args.code.now) frame.Cleanup (body_of.Cleanup c.args.u) 0)) (λ th. refl) (λ th. refl) c.self.invariant.tied));
+  armed = (let s = c.self.inside in
+      rw (c.run_cleanup.ensures, c.get_mut.ensures.value)
+      (still_armed s.threads s.timers s.wheel.dues c.args.t (on_top (new_frame (flat_bodies c.args.code.now) frame.Cleanup (body_of.Cleanup c.args.u) 0)) (λ th. refl) (λ th. refl) (λ th. refl) c.self.invariant.armed));
+}
+
+pub returns-clause-same : goal.returns-clause-same
+returns-clause-same c = λ u _.
+    let s = c.self.inside in
+    rw (c.run_cleanup.ensures, c.get_mut.ensures.value, ← c.self.view_is) (claims_kept (table_with s.timers s.threads s.chain) c.args.t (on_top (new_frame (flat_bodies c.args.code.now) frame.Cleanup (body_of.Cleanup c.args.u) 0)) (λ th. refl) u)

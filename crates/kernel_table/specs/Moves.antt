@@ -1,0 +1,24 @@
+-- What the chain does to the places of waiters as a claim or an owner changes.
+use Rattle.std.specs.Prelude.{◌≡◌, ◌<◌, ℕ, IsSome, List, None, Option, Some, false, length, slice_set}
+use Rattle.rules_machine.specs.State.{Waiting}
+use Rattle.parts_waiters.specs.Ties.{object_of, place_at}
+use Rattle.parts_waiters.specs.declared.Place.{Place}
+use Rattle.parts_owners.specs.Chains.{Links, closes_cycle_in, exec_of, mutex_at}
+use Rattle.parts_owners.specs.Moves.{SamePlaces, StandsAt}
+
+-- each thread stands where it stood, at its new priority
+pub record ArePriced (new : Links) (before after : List (Option Place)) : Type 0 where
+  pub same : SamePlaces before after
+  pub stand : StandsAt (exec_of new) after
+
+-- the place of a thread that begins to wait at its execution priority
+abbrev pub beginning : Links → ℕ → Waiting → Option Place
+beginning chain t w = place_at (exec_of chain t) w.serial (object_of w.wait)
+
+abbrev pub begun : Links → ℕ → Waiting → List (Option Place) → List (Option Place)
+begun chain t w places = slice_set places t (beginning chain t w)
+
+-- a mutex that is to be awaited is owned, and to await it closes no cycle
+abbrev pub MayAwait : Links → ℕ → Option ℕ → Type 0
+MayAwait chain t None = Unit {0}
+MayAwait chain t (Some k) = (k < length chain.mutexes) × IsSome (mutex_at chain k).owner × (closes_cycle_in chain.claims chain.mutexes t k ≡ false)

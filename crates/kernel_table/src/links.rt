@@ -1,0 +1,175 @@
+// The chain and the waiters, together.
+ghost use Rattle.std.specs.Prelude.{◌≡◌, ◌<◌, IfSome, IsSome, None, Some, false, length, slice_set};
+ghost use Rattle.rules_machine.specs.Priorities.{assigned_of, mutex_waited};
+ghost use Rattle.rules_machine.specs.Threads.{thread_in};
+ghost use Rattle.parts_waiters.specs.Places.{place_in};
+ghost use Rattle.kernel_threads.specs.Plain.{wait_of, waiting_of};
+ghost use Rattle.parts_owners.specs.Chains.{assigned_at, assigned_to, awaited_in, exec_of, waiting_for, with_claim};
+ghost use Rattle.parts_owners.specs.Moves.{IsPlaced, TellsMoved, entered, left, mutex_named};
+ghost use Rattle.kernel_table.specs.Moves.{ArePriced, MayAwait, begun};
+
+use parts_owners::{Chain, Moved};
+use kernel_threads::{Threads, Wait, Waiting};
+use words_numbers::{ObjId, Tid};
+use parts_waiters::{WaitObj, Waits};
+
+/// The chain takes the assigned priority of the thread, where it is another.
+#[inline(always)]
+pub(crate) fn reassign(
+    threads: &Threads,
+    chain: &mut Chain,
+    waits: &mut Waits,
+    t: Tid,
+) -> Option<Moved>
+    requires thread { t < length threads.now }
+    requires known { t < length chain.old.claims }
+    requires placed { IsPlaced chain.old waits.old }
+    ensures chain { chain.new ≡ with_claim t (assigned_to (assigned_of (thread_in threads.now t))) chain.old }
+    ensures waits { ArePriced chain.new waits.old waits.new }
+    ensures placed { IsPlaced chain.new waits.new }
+    ensures moved { TellsMoved (length chain.old.claims) (exec_of chain.old) (exec_of chain.new) waits.new result }
+    ensures alone { awaited_in chain.old.claims t ≡ None → IfSome result (λ m. m.thread ≡ t) }
+{
+    let p = threads.get(t).assigned();
+    if chain.assigned(t).get() == p.get() {
+        return None;
+    }
+    chain.set_base(waits, t, p)
+}
+
+/// The same where the assigned priority may be another.
+#[inline(always)]
+pub(crate) fn reassign_changed(
+    threads: &Threads,
+    chain: &mut Chain,
+    waits: &mut Waits,
+    t: Tid,
+    may_be_another: bool,
+) -> Option<Moved>
+    requires thread { t < length threads.now }
+    requires known { t < length chain.old.claims }
+    requires placed { IsPlaced chain.old waits.old }
+    requires same { may_be_another ≡ false → assigned_of (thread_in threads.now t) ≡ assigned_at chain.old t }
+    ensures chain { chain.new ≡ with_claim t (assigned_to (assigned_of (thread_in threads.now t))) chain.old }
+    ensures waits { ArePriced chain.new waits.old waits.new }
+    ensures placed { IsPlaced chain.new waits.new }
+    ensures moved { TellsMoved (length chain.old.claims) (exec_of chain.old) (exec_of chain.new) waits.new result }
+    ensures alone { awaited_in chain.old.claims t ≡ None → IfSome result (λ m. m.thread ≡ t) }
+{
+    if !may_be_another {
+        return None;
+    }
+    reassign(threads, chain, waits, t)
+}
+
+/// The thread waits for nothing in an order.
+#[inline(always)]
+#[tactic(auto, using(crate::proofs::Places::left_placed, crate::proofs::Places::left_nowhere))]
+pub(crate) fn stop_waiting(chain: &mut Chain, waits: &mut Waits, t: Tid) -> Option<Moved>
+    requires known { t < length chain.old.claims }
+    requires placed { IsPlaced chain.old waits.old }
+    ensures chain { chain.new ≡ with_claim t (waiting_for None) chain.old }
+    ensures waits { ArePriced chain.new (left t waits.old) waits.new }
+    ensures placed { IsPlaced chain.new waits.new }
+    ensures nowhere { place_in waits.new t ≡ None }
+    ensures moved { TellsMoved (length chain.old.claims) (exec_of chain.old) (exec_of chain.new) waits.new result }
+{
+    if waits.place_of(t).is_none() {
+        return None;
+    }
+    leave_place(chain, waits, t)
+}
+
+/// Costs nothing when it runs: a thread that stands nowhere waits for nothing in an order.
+#[inline(always)]
+#[tactic(auto, using(crate::proofs::Places::left_placed, crate::proofs::Places::left_nowhere))]
+pub(crate) fn stands_nowhere(chain: &Chain, waits: &Waits, t: Tid)
+    requires known { t < length chain.now.claims }
+    requires placed { IsPlaced chain.now waits.now }
+    requires nowhere { place_in waits.now t ≡ None }
+    ensures chain { chain.now ≡ with_claim t (waiting_for None) chain.now }
+    ensures waits { ArePriced chain.now (left t waits.now) waits.now }
+{
+    let _ = chain;
+    let _ = waits;
+    let _ = t;
+}
+
+// The thread leaves its place among the waiters.
+#[inline(never)]
+#[tactic(auto, using(crate::proofs::Places::left_placed, crate::proofs::Places::left_nowhere))]
+fn leave_place(chain: &mut Chain, waits: &mut Waits, t: Tid) -> Option<Moved>
+    requires known { t < length chain.old.claims }
+    requires placed { IsPlaced chain.old waits.old }
+    requires stands { IsSome (place_in waits.old t) }
+    ensures chain { chain.new ≡ with_claim t (waiting_for None) chain.old }
+    ensures waits { ArePriced chain.new (left t waits.old) waits.new }
+    ensures placed { IsPlaced chain.new waits.new }
+    ensures nowhere { place_in waits.new t ≡ None }
+    ensures moved { TellsMoved (length chain.old.claims) (exec_of chain.old) (exec_of chain.new) waits.new result }
+{
+    if chain.awaits(t) {
+        return chain.stop_wait(waits, t);
+    }
+    waits.leave(t);
+    None
+}
+
+/// The thread, which waits for nothing in an order, begins to wait at its execution priority.
+#[inline(always)]
+pub(crate) fn begin_waiting(
+    chain: &mut Chain,
+    waits: &mut Waits,
+    t: Tid,
+    w: &Waiting,
+) -> Option<Moved>
+    requires known { t < length chain.old.claims }
+    requires placed { IsPlaced chain.old waits.old }
+    requires nowhere { place_in waits.old t ≡ None }
+    requires may { MayAwait chain.old t (mutex_waited (wait_of w.now.wait)) }
+    ensures chain { chain.new ≡ with_claim t (waiting_for (mutex_waited (wait_of w.now.wait))) chain.old }
+    ensures waits { ArePriced chain.new (begun chain.old t (waiting_of w.now) waits.old) waits.new }
+    ensures moved { TellsMoved (length chain.old.claims) (exec_of chain.old) (exec_of chain.new) waits.new result }
+{
+    match w.wait {
+        Wait::Mutex(k) => await_mutex(chain, waits, t, k, w.serial),
+        Wait::MutexAgain(k, _) => await_mutex(chain, waits, t, k, w.serial),
+        Wait::Condition(c, _) => stand_at(chain, waits, t, WaitObj::Cond(c), w.serial),
+        Wait::Semaphore(k) => stand_at(chain, waits, t, WaitObj::Sem(k), w.serial),
+        Wait::Room(q, _) => stand_at(chain, waits, t, WaitObj::Sender(q), w.serial),
+        Wait::Message(q) => stand_at(chain, waits, t, WaitObj::Receiver(q), w.serial),
+        Wait::Signal(_) => stand_at(chain, waits, t, WaitObj::SigWait, w.serial),
+        Wait::End(_) => None,
+        Wait::Time => None,
+    }
+}
+
+// It awaits a mutex.
+fn await_mutex(chain: &mut Chain, waits: &mut Waits, t: Tid, k: ObjId, serial: u64) -> Option<Moved>
+    requires known { t < length chain.old.claims }
+    requires placed { IsPlaced chain.old waits.old }
+    requires nowhere { place_in waits.old t ≡ None }
+    requires may { MayAwait chain.old t (Some k) }
+    ensures chain { chain.new ≡ with_claim t (waiting_for (Some k)) chain.old }
+    ensures waits { ArePriced chain.new (entered t k serial chain.old waits.old) waits.new }
+    ensures moved { TellsMoved (length chain.old.claims) (exec_of chain.old) (exec_of chain.new) waits.new result }
+{
+    match chain.mutex(k).owner() {
+        Some(owner) => chain.wait_on(waits, t, k, owner, serial),
+        None => unreachable!(),
+    }
+}
+
+// It stands among the waiters of an object that is no mutex, and no priority changes.
+fn stand_at(chain: &Chain, waits: &mut Waits, t: Tid, object: WaitObj, serial: u64) -> Option<Moved>
+    requires known { t < length chain.now.claims }
+    requires placed { IsPlaced chain.now waits.old }
+    requires nowhere { place_in waits.old t ≡ None }
+    requires other { mutex_named object ≡ None }
+    ensures chain { chain.now ≡ with_claim t (waiting_for None) chain.now }
+    ensures waits { ArePriced chain.now (slice_set waits.old t (Some (record { object = object; priority = exec_of chain.now t; serial = serial }))) waits.new }
+    ensures nobody { result ≡ None }
+{
+    waits.enter(object, t, chain.exec(t), serial);
+    None
+}

@@ -1,0 +1,86 @@
+// A thread starts, waits and ends.
+ghost use Rattle.std.specs.Prelude.{◌≡◌, ◌<◌, ◌≤◌, ◌^◌, ◌∷◌, [], None, length, true};
+ghost use Rattle.rules_machine.specs.Lives.{without_life};
+ghost use Rattle.rules_machine.specs.Priorities.{mutex_awaited_by, mutex_waited};
+ghost use Rattle.rules_machine.specs.Servers.{server_of};
+ghost use Rattle.rules_machine.specs.Threads.{is_runnable, thread_in};
+ghost use Rattle.rules_machine.specs.Waking.{put_to_wait};
+ghost use Rattle.kernel_threads.specs.Plain.{status_of, wait_of, waiting_of};
+ghost use Rattle.kernel_table.specs.Table as table;
+ghost use Rattle.kernel_table.specs.Table.{CanAwait, with_thread};
+ghost use Rattle.kernel_table.specs.Movers.{TellsMoved, TellsMovedBeside};
+
+use crate::links::{begin_waiting, reassign, stands_nowhere, stop_waiting};
+use crate::movers::{beside, thread_of};
+use crate::table::Table;
+use crate::times::{retime, time_runner, time_wait};
+use kernel_threads::{Frame, Status, Waiting};
+use words_numbers::{SigSet, Tick, Tid};
+
+impl Table {
+    /// It is runnable in that frame, with a new server where it is sporadic. The answer is the one other thread that stands among no
+    /// waiters and whose execution priority changed; `None` exactly where there is none.
+    #[tactic(auto, using(crate::proofs::Ties::placed))]
+    pub fn start(&mut self, t: Tid, mask: SigSet, now: Tick, main: Frame) -> Option<Tid>
+        requires known { t < length self.old.threads }
+        requires early { now ≤ 10 ^ 18 }
+        ensures table { self.new ≡ with_thread t (λ th. record th { status = status_of Status.Runnable; slice = 0; mask = mask; frames = main ∷ []; server = server_of th.policy now }) self.old }
+        ensures moved { TellsMovedBeside t self.old self.new result }
+    {
+        let moved = stop_waiting(&mut self.chain, &mut self.waits, t);
+        self.threads.get_mut(t).start(mask, now, main);
+        retime(&self.threads, &mut self.wheel, t);
+        reassign(&self.threads, &mut self.chain, &mut self.waits, t);
+        beside(t, thread_of(moved))
+    }
+
+    /// It has ended. What it owns stays owned. The answer is the one other thread that stands among no waiters and whose execution priority
+    /// changed; `None` exactly where there is none.
+    #[tactic(auto, using(crate::proofs::Ties::placed))]
+    pub fn end(&mut self, t: Tid) -> Option<Tid>
+        requires { t < length self.old.threads }
+        ensures table { self.new ≡ with_thread t without_life self.old }
+        ensures moved { TellsMovedBeside t self.old self.new result }
+    {
+        let moved = stop_waiting(&mut self.chain, &mut self.waits, t);
+        self.threads.get_mut(t).end();
+        retime(&self.threads, &mut self.wheel, t);
+        reassign(&self.threads, &mut self.chain, &mut self.waits, t);
+        beside(t, thread_of(moved))
+    }
+
+    /// It waits; what it waited for before, it leaves. The mutex that it begins to await is owned, and no cycle comes of it. The answer is
+    /// the one thread that stands among no waiters and whose execution priority changed; `None` exactly where there is none.
+    #[inline(always)]
+    #[tactic(auto, using(crate::proofs::Ties::placed))]
+    pub fn block(&mut self, t: Tid, waiting: Waiting) -> Option<Tid>
+        requires known { t < length self.old.threads }
+        requires waits_not { mutex_awaited_by (thread_in self.old.threads t) ≡ None }
+        requires may { CanAwait self.old t (mutex_waited (wait_of waiting.wait)) }
+        ensures table { self.new ≡ with_thread t (put_to_wait (waiting_of waiting)) self.old }
+        ensures moved { TellsMoved self.old self.new result }
+    {
+        stop_waiting(&mut self.chain, &mut self.waits, t);
+        let moved = begin_waiting(&mut self.chain, &mut self.waits, t, &waiting);
+        self.threads.get_mut(t).block(waiting);
+        time_wait(&mut self.wheel, t, waiting.due);
+        thread_of(moved)
+    }
+
+    /// The same of a thread that can run.
+    #[inline(always)]
+    #[tactic(auto, using(crate::proofs::Ties::placed))]
+    pub fn block_runner(&mut self, t: Tid, waiting: Waiting) -> Option<Tid>
+        requires known { t < length self.old.threads }
+        requires runs { is_runnable (thread_in self.old.threads t).status ≡ true }
+        requires may { CanAwait self.old t (mutex_waited (wait_of waiting.wait)) }
+        ensures table { self.new ≡ with_thread t (put_to_wait (waiting_of waiting)) self.old }
+        ensures moved { TellsMoved self.old self.new result }
+    {
+        stands_nowhere(&self.chain, &self.waits, t);
+        let moved = begin_waiting(&mut self.chain, &mut self.waits, t, &waiting);
+        self.threads.get_mut(t).block(waiting);
+        time_runner(&mut self.wheel, t, waiting.due);
+        thread_of(moved)
+    }
+}

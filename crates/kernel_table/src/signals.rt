@@ -1,0 +1,83 @@
+// Masks, handlers of signals, and who accepts a signal.
+ghost use Rattle.std.specs.Prelude.{◌≡◌, ◌≤◌, ◌<◌, length, None};
+ghost use Rattle.script_code.specs.Next.{capped};
+ghost use Rattle.script_code.specs.declared.cursor.Cursor.{Cursor};
+ghost use Rattle.rules_machine.specs.declared.frame.BodyOf.{BodyOf};
+ghost use Rattle.rules_machine.specs.declared.frame.FrameKind.{FrameKind};
+ghost use Rattle.rules_machine.specs.State.{SignalRecord, Thread};
+ghost use Rattle.rules_machine.specs.Threads.{thread_in};
+ghost use Rattle.rules_machine.specs.Waking.{new_frame, on_top};
+ghost use Rattle.rules_flat_code.specs.FlatBodies.{flat_bodies};
+ghost use Rattle.kernel_threads.specs.Handlers.{CatchersBegin};
+ghost use Rattle.kernel_table.specs.Acceptors.{AreAwaited, acceptor_in};
+ghost use Rattle.kernel_table.specs.Table as table;
+ghost use Rattle.kernel_table.specs.Table.{with_thread};
+ghost use Rattle.kernel_table.specs.Movers.{KeepsExec};
+
+use crate::open::tid_of;
+use crate::table::Table;
+use rules_machine::{BodyOf, FrameKind};
+use script_code::Code;
+use kernel_threads::Threads;
+use words_numbers::{ObjId, SigSet, Tid};
+use parts_waiters::WaitObj;
+
+// The signals that each thread waits for.
+fn awaited_sets(threads: &Threads) -> [SigSet; 256]
+    ensures { AreAwaited threads.now (length threads.now) result }
+{
+    let mut sets = [SigSet::new(0); 256];
+    for number in 0..threads.count() {
+        sets[number as usize] = threads.get(tid_of(number)).awaited_signals();
+    }
+    sets
+}
+
+impl Table {
+    /// The signals that it blocks. No execution priority changes.
+    pub fn set_mask(&mut self, t: Tid, mask: SigSet)
+        requires { t < length self.old.threads }
+        ensures table { self.new ≡ with_thread t (λ th. record th { mask = mask }) self.old }
+        ensures same { KeepsExec self.old self.new }
+    {
+        self.threads.get_mut(t).set_mask(mask);
+    }
+
+    /// A handler of a signal runs in a frame of its own. No execution priority changes.
+    pub fn catch_signal(&mut self, t: Tid, code: &Code, h: ObjId, value: u64)
+        requires known { t < length self.old.threads }
+        requires handler { h < length code.now.handlers }
+        requires begins { CatchersBegin code.now }
+        requires room { length (thread_in self.old.threads t).frames ≤ 2 }
+        ensures table { self.new ≡ with_thread t (on_top (new_frame (flat_bodies code.now) FrameKind.Signal (BodyOf.Handler h) (capped value))) self.old }
+        ensures same { KeepsExec self.old self.new }
+    {
+        self.threads.get_mut(t).catch_signal(code, h, value);
+    }
+
+    /// The thread that accepts the signal, 0 to 31, for the process as it is generated; `None` exactly where none does. Where no thread
+    /// waits for a signal that is one comparison.
+    #[inline(always)]
+    pub fn acceptor(&self, signal: u8) -> Option<Tid>
+        requires { signal < 32 }
+        ensures { (r : SignalRecord) → r.signal ≡ signal → r.target ≡ None → result ≡ acceptor_in self.now r }
+    {
+        self.waits.serve_by_the_rules();
+        if self.waits.best(WaitObj::SigWait).is_none() {
+            return None;
+        }
+        self.acceptor_among(signal)
+    }
+
+    // The same, where some thread waits for a signal.
+    #[inline(never)]
+    #[tactic(auto, using(crate::proofs::Accepting::sets_many))]
+    fn acceptor_among(&self, signal: u8) -> Option<Tid>
+        requires { signal < 32 }
+        ensures { (r : SignalRecord) → r.signal ≡ signal → r.target ≡ None → result ≡ acceptor_in self.now r }
+    {
+        let sets = awaited_sets(&self.threads);
+        self.waits.serve_by_the_rules();
+        self.waits.best_for_signal(&sets, signal)
+    }
+}

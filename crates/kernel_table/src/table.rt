@@ -1,0 +1,31 @@
+// The threads, the chain of their claims, their places as waiters, the timers, and the wheel of what falls due of threads and timers.
+ghost use Rattle.std.specs.Prelude.{◌≡◌, ◌<◌, ◌≤◌, length};
+
+use parts_owners::Chain;
+use kernel_timers::Timers;
+use std::marker::Model;
+use kernel_threads::Threads;
+use parts_wheel::Wheel;
+use parts_waiters::Waits;
+
+/// The threads with their mutexes, priorities and waits, and the interval timers.
+#[derive(Drop)]
+pub struct Table {
+    pub(crate) threads: Threads,
+    pub(crate) chain: Chain,
+    pub(crate) waits: Waits,
+    pub(crate) timers: Timers,
+    pub(crate) wheel: Wheel,
+}
+
+impl Model for Table {
+    ghost use Rattle.kernel_table.specs.Table as table;
+
+    ghost Value = { table.Table };
+
+    ghost use Rattle.kernel_table.specs.View.{IsInside, table_of};
+
+    ghost view = { table_of };
+
+    ghost invariant = { IsInside };
+}

@@ -1,0 +1,173 @@
+// The frames of a thread.
+ghost use Rattle.std.specs.Prelude.{◌≡◌, ◌≤◌};
+ghost use Rattle.rules_machine.specs.Threads.{is_signal};
+ghost use Rattle.script_code.specs.Fetched.{unit_of};
+ghost use Rattle.script_code.specs.Next.{register_limit, ticks_of};
+ghost use Rattle.script_code.specs.Stands.{IsPlaced};
+ghost use Rattle.rules_machine.specs.Units.{frame_begins, next_of};
+ghost use Rattle.rules_flat_code.specs.Placed.{cursor_of};
+ghost use Rattle.rules_flat_code.specs.FlatBodies.{flat_bodies, place_of};
+ghost use Rattle.kernel_threads.specs.Passing.{HasBegun};
+
+use crate::ran::Taken;
+use arrayvec::ArrayVec;
+use rules_machine::{BodyOf, FrameKind};
+use script_code::{Code, Cursor, Fetched};
+use std::marker::Model;
+use words_numbers::{Res, Tid};
+
+/// A body that a thread is in, with the ticks left of its present unit.
+#[derive(Drop)]
+pub struct Frame {
+    left: u64,
+    kind: FrameKind,
+    body: BodyOf,
+    at: Cursor,
+}
+
+impl Model for Frame {
+    ghost use Rattle.rules_machine.specs.State as machine;
+    ghost use Rattle.script_code.specs.declared.cursor.Cursor.{Cursor};
+
+    ghost Value = { machine.Frame Cursor };
+
+    ghost use Rattle.rules_machine.specs.Threads.{is_signal};
+    ghost use Rattle.kernel_threads.specs.View.{frame_of};
+
+    ghost view = { frame_of };
+
+    ghost use Rattle.std.specs.Prelude.{◌≤◌};
+    ghost use Rattle.script_code.specs.Next.{register_limit};
+
+    ghost invariant = { λ f. f.at.register ≤ register_limit };
+}
+
+impl Default for Frame {
+    fn default() -> Self {
+        Frame {
+            kind: FrameKind::Main,
+            body: BodyOf::Thread(Tid::default()),
+            at: Cursor {
+                body: 0,
+                pc: 0,
+                register: 0,
+                result: Res::Zero,
+                value: 0,
+                counts: ArrayVec::new(),
+            },
+            left: 0,
+        }
+    }
+}
+
+impl Frame {
+    /// A frame at the start of its body.
+    pub fn new(kind: FrameKind, body: BodyOf, at: Cursor) -> Frame
+        requires { at.register ≤ register_limit }
+        ensures { result ≡ record { kind = kind; body = body; place = place_of at; register = at.register; result = at.result; value = at.value; left = 0 } }
+    {
+        Frame {
+            kind,
+            body,
+            at,
+            left: 0,
+        }
+    }
+
+    pub fn left(&self) -> u64
+        ensures { result ≡ self.now.left }
+    {
+        self.left
+    }
+
+    /// The register of its body, at most 2·10^18.
+    pub fn register(&self) -> u64
+        ensures value { result ≡ self.now.register }
+        ensures limit { result ≤ register_limit }
+    {
+        self.at.register
+    }
+
+    pub fn is_signal(&self) -> bool
+        ensures { result ≡ is_signal self.now.kind }
+    {
+        match self.kind {
+            FrameKind::Signal => true,
+            _ => false,
+        }
+    }
+
+    pub fn kind(&self) -> FrameKind
+        ensures { result ≡ self.now.kind }
+    {
+        self.kind
+    }
+
+    /// The last call of the body has that answer.
+    pub fn answer(&mut self, res: Res, value: u64)
+        ensures { self.new ≡ record self.old { result = res; value = value } }
+    {
+        self.at.result = res;
+        self.at.value = value;
+    }
+
+    /// So many ticks of its unit are left.
+    pub(crate) fn set_left(&mut self, left: u64)
+        ensures { self.new ≡ record self.old { left = left } }
+    {
+        self.left = left;
+    }
+
+    /// It is at the last tick of its body.
+    pub fn begin_finish(&mut self)
+        ensures { self.new ≡ record self.old { left = 1 } }
+    {
+        self.left = 1;
+    }
+
+    // It begins the next unit of its body.
+    pub(crate) fn begin_next(&mut self, code: &Code) -> Fetched
+        requires placed { IsPlaced code.now (cursor_of self.old) }
+        requires whole { self.old.left ≡ 0 }
+        ensures unit { unit_of code.now result ≡ (next_of (flat_bodies code.now) self.old).unit }
+        ensures moved { self.new ≡ frame_begins (next_of (flat_bodies code.now) self.old) self.old }
+    {
+        self.begin(code, 0).unit
+    }
+
+    // It begins the next unit of its body, past each one that only takes time and is over before so many ticks are.
+    #[inline(always)]
+    pub(crate) fn begin(&mut self, code: &Code, most: u64) -> Taken
+        requires placed { IsPlaced code.now (cursor_of self.old) }
+        requires whole { self.old.left ≡ 0 }
+        ensures { HasBegun code.now most result self.old self.new }
+    {
+        let mut rest = most;
+        let body = code.units(self.at.body);
+        'units: loop {
+            let unit = body.fetch(&mut self.at);
+            match unit {
+                Fetched::Run(n) if 0 < n && n < rest => rest -= n,
+                Fetched::Jump if 1 < rest => rest -= 1,
+                _ => {
+                    let left = ticks_of(code, &unit);
+                    self.left = left;
+                    let passed = most - rest;
+                    return Taken { unit, passed, left };
+                }
+            }
+        }
+    }
+}
+
+// How many ticks a unit takes.
+#[inline(always)]
+fn ticks_of(code: &Code, unit: &Fetched) -> u64
+    ensures { result ≡ ticks_of (unit_of code.now unit.now) }
+{
+    let _ = code;
+    match unit {
+        Fetched::Run(n) => *n,
+        _ => 1,
+    }
+}

@@ -1,0 +1,122 @@
+// One interval timer.
+ghost use Rattle.std.specs.Prelude.{◌≡◌, ◌≤◌, ◌*◌, ◌^◌, None};
+ghost use Rattle.rules_machine.specs.Signals.{with_overrun_told};
+ghost use Rattle.rules_machine.specs.Timers.{armed, armed_again, overrun_once_more, ticks_to};
+
+use std::marker::Model;
+use words_numbers::Tick;
+
+// DELAYTIMER_MAX
+const OVERRUN_LIMIT: u32 = 2_147_483_647;
+
+#[derive(Drop)]
+pub(crate) struct Timer {
+    // of its expiry: the signal, 0 to 31, and that signal's value
+    signal: u8,
+    value: u64,
+    due: Option<Tick>,
+    // in ticks; 0 where it expires once
+    interval: u64,
+    // the expiries since its signal became pending
+    extra: u32,
+    // those that were told with its last signal
+    overrun: u32,
+}
+
+impl Model for Timer {
+    ghost use Rattle.std.specs.Prelude.{◌≤◌, ◌^◌};
+    ghost use Rattle.rules_machine.specs.State as machine;
+
+    ghost Value = { machine.Timer };
+
+    ghost view = { λ t. record { signal = t.signal; value = t.value; due = t.due; interval = t.interval; extra = t.extra; overrun = t.overrun } };
+
+    ghost invariant = { λ t. t.interval ≤ 10 ^ 18 };
+}
+
+impl Timer {
+    // It is not armed.
+    pub(crate) fn new(signal: u8, value: u64) -> Timer
+        ensures { result ≡ record { signal = signal; value = value; due = None; interval = 0; extra = 0; overrun = 0 } }
+    {
+        Timer {
+            signal,
+            value,
+            due: None,
+            interval: 0,
+            extra: 0,
+            overrun: 0,
+        }
+    }
+
+    pub(crate) fn arm(&mut self, due: Option<Tick>, interval: u64)
+        requires { interval ≤ 10 ^ 18 }
+        ensures { self.new ≡ armed due interval self.old }
+    {
+        self.due = due;
+        self.interval = interval;
+    }
+
+    // It is due again after its interval, or disarmed where it has none.
+    pub(crate) fn arm_again(&mut self, now: Tick)
+        requires { now ≤ 10 ^ 18 }
+        ensures { self.new ≡ armed_again now self.old }
+    {
+        self.due = if self.interval == 0 {
+            None
+        } else {
+            now.after(self.interval)
+        };
+    }
+
+    pub(crate) fn overrun_once_more(&mut self)
+        ensures { self.new ≡ overrun_once_more self.old }
+    {
+        self.extra = if self.extra < OVERRUN_LIMIT {
+            self.extra + 1
+        } else {
+            OVERRUN_LIMIT
+        };
+    }
+
+    pub(crate) fn accepted(&mut self)
+        ensures { self.new ≡ with_overrun_told self.old }
+    {
+        self.overrun = self.extra;
+        self.extra = 0;
+    }
+
+    pub(crate) fn signal(&self) -> u8
+        ensures { result ≡ self.now.signal }
+    {
+        self.signal
+    }
+
+    pub(crate) fn value(&self) -> u64
+        ensures { result ≡ self.now.value }
+    {
+        self.value
+    }
+
+    pub(crate) fn due(&self) -> Option<Tick>
+        ensures { result ≡ self.now.due }
+    {
+        self.due
+    }
+
+    // 0 where it is not armed, or due by now.
+    pub(crate) fn ticks_left(&self, now: Tick) -> u64
+        ensures { result ≡ ticks_to self.now.due now }
+    {
+        match self.due {
+            Some(due) => due.get().saturating_sub(now.get()),
+            None => 0,
+        }
+    }
+
+    pub(crate) fn overrun(&self) -> u32
+        ensures { result ≡ self.now.overrun }
+    {
+        self.overrun
+    }
+}

@@ -1,0 +1,120 @@
+// The timers by their numbers.
+ghost use Rattle.std.specs.Prelude.{◌≡◌, ◌<◌, ◌≤◌, ◌*◌, ◌^◌, length, IfOk};
+ghost use Rattle.rules_machine.specs.Declarations.{timers_of};
+ghost use Rattle.rules_machine.specs.Signals.{with_overrun_told};
+ghost use Rattle.rules_machine.specs.Timers.{armed, armed_again, overrun_once_more, ticks_to};
+ghost use Rattle.kernel_timers.specs.Timers.{timer_in, with_timer};
+
+use crate::open::open_timers;
+use crate::timer::Timer;
+use words_script::Script;
+use std::alloc::{AllocError, Global};
+use std::marker::Model;
+use words_numbers::{ObjId, Tick};
+
+/// The interval timers of a script, by their numbers in the order of declaration.
+#[derive(Drop)]
+pub struct Timers {
+    items: Vec<Timer>,
+}
+
+impl Model for Timers {
+    ghost use Rattle.std.specs.Prelude.{List};
+    ghost use Rattle.rules_machine.specs.State as machine;
+
+    ghost Value = { List machine.Timer };
+
+    ghost view = { λ t. t.items.items };
+}
+
+impl Timers {
+    /// The timers that the script declares, disarmed.
+    pub fn open(alloc: Global, script: &Script) -> Result<Timers, AllocError>
+        ensures { IfOk result (λ timers. timers ≡ timers_of script.now) }
+    {
+        let items = open_timers(alloc, script)?;
+        Ok(Timers { items })
+    }
+
+    /// How many timers there are.
+    pub fn count(&self) -> usize
+        ensures { result ≡ length self.now }
+    {
+        self.items.len()
+    }
+
+    /// The timer is due at that tick, and then again after each interval of so many ticks, at most 10^18; with an interval of 0 once.
+    /// With None it is disarmed.
+    pub fn settime(&mut self, k: ObjId, due: Option<Tick>, interval: u64)
+        requires known { k < length self.old }
+        requires interval { interval ≤ 10 ^ 18 }
+        ensures { self.new ≡ with_timer k (armed due interval) self.old }
+    {
+        self.items[k.get() as usize].arm(due, interval);
+    }
+
+    /// After an expiry now, at most at 10^18: the timer is due again after its interval, or disarmed where it has none.
+    pub fn arm_again(&mut self, k: ObjId, now: Tick)
+        requires known { k < length self.old }
+        requires now { now ≤ 10 ^ 18 }
+        ensures { self.new ≡ with_timer k (armed_again now) self.old }
+    {
+        self.items[k.get() as usize].arm_again(now);
+    }
+
+    /// The timer expired while its signal was pending. The count stops at 2,147,483,647.
+    pub fn overrun_once_more(&mut self, k: ObjId)
+        requires { k < length self.old }
+        ensures { self.new ≡ with_timer k overrun_once_more self.old }
+    {
+        self.items[k.get() as usize].overrun_once_more();
+    }
+
+    /// The timer's signal was delivered or accepted: the expiries counted since it became pending are its overrun, and are counted anew.
+    pub fn accepted(&mut self, k: ObjId)
+        requires { k < length self.old }
+        ensures { self.new ≡ with_timer k with_overrun_told self.old }
+    {
+        self.items[k.get() as usize].accepted();
+    }
+
+    /// The signal of an expiry, as it was declared.
+    pub fn signal(&self, k: ObjId) -> u8
+        requires { k < length self.now }
+        ensures { result ≡ (timer_in self.now k).signal }
+    {
+        self.items[k.get() as usize].signal()
+    }
+
+    /// The value of that signal.
+    pub fn value(&self, k: ObjId) -> u64
+        requires { k < length self.now }
+        ensures { result ≡ (timer_in self.now k).value }
+    {
+        self.items[k.get() as usize].value()
+    }
+
+    /// When the timer expires next. None exactly where it is disarmed.
+    pub fn due(&self, k: ObjId) -> Option<Tick>
+        requires { k < length self.now }
+        ensures { result ≡ (timer_in self.now k).due }
+    {
+        self.items[k.get() as usize].due()
+    }
+
+    /// The ticks from now until the timer expires; 0 where it is disarmed, or due by now.
+    pub fn gettime(&self, k: ObjId, now: Tick) -> u64
+        requires { k < length self.now }
+        ensures { result ≡ ticks_to (timer_in self.now k).due now }
+    {
+        self.items[k.get() as usize].ticks_left(now)
+    }
+
+    /// The overrun of the timer's last signal, at most 2,147,483,647.
+    pub fn overrun(&self, k: ObjId) -> u32
+        requires { k < length self.now }
+        ensures { result ≡ (timer_in self.now k).overrun }
+    {
+        self.items[k.get() as usize].overrun()
+    }
+}

@@ -1,0 +1,151 @@
+-- No unit of a script without a setsched step gives a thread a new policy.
+use Rattle.std.proofs.Common.{Bool, List, None, Option, Some, [], false, subst, suc, sym, true, zero, ℕ, ◌+◌, ◌∷◌}
+use Rattle.std.specs.Prelude.{filter_map, if◌then◌else◌, map, slice_index_or}
+use Rattle.words_numbers.specs.declared.res.Res.{Res}
+use Rattle.words_script.specs.Block.{Adding, Block, Guarding, Looping, Making, Nothing, Running, Setting, Taking, Testing}
+use Rattle.words_script.specs.declared.decl.Decl.{Decl}
+use Rattle.words_script.specs.declared.decl.Decl.TheVariants as decl
+use Rattle.words_script.specs.declared.decl.Kind.TheVariants as kind
+use Rattle.words_script.specs.declared.decl.Script.{Script}
+use Rattle.script_code.specs.Next.{At, Due, Ended, In, Outcome, Place, capped, holds, or_finish, passes_of, rest_of, steps_from}
+use Rattle.script_code.proofs.Relative.{and_then, from_head, from_inside, from_place, in_guard, in_loop, in_test, later, later_by, place_same}
+use Rattle.rules_machine.specs.declared.frame.BodyOf.{BodyOf}
+use Rattle.rules_machine.specs.declared.frame.BodyOf.TheVariants as body_of
+use Rattle.rules_machine.specs.Declarations.{ThreadDecl, cleanup_kind, declared_thread, handler_kind, named, threads_of}
+use Rattle.rules_machine.specs.Machine.{block_of, bodies_of}
+use Rattle.laws_audit.specs.Calm.{BlockCalm, BodiesCalm, DeclsCalm, UnitCalm}
+use Rattle.laws_moves.proofs.Waiters.Best.{Each}
+
+-- ---- what a block comes to
+
+abbrev OutcomeCalm : Outcome → Type 0
+OutcomeCalm (Due u place r) = UnitCalm u
+OutcomeCalm (Ended r) = Unit {0}
+
+later_fits : (o : Outcome) → OutcomeCalm o → OutcomeCalm (later o)
+later_fits (Due u (At i) r) h = h
+later_fits (Due u (In i passes place) r) h = h
+later_fits (Ended r) h = tt
+
+later_by_fits : (i : ℕ) (o : Outcome) → OutcomeCalm o → OutcomeCalm (later_by i o)
+later_by_fits zero o h = h
+later_by_fits (suc i) o h = later_fits (later_by i o) (later_by_fits i o h)
+
+then_fits : (o : Outcome) (after : ℕ → Outcome) → OutcomeCalm o → ((r : ℕ) → OutcomeCalm (after r)) → OutcomeCalm (and_then o after)
+then_fits (Due u place r) after h k = h
+then_fits (Ended r) after h k = later_fits (after r) (k r)
+
+test_fits : (o : Outcome) → OutcomeCalm o → OutcomeCalm (in_test o)
+test_fits (Due u place r) h = h
+test_fits (Ended r) h = tt
+
+loop_fits : (times : Option ℕ) (passes : ℕ) (o : Outcome) → OutcomeCalm o → OutcomeCalm (in_loop times passes o)
+loop_fits times passes (Due u place r) h = h
+loop_fits None passes (Ended r) h = tt
+loop_fits (Some n) zero (Ended r) h = tt
+loop_fits (Some n) (suc zero) (Ended r) h = tt
+loop_fits (Some n) (suc (suc passes)) (Ended r) h = tt
+
+guard_fits : (run : Bool) (o : Outcome) → OutcomeCalm o → OutcomeCalm (in_guard run o)
+guard_fits run (Due u place r) h = h
+guard_fits run (Ended r) h = tt
+
+if_fits : (b : Bool) (x y : Outcome) → OutcomeCalm x → OutcomeCalm y → OutcomeCalm (if b then x else y)
+if_fits true x y h k = h
+if_fits false x y h k = k
+
+module _ (result : Res) (value : ℕ) where
+  head_fits : (block : Block) (r : ℕ) → BlockCalm block → OutcomeCalm (from_head result value block r)
+  head_fits Nothing r h = tt
+  head_fits (Running n rest) r h = tt
+  head_fits (Making c rest) r h = h.0
+  head_fits (Setting n rest) r h = later_fits (from_head result value rest (capped n)) (head_fits rest (capped n) h)
+  head_fits (Adding n rest) r h = later_fits (from_head result value rest (capped (r + n))) (head_fits rest (capped (r + n)) h)
+  head_fits (Taking rest) r h = later_fits (from_head result value rest (capped value)) (head_fits rest (capped value) h)
+  head_fits (Testing named equal inner rest) r h =
+      then_fits (if holds named equal result then in_test (from_head result value inner r) else Ended r) (from_head result value rest)
+      (if_fits (holds named equal result) (in_test (from_head result value inner r)) (Ended r) (test_fits (from_head result value inner r) (head_fits inner r h.0)) tt) (λ r. head_fits rest r h.1)
+  head_fits (Looping times inner rest) r h =
+      then_fits (in_loop times (passes_of times) (from_head result value inner r)) (from_head result value rest)
+      (loop_fits times (passes_of times) (from_head result value inner r) (head_fits inner r h.0)) (λ r. head_fits rest r h.1)
+  head_fits (Guarding cleanup run inner rest) r h = tt
+
+  inside_fits : (passes : ℕ) (inside : Block → Outcome) (block : Block) (r : ℕ) → ((b : Block) → BlockCalm b → OutcomeCalm (inside b)) → BlockCalm block → OutcomeCalm (from_inside result value passes inside block r)
+  inside_fits passes inside (Testing named equal inner rest) r k h =
+      then_fits (in_test (inside inner)) (from_head result value rest) (test_fits (inside inner) (k inner h.0)) (λ r. head_fits rest r h.1)
+  inside_fits passes inside (Looping times inner rest) r k h =
+      then_fits (in_loop times passes (inside inner)) (from_head result value rest) (loop_fits times passes (inside inner) (k inner h.0)) (λ r. head_fits rest r h.1)
+  inside_fits passes inside (Guarding cleanup run inner rest) r k h = guard_fits run (inside inner) (k inner h.0)
+  inside_fits passes inside Nothing r k h = tt
+  inside_fits passes inside (Running n rest) r k h = head_fits (Running n rest) r h
+  inside_fits passes inside (Making c rest) r k h = head_fits (Making c rest) r h
+  inside_fits passes inside (Setting n rest) r k h = head_fits (Setting n rest) r h
+  inside_fits passes inside (Adding n rest) r k h = head_fits (Adding n rest) r h
+  inside_fits passes inside (Taking rest) r k h = head_fits (Taking rest) r h
+
+  steps_fit : (i : ℕ) (block : Block) → BlockCalm block → BlockCalm (steps_from i block)
+  steps_fit zero block h = h
+  steps_fit (suc i) block h = steps_fit i (rest_of block) (rest_fits block h)
+    where
+      rest_fits : (block : Block) → BlockCalm block → BlockCalm (rest_of block)
+      rest_fits Nothing h = tt
+      rest_fits (Running n rest) h = h
+      rest_fits (Making c rest) h = h.1
+      rest_fits (Setting n rest) h = h
+      rest_fits (Adding n rest) h = h
+      rest_fits (Taking rest) h = h
+      rest_fits (Testing named equal inner rest) h = h.1
+      rest_fits (Looping times inner rest) h = h.1
+      rest_fits (Guarding cleanup run inner rest) h = h.1
+
+  place_fits : (place : Place) (block : Block) (r : ℕ) → BlockCalm block → OutcomeCalm (from_place result value place block r)
+  place_fits (At i) block r h = later_by_fits i (from_head result value (steps_from i block) r) (head_fits (steps_from i block) r (steps_fit i block h))
+  place_fits (In i passes place) block r h =
+      later_by_fits i (from_inside result value passes (λ inner. from_place result value place inner r) (steps_from i block) r)
+      (inside_fits passes (λ inner. from_place result value place inner r) (steps_from i block) r (λ inner k. place_fits place inner r k) (steps_fit i block h))
+
+or_fits : (body : Block) (o : Outcome) → OutcomeCalm o → UnitCalm (or_finish body o).unit
+or_fits body (Due u place r) h = h
+or_fits body (Ended r) h = tt
+
+-- ---- the bodies of a script
+
+abbrev pub ThreadCalm : ThreadDecl → Type 0
+ThreadCalm d = BlockCalm d.body
+
+pub threads_fit : (ds : List Decl) → DeclsCalm ds → Each ThreadCalm (filter_map declared_thread ds)
+threads_fit [] h = tt
+threads_fit (decl.Action signal handler ∷ ds) h = threads_fit ds h.1
+threads_fit (decl.Named name (kind.Thread policy start body) ∷ ds) h = (h.0, threads_fit ds h.1)
+threads_fit (decl.Named name other ∷ ds) h = threads_fit ds h.1
+
+thread_block : (ds : List ThreadDecl) (t : ℕ) → Each ThreadCalm ds → BlockCalm (slice_index_or (map (λ (d : ThreadDecl). d.body) ds) t Nothing)
+thread_block [] t each = tt
+thread_block (d ∷ ds) zero each = each.0
+thread_block (d ∷ ds) (suc t) each = thread_block ds t each.1
+
+handler_block : (ds : List Decl) (h : ℕ) → DeclsCalm ds → BlockCalm (slice_index_or (filter_map (named handler_kind) ds) h Nothing)
+handler_block [] h k = tt
+handler_block (decl.Action signal handler ∷ ds) h k = handler_block ds h k.1
+handler_block (decl.Named name (kind.Handler body) ∷ ds) zero k = k.0
+handler_block (decl.Named name (kind.Handler body) ∷ ds) (suc h) k = handler_block ds h k.1
+handler_block (decl.Named name other ∷ ds) h k = handler_block ds h k.1
+
+cleanup_block : (ds : List Decl) (u : ℕ) → DeclsCalm ds → BlockCalm (slice_index_or (filter_map (named cleanup_kind) ds) u Nothing)
+cleanup_block [] u k = tt
+cleanup_block (decl.Action signal handler ∷ ds) u k = cleanup_block ds u k.1
+cleanup_block (decl.Named name (kind.Cleanup body) ∷ ds) zero k = k.0
+cleanup_block (decl.Named name (kind.Cleanup body) ∷ ds) (suc u) k = cleanup_block ds u k.1
+cleanup_block (decl.Named name other ∷ ds) u k = cleanup_block ds u k.1
+
+module _ (script : Script) (known : DeclsCalm script.decls) where
+  block_fits : (body : BodyOf) → BlockCalm (block_of script body)
+  block_fits (body_of.Thread t) = thread_block (threads_of script) t (threads_fit script.decls known)
+  block_fits (body_of.Cleanup u) = cleanup_block script.decls u known
+  block_fits (body_of.Handler h) = handler_block script.decls h known
+
+  pub bodies_calm : BodiesCalm (bodies_of script)
+  bodies_calm body place seen =
+      let block = block_of script body in
+      subst (λ (o : Outcome). UnitCalm (or_finish block o).unit) (sym (place_same seen.result seen.value place block seen.register))
+      (or_fits block (from_place seen.result seen.value place block seen.register) (place_fits seen.result seen.value place block seen.register (block_fits body)))

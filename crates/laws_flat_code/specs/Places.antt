@@ -1,0 +1,18 @@
+-- The place in flat code that stands for a place in a body of the script. All of it is this project's own.
+use Rattle.std.specs.Prelude.{[], ℕ}
+use Rattle.words_numbers.specs.declared.res.Res.TheVariants as res
+use Rattle.words_script.specs.Block.{Block}
+use Rattle.words_script.specs.declared.decl.Script.{Script}
+use Rattle.script_code.specs.declared.cursor.Cursor.{Cursor}
+use Rattle.script_code.specs.Next.{Place}
+use Rattle.script_code.specs.Stands.{counts_at, op_at}
+use Rattle.rules_machine.specs.declared.frame.BodyOf.{BodyOf}
+use Rattle.rules_machine.specs.Machine.{block_of}
+use Rattle.rules_flat_code.specs.FlatBodies.{code_of, number_of}
+
+-- the cursor at a place of a body
+abbrev pub at_place : ℕ → Block → Place → Cursor
+at_place n body place = record { body = n; pc = op_at place 0 body; register = 0; result = res.Zero; value = 0; counts = record { items = counts_at place [] body } }
+
+abbrev pub carry : Script → BodyOf → Place → Cursor
+carry script b place = at_place (number_of (code_of script) b) (block_of script b) place

@@ -1,5 +1,0 @@
-use Rattle.machine_leaps.proofs.Leaps.Scripts.{run_leaps}
-use Rattle.machine_leaps.proofs.leaps_are_ticks.Goals as goal
-
-pub returns : goal.returns
-returns c = run_leaps

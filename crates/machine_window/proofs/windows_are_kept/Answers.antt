@@ -1,7 +1,0 @@
-use Rattle.machine_rules.specs.Machine.{bodies_of}
-use Rattle.machine_moves.proofs.Runs.Units.{bodies_fit}
-use Rattle.machine_window.proofs.InWindow.{keeps_windows}
-use Rattle.machine_window.proofs.windows_are_kept.Goals as goal
-
-pub returns : goal.returns
-returns c = λ script fits. keeps_windows (bodies_of script) (bodies_fit script fits.priorities) script fits

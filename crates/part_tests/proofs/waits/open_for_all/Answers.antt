@@ -1,5 +1,0 @@
-use Rattle.part_tests.proofs.Many.{all_nowhere}
-use Rattle.part_tests.proofs.waits.open_for_all.Goals as goal
-
-pub returns-clause-nowhere : goal.returns-clause-nowhere
-returns-clause-nowhere c = all_nowhere c.open.result 256 c.open.ensures

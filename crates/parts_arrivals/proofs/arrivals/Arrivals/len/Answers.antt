@@ -1,0 +1,9 @@
+use Rattle.std.proofs.Common.{subst}
+use Rattle.parts_arrivals.specs.Arrivals.{AreArrivals}
+use Rattle.parts_arrivals.proofs.Holding.{are_arrivals}
+use Rattle.parts_arrivals.proofs.arrivals.Arrivals.len.Goals as goal
+
+pub returns-clause-arrivals : goal.returns-clause-arrivals
+returns-clause-arrivals c =
+    let a = c.self.inside in
+    subst AreArrivals c.self.view_is (are_arrivals a.arrived a.ranked a.ranks.items a.marks a.count c.self.invariant)

@@ -1,0 +1,18 @@
+use Rattle.std.proofs.Common.{true, ◌≡◌}
+use Rattle.parts_owners.specs.Chains.{links_of}
+use Rattle.parts_owners.proofs.AtOnce.{given}
+use Rattle.parts_owners.proofs.changes.release_at_once.Goals as goal
+
+pub returns-clause-settled : goal.returns-clause-settled
+returns-clause-settled c =
+    let is : c.is_at_assigned.result ≡ true = cc in
+    rw c.set_free.ensures
+    (given (links_of c.args.claims.now c.args.mutexes.now) c.args.exec.now c.args.k c.args.t c.args.w.now c.requires.settled c.requires.placed true
+    c.requires.mutex c.requires.owned (rw (← is) c.is_at_assigned.ensures)).0
+
+pub returns-clause-same : goal.returns-clause-same
+returns-clause-same c =
+    let is : c.is_at_assigned.result ≡ true = cc in
+    rw c.set_free.ensures
+    (given (links_of c.args.claims.now c.args.mutexes.now) c.args.exec.now c.args.k c.args.t c.args.w.now c.requires.settled c.requires.placed true
+    c.requires.mutex c.requires.owned (rw (← is) c.is_at_assigned.ensures)).1

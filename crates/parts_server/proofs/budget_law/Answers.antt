@@ -1,0 +1,5 @@
+use Rattle.parts_server.proofs.Laws.{law}
+use Rattle.parts_server.proofs.budget_law.Goals as goal
+
+pub returns : goal.returns
+returns c = law

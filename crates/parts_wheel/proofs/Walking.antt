@@ -1,0 +1,82 @@
+-- A walk along one list for the least due tick.
+use Rattle.std.proofs.Common.{◌≡◌, ◌≢◌, ◌⊎◌, inl, inr, ⊎_elim, ℕ, ◌^◌, ◌-◌, ◌<◌, ◌≤◌, true, false, Option, Some, None, is_some, List, [], ◌∷◌, if◌then◌else◌, slice_get, refl, sym, ap, subst, ◌∙◌, arith}
+use borrow.Author.Tests.{eq-eqb}
+use Rattle.std.proofs.lemmas.Bool.Decides.{nat_tests}
+use Rattle.parts_links.specs.Links.{stands_in, follower, AreDistinct}
+use Rattle.parts_links.specs.Walks.{rest_of}
+use Rattle.parts_links.proofs.Walks.{rest_first, step}
+use Rattle.parts_wheel.specs.Dues.{due_of}
+use Rattle.parts_wheel.specs.Slots.{IsSooner}
+use Rattle.parts_links.proofs.Chains.{equal}
+use Rattle.parts_wheel.proofs.Filing.{none_some}
+use Rattle.parts_wheel.proofs.Holding.{same_due}
+
+-- what the walk has passed is due at this tick or later, and then no other item than this one is
+pub record IsWalked (dues : List (Option ℕ)) (items : List ℕ) (at : Option ℕ) (tick lone : ℕ) : Type 0 where
+  pub seen : (i d : ℕ) → stands_in i items ≡ true → due_of i dues ≡ Some d → (stands_in i (rest_of at items) ≡ true) ⊎ (tick ≤ d)
+  pub holds : (tick ≡ 2 ^ 64 - 1) ⊎ ((i : ℕ) × (stands_in i items ≡ true) × (due_of i dues ≡ Some tick))
+  pub alone : lone < 1024 → (stands_in lone items ≡ true) × (due_of lone dues ≡ Some tick)
+      × ((i : ℕ) → stands_in i items ≡ true → due_of i dues ≡ Some tick → (stands_in i (rest_of at items) ≡ true) ⊎ (i ≡ lone))
+
+pub walk_start : (dues : List (Option ℕ)) (items : List ℕ) (o : Option ℕ) → o ≡ slice_get items 0 → IsWalked dues items o (2 ^ 64 - 1) (2 ^ 32 - 1)
+walk_start dues items o is = record {
+  seen = λ i d h due. inl (subst (λ xs. stands_in i xs ≡ true) (sym (ap (λ a. rest_of a items) is ∙ rest_first items)) h);
+  holds = inl refl;
+  alone = λ l. absurd (omega (arith, l));
+}
+
+rest_or : (i n : ℕ) (xs : List ℕ) → i ≢ n → stands_in i (n ∷ xs) ≡ true → stands_in i xs ≡ true
+rest_or i n xs other h = grind (arith, nat_tests)
+
+pub walk_on : (dues : List (Option ℕ)) (items : List ℕ) (at o next : Option ℕ) (n e tick lone now sole : ℕ) → AreDistinct items → at ≡ Some n → stands_in n items ≡ true → next ≡ follower n items → due_of n dues ≡ Some e
+    → o ≡ Some e → IsSooner tick lone n o now sole → IsWalked dues items at tick lone → IsWalked dues items next now sole
+walk_on dues items at o next n e tick lone now sole distinct is stands follows due read sooner w =
+    let step_to = subst (λ (a : Option ℕ). IsSooner tick lone n a now sole) read sooner in
+    let split : (i : ℕ) → stands_in i (rest_of at items) ≡ true → (i ≡ n) ⊎ (stands_in i (rest_of next items) ≡ true) = λ i s.
+    let s' = subst (λ xs. stands_in i xs ≡ true) (step n items distinct stands) (subst (λ (a : Option ℕ). stands_in i (rest_of a items) ≡ true) is s) in
+    ⊎_elim (λ same. inl same) (λ other. inr (subst (λ (a : Option ℕ). stands_in i (rest_of a items) ≡ true) (sym follows) (rest_or i n (rest_of (follower n items) items) other s'))) (equal i n) in
+    let low : (now ≤ tick) × (now ≤ e) = ⊎_elim
+    (λ a. (omega (arith, a.0, a.1), omega (arith, a.1)))
+    (λ r. ⊎_elim (λ b. (omega (arith, b.1), omega (arith, b.0, b.1))) (λ c. (omega (arith, c.1), omega (arith, c.0, c.1))) r) step_to in
+    let kept : now ≡ tick → (now ≡ 2 ^ 64 - 1) ⊎ ((i : ℕ) × (stands_in i items ≡ true) × (due_of i dues ≡ Some now)) = λ same.
+    ⊎_elim (λ never. inl (same ∙ never)) (λ h. inr (h.0, h.1, h.2 ∙ ap Some (sym same))) w.holds in
+    record {
+      seen = λ i d h g. ⊎_elim
+          (λ s. ⊎_elim (λ same. inr (let q = same_due dues n e d due (subst (λ m. due_of m dues ≡ Some d) same g) in omega (arith, q, low.1))) (λ r. inl r) (split i s))
+          (λ l. inr (omega (arith, l, low.0)))
+          (w.seen i d h g);
+      holds = ⊎_elim (λ a. inr (n, stands, due ∙ ap Some (sym a.1))) (λ r. ⊎_elim (λ b. kept b.1) (λ c. kept c.1) r) step_to;
+      alone = λ l. ⊎_elim
+          (λ a. (
+            subst (λ m. stands_in m items ≡ true) (sym a.2) stands,
+            ap (λ m. due_of m dues) a.2 ∙ due ∙ ap Some (sym a.1),
+            λ i h g. ⊎_elim
+                (λ s. ⊎_elim (λ same. inr (same ∙ sym a.2)) (λ r. inl r) (split i s))
+                (λ le. absurd (omega (arith, le, a.0)))
+                (w.seen i e h (g ∙ ap Some a.1)),
+          ))
+          (λ r. ⊎_elim
+          (λ b. absurd (omega (arith, l, b.2)))
+          (λ c. let k = w.alone (omega (arith, l, c.2)) in (
+            subst (λ m. stands_in m items ≡ true) (sym c.2) k.0,
+            ap (λ m. due_of m dues) c.2 ∙ k.1 ∙ ap Some (sym c.1),
+            λ i h g. let g' : due_of i dues ≡ Some tick = g ∙ ap Some c.1 in ⊎_elim
+                (λ s. ⊎_elim (λ same. absurd (let q = same_due dues n e tick due (subst (λ m. due_of m dues ≡ Some tick) same g') in omega (arith, q, c.0))) (λ r. inl r) (split i s))
+                (λ it. inr (it ∙ sym c.2))
+                (k.2 i h g'),
+          ))
+          r)
+          step_to;
+    }
+
+-- a head that nothing follows stands alone
+pub alone_in : (n : ℕ) (xs : List ℕ) → Some n ≡ slice_get xs 0 → follower n xs ≡ None → (i : ℕ) → stands_in i xs ≡ true → i ≡ n
+alone_in n [] head last i h = cc
+alone_in n (x ∷ []) head last i h = let same : n ≡ x = cc in grind (arith, nat_tests)
+alone_in n (x ∷ y ∷ xs) head last i h =
+    let same : n ≡ x = cc in
+    let next : follower n (x ∷ y ∷ xs) ≡ Some y = ap (λ b. if b then Some y else follower n (y ∷ xs)) (eq-eqb x n (sym same)) in absurd (none_some (sym last ∙ next))
+
+pub not_some : (o : Option ℕ) → is_some o ≡ false → o ≡ None
+not_some None h = refl
+not_some (Some n) h = cc

@@ -1,0 +1,312 @@
+//! The due ticks of up to 1,024 items, in a wheel of eight levels: the lowest has 2,048 slots of one tick each, and each of the seven
+//! above it 256, of 2,048 ticks each and then of 256 times as many as at the level below.
+//!
+//! Proved: a finite map from item to due tick: `next` is the least due tick, `first_due` the least item that is due, and
+//! `pop_due` takes it out.
+//!
+//! Contracts see a finite map from item number to due tick, and the last `now` of `first_due` or `pop_due`; `specs/Dues.antt` states what each call
+//! answers. The wheel stands at a tick that is at most that last `now`. An item that is due later stands on the list of its slot, bits
+//! tell which slots are taken, and an item whose tick has passed is a bit of a set, so that the least
+//! number is found at once. The least later due tick is kept, so that `next` searches no slot, a tick before which nothing is due, so
+//! that `first_due` is one comparison where nothing is, and the item that alone is due then, which `first_due` answers. No call after
+//! `open` takes memory.
+#![tactic(auto)]
+
+ghost use Rattle.std.specs.Prelude.{◌≡◌, ◌≢◌, ◌≤◌, ◌<◌, ◌*◌, ◌^◌, ℕ, None, Some, true, false, length, max, replicate, slice_set, IfOk, MatchOption};
+ghost use Rattle.parts_wheel.specs.Dues.{due_of, NoneIsArmed, IsLeastDue, NoneIsDue, IsFirstDue};
+ghost use Rattle.parts_wheel.specs.Slots.{Placed, IsLeastLater, IsLone, IsEarly, IsFront};
+
+mod bits;
+mod dues;
+mod moves;
+mod places;
+mod slots;
+
+use dues::{due_of, first_of, least_of};
+use slots::{NO_ITEM, Next, Slots};
+use std::alloc::{AllocError, Global};
+use std::marker::Model;
+use words_numbers::{ItemId, Tick};
+
+/// What is due first.
+#[derive(Clone, Copy)]
+struct Front {
+    // the least due tick after that of the slots
+    least: u64,
+    // nothing is due before that tick
+    early: u64,
+    // the number of the item that alone is due then, and later than the slots' tick, or no item's
+    lone: u32,
+}
+
+/// Items and their due ticks.
+#[derive(Drop)]
+pub struct Wheel {
+    slots: Slots,
+    front: Front,
+    last: u64,
+}
+
+impl Model for Wheel {
+    ghost use Rattle.parts_wheel.specs.Dues.{Dues};
+    ghost use Rattle.parts_wheel.specs.Slots.{IsCached};
+
+    ghost Value = { Dues };
+
+    ghost view = { λ w. record { dues = w.slots.dues; last = w.last } };
+
+    ghost invariant = { λ w. IsCached w.slots w.front.least w.front.early w.front.lone w.last };
+}
+
+/// The slots go on from one due tick to the next, up to now. The answer is what is due next after theirs.
+fn caught_up(slots: &mut Slots, least: u64, now: u64) -> Next
+    requires least { IsLeastLater slots.old.base slots.old.dues least }
+    requires now { (slots.old.base ≤ now) × (now ≤ 2 * 10 ^ 18) }
+    ensures dues { slots.new.dues ≡ slots.old.dues }
+    ensures base { slots.new.base ≤ now }
+    ensures least { IsLeastLater slots.new.base slots.new.dues result.tick }
+    ensures lone { IsLone slots.new.dues result.tick result.lone }
+    ensures settled { now < result.tick }
+{
+    let mut next = Next {
+        tick: least,
+        lone: NO_ITEM,
+    };
+    while next.tick <= now {
+        slots.advance(next.tick);
+        next = slots.least_later();
+    }
+    next
+}
+
+/// What is due first, from what is due next after the tick of the slots, where nothing is due before `early`.
+#[inline(always)]
+fn front_of(slots: &Slots, next: Next, early: u64) -> Front
+    requires next { IsLeastLater slots.now.base slots.now.dues next.tick × IsLone slots.now.dues next.tick next.lone }
+    requires early { IsEarly slots.now.dues early }
+    ensures { IsFront slots.now result.least result.early result.lone }
+{
+    if slots.none_passed() {
+        Front {
+            least: next.tick,
+            early: next.tick,
+            lone: next.lone,
+        }
+    } else {
+        Front {
+            least: next.tick,
+            early,
+            lone: NO_ITEM,
+        }
+    }
+}
+
+/// What is due first, once an item that was not armed falls due at that tick, which is no later than that of the slots.
+#[inline(always)]
+fn with_passed(front: Front, tick: u64) -> Front
+    ensures { (slots : Placed) → (id : ℕ) → tick ≤ slots.base → (id < length slots.dues) × (due_of id slots.dues ≡ None) → IsFront slots front.least front.early front.lone → IsFront (record slots { dues = slice_set slots.dues id (Some tick) }) result.least result.early result.lone }
+{
+    let early = front.early.min(tick);
+    Front {
+        early,
+        lone: NO_ITEM,
+        ..front
+    }
+}
+
+/// What is due first, once an item that was not armed falls due at that tick, which is later than that of the slots.
+#[inline(always)]
+fn with_later(front: Front, id: u32, tick: u64) -> Front
+    requires { tick ≤ 2 * 10 ^ 18 }
+    ensures { (slots : Placed) → slots.base < tick → (id < length slots.dues) × (due_of id slots.dues ≡ None) → IsFront slots front.least front.early front.lone → IsFront (record slots { dues = slice_set slots.dues id (Some tick) }) result.least result.early result.lone }
+{
+    // no item's number where the tick is no later than the least
+    let kept = front.lone | (((tick <= front.least) as u32) << 31);
+    let lone = if tick < front.early { id } else { kept };
+    Front {
+        least: front.least.min(tick),
+        early: front.early.min(tick),
+        lone,
+    }
+}
+
+impl Wheel {
+    /// A wheel for items with numbers below `ids`, none of which is armed.
+    pub fn open(alloc: Global, ids: u32) -> Result<Wheel, AllocError>
+        requires { ids ≤ 1024 }
+        ensures { IfOk result (λ w. w ≡ record { dues = replicate ids None; last = 0 }) }
+    {
+        let slots = Slots::open(alloc, ids)?;
+        Ok(Wheel {
+            slots,
+            front: Front {
+                least: u64::MAX,
+                early: u64::MAX,
+                lone: NO_ITEM,
+            },
+            last: 0,
+        })
+    }
+
+    /// The item falls due at that tick, which may have passed.
+    #[inline(never)]
+    pub fn arm(&mut self, id: ItemId, due: Tick)
+        requires { (id.number < length self.old.dues) × (due_of id.number self.old.dues ≡ None) }
+        ensures { self.new ≡ record self.old { dues = slice_set self.old.dues id.number (Some due) } }
+    {
+        let tick = due.get();
+        if tick <= self.slots.base() {
+            self.front = with_passed(self.front, tick);
+            self.slots.arm_far(id.number, due);
+        } else {
+            self.front = with_later(self.front, id.number, tick);
+            self.slots.arm(id.number, due);
+        }
+    }
+
+    /// The item is not armed afterwards.
+    pub fn disarm(&mut self, id: ItemId)
+        requires { id.number < length self.old.dues }
+        ensures { self.new ≡ record self.old { dues = slice_set self.old.dues id.number None } }
+    {
+        if let Some(due) = self.due_of(id) {
+            self.disarm_due(id, due);
+        }
+    }
+
+    // The item, which is due then, is not armed afterwards.
+    #[inline(never)]
+    fn disarm_due(&mut self, id: ItemId, due: Tick)
+        requires { (id.number < length self.old.dues) × (due_of id.number self.old.dues ≡ Some due) }
+        ensures { self.new ≡ record self.old { dues = slice_set self.old.dues id.number None } }
+    {
+        let tick = due.get();
+        if id.number == self.front.lone && tick <= self.last && self.slots.is_near(tick) {
+            self.slots.disarm_lone(id.number, tick);
+            let next = self.slots.least_later();
+            self.front.least = next.tick;
+            self.front.early = next.tick;
+            self.front.lone = next.lone;
+        } else {
+            self.disarm_other(id, due);
+        }
+    }
+
+    // The same, whatever stands with the item.
+    #[inline(never)]
+    fn disarm_other(&mut self, id: ItemId, due: Tick)
+        requires { (id.number < length self.old.dues) × (due_of id.number self.old.dues ≡ Some due) }
+        ensures { self.new ≡ record self.old { dues = slice_set self.old.dues id.number None } }
+    {
+        let tick = due.get();
+        if tick == self.front.least && tick <= self.last {
+            self.slots.disarm_next(id.number, tick);
+            self.front = front_of(&self.slots, self.slots.least_later(), self.front.early);
+            return;
+        }
+        let later = tick > self.slots.base();
+        self.slots.disarm(id.number, due);
+        if !later || tick == self.front.least {
+            self.front = front_of(&self.slots, self.slots.least_later(), self.front.early);
+        }
+    }
+
+    /// The item falls due then; it is not armed afterwards where that is `None`.
+    #[inline(always)]
+    pub fn set_due(&mut self, id: ItemId, due: Option<Tick>)
+        requires { id.number < length self.old.dues }
+        ensures { self.new ≡ record self.old { dues = slice_set self.old.dues id.number due } }
+    {
+        match (self.due_of(id), due) {
+            (None, None) => (),
+            (None, Some(tick)) => self.arm(id, tick),
+            (Some(before), None) => self.disarm_due(id, before),
+            (Some(before), Some(tick)) => {
+                if before != tick {
+                    self.arm_anew(id, before, tick);
+                }
+            }
+        }
+    }
+
+    // The item, which was due before, falls due at that tick.
+    #[inline(never)]
+    fn arm_anew(&mut self, id: ItemId, before: Tick, due: Tick)
+        requires { (id.number < length self.old.dues) × (due_of id.number self.old.dues ≡ Some before) }
+        ensures { self.new ≡ record self.old { dues = slice_set self.old.dues id.number (Some due) } }
+    {
+        self.disarm_due(id, before);
+        self.arm(id, due);
+    }
+
+    /// The due tick of the item. None exactly where it is not armed.
+    pub fn due_of(&self, id: ItemId) -> Option<Tick>
+        requires { id.number < length self.now.dues }
+        ensures { result ≡ due_of id.number self.now.dues }
+    {
+        due_of(self.slots.dues(), id.number)
+    }
+
+    /// The least due tick. None exactly where nothing is armed.
+    pub fn next(&self) -> Option<Tick>
+        ensures { MatchOption result (NoneIsArmed self.now.dues) (λ tick. IsLeastDue self.now.dues tick) }
+    {
+        if self.front.least <= self.front.early {
+            return Tick::try_new(self.front.least);
+        }
+        match self.slots.first_passed() {
+            Some(_) => least_of(self.slots.dues()),
+            None => Tick::try_new(self.front.least),
+        }
+    }
+
+    /// The item with the least number that is due at or before now. None exactly where none is. It stays armed. The instants need not
+    /// rise: one before the last is answered by a search.
+    #[inline(always)]
+    pub fn first_due(&mut self, now: Tick) -> Option<ItemId>
+        ensures item { MatchOption result (NoneIsDue now self.old.dues) (λ id. IsFirstDue now self.old.dues id.number) }
+        ensures same { self.new.dues ≡ self.old.dues }
+        ensures last { self.new.last ≡ max self.old.last now }
+    {
+        let Front { early, lone, .. } = self.front;
+        if self.last < now.get() {
+            self.last = now.get();
+        }
+        if now.get() < early {
+            return None;
+        }
+        if now.get() == early && lone < 1024 {
+            return Some(ItemId { number: lone });
+        }
+        self.search_due(now)
+    }
+
+    // The first item that is due, where one may be.
+    #[inline(never)]
+    fn search_due(&mut self, now: Tick) -> Option<ItemId>
+        requires { now ≤ self.old.last }
+        ensures item { MatchOption result (NoneIsDue now self.old.dues) (λ id. IsFirstDue now self.old.dues id.number) }
+        ensures same { self.new.dues ≡ self.old.dues }
+        ensures last { self.new.last ≡ self.old.last }
+    {
+        if now.get() < self.last {
+            return first_of(self.slots.dues(), now);
+        }
+        let next = caught_up(&mut self.slots, self.front.least, now.get());
+        self.front = front_of(&self.slots, next, self.front.early);
+        let number = self.slots.first_passed()?;
+        Some(ItemId { number })
+    }
+
+    /// Takes out the item with the least number that is due at or before now. None exactly where none is.
+    pub fn pop_due(&mut self, now: Tick) -> Option<ItemId>
+        requires { self.old.last ≤ now }
+        ensures item { MatchOption result (NoneIsDue now self.old.dues) (λ id. IsFirstDue now self.old.dues id.number) }
+        ensures gone { MatchOption result (self.new.dues ≡ self.old.dues) (λ id. self.new.dues ≡ slice_set self.old.dues id.number None) }
+        ensures last { self.new.last ≡ now }
+    {
+        let id = self.first_due(now)?;
+        self.disarm(id);
+        Some(id)
+    }
+}

@@ -1,0 +1,294 @@
+// The slots of a wheel.
+ghost use Rattle.std.specs.Prelude.{◌≡◌, ◌<◌, ◌≤◌, ◌*◌, ◌/◌, ◌^◌, ℕ, true, None, Some, length, replicate, slice_set, IfOk, MatchOption};
+ghost use Rattle.parts_links.specs.Links.{list_at, stands_in, stands_at};
+ghost use Rattle.parts_wheel.specs.Dues.{due_of, NoneIsArmed, IsLeastDue, NoneIsDue, IsFirstDue};
+ghost use Rattle.parts_wheel.specs.Slots.{IsLeastLater, IsLone, IsLeastOf, IsLoneOf, IsSooner, IsOnly, AreSmall};
+ghost use Rattle.parts_wheel.specs.Moves.{IsDue};
+
+use crate::bits::Bits;
+use crate::moves::{file, put, refile, take, take_lone};
+use crate::places::is_near;
+use parts_links::Links;
+use std::alloc::{AllocError, Global};
+use std::marker::Model;
+use words_numbers::Tick;
+
+/// Items and their due ticks. The wheel stands at a tick: an item that is due later stands in the list of its place, seen from
+/// there, and one that has passed in a set.
+#[derive(Drop)]
+pub struct Slots {
+    dues: Vec<Option<Tick>>,
+    links: Links,
+    // the lists that are not empty
+    occupied: Bits,
+    passed: Bits,
+    base: u64,
+}
+
+impl Model for Slots {
+    ghost use Rattle.parts_wheel.specs.Slots.{Placed};
+    ghost use Rattle.parts_wheel.specs.Held.{AreHeld};
+
+    ghost Value = { Placed };
+
+    ghost view = { λ s. record { dues = s.dues.items; base = s.base } };
+
+    ghost invariant = { λ s. AreHeld s.base s.dues.items s.links s.occupied s.passed };
+}
+
+/// No item's number.
+pub(crate) const NO_ITEM: u32 = u32::MAX;
+
+/// The least due tick of some items, the last number where there are none, and the number of the item that alone is due then, or no
+/// item's.
+#[derive(Clone, Copy)]
+pub struct Next {
+    pub(crate) tick: u64,
+    pub(crate) lone: u32,
+}
+
+/// What is due next of the items in one list.
+#[inline(always)]
+fn least_in(links: &Links, dues: &[Option<Tick>], list: u32) -> Next
+    requires list { list < length links.now.lists }
+    requires armed { (i : ℕ) → stands_at i list links.now.lists ≡ true → (d : ℕ) × IsDue dues.now i d }
+    ensures least { IsLeastOf dues.now (list_at links.now.lists list) result.tick }
+    ensures lone { IsLoneOf dues.now (list_at links.now.lists list) result.tick result.lone }
+{
+    links.stand_once();
+    let mut next = Next {
+        tick: u64::MAX,
+        lone: NO_ITEM,
+    };
+    let mut at = links.front(list);
+    while let Some(node) = at {
+        next = sooner(next, node, dues[node as usize]);
+        at = links.next(node);
+    }
+    next
+}
+
+/// What is due next, of one item more.
+#[inline(always)]
+fn sooner(next: Next, node: u32, due: Option<Tick>) -> Next
+    ensures { IsSooner next.tick next.lone node due result.tick result.lone }
+{
+    match due {
+        Some(tick) if tick.get() < next.tick => Next {
+            tick: tick.get(),
+            lone: node,
+        },
+        Some(tick) if tick.get() == next.tick => Next {
+            tick: next.tick,
+            lone: NO_ITEM,
+        },
+        _ => next,
+    }
+}
+
+/// The number of the node of the list that holds no other, or no node's.
+#[inline(always)]
+fn only_in(links: &Links, list: u32) -> u32
+    requires list { list < length links.now.lists }
+    ensures { IsOnly (list_at links.now.lists list) result }
+{
+    links.stand_once();
+    match links.front(list) {
+        Some(node) if links.next(node).is_none() => node,
+        _ => NO_ITEM,
+    }
+}
+
+impl Slots {
+    /// Nothing is armed, and the wheel stands at 0.
+    pub(crate) fn open(alloc: Global, ids: u32) -> Result<Slots, AllocError>
+        requires { ids ≤ 1024 }
+        ensures { IfOk result (λ s. s ≡ record { dues = replicate ids None; base = 0 }) }
+    {
+        let mut dues = Vec::with_capacity(alloc, ids as usize)?;
+        for _ in 0..ids {
+            dues.push(None)?;
+        }
+        let links = Links::open(alloc, 1024, 3840)?;
+        let occupied = Bits::open(alloc, 60)?;
+        let passed = Bits::open(alloc, 16)?;
+        Ok(Slots {
+            dues,
+            links,
+            occupied,
+            passed,
+            base: 0,
+        })
+    }
+
+    pub(crate) fn base(&self) -> u64
+        ensures { result ≡ self.now.base }
+    {
+        self.base
+    }
+
+    pub(crate) fn dues(&self) -> &[Option<Tick>]
+        ensures value { result.now ≡ self.now.dues }
+        ensures small { AreSmall self.now.dues }
+        ensures few { length self.now.dues ≤ 1024 }
+    {
+        self.dues.as_slice()
+    }
+
+    #[inline(always)]
+    pub(crate) fn arm(&mut self, id: u32, due: Tick)
+        requires { (id < length self.old.dues) × (due_of id self.old.dues ≡ None) }
+        ensures { self.new ≡ record self.old { dues = slice_set self.old.dues id (Some due) } }
+    {
+        let tick = due.get();
+        if tick > self.base && is_near(self.base, tick) {
+            self.dues[id as usize] = Some(due);
+            put(
+                &mut self.links,
+                &mut self.occupied,
+                (tick % 2048) as u32,
+                id,
+            );
+        } else {
+            self.arm_far(id, due);
+        }
+    }
+
+    /// The same, wherever the item is to stand.
+    #[inline(never)]
+    pub(crate) fn arm_far(&mut self, id: u32, due: Tick)
+        requires { (id < length self.old.dues) × (due_of id self.old.dues ≡ None) }
+        ensures { self.new ≡ record self.old { dues = slice_set self.old.dues id (Some due) } }
+    {
+        self.dues[id as usize] = Some(due);
+        file(
+            &mut self.links,
+            &mut self.occupied,
+            &mut self.passed,
+            self.base,
+            id,
+            due.get(),
+        );
+    }
+
+    /// The item, which is due then, is not armed afterwards.
+    #[inline(always)]
+    pub(crate) fn disarm(&mut self, id: u32, due: Tick)
+        requires { (id < length self.old.dues) × (due_of id self.old.dues ≡ Some due) }
+        ensures { self.new ≡ record self.old { dues = slice_set self.old.dues id None } }
+    {
+        self.dues[id as usize] = None;
+        if due.get() <= self.base {
+            self.passed.set(id, false);
+        } else {
+            take(&mut self.links, &mut self.occupied, id);
+        }
+    }
+
+    /// The item, which is due next, is not armed afterwards, and the wheel goes on to its tick.
+    pub(crate) fn disarm_next(&mut self, id: u32, due: u64)
+        requires item { (id < length self.old.dues) × (due_of id self.old.dues ≡ Some due) }
+        requires next { IsLeastLater self.old.base self.old.dues due }
+        ensures { self.new ≡ record { dues = slice_set self.old.dues id None; base = due } }
+    {
+        self.dues[id as usize] = None;
+        self.base = due;
+        if let Some(list) = take(&mut self.links, &mut self.occupied, id) {
+            refile(
+                &mut self.links,
+                &mut self.occupied,
+                &mut self.passed,
+                &self.dues,
+                list,
+                due,
+            );
+        }
+    }
+
+    /// The same for an item that alone is due then, and stands in the lowest level.
+    #[inline(always)]
+    pub(crate) fn disarm_lone(&mut self, id: u32, due: u64)
+        requires item { (id < length self.old.dues) × (due_of id self.old.dues ≡ Some due) }
+        requires next { IsLeastLater self.old.base self.old.dues due }
+        requires near { due / 2048 ≡ self.old.base / 2048 }
+        requires lone { (i : ℕ) → due_of i self.old.dues ≡ Some due → i ≡ id }
+        ensures { self.new ≡ record { dues = slice_set self.old.dues id None; base = due } }
+    {
+        self.dues[id as usize] = None;
+        self.base = due;
+        take_lone(&mut self.links, &mut self.occupied, (due % 2048) as u32, id);
+    }
+
+    /// The wheel goes on to the least due tick after its own.
+    pub(crate) fn advance(&mut self, to: u64)
+        requires { IsLeastLater self.old.base self.old.dues to × (to ≤ 2 * 10 ^ 18) }
+        ensures { self.new ≡ record self.old { base = to } }
+    {
+        let target = self.occupied.lowest();
+        self.base = to;
+        if let Some(target) = target {
+            refile(
+                &mut self.links,
+                &mut self.occupied,
+                &mut self.passed,
+                &self.dues,
+                target,
+                to,
+            );
+        }
+    }
+
+    /// The item with the least number that has passed. None exactly where none has.
+    pub(crate) fn first_passed(&self) -> Option<u32>
+        ensures { MatchOption result (NoneIsDue self.now.base self.now.dues) (λ i. IsFirstDue self.now.base self.now.dues i) }
+    {
+        self.passed.lowest()
+    }
+
+    /// Whether no armed item has passed.
+    pub(crate) fn none_passed(&self) -> bool
+        ensures { result ≡ true → NoneIsDue self.now.base self.now.dues }
+    {
+        self.passed.is_empty()
+    }
+
+    /// Whether that tick has a list of the lowest level.
+    #[inline(always)]
+    pub(crate) fn is_near(&self, tick: u64) -> bool
+        ensures near { result ≡ true → tick / 2048 ≡ self.now.base / 2048 }
+        ensures few { length self.now.dues ≤ 1024 }
+    {
+        is_near(self.base, tick)
+    }
+
+    /// What is due next after the tick of the wheel.
+    #[inline(always)]
+    pub(crate) fn least_later(&self) -> Next
+        ensures later { IsLeastLater self.now.base self.now.dues result.tick }
+        ensures lone { IsLone self.now.dues result.tick result.lone }
+    {
+        match self.occupied.lowest() {
+            // a list of the lowest level is for one tick
+            Some(list) if list < 2048 => Next {
+                tick: self.base / 2048 * 2048 + list as u64,
+                lone: only_in(&self.links, list),
+            },
+            _ => self.least_far(),
+        }
+    }
+
+    // The same, from the items of the first list.
+    #[inline(never)]
+    fn least_far(&self) -> Next
+        ensures later { IsLeastLater self.now.base self.now.dues result.tick }
+        ensures lone { IsLone self.now.dues result.tick result.lone }
+    {
+        match self.occupied.lowest() {
+            Some(list) => least_in(&self.links, &self.dues, list),
+            None => Next {
+                tick: u64::MAX,
+                lone: NO_ITEM,
+            },
+        }
+    }
+}

@@ -1,6 +1,0 @@
-use Rattle.std.proofs.Common.{arith}
-use Rattle.ranked_arrivals.proofs.Words.{highest_of_word}
-use Rattle.ranked_arrivals.proofs.marks.highest_mark.Goals as goal
-
-pub returns : goal.returns
-returns c = highest_of_word c.args.marks (omega arith) c.ranges.marks.fits

@@ -1,9 +1,0 @@
-use Rattle.machine_rules.proofs.Coming.{coming}
-use Rattle.rt_kernel.proofs.Halfway.{Halfway}
-use Rattle.rt_kernel.proofs.instant.do_instant.Given as goal
-
-abbrev pub invariant-items : goal.invariant-items
-invariant-items g l = Halfway g.K.Sink.text g.K.Sink.faults l.initial.p l.p l.initial.out l.out
-
-abbrev pub decreases-items : goal.decreases-items
-decreases-items g l = coming l.p.machine

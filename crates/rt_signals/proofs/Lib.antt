@@ -1,5 +1,0 @@
-pub mod ByAge
-pub mod Keeping
-pub mod Selecting
-pub mod Walking
-pub mod Killing

@@ -1,5 +1,0 @@
-use Rattle.rt_signals.specs.Choice.{NoneBelow}
-use Rattle.rt_signals.proofs.choice.lowest.Given as goal
-
-abbrev pub invariant-loop-signal : goal.invariant-loop-signal
-invariant-loop-signal l = NoneBelow l.t l.set l.records l.arrivals.order l.signal

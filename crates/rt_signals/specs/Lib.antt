@@ -1,5 +1,0 @@
-pub mod Ages
-pub mod Choice
-pub mod Kept
-pub mod Walks
-pub mod Actions

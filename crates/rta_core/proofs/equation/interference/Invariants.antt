@@ -1,9 +1,0 @@
-use Rattle.std.proofs.Common.{◌≡◌, ◌*◌, ◌^◌, ◌≤◌, take}
-use Rattle.rta_core.specs.Equation.{interference}
-use Rattle.rta_core.proofs.equation.interference.Given as goal
-
-abbrev pub invariant-loop-t : goal.invariant-loop-t
-invariant-loop-t l = record {
-  value : l.total ≡ interference l.p l.n (take l.t-index l.tasks);
-  small : l.total ≤ l.t-index * 10 ^ 14;
-}

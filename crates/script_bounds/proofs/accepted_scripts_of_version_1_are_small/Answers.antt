@@ -1,6 +1,0 @@
-use Rattle.script_table.specs.Table.{patterns}
-use Rattle.script_bounds.proofs.Bounds.{first_is_bounded}
-use Rattle.script_bounds.proofs.accepted_scripts_of_version_1_are_small.Goals as goal
-
-pub returns : goal.returns
-returns c = first_is_bounded patterns

@@ -1,0 +1,267 @@
+// The flat code, and the next unit of a body.
+ghost use Rattle.std.specs.Prelude.{◌≡◌, ℕ, List, ◌+◌, ◌≤◌, ◌<◌, ◌^◌, [], ◌∷◌, ◌++◌, length, slice_get, slice_index, unwrap_or, All, IfOk, OnOk, Some};
+ghost use Rattle.words_script.specs.Block.{Block};
+ghost use Rattle.words_script.specs.declared.call.Call.{Call};
+ghost use Rattle.words_script.specs.declared.call.Call.TheVariants.{Yield};
+ghost use Rattle.words_script.specs.Tree.{step_count};
+ghost use Rattle.script_code.specs.Next.{Place, body_start, register_limit};
+ghost use Rattle.script_code.specs.Flat.{IsFlattenable, bodies_of, body_list, flat, flat_form, with_decl};
+ghost use Rattle.script_code.specs.Fetch.{carried_out, innermost, most_skipped, pass_ended, started, fetched};
+ghost use Rattle.script_code.specs.Fetched.{call_of, told, unit_of};
+ghost use Rattle.script_code.specs.Packed.{unpacked};
+ghost use Rattle.script_code.specs.Stands.{IsBody, Stands, IsPlaced, Fetches};
+
+use crate::flatten::flatten;
+use crate::next::{capped, holds};
+use crate::ops::{Ops, Packed};
+use crate::{CallPlace, Cursor, Fetched, Units};
+use arrayvec::ArrayVec;
+use words_script::{Body, Call, Decl, Kind, Script};
+use std::alloc::{AllocError, Global};
+use std::marker::Model;
+use words_numbers::{ObjId, Res, Tid};
+
+/// The bodies of a script as flat code. Contracts see it as the operations of each body, and the numbers of the bodies of the
+/// threads, handlers and cleanup handlers.
+#[derive(Drop)]
+pub struct Code {
+    bodies: Vec<Ops>,
+    threads: Vec<u16>,
+    handlers: Vec<u16>,
+    cleanups: Vec<u16>,
+}
+
+impl Model for Code {
+    ghost use Rattle.std.specs.Prelude.{List};
+    ghost use Rattle.script_code.specs.Flat.{NumberedBodies};
+    ghost use Rattle.script_code.specs.declared.op.Op.{Op};
+
+    ghost Value = { NumberedBodies (List Op) };
+
+    ghost view = { λ c. record {
+      all = c.bodies.items;
+      threads = c.threads.items;
+      handlers = c.handlers.items;
+      cleanups = c.cleanups.items;
+    } };
+}
+
+impl Code {
+    /// The flat code of a script, whose bodies are numbered in the order of their declarations.
+    pub fn open(alloc: Global, script: &Script) -> Result<Code, AllocError>
+        requires { IsFlattenable (bodies_of script.now.decls).all }
+        ensures flat_form { IfOk result (λ code. code ≡ flat_form (bodies_of script.now.decls)) }
+
+        // Each body of the script is there under its number.
+        ensures bodies { IfOk result (λ code. (n : ℕ) → (body : Block)
+            → slice_get (bodies_of script.now.decls).all n ≡ Some body → IsBody code n body) }
+    {
+        let mut code = Code {
+            bodies: Vec::new(alloc),
+            threads: Vec::new(alloc),
+            handlers: Vec::new(alloc),
+            cleanups: Vec::new(alloc),
+        };
+        for decl in script.decls.items() {
+            code.declare(alloc, decl)?;
+        }
+        Ok(code)
+    }
+
+    // Takes the body of a declaration, where it has one.
+    fn declare(&mut self, alloc: Global, decl: &Decl) -> Result<(), AllocError>
+        requires room { length self.old.all + length (body_list decl.now) ≤ 2 ^ 16 }
+        requires short { All (λ body. step_count body ≤ 65536) (body_list decl.now) }
+        ensures { OnOk result (self.new ≡ with_decl (flat 0) decl.now self.old) }
+    {
+        match decl {
+            Decl::Named(_, kind) => match kind {
+                Kind::Thread { body, .. } => {
+                    let number = self.add(alloc, body)?;
+                    self.threads.push(number)?;
+                    Ok(())
+                }
+                Kind::Handler { body } => {
+                    let number = self.add(alloc, body)?;
+                    self.handlers.push(number)?;
+                    Ok(())
+                }
+                Kind::Cleanup { body } => {
+                    let number = self.add(alloc, body)?;
+                    self.cleanups.push(number)?;
+                    Ok(())
+                }
+                _ => Ok(()),
+            },
+            Decl::Action(..) => Ok(()),
+        }
+    }
+
+    // Takes a body and gives its number.
+    fn add(&mut self, alloc: Global, body: &Body) -> Result<u16, AllocError>
+        requires room { length self.old.all < 2 ^ 16 }
+        requires short { step_count body.now ≤ 65536 }
+        ensures number { IfOk result (λ number. number ≡ length self.old.all) }
+        ensures body { OnOk result (self.new ≡ record self.old { all = self.old.all ++ flat 0 body.now ∷ [] }) }
+    {
+        let number = self.bodies.len() as u16;
+        let mut ops = Ops::new(alloc);
+        flatten(body, &mut ops)?;
+        self.bodies.reserve(1)?;
+        self.bodies.push_reserved(ops);
+        Ok(number)
+    }
+
+    /// The number of a thread's body.
+    pub fn thread_body(&self, t: Tid) -> u16
+        requires { t < length self.now.threads }
+        ensures { result ≡ slice_index self.now.threads t }
+    {
+        self.threads[t.get() as usize]
+    }
+
+    /// The number of a handler's body.
+    pub fn handler_body(&self, h: ObjId) -> u16
+        requires { h < length self.now.handlers }
+        ensures { result ≡ slice_index self.now.handlers h }
+    {
+        self.handlers[h.get() as usize]
+    }
+
+    /// The number of a cleanup handler's body.
+    pub fn cleanup_body(&self, u: ObjId) -> u16
+        requires { u < length self.now.cleanups }
+        ensures { result ≡ slice_index self.now.cleanups u }
+    {
+        self.cleanups[u.get() as usize]
+    }
+
+    /// The beginning of a body, with the register and the last call's value set to `value`, and the result zero.
+    pub fn start(&self, body: u16, value: u64) -> Cursor
+        requires exists { body < length self.now.all }
+        requires in_limit { value ≤ register_limit }
+        ensures cursor { result ≡ started body value }
+        ensures stands { (tree : Block) → IsBody self.now body tree → Stands tree body_start result }
+        ensures placed { (tree : Block) → IsBody self.now body tree → IsPlaced self.now result }
+    {
+        Cursor {
+            body,
+            pc: 0,
+            register: value,
+            result: Res::Zero,
+            value,
+            counts: ArrayVec::new(),
+        }
+    }
+
+    /// The call that stands at a place, which a fetched unit told; `yield` where none does.
+    #[inline(always)]
+    pub fn call(&self, place: &CallPlace) -> Call
+        ensures { result ≡ call_of self.now place.now }
+    {
+        match self.call_at(place) {
+            Some(call) => call,
+            None => Call::Yield,
+        }
+    }
+
+    // The same, where one does.
+    #[inline(always)]
+    fn call_at(&self, place: &CallPlace) -> Option<Call>
+        ensures { unwrap_or result Yield ≡ call_of self.now place.now }
+    {
+        self.bodies.get(place.body)?.call(place.op)
+    }
+
+    /// The units of a body.
+    #[inline(always)]
+    pub fn units(&self, body: u16) -> Units<'_>
+        requires exists { body < length self.now.all }
+        ensures { result ≡ record { code = self.now; body = body } }
+    {
+        Units::new(self, body, &self.bodies[body as usize])
+    }
+
+    /// The next unit of the body that the cursor stands in, and the cursor moves behind it: the operations that take no time are
+    /// carried out on the way. At a body's end the unit is always `Finish`. No memory is taken. The cursor is one that `start` gave,
+    /// and that only `fetch` moved; its result and its value may have been replaced.
+    #[inline(always)]
+    pub fn fetch(&self, at: &mut Cursor) -> Fetched
+        requires { IsPlaced self.now at.old }
+        ensures fetched { fetched self.now at.old ≡ (at.new, unit_of self.now result) }
+
+        // It is the next unit of the tree, whichever tree the flat form is of.
+        ensures next { (tree : Block) → (place : Place) → IsBody self.now at.old.body tree → Stands tree place at.old
+            → Fetches tree place at.old at.new (unit_of self.now result) }
+
+        ensures placed { IsPlaced self.now at.new }
+        ensures few { length at.new.counts.items ≤ 15 }
+    {
+        self.units(at.body).fetch(at)
+    }
+}
+
+impl Cursor {
+    // Jumps back.
+    fn jump(&mut self, first: u32) -> Fetched
+        ensures place { self.new ≡ record self.old { pc = first } }
+        ensures unit { result ≡ Fetched.Jump }
+    {
+        self.pc = first;
+        Fetched::Jump
+    }
+
+    // Ends a pass of the innermost counted loop: whether another one is left.
+    #[inline(never)]
+    fn end_pass(&mut self) -> bool
+        requires { length self.old.counts.items ≤ 15 }
+        ensures { pass_ended (innermost self.old.counts.items) self.old ≡ (self.new, result) }
+    {
+        match self.counts.pop() {
+            Some(passes) if passes > 1 => {
+                self.counts.push(passes - 1);
+                true
+            }
+            _ => false,
+        }
+    }
+
+    // Carries out the operation of that number, behind which the cursor stands: the unit that it gives, or none where it takes no time.
+    #[inline(always)]
+    pub(crate) fn carry_out(&mut self, op: &Packed, number: u32) -> Option<Fetched>
+        requires few { length self.old.counts.items ≤ 15 }
+        requires room { self.old.pc + most_skipped (unpacked [] op.now) < 2 ^ 32 }
+        ensures { (calls : List Call) → told self.old.body number op.now (carried_out (unpacked calls op.now) self.old) ≡ (self.new, result) }
+    {
+        match *op {
+            Packed::Run(n) => return Some(Fetched::Run(n)),
+            Packed::Yield => return Some(Fetched::Yield),
+            Packed::Lock(k) => return Some(Fetched::Lock(k)),
+            Packed::Unlock(k) => return Some(Fetched::Unlock(k)),
+            Packed::Post(k) => return Some(Fetched::Post(k)),
+            Packed::Sleep(n) => return Some(Fetched::Sleep(n)),
+            Packed::Make(_) => {
+                return Some(Fetched::Make(CallPlace {
+                    body: self.body as usize,
+                    op: number as usize,
+                }));
+            }
+            Packed::Set(n) => self.register = capped(n),
+            Packed::Add(n) => self.register = capped(self.register.saturating_add(n)),
+            Packed::Take => self.register = capped(self.value),
+            Packed::Test { res, equal, skip } => {
+                if !holds(res, equal, self.result) {
+                    self.pc += skip;
+                }
+            }
+            Packed::Begin(times) => self.counts.push(times),
+            Packed::Repeat { first } => {
+                if self.end_pass() {
+                    return Some(self.jump(first));
+                }
+            }
+            Packed::Again { first } => return Some(self.jump(first)),
+        }
+        None
+    }
+}

@@ -1,0 +1,19 @@
+// What a register may hold, and whether a test holds.
+ghost use Rattle.std.specs.Prelude.{◌≡◌};
+ghost use Rattle.script_code.specs.Next.{capped, holds};
+
+use words_numbers::{Res, Tick};
+
+/// The value of a register that is to be n.
+pub(crate) fn capped(n: u64) -> u64
+    ensures { result ≡ capped n }
+{
+    n.min(Tick::LAST)
+}
+
+/// Whether a test holds after a call with this result.
+pub(crate) fn holds(named: Res, equal: bool, last: Res) -> bool
+    ensures { result ≡ holds named equal last }
+{
+    (last == named) == equal
+}

@@ -1,0 +1,160 @@
+// The operations of a body as they are kept.
+ghost use Rattle.std.specs.Prelude.{◌≡◌, ◌<◌, [], ◌∷◌, ◌++◌, length, slice_get, slice_set, unwrap_or, IfSome, OnOk, OnErr, Some};
+ghost use Rattle.words_script.specs.declared.call.Call.TheVariants.{Yield};
+ghost use Rattle.script_code.specs.declared.op.Op.TheVariants.{Make, Test};
+ghost use Rattle.script_code.specs.Fetched.{call_at};
+ghost use Rattle.script_code.specs.Packed.{IsIn, all_unpacked, short_call, unpacked};
+
+use words_script::Call;
+use std::alloc::{AllocError, Global};
+use std::marker::Model;
+use words_numbers::{ObjId, Res};
+
+/// An operation in 16 bytes. The calls that are made most often, and have one number at most, are kept whole; any other, which takes 48
+/// bytes by itself, is told by its number in the table of its body.
+#[derive(Clone, Copy)]
+pub(crate) enum Packed {
+    Run(u64),
+    Make(usize),
+    Yield,
+    Lock(ObjId),
+    Unlock(ObjId),
+    Post(ObjId),
+    Sleep(u64),
+    Set(u64),
+    Add(u64),
+    Take,
+    Test { res: Res, equal: bool, skip: u32 },
+    Begin(u64),
+    Repeat { first: u32 },
+    Again { first: u32 },
+}
+
+/// The operations of a body. Contracts see them as a list.
+#[derive(Drop)]
+pub(crate) struct Ops {
+    packed: Vec<Packed>,
+    calls: Vec<Call>,
+}
+
+impl Model for Ops {
+    ghost use Rattle.std.specs.Prelude.{List};
+    ghost use Rattle.script_code.specs.declared.op.Op.{Op};
+
+    ghost Value = { List Op };
+
+    ghost use Rattle.script_code.specs.Packed.{AreIn, all_unpacked};
+
+    ghost view = { λ o. all_unpacked o.calls.items o.packed.items };
+
+    ghost invariant = { λ o. AreIn o.calls.items o.packed.items };
+}
+
+impl Ops {
+    pub(crate) fn new(alloc: Global) -> Ops
+        ensures { result ≡ [] }
+    {
+        Ops {
+            packed: Vec::new(alloc),
+            calls: Vec::new(alloc),
+        }
+    }
+
+    pub(crate) fn len(&self) -> usize
+        ensures { result ≡ length self.now }
+    {
+        self.packed.len()
+    }
+
+    // Appends an operation that is no call.
+    #[inline(always)]
+    pub(crate) fn push(&mut self, packed: Packed) -> Result<(), AllocError>
+        requires { IsIn [] packed }
+        ensures { OnOk result (self.new ≡ self.old ++ unpacked [] packed ∷ []) }
+    {
+        append(&mut self.packed, packed)?;
+        Ok(())
+    }
+
+    // Appends a call.
+    #[inline(always)]
+    pub(crate) fn push_call(&mut self, call: &Call) -> Result<(), AllocError>
+        ensures { OnOk result (self.new ≡ self.old ++ Make call.now ∷ []) }
+    {
+        if let Some(packed) = shortened(call) {
+            return self.push(packed);
+        }
+        let number = self.calls.len();
+        append(&mut self.calls, *call)?;
+        append(&mut self.packed, Packed::Make(number))?;
+        Ok(())
+    }
+
+    // Puts a test in the place of an operation.
+    pub(crate) fn set_test(&mut self, at: usize, res: Res, equal: bool, skip: u32)
+        requires { at < length self.old }
+        ensures { self.new ≡ slice_set self.old at (Test res equal skip) }
+    {
+        self.packed[at] = Packed::Test { res, equal, skip };
+    }
+
+    // The call of that number; none where the operation is no call.
+    #[inline(always)]
+    pub(crate) fn call(&self, number: usize) -> Option<Call>
+        ensures { unwrap_or result Yield ≡ call_at (slice_get self.now number) }
+    {
+        match self.packed.get(number)? {
+            Packed::Make(call) => Some(self.calls[*call]),
+            packed => packed.short_call(),
+        }
+    }
+
+    // What is kept of each operation, and the table of the calls.
+    #[inline(always)]
+    pub(crate) fn parts(&self) -> (&[Packed], &[Call])
+        ensures { all_unpacked result.1.now result.0.now ≡ self.now }
+    {
+        (self.packed.as_slice(), self.calls.as_slice())
+    }
+}
+
+impl Packed {
+    // The call that it keeps by itself.
+    fn short_call(&self) -> Option<Call>
+        ensures { result ≡ short_call self.now }
+    {
+        match *self {
+            Packed::Yield => Some(Call::Yield),
+            Packed::Lock(k) => Some(Call::Lock(k)),
+            Packed::Unlock(k) => Some(Call::Unlock(k)),
+            Packed::Post(k) => Some(Call::SemPost(k)),
+            Packed::Sleep(n) => Some(Call::Nanosleep(n)),
+            _ => None,
+        }
+    }
+}
+
+// The operation that keeps the call by itself, where it is short.
+fn shortened(call: &Call) -> Option<Packed>
+    ensures { IfSome result (λ p. short_call p ≡ Some call.now) }
+{
+    match *call {
+        Call::Yield => Some(Packed::Yield),
+        Call::Lock(k) => Some(Packed::Lock(k)),
+        Call::Unlock(k) => Some(Packed::Unlock(k)),
+        Call::SemPost(k) => Some(Packed::Post(k)),
+        Call::Nanosleep(n) => Some(Packed::Sleep(n)),
+        _ => None,
+    }
+}
+
+// Appends an item to a list.
+#[inline(always)]
+fn append<T: Copy>(list: &mut Vec<T>, item: T) -> Result<(), AllocError>
+    ensures appended { OnOk result (list.new.items ≡ list.old.items ++ item ∷ []) }
+    ensures unchanged { OnErr result (list.new.items ≡ list.old.items) }
+{
+    list.reserve(1)?;
+    list.push_reserved(item);
+    Ok(())
+}

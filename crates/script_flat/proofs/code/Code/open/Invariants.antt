@@ -1,6 +1,0 @@
-use Rattle.std.proofs.Common.{drop}
-use Rattle.script_flat.proofs.Opens.{Opens}
-use Rattle.script_flat.proofs.code.Code.open.Given as goal
-
-abbrev pub invariant-loop-decl : goal.invariant-loop-decl
-invariant-loop-decl l = Opens l.script.decls l.code (drop l.decl-index l.decl-items)

@@ -1,7 +1,0 @@
-use Rattle.std.proofs.Common.{◌≡◌, ◌-◌, ◌++◌, ◌%◌}
-use Rattle.script_gen.specs.Draws.{next, modulus}
-use Rattle.script_gen.specs.Generated.{shared, threads_from}
-use Rattle.script_gen.proofs.generated.make.Given as goal
-
-abbrev pub invariant-loop-k : goal.invariant-loop-k
-invariant-loop-k l = l.decls.items ++ threads_from (l.count - l.k) l.k l.draws ≡ shared ++ threads_from l.count 0 (next (l.fn.number % modulus))

@@ -1,5 +1,0 @@
-use Rattle.strict_server.proofs.Order.{facts}
-use Rattle.strict_server.proofs.facts_law.Goals as goal
-
-pub returns : goal.returns
-returns c = facts

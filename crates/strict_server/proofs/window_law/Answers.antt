@@ -1,5 +1,0 @@
-use Rattle.strict_server.proofs.Window.{window}
-use Rattle.strict_server.proofs.window_law.Goals as goal
-
-pub returns : goal.returns
-returns c = window

@@ -1,5 +1,0 @@
-use Rattle.task_script.proofs.Headings.{Printing}
-use Rattle.task_script.proofs.structure.heading.printed_bytes.Given as goal
-
-abbrev pub invariant-loop-byte : goal.invariant-loop-byte
-invariant-loop-byte l = Printing l.line l.byte-index l.bytes.items

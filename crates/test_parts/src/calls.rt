@@ -1,0 +1,14 @@
+// What is known of a call.
+use rules_machine::{call_name, is_cancellation_point};
+use words_trace::CallName;
+use words_script::{Call, Operand};
+
+#[test]
+fn names_and_points_of_two_calls(rt: HostRuntime) {
+    let sleep = Call::ClockNanosleep { at: Operand::Reg };
+    assert_eq!(rt; call_name(&sleep), CallName::ClockNanosleep);
+    assert!(rt; is_cancellation_point(&sleep));
+
+    assert_eq!(rt; call_name(&Call::Gettime), CallName::Gettime);
+    assert!(rt; !is_cancellation_point(&Call::Gettime));
+}

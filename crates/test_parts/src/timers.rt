@@ -1,0 +1,48 @@
+// A timer of signal 5.
+ghost use Rattle.std.specs.Prelude.{◌≡◌, ◌∷◌, [], None, IfOk};
+ghost use Rattle.rules_machine.specs.Declarations.{timers_of};
+
+use crate::numbers::{object, tick};
+use kernel_timers::Timers;
+use words_script::{Decl, Decls, Kind, Name, Script};
+use std::alloc::{AllocError, Global};
+use std::test::Fail;
+
+fn script(alloc: Global) -> Result<Script, AllocError>
+    ensures { IfOk result (λ s. timers_of s ≡ record { signal = 5; value = 77; due = None; interval = 0; extra = 0; overrun = 0 } ∷ []) }
+{
+    let mut decls = Vec::new(alloc);
+    let name = Name::try_new(b"beat").unwrap();
+    decls.push(Decl::Named(name, Kind::Timer { sig: 5, value: 77 }))?;
+    Ok(Script {
+        version: 1,
+        quantum: 1,
+        decls: Decls::new(decls),
+    })
+}
+
+#[test]
+fn a_timer_expires_again_and_again(rt: HostRuntime) -> Result<(), Fail> {
+    let script = script(rt.alloc())?;
+    let mut timers = Timers::open(rt.alloc(), &script)?;
+    let k = object(0);
+    assert_eq!(rt; timers.count(), 1);
+    assert_eq!(rt; timers.signal(k), 5);
+    assert_eq!(rt; timers.value(k), 77);
+    assert_eq!(rt; timers.due(k), None);
+
+    timers.settime(k, Some(tick(10)), 4);
+    assert_eq!(rt; timers.due(k), Some(tick(10)));
+    assert_eq!(rt; timers.gettime(k, tick(7)), 3);
+    timers.arm_again(k, tick(10));
+    assert_eq!(rt; timers.due(k), Some(tick(14)));
+
+    timers.overrun_once_more(k);
+    timers.overrun_once_more(k);
+    assert_eq!(rt; timers.overrun(k), 0);
+    timers.accepted(k);
+    assert_eq!(rt; timers.overrun(k), 2);
+    timers.settime(k, None, 0);
+    assert_eq!(rt; timers.gettime(k, tick(12)), 0);
+    Ok(())
+}

@@ -1,0 +1,94 @@
+// Worked texts of tasks through the one call.
+use crate::commands::run_from;
+use tool_commands::Status;
+use parts_io::{MemSink, SureSource};
+use std::test::Fail;
+
+// A bound, a text of tasks, and the lines that tell their response times.
+static TOLD: [(&str, &str, &str); 7] = [
+    (
+        "12",
+        "task a 3 1 4 0\ntask b 2 2 6 0\ntask c 1 3 12 0\n",
+        "task a response 1\ntask b response 3\ntask c response 10\n",
+    ),
+    (
+        "9",
+        "task a 3 1 4 0\ntask b 2 2 6 0\ntask c 1 3 12 0\n",
+        "task a response 1\ntask b response 3\ntask c none\n",
+    ),
+    (
+        "50",
+        "task x 2 1 1 0\ntask y 1 1 1 0\n",
+        "task x response 1\ntask y none\n",
+    ),
+    ("50", "task a 3 1 4 2\n", "task a response 3\n"),
+    ("0", "task a 3 1 4 0\n", "task a none\n"),
+    (
+        "6",
+        "task c 1 1 6 0\ntask b 2 1 3 0\ntask a 3 1 2 0",
+        "task c response 6\ntask b response 2\ntask a response 1\n",
+    ),
+    (
+        "0100000000",
+        "# a comment\n\ntask a 255 1000000 1000000000 1000000\n",
+        "task a response 2000000\n",
+    ),
+];
+
+// A text and the line that refuses it.
+static REFUSED: [(&str, &str); 6] = [
+    ("", "refused 1 18 NoTask\n"),
+    (
+        "task a 3 1 4 0\ntask b 3 1 4 0\n",
+        "refused 2 17 SamePriority\n",
+    ),
+    (
+        "task a 3 0 4 0\ntask a 3 1 4 0\n",
+        "refused 2 7 DuplicateName\n",
+    ),
+    (
+        "task a 256 1 4 0\ntask b 3 1 4\n",
+        "refused 2 3 WordCount\n",
+    ),
+    ("task a 3 1 0 0\n", "refused 1 5 NumberRange\n"),
+    ("thread a fifo 5 at 0\nend\n", "refused 1 2 UnknownWord\n"),
+];
+
+#[test]
+fn responses_are_told(rt: HostRuntime) -> Result<(), Fail> {
+    let alloc = rt.alloc();
+    for &(bound, text, lines) in &TOLD {
+        let mut source = SureSource::new(Vec::from_slice(alloc, text.as_bytes())?);
+        let mut sink = MemSink::open(alloc, 1000, Vec::new(alloc))?;
+        let status = run_from(alloc, &["rta", bound], &mut source, &mut sink)?;
+        assert_eq!(rt; status, Status::Done);
+        assert_eq!(rt; sink.text(), lines.as_bytes());
+    }
+    Ok(())
+}
+
+#[test]
+fn texts_of_tasks_are_refused(rt: HostRuntime) -> Result<(), Fail> {
+    let alloc = rt.alloc();
+    for &(text, line) in &REFUSED {
+        let mut source = SureSource::new(Vec::from_slice(alloc, text.as_bytes())?);
+        let mut sink = MemSink::open(alloc, 1000, Vec::new(alloc))?;
+        let status = run_from(alloc, &["rta", "5"], &mut source, &mut sink)?;
+        assert_eq!(rt; status, Status::Refused);
+        assert_eq!(rt; sink.text(), line.as_bytes());
+    }
+    Ok(())
+}
+
+// The bound of this command has a limit of its own.
+#[test]
+fn bound_above_its_limit_is_no_command(rt: HostRuntime) -> Result<(), Fail> {
+    let alloc = rt.alloc();
+    let mut source = SureSource::new(Vec::new(alloc));
+    let mut sink = MemSink::open(alloc, 100, Vec::new(alloc))?;
+    assert_eq!(rt;
+        run_from(alloc, &["rta", "100000001"], &mut source, &mut sink)?,
+        Status::Usage
+    );
+    Ok(())
+}

@@ -1,9 +1,0 @@
-use Rattle.std.proofs.Common.{◌+◌, Option, subst, sym}
-use Rattle.sporadic_server.specs.Server.{ServerState}
-use Rattle.thread_blocks.specs.Held.{IsHeld}
-use Rattle.thread_blocks.proofs.Charges.{held_after}
-use Rattle.thread_blocks.proofs.thread.Thread.run_capacity.Goals as goal
-
-pub invariant_of-self : goal.invariant_of-self
-invariant_of-self c =
-    subst (λ (o : Option ServerState). IsHeld c.self.inside.policy o) (sym c.charge_server.ensures) (held_after (c.run_unit-ran.result.passed + c.run_unit-ran.result.ticks) c.self.inside.policy c.self.inside.server c.self.invariant)

@@ -1,9 +1,0 @@
-use Rattle.std.proofs.Common.{◌≡◌, take}
-use Rattle.std.specs.Prelude.{map}
-use Rattle.std.specs.List.{filter_map}
-use Rattle.machine_rules.specs.Declarations.{mutex_kind, named}
-use Rattle.inherit_chain.specs.Fresh.{free_mutex}
-use Rattle.thread_table.proofs.open.mutex_kinds.Given as goal
-
-abbrev pub invariant-loop-decl : goal.invariant-loop-decl
-invariant-loop-decl l = map free_mutex l.kinds.items ≡ filter_map (named mutex_kind) (take l.decl-index l.decl-items)

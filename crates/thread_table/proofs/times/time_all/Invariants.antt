@@ -1,6 +1,0 @@
-use Rattle.std.proofs.Common.{[], take}
-use Rattle.thread_table.specs.Tied.{AreArmed}
-use Rattle.thread_table.proofs.times.time_all.Given as goal
-
-abbrev pub invariant-loop-number : goal.invariant-loop-number
-invariant-loop-number l = AreArmed (take l.number l.threads) [] l.wheel.dues

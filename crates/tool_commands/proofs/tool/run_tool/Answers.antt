@@ -1,0 +1,68 @@
+use Rattle.std.proofs.Common.{rules, ◌≡◌, ◌≤◌, ℕ, List, [], Option, None, Some, IfSome, length, map, string_bytes, arith, false, subst, sym, ◌∙◌}
+use Rattle.parts_io.proofs.Known.{consumes_none}
+use Rattle.tool_commands.specs.declared.command.Command.{Command}
+use Rattle.tool_commands.specs.Answer.{Told, answer}
+use Rattle.tool_commands.specs.Command.{command, limit_of, reads}
+use Rattle.tool_commands.proofs.Audits.{holds_where_told}
+use Rattle.tool_commands.proofs.Promises.{reads_upgraded}
+use Rattle.tool_commands.proofs.Whole.{answer_unread, told_whole}
+use Rattle.tool_commands.proofs.tool.run_tool.Goals as goal
+
+same_command : {a b : Command} → Some a ≡ Some b → a ≡ b
+same_command e = cc
+
+known : (P : List ℕ → Type 0) (o : Option (List ℕ)) (bytes : List ℕ) → o ≡ Some bytes → IfSome o P → P bytes
+known P o bytes e h = subst (λ (x : Option (List ℕ)). IfSome x P) e h
+
+-- where the words are no command nothing was taken, and the answer is the usage line
+pub returns-in_default-clause-answered : goal.returns-in_default-clause-answered
+returns-in_default-clause-answered g c =
+    let none : command (map string_bytes c.args.words.now) ≡ None = search rules in
+    record {
+      bytes = [];
+      bound = omega arith;
+      moved = consumes_none _;
+      count = record { at_least = omega arith; at_most = omega arith };
+      told = rw none c.put_text.ensures.told;
+    }
+
+-- a text that was read whole is the one that the source told
+pub returns-in-Ok-clause-told : goal.returns-in-Ok-clause-told
+returns-in-Ok-clause-told g c =
+    let is : command (map string_bytes c.args.words.now) ≡ Some c.in-Some.command = sym c.command_of_words.ensures.command ∙ c.in-Some.is in
+    let small : length c.in-Ok.bytes.items ≤ limit_of c.in-Some.command = rw (sym c.limit.ensures.limit) c.in-Ok.ensures.short in
+    told_whole (map string_bytes c.args.words.now) c.in-Some.command _ _ c.in-Ok.bytes.items _ _ _ is small c.in-Ok.ensures.whole c.in-Ok.ensures.end (rw c.as_slice.ensures.value at c.answer_text-in-Ok.ensures.told)
+
+-- so an audit of it that is done tells that the budgets hold
+pub returns-in-Ok-clause-holds : goal.returns-in-Ok-clause-holds
+returns-in-Ok-clause-holds g c bytes is rest done =
+    holds_where_told (map string_bytes c.args.words.now) bytes c.answer_text-in-Ok.result (g.K.Sink.text c.args.sink.now) (g.K.Sink.text c.answer_text-in-Ok.new.sink) is
+    (known (λ b. Told c.answer_text-in-Ok.result (answer (map string_bytes c.args.words.now) b) (g.K.Sink.text c.args.sink.now) (g.K.Sink.text c.answer_text-in-Ok.new.sink)) (g.S.Source.rest c.args.source.now) bytes rest (returns-in-Ok-clause-told g c)) done
+
+-- of a text that was read whole the steps of its run are those of the call
+pub returns-in-Ok-clause-busy : goal.returns-in-Ok-clause-busy
+returns-in-Ok-clause-busy g c n bytes run rest =
+    let is : command (map string_bytes c.args.words.now) ≡ Some c.in-Some.command = sym c.command_of_words.ensures.command ∙ c.in-Some.is in
+    search rules
+
+-- what reads nothing took nothing, and its answer is that to any bytes
+pub returns-then-not-reads-clause-answered : goal.returns-then-not-reads-clause-answered
+returns-then-not-reads-clause-answered g c =
+    let is : command (map string_bytes c.args.words.now) ≡ Some c.in-Some.command = sym c.command_of_words.ensures.command ∙ c.in-Some.is in
+    let none : reads c.in-Some.command ≡ false = sym c.reads.ensures ∙ c.if-not-reads.true in
+    record {
+      bytes = [];
+      bound = omega arith;
+      moved = consumes_none _;
+      count = record { at_least = omega arith; at_most = omega arith };
+      told = subst (λ a. Told c.answer_text.result a (g.K.Sink.text c.args.sink.now) (g.K.Sink.text c.answer_text.new.sink))
+          (sym (answer_unread (map string_bytes c.args.words.now) c.in-Some.command [] is none)) c.answer_text.ensures.told;
+    }
+
+pub returns-then-not-reads-clause-soaks : goal.returns-then-not-reads-clause-soaks
+returns-then-not-reads-clause-soaks g c seed n run =
+    let is : command (map string_bytes c.args.words.now) ≡ Some c.in-Some.command = sym c.command_of_words.ensures.command ∙ c.in-Some.is in
+    c.answer_text.ensures.soaks seed n (same_command (sym is ∙ run))
+
+pub returns-then-not-reads-clause-upgrades_read : goal.returns-then-not-reads-clause-upgrades_read
+returns-then-not-reads-clause-upgrades_read g c bytes script read = reads_upgraded bytes script read

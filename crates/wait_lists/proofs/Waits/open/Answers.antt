@@ -1,5 +1,0 @@
-use Rattle.wait_lists.proofs.Waiting.{opened}
-use Rattle.wait_lists.proofs.Waits.open.Goals as goal
-
-pub invariant_of-result : goal.invariant_of-result
-invariant_of-result c = opened c.args.threads c.in_ok-places.places.items c.in_ok-links.links c.requires c.in_ok-places.ensures c.in_ok-links.ensures

@@ -1,5 +1,0 @@
-use Rattle.well_formed_scripts.proofs.Reading.{accepted_is_well_formed}
-use Rattle.well_formed_scripts.proofs.accepted_scripts_are_well_formed.Goals as goal
-
-pub returns : goal.returns
-returns c = accepted_is_well_formed

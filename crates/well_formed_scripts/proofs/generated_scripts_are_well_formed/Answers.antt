@@ -1,5 +1,0 @@
-use Rattle.well_formed_scripts.proofs.Generated.{generated_is_well_formed}
-use Rattle.well_formed_scripts.proofs.generated_scripts_are_well_formed.Goals as goal
-
-pub returns : goal.returns
-returns c = generated_is_well_formed

@@ -1,0 +1,100 @@
+// The calls of a task.
+use crate::Policy;
+use words_numbers::{ObjId, Prio, SigSet, Tid};
+
+/// A number, or the value of the frame's register.
+#[derive(Clone, Copy)]
+pub enum Operand {
+    Num(u64),
+    Reg,
+}
+
+/// A call with its operands, in the order of its line. Times are in ticks; `at` is an absolute time.
+#[derive(Clone, Copy)]
+pub enum Call {
+    // threads
+    Yield,
+    Create(Tid),
+    Join(Tid),
+    Cancel(Tid),
+    Testcancel,
+    /// Whether cancellation becomes enabled.
+    Setcancel(bool),
+    /// Pushes a cleanup handler; it stands in units alone, a script has a guarded block.
+    Push(ObjId),
+    /// Pops the last cleanup handler, and runs it where the flag is set; it stands in units alone.
+    Pop(bool),
+    Exit(Operand),
+    Setprio(Tid, Prio),
+    Setsched(Tid, Policy),
+
+    // mutexes and conditions
+    Lock(ObjId),
+    Timedlock {
+        mutex: ObjId,
+        at: Operand,
+    },
+    Trylock(ObjId),
+    Unlock(ObjId),
+    /// The condition, then the mutex.
+    Wait(ObjId, ObjId),
+    Timedwait {
+        cond: ObjId,
+        mutex: ObjId,
+        at: Operand,
+    },
+    Signal(ObjId),
+    Broadcast(ObjId),
+
+    // semaphores
+    SemWait(ObjId),
+    SemTimedwait {
+        sem: ObjId,
+        at: Operand,
+    },
+    SemTrywait(ObjId),
+    SemGetvalue(ObjId),
+    SemPost(ObjId),
+
+    // time
+    Nanosleep(u64),
+    ClockNanosleep {
+        at: Operand,
+    },
+    Gettime,
+    /// The timer, the ticks to its first expiry, and its interval.
+    TimerSettimeRel(ObjId, u64, u64),
+    /// The timer, the time of its first expiry, and its interval.
+    TimerSettimeAbs(ObjId, Operand, u64),
+    TimerGettime(ObjId),
+    TimerGetoverrun(ObjId),
+
+    // signals
+    Kill(u8),
+    Tkill(Tid, u8),
+    Sigqueue(u8, Operand),
+    SigmaskBlock(SigSet),
+    SigmaskUnblock(SigSet),
+    SigmaskSet(SigSet),
+    Sigwaitinfo(SigSet),
+    /// The signals, and the ticks to wait.
+    Sigtimedwait(SigSet, u64),
+
+    // messages
+    /// The queue, the message's length, its priority and its value.
+    MqSend(ObjId, u32, u8, Operand),
+    MqTimedsend {
+        queue: ObjId,
+        len: u32,
+        prio: u8,
+        value: Operand,
+        at: Operand,
+    },
+    MqReceive(ObjId),
+    MqTimedreceive {
+        queue: ObjId,
+        at: Operand,
+    },
+    /// The queue, the signal of the notification and its value.
+    MqNotify(ObjId, u8, Operand),
+}
