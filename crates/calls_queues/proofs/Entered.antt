@@ -1,8 +1,8 @@
 -- A message enters, something happens, and the notification comes last.
 use Rattle.std.proofs.Common.{◌≡◌, ℕ, List, Option, ap, subst, sym}
-use Rattle.words_trace.specs.Tells.{Tells}
-use Rattle.words_trace.specs.declared.tracer.Tracer.{Tracer}
-use Rattle.script_code.specs.declared.cursor.Cursor.{Cursor}
+use Rattle.parts_tracer.specs.Tells.{Tells}
+use Rattle.parts_tracer.specs.declared.tracer.Tracer.{Tracer}
+use Rattle.rules_bodies.specs.declared.cursor.Cursor.{Cursor}
 use Rattle.rules_machine.specs.Queues.{enters, fired_by_message, notifies, with_message}
 use Rattle.rules_machine.specs.State.{Message, Registration}
 use Rattle.rules_machine.specs.Turns.{Turn, changes_queue}

@@ -3,8 +3,8 @@ use Rattle.std.proofs.Common.{◌≡◌, ◌∙◌, ◌++◌, ◌∷◌, [], ℕ
 use Rattle.std.specs.Prelude.{◌==◌}
 use Rattle.words_numbers.specs.declared.res.Res.{Res}
 use Rattle.words_trace.specs.declared.event.Event.TheVariants as event
-use Rattle.script_code.specs.declared.cursor.Cursor.{Cursor}
-use Rattle.parts_server.specs.Server.{ServerState, activate}
+use Rattle.rules_bodies.specs.declared.cursor.Cursor.{Cursor}
+use Rattle.rules_server.specs.Server.{ServerState, activate}
 use Rattle.rules_machine.specs.CallNames.{name_of}
 use Rattle.rules_machine.specs.Queues.{with_message}
 use Rattle.rules_machine.specs.Servers.{activates_server, at_once, high_server, with_server}
@@ -13,7 +13,7 @@ use Rattle.rules_machine.specs.Threads.{can_run, is_blocked, is_runnable, no_que
 use Rattle.rules_machine.specs.Turns.{Turn, changes, changes_queue, moves, tells, with_queue}
 use Rattle.rules_machine.specs.Waking.{call_in, wakes, woken}
 use Rattle.rules_machine.proofs.Reading.{changed-keeps, thread-other}
-use Rattle.laws_moves.proofs.Calls.Commuting.{wakes_telling_part, woken_runs}
+use Rattle.rules_moves.proofs.Calls.Commuting.{wakes_telling_part, woken_runs}
 use Rattle.kernel_threads.specs.Unused.{IsUnused}
 use Rattle.kernel_state.specs.Caught.{HasRoomToPend}
 use Rattle.kernel_state.specs.Kernel.{Kernel, after, turn}

@@ -4,9 +4,9 @@ use Rattle.std.specs.Prelude.{IfSome, option_map, slice_set}
 use Rattle.std.specs.Option.{option_map_or}
 use Rattle.words_numbers.specs.declared.res.Res.{Res}
 use Rattle.words_numbers.specs.declared.res.Res.TheVariants as res
-use Rattle.words_trace.specs.Tells.{Tells}
-use Rattle.words_trace.specs.declared.tracer.Tracer.{Tracer}
-use Rattle.script_code.specs.declared.cursor.Cursor.{Cursor}
+use Rattle.parts_tracer.specs.Tells.{Tells}
+use Rattle.parts_tracer.specs.declared.tracer.Tracer.{Tracer}
+use Rattle.rules_bodies.specs.declared.cursor.Cursor.{Cursor}
 use Rattle.rules_machine.specs.Queues.{enters, message_of, next_message, receives_message, takes_message_or_blocks, takes_over, value_at, waits_to_send, without_message}
 use Rattle.rules_machine.specs.State.{Machine, Message, Queue, Thread, Wait, Waiting, for_condition, for_end, for_message, for_mutex, for_mutex_again, for_room, for_semaphore, for_signal, for_time}
 use Rattle.rules_machine.specs.Threads.{is_blocked, no_thread, queue_at, thread_at, waiting_in, waiting_of}
@@ -16,7 +16,7 @@ use Rattle.rules_machine.specs.Waking.{wakes}
 use Rattle.rules_machine.proofs.Behind.{AddsBehind, wakes_behind}
 use Rattle.rules_machine.proofs.BehindCalls.{enters_behind}
 use Rattle.rules_machine.proofs.Reading.{changed-keeps}
-use Rattle.laws_moves.proofs.Waiters.Best.{best_waits}
+use Rattle.rules_moves.proofs.Waiters.Best.{best_waits}
 use Rattle.kernel_queues.specs.Queues.{next_value, without_next, without_one}
 use Rattle.kernel_state.specs.Kernel.{Kernel, after, told, turn}
 use Rattle.kernel_state.specs.Pending.{SignalsFit}

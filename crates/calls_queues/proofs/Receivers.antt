@@ -3,11 +3,11 @@ use Rattle.std.proofs.Common.{◌≡◌, ◌∙◌, ℕ, zero, suc, Bool, true, 
 use Rattle.std.specs.Prelude.{is_some, option_map, slice_index_or, ◌||◌}
 use Rattle.std.specs.List.{list_any}
 use Rattle.std.specs.Option.{option_map_or}
-use Rattle.script_code.specs.declared.cursor.Cursor.{Cursor}
+use Rattle.rules_bodies.specs.declared.cursor.Cursor.{Cursor}
 use Rattle.rules_machine.specs.State.{Machine, Wait, Waiting}
 use Rattle.rules_machine.specs.Threads.{no_thread}
 use Rattle.rules_machine.specs.Waiters.{Waiter, best_waiter, somebody_waits, waits_so}
-use Rattle.laws_moves.proofs.Waiters.Best.{best_waits, nobody_waits}
+use Rattle.rules_moves.proofs.Waiters.Best.{best_waits, nobody_waits}
 
 any_more : (b : Bool) (c : Bool) → c ≡ true → (b || c) ≡ true
 any_more true c e = refl

@@ -1,6 +1,6 @@
 -- What a notification counts on.
 use Rattle.std.specs.Prelude.{◌≡◌, ◌≤◌, ◌<◌, ◌^◌, ℕ, Some}
-use Rattle.script_code.specs.declared.cursor.Cursor.{Cursor}
+use Rattle.rules_bodies.specs.declared.cursor.Cursor.{Cursor}
 use Rattle.rules_machine.specs.State.{Machine, Registration}
 use Rattle.rules_machine.specs.Threads.{queue_at}
 use Rattle.kernel_state.specs.Caught.{HasRoomToPend}

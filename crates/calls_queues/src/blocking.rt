@@ -1,6 +1,6 @@
 // A call that must wait for a queue.
 ghost use Rattle.std.specs.Prelude.{◌≡◌, ◌<◌, ◌^◌, None, length, true};
-ghost use Rattle.words_trace.specs.Tells.{Tells};
+ghost use Rattle.parts_tracer.specs.Tells.{Tells};
 ghost use Rattle.rules_machine.specs.Priorities.{mutex_waited};
 ghost use Rattle.rules_machine.specs.Queues.{blocks_unless_nonblock};
 ghost use Rattle.rules_machine.specs.Threads.{can_run};
@@ -9,7 +9,7 @@ ghost use Rattle.kernel_state.specs.Kernel.{after, by, told};
 
 use kernel_state::Parts;
 use calls_sync::block_unless_late;
-use words_trace::Tracer;
+use parts_tracer::Tracer;
 use parts_io::Sink;
 use words_script::Call;
 use kernel_threads::Wait;

@@ -1,7 +1,7 @@
 // A message enters a queue.
 ghost use Rattle.std.specs.Prelude.{◌≡◌, ◌≤◌, ◌<◌, length, true};
 ghost use Rattle.words_numbers.specs.declared.res.Res.TheVariants as res;
-ghost use Rattle.words_trace.specs.Tells.{Tells};
+ghost use Rattle.parts_tracer.specs.Tells.{Tells};
 ghost use Rattle.rules_machine.specs.Queues.{enters, has_room};
 ghost use Rattle.rules_machine.specs.Threads.{is_blocked, queue_at, thread_at};
 ghost use Rattle.rules_machine.specs.Turns.{returns};
@@ -12,7 +12,7 @@ ghost use Rattle.calls_queues.specs.Notifying.{CanNotify};
 
 use crate::notifying::{fired_by_message, notify};
 use kernel_state::Parts;
-use words_trace::Tracer;
+use parts_tracer::Tracer;
 use parts_io::Sink;
 use words_script::Call;
 use kernel_threads::Message;

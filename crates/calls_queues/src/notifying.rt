@@ -1,7 +1,7 @@
 // The notification that is asked of a queue.
 ghost use Rattle.std.specs.Prelude.{◌≡◌, ◌≤◌, ◌<◌, ◌^◌, IfSome, None, Some, length};
 ghost use Rattle.words_numbers.specs.declared.res.Res.TheVariants as res;
-ghost use Rattle.words_trace.specs.Tells.{Tells};
+ghost use Rattle.parts_tracer.specs.Tells.{Tells};
 ghost use Rattle.rules_machine.specs.Queues.{asks_notification, fired_by_message, is_notifying, notifies, record_of_notification, registered, waits_to_receive};
 ghost use Rattle.rules_machine.specs.Signals.{generates};
 ghost use Rattle.rules_machine.specs.Threads.{queue_at};
@@ -13,7 +13,7 @@ ghost use Rattle.calls_queues.specs.Notifying.{CanNotify};
 use calls_signals::generate;
 use kernel_state::Parts;
 use kernel_queues::Registration;
-use words_trace::Tracer;
+use parts_tracer::Tracer;
 use parts_io::Sink;
 use kernel_signals::SignalRecord;
 use words_script::Call;

@@ -1,6 +1,6 @@
 // Receiving a message: `mq_receive` and `mq_timedreceive`.
 ghost use Rattle.std.specs.Prelude.{◌≡◌, ◌≤◌, ◌<◌, ◌^◌, IfSome, length, true};
-ghost use Rattle.words_trace.specs.Tells.{Tells};
+ghost use Rattle.parts_tracer.specs.Tells.{Tells};
 ghost use Rattle.rules_machine.specs.Queues.{has_room, receives_message};
 ghost use Rattle.rules_machine.specs.Threads.{can_run, is_blocked, queue_at, thread_at};
 ghost use Rattle.kernel_state.specs.Kernel.{after, by, told};
@@ -13,7 +13,7 @@ ghost use Rattle.calls_queues.specs.Notifying.{CanNotify};
 use crate::blocking::block_unless_nonblock;
 use crate::entering::enter_and_wake;
 use kernel_state::Parts;
-use words_trace::Tracer;
+use parts_tracer::Tracer;
 use parts_io::Sink;
 use words_script::Call;
 use kernel_threads::Wait;

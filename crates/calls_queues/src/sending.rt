@@ -1,7 +1,7 @@
 // Sending a message: `mq_send` and `mq_timedsend`.
 ghost use Rattle.std.specs.Prelude.{◌≡◌, ◌≤◌, ◌<◌, ◌^◌, None, length, true};
 ghost use Rattle.words_numbers.specs.declared.res.Res.TheVariants as res;
-ghost use Rattle.words_trace.specs.Tells.{Tells};
+ghost use Rattle.parts_tracer.specs.Tells.{Tells};
 ghost use Rattle.rules_machine.specs.Queues.{sends_message, reaches_receiver_or_queue};
 ghost use Rattle.rules_machine.specs.Threads.{can_run, is_blocked, thread_at};
 ghost use Rattle.rules_machine.specs.Turns.{returns, ◌▷◌};
@@ -16,7 +16,7 @@ ghost use Rattle.calls_queues.specs.Notifying.{CanNotify};
 use crate::blocking::block_unless_nonblock;
 use crate::entering::enter_and_return;
 use kernel_state::Parts;
-use words_trace::Tracer;
+use parts_tracer::Tracer;
 use parts_io::Sink;
 use words_script::Call;
 use kernel_threads::{Message, Wait};

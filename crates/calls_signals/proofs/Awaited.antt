@@ -3,10 +3,10 @@ use Rattle.std.proofs.Common.{◌≡◌, ◌≢◌, ◌+◌, ◌∙◌, ℕ, zer
 use Rattle.std.specs.Prelude.{◌&&◌}
 use Rattle.words_numbers.specs.Signals.{has_signal}
 use Rattle.words_numbers.specs.declared.res.Res.TheVariants as res
-use Rattle.words_trace.specs.Tells.{Tells}
-use Rattle.words_trace.specs.declared.tracer.Tracer.{Tracer}
-use Rattle.words_trace.proofs.Tells.{tells_nothing}
-use Rattle.script_code.specs.declared.cursor.Cursor.{Cursor}
+use Rattle.parts_tracer.specs.Tells.{Tells}
+use Rattle.parts_tracer.specs.declared.tracer.Tracer.{Tracer}
+use Rattle.parts_tracer.proofs.Tells.{tells_nothing}
+use Rattle.rules_bodies.specs.declared.cursor.Cursor.{Cursor}
 use Rattle.rules_machine.specs.Signals.{delivers, may_go_to, selected, waits_signal, takes_signal_or_waits, blocks_for_signal, without_record}
 use Rattle.rules_machine.specs.State.{Machine, SignalRecord, for_signal}
 use Rattle.rules_machine.specs.Turns.{Caller, Turn, changes_pending, returns, ◌▷◌}

@@ -4,12 +4,12 @@ use Rattle.std.specs.Prelude.{option_map}
 use Rattle.words_numbers.specs.declared.res.Res.{Res}
 use Rattle.words_numbers.specs.declared.res.Res.TheVariants as res
 use Rattle.words_trace.specs.Text.{Entry}
-use Rattle.words_trace.specs.Tells.{Tells}
+use Rattle.parts_tracer.specs.Tells.{Tells}
 use Rattle.words_trace.specs.declared.event.Event.{Event}
 use Rattle.words_trace.specs.declared.event.Event.TheVariants as event
-use Rattle.words_trace.specs.declared.tracer.Tracer.{Tracer}
-use Rattle.script_code.specs.declared.cursor.Cursor.{Cursor}
-use Rattle.parts_server.specs.Server.{ServerState, activate}
+use Rattle.parts_tracer.specs.declared.tracer.Tracer.{Tracer}
+use Rattle.rules_bodies.specs.declared.cursor.Cursor.{Cursor}
+use Rattle.rules_server.specs.Server.{ServerState, activate}
 use Rattle.rules_machine.specs.CallNames.{name_of}
 use Rattle.rules_machine.specs.Delivery.{interrupts, ticks_left}
 use Rattle.rules_machine.specs.Servers.{activates_server, at_once, high_server, with_server}

@@ -1,13 +1,13 @@
 -- How the expiry of a timer comes out.
 use Rattle.std.proofs.Common.{◌≡◌, ◌<◌, ◌∙◌, ℕ, Bool, true, false, List, None, Option, Some, ap, arith, length, refl, subst, sym}
 use Rattle.std.specs.Prelude.{if◌then◌else◌}
-use Rattle.words_trace.specs.Tells.{Tells}
-use Rattle.words_trace.specs.declared.tracer.Tracer.{Tracer}
+use Rattle.parts_tracer.specs.Tells.{Tells}
+use Rattle.parts_tracer.specs.declared.tracer.Tracer.{Tracer}
 use Rattle.words_numbers.specs.declared.res.Res.{Res}
 use Rattle.words_numbers.specs.declared.res.Res.TheVariants as res
 use Rattle.words_trace.specs.declared.event.Event.TheVariants as event
-use Rattle.parts_server.specs.Server.{ServerState}
-use Rattle.script_code.specs.declared.cursor.Cursor.{Cursor}
+use Rattle.rules_server.specs.Server.{ServerState}
+use Rattle.rules_bodies.specs.declared.cursor.Cursor.{Cursor}
 use Rattle.rules_machine.specs.CallNames.{name_of}
 use Rattle.rules_machine.specs.Servers.{activates_server, at_once, high_server}
 use Rattle.rules_machine.specs.Signals.{acceptor, becomes_pending, delivers, generates, is_accepted_or_pends, is_ignore, tells_overrun, with_overrun_told}

@@ -3,11 +3,11 @@ use Rattle.std.proofs.Common.{◌≡◌, ◌≤◌, ◌<◌, ◌+◌, ◌^◌, �
 use Rattle.std.specs.Prelude.{slice_index_or, ◌==◌, ◌||◌}
 use Rattle.std.specs.List.{range_with_len}
 use Rattle.std.proofs.lemmas.Bool.Decides.{eqb_tells}
-use Rattle.words_trace.specs.declared.tracer.Tracer.{Tracer}
-use Rattle.words_trace.specs.Tells.{Tells}
-use Rattle.words_trace.proofs.Tells.{tells_nothing}
-use Rattle.script_code.specs.declared.cursor.Cursor.{Cursor}
-use Rattle.parts_lists.specs.Threads.{stands_in}
+use Rattle.parts_tracer.specs.declared.tracer.Tracer.{Tracer}
+use Rattle.parts_tracer.specs.Tells.{Tells}
+use Rattle.parts_tracer.proofs.Tells.{tells_nothing}
+use Rattle.rules_bodies.specs.declared.cursor.Cursor.{Cursor}
+use Rattle.rules_lists.specs.Threads.{stands_in}
 use Rattle.rules_machine.specs.declared.signal.SigAction.{SigAction}
 use Rattle.rules_machine.specs.declared.signal.SigAction.TheVariants as action
 use Rattle.rules_machine.specs.Bodies.{Bodies}

@@ -3,9 +3,9 @@ use Rattle.std.proofs.Common.{◌≡◌, ◌<◌, ◌∙◌, ℕ, Bool, true, fa
 use Rattle.std.specs.Prelude.{if◌then◌else◌, is_none, not, option_map, ◌&&◌}
 use Rattle.words_numbers.specs.declared.res.Res.{Res}
 use Rattle.words_numbers.specs.declared.res.Res.TheVariants as res
-use Rattle.words_trace.specs.Tells.{Tells}
-use Rattle.words_trace.specs.declared.tracer.Tracer.{Tracer}
-use Rattle.script_code.specs.declared.cursor.Cursor.{Cursor}
+use Rattle.parts_tracer.specs.Tells.{Tells}
+use Rattle.parts_tracer.specs.declared.tracer.Tracer.{Tracer}
+use Rattle.rules_bodies.specs.declared.cursor.Cursor.{Cursor}
 use Rattle.rules_machine.specs.Signals.{acceptor, becomes_pending, delivers, generates, is_accepted_or_pends, has_no_room, is_full, is_ignore, sends_signal}
 use Rattle.rules_machine.specs.State.{Machine, SignalRecord, Thread}
 use Rattle.rules_machine.specs.Threads.{action_of, is_blocked, no_thread, thread_at, thread_in}
@@ -13,7 +13,7 @@ use Rattle.rules_machine.specs.Turns.{Caller, Turn, answered, returns, ◌▷◌
 use Rattle.rules_machine.specs.Waiters.{Waiter}
 use Rattle.rules_machine.specs.Waking.{wakes}
 use Rattle.rules_machine.proofs.Reading.{changed-keeps}
-use Rattle.laws_moves.proofs.Calls.Answers.{acceptor_kept}
+use Rattle.rules_moves.proofs.Calls.Answers.{acceptor_kept}
 use Rattle.kernel_threads.specs.Unused.{IsUnused}
 use Rattle.kernel_state.specs.Caught.{HasRoomToPend}
 use Rattle.kernel_state.specs.Kernel.{Kernel, after, told, turn}

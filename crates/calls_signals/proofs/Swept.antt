@@ -1,15 +1,15 @@
 -- What a visit tells is told behind what was told before it.
 use Rattle.std.proofs.Common.{◌≡◌, ℕ, List, [], Bool, true, false, None, Option, Some, ap, refl, sym, ◌∙◌}
 use Rattle.std.specs.Prelude.{if◌then◌else◌, is_some}
-use Rattle.words_trace.specs.Tells.{Tells}
+use Rattle.parts_tracer.specs.Tells.{Tells}
 use Rattle.words_trace.specs.declared.event.Event.TheVariants as event
-use Rattle.words_trace.specs.declared.tracer.Tracer.{Tracer}
-use Rattle.script_code.specs.Next.{capped}
+use Rattle.parts_tracer.specs.declared.tracer.Tracer.{Tracer}
+use Rattle.rules_bodies.specs.Next.{capped}
 use Rattle.rules_machine.specs.declared.frame.BodyOf.TheVariants as body_of
 use Rattle.rules_machine.specs.declared.frame.FrameKind.TheVariants as frame
 use Rattle.rules_machine.specs.declared.signal.SigAction.{SigAction}
 use Rattle.rules_machine.specs.declared.signal.SigAction.TheVariants as action
-use Rattle.script_code.specs.declared.cursor.Cursor.{Cursor}
+use Rattle.rules_bodies.specs.declared.cursor.Cursor.{Cursor}
 use Rattle.rules_machine.specs.Bodies.{Bodies}
 use Rattle.rules_machine.specs.Delivery.{acts, can_take, interrupts, may_be_interrupted, sweeps, sweeps_thread, taken_by_sweep, takes_record}
 use Rattle.rules_machine.specs.Signals.{delivers, selected, without_record}

@@ -1,6 +1,6 @@
 -- What a sweep counts on.
 use Rattle.std.specs.Prelude.{◌≡◌, ◌≤◌, ℕ, length, true}
-use Rattle.script_code.specs.declared.cursor.Cursor.{Cursor}
+use Rattle.rules_bodies.specs.declared.cursor.Cursor.{Cursor}
 use Rattle.rules_machine.specs.Delivery.{may_be_interrupted}
 use Rattle.rules_machine.specs.State.{Machine, Thread}
 use Rattle.rules_machine.specs.Threads.{is_blocked, thread_at}

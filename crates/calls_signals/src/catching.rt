@@ -1,7 +1,7 @@
 // What a signal does to the thread that takes it.
 ghost use Rattle.std.specs.Prelude.{◌≡◌, ◌≤◌, ◌<◌, ◌^◌, Contains, length};
 ghost use Rattle.words_numbers.specs.declared.res.Res.TheVariants as res;
-ghost use Rattle.words_trace.specs.Tells.{Tells};
+ghost use Rattle.parts_tracer.specs.Tells.{Tells};
 ghost use Rattle.rules_machine.specs.Delivery.{acts, catches, interrupts};
 ghost use Rattle.rules_machine.specs.Signals.{delivers, without_record};
 ghost use Rattle.rules_machine.specs.Threads.{action_of, thread_at, waiting_of};
@@ -14,7 +14,8 @@ ghost use Rattle.calls_signals.specs.Sweeping.{RestsBlocked};
 
 use kernel_state::Parts;
 use rules_machine::SigAction;
-use words_trace::{Event, Tracer};
+use parts_tracer::Tracer;
+use words_trace::Event;
 use parts_io::Sink;
 use kernel_signals::SignalRecord;
 use words_numbers::{ObjId, Res, Tid};

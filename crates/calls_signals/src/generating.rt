@@ -1,6 +1,6 @@
 // Generating a signal that no call sends: the expiry of a timer, or the notification of a message queue.
 ghost use Rattle.std.specs.Prelude.{◌≡◌, ◌≤◌, ◌<◌, ◌^◌, IfSome, None, length};
-ghost use Rattle.words_trace.specs.Tells.{Tells};
+ghost use Rattle.parts_tracer.specs.Tells.{Tells};
 ghost use Rattle.rules_machine.specs.Signals.{acceptor, generates};
 ghost use Rattle.kernel_state.specs.Caught.{HasRoomToPend};
 ghost use Rattle.kernel_state.specs.Kernel.{after, told};
@@ -8,7 +8,7 @@ ghost use Rattle.calls_signals.specs.Sweeping.{AllRest};
 
 use crate::sending::{accept, is_ignored};
 use kernel_state::Parts;
-use words_trace::Tracer;
+use parts_tracer::Tracer;
 use parts_io::Sink;
 use kernel_signals::SignalRecord;
 

@@ -1,11 +1,11 @@
 // Masks: `pthread_sigmask`.
 ghost use Rattle.std.specs.Prelude.{◌≡◌, ◌<◌, ℕ, length};
-ghost use Rattle.words_trace.specs.Tells.{Tells};
+ghost use Rattle.parts_tracer.specs.Tells.{Tells};
 ghost use Rattle.rules_machine.specs.Signals.{sets_mask, with_signals, without_signals};
 ghost use Rattle.kernel_state.specs.Kernel.{after, by, told};
 
 use kernel_state::Parts;
-use words_trace::Tracer;
+use parts_tracer::Tracer;
 use parts_io::Sink;
 use words_script::Call;
 use words_numbers::{Res, SigSet, Tid};

@@ -1,7 +1,7 @@
 // Sending signals: `kill`, `pthread_kill` and `sigqueue`.
 ghost use Rattle.std.specs.Prelude.{◌≡◌, ◌≤◌, ◌<◌, ◌^◌, IfSome, None, Some, false, length, option_map, true};
 ghost use Rattle.words_numbers.specs.declared.res.Res.TheVariants as res;
-ghost use Rattle.words_trace.specs.Tells.{Tells};
+ghost use Rattle.parts_tracer.specs.Tells.{Tells};
 ghost use Rattle.rules_machine.specs.Cancellation.{on_live};
 ghost use Rattle.rules_machine.specs.Signals.{acceptor, becomes_pending, delivers, is_full, is_ignore, record_of_kill, record_of_sigqueue, sends_signal};
 ghost use Rattle.rules_machine.specs.Threads.{action_of, is_blocked, thread_at};
@@ -15,7 +15,7 @@ ghost use Rattle.calls_signals.specs.Sweeping.{AllRest};
 use crate::catching::deliver;
 use kernel_state::Parts;
 use rules_machine::SigAction;
-use words_trace::Tracer;
+use parts_tracer::Tracer;
 use parts_io::Sink;
 use kernel_signals::SignalRecord;
 use words_script::Call;

@@ -1,6 +1,6 @@
 // The sweep: the delivery of pending signals.
 ghost use Rattle.std.specs.Prelude.{◌≡◌, ◌≤◌, ◌<◌, ◌^◌, [], length};
-ghost use Rattle.words_trace.specs.Tells.{Tells};
+ghost use Rattle.parts_tracer.specs.Tells.{Tells};
 ghost use Rattle.rules_machine.specs.Delivery.{sweeps, sweeps_all, sweeps_thread};
 ghost use Rattle.rules_machine.specs.Threads.{thread_at, thread_numbers};
 ghost use Rattle.rules_flat_code.specs.FlatBodies.{flat_bodies};
@@ -11,7 +11,7 @@ ghost use Rattle.calls_signals.specs.Sweeping.{CanSweep, CanVisit};
 
 use crate::catching::take_record;
 use kernel_state::Parts;
-use words_trace::Tracer;
+use parts_tracer::Tracer;
 use parts_io::Sink;
 use words_numbers::Tid;
 

@@ -1,6 +1,6 @@
 // Interval timers: setting and reading them, and their expiries.
 ghost use Rattle.std.specs.Prelude.{◌≡◌, ◌≤◌, ◌<◌, ◌+◌, ◌^◌, length};
-ghost use Rattle.words_trace.specs.Tells.{Tells};
+ghost use Rattle.parts_tracer.specs.Tells.{Tells};
 ghost use Rattle.rules_machine.specs.Signals.{generates};
 ghost use Rattle.rules_machine.specs.Threads.{timer_at};
 ghost use Rattle.rules_machine.specs.Timers.{expires, first_expiry, reads_overrun, reads_timer, record_of_timer, sets_timer, signals_expiry};
@@ -11,7 +11,7 @@ ghost use Rattle.calls_signals.specs.Sweeping.{AllRest};
 
 use crate::generating::generate;
 use kernel_state::Parts;
-use words_trace::Tracer;
+use parts_tracer::Tracer;
 use parts_io::Sink;
 use words_script::Call;
 use words_numbers::{ObjId, Res, Tick, Tid};

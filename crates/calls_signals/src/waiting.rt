@@ -1,7 +1,7 @@
 // Waiting for signals: `sigwaitinfo`, and with ticks `sigtimedwait`.
 ghost use Rattle.std.specs.Prelude.{◌≡◌, ◌≤◌, ◌<◌, ◌+◌, ◌^◌, Contains, IfSome, Some, length, true};
 ghost use Rattle.words_numbers.specs.declared.res.Res.TheVariants as res;
-ghost use Rattle.words_trace.specs.Tells.{Tells};
+ghost use Rattle.parts_tracer.specs.Tells.{Tells};
 ghost use Rattle.rules_machine.specs.Signals.{delivers, waits_signal, blocks_for_signal, without_record};
 ghost use Rattle.rules_machine.specs.State.{for_signal};
 ghost use Rattle.rules_machine.specs.Threads.{can_run};
@@ -10,7 +10,7 @@ ghost use Rattle.kernel_state.specs.Kernel.{after, by, told};
 
 use crate::catching::deliver;
 use kernel_state::Parts;
-use words_trace::Tracer;
+use parts_tracer::Tracer;
 use parts_io::Sink;
 use kernel_signals::SignalRecord;
 use words_script::Call;

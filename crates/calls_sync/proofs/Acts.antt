@@ -11,7 +11,7 @@ use Rattle.parts_owners.specs.Chains.{is_plainly_free, raises_nobody}
 use Rattle.rules_machine.specs.Threads.{can_run, mutex_at, thread_at}
 use Rattle.rules_machine.specs.Mutexes.{closes_cycle, counts, is_above_ceiling, is_free, lock_answer, locked_again, must_wait, owns, recursion_limit, refused, takes, trylock_answer}
 use Rattle.rules_machine.specs.Turns.{is_late}
-use Rattle.script_code.specs.declared.cursor.Cursor.{Cursor}
+use Rattle.rules_bodies.specs.declared.cursor.Cursor.{Cursor}
 use Rattle.rules_machine.specs.Priorities.{mutex_awaited_by}
 use Rattle.kernel_state.proofs.Waits.{awaits_none as running_awaits}
 use Rattle.calls_sync.specs.Answers.{CanAct}

@@ -1,7 +1,7 @@
 -- A lock that takes a plainly free mutex at once, and one that does not.
 use Rattle.std.proofs.Common.{◌≡◌, ◌∙◌, ℕ, Bool, true, false, Option, ap, sym}
 use Rattle.words_numbers.specs.declared.res.Res.TheVariants as res
-use Rattle.script_code.specs.declared.cursor.Cursor.{Cursor}
+use Rattle.rules_bodies.specs.declared.cursor.Cursor.{Cursor}
 use Rattle.words_script.specs.declared.call.Call.{Call}
 use Rattle.rules_machine.specs.Threads.{mutex_at}
 use Rattle.rules_machine.specs.Turns.{Turn, changes_mutex, returns, ◌▷◌}

@@ -4,11 +4,11 @@ use Rattle.std.specs.Prelude.{filter, option_and_then, ◌==◌, if◌then◌els
 use Rattle.words_numbers.specs.declared.res.Res.{Res}
 use Rattle.words_numbers.specs.declared.res.Res.TheVariants as res
 use Rattle.std.specs.Option.{option_map_or}
-use Rattle.parts_server.specs.Server.{ServerState, activate}
+use Rattle.rules_server.specs.Server.{ServerState, activate}
 use Rattle.rules_machine.specs.Servers.{activates_server, at_once, high_server, with_server}
 use Rattle.words_trace.specs.declared.event.Event.{Event}
 use Rattle.words_trace.specs.declared.event.Event.TheVariants as event
-use Rattle.script_code.specs.declared.cursor.Cursor.{Cursor}
+use Rattle.rules_bodies.specs.declared.cursor.Cursor.{Cursor}
 use Rattle.rules_machine.specs.declared.thread.CondEnd.{CondEnd}
 use Rattle.rules_machine.specs.declared.thread.CondEnd.TheVariants as cond_end
 use Rattle.rules_machine.specs.CallNames.{name_of}
@@ -22,9 +22,9 @@ use Rattle.rules_machine.specs.Turns.{Caller, Turn, changes, changes_mutex, move
 use Rattle.rules_machine.specs.Waiters.{Waiter, best_waiter, waits_so}
 use Rattle.rules_machine.specs.Waking.{blocks, call_in, cancelled_value, ending_with, put_to_wait, wakes_telling, woken}
 use Rattle.rules_machine.proofs.Reading.{changed-length, thread-other}
-use Rattle.laws_moves.proofs.Calls.Answers.{waits_blocked}
-use Rattle.laws_moves.proofs.Calls.Commuting.{woken_runs}
-use Rattle.laws_moves.proofs.Waiters.OfThreads.{changed_is}
+use Rattle.rules_moves.proofs.Calls.Answers.{waits_blocked}
+use Rattle.rules_moves.proofs.Calls.Commuting.{woken_runs}
+use Rattle.rules_moves.proofs.Waiters.OfThreads.{changed_is}
 use Rattle.kernel_threads.specs.Unused.{IsUnused}
 use Rattle.calls_sync.specs.Waits.{WaitKnowsMutex, OwnsNone, WaitsFit}
 use Rattle.calls_sync.proofs.Kept.{kept_fits}

@@ -1,7 +1,7 @@
 -- A thread that owns nothing may wait for any mutex.
 use Rattle.std.proofs.Common.{◌≡◌, ℕ, zero, suc, Bool, true, false, List, [], ◌∷◌, Option, None, Some, length, refl}
 use Rattle.std.specs.Prelude.{IsSome, filter, option_and_then, slice_index_or, ◌<◌}
-use Rattle.script_code.specs.declared.cursor.Cursor.{Cursor}
+use Rattle.rules_bodies.specs.declared.cursor.Cursor.{Cursor}
 use Rattle.rules_machine.specs.Lists.{is}
 use Rattle.rules_machine.specs.State.{Machine, Mutex}
 use Rattle.rules_machine.specs.Threads.{mutex_at, no_mutex, thread_in}

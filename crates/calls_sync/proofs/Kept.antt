@@ -1,8 +1,8 @@
 -- What holds of the threads that wait stays, where a thread changes in neither its status nor its server.
 use Rattle.std.proofs.Common.{◌≡◌, ◌∙◌, ℕ, true, false, Option, ap, length, subst, sym}
 use Rattle.std.specs.Option.{option_map_or}
-use Rattle.parts_server.specs.Server.{ServerState}
-use Rattle.script_code.specs.declared.cursor.Cursor.{Cursor}
+use Rattle.rules_server.specs.Server.{ServerState}
+use Rattle.rules_bodies.specs.declared.cursor.Cursor.{Cursor}
 use Rattle.rules_machine.specs.GoodState.{is_in_condition_wait}
 use Rattle.rules_machine.specs.State.{Status, Thread, Waiting}
 use Rattle.rules_machine.specs.Threads.{can_run, is_blocked, is_runnable, no_thread, thread_at, waiting_in}

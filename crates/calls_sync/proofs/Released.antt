@@ -2,7 +2,7 @@
 use Rattle.std.proofs.Common.{◌≡◌, ◌∙◌, ℕ, false, true, Option, None, Some, ap, refl, sym}
 use Rattle.std.specs.Prelude.{option_map}
 use Rattle.words_numbers.specs.declared.res.Res.TheVariants as res
-use Rattle.script_code.specs.declared.cursor.Cursor.{Cursor}
+use Rattle.rules_bodies.specs.declared.cursor.Cursor.{Cursor}
 use Rattle.words_numbers.specs.declared.res.Res.{Res}
 use Rattle.rules_machine.specs.declared.thread.CondEnd.TheVariants as cond_end
 use Rattle.rules_machine.specs.State.{Machine, Wait, Waiting, for_condition, for_end, for_message, for_mutex, for_mutex_again, for_room, for_semaphore, for_signal, for_time}
@@ -11,7 +11,7 @@ use Rattle.rules_machine.specs.Turns.{Turn, changes_mutex, ◌▷◌}
 use Rattle.rules_machine.specs.Mutexes.{hands_over, releases, taken_by, waits_for_mutex, wakes_owner}
 use Rattle.rules_machine.specs.Waiters.{Waiter, best_waiter}
 use Rattle.rules_machine.specs.Waking.{wakes, wakes_cancelled}
-use Rattle.laws_moves.proofs.Waiters.Best.{best_waits}
+use Rattle.rules_moves.proofs.Waiters.Best.{best_waits}
 use Rattle.parts_waiters.specs.declared.WaitObj.TheVariants.{Mutex}
 use Rattle.parts_waiters.specs.Ties.{is_object, object_of}
 use Rattle.kernel_state.proofs.Waits.{IsBest}

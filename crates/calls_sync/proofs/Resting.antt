@@ -1,16 +1,16 @@
 -- What holds of the threads that wait stays, where one thread changes.
 use Rattle.std.proofs.Common.{◌≡◌, ◌∙◌, ◌⊎◌, inl, inr, ℕ, Bool, true, false, Option, None, Some, ap, length, refl, subst, sym}
 use Rattle.std.specs.Prelude.{option_map}
-use Rattle.script_code.specs.declared.cursor.Cursor.{Cursor}
+use Rattle.rules_bodies.specs.declared.cursor.Cursor.{Cursor}
 use Rattle.rules_machine.specs.State.{Machine, Thread, Wait, Waiting, for_condition}
 use Rattle.rules_machine.specs.Threads.{no_thread, thread_at, waiting_in}
 use Rattle.rules_machine.specs.Mutexes.{waits_for_mutex}
 use Rattle.rules_machine.specs.Turns.{Caller, Turn}
 use Rattle.rules_machine.specs.Waiters.{Waiter, best_waiter}
 use Rattle.rules_machine.specs.Waking.{blocks, put_to_wait}
-use Rattle.laws_moves.proofs.Calls.Answers.{waits_blocked}
-use Rattle.laws_moves.proofs.Waiters.Best.{best_waits}
-use Rattle.laws_moves.proofs.Waiters.OfThreads.{changed_is}
+use Rattle.rules_moves.proofs.Calls.Answers.{waits_blocked}
+use Rattle.rules_moves.proofs.Waiters.Best.{best_waits}
+use Rattle.rules_moves.proofs.Waiters.OfThreads.{changed_is}
 use Rattle.kernel_threads.specs.Unused.{IsUnused}
 use Rattle.calls_sync.specs.Waits.{WaitKnowsMutex, BlockedRest, KnowsMutex, MutexWaitersRest, WaitsKnowMutexes}
 

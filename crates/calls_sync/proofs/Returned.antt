@@ -2,13 +2,13 @@
 use Rattle.std.proofs.Common.{◌≡◌, ◌∙◌, ◌⊎◌, inl, inr, ℕ, false, ap, length, subst, sym}
 use Rattle.std.specs.Option.{option_map_or}
 use Rattle.words_numbers.specs.declared.res.Res.{Res}
-use Rattle.script_code.specs.declared.cursor.Cursor.{Cursor}
+use Rattle.rules_bodies.specs.declared.cursor.Cursor.{Cursor}
 use Rattle.rules_machine.specs.GoodState.{is_in_condition_wait}
 use Rattle.rules_machine.specs.State.{Status, Thread, Waiting}
 use Rattle.rules_machine.specs.Threads.{is_blocked, no_thread, thread_at, waiting_in}
 use Rattle.rules_machine.specs.Turns.{Caller, Turn, answered, returns}
-use Rattle.laws_moves.proofs.Calls.Answers.{waits_blocked}
-use Rattle.laws_moves.proofs.Waiters.OfThreads.{changed_is}
+use Rattle.rules_moves.proofs.Calls.Answers.{waits_blocked}
+use Rattle.rules_moves.proofs.Waiters.OfThreads.{changed_is}
 use Rattle.kernel_threads.specs.Unused.{IsUnused}
 use Rattle.calls_sync.specs.Waits.{WaitKnowsMutex, BlockedRest, MutexWaitersRest, WaitsFit}
 

@@ -1,8 +1,8 @@
 -- A broadcast in which some waiters have contended.
 use Rattle.std.proofs.Common.{◌≡◌, ◌≤◌, ◌+◌, ◌∙◌, ℕ, suc, List, Option, ap, arith, length, refl, subst, sym}
-use Rattle.words_trace.specs.declared.tracer.Tracer.{Tracer}
-use Rattle.words_trace.specs.Tells.{Tells}
-use Rattle.words_trace.proofs.Tells.{tells_nothing}
+use Rattle.parts_tracer.specs.declared.tracer.Tracer.{Tracer}
+use Rattle.parts_tracer.specs.Tells.{Tells}
+use Rattle.parts_tracer.proofs.Tells.{tells_nothing}
 use Rattle.rules_machine.specs.Conditions.{signals_best, signals_best_times}
 use Rattle.rules_machine.proofs.BehindCalls.{signals_best_behind}
 use Rattle.kernel_state.specs.Kernel.{Kernel, after, told, turn}

@@ -3,11 +3,11 @@ use Rattle.std.proofs.Common.{◌≡◌, ◌≤◌, ◌+◌, ◌-◌, ◌∙◌,
 use Rattle.std.specs.Prelude.{option_and_then, option_map, if◌then◌else◌}
 use Rattle.words_numbers.specs.declared.res.Res.{Res}
 use Rattle.words_numbers.specs.declared.res.Res.TheVariants as res
-use Rattle.parts_server.specs.Server.{ServerState, activate}
+use Rattle.rules_server.specs.Server.{ServerState, activate}
 use Rattle.words_trace.specs.declared.event.Event.{Event}
-use Rattle.words_trace.specs.declared.tracer.Tracer.{Tracer}
-use Rattle.words_trace.specs.Tells.{Tells}
-use Rattle.script_code.specs.declared.cursor.Cursor.{Cursor}
+use Rattle.parts_tracer.specs.declared.tracer.Tracer.{Tracer}
+use Rattle.parts_tracer.specs.Tells.{Tells}
+use Rattle.rules_bodies.specs.declared.cursor.Cursor.{Cursor}
 use Rattle.rules_machine.specs.declared.thread.CondEnd.TheVariants as cond_end
 use Rattle.rules_machine.specs.Conditions.{contends, reacquires_or_waits, released_mutex, signals_best, signals_best_times, signals_waiter, waits_on_condition}
 use Rattle.rules_machine.specs.Lists.{changed_at, first_by, numbers_from}
@@ -18,7 +18,7 @@ use Rattle.rules_machine.specs.Threads.{no_thread, thread_in, waiting_in, waitin
 use Rattle.rules_machine.specs.Turns.{Caller, Turn, answered, changes, changes_mutex, moves, returns, tells, ◌▷◌}
 use Rattle.rules_machine.specs.Waiters.{Waiter, best_waiter, is_served_before, waiters, waits_so}
 use Rattle.rules_machine.specs.Waking.{blocks, call_in, put_to_wait, wakes_telling, woken}
-use Rattle.laws_moves.proofs.Waiters.Best.{best_waits}
+use Rattle.rules_moves.proofs.Waiters.Best.{best_waits}
 use Rattle.parts_waiters.specs.Ties.{is_object, object_of}
 use Rattle.parts_waiters.specs.declared.WaitObj.TheVariants.{Cond}
 use Rattle.kernel_state.specs.Kernel.{Kernel, after, told, turn}

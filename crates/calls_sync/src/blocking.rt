@@ -1,6 +1,6 @@
 // A call that must wait.
 ghost use Rattle.std.specs.Prelude.{◌≡◌, ◌<◌, ◌^◌, None, length, true};
-ghost use Rattle.words_trace.specs.Tells.{Tells};
+ghost use Rattle.parts_tracer.specs.Tells.{Tells};
 ghost use Rattle.rules_machine.specs.Priorities.{mutex_waited};
 ghost use Rattle.rules_machine.specs.Semaphores.{blocks_unless_late};
 ghost use Rattle.rules_machine.specs.Threads.{can_run};
@@ -9,7 +9,7 @@ ghost use Rattle.kernel_state.specs.Kernel.{after, by, told};
 
 use crate::answers::is_late;
 use kernel_state::Parts;
-use words_trace::Tracer;
+use parts_tracer::Tracer;
 use parts_io::Sink;
 use words_script::Call;
 use kernel_threads::Wait;

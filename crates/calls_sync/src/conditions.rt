@@ -1,7 +1,7 @@
 // Conditions.
 ghost use Rattle.std.specs.Prelude.{◌≡◌, ◌≤◌, ◌<◌, ◌+◌, ◌^◌, None, Some, IfSome, length, true};
 ghost use Rattle.words_numbers.specs.declared.res.Res.TheVariants as res;
-ghost use Rattle.words_trace.specs.Tells.{Tells};
+ghost use Rattle.parts_tracer.specs.Tells.{Tells};
 ghost use Rattle.rules_machine.specs.declared.thread.CondEnd.TheVariants as cond_end;
 ghost use Rattle.rules_machine.specs.Conditions.{broadcasts, contends, reacquires_or_waits, signals, signals_best, signals_best_times, waits, waits_on_condition};
 ghost use Rattle.rules_machine.specs.Mutexes.{releases, returns_from_wait, taken_by};
@@ -18,7 +18,7 @@ ghost use Rattle.calls_sync.specs.Waits.{OwnsNone, WaitsFit};
 use crate::mutexes::release;
 use kernel_state::Parts;
 use rules_machine::CondEnd;
-use words_trace::Tracer;
+use parts_tracer::Tracer;
 use parts_io::Sink;
 use words_script::Call;
 use kernel_threads::Wait;

@@ -1,7 +1,7 @@
 // Semaphores.
 ghost use Rattle.std.specs.Prelude.{◌≡◌, ◌≤◌, ◌<◌, ◌^◌, length, pred, suc, true};
 ghost use Rattle.words_numbers.specs.declared.res.Res.TheVariants as res;
-ghost use Rattle.words_trace.specs.Tells.{Tells};
+ghost use Rattle.parts_tracer.specs.Tells.{Tells};
 ghost use Rattle.rules_machine.specs.Semaphores.{posts, reads_semaphore, semaphore_limit, tries_semaphore, waits_semaphore};
 ghost use Rattle.rules_machine.specs.Threads.{can_run, is_blocked, semaphore_at, thread_at};
 ghost use Rattle.rules_machine.specs.Turns.{changes_semaphore, returns, ◌▷◌};
@@ -11,7 +11,7 @@ ghost use Rattle.calls_sync.specs.Waits.{BlockedRest};
 
 use crate::blocking::block_unless_late;
 use kernel_state::Parts;
-use words_trace::Tracer;
+use parts_tracer::Tracer;
 use parts_io::Sink;
 use words_script::Call;
 use kernel_threads::Wait;

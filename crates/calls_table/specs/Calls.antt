@@ -1,6 +1,6 @@
 -- What a call asks of a kernel.
 use Rattle.std.specs.Prelude.{ℕ, ◌≤◌, ◌<◌, length}
-use Rattle.script_code.specs.declared.cursor.Cursor.{Cursor}
+use Rattle.rules_bodies.specs.declared.cursor.Cursor.{Cursor}
 use Rattle.words_script.specs.declared.call.Call.{Call}
 use Rattle.words_script.specs.declared.call.Call.TheVariants as call
 use Rattle.rules_machine.specs.State.{Thread}

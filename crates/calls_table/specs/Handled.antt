@@ -1,6 +1,6 @@
 -- What a due item asks of the machine.
 use Rattle.std.specs.Prelude.{◌≡◌, ℕ, false}
-use Rattle.script_code.specs.declared.cursor.Cursor.{Cursor}
+use Rattle.rules_bodies.specs.declared.cursor.Cursor.{Cursor}
 use Rattle.rules_machine.specs.State.{Machine}
 use Rattle.rules_machine.specs.Threads.{thread_at}
 use Rattle.rules_machine.specs.Servers.{has_high}

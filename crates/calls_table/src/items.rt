@@ -1,6 +1,6 @@
 // The due items.
 ghost use Rattle.std.specs.Prelude.{◌≡◌, ◌≤◌, ◌<◌, ◌+◌, ◌^◌, [], length, true, false};
-ghost use Rattle.words_trace.specs.Tells.{Tells};
+ghost use Rattle.parts_tracer.specs.Tells.{Tells};
 ghost use Rattle.rules_machine.specs.Threads.{is_blocked, thread_at, waiting_of};
 ghost use Rattle.rules_machine.specs.Turns.{settles_since, ◌▷◌};
 ghost use Rattle.rules_machine.specs.Servers.{has_high, refills};
@@ -18,7 +18,8 @@ use calls_signals::{expire, sweep};
 use kernel_state::Parts;
 use calls_sync::contend;
 use rules_machine::CondEnd;
-use words_trace::{Event, Tracer};
+use parts_tracer::Tracer;
+use words_trace::Event;
 use parts_io::Sink;
 use kernel_threads::{Refilled, Wait};
 use words_numbers::{Item, Res, SigSet, Tid};

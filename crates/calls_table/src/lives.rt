@@ -1,7 +1,7 @@
 // The creation of threads.
 ghost use Rattle.std.specs.Prelude.{◌≡◌, ◌≤◌, ◌<◌, ◌^◌, length};
 ghost use Rattle.words_numbers.specs.declared.res.Res.TheVariants as res;
-ghost use Rattle.words_trace.specs.Tells.{Tells};
+ghost use Rattle.parts_tracer.specs.Tells.{Tells};
 ghost use Rattle.rules_machine.specs.Threads.{is_dormant, thread_at};
 ghost use Rattle.rules_machine.specs.Turns.{returns, ◌▷◌};
 ghost use Rattle.rules_machine.specs.Waking.{starts};
@@ -10,7 +10,7 @@ ghost use Rattle.rules_flat_code.specs.FlatBodies.{flat_bodies};
 ghost use Rattle.kernel_state.specs.Kernel.{after, by, told};
 
 use kernel_state::Parts;
-use words_trace::Tracer;
+use parts_tracer::Tracer;
 use parts_io::Sink;
 use words_script::Call;
 use words_numbers::{Res, Tid};

@@ -1,6 +1,6 @@
 // The table of calls: the effect of each.
 ghost use Rattle.std.specs.Prelude.{◌≡◌, ◌≤◌, ◌<◌, ◌^◌, length, true};
-ghost use Rattle.words_trace.specs.Tells.{Tells};
+ghost use Rattle.parts_tracer.specs.Tells.{Tells};
 ghost use Rattle.rules_machine.specs.Threads.{can_run, thread_at};
 ghost use Rattle.rules_machine.specs.Turns.{returns};
 ghost use Rattle.rules_machine.specs.Calls.{call_effect, makes_call};
@@ -27,7 +27,7 @@ use kernel_state::Parts;
 use calls_sync::{
     broadcast, cond_wait, get_value, lock, post, signal, try_lock, try_wait, unlock, wait,
 };
-use words_trace::Tracer;
+use parts_tracer::Tracer;
 use parts_io::Sink;
 use words_script::Call;
 use words_numbers::{Res, Tid};

@@ -1,7 +1,7 @@
 -- What requests count on stays where a thread is asked to end.
 use Rattle.std.proofs.Common.{◌≡◌, ◌∙◌, ℕ, ap, arith, refl, sym}
 use Rattle.words_numbers.specs.declared.res.Res.TheVariants as res
-use Rattle.script_code.specs.declared.cursor.Cursor.{Cursor}
+use Rattle.rules_bodies.specs.declared.cursor.Cursor.{Cursor}
 use Rattle.rules_machine.specs.Cancellation.{requested}
 use Rattle.rules_machine.specs.State.{Thread}
 use Rattle.rules_machine.specs.Threads.{is_blocked, no_thread, waiting_in}

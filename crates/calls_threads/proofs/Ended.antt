@@ -1,13 +1,13 @@
 -- The joiner of a thread that ends.
 use Rattle.std.proofs.Common.{◌≡◌, ◌<◌, ◌⊎◌, inl, inr, ℕ, zero, suc, true, List, [], ◌∷◌, arith, length, subst, sym}
 use Rattle.words_trace.specs.declared.event.Event.TheVariants as event
-use Rattle.script_code.specs.declared.cursor.Cursor.{Cursor}
+use Rattle.rules_bodies.specs.declared.cursor.Cursor.{Cursor}
 use Rattle.rules_machine.specs.Lives.{without_life, without_target}
 use Rattle.rules_machine.specs.State.{Joiner, Machine, Thread, has_joined, nobody, waits_to_join}
 use Rattle.rules_machine.specs.Threads.{is_blocked, no_thread, thread_at, thread_in}
 use Rattle.rules_machine.specs.Turns.{Turn, changes, changes_pending, tells, ◌▷◌}
 use Rattle.rules_machine.proofs.Reading.{changed-length}
-use Rattle.laws_moves.proofs.Waiters.OfThreads.{changed_is}
+use Rattle.rules_moves.proofs.Waiters.OfThreads.{changed_is}
 use Rattle.kernel_threads.specs.Unused.{IsUnused}
 use Rattle.calls_sync.specs.Waits.{BlockedRest}
 use Rattle.calls_threads.specs.Joins.{JoinerFits, JoinsFit}

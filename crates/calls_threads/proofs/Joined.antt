@@ -1,6 +1,6 @@
 -- What stays where the joiner of a thread changes.
 use Rattle.std.proofs.Common.{◌≡◌, ℕ, true, refl}
-use Rattle.script_code.specs.declared.cursor.Cursor.{Cursor}
+use Rattle.rules_bodies.specs.declared.cursor.Cursor.{Cursor}
 use Rattle.rules_machine.specs.Lives.{with_joiner}
 use Rattle.rules_machine.specs.State.{Joiner}
 use Rattle.rules_machine.specs.Threads.{can_run, thread_at}

@@ -1,12 +1,12 @@
 -- A thread that waits, and that a request acts in.
 use Rattle.std.proofs.Common.{◌≡◌, ◌<◌, ◌∙◌, ℕ, Option, None, Some, ap, arith, length, refl, sym}
 use Rattle.std.specs.Prelude.{option_map}
-use Rattle.script_code.specs.declared.cursor.Cursor.{Cursor}
+use Rattle.rules_bodies.specs.declared.cursor.Cursor.{Cursor}
 use Rattle.rules_machine.specs.Cancellation.{leaves, leaves_wait}
 use Rattle.rules_machine.specs.State.{Machine, Wait, Waiting, for_condition, for_end, for_message, for_mutex, for_mutex_again, for_room, for_semaphore, for_signal, for_time}
 use Rattle.rules_machine.specs.Threads.{thread_at, waiting_of}
 use Rattle.rules_machine.specs.Turns.{Turn}
-use Rattle.laws_moves.proofs.Calls.Answers.{waits_blocked}
+use Rattle.rules_moves.proofs.Calls.Answers.{waits_blocked}
 use Rattle.kernel_threads.specs.Plain.{wait_of}
 use Rattle.kernel_threads.specs.declared.status.Wait as plain
 use Rattle.kernel_threads.specs.Unused.{IsUnused}

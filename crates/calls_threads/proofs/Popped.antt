@@ -2,7 +2,7 @@
 use Rattle.std.proofs.Common.{◌≡◌, ◌<◌, ◌∙◌, ℕ, zero, suc, true, false, List, [], ◌∷◌, Option, None, Some, ap, length, refl, subst, sym}
 use Rattle.std.specs.Prelude.{IfSome, slice_get}
 use Rattle.words_numbers.specs.declared.res.Res.{Res}
-use Rattle.script_code.specs.declared.cursor.Cursor.{Cursor}
+use Rattle.rules_bodies.specs.declared.cursor.Cursor.{Cursor}
 use Rattle.rules_machine.specs.declared.frame.BodyOf.TheVariants as body_of
 use Rattle.rules_machine.specs.declared.frame.FrameKind.TheVariants as frame
 use Rattle.rules_machine.specs.Bodies.{Bodies}

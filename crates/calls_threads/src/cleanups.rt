@@ -1,6 +1,6 @@
 // Cleanup handlers.
 ghost use Rattle.std.specs.Prelude.{◌≡◌, ℕ, ◌≤◌, ◌<◌, IfSome, List, length, slice_get};
-ghost use Rattle.words_trace.specs.Tells.{Tells};
+ghost use Rattle.parts_tracer.specs.Tells.{Tells};
 ghost use Rattle.rules_machine.specs.Cancellation.{pops_cleanup, pushes_cleanup, runs_cleanup_if};
 ghost use Rattle.rules_machine.specs.Threads.{thread_at};
 ghost use Rattle.rules_machine.specs.Turns.{changes};
@@ -9,7 +9,7 @@ ghost use Rattle.kernel_threads.specs.Handlers.{AreHandlers};
 ghost use Rattle.kernel_state.specs.Kernel.{after, by, told};
 
 use kernel_state::Parts;
-use words_trace::Tracer;
+use parts_tracer::Tracer;
 use parts_io::Sink;
 use words_script::Call;
 use words_numbers::{ObjId, Res, Tid};

@@ -2,7 +2,7 @@
 ghost use Rattle.std.specs.Prelude.{◌≡◌, ◌≤◌, ◌<◌, ◌^◌, length};
 ghost use Rattle.words_numbers.specs.declared.res.Res.TheVariants as res;
 ghost use Rattle.words_trace.specs.declared.event.Event.TheVariants as event;
-ghost use Rattle.words_trace.specs.Tells.{Tells};
+ghost use Rattle.parts_tracer.specs.Tells.{Tells};
 ghost use Rattle.rules_machine.specs.Lives.{ends, exits, finishes, wakes_joiner, with_joiner, without_life, without_target};
 ghost use Rattle.rules_machine.specs.State.{has_joined};
 ghost use Rattle.rules_machine.specs.Threads.{thread_at};
@@ -16,7 +16,8 @@ ghost use Rattle.calls_threads.specs.Joins.{JoinerFits, JoinsFit};
 
 use kernel_state::Parts;
 use rules_machine::FrameKind;
-use words_trace::{Event, Tracer};
+use parts_tracer::Tracer;
+use words_trace::Event;
 use parts_io::Sink;
 use words_script::Call;
 use kernel_threads::Joiner;

@@ -1,7 +1,7 @@
 // Joining.
 ghost use Rattle.std.specs.Prelude.{◌≡◌, ◌<◌, None, length, true};
 ghost use Rattle.words_numbers.specs.declared.res.Res.TheVariants as res;
-ghost use Rattle.words_trace.specs.Tells.{Tells};
+ghost use Rattle.parts_tracer.specs.Tells.{Tells};
 ghost use Rattle.rules_machine.specs.Lives.{is_nobody, joins, with_joiner};
 ghost use Rattle.rules_machine.specs.State.{for_end, has_joined, waits_to_join};
 ghost use Rattle.rules_machine.specs.Threads.{can_run, thread_at};
@@ -11,7 +11,7 @@ ghost use Rattle.kernel_threads.specs.Plain.{joiner_of};
 ghost use Rattle.kernel_state.specs.Kernel.{after, by, told};
 
 use kernel_state::Parts;
-use words_trace::Tracer;
+use parts_tracer::Tracer;
 use parts_io::Sink;
 use words_script::Call;
 use kernel_threads::{Joiner, Wait};

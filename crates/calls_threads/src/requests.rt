@@ -1,7 +1,7 @@
 // Requests to end.
 ghost use Rattle.std.specs.Prelude.{◌≡◌, ◌≤◌, ◌<◌, ◌&&◌, ◌^◌, Bool, length};
 ghost use Rattle.words_numbers.specs.declared.res.Res.TheVariants as res;
-ghost use Rattle.words_trace.specs.Tells.{Tells};
+ghost use Rattle.parts_tracer.specs.Tells.{Tells};
 ghost use Rattle.rules_machine.specs.Cancellation.{acts_if_blocked, cancels, is_cancellation_point, leaves, leaves_wait, request_acts, requested, sets_cancelability};
 ghost use Rattle.rules_machine.specs.Lives.{with_joiner};
 ghost use Rattle.rules_machine.specs.State.{nobody};
@@ -17,7 +17,7 @@ ghost use Rattle.calls_threads.specs.Joins.{EndIsKnown, JoinsFit};
 use kernel_state::Parts;
 use calls_sync::contend;
 use rules_machine::CondEnd;
-use words_trace::Tracer;
+use parts_tracer::Tracer;
 use parts_io::Sink;
 use words_script::Call;
 use kernel_threads::{Joiner, Wait};

@@ -1,17 +1,17 @@
 -- After some ticks of the head at once, nothing more precedes its next tick.
 use Rattle.std.proofs.Common.{Bool, List, [], suc, zero, ◌∷◌, ◌-◌, None, Option, Some, ap, arith, false, inl, inr, refl, subst, sym, true, ℕ, ◌+◌, ◌≤◌, ◌≡◌, ◌⊎◌, ◌∙◌}
 use Rattle.std.specs.Prelude.{nat_lt, option_map, ◌==◌, ◌&&◌, if◌then◌else◌}
-use Rattle.script_code.specs.declared.cursor.Cursor.{Cursor}
-use Rattle.parts_server.specs.Server.{ServerState, charge_ticks, is_high}
-use Rattle.parts_server.proofs.Laws.{charge_ticks_is}
+use Rattle.rules_bodies.specs.declared.cursor.Cursor.{Cursor}
+use Rattle.rules_server.specs.Server.{ServerState, charge_ticks, is_high}
+use Rattle.rules_server.proofs.Laws.{charge_ticks_is}
 use Rattle.rules_machine.specs.Bodies.{Bodies}
 use Rattle.rules_machine.specs.Lists.{changed_at}
 use Rattle.rules_machine.specs.Servers.{has_run, is_strict, may_open}
 use Rattle.rules_machine.specs.State.{Machine, Thread}
 use Rattle.rules_machine.specs.Threads.{no_thread, thread_at, thread_in}
 use Rattle.rules_machine.specs.Units.{in_unit}
-use Rattle.laws_moves.proofs.Runs.Preparing.{IsReady}
-use Rattle.laws_moves.proofs.Waiters.OfThreads.{changed_is}
+use Rattle.rules_moves.proofs.Runs.Preparing.{IsReady}
+use Rattle.rules_moves.proofs.Waiters.OfThreads.{changed_is}
 use Rattle.rules_leaps.specs.Quiet.{after_ticks, server_after}
 use Rattle.laws_leaps.proofs.Leaps.Going.{gone}
 use Rattle.laws_leaps.proofs.Quiet.Prepared.{Begun, opens_more}

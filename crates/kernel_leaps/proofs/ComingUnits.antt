@@ -1,10 +1,10 @@
 -- A thread that came to run in a tick has a direct move.
 use Rattle.std.proofs.Common.{ℕ, zero, suc, ap, sym, ◌∙◌}
 use Rattle.std.specs.Prelude.{None, Option, Some, not}
-use Rattle.parts_server.specs.Server.{ServerState, plan}
-use Rattle.script_code.specs.declared.cursor.Cursor.{Cursor}
-use Rattle.script_code.specs.declared.unit.Unit as unit_type
-use Rattle.script_code.specs.declared.unit.Unit.TheVariants as unit
+use Rattle.rules_server.specs.Server.{ServerState, plan}
+use Rattle.rules_bodies.specs.declared.cursor.Cursor.{Cursor}
+use Rattle.rules_bodies.specs.declared.unit.Unit as unit_type
+use Rattle.rules_bodies.specs.declared.unit.Unit.TheVariants as unit
 use Rattle.words_trace.specs.declared.event.Event.TheVariants as event
 use Rattle.rules_machine.specs.Bodies.{Bodies}
 use Rattle.rules_machine.specs.Threads.{can_run, thread_at, top_kind}

@@ -1,10 +1,10 @@
 -- An instant in which some items are done.
 use Rattle.std.proofs.Common.{◌≡◌, ℕ, suc, List, [], Option, None, Some, ap, refl, subst, sym, ◌∙◌}
-use Rattle.words_trace.specs.declared.tracer.Tracer.{Tracer}
-use Rattle.words_trace.specs.Tells.{Tells}
-use Rattle.words_trace.proofs.Tells.{tells_nothing}
+use Rattle.parts_tracer.specs.declared.tracer.Tracer.{Tracer}
+use Rattle.parts_tracer.specs.Tells.{Tells}
+use Rattle.parts_tracer.proofs.Tells.{tells_nothing}
 use Rattle.words_numbers.specs.declared.item.Item.{Item}
-use Rattle.script_code.specs.declared.cursor.Cursor.{Cursor}
+use Rattle.rules_bodies.specs.declared.cursor.Cursor.{Cursor}
 use Rattle.rules_machine.specs.Turns.{Turn}
 use Rattle.rules_machine.specs.DueItems.{instant, item_done, items_done, next_item}
 use Rattle.rules_machine.proofs.BehindTicks.{item_done_behind}

@@ -1,12 +1,12 @@
 -- The head of the lists can run where the threads stand right.
 use Rattle.std.proofs.Common.{◌≡◌, ◌+◌, ℕ, suc, List, [], ◌∷◌, Bool, true, false, Some, arith, refl}
 use Rattle.std.specs.Prelude.{slice_index_or}
-use Rattle.parts_lists.specs.Threads.{times}
+use Rattle.rules_lists.specs.Threads.{times}
 use Rattle.rules_machine.specs.State.{Machine}
 use Rattle.rules_machine.specs.Threads.{can_run}
 use Rattle.rules_machine.specs.Dispatch.{head}
-use Rattle.laws_moves.proofs.Runs.Listed.{AllRun, head_can_run}
-use Rattle.laws_moves.proofs.Waiters.Best.{Each}
+use Rattle.rules_moves.proofs.Runs.Listed.{AllRun, head_can_run}
+use Rattle.rules_moves.proofs.Waiters.Best.{Each}
 use Rattle.kernel_state.specs.Stood.{StoodRight}
 
 here_once : (u : ℕ) (us : List ℕ) → times u (u ∷ us) ≡ 0 → ⊥

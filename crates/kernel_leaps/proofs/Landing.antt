@@ -1,9 +1,9 @@
 -- A sweep comes to a kernel that it could come to, since what it leaves is so.
 use Rattle.std.proofs.Common.{◌≡◌, ◌∙◌, ◌≤◌, ◌+◌, ℕ, List, [], false, Option, None, Some, ap, refl, subst, suc, sym}
 use Rattle.std.specs.Prelude.{IfSome, is_some}
-use Rattle.words_trace.specs.declared.tracer.Tracer.{Tracer}
+use Rattle.parts_tracer.specs.declared.tracer.Tracer.{Tracer}
 use Rattle.words_numbers.specs.declared.item.Item.{Item}
-use Rattle.script_code.specs.declared.cursor.Cursor.{Cursor}
+use Rattle.rules_bodies.specs.declared.cursor.Cursor.{Cursor}
 use Rattle.rules_machine.specs.Agenda.{agenda}
 use Rattle.rules_machine.specs.Bodies.{Bodies}
 use Rattle.rules_machine.specs.Delivery.{sweeps}

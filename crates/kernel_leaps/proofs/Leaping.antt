@@ -1,11 +1,11 @@
 -- A run in leaps: where it stands, and how many leaps it took.
 use Rattle.std.proofs.Common.{◌≡◌, ◌≤◌, ◌<◌, ◌+◌, ℕ, List, [], Option, ap, arith, subst, sym, ◌∙◌}
 use Rattle.std.specs.Prelude.{◌-◌}
-use Rattle.words_trace.specs.declared.tracer.Tracer.{Tracer}
-use Rattle.words_trace.specs.Tells.{Tells}
-use Rattle.script_code.specs.declared.cursor.Cursor.{Cursor}
-use Rattle.script_code.specs.declared.op.Op.{Op}
-use Rattle.script_code.specs.Flat as flat
+use Rattle.parts_tracer.specs.declared.tracer.Tracer.{Tracer}
+use Rattle.parts_tracer.specs.Tells.{Tells}
+use Rattle.rules_bodies.specs.declared.cursor.Cursor.{Cursor}
+use Rattle.rules_bodies.specs.declared.op.Op.{Op}
+use Rattle.rules_bodies.specs.Flat as flat
 use Rattle.rules_machine.specs.Eventful.{busy}
 use Rattle.rules_machine.specs.Runs.{Ran, ticks}
 use Rattle.rules_machine.specs.State.{Machine}

@@ -2,10 +2,10 @@
 -- where they do anything.
 use Rattle.std.proofs.Common.{◌≡◌, ◌≤◌, ◌<◌, ◌+◌, ◌-◌, ℕ, List, [], true, false, Option, None, Some, ap, arith, refl, subst, sym, ◌∙◌}
 use Rattle.std.specs.Prelude.{is_some, IfSome, max, min}
-use Rattle.words_trace.specs.declared.tracer.Tracer.{Tracer}
-use Rattle.words_trace.specs.Tells.{Tells}
-use Rattle.words_trace.proofs.Tells.{tells_nothing}
-use Rattle.script_code.specs.declared.cursor.Cursor.{Cursor}
+use Rattle.parts_tracer.specs.declared.tracer.Tracer.{Tracer}
+use Rattle.parts_tracer.specs.Tells.{Tells}
+use Rattle.parts_tracer.proofs.Tells.{tells_nothing}
+use Rattle.rules_bodies.specs.declared.cursor.Cursor.{Cursor}
 use Rattle.rules_machine.specs.Agenda.{agenda}
 use Rattle.rules_machine.specs.Bodies.{Bodies}
 use Rattle.rules_machine.specs.Dispatch.{head}
@@ -17,7 +17,7 @@ use Rattle.rules_machine.specs.Turns.{Turn, becomes, turn_of}
 use Rattle.rules_machine.specs.Units.{in_unit}
 use Rattle.rules_machine.proofs.Counting.{instant_now}
 use Rattle.rules_machine.proofs.Parts.{prepares_unended}
-use Rattle.laws_moves.proofs.Runs.Preparing.{IsReady, prepared}
+use Rattle.rules_moves.proofs.Runs.Preparing.{IsReady, prepared}
 use Rattle.rules_flat_code.specs.FlatBodies.{flat_bodies}
 use Rattle.rules_leaps.specs.Leap.{in_leaps, later_by, leap, leap_goes_on, leap_head, leap_length, leap_runs, length_from, ticks_to_next}
 use Rattle.rules_leaps.specs.Quiet.{IsHandled}

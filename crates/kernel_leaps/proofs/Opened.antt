@@ -2,7 +2,7 @@
 use Rattle.std.proofs.Common.{◌≡◌, ◌∙◌, ℕ, ap, length, subst, sym}
 use Rattle.std.proofs.lemmas.List.{length-map}
 use Rattle.words_script.specs.declared.decl.Script.{Script}
-use Rattle.script_code.specs.Flat as flat
+use Rattle.rules_bodies.specs.Flat as flat
 use Rattle.rules_machine.specs.Budget.{KeepsBudgets}
 use Rattle.rules_machine.specs.Declarations.{ThreadDecl, cleanups_of, threads_of}
 use Rattle.rules_machine.specs.Threads.{thread_at}

@@ -1,12 +1,12 @@
 -- Units that a thread passes: what stays as it is meanwhile, and how long they are.
 use Rattle.std.proofs.Common.{◌≡◌, ◌≤◌, ◌<◌, ◌+◌, ◌-◌, ℕ, zero, suc, Bool, true, false, List, [], ◌∷◌, Option, None, Some, ap, arith, length, refl, slice_index_or, slice_set, subst, sym, ◌∙◌}
 use Rattle.std.specs.Prelude.{max, nat_lt, option_map, ◌&&◌, ◌==◌, is_some, if◌then◌else◌}
-use Rattle.script_code.specs.declared.cursor.Cursor.{Cursor}
-use Rattle.script_code.specs.declared.op.Op.{Op}
+use Rattle.rules_bodies.specs.declared.cursor.Cursor.{Cursor}
+use Rattle.rules_bodies.specs.declared.op.Op.{Op}
 use Rattle.script_code.specs.Fetched.{unit_of}
-use Rattle.script_code.specs.Flat.{NumberedBodies}
-use Rattle.parts_server.specs.Server.{ServerState, charge_ticks, is_high}
-use Rattle.parts_server.proofs.Laws.{charge_ticks_is}
+use Rattle.rules_bodies.specs.Flat.{NumberedBodies}
+use Rattle.rules_server.specs.Server.{ServerState, charge_ticks, is_high}
+use Rattle.rules_server.proofs.Laws.{charge_ticks_is}
 use Rattle.rules_machine.specs.Bodies.{Bodies}
 use Rattle.rules_machine.specs.Servers.{has_high}
 use Rattle.rules_machine.specs.State.{Thread}
@@ -15,7 +15,7 @@ use Rattle.rules_machine.specs.Ticks.{capacity_in, slice_is_used}
 use Rattle.rules_machine.specs.Turns.{Turn, becomes, changes, ◌▷◌}
 use Rattle.rules_machine.specs.Units.{in_unit}
 use Rattle.rules_machine.proofs.Reading.{changed-length, thread-same}
-use Rattle.laws_moves.proofs.Waiters.Best.{running_within}
+use Rattle.rules_moves.proofs.Waiters.Best.{running_within}
 use Rattle.laws_machine.proofs.Lists.Kept.{Plans, in_unit_plans}
 use Rattle.laws_leaps.proofs.Quiet.Once.{less_high}
 use Rattle.rules_flat_code.specs.FlatBodies.{flat_bodies}

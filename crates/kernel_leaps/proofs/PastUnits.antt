@@ -1,9 +1,9 @@
 -- A thread's leap goes past units, each a leap of its own, and then through one more.
 use Rattle.std.proofs.Common.{◌≡◌, ◌≤◌, ◌<◌, ◌+◌, ◌-◌, ◌^◌, ℕ, List, [], ◌∷◌, Option, None, Some, arith, length, refl, subst, sym}
-use Rattle.words_trace.specs.declared.tracer.Tracer.{Tracer}
+use Rattle.parts_tracer.specs.declared.tracer.Tracer.{Tracer}
 use Rattle.rules_machine.specs.Threads.{thread_at}
 use Rattle.rules_machine.proofs.Reading.{thread-same}
-use Rattle.laws_moves.proofs.Waiters.Best.{running_within}
+use Rattle.rules_moves.proofs.Waiters.Best.{running_within}
 use Rattle.rules_flat_code.specs.FlatBodies.{flat_bodies}
 use Rattle.calls_table.specs.Calls.{objects_in}
 use Rattle.kernel_state.specs.Kernel.{Kernel, after}

@@ -1,17 +1,17 @@
 -- What precedes the tick of the head changes servers and the last dispatch alone, and no execution priority.
 use Rattle.std.proofs.Common.{Bool, List, None, Option, Some, [], ap, arith, false, inl, inr, length, refl, subst, sym, true, ℕ, ◌+◌, ◌<◌, ◌≤◌, ◌^◌, ◌≡◌, ◌⊎◌, ◌∙◌}
 use Rattle.std.specs.Prelude.{option_map, slice_index_or, ◌-◌, ◌==◌, ◌∷◌, if◌then◌else◌}
-use Rattle.parts_lists.specs.Threads.{times}
-use Rattle.script_code.specs.declared.cursor.Cursor.{Cursor}
-use Rattle.script_code.specs.declared.op.Op.{Op}
-use Rattle.script_code.specs.declared.unit.Unit as unit_type
-use Rattle.script_code.specs.declared.unit.Unit.TheVariants as unit
-use Rattle.script_code.specs.Flat as flat
+use Rattle.rules_lists.specs.Threads.{times}
+use Rattle.rules_bodies.specs.declared.cursor.Cursor.{Cursor}
+use Rattle.rules_bodies.specs.declared.op.Op.{Op}
+use Rattle.rules_bodies.specs.declared.unit.Unit as unit_type
+use Rattle.rules_bodies.specs.declared.unit.Unit.TheVariants as unit
+use Rattle.rules_bodies.specs.Flat as flat
 use Rattle.words_script.specs.declared.call.Call.{Call}
 use Rattle.words_script.specs.declared.call.Call.TheVariants as call
-use Rattle.parts_server.specs.declared.ServerKind.{ServerKind}
-use Rattle.parts_server.specs.declared.ServerKind.TheVariants as kind
-use Rattle.parts_server.specs.Server.{ServerState, activate, plan}
+use Rattle.rules_server.specs.declared.ServerKind.{ServerKind}
+use Rattle.rules_server.specs.declared.ServerKind.TheVariants as kind
+use Rattle.rules_server.specs.Server.{ServerState, activate, plan}
 use Rattle.rules_machine.specs.declared.dispatch.LastDispatch.{LastDispatch}
 use Rattle.rules_machine.specs.Bodies.{Bodies}
 use Rattle.rules_machine.specs.Dispatch.{dispatch_of, dispatches, head}
@@ -26,9 +26,9 @@ use Rattle.rules_machine.specs.Units.{Following, InUnit, advances, begins_finish
 use Rattle.rules_machine.proofs.Reading.{changed-keeps, changed-length}
 use Rattle.rules_flat_code.specs.FlatBodies.{flat_bodies}
 use Rattle.rules_flat_code.specs.KnownCalls.{Objects}
-use Rattle.laws_moves.proofs.Runs.Preparing.{PreparingKeeps, prepares_keep}
-use Rattle.laws_moves.proofs.Runs.Ticks.{dispatched}
-use Rattle.laws_moves.proofs.Waiters.OfThreads.{changed_is}
+use Rattle.rules_moves.proofs.Runs.Preparing.{PreparingKeeps, prepares_keep}
+use Rattle.rules_moves.proofs.Runs.Ticks.{dispatched}
+use Rattle.rules_moves.proofs.Waiters.OfThreads.{changed_is}
 use Rattle.laws_machine.proofs.Lists.Kept.{claim_at, claims_at, strict_high}
 use Rattle.laws_machine.proofs.Servers.Right.{run_parts}
 use Rattle.kernel_threads.specs.Unused.{IsUnused, IsUnusedAs}

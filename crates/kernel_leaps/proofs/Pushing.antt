@@ -3,10 +3,10 @@ use Rattle.std.proofs.Common.{◌≡◌, ◌∙◌, ◌<◌, ◌≤◌, ℕ, Boo
 use Rattle.std.specs.Prelude.{◌&&◌}
 use Rattle.words_script.specs.declared.call.Call.TheVariants as call
 use Rattle.words_script.specs.declared.decl.Script.{Script}
-use Rattle.script_code.specs.declared.cursor.Cursor.{Cursor}
-use Rattle.script_code.specs.declared.unit.Unit.{Unit as Step}
-use Rattle.script_code.specs.declared.unit.Unit.TheVariants as unit
-use Rattle.script_code.specs.Next.{Place}
+use Rattle.rules_bodies.specs.declared.cursor.Cursor.{Cursor}
+use Rattle.rules_bodies.specs.declared.unit.Unit.{Unit as Step}
+use Rattle.rules_bodies.specs.declared.unit.Unit.TheVariants as unit
+use Rattle.rules_bodies.specs.Next.{Place}
 use Rattle.rules_machine.specs.declared.frame.BodyOf.{BodyOf}
 use Rattle.rules_machine.specs.declared.frame.BodyOf.TheVariants as body_of
 use Rattle.rules_machine.specs.Bodies.{Bodies}
@@ -22,7 +22,7 @@ use Rattle.rules_machine.specs.Ticks.{frames_charged, tick_charged}
 use Rattle.rules_machine.specs.Turns.{Turn, turn_of}
 use Rattle.rules_machine.specs.Units.{InUnit, advances, begins_finish, choice, in_unit, is_at_end, takes_unit}
 use Rattle.rules_machine.specs.WellFormed.{IsWellFormed}
-use Rattle.laws_moves.proofs.Runs.Units.{bodies_fit}
+use Rattle.rules_moves.proofs.Runs.Units.{bodies_fit}
 use Rattle.laws_machine.specs.GuardedBodies.{BodiesGuarded, most_of}
 use Rattle.laws_machine.proofs.Cleanups.Blocks.{bodies_guarded}
 use Rattle.laws_machine.proofs.Cleanups.Frames.{Clean}

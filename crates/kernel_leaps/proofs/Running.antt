@@ -1,10 +1,10 @@
 -- A run in which some leaps are done.
 use Rattle.std.proofs.Common.{◌≡◌, ◌≤◌, ◌+◌, ℕ, List, [], Option, ap, arith, refl, subst, sym, true, ◌∙◌}
-use Rattle.words_trace.specs.declared.tracer.Tracer.{Tracer}
-use Rattle.words_trace.specs.Tells.{Tells}
+use Rattle.parts_tracer.specs.declared.tracer.Tracer.{Tracer}
+use Rattle.parts_tracer.specs.Tells.{Tells}
 use Rattle.words_trace.specs.Text.{Entry}
-use Rattle.words_trace.proofs.Tells.{tells_both, tells_nothing, tells_stopped}
-use Rattle.script_code.specs.declared.cursor.Cursor.{Cursor}
+use Rattle.parts_tracer.proofs.Tells.{tells_both, tells_nothing, tells_stopped}
+use Rattle.rules_bodies.specs.declared.cursor.Cursor.{Cursor}
 use Rattle.rules_machine.specs.State.{Machine}
 use Rattle.rules_machine.specs.Turns.{Turn, turn_of}
 use Rattle.rules_machine.specs.DueItems.{instant, items_done}

@@ -1,14 +1,14 @@
 -- A leap of a thread in its parts: the charge, the effect of its unit, the moves, the rule of the tick's end, and the sweep.
 use Rattle.std.proofs.Common.{◌≡◌, ◌∙◌, ◌≤◌, ◌+◌, ◌-◌, ◌^◌, ℕ, zero, suc, Bool, List, Option, Some, ap, arith, refl, subst, sym}
-use Rattle.words_trace.specs.declared.tracer.Tracer.{Tracer}
-use Rattle.words_trace.specs.Tells.{Tells}
-use Rattle.words_trace.proofs.Tells.{tells_nothing}
-use Rattle.script_code.specs.declared.cursor.Cursor.{Cursor}
+use Rattle.parts_tracer.specs.declared.tracer.Tracer.{Tracer}
+use Rattle.parts_tracer.specs.Tells.{Tells}
+use Rattle.parts_tracer.proofs.Tells.{tells_nothing}
+use Rattle.rules_bodies.specs.declared.cursor.Cursor.{Cursor}
 use Rattle.script_code.specs.declared.fetched.Fetched.{Fetched}
-use Rattle.script_code.specs.declared.op.Op.{Op}
-use Rattle.script_code.specs.declared.unit.Unit as unit_type
+use Rattle.rules_bodies.specs.declared.op.Op.{Op}
+use Rattle.rules_bodies.specs.declared.unit.Unit as unit_type
 use Rattle.script_code.specs.Fetched.{unit_of}
-use Rattle.script_code.specs.Flat as flat
+use Rattle.rules_bodies.specs.Flat as flat
 use Rattle.rules_machine.specs.Bodies.{Bodies}
 use Rattle.rules_machine.specs.Delivery.{sweeps}
 use Rattle.rules_machine.specs.Servers.{has_high}
@@ -23,7 +23,7 @@ use Rattle.rules_machine.proofs.BehindTicks.{sweeps_behind, tick_ends_behind}
 use Rattle.rules_machine.proofs.Kept.{Kept, kept}
 use Rattle.rules_machine.proofs.KeptByCalls.{unit_effect_kept}
 use Rattle.rules_machine.proofs.Reading.{thread-same}
-use Rattle.laws_moves.proofs.Waiters.Best.{running_within}
+use Rattle.rules_moves.proofs.Waiters.Best.{running_within}
 use Rattle.rules_flat_code.specs.FlatBodies.{flat_bodies}
 use Rattle.rules_leaps.specs.Leap.{leap_runs, unit_leapt}
 use Rattle.rules_leaps.specs.Quiet.{after_ticks}

@@ -1,6 +1,6 @@
 -- Where the rule of a tick's end does nothing, its moves do nothing either.
 use Rattle.std.proofs.Common.{◌≡◌, ℕ, Bool, List, [], ap, sym, ◌∙◌}
-use Rattle.script_code.specs.declared.cursor.Cursor.{Cursor}
+use Rattle.rules_bodies.specs.declared.cursor.Cursor.{Cursor}
 use Rattle.rules_machine.specs.Settling.{settled}
 use Rattle.rules_machine.specs.State.{Machine}
 use Rattle.rules_machine.specs.Threads.{thread_at}

@@ -1,10 +1,10 @@
 -- The run of a script's kernel and its closing lines are the script's trace.
 use Rattle.std.proofs.Common.{◌≡◌, ◌-◌, ℕ, List, Option, ap, arith, subst, true, ◌∙◌}
-use Rattle.words_trace.specs.Prints.{Prints}
-use Rattle.words_trace.specs.Tells.{Tells}
+use Rattle.parts_tracer.specs.Prints.{Prints}
+use Rattle.parts_tracer.specs.Tells.{Tells}
 use Rattle.words_trace.specs.Text.{lines}
-use Rattle.words_trace.specs.declared.tracer.Tracer.{Tracer}
-use Rattle.words_trace.proofs.Prints.{prints_both, prints_stopped}
+use Rattle.parts_tracer.specs.declared.tracer.Tracer.{Tracer}
+use Rattle.parts_tracer.proofs.Prints.{prints_both, prints_stopped}
 use Rattle.words_script.specs.declared.decl.Script.{Script}
 use Rattle.rules_machine.specs.Machine.{closing, names_of, trace}
 use Rattle.rules_machine.specs.Runs.{opening, ticks}

@@ -1,9 +1,9 @@
 -- What a thread asks for as it completes a unit.
 use Rattle.std.specs.Prelude.{◌≡◌, ◌<◌, ◌^◌, ℕ, length, true}
 use Rattle.words_script.specs.declared.call.Call.{Call}
-use Rattle.script_code.specs.declared.cursor.Cursor.{Cursor}
-use Rattle.script_code.specs.declared.unit.Unit as unit_type
-use Rattle.script_code.specs.declared.unit.Unit.TheVariants as unit
+use Rattle.rules_bodies.specs.declared.cursor.Cursor.{Cursor}
+use Rattle.rules_bodies.specs.declared.unit.Unit as unit_type
+use Rattle.rules_bodies.specs.declared.unit.Unit.TheVariants as unit
 use Rattle.rules_machine.specs.Bodies.{Bodies}
 use Rattle.rules_machine.specs.State.{Thread}
 use Rattle.rules_machine.specs.Threads.{can_run}

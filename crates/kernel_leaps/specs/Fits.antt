@@ -1,8 +1,8 @@
 -- What the code asks of the states of a run, beside what the parts hold by themselves.
 use Rattle.std.specs.Prelude.{◌≡◌, ◌<◌, ℕ, List, [], Some, length, true}
-use Rattle.script_code.specs.declared.cursor.Cursor.{Cursor}
-use Rattle.script_code.specs.declared.op.Op.{Op}
-use Rattle.script_code.specs.Flat as flat
+use Rattle.rules_bodies.specs.declared.cursor.Cursor.{Cursor}
+use Rattle.rules_bodies.specs.declared.op.Op.{Op}
+use Rattle.rules_bodies.specs.Flat as flat
 use Rattle.rules_machine.specs.State.{Machine, Thread}
 use Rattle.rules_machine.specs.Threads.{can_run, thread_at}
 use Rattle.rules_machine.specs.Dispatch.{head}

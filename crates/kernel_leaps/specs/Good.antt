@@ -1,6 +1,6 @@
 -- A good state of the machine over flat code: all that is good of a state but its cleanup handlers, whose guards are places of trees.
 use Rattle.std.specs.Prelude.{◌≡◌, None}
-use Rattle.script_code.specs.declared.cursor.Cursor.{Cursor}
+use Rattle.rules_bodies.specs.declared.cursor.Cursor.{Cursor}
 use Rattle.rules_machine.specs.Bodies.{Bodies}
 use Rattle.rules_machine.specs.GoodState.{IsSwept, ListsAreRight, MutexesAreRight, SerialsAreRight, ServersAreRight, SignalsAreRight, WaitsAreRight}
 use Rattle.rules_machine.specs.State.{Machine}

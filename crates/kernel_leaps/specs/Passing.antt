@@ -1,7 +1,7 @@
 -- A thread that passes units and then leaps. This project's own.
 use Rattle.std.specs.Prelude.{◌≡◌, ◌≤◌, ◌+◌, ◌-◌, ◌^◌, ℕ, List, Option, Some, max}
-use Rattle.words_trace.specs.declared.tracer.Tracer.{Tracer}
-use Rattle.words_trace.specs.Tells.{Tells}
+use Rattle.parts_tracer.specs.declared.tracer.Tracer.{Tracer}
+use Rattle.parts_tracer.specs.Tells.{Tells}
 use Rattle.rules_machine.specs.Threads.{thread_at}
 use Rattle.rules_machine.specs.Turns.{with_thread}
 use Rattle.rules_machine.specs.Units.{in_unit}

@@ -1,6 +1,6 @@
 // Calls that have a function of their own, so that the loop of leaps needs no room for what they use.
 ghost use Rattle.std.specs.Prelude.{◌≡◌, ◌≤◌, ◌<◌, ◌^◌, length};
-ghost use Rattle.words_trace.specs.Tells.{Tells};
+ghost use Rattle.parts_tracer.specs.Tells.{Tells};
 ghost use Rattle.script_code.specs.Fetched.{call_of};
 ghost use Rattle.words_script.specs.declared.call.Call.TheVariants as call;
 ghost use Rattle.rules_machine.specs.Calls.{makes_call};
@@ -12,7 +12,7 @@ ghost use Rattle.kernel_state.specs.Kernel.{after, by, told};
 
 use calls_table::make_call;
 use kernel_state::Parts;
-use words_trace::Tracer;
+use parts_tracer::Tracer;
 use parts_io::Sink;
 use script_code::CallPlace;
 use words_script::Call;

@@ -1,6 +1,6 @@
 // The items of an instant.
 ghost use Rattle.std.specs.Prelude.{◌≡◌, ◌≤◌, ◌^◌, []};
-ghost use Rattle.words_trace.specs.Tells.{Tells};
+ghost use Rattle.parts_tracer.specs.Tells.{Tells};
 ghost use Rattle.rules_machine.specs.DueItems.{instant};
 ghost use Rattle.rules_flat_code.specs.FlatBodies.{flat_bodies};
 ghost use Rattle.calls_table.specs.Calls.{objects_in};
@@ -10,7 +10,7 @@ ghost use Rattle.kernel_state.specs.Stood.{StoodRight};
 
 use calls_table::do_item;
 use kernel_state::Parts;
-use words_trace::Tracer;
+use parts_tracer::Tracer;
 use parts_io::Sink;
 
 /// All items of the instant.

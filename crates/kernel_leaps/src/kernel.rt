@@ -1,8 +1,8 @@
 // The kernel of a script.
 ghost use Rattle.std.specs.Prelude.{ℕ, ◌≡◌, ◌≤◌, ◌<◌, ◌+◌, ◌-◌, ◌^◌, [], None, Some, length, false, true, option_map, IfOk};
-ghost use Rattle.words_trace.specs.Prints.{Prints};
-ghost use Rattle.words_trace.specs.Tells.{Tells};
-ghost use Rattle.parts_server.specs.Server.{totals};
+ghost use Rattle.parts_tracer.specs.Prints.{Prints};
+ghost use Rattle.parts_tracer.specs.Tells.{Tells};
+ghost use Rattle.rules_server.specs.Server.{totals};
 ghost use Rattle.words_script.specs.declared.decl.Script as tree;
 ghost use Rattle.rules_machine.specs.Budget.{KeepsBudgets};
 ghost use Rattle.rules_leaps.specs.Leap.{in_leaps};
@@ -22,7 +22,7 @@ ghost use Rattle.kernel_leaps.specs.Ran.{ticked_by};
 
 use crate::run::{RunEnd, run_leaps};
 use kernel_state::Parts;
-use words_trace::Tracer;
+use parts_tracer::Tracer;
 use parts_io::Sink;
 use words_script::Script;
 use parts_server::BudgetLine;

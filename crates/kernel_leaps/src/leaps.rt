@@ -1,6 +1,6 @@
 // Leaps.
 ghost use Rattle.std.specs.Prelude.{◌≡◌, ◌≤◌, ◌<◌, ◌+◌, ◌-◌, ◌^◌, [], length};
-ghost use Rattle.words_trace.specs.Tells.{Tells};
+ghost use Rattle.parts_tracer.specs.Tells.{Tells};
 ghost use Rattle.rules_machine.specs.Runs.{ticks};
 ghost use Rattle.rules_flat_code.specs.FlatBodies.{flat_bodies};
 ghost use Rattle.rules_leaps.specs.Leap.{in_leaps};
@@ -14,7 +14,7 @@ use crate::tick_ends::end_tick;
 use crate::units::{complete_at_end, run_thread};
 use calls_signals::sweep;
 use kernel_state::Parts;
-use words_trace::Tracer;
+use parts_tracer::Tracer;
 use parts_io::Sink;
 use std::sync::ledger::Ledger;
 use parts_steps::Steps;

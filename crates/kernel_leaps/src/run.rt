@@ -1,6 +1,6 @@
 // A run.
 ghost use Rattle.std.specs.Prelude.{◌≡◌, ◌≤◌, ◌<◌, ◌+◌, ◌-◌, ◌^◌, ℕ, [], None, Some, true, false};
-ghost use Rattle.words_trace.specs.Tells.{Tells};
+ghost use Rattle.parts_tracer.specs.Tells.{Tells};
 ghost use Rattle.rules_machine.specs.Eventful.{busy};
 ghost use Rattle.rules_machine.specs.Runs.{ticks};
 ghost use Rattle.rules_flat_code.specs.FlatBodies.{flat_bodies};
@@ -12,7 +12,7 @@ ghost use Rattle.kernel_state.specs.Stood.{StoodRight};
 
 use crate::leaps::leaps;
 use kernel_state::Parts;
-use words_trace::Tracer;
+use parts_tracer::Tracer;
 use parts_io::Sink;
 use std::sync::ledger::Ledger;
 use parts_steps::Steps;

@@ -1,6 +1,6 @@
 // The rule of the tick's end.
 ghost use Rattle.std.specs.Prelude.{◌≡◌, ◌≤◌, ◌<◌, ◌+◌, [], false, length};
-ghost use Rattle.words_trace.specs.Tells.{Tells};
+ghost use Rattle.parts_tracer.specs.Tells.{Tells};
 ghost use Rattle.rules_machine.specs.Servers.{plans};
 ghost use Rattle.rules_machine.specs.Threads.{can_run, thread_at};
 ghost use Rattle.rules_machine.specs.Ticks.{consumed_in, ends_tick, exhausting, nothing, slicing, tick_end, tick_ends};
@@ -9,7 +9,8 @@ ghost use Rattle.kernel_state.specs.Kernel.{Kernel, after, told};
 ghost use Rattle.kernel_state.specs.Stood.{StoodRight};
 
 use kernel_state::Parts;
-use words_trace::{Event, Tracer};
+use parts_tracer::Tracer;
+use words_trace::Event;
 use parts_io::Sink;
 use kernel_threads::TickEnd;
 use words_numbers::Tid;

@@ -1,6 +1,6 @@
 // A thread's units: its running, and what a unit does at its end.
 ghost use Rattle.std.specs.Prelude.{◌≡◌, ◌≤◌, ◌<◌, ◌+◌, ◌^◌, ◌==◌, length, max, true};
-ghost use Rattle.words_trace.specs.Tells.{Tells};
+ghost use Rattle.parts_tracer.specs.Tells.{Tells};
 ghost use Rattle.script_code.specs.Fetched.{unit_of};
 ghost use Rattle.rules_machine.specs.Calls.{unit_effect};
 ghost use Rattle.rules_machine.specs.Threads.{thread_at, top_left};
@@ -20,7 +20,7 @@ use crate::calls::{make_any, make_lock, make_sleep};
 use calls_table::make_call;
 use calls_threads::finish;
 use kernel_state::Parts;
-use words_trace::Tracer;
+use parts_tracer::Tracer;
 use parts_io::Sink;
 use script_code::{CallPlace, Fetched};
 use words_script::Call;

@@ -1,9 +1,9 @@
 -- What a change of threads and mutexes leaves of the ties, and who is named with it.
 use Rattle.std.proofs.Common.{◌≡◌, ◌≢◌, ◌<◌, ◌≤◌, ◌∙◌, ℕ, true, false, List, None, Option, Some, ap, arith, length, refl, subst, sym}
 use Rattle.std.specs.Prelude.{IfSome, ◌==◌}
-use Rattle.script_code.specs.declared.cursor.Cursor.{Cursor}
-use Rattle.script_code.specs.declared.op.Op.{Op}
-use Rattle.script_code.specs.Flat.{NumberedBodies}
+use Rattle.rules_bodies.specs.declared.cursor.Cursor.{Cursor}
+use Rattle.rules_bodies.specs.declared.op.Op.{Op}
+use Rattle.rules_bodies.specs.Flat.{NumberedBodies}
 use Rattle.rules_machine.specs.Lists.{is}
 use Rattle.rules_machine.specs.State.{Mutex, Thread}
 use Rattle.rules_machine.specs.Threads.{is_runnable, no_thread}

@@ -4,15 +4,15 @@ use Rattle.std.specs.Prelude.{option_and_then, option_map, if◌then◌else◌}
 use Rattle.std.specs.List.{filter_map, list_any}
 use Rattle.std.specs.Option.{option_map_or}
 use Rattle.std.proofs.lemmas.List.{drop_more}
-use Rattle.script_code.specs.declared.cursor.Cursor.{Cursor}
+use Rattle.rules_bodies.specs.declared.cursor.Cursor.{Cursor}
 use Rattle.rules_machine.specs.Conditions.{released_mutex}
 use Rattle.rules_machine.specs.Lists.{numbers_from}
 use Rattle.rules_machine.specs.Priorities.{exec}
 use Rattle.rules_machine.specs.State.{Machine, Thread, Wait, Waiting}
 use Rattle.rules_machine.specs.Threads.{no_thread, thread_at, waiting_of}
 use Rattle.rules_machine.specs.Waiters.{Waiter, waiter_of, waiters, waits_so}
-use Rattle.laws_moves.proofs.Waiters.Best.{Each}
-use Rattle.laws_moves.proofs.Waiters.Best.{all_pass}
+use Rattle.rules_moves.proofs.Waiters.Best.{Each}
+use Rattle.rules_moves.proofs.Waiters.Best.{all_pass}
 use Rattle.kernel_threads.specs.Plain.{wait_of}
 use Rattle.kernel_threads.specs.declared.status.Wait as plain
 

@@ -1,8 +1,8 @@
 -- On which list a thread stands, where others move and where it moves itself.
 use Rattle.std.proofs.Common.{◌≡◌, ◌≢◌, ◌<◌, ◌≤◌, ◌+◌, ◌-◌, ◌∙◌, ℕ, zero, suc, Bool, true, false, List, [], ◌∷◌, None, Some, ap, arith, length, nat_lt, refl, sym}
 use Rattle.std.specs.Prelude.{◌==◌}
-use Rattle.parts_lists.specs.Threads.{stands_in, times}
-use Rattle.parts_ready.specs.Lists.{prio_from, prio_of, to_head, to_tail, without}
+use Rattle.rules_lists.specs.Threads.{stands_in, times}
+use Rattle.rules_lists.specs.Lists.{prio_from, prio_of, to_head, to_tail, without}
 use Rattle.rules_machine.proofs.Standing.{head_other, head_self, stands, stands_other, stands_without, tail_other, tail_self, head_length, tail_length, without_length}
 use Rattle.kernel_state.proofs.SettledSame.{reads}
 

@@ -4,11 +4,11 @@ use Rattle.std.specs.Prelude.{map, slice_get, slice_index, slice_index_or}
 use Rattle.std.proofs.lemmas.List.{length-map}
 use Rattle.words_script.specs.Block.{Block, Nothing}
 use Rattle.words_script.specs.declared.decl.Script.{Script}
-use Rattle.script_code.specs.Flat as flat
-use Rattle.script_code.specs.Next.{body_start}
-use Rattle.script_code.proofs.Opens.{is_body_of_script}
-use Rattle.parts_lists.specs.Threads.{times}
-use Rattle.script_code.specs.declared.cursor.Cursor.{Cursor}
+use Rattle.rules_bodies.specs.Flat as flat
+use Rattle.rules_bodies.specs.Next.{body_start}
+use Rattle.rules_bodies.proofs.Opens.{is_body_of_script}
+use Rattle.rules_lists.specs.Threads.{times}
+use Rattle.rules_bodies.specs.declared.cursor.Cursor.{Cursor}
 use Rattle.rules_machine.specs.Declarations.{ThreadDecl, threads_of}
 use Rattle.rules_machine.specs.Threads.{is_runnable, no_thread}
 use Rattle.rules_machine.specs.Machine.{names_of}

@@ -3,7 +3,7 @@ use Rattle.std.proofs.Common.{◌≡◌, ◌≢◌, ◌<◌, ◌∙◌, ◌+◌,
 use Rattle.std.specs.Prelude.{All, Contains, IfSome, filter, filter_map, if◌then◌else◌, nat_lt, not, option_map, slice_index_or, ◌&&◌, ◌||◌, ◌==◌}
 use Rattle.std.specs.Option.{option_map_or}
 use Rattle.std.proofs.lemmas.List.Elements.{All-contains}
-use Rattle.script_code.specs.declared.cursor.Cursor.{Cursor}
+use Rattle.rules_bodies.specs.declared.cursor.Cursor.{Cursor}
 use Rattle.words_numbers.specs.Signals.{has_signal}
 use Rattle.rules_machine.specs.Delivery.{can_take, may_be_interrupted, may_run_handler, taken_by_sweep}
 use Rattle.rules_machine.specs.Lists.{first_by, kept_if, numbers_from}
@@ -12,8 +12,8 @@ use Rattle.rules_machine.specs.Signals.{accepts, acceptor, may_go_to, is_kill, i
 use Rattle.rules_machine.specs.State.{Machine, SignalRecord, Thread, Wait, Waiting, for_condition, for_end, for_message, for_mutex, for_mutex_again, for_room, for_semaphore, for_signal, for_time}
 use Rattle.rules_machine.specs.Threads.{action_of, is_blocked, no_thread, thread_at, waiting_of}
 use Rattle.rules_machine.specs.Waiters.{Waiter, is_served_before, waiter_of, waiters, waits_so}
-use Rattle.laws_moves.proofs.Calls.Answers.{acceptor_waits, waits_blocked}
-use Rattle.laws_moves.proofs.Waiters.Best.{Each, blocked_within, first_none, first_one}
+use Rattle.rules_moves.proofs.Calls.Answers.{acceptor_waits, waits_blocked}
+use Rattle.rules_moves.proofs.Waiters.Best.{Each, blocked_within, first_none, first_one}
 use Rattle.kernel_signals.proofs.Killing.{none_has}
 use Rattle.kernel_signals.specs.Actions.{Kills}
 use Rattle.kernel_signals.specs.Choice.{may_take, selected_in}

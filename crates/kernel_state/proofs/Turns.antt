@@ -1,11 +1,11 @@
 -- One effect after another, over the parts.
 use Rattle.std.proofs.Common.{◌≡◌, ℕ, List, Option, ap, append-nil, subst, sym, ◌∙◌}
-use Rattle.words_trace.specs.Tells.{Tells}
-use Rattle.words_trace.specs.declared.tracer.Tracer.{Tracer}
-use Rattle.words_trace.proofs.Tells.{tells_both}
-use Rattle.script_code.specs.declared.cursor.Cursor.{Cursor}
-use Rattle.script_code.specs.declared.op.Op.{Op}
-use Rattle.script_code.specs.Flat as flat
+use Rattle.parts_tracer.specs.Tells.{Tells}
+use Rattle.parts_tracer.specs.declared.tracer.Tracer.{Tracer}
+use Rattle.parts_tracer.proofs.Tells.{tells_both}
+use Rattle.rules_bodies.specs.declared.cursor.Cursor.{Cursor}
+use Rattle.rules_bodies.specs.declared.op.Op.{Op}
+use Rattle.rules_bodies.specs.Flat as flat
 use Rattle.rules_machine.specs.Bodies.{Bodies}
 use Rattle.rules_machine.specs.Turns.{Turn}
 use Rattle.rules_flat_code.specs.FlatBodies.{flat_bodies}

@@ -1,13 +1,13 @@
 -- What is known of a thread that begins to wait, and of the one that is served first.
 use Rattle.std.proofs.Common.{◌≡◌, ◌<◌, ◌∙◌, ℕ, zero, suc, Bool, true, false, List, [], ◌∷◌, Option, None, Some, arith, length, refl}
 use Rattle.std.specs.Prelude.{IfSome, option_map}
-use Rattle.script_code.specs.declared.cursor.Cursor.{Cursor}
+use Rattle.rules_bodies.specs.declared.cursor.Cursor.{Cursor}
 use Rattle.rules_machine.specs.State.{Machine, Status, Thread, Wait, Waiting, blocked, dormant, ended, runnable}
 use Rattle.rules_machine.specs.Threads.{can_run, is_blocked, is_runnable, thread_at, thread_in, waiting_in, waiting_of}
 use Rattle.rules_machine.specs.Priorities.{claims, mutex_awaited_by}
 use Rattle.rules_machine.specs.Mutexes.{closes_cycle}
 use Rattle.rules_machine.specs.Waiters.{Waiter, best_waiter}
-use Rattle.laws_moves.proofs.Waiters.Best.{best_waits}
+use Rattle.rules_moves.proofs.Waiters.Best.{best_waits}
 use Rattle.parts_waiters.specs.declared.WaitObj.{WaitObj}
 use Rattle.parts_waiters.specs.Ties.{is_object, object_of}
 use Rattle.parts_owners.specs.Chains.{closes_cycle_in}

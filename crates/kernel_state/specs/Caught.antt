@@ -1,6 +1,6 @@
 -- What signals ask of a kernel.
 use Rattle.std.specs.Prelude.{◌<◌, ℕ, All, length}
-use Rattle.script_code.specs.declared.cursor.Cursor.{Cursor}
+use Rattle.rules_bodies.specs.declared.cursor.Cursor.{Cursor}
 use Rattle.rules_machine.specs.declared.signal.SigAction.{SigAction}
 use Rattle.rules_machine.specs.declared.signal.SigAction.TheVariants as action
 use Rattle.rules_machine.specs.State.{Machine, SignalRecord}

@@ -2,14 +2,14 @@
 use Rattle.std.specs.Prelude.{ℕ, Bool, List, None, Option, Some, [], ◌&&◌}
 use Rattle.words_trace.specs.Text.{Entry}
 use Rattle.words_script.specs.declared.call.Call.{Call}
-use Rattle.script_code.specs.declared.cursor.Cursor.{Cursor}
-use Rattle.script_code.specs.declared.op.Op.{Op}
-use Rattle.script_code.specs.Flat as flat
+use Rattle.rules_bodies.specs.declared.cursor.Cursor.{Cursor}
+use Rattle.rules_bodies.specs.declared.op.Op.{Op}
+use Rattle.rules_bodies.specs.Flat as flat
 use Rattle.rules_machine.specs.State.{Machine}
 use Rattle.rules_machine.specs.declared.dispatch.LastDispatch.{LastDispatch}
 use Rattle.rules_machine.specs.declared.dispatch.LastDispatch.TheVariants as last
 use Rattle.words_trace.specs.declared.event.Event.TheVariants as event
-use Rattle.parts_server.specs.Server.{activate}
+use Rattle.rules_server.specs.Server.{activate}
 use Rattle.rules_machine.specs.Servers.{activates_if, with_server}
 use Rattle.kernel_threads.specs.declared.ends.Refilled.{Refilled}
 use Rattle.words_numbers.specs.declared.res.Res.TheVariants as res

@@ -1,6 +1,6 @@
 -- What records that become pending ask of a machine, and the numbers of what sends them.
 use Rattle.std.specs.Prelude.{◌≡◌, ◌<◌, ℕ, All, Some, false, length}
-use Rattle.script_code.specs.declared.cursor.Cursor.{Cursor}
+use Rattle.rules_bodies.specs.declared.cursor.Cursor.{Cursor}
 use Rattle.rules_machine.specs.Signals.{is_full}
 use Rattle.rules_machine.specs.State.{Machine, Message, Registration, SignalRecord, Waiting, for_room}
 use Rattle.rules_machine.specs.Threads.{queue_at, timer_at, waiting_of}

@@ -1,7 +1,7 @@
 -- Where the threads stand that no settling has to look at.
 use Rattle.std.specs.Prelude.{◌≡◌, ◌≤◌, ◌<◌, ℕ, List, Some, false, length, true}
-use Rattle.script_code.specs.declared.cursor.Cursor.{Cursor}
-use Rattle.parts_ready.specs.Lists.{prio_of}
+use Rattle.rules_bodies.specs.declared.cursor.Cursor.{Cursor}
+use Rattle.rules_lists.specs.Lists.{prio_of}
 use Rattle.rules_machine.specs.State.{Machine}
 use Rattle.rules_machine.specs.Threads.{is_runnable}
 use Rattle.kernel_table.specs.Table.{Table, exec, thread_at}

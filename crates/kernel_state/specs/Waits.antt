@@ -1,6 +1,6 @@
 -- What a thread may begin to wait for.
 use Rattle.std.specs.Prelude.{◌≡◌, ◌<◌, ℕ, IsSome, None, Option, Some, false, length}
-use Rattle.script_code.specs.declared.cursor.Cursor.{Cursor}
+use Rattle.rules_bodies.specs.declared.cursor.Cursor.{Cursor}
 use Rattle.rules_machine.specs.State.{Machine}
 use Rattle.rules_machine.specs.Threads.{mutex_at}
 use Rattle.rules_machine.specs.Mutexes.{closes_cycle}

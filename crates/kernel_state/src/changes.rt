@@ -1,6 +1,6 @@
 // The smallest changes of a thread. Each names those that may no longer stand where they are to stand.
 ghost use Rattle.std.specs.Prelude.{◌≡◌, ◌≤◌, ◌<◌, ◌^◌, length, option_map, true};
-ghost use Rattle.parts_server.specs.Server.{activate};
+ghost use Rattle.rules_server.specs.Server.{activate};
 ghost use Rattle.rules_machine.specs.Servers.{with_server};
 ghost use Rattle.kernel_threads.specs.Sleeping.{waits_for_time};
 ghost use Rattle.kernel_threads.specs.Unused.{IsUnused};
@@ -18,7 +18,7 @@ ghost use Rattle.kernel_threads.specs.Plain.{wait_of, waiting_of};
 ghost use Rattle.kernel_state.specs.Waits.{CanWait};
 ghost use Rattle.kernel_state.specs.Kernel.{after};
 ghost use Rattle.std.specs.Prelude.{None, Some, is_some};
-ghost use Rattle.parts_server.specs.Server.{plan, refill, replenishment};
+ghost use Rattle.rules_server.specs.Server.{plan, refill, replenishment};
 ghost use Rattle.rules_machine.specs.Ticks.{consumed_in};
 ghost use Rattle.kernel_threads.specs.Ends.{refilled_of};
 

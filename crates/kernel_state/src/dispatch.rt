@@ -1,7 +1,7 @@
 // What precedes a tick: the dispatch, by which the head of the highest list that is not empty runs (IEEE 1003.1-2017, XSH 2.8.4), and the
 // runs of strict servers, which are this project's own.
 ghost use Rattle.std.specs.Prelude.{◌≡◌, ◌<◌, ◌≤◌, ◌^◌, ℕ, false, length, true, IfSome};
-ghost use Rattle.words_trace.specs.Tells.{Tells};
+ghost use Rattle.parts_tracer.specs.Tells.{Tells};
 ghost use Rattle.rules_machine.specs.declared.dispatch.LastDispatch.TheVariants as last;
 ghost use Rattle.rules_machine.specs.Dispatch.{dispatch_event, dispatches, head, is_same};
 ghost use Rattle.rules_machine.specs.Servers.{closes, has_run};
@@ -11,7 +11,8 @@ ghost use Rattle.rules_machine.specs.Turns.{tells, ◌▷◌};
 ghost use Rattle.kernel_state.specs.Kernel.{Kernel, after, told};
 
 use crate::parts::Parts;
-use words_trace::{Event, Tracer};
+use parts_tracer::Tracer;
+use words_trace::Event;
 use parts_io::Sink;
 use words_numbers::Tid;
 

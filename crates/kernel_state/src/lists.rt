@@ -1,6 +1,6 @@
 // The ready lists, and the priorities that threads stand at.
 ghost use Rattle.std.specs.Prelude.{◌≡◌, ◌<◌, ◌+◌, IfSome, MatchOption, length, true};
-ghost use Rattle.parts_ready.specs.Lists.{AreReadyLists, highest, prio_of, to_head, to_tail, without};
+ghost use Rattle.rules_lists.specs.Lists.{AreReadyLists, highest, prio_of, to_head, to_tail, without};
 ghost use Rattle.rules_machine.specs.Priorities.{exec};
 ghost use Rattle.rules_machine.specs.Threads.{can_run};
 ghost use Rattle.kernel_state.specs.Settled.{with_lists};

@@ -1,6 +1,6 @@
 // Joiners, requests and cleanup handlers.
 ghost use Rattle.std.specs.Prelude.{◌≡◌, ◌≤◌, ◌<◌, ◌^◌, ◌∷◌, Some, length, slice_get};
-ghost use Rattle.words_trace.specs.Tells.{Tells};
+ghost use Rattle.parts_tracer.specs.Tells.{Tells};
 ghost use Rattle.rules_machine.specs.declared.frame.BodyOf.{BodyOf};
 ghost use Rattle.rules_machine.specs.declared.frame.FrameKind.{FrameKind};
 ghost use Rattle.rules_machine.specs.Cancellation.{is_cancelled, request_acts, requested, without_cleanup};
@@ -16,7 +16,8 @@ ghost use Rattle.kernel_state.specs.Kernel.{after, told};
 
 use crate::parts::Parts;
 use rules_machine::{BodyOf, FrameKind};
-use words_trace::{Event, Tracer};
+use parts_tracer::Tracer;
+use words_trace::Event;
 use parts_io::Sink;
 use kernel_threads::Joiner;
 use words_numbers::{ObjId, Res, Tid};

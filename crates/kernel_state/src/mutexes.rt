@@ -1,6 +1,6 @@
 // Owners and counts of mutexes, and who waits for them.
 ghost use Rattle.std.specs.Prelude.{◌≡◌, ◌≤◌, ◌<◌, ◌^◌, Bool, IfSome, None, Some, length, option_map, true};
-ghost use Rattle.words_trace.specs.Tells.{Tells};
+ghost use Rattle.parts_tracer.specs.Tells.{Tells};
 ghost use Rattle.rules_machine.specs.Mutexes.{closes_cycle, freed, is_above_ceiling, taken_by};
 ghost use Rattle.rules_machine.specs.Priorities.{mutex_awaited_by};
 ghost use Rattle.rules_machine.specs.State.{Wait};
@@ -17,7 +17,8 @@ ghost use Rattle.kernel_state.specs.Kernel.{after, told};
 use crate::parts::Parts;
 use parts_owners::MutexState;
 use rules_machine::call_name;
-use words_trace::{Event, Tracer};
+use parts_tracer::Tracer;
+use words_trace::Event;
 use parts_io::Sink;
 use words_script::Protocol;
 use words_numbers::{ObjId, Res, Tid};

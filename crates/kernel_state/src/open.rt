@@ -12,7 +12,7 @@ use crate::named::Named;
 use crate::parts::Parts;
 use rules_machine::LastDispatch;
 use kernel_queues::Queues;
-use words_trace::Names;
+use parts_tracer::Names;
 use parts_ready::Ready;
 use kernel_signals::{Actions, Pending};
 use script_code::Code;

@@ -1,7 +1,7 @@
 // All parts of the kernel, and the smallest changes of them.
 ghost use Rattle.std.specs.Prelude.{◌≡◌, ◌≤◌, ◌<◌, ◌^◌, [], length, slice_index, false};
 ghost use Rattle.words_trace.specs.Text.{IsNamed};
-ghost use Rattle.words_trace.specs.Tells.{Tells};
+ghost use Rattle.parts_tracer.specs.Tells.{Tells};
 ghost use Rattle.rules_machine.specs.Dispatch.{dispatch_of, is_same};
 ghost use Rattle.rules_machine.specs.Turns.{becomes, moves, takes_serial, tells};
 ghost use Rattle.kernel_state.specs.Kernel.{after, ran, told};
@@ -11,7 +11,8 @@ use crate::direct::Direct;
 use crate::named::Named;
 use rules_machine::LastDispatch;
 use kernel_queues::Queues;
-use words_trace::{Event, Names, Tracer};
+use parts_tracer::{Names, Tracer};
+use words_trace::Event;
 use parts_ready::Ready;
 use parts_io::Sink;
 use kernel_signals::{Actions, Pending};

@@ -1,8 +1,8 @@
 // What is told of a server beside its changes: activations, plans, and the runs of a strict one (the rules are those of SCHED_SPORADIC,
 // IEEE 1003.1-2017, XSH 2.8.4; runs are this project's own).
 ghost use Rattle.std.specs.Prelude.{◌≡◌, ◌≤◌, ◌<◌, ◌^◌, ℕ, IfSome, false, length, true};
-ghost use Rattle.words_trace.specs.Tells.{Tells};
-ghost use Rattle.parts_server.specs.Server.{activate};
+ghost use Rattle.parts_tracer.specs.Tells.{Tells};
+ghost use Rattle.rules_server.specs.Server.{activate};
 ghost use Rattle.rules_machine.specs.declared.dispatch.LastDispatch.TheVariants as last;
 ghost use Rattle.rules_machine.specs.Dispatch.{is_same};
 ghost use Rattle.rules_machine.specs.Servers.{activates, activates_if_high, closes, has_run, opens, plans, with_server};
@@ -13,7 +13,8 @@ ghost use Rattle.kernel_threads.specs.Unused.{IsUnused};
 ghost use Rattle.kernel_state.specs.Kernel.{Kernel, activates_now, after, told};
 
 use crate::parts::Parts;
-use words_trace::{Event, Tracer};
+use parts_tracer::Tracer;
+use words_trace::Event;
 use parts_io::Sink;
 use words_numbers::Tid;
 

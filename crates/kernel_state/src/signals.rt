@@ -1,8 +1,8 @@
 // Signals: what they do, and the pending ones.
 ghost use Rattle.std.specs.Prelude.{◌≡◌, ◌≤◌, ◌<◌, ◌^◌, ◌↔◌, ◌&&◌, [], Contains, IfSome, IsTrue, None, Some, length, option_map, true, if◌then◌else◌};
 ghost use Rattle.words_numbers.specs.Signals.{has_signal};
-ghost use Rattle.words_trace.specs.Tells.{Tells};
-ghost use Rattle.script_code.specs.Next.{capped};
+ghost use Rattle.parts_tracer.specs.Tells.{Tells};
+ghost use Rattle.rules_bodies.specs.Next.{capped};
 ghost use Rattle.rules_machine.specs.declared.frame.BodyOf.{BodyOf};
 ghost use Rattle.rules_machine.specs.declared.frame.FrameKind.{FrameKind};
 ghost use Rattle.rules_machine.specs.Delivery.{kills, taken_by_sweep, ticks_left};
@@ -19,7 +19,8 @@ ghost use Rattle.kernel_state.specs.Kernel.{after, told};
 
 use crate::parts::Parts;
 use rules_machine::SigAction;
-use words_trace::{Event, Tracer};
+use parts_tracer::Tracer;
+use words_trace::Event;
 use parts_io::Sink;
 use kernel_signals::SignalRecord;
 use words_numbers::{ObjId, SigSet, Tid};

@@ -1,6 +1,6 @@
 // What can be asked of a thread.
 ghost use Rattle.std.specs.Prelude.{◌≡◌, ◌≤◌, ◌<◌, ◌*◌, ◌^◌, is_some, length, option_map, true};
-ghost use Rattle.parts_server.specs.Server.{ServerState, totals};
+ghost use Rattle.rules_server.specs.Server.{ServerState, totals};
 ghost use Rattle.rules_machine.specs.Servers.{at_once, has_run, high_server, opening_server};
 ghost use Rattle.rules_machine.specs.Threads.{can_run, is_dormant, lives, number_of, thread_at, waiting_of as waiting_at};
 ghost use Rattle.rules_machine.specs.State.{Waiting};

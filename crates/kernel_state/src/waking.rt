@@ -2,7 +2,7 @@
 ghost use Rattle.std.specs.Prelude.{◌≡◌, ◌≤◌, ◌<◌, ◌+◌, ◌^◌, ◌∷◌, [], length};
 ghost use Rattle.words_trace.specs.declared.event.Event.TheVariants as event;
 ghost use Rattle.words_trace.specs.Text.{IsNamed};
-ghost use Rattle.words_trace.specs.Tells.{Tells};
+ghost use Rattle.parts_tracer.specs.Tells.{Tells};
 ghost use Rattle.rules_machine.specs.Threads.{can_run, thread_at};
 ghost use Rattle.rules_machine.specs.Turns.{answered, changes, moves, returns, takes_serial, tells, ◌▷◌};
 ghost use Rattle.rules_machine.specs.Servers.{activates_if_high};
@@ -17,7 +17,8 @@ ghost use Rattle.kernel_state.specs.Kernel.{Kernel, after, by, told, starts_tell
 
 use crate::parts::Parts;
 use rules_machine::call_name;
-use words_trace::{Event, Tracer};
+use parts_tracer::Tracer;
+use words_trace::Event;
 use parts_io::Sink;
 use words_script::Call;
 use kernel_threads::{Wait, Waiting};

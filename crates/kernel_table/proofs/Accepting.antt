@@ -5,7 +5,7 @@ use Rattle.words_numbers.specs.Signals.{has_signal}
 use Rattle.rules_machine.specs.Lists.{first_by}
 use Rattle.std.proofs.lemmas.Bool.Decides.{eqb_tells}
 use Rattle.std.proofs.lemmas.List.{get_or-set_same, get_or-set_other, length-set}
-use Rattle.script_code.specs.declared.cursor.Cursor.{Cursor}
+use Rattle.rules_bodies.specs.declared.cursor.Cursor.{Cursor}
 use Rattle.rules_machine.specs.State.{SignalRecord, Thread, Timer, Waiting, for_signal}
 use Rattle.rules_machine.specs.Threads.{thread_in, waiting_in}
 use Rattle.parts_waiters.specs.declared.Place.{Place}

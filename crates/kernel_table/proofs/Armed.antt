@@ -3,9 +3,9 @@ use Rattle.std.proofs.Common.{◌≡◌, ◌≢◌, ◌<◌, ◌≤◌, ◌+◌,
 use Rattle.std.specs.Prelude.{if◌then◌else◌, option_and_then, option_map}
 use Rattle.std.proofs.lemmas.Bool.Decides.{eqb_tells}
 use Rattle.std.proofs.lemmas.List.{get_or-replicate, get_or-set_other, get_or-set_same, length-replicate, length-set, set-get_or, take_all}
-use Rattle.script_code.specs.declared.cursor.Cursor.{Cursor}
-use Rattle.parts_server.specs.declared.Replenish.{Replenish}
-use Rattle.parts_server.specs.Server.{ServerState, activate, charge_ticks, is_high, next_due, set_high}
+use Rattle.rules_bodies.specs.declared.cursor.Cursor.{Cursor}
+use Rattle.rules_server.specs.declared.Replenish.{Replenish}
+use Rattle.rules_server.specs.Server.{ServerState, activate, charge_ticks, is_high, next_due, set_high}
 use Rattle.rules_leaps.specs.Quiet.{server_after}
 use Rattle.rules_machine.specs.Lists.{changed_at}
 use Rattle.rules_machine.specs.State.{Thread, Timer}

@@ -1,8 +1,8 @@
 -- What a thread keeps as it runs by itself. At a low priority it keeps its assigned priority.
 use Rattle.std.proofs.Common.{◌≡◌, ◌∙◌, ◌<◌, ℕ, zero, suc, List, [], ◌∷◌, Option, None, Some, Bool, true, false, if◌then◌else◌, ap, is_some, length, option_map, arith, refl, sym}
-use Rattle.script_code.specs.declared.cursor.Cursor.{Cursor}
+use Rattle.rules_bodies.specs.declared.cursor.Cursor.{Cursor}
 use Rattle.words_script.specs.declared.policy.Policy.{Policy}
-use Rattle.parts_server.specs.Server.{ServerState, charge_ticks, is_high}
+use Rattle.rules_server.specs.Server.{ServerState, charge_ticks, is_high}
 use Rattle.rules_machine.specs.Bodies.{Bodies}
 use Rattle.rules_machine.specs.Priorities.{Claim, assigned_in, assigned_of, assigned_under, claims}
 use Rattle.rules_machine.specs.Servers.{has_high}

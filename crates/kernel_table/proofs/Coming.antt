@@ -4,7 +4,7 @@ use Rattle.std.specs.Prelude.{filter, if◌then◌else◌, map, nat_le}
 use Rattle.std.specs.List.{range_with_len}
 use Rattle.std.proofs.lemmas.Bool.Decides.{eqb_tells}
 use Rattle.std.proofs.lemmas.List.{get_or_past}
-use Rattle.script_code.specs.declared.cursor.Cursor.{Cursor}
+use Rattle.rules_bodies.specs.declared.cursor.Cursor.{Cursor}
 use Rattle.words_numbers.specs.Items.{item_of}
 use Rattle.words_numbers.specs.declared.item.Item.{Item}
 use Rattle.words_numbers.specs.declared.item.Item.TheVariants as item

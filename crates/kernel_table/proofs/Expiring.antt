@@ -5,7 +5,7 @@ use Rattle.std.specs.Prelude.{option_and_then}
 use Rattle.words_script.specs.declared.decl.Decl.{Decl}
 use Rattle.words_script.specs.declared.decl.Decl.TheVariants as decl
 use Rattle.words_script.specs.declared.decl.Kind.TheVariants as kind
-use Rattle.script_code.specs.declared.cursor.Cursor.{Cursor}
+use Rattle.rules_bodies.specs.declared.cursor.Cursor.{Cursor}
 use Rattle.rules_machine.specs.Declarations.{named, timer_kind}
 use Rattle.rules_machine.specs.State.{Thread, Timer}
 use Rattle.kernel_timers.specs.Timers.{timer_in}

@@ -2,7 +2,7 @@
 use Rattle.std.proofs.Common.{◌≡◌, ◌<◌, ◌∙◌, ℕ, zero, suc, List, [], ◌∷◌, Bool, true, false, None, Option, Some, ap, arith, length, refl, subst, sym}
 use Rattle.std.specs.Prelude.{◌==◌, IfSome, option_and_then, option_map, slice_set}
 use Rattle.std.proofs.lemmas.List.{length-set}
-use Rattle.script_code.specs.declared.cursor.Cursor.{Cursor}
+use Rattle.rules_bodies.specs.declared.cursor.Cursor.{Cursor}
 use Rattle.rules_machine.specs.Lists.{changed_at}
 use Rattle.rules_machine.specs.Priorities.{Claim, assigned_of, claim_of, claims, exec_in, mutex_waited}
 use Rattle.rules_machine.specs.State.{Thread, Waiting}

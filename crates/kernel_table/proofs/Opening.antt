@@ -4,7 +4,7 @@ use Rattle.std.specs.List.{filter_map}
 use Rattle.std.specs.Prelude.{map, option_and_then, option_map, option_to_list}
 use Rattle.words_script.specs.declared.decl.Decl.{Decl}
 use Rattle.std.proofs.lemmas.List.{length-map, take_all}
-use Rattle.script_code.specs.declared.cursor.Cursor.{Cursor}
+use Rattle.rules_bodies.specs.declared.cursor.Cursor.{Cursor}
 use Rattle.rules_machine.specs.Declarations.{ThreadDecl, mutex_kind, named}
 use Rattle.rules_machine.specs.Lists.{changed_at}
 use Rattle.rules_machine.specs.Priorities.{Claim, assigned_of, claim_of, claims as claims_of, exec_in, mutex_waited}

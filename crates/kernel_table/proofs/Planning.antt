@@ -1,13 +1,13 @@
 -- What a plan and a refill keep.
 use Rattle.std.proofs.Common.{◌≡◌, ◌<◌, ◌+◌, ◌∙◌, ℕ, List, [], ◌∷◌, Bool, true, false, None, Option, Some, ap, arith, length, option_map, refl, sym}
 use Rattle.std.specs.Prelude.{◌++◌, ◌==◌, ◌&&◌, if◌then◌else◌, nat_lt, not, option_and_then}
-use Rattle.script_code.specs.declared.cursor.Cursor.{Cursor}
+use Rattle.rules_bodies.specs.declared.cursor.Cursor.{Cursor}
 use Rattle.words_script.specs.declared.policy.Policy.{Policy}
 use Rattle.words_script.specs.declared.policy.Policy.TheVariants as policy
-use Rattle.parts_server.specs.declared.Replenish.{Replenish}
-use Rattle.parts_server.specs.declared.ServerKind.{ServerKind}
-use Rattle.parts_server.specs.declared.ServerKind.TheVariants as kind
-use Rattle.parts_server.specs.Server.{ServerState, is_high, is_high_as, joins_as, next_due, plan, planned_in, replenishment}
+use Rattle.rules_server.specs.declared.Replenish.{Replenish}
+use Rattle.rules_server.specs.declared.ServerKind.{ServerKind}
+use Rattle.rules_server.specs.declared.ServerKind.TheVariants as kind
+use Rattle.rules_server.specs.Server.{ServerState, is_high, is_high_as, joins_as, next_due, plan, planned_in, replenishment}
 use Rattle.rules_machine.specs.Priorities.{Claim, assigned_in, assigned_of, assigned_under}
 use Rattle.rules_machine.specs.Servers.{with_server}
 use Rattle.rules_machine.specs.State.{Thread, Timer}

@@ -1,6 +1,6 @@
 -- Where a thread that can run, or waits for an instant, stands among the waiters and in the wheel.
 use Rattle.std.proofs.Common.{◌≡◌, ◌<◌, ◌+◌, ◌∙◌, ℕ, List, true, false, None, Option, Some, length, refl}
-use Rattle.script_code.specs.declared.cursor.Cursor.{Cursor}
+use Rattle.rules_bodies.specs.declared.cursor.Cursor.{Cursor}
 use Rattle.rules_machine.specs.Priorities.{claims, exec_in}
 use Rattle.rules_machine.specs.State.{Status, Thread, Timer, Wait, Waiting, blocked, dormant, ended, for_condition, for_end, for_message, for_mutex, for_mutex_again, for_room, for_semaphore, for_signal, for_time, runnable}
 use Rattle.rules_machine.specs.Threads.{is_runnable, thread_in, waiting_in}

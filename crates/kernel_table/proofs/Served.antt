@@ -1,6 +1,6 @@
 -- Who is served first, by the waiters' own law.
 use Rattle.std.proofs.Common.{◌≡◌, ◌∙◌, ℕ, Bool, List, Option}
-use Rattle.script_code.specs.declared.cursor.Cursor.{Cursor}
+use Rattle.rules_bodies.specs.declared.cursor.Cursor.{Cursor}
 use Rattle.rules_machine.specs.State.{Thread, Timer, Wait}
 use Rattle.parts_waiters.specs.declared.Place.{Place}
 use Rattle.parts_waiters.specs.declared.WaitObj.{WaitObj}

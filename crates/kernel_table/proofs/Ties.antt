@@ -1,6 +1,6 @@
 -- The ties of a table stay where a thread changes in nothing that they go by.
 use Rattle.std.proofs.Common.{◌≡◌, ◌∙◌, ℕ, List, [], None, Option, ap, arith, subst, sym}
-use Rattle.script_code.specs.declared.cursor.Cursor.{Cursor}
+use Rattle.rules_bodies.specs.declared.cursor.Cursor.{Cursor}
 use Rattle.rules_machine.specs.Lists.{changed_at}
 use Rattle.rules_machine.specs.Priorities.{Claim, claim_of, claims, exec_in, mutex_awaited_by}
 use Rattle.rules_machine.specs.State.{Thread, Waiting}

@@ -1,6 +1,6 @@
 -- Who accepts a signal.
 use Rattle.std.specs.Prelude.{◌≡◌, ◌<◌, ℕ, List, Option, length, option_map, slice_index_or}
-use Rattle.script_code.specs.declared.cursor.Cursor.{Cursor}
+use Rattle.rules_bodies.specs.declared.cursor.Cursor.{Cursor}
 use Rattle.rules_machine.specs.Signals.{acceptor}
 use Rattle.rules_machine.specs.State.{SignalRecord, Thread}
 use Rattle.rules_machine.specs.Threads.{thread_in, waiting_in}

@@ -1,6 +1,6 @@
 -- Whose execution priority a call changed.
 use Rattle.std.specs.Prelude.{◌≡◌, ◌≢◌, ◌<◌, ◌==◌, ℕ, None, Option, Some, false, length, option_and_then, if◌then◌else◌}
-use Rattle.script_code.specs.declared.cursor.Cursor.{Cursor}
+use Rattle.rules_bodies.specs.declared.cursor.Cursor.{Cursor}
 use Rattle.rules_machine.specs.Lists.{is}
 use Rattle.rules_machine.specs.State.{Thread, Waiting}
 use Rattle.rules_machine.specs.Threads.{waiting_in}

@@ -1,6 +1,6 @@
 -- A table before anything has happened: the first threads' claims are in the chain, and the others have priority 1 there.
 use Rattle.std.specs.Prelude.{◌≡◌, ◌-◌, ◌++◌, ℕ, List, None, Option, length, replicate, take}
-use Rattle.script_code.specs.declared.cursor.Cursor.{Cursor}
+use Rattle.rules_bodies.specs.declared.cursor.Cursor.{Cursor}
 use Rattle.rules_machine.specs.Priorities.{claims as claims_of}
 use Rattle.rules_machine.specs.State.{Mutex, Thread}
 use Rattle.rules_machine.specs.Threads.{thread_in, waiting_in}

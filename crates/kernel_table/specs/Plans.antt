@@ -1,6 +1,6 @@
 -- What a plan may leave as it was beside the thread.
 use Rattle.std.specs.Prelude.{◌≡◌, ℕ, None, Option, Some, false, true}
-use Rattle.script_code.specs.declared.cursor.Cursor.{Cursor}
+use Rattle.rules_bodies.specs.declared.cursor.Cursor.{Cursor}
 use Rattle.rules_machine.specs.Priorities.{assigned_of}
 use Rattle.rules_machine.specs.State.{Thread}
 use Rattle.kernel_threads.specs.declared.ends.Planned.{Planned}

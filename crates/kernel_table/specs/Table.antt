@@ -1,6 +1,6 @@
 -- The threads of a kernel with the mutexes and the timers, and what a thread may begin to wait for.
 use Rattle.std.specs.Prelude.{◌≡◌, ◌<◌, ℕ, Bool, IsSome, List, [], None, Option, Some, false, length, option_map}
-use Rattle.script_code.specs.declared.cursor.Cursor.{Cursor}
+use Rattle.rules_bodies.specs.declared.cursor.Cursor.{Cursor}
 use Rattle.rules_machine.specs.declared.dispatch.LastDispatch.TheVariants as last
 use Rattle.rules_machine.specs.Lists.{changed_at}
 use Rattle.rules_machine.specs.Priorities.{claims, exec_in}

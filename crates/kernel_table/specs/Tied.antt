@@ -1,7 +1,7 @@
 -- What holds of the threads and of what is kept beside them: the chain has their claims, each of them that waits stands among the waiters
 -- of its object at its execution priority, and the wheel has what falls due of them and of the timers.
 use Rattle.std.specs.Prelude.{◌≡◌, ◌<◌, ◌≤◌, ◌+◌, ℕ, List, None, Option, length, slice_set}
-use Rattle.script_code.specs.declared.cursor.Cursor.{Cursor}
+use Rattle.rules_bodies.specs.declared.cursor.Cursor.{Cursor}
 use Rattle.rules_machine.specs.Priorities.{claims, exec_in}
 use Rattle.rules_machine.specs.State.{Mutex, Thread, Timer}
 use Rattle.rules_machine.specs.Threads.{thread_in, waiting_in}

@@ -1,7 +1,7 @@
 -- When the items of a thread are due, and the least due tick of all that is to come.
 use Rattle.std.specs.Prelude.{◌*◌, ◌^◌, ◌∷◌, ℕ, List, [], None, Option, Some, if◌then◌else◌, nat_le, option_and_then}
-use Rattle.script_code.specs.declared.cursor.Cursor.{Cursor}
-use Rattle.parts_server.specs.Server.{next_due}
+use Rattle.rules_bodies.specs.declared.cursor.Cursor.{Cursor}
+use Rattle.rules_server.specs.Server.{next_due}
 use Rattle.rules_machine.specs.Agenda.{Coming}
 use Rattle.rules_machine.specs.DueItems.{start_in}
 use Rattle.rules_machine.specs.State.{Thread, Waiting}

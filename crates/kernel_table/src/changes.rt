@@ -1,6 +1,6 @@
 // The changes of one thread that leave its wait as it is, or end it.
 ghost use Rattle.std.specs.Prelude.{◌≡◌, ◌<◌, ◌≤◌, ◌^◌, None, Some, is_some, length, max, option_map, true};
-ghost use Rattle.parts_server.specs.Server.{activate, plan, refill, replenishment};
+ghost use Rattle.rules_server.specs.Server.{activate, plan, refill, replenishment};
 ghost use Rattle.rules_machine.specs.Scheduling.{takes_priority, with_policy, with_priority};
 ghost use Rattle.rules_machine.specs.Servers.{with_server};
 ghost use Rattle.rules_machine.specs.Threads.{thread_in, waiting_in};

@@ -1,6 +1,6 @@
 // Joining, requests and cleanup handlers: no claim, wait or due item changes.
 ghost use Rattle.std.specs.Prelude.{◌≡◌, ◌≤◌, ◌<◌, ◌∷◌, length, true};
-ghost use Rattle.script_code.specs.declared.cursor.Cursor.{Cursor};
+ghost use Rattle.rules_bodies.specs.declared.cursor.Cursor.{Cursor};
 ghost use Rattle.rules_machine.specs.declared.frame.BodyOf.{BodyOf};
 ghost use Rattle.rules_machine.specs.declared.frame.FrameKind.{FrameKind};
 ghost use Rattle.rules_machine.specs.Cancellation.{requested, without_cleanup};

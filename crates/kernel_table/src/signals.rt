@@ -1,7 +1,7 @@
 // Masks, handlers of signals, and who accepts a signal.
 ghost use Rattle.std.specs.Prelude.{◌≡◌, ◌≤◌, ◌<◌, length, None};
-ghost use Rattle.script_code.specs.Next.{capped};
-ghost use Rattle.script_code.specs.declared.cursor.Cursor.{Cursor};
+ghost use Rattle.rules_bodies.specs.Next.{capped};
+ghost use Rattle.rules_bodies.specs.declared.cursor.Cursor.{Cursor};
 ghost use Rattle.rules_machine.specs.declared.frame.BodyOf.{BodyOf};
 ghost use Rattle.rules_machine.specs.declared.frame.FrameKind.{FrameKind};
 ghost use Rattle.rules_machine.specs.State.{SignalRecord, Thread};

@@ -1,14 +1,14 @@
 -- A thread advances as its top frame does.
 use Rattle.std.proofs.Common.{◌≡◌, ◌≤◌, ◌<◌, ◌-◌, ◌∙◌, ℕ, Bool, List, [], ◌∷◌, false, ap, arith, get_or, length, refl, set, subst, sym}
 use Rattle.std.specs.Prelude.{◌&&◌}
-use Rattle.script_code.specs.declared.cursor.Cursor.{Cursor}
-use Rattle.script_code.specs.declared.op.Op.{Op}
-use Rattle.script_code.specs.Flat.{NumberedBodies}
-use Rattle.script_code.specs.Next.{ticks_of}
+use Rattle.rules_bodies.specs.declared.cursor.Cursor.{Cursor}
+use Rattle.rules_bodies.specs.declared.op.Op.{Op}
+use Rattle.rules_bodies.specs.Flat.{NumberedBodies}
+use Rattle.rules_bodies.specs.Next.{ticks_of}
 use Rattle.rules_machine.specs.Bodies.{Bodies}
 use Rattle.rules_machine.specs.State.{Frame, Thread}
 use Rattle.script_code.specs.declared.fetched.Fetched.TheVariants.{Finish}
-use Rattle.script_code.specs.declared.unit.Unit.TheVariants as unit
+use Rattle.rules_bodies.specs.declared.unit.Unit.TheVariants as unit
 use Rattle.rules_machine.specs.Threads.{is_main, top_kind, top_left}
 use Rattle.rules_machine.specs.Units.{InUnit, advances, choice, frame_begins, in_unit, is_at_end, next_of, takes_unit}
 use Rattle.rules_flat_code.specs.FlatBodies.{flat_bodies}

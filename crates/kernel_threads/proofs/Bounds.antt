@@ -4,10 +4,10 @@ use Rattle.std.specs.Prelude.{◌&&◌, ◌||◌, if◌then◌else◌, is_some, 
 use Rattle.std.proofs.lemmas.Grind.{common_steps}
 use Rattle.words_script.specs.declared.policy.Policy.{Policy}
 use Rattle.words_script.specs.declared.policy.Policy.TheVariants as policy
-use Rattle.parts_server.specs.declared.ServerKind.{ServerKind}
-use Rattle.parts_server.specs.declared.ServerKind.TheVariants as kind
-use Rattle.parts_server.specs.Server.{ServerState, charge_ticks, is_high, is_high_as}
-use Rattle.parts_server.proofs.Laws.{charge_ticks_is}
+use Rattle.rules_server.specs.declared.ServerKind.{ServerKind}
+use Rattle.rules_server.specs.declared.ServerKind.TheVariants as kind
+use Rattle.rules_server.specs.Server.{ServerState, charge_ticks, is_high, is_high_as}
+use Rattle.rules_server.proofs.Laws.{charge_ticks_is}
 use Rattle.rules_machine.specs.Servers.{has_high}
 use Rattle.rules_machine.specs.Ticks.{capacity_in, slice_is_used}
 use Rattle.rules_leaps.specs.Leap.{capacity_left, slice_left}

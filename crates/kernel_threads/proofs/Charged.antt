@@ -5,10 +5,10 @@ use Rattle.std.proofs.lemmas.Grind.{common_steps}
 use Rattle.words_numbers.specs.Parameters.{Parameters}
 use Rattle.words_script.specs.declared.policy.Policy.{Policy}
 use Rattle.words_script.specs.declared.policy.Policy.TheVariants as policy
-use Rattle.script_code.specs.declared.cursor.Cursor.{Cursor}
-use Rattle.script_code.specs.declared.op.Op.{Op}
-use Rattle.script_code.specs.Flat.{NumberedBodies}
-use Rattle.parts_server.specs.Server.{ServerState}
+use Rattle.rules_bodies.specs.declared.cursor.Cursor.{Cursor}
+use Rattle.rules_bodies.specs.declared.op.Op.{Op}
+use Rattle.rules_bodies.specs.Flat.{NumberedBodies}
+use Rattle.rules_server.specs.Server.{ServerState}
 use Rattle.rules_machine.specs.Bodies.{Bodies}
 use Rattle.rules_machine.specs.GoodState.{HasParameters}
 use Rattle.rules_machine.specs.Servers.{has_high}

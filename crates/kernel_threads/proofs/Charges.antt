@@ -3,11 +3,11 @@ use Rattle.std.proofs.Common.{◌≡◌, ◌<◌, ◌+◌, ◌-◌, ℕ, Bool, t
 use Rattle.std.specs.Prelude.{option_map, if◌then◌else◌}
 use Rattle.words_script.specs.declared.policy.Policy.{Policy}
 use Rattle.words_script.specs.declared.policy.Policy.TheVariants as policy
-use Rattle.parts_server.specs.declared.ServerKind.{ServerKind}
-use Rattle.parts_server.specs.declared.ServerKind.TheVariants as kind
-use Rattle.parts_server.specs.Calls.{MayPlanAs}
-use Rattle.parts_server.specs.Server.{ServerState, charge_ticks, is_high, is_high_as}
-use Rattle.parts_server.proofs.Laws.{charge_ticks_is}
+use Rattle.rules_server.specs.declared.ServerKind.{ServerKind}
+use Rattle.rules_server.specs.declared.ServerKind.TheVariants as kind
+use Rattle.rules_server.specs.Calls.{MayPlanAs}
+use Rattle.rules_server.specs.Server.{ServerState, charge_ticks, is_high, is_high_as}
+use Rattle.rules_server.proofs.Laws.{charge_ticks_is}
 use Rattle.rules_machine.specs.GoodState.{HasParameters}
 use Rattle.rules_leaps.specs.Quiet.{server_after}
 use Rattle.kernel_threads.specs.Held.{IsHeld}

@@ -1,8 +1,8 @@
 -- A thread takes its units whatever its policy is, and whatever it was charged.
 use Rattle.std.proofs.Common.{◌≡◌, ◌∙◌, ℕ, List, [], ◌∷◌, Option, ap, refl}
 use Rattle.words_script.specs.declared.policy.Policy.{Policy}
-use Rattle.script_code.specs.declared.cursor.Cursor.{Cursor}
-use Rattle.parts_server.specs.Server.{ServerState}
+use Rattle.rules_bodies.specs.declared.cursor.Cursor.{Cursor}
+use Rattle.rules_server.specs.Server.{ServerState}
 use Rattle.rules_machine.specs.Bodies.{Bodies}
 use Rattle.rules_machine.specs.State.{Frame, Thread}
 use Rattle.rules_machine.specs.Units.{Following, InUnit, advances, advancing, begins_finish, cleaning_up, continuing, finishing, following, in_cleanup, in_unit, takes_unit}

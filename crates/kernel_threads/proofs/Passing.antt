@@ -1,13 +1,13 @@
 -- A frame goes past one more unit.
 use Rattle.std.proofs.Common.{◌≡◌, ◌≤◌, ◌<◌, ◌+◌, ◌-◌, ◌∙◌, ℕ, List, [], ◌∷◌, ◌++◌, ap, arith, refl, subst, sym, true}
 use Rattle.words_script.specs.Block.{Block}
-use Rattle.script_code.specs.declared.cursor.Cursor.{Cursor}
-use Rattle.script_code.specs.declared.op.Op.{Op}
-use Rattle.script_code.specs.declared.unit.Unit as unit_type
-use Rattle.script_code.specs.Fetch.{OneBody, fetched}
-use Rattle.script_code.specs.Flat.{NumberedBodies}
-use Rattle.script_code.specs.Next.{Place, ticks_of}
-use Rattle.script_code.specs.Stands.{Fetches, IsBody, IsPlaced, Stands}
+use Rattle.rules_bodies.specs.declared.cursor.Cursor.{Cursor}
+use Rattle.rules_bodies.specs.declared.op.Op.{Op}
+use Rattle.rules_bodies.specs.declared.unit.Unit as unit_type
+use Rattle.rules_bodies.specs.Fetch.{OneBody, fetched}
+use Rattle.rules_bodies.specs.Flat.{NumberedBodies}
+use Rattle.rules_bodies.specs.Next.{Place, ticks_of}
+use Rattle.rules_bodies.specs.Stands.{Fetches, IsBody, IsPlaced, Stands}
 use Rattle.rules_machine.specs.Bodies.{Bodies, NextUnit}
 use Rattle.rules_machine.specs.State.{Frame}
 use Rattle.rules_machine.specs.Units.{frame_begins, next_of}

@@ -2,7 +2,7 @@
 use Rattle.std.specs.Prelude.{ℕ, length, nat_lt, ◌+◌, ◌==◌}
 use Rattle.words_script.specs.declared.policy.Policy.{Policy}
 use Rattle.words_script.specs.declared.policy.Policy.TheVariants as policy
-use Rattle.parts_server.specs.Server.{ServerState, oldest_pending, refill, replenishment}
+use Rattle.rules_server.specs.Server.{ServerState, oldest_pending, refill, replenishment}
 use Rattle.rules_machine.specs.Servers.{amount_of, regains_high}
 use Rattle.rules_machine.specs.Ticks as ticks
 use Rattle.kernel_threads.specs.declared.ends.TickEnd.{TickEnd}

@@ -1,10 +1,10 @@
 -- Handlers that the code has, and what an ending thread asks for.
 use Rattle.std.specs.Prelude.{◌≡◌, ◌≤◌, ◌<◌, ◌∷◌, ℕ, List, [], length, slice_index, true}
-use Rattle.script_code.specs.declared.cursor.Cursor.{Cursor}
-use Rattle.script_code.specs.declared.op.Op.{Op}
-use Rattle.script_code.specs.Fetch.{started}
-use Rattle.script_code.specs.Flat.{NumberedBodies}
-use Rattle.script_code.specs.Stands.{IsPlaced}
+use Rattle.rules_bodies.specs.declared.cursor.Cursor.{Cursor}
+use Rattle.rules_bodies.specs.declared.op.Op.{Op}
+use Rattle.rules_bodies.specs.Fetch.{started}
+use Rattle.rules_bodies.specs.Flat.{NumberedBodies}
+use Rattle.rules_bodies.specs.Stands.{IsPlaced}
 use Rattle.rules_machine.specs.State.{Thread}
 use Rattle.rules_machine.specs.Threads.{is_main, top_kind}
 

@@ -1,8 +1,8 @@
 -- What holds of a thread's server at every time.
 use Rattle.std.specs.Prelude.{◌≤◌, None, Option, Some}
 use Rattle.words_script.specs.declared.policy.Policy.{Policy}
-use Rattle.parts_server.specs.Calls.{MayPlan}
-use Rattle.parts_server.specs.Server.{ServerState}
+use Rattle.rules_server.specs.Calls.{MayPlan}
+use Rattle.rules_server.specs.Server.{ServerState}
 use Rattle.rules_machine.specs.GoodState.{HasParameters}
 
 -- what was used can be planned

@@ -1,6 +1,6 @@
 -- As many ticks at once as a thread runs by itself. All of it is this project's own.
 use Rattle.std.specs.Prelude.{Bool, ℕ, max, min, ◌==◌, ◌&&◌, ◌||◌}
-use Rattle.script_code.specs.declared.cursor.Cursor.{Cursor}
+use Rattle.rules_bodies.specs.declared.cursor.Cursor.{Cursor}
 use Rattle.rules_machine.specs.State.{Thread}
 use Rattle.rules_machine.specs.Ticks.{capacity_in, slice_is_used}
 use Rattle.rules_leaps.specs.Leap.{thread_lasts}

@@ -1,12 +1,12 @@
 -- How a frame, and a thread, go past units: what of it is in the bodies alone, before a tick is charged. All of it is this project's own.
 use Rattle.std.specs.Prelude.{List, Option, [], true, ℕ, ◌≡◌, ◌≤◌, ◌<◌, ◌+◌, ◌-◌, ◌==◌, ◌∷◌, max, min}
-use Rattle.script_code.specs.declared.cursor.Cursor.{Cursor}
-use Rattle.script_code.specs.declared.op.Op.{Op}
-use Rattle.script_code.specs.declared.unit.Unit as unit_type
+use Rattle.rules_bodies.specs.declared.cursor.Cursor.{Cursor}
+use Rattle.rules_bodies.specs.declared.op.Op.{Op}
+use Rattle.rules_bodies.specs.declared.unit.Unit as unit_type
 use Rattle.script_code.specs.Fetched.{unit_of}
-use Rattle.script_code.specs.Flat.{NumberedBodies}
-use Rattle.script_code.specs.Next.{ticks_of}
-use Rattle.parts_server.specs.Server.{ServerState}
+use Rattle.rules_bodies.specs.Flat.{NumberedBodies}
+use Rattle.rules_bodies.specs.Next.{ticks_of}
+use Rattle.rules_server.specs.Server.{ServerState}
 use Rattle.rules_machine.specs.Bodies.{Bodies}
 use Rattle.rules_machine.specs.State.{Frame, Thread}
 use Rattle.rules_machine.specs.Threads.{top_left}

@@ -1,6 +1,6 @@
 -- Whether so many ticks more can be charged to a server.
 use Rattle.std.specs.Prelude.{◌≡◌, ◌≤◌, ◌+◌, ◌^◌, ℕ, None, Option, Some, true}
-use Rattle.parts_server.specs.Server.{ServerState, is_high}
+use Rattle.rules_server.specs.Server.{ServerState, is_high}
 
 pub record HasCapacity (k : ℕ) (s : ServerState) : Type 0 where
   pub high : is_high s ≡ true → k ≤ s.capacity

@@ -1,12 +1,12 @@
 -- The units that a thread passes without a break, and the one that it is in then. All of it is this project's own.
 use Rattle.std.specs.Prelude.{Bool, List, Option, None, Some, [], false, true, ℕ, ◌≡◌, ◌≤◌, ◌<◌, ◌+◌, ◌-◌, ◌^◌, ◌==◌, ◌∷◌}
-use Rattle.script_code.specs.declared.cursor.Cursor.{Cursor}
-use Rattle.script_code.specs.declared.op.Op.{Op}
-use Rattle.script_code.specs.declared.unit.Unit as unit_type
-use Rattle.script_code.specs.declared.unit.Unit.TheVariants as unit
+use Rattle.rules_bodies.specs.declared.cursor.Cursor.{Cursor}
+use Rattle.rules_bodies.specs.declared.op.Op.{Op}
+use Rattle.rules_bodies.specs.declared.unit.Unit as unit_type
+use Rattle.rules_bodies.specs.declared.unit.Unit.TheVariants as unit
 use Rattle.script_code.specs.Fetched.{unit_of}
-use Rattle.script_code.specs.Flat.{NumberedBodies}
-use Rattle.parts_server.specs.Server.{ServerState}
+use Rattle.rules_bodies.specs.Flat.{NumberedBodies}
+use Rattle.rules_server.specs.Server.{ServerState}
 use Rattle.rules_machine.specs.Bodies.{Bodies}
 use Rattle.rules_machine.specs.Servers.{has_high}
 use Rattle.rules_machine.specs.State.{Thread}

@@ -1,9 +1,9 @@
 -- Whether a server that is activated at once has consumed nothing that is not planned. A strict server is activated where a run of it
 -- opens, and nowhere else, so nothing is asked of it.
 use Rattle.std.specs.Prelude.{None, Option, Some, ◌≡◌}
-use Rattle.parts_server.specs.declared.ServerKind.{ServerKind}
-use Rattle.parts_server.specs.declared.ServerKind.TheVariants as kind
-use Rattle.parts_server.specs.Server.{ServerState}
+use Rattle.rules_server.specs.declared.ServerKind.{ServerKind}
+use Rattle.rules_server.specs.declared.ServerKind.TheVariants as kind
+use Rattle.rules_server.specs.Server.{ServerState}
 
 abbrev pub IsUnusedAs : ServerKind → ServerState → Type 0
 IsUnusedAs kind.Sporadic s = s.consumed ≡ 0

@@ -1,5 +1,5 @@
 -- What contracts see of a frame.
-use Rattle.script_code.specs.declared.cursor.Cursor.{Cursor}
+use Rattle.rules_bodies.specs.declared.cursor.Cursor.{Cursor}
 use Rattle.rules_machine.specs.State as machine
 use Rattle.rules_flat_code.specs.FlatBodies.{place_of}
 use Rattle.kernel_threads.specs.declared.frame.Frame.TheInside.{Inside}

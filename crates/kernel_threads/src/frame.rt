@@ -2,8 +2,8 @@
 ghost use Rattle.std.specs.Prelude.{◌≡◌, ◌≤◌};
 ghost use Rattle.rules_machine.specs.Threads.{is_signal};
 ghost use Rattle.script_code.specs.Fetched.{unit_of};
-ghost use Rattle.script_code.specs.Next.{register_limit, ticks_of};
-ghost use Rattle.script_code.specs.Stands.{IsPlaced};
+ghost use Rattle.rules_bodies.specs.Next.{register_limit, ticks_of};
+ghost use Rattle.rules_bodies.specs.Stands.{IsPlaced};
 ghost use Rattle.rules_machine.specs.Units.{frame_begins, next_of};
 ghost use Rattle.rules_flat_code.specs.Placed.{cursor_of};
 ghost use Rattle.rules_flat_code.specs.FlatBodies.{flat_bodies, place_of};
@@ -27,7 +27,7 @@ pub struct Frame {
 
 impl Model for Frame {
     ghost use Rattle.rules_machine.specs.State as machine;
-    ghost use Rattle.script_code.specs.declared.cursor.Cursor.{Cursor};
+    ghost use Rattle.rules_bodies.specs.declared.cursor.Cursor.{Cursor};
 
     ghost Value = { machine.Frame Cursor };
 
@@ -37,7 +37,7 @@ impl Model for Frame {
     ghost view = { frame_of };
 
     ghost use Rattle.std.specs.Prelude.{◌≤◌};
-    ghost use Rattle.script_code.specs.Next.{register_limit};
+    ghost use Rattle.rules_bodies.specs.Next.{register_limit};
 
     ghost invariant = { λ f. f.at.register ≤ register_limit };
 }

@@ -1,8 +1,8 @@
 // Joining, cancellation and the end of a thread.
 ghost use Rattle.std.specs.Prelude.{◌≡◌, ◌≤◌, ◌<◌, ◌==◌, ◌&&◌, ◌∷◌, List, false, length, slice_get, true};
-ghost use Rattle.script_code.specs.declared.op.Op.{Op};
+ghost use Rattle.rules_bodies.specs.declared.op.Op.{Op};
 ghost use Rattle.script_code.specs.Fetched.{unit_of};
-ghost use Rattle.script_code.specs.Flat.{NumberedBodies};
+ghost use Rattle.rules_bodies.specs.Flat.{NumberedBodies};
 ghost use Rattle.rules_machine.specs.declared.frame.FrameKind.TheVariants as frame_kind;
 ghost use Rattle.rules_machine.specs.declared.frame.BodyOf.TheVariants as body_of;
 ghost use Rattle.rules_machine.specs.Cancellation.{request_acts, requested, without_cleanup};

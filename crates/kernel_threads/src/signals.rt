@@ -1,6 +1,6 @@
 // Signals: what a thread blocks, what it waits for, and its handlers.
 ghost use Rattle.std.specs.Prelude.{◌≡◌, ◌≤◌, ◌<◌, length, option_map};
-ghost use Rattle.script_code.specs.Next.{capped};
+ghost use Rattle.rules_bodies.specs.Next.{capped};
 ghost use Rattle.rules_machine.specs.declared.frame.BodyOf.{BodyOf};
 ghost use Rattle.rules_machine.specs.declared.frame.FrameKind.{FrameKind};
 ghost use Rattle.rules_machine.specs.Delivery.{defers_handlers, may_be_interrupted, ticks_left};

@@ -1,8 +1,8 @@
 // One thread of the kernel.
 ghost use Rattle.std.specs.Prelude.{◌≡◌, ◌≤◌, ◌<◌, ◌*◌, ◌^◌, ◌∷◌, [], None, option_and_then, option_map, true, false, Some};
-ghost use Rattle.script_code.specs.declared.cursor.Cursor.{Cursor};
+ghost use Rattle.rules_bodies.specs.declared.cursor.Cursor.{Cursor};
 ghost use Rattle.rules_machine.specs.Threads.{is_runnable, is_dormant, no_thread, catches_signal, is_live, waiting_in, top_left, top_register, is_blocked};
-ghost use Rattle.script_code.specs.Next.{register_limit};
+ghost use Rattle.rules_bodies.specs.Next.{register_limit};
 ghost use Rattle.rules_flat_code.specs.KnownCalls.{IsOperand};
 ghost use Rattle.kernel_threads.specs.Operands.{number_in};
 ghost use Rattle.rules_machine.specs.Servers.{server_of, charged};
@@ -52,7 +52,7 @@ pub struct Thread {
 
 impl Model for Thread {
     ghost use Rattle.rules_machine.specs.State as machine;
-    ghost use Rattle.script_code.specs.declared.cursor.Cursor.{Cursor};
+    ghost use Rattle.rules_bodies.specs.declared.cursor.Cursor.{Cursor};
 
     ghost Value = { machine.Thread Cursor };
 

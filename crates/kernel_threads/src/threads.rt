@@ -22,7 +22,7 @@ pub struct Threads {
 
 impl Model for Threads {
     ghost use Rattle.std.specs.Prelude.{List, ◌≤◌, length};
-    ghost use Rattle.script_code.specs.declared.cursor.Cursor.{Cursor};
+    ghost use Rattle.rules_bodies.specs.declared.cursor.Cursor.{Cursor};
     ghost use Rattle.rules_machine.specs.State as machine;
 
     ghost Value = { List (machine.Thread Cursor) };

@@ -4,13 +4,13 @@ use Rattle.std.specs.Prelude.{nat_le, nat_lt, not, ◌&&◌, ◌==◌}
 use Rattle.std.specs.List.{list_any}
 use mathlib.Core.Path.{subst, ◌∙◌}
 use Rattle.words_numbers.specs.Parameters.{Parameters}
-use Rattle.parts_server.specs.declared.Replenish.{Replenish}
-use Rattle.parts_server.specs.declared.ServerKind.{ServerKind}
-use Rattle.parts_server.specs.declared.ServerKind.TheVariants as server_kind
-use Rattle.parts_server.specs.Server.{ServerState, activate, is_high, is_high_as, joins_as, new_server, plan, planned_in, replenishment, set_high}
+use Rattle.rules_server.specs.declared.Replenish.{Replenish}
+use Rattle.rules_server.specs.declared.ServerKind.{ServerKind}
+use Rattle.rules_server.specs.declared.ServerKind.TheVariants as server_kind
+use Rattle.rules_server.specs.Server.{ServerState, activate, is_high, is_high_as, joins_as, new_server, plan, planned_in, replenishment, set_high}
 use Rattle.rules_machine.specs.State.{Status}
 use Rattle.rules_machine.specs.Threads.{is_runnable}
-use Rattle.laws_moves.proofs.Waiters.Best.{Each}
+use Rattle.rules_moves.proofs.Waiters.Best.{Each}
 use Rattle.tool_audit.specs.declared.server.Limits.{Limits}
 use Rattle.tool_audit.specs.Marks.{Saying, begins, is_given, is_taken, is_activated, exhausts, is_planned, exits, nothing}
 use Rattle.tool_audit.specs.declared.replay.Planned.{Planned}

@@ -3,7 +3,7 @@ use Rattle.std.proofs.Common.{Bool, None, Option, Some, ap, arith, false, refl, 
 use Rattle.std.specs.Prelude.{is_some, nat_le, not, ◌&&◌, ◌||◌, if◌then◌else◌}
 use Rattle.std.specs.List.{list_any}
 use mathlib.Core.Path.{◌∙◌}
-use Rattle.parts_server.specs.Server.{ServerState, charge, is_high}
+use Rattle.rules_server.specs.Server.{ServerState, charge, is_high}
 use Rattle.rules_machine.specs.State.{Status}
 use Rattle.rules_machine.specs.Threads.{is_runnable}
 use Rattle.rules_machine.specs.Servers.{has_high}

@@ -2,8 +2,8 @@
 use Rattle.std.proofs.Common.{Bool, List, None, Option, Some, [], ap, arith, false, refl, suc, sym, true, zero, ℕ, ◌∷◌, ◌≡◌}
 use Rattle.std.specs.Prelude.{◌==◌}
 use mathlib.Core.Path.{subst, ◌∙◌}
-use Rattle.script_code.specs.declared.unit.Unit.{Unit}
-use Rattle.parts_server.specs.Server.{ServerState}
+use Rattle.rules_bodies.specs.declared.unit.Unit.{Unit}
+use Rattle.rules_server.specs.Server.{ServerState}
 use Rattle.rules_machine.specs.Budget.{renews}
 use Rattle.rules_machine.specs.Bodies.{Bodies, Seen, seen_by}
 use Rattle.rules_machine.specs.declared.frame.BodyOf.{BodyOf}
@@ -18,14 +18,14 @@ use Rattle.rules_machine.specs.Dispatch.{head}
 use Rattle.rules_machine.specs.Units.{Following, advances, advancing, begins_finish, cleaning_up, continuing, finishing, following, in_cleanup, in_unit, takes_unit}
 use Rattle.rules_machine.specs.Ticks.{completes_at, ends_tick, prepares, runs, runs_head, tick, tick_end, unless_killed}
 use Rattle.rules_machine.proofs.ItemsEnd.{instant_ends}
-use Rattle.laws_moves.specs.Moves.{KeepsAwake, Stops}
-use Rattle.laws_moves.specs.UnitRanges.{BodiesFit, UnitFits}
-use Rattle.laws_moves.proofs.Calls.Commuting.{status_kept}
-use Rattle.laws_moves.proofs.Calls.Table.{unit_keep}
-use Rattle.laws_moves.proofs.Runs.Listed.{head_can_run}
-use Rattle.laws_moves.proofs.Runs.Units.{in_unit_fits}
-use Rattle.laws_moves.proofs.Runs.Ticks.{RoundKeeps, Rests, charged_runs, charged_turn, instant_keep, sweeps_keep}
-use Rattle.laws_moves.proofs.Runs.Preparing.{Alike, alike_runs, prepared, prepares_keep}
+use Rattle.rules_moves.specs.Moves.{KeepsAwake, Stops}
+use Rattle.rules_moves.specs.UnitRanges.{BodiesFit, UnitFits}
+use Rattle.rules_moves.proofs.Calls.Commuting.{status_kept}
+use Rattle.rules_moves.proofs.Calls.Table.{unit_keep}
+use Rattle.rules_moves.proofs.Runs.Listed.{head_can_run}
+use Rattle.rules_moves.proofs.Runs.Units.{in_unit_fits}
+use Rattle.rules_moves.proofs.Runs.Ticks.{RoundKeeps, Rests, charged_runs, charged_turn, instant_keep, sweeps_keep}
+use Rattle.rules_moves.proofs.Runs.Preparing.{Alike, alike_runs, prepared, prepares_keep}
 use Rattle.laws_machine.proofs.Servers.Alert.{awake_of}
 use Rattle.laws_machine.proofs.Servers.Ticks.{ServedDone, ServedMid, ServedRight, nobody_awake, served_stop, served_tick}
 use Rattle.laws_machine.proofs.Budgets.Units.{NotDue, not_due}

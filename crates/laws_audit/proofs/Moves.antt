@@ -8,9 +8,9 @@ use Rattle.words_script.specs.declared.policy.Policy.{Policy}
 use Rattle.words_script.specs.declared.policy.Policy.TheVariants as policy
 use Rattle.words_trace.specs.declared.event.Event.{Event}
 use Rattle.words_trace.specs.declared.event.Event.TheVariants as event
-use Rattle.parts_server.specs.declared.ServerKind.{ServerKind}
-use Rattle.parts_server.specs.declared.ServerKind.TheVariants as server_kind
-use Rattle.parts_server.specs.Server.{ServerState, activate, is_high, new_server, next_due, oldest_pending, refill, set_high}
+use Rattle.rules_server.specs.declared.ServerKind.{ServerKind}
+use Rattle.rules_server.specs.declared.ServerKind.TheVariants as server_kind
+use Rattle.rules_server.specs.Server.{ServerState, activate, is_high, new_server, next_due, oldest_pending, refill, set_high}
 use Rattle.rules_machine.specs.Lists.{changed_at, is}
 use Rattle.rules_machine.specs.Bodies.{Bodies}
 use Rattle.rules_machine.specs.State.{Joiner, Status, Thread, Waiting, blocked, dormant, ended, for_mutex_again, runnable}
@@ -24,9 +24,9 @@ use Rattle.rules_machine.specs.Cancellation.{without_cleanup}
 use Rattle.rules_machine.specs.DueItems.{has_come}
 use Rattle.rules_machine.specs.GoodState.{is_sporadic}
 use Rattle.rules_machine.proofs.Reading.{changed-length, thread-other, thread-same}
-use Rattle.laws_moves.specs.Moves.{Core, MayAwake, Move, alters, begins, blocks_for, blocks_plainly, core_of, does, drops, ends_with, enters_frame, is_quiet, leaves_frame, lives_no_more, prices, pushed, pushes, recasts, refills_one, rejoins, renews_with, tells_of, wakes_with}
-use Rattle.laws_moves.proofs.Waiters.Best.{blocked_within, running_within}
-use Rattle.laws_moves.proofs.Waiters.OfThreads.{changed_is}
+use Rattle.rules_moves.specs.Moves.{Core, MayAwake, Move, alters, begins, blocks_for, blocks_plainly, core_of, does, drops, ends_with, enters_frame, is_quiet, leaves_frame, lives_no_more, prices, pushed, pushes, recasts, refills_one, rejoins, renews_with, tells_of, wakes_with}
+use Rattle.rules_moves.proofs.Waiters.Best.{blocked_within, running_within}
+use Rattle.rules_moves.proofs.Waiters.OfThreads.{changed_is}
 use Rattle.laws_machine.proofs.Servers.Right.{ServerIn, ThreadRight, none_consumed, only}
 use Rattle.laws_machine.proofs.Servers.Moves.{Awake, Threads, here, in_wait, sleeper}
 use Rattle.laws_machine.proofs.Servers.Ends.{has_server}

@@ -4,11 +4,11 @@ use Rattle.std.specs.Prelude.{map, nat_le, ◌&&◌, ◌||◌}
 use Rattle.std.specs.List.{list_all}
 use mathlib.Core.Path.{subst, ◌∙◌}
 use Rattle.words_script.specs.declared.decl.Script.{Script}
-use Rattle.script_code.specs.Next.{Place}
+use Rattle.rules_bodies.specs.Next.{Place}
 use Rattle.words_trace.specs.declared.event.Event.{Event}
 use Rattle.words_trace.specs.declared.event.Event.TheVariants as event
 use Rattle.words_trace.specs.Text.{Entry}
-use Rattle.parts_server.specs.Server.{ServerState, activate, oldest_pending, plan, refill, replenishment}
+use Rattle.rules_server.specs.Server.{ServerState, activate, oldest_pending, plan, refill, replenishment}
 use Rattle.rules_machine.specs.Bodies.{Bodies}
 use Rattle.rules_machine.specs.State.{Machine}
 use Rattle.rules_machine.specs.Threads.{can_run, thread_at}
@@ -22,11 +22,11 @@ use Rattle.rules_machine.specs.Ticks.{TickEnd, ends_tick, exhausting, nothing, p
 use Rattle.rules_machine.specs.Runs.{opening, ticks}
 use Rattle.rules_machine.specs.Machine.{bodies_of, events, machine}
 use Rattle.rules_machine.specs.WellFormed.{IsWellFormed}
-use Rattle.laws_moves.specs.Moves.{MayAwake, Move, Stops, begins, blocks_plainly, does, lives_no_more, recasts, refills_one, renews_with, tells_of, wakes_with}
-use Rattle.laws_moves.specs.UnitRanges.{BodiesFit}
-use Rattle.laws_moves.proofs.Runs.Listed.{AllRun}
-use Rattle.laws_moves.proofs.Runs.Units.{bodies_fit}
-use Rattle.laws_moves.proofs.Runs.Ticks.{TickKeeps, run_keep, tick_keep}
+use Rattle.rules_moves.specs.Moves.{MayAwake, Move, Stops, begins, blocks_plainly, does, lives_no_more, recasts, refills_one, renews_with, tells_of, wakes_with}
+use Rattle.rules_moves.specs.UnitRanges.{BodiesFit}
+use Rattle.rules_moves.proofs.Runs.Listed.{AllRun}
+use Rattle.rules_moves.proofs.Runs.Units.{bodies_fit}
+use Rattle.rules_moves.proofs.Runs.Ticks.{TickKeeps, run_keep, tick_keep}
 use Rattle.laws_machine.proofs.Parts.Opening.{opening_listed}
 use Rattle.laws_machine.proofs.Servers.Kept.{opening_served}
 use Rattle.laws_machine.proofs.Servers.Ticks.{ServedDone, ServedMid, ServedRight, served_renew, served_stop, served_tick}

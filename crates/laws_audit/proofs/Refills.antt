@@ -3,8 +3,8 @@ use Rattle.std.proofs.Common.{Bool, List, None, Some, [], ap, arith, false, refl
 use Rattle.std.specs.Prelude.{nat_le, not, option_map, slice_get, drop, min, sum_by, ◌&&◌, ◌==◌}
 use Rattle.std.proofs.lemmas.List.Sums.{sum_by-append}
 use mathlib.Core.Path.{subst, ◌∙◌}
-use Rattle.parts_server.specs.declared.Replenish.{Replenish}
-use Rattle.parts_server.specs.Server.{ServerState, is_high, next_due, oldest_pending, pending_total, refill, refill_from}
+use Rattle.rules_server.specs.declared.Replenish.{Replenish}
+use Rattle.rules_server.specs.Server.{ServerState, is_high, next_due, oldest_pending, pending_total, refill, refill_from}
 use Rattle.rules_machine.specs.State.{Status}
 use Rattle.rules_machine.specs.Threads.{is_runnable}
 use Rattle.rules_machine.specs.Servers.{amount_of, regains_high}

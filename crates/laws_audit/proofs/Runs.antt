@@ -8,11 +8,11 @@ use Rattle.words_script.specs.declared.call.Call.{Call}
 use Rattle.words_script.specs.declared.call.Call.TheVariants as call
 use Rattle.words_script.specs.declared.decl.Script.{Script}
 use Rattle.words_script.specs.declared.policy.Policy.TheVariants as policy
-use Rattle.script_code.specs.Next.{Place}
-use Rattle.script_code.specs.declared.unit.Unit.{Unit}
-use Rattle.script_code.specs.declared.unit.Unit.TheVariants as unit
+use Rattle.rules_bodies.specs.Next.{Place}
+use Rattle.rules_bodies.specs.declared.unit.Unit.{Unit}
+use Rattle.rules_bodies.specs.declared.unit.Unit.TheVariants as unit
 use Rattle.words_trace.specs.Text.{Entry}
-use Rattle.parts_server.specs.Server.{ServerState}
+use Rattle.rules_server.specs.Server.{ServerState}
 use Rattle.rules_machine.specs.Bodies.{Bodies}
 use Rattle.rules_machine.specs.Declarations.{ThreadDecl, threads_of}
 use Rattle.rules_machine.specs.State.{Machine, Thread}
@@ -23,10 +23,10 @@ use Rattle.rules_machine.specs.Runs.{opening, thread_opened, tick_of, ticks}
 use Rattle.rules_machine.specs.Machine.{bodies_of, events, machine}
 use Rattle.rules_machine.specs.GoodState.{is_sporadic}
 use Rattle.rules_machine.specs.WellFormed.{IsWellFormed}
-use Rattle.laws_moves.specs.UnitRanges.{BodiesFit}
-use Rattle.laws_moves.proofs.Runs.Listed.{AllRun}
-use Rattle.laws_moves.proofs.Runs.Units.{bodies_fit}
-use Rattle.laws_moves.proofs.Runs.Ticks.{run_keep}
+use Rattle.rules_moves.specs.UnitRanges.{BodiesFit}
+use Rattle.rules_moves.proofs.Runs.Listed.{AllRun}
+use Rattle.rules_moves.proofs.Runs.Units.{bodies_fit}
+use Rattle.rules_moves.proofs.Runs.Ticks.{run_keep}
 use Rattle.laws_machine.proofs.Parts.Opening.{opening_listed}
 use Rattle.laws_machine.proofs.Servers.Kept.{opened_server, opening_served}
 use Rattle.laws_machine.proofs.Servers.Ticks.{ServedDone, ServedMid, ServedRight, served_tick}

@@ -5,13 +5,13 @@ use Rattle.std.specs.List.{list_all, list_any}
 use Rattle.std.specs.Str.{bytes_eq}
 use mathlib.Core.Path.{subst, ◌∙◌}
 use Rattle.words_script.specs.declared.decl.Script.{Script}
-use Rattle.script_code.specs.Next.{Place}
+use Rattle.rules_bodies.specs.Next.{Place}
 use Rattle.words_trace.specs.declared.event.Event.{Event}
 use Rattle.words_trace.specs.declared.event.Event.TheVariants as event
 use Rattle.words_trace.specs.declared.report.BudgetView.{BudgetView}
 use Rattle.words_trace.specs.declared.report.Report.{Report}
 use Rattle.words_trace.specs.Text.{Entry, name_at}
-use Rattle.parts_server.specs.Server.{ServerState}
+use Rattle.rules_server.specs.Server.{ServerState}
 use Rattle.tool_check.specs.declared.form.Form.{Form}
 use Rattle.tool_check.specs.declared.form.Form.TheVariants as form
 use Rattle.tool_check.specs.Laws.{form_of, form_of_report, nums_of_budget, said, said_of_report}
@@ -43,7 +43,7 @@ use Rattle.laws_audit.proofs.Runs.{ClosesRight, are_calm, machine_closes, machin
 use Rattle.rules_machine.specs.Declarations.{ThreadDecl, threads_of}
 use Rattle.rules_machine.specs.Machine.{bodies_of}
 use Rattle.rules_machine.specs.Runs.{thread_opened}
-use Rattle.laws_moves.proofs.Runs.Units.{bodies_fit}
+use Rattle.rules_moves.proofs.Runs.Units.{bodies_fit}
 use Rattle.laws_audit.proofs.Calm.{bodies_calm}
 use Rattle.laws_audit.proofs.Standing.{replayed_more}
 use Rattle.std.proofs.lemmas.List.{length-map}

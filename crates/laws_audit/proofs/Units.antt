@@ -5,10 +5,10 @@ use Rattle.std.specs.List.{list_any}
 use mathlib.Core.Path.{subst, ◌∙◌}
 use Rattle.words_script.specs.declared.policy.Policy.{Policy}
 use Rattle.words_trace.specs.declared.event.Event.TheVariants as event
-use Rattle.parts_server.specs.declared.ServerKind.{ServerKind}
-use Rattle.parts_server.specs.declared.ServerKind.TheVariants as server_kind
-use Rattle.parts_server.specs.Calls.{MayPlan}
-use Rattle.parts_server.specs.Server.{ServerState, activate, charge, is_high, plan, replenishment}
+use Rattle.rules_server.specs.declared.ServerKind.{ServerKind}
+use Rattle.rules_server.specs.declared.ServerKind.TheVariants as server_kind
+use Rattle.rules_server.specs.Calls.{MayPlan}
+use Rattle.rules_server.specs.Server.{ServerState, activate, charge, is_high, plan, replenishment}
 use Rattle.rules_machine.specs.declared.dispatch.LastDispatch.{LastDispatch}
 use Rattle.rules_machine.specs.declared.dispatch.LastDispatch.TheVariants as last
 use Rattle.rules_machine.specs.Bodies.{Bodies}
@@ -23,9 +23,9 @@ use Rattle.rules_machine.specs.Priorities.{exec}
 use Rattle.rules_machine.specs.Ticks.{TickEnd, prepares, capacity_in, consumed_in, ends_tick, exhausting, nothing, planning, slice_is_used, slicing, tick_charged, tick_end, without_slice}
 use Rattle.rules_machine.specs.Units.{in_unit}
 use Rattle.rules_machine.proofs.Reading.{thread-other, thread-same}
-use Rattle.laws_moves.proofs.Runs.Preparing.{Alike, alike, alike_runs, closes_keep}
-use Rattle.laws_moves.proofs.Runs.Ticks.{charged_turn, dispatched}
-use Rattle.laws_moves.proofs.Waiters.Best.{running_within}
+use Rattle.rules_moves.proofs.Runs.Preparing.{Alike, alike, alike_runs, closes_keep}
+use Rattle.rules_moves.proofs.Runs.Ticks.{charged_turn, dispatched}
+use Rattle.rules_moves.proofs.Waiters.Best.{running_within}
 use Rattle.laws_machine.proofs.Budgets.Units.{NotDue}
 use Rattle.laws_machine.proofs.Servers.Right.{Consumed, ThreadRight, only}
 use Rattle.laws_machine.proofs.Servers.Moves.{Threads}

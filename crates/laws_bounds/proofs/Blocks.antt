@@ -3,7 +3,7 @@ use Rattle.std.proofs.Common.{ℕ, ◌+◌, ◌-◌, ◌≤◌, ◌≡◌, max, 
 use Rattle.words_script.specs.Tree.{block_of, step_count}
 use Rattle.words_script.specs.declared.body.Step.{Step}
 use Rattle.words_script.specs.declared.decl.Decl.{Decl}
-use Rattle.script_code.specs.Flat.{nesting}
+use Rattle.rules_bodies.specs.Flat.{nesting}
 use Rattle.script_table.specs.declared.form.Form.{Form}
 use Rattle.script_table.specs.declared.form.Form.TheVariants as form
 use Rattle.script_table.specs.Names.{Entry}

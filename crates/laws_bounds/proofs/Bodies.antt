@@ -6,7 +6,7 @@ use Rattle.words_script.specs.Block.{Block}
 use Rattle.words_script.specs.declared.decl.Kind.TheVariants as kinds
 use Rattle.words_script.specs.declared.decl.Decl.{Decl}
 use Rattle.words_script.specs.declared.decl.Decl.TheVariants.{Named}
-use Rattle.script_code.specs.Flat.{NumberedBodies, no_bodies, bodies_of, with_decl, with_decls}
+use Rattle.rules_bodies.specs.Flat.{NumberedBodies, no_bodies, bodies_of, with_decl, with_decls}
 use Rattle.laws_bounds.proofs.Decls.{bodies_in, decl_more}
 use Rattle.laws_bounds.proofs.EachDecl.{Each}
 

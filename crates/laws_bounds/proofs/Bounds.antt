@@ -11,7 +11,7 @@ use Rattle.words_script.specs.declared.body.Step.TheVariants.{Make}
 use Rattle.words_script.specs.declared.call.Call.{Call}
 use Rattle.words_script.specs.declared.decl.Decl.{Decl}
 use Rattle.words_script.specs.declared.decl.Script.{Script}
-use Rattle.script_code.specs.Flat.{nesting, bodies_of, IsFlattenable}
+use Rattle.rules_bodies.specs.Flat.{nesting, bodies_of, IsFlattenable}
 use Rattle.rules_machine.specs.Declarations.{threads_of}
 use Rattle.script_table.specs.declared.faults.FaultKind.{FaultKind}
 use Rattle.script_table.specs.declared.faults.FaultKind.TheVariants.{TooMany}

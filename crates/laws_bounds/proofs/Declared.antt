@@ -10,7 +10,7 @@ use Rattle.words_script.specs.declared.decl.Kind.{Kind}
 use Rattle.words_script.specs.declared.decl.Kind.TheVariants as kinds
 use Rattle.words_script.specs.declared.decl.Decl.{Decl}
 use Rattle.words_script.specs.declared.decl.Decl.TheVariants.{Named, Action}
-use Rattle.script_code.specs.Flat.{bodies_of}
+use Rattle.rules_bodies.specs.Flat.{bodies_of}
 use Rattle.script_table.specs.declared.form.ObjectForm.{ObjectForm}
 use Rattle.script_table.specs.declared.form.ObjectForm.TheVariants as object
 use Rattle.script_table.specs.declared.form.ActionForm.{ActionForm}

@@ -11,7 +11,7 @@ use Rattle.words_script.specs.declared.decl.Kind.{Kind}
 use Rattle.words_script.specs.declared.decl.Kind.TheVariants as kinds
 use Rattle.words_script.specs.declared.decl.Decl.{Decl}
 use Rattle.words_script.specs.declared.decl.Decl.TheVariants.{Named, Action}
-use Rattle.script_code.specs.Flat.{NumberedBodies, nesting, no_bodies, bodies_of, with_decl, with_decls}
+use Rattle.rules_bodies.specs.Flat.{NumberedBodies, nesting, no_bodies, bodies_of, with_decl, with_decls}
 use Rattle.rules_machine.specs.Declarations.{declared_thread}
 use Rattle.script_table.specs.declared.form.Form.{Form}
 use Rattle.script_table.specs.declared.form.Form.TheVariants as form

@@ -10,7 +10,7 @@ use Rattle.words_script.specs.declared.call.Operand.TheVariants.{Num}
 use Rattle.words_script.specs.declared.policy.Policy.{Policy}
 use Rattle.words_script.specs.declared.decl.Decl.{Decl}
 use Rattle.words_script.specs.declared.decl.Script.{Script}
-use Rattle.script_code.specs.Flat.{IsFlattenable, bodies_of, nesting}
+use Rattle.rules_bodies.specs.Flat.{IsFlattenable, bodies_of, nesting}
 use Rattle.script_generator.specs.Draws.{Drawn, draw, next}
 use Rattle.script_generator.specs.Generated.{after_deed, body_of, deed_of, hold, policy_from, policy_of, script_of, task_from, thread_from, threads_from}
 use Rattle.rules_machine.specs.Declarations.{declared_thread, handlers_of, named, queue_kind, timer_kind}

@@ -6,7 +6,7 @@ use Rattle.words_script.specs.Block.{Block}
 use Rattle.words_script.specs.Tree.{block_of, step_count}
 use Rattle.words_script.specs.declared.body.Step.{Step}
 use Rattle.words_script.specs.declared.body.Step.TheVariants.{Run, Make, Set, Add, Take, Test, Loop, Guard}
-use Rattle.script_code.specs.Flat.{nesting}
+use Rattle.rules_bodies.specs.Flat.{nesting}
 use Rattle.script_table.specs.declared.form.StepForm.{StepForm}
 use Rattle.script_table.specs.declared.form.StepForm.TheVariants as step
 use Rattle.script_table.specs.declared.form.BlockForm.{BlockForm}

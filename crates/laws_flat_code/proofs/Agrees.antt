@@ -3,17 +3,17 @@ use Rattle.std.proofs.Common.{◌≡◌, ℕ, ◌+◌, List, [], drop, refl, ap,
 use Rattle.words_numbers.specs.declared.res.Res.TheVariants as res
 use Rattle.words_script.specs.Block.{Block, Nothing, Running, Making, Setting, Adding, Taking, Testing, Looping, Guarding}
 use Rattle.words_script.specs.declared.decl.Script.{Script}
-use Rattle.script_code.specs.declared.cursor.Cursor.{Cursor}
-use Rattle.script_code.specs.declared.op.Op.{Op}
-use Rattle.script_code.specs.declared.unit.Unit.TheVariants.{Finish}
-use Rattle.script_code.specs.Next.{Due, Ended, Outcome, Place, from_place, or_finish, step_number}
-use Rattle.script_code.specs.Flat as flat_code
-use Rattle.script_code.specs.Flat.{flat, op_number}
-use Rattle.script_code.specs.Fetch.{fetched, found_in, ops_of}
-use Rattle.script_code.specs.Stands.{counts_at, op_at, step_at}
-use Rattle.script_code.proofs.Lands.{landed}
-use Rattle.script_code.proofs.Places.{drop-flat, ops_from, places_land}
-use Rattle.script_code.proofs.Relative.{place_same}
+use Rattle.rules_bodies.specs.declared.cursor.Cursor.{Cursor}
+use Rattle.rules_bodies.specs.declared.op.Op.{Op}
+use Rattle.rules_bodies.specs.declared.unit.Unit.TheVariants.{Finish}
+use Rattle.rules_bodies.specs.Next.{Due, Ended, Outcome, Place, from_place, or_finish, step_number}
+use Rattle.rules_bodies.specs.Flat as flat_code
+use Rattle.rules_bodies.specs.Flat.{flat, op_number}
+use Rattle.rules_bodies.specs.Fetch.{fetched, found_in, ops_of}
+use Rattle.rules_bodies.specs.Stands.{counts_at, op_at, step_at}
+use Rattle.rules_bodies.proofs.Lands.{landed}
+use Rattle.rules_bodies.proofs.Places.{drop-flat, ops_from, places_land}
+use Rattle.rules_bodies.proofs.Relative.{place_same}
 use Rattle.rules_machine.specs.declared.frame.BodyOf.{BodyOf}
 use Rattle.rules_machine.specs.Bodies.{NextUnit, Seen}
 use Rattle.rules_machine.specs.Machine.{block_of, bodies_of, next_in}

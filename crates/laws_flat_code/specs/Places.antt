@@ -3,9 +3,9 @@ use Rattle.std.specs.Prelude.{[], ℕ}
 use Rattle.words_numbers.specs.declared.res.Res.TheVariants as res
 use Rattle.words_script.specs.Block.{Block}
 use Rattle.words_script.specs.declared.decl.Script.{Script}
-use Rattle.script_code.specs.declared.cursor.Cursor.{Cursor}
-use Rattle.script_code.specs.Next.{Place}
-use Rattle.script_code.specs.Stands.{counts_at, op_at}
+use Rattle.rules_bodies.specs.declared.cursor.Cursor.{Cursor}
+use Rattle.rules_bodies.specs.Next.{Place}
+use Rattle.rules_bodies.specs.Stands.{counts_at, op_at}
 use Rattle.rules_machine.specs.declared.frame.BodyOf.{BodyOf}
 use Rattle.rules_machine.specs.Machine.{block_of}
 use Rattle.rules_flat_code.specs.FlatBodies.{code_of, number_of}

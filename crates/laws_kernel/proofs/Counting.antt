@@ -4,7 +4,7 @@ use Rattle.std.specs.Prelude.{is_some, ◌||◌, ◌==◌}
 use Rattle.std.specs.List.{list_any}
 use Rattle.rules_machine.specs.GoodState.{count_of}
 use Rattle.rules_machine.specs.Lists.{is}
-use Rattle.laws_moves.proofs.Waiters.Best.{Each}
+use Rattle.rules_moves.proofs.Waiters.Best.{Each}
 
 -- 1 where it passes, else 0
 abbrev once : Bool → ℕ

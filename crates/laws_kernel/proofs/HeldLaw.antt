@@ -9,12 +9,12 @@ use Rattle.words_script.specs.declared.decl.Decl.{Decl}
 use Rattle.words_script.specs.declared.decl.Decl.TheVariants as decl
 use Rattle.words_script.specs.declared.decl.Kind.TheVariants as kind
 use Rattle.words_script.specs.declared.decl.Script.{Script}
-use Rattle.script_code.specs.declared.cursor.Cursor.{Cursor}
-use Rattle.script_code.specs.declared.op.Op.{Op}
-use Rattle.script_code.specs.declared.unit.Unit as unit_type
-use Rattle.script_code.specs.declared.unit.Unit.TheVariants as unit
-use Rattle.script_code.specs.Flat as flat
-use Rattle.script_code.specs.Fetch.{ops_of}
+use Rattle.rules_bodies.specs.declared.cursor.Cursor.{Cursor}
+use Rattle.rules_bodies.specs.declared.op.Op.{Op}
+use Rattle.rules_bodies.specs.declared.unit.Unit as unit_type
+use Rattle.rules_bodies.specs.declared.unit.Unit.TheVariants as unit
+use Rattle.rules_bodies.specs.Flat as flat
+use Rattle.rules_bodies.specs.Fetch.{ops_of}
 use Rattle.rules_machine.specs.declared.signal.SigAction.{SigAction}
 use Rattle.rules_machine.specs.declared.signal.SigAction.TheVariants as action
 use Rattle.rules_machine.specs.Declarations.{ThreadDecl, handlers_of, named, queue_kind, threads_of, timer_kind}
@@ -26,7 +26,7 @@ use Rattle.rules_machine.specs.Ticks.{tick_charged}
 use Rattle.rules_machine.specs.Turns.{turn_of}
 use Rattle.rules_machine.specs.Units.{Following, advances, advancing, begins_finish, cleaning_up, continuing, finishing, following, in_cleanup, in_unit, takes_unit}
 use Rattle.rules_machine.specs.Throughout.{after_items}
-use Rattle.laws_moves.proofs.Waiters.Best.{Each}
+use Rattle.rules_moves.proofs.Waiters.Best.{Each}
 use Rattle.laws_machine.proofs.Servers.Units.{kept_in_unit}
 use Rattle.rules_flat_code.specs.EachCall.{EachMade}
 use Rattle.rules_flat_code.specs.FlatBodies.{code_of, flat_bodies}

@@ -1,13 +1,13 @@
 -- In each state of a run a thread that waits to join another is blocked.
 use Rattle.std.proofs.Common.{◌<◌, ℕ, Some, arith, subst}
 use Rattle.words_script.specs.declared.decl.Script.{Script}
-use Rattle.script_code.specs.declared.cursor.Cursor.{Cursor}
+use Rattle.rules_bodies.specs.declared.cursor.Cursor.{Cursor}
 use Rattle.rules_machine.specs.Bodies.{Bodies}
 use Rattle.rules_machine.specs.Runs.{opening}
 use Rattle.rules_machine.specs.Throughout.{after_items}
 use Rattle.rules_machine.specs.WellFormed.{IsWellFormed}
-use Rattle.laws_moves.specs.UnitRanges.{BodiesFit}
-use Rattle.laws_moves.proofs.Calls.Answers.{waits_blocked}
+use Rattle.rules_moves.specs.UnitRanges.{BodiesFit}
+use Rattle.rules_moves.proofs.Calls.Answers.{waits_blocked}
 use Rattle.laws_machine.proofs.Items.{throughout}
 use Rattle.laws_machine.proofs.Parts.Kept.{PartsRight, parts_tick}
 use Rattle.laws_machine.proofs.Parts.Opening.{opening_listed, opening_right}

@@ -1,7 +1,7 @@
 -- Laws of each member of a list, of its parts, and of a member by its number.
 use Rattle.std.proofs.Common.{◌<◌, ◌++◌, ℕ, zero, suc, List, [], ◌∷◌, arith, length}
 use Rattle.std.specs.Prelude.{All, map, slice_index_or}
-use Rattle.laws_moves.proofs.Waiters.Best.{Each}
+use Rattle.rules_moves.proofs.Waiters.Best.{Each}
 
 pub each_of : {X : Type 0} (Law : X → Type 0) (xs : List X) → All Law xs → Each Law xs
 each_of Law [] h = tt

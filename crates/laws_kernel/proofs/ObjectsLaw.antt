@@ -3,7 +3,7 @@ use Rattle.std.proofs.Common.{◌≡◌, ◌∙◌, ◌<◌, ℕ, zero, suc, Lis
 use Rattle.std.specs.Prelude.{pred, slice_index_or}
 use Rattle.words_script.specs.declared.decl.Script.{Script}
 use Rattle.words_trace.specs.declared.event.Event.TheVariants as event
-use Rattle.parts_server.specs.Server.{ServerState}
+use Rattle.rules_server.specs.Server.{ServerState}
 use Rattle.rules_machine.specs.Lists.{is}
 use Rattle.rules_machine.specs.Bodies.{Bodies}
 use Rattle.rules_machine.specs.State.{Machine, Queue, Registration, SignalRecord, Timer}
@@ -18,15 +18,15 @@ use Rattle.rules_machine.specs.Runs.{opening, ticks}
 use Rattle.rules_machine.specs.Throughout.{HoldsThroughout}
 use Rattle.rules_machine.specs.WellFormed.{IsWellFormed}
 use Rattle.rules_machine.proofs.Reading.{changed-length}
-use Rattle.laws_moves.specs.Moves.{MayRenewing, Move, begins, blocks_plainly, counts_down, counts_up, does, fires, frees, message_in, message_out, message_through, recasts, record_in, record_out, records_of_ended, refills_one, registers, renews_with, sem_down, sem_up, sets_timer_by, takes_for, wakes_with}
-use Rattle.laws_moves.specs.UnitRanges.{BodiesFit}
-use Rattle.laws_moves.proofs.Waiters.AfterMoves.{part_begun, part_refill, part_renewed}
-use Rattle.laws_moves.proofs.Waiters.Best.{Each}
-use Rattle.laws_moves.proofs.Calls.Commuting.{wakes_telling_part}
-use Rattle.laws_moves.proofs.Runs.Listed.{each_kept}
-use Rattle.laws_moves.proofs.Runs.Since.{Rests, TickSince, items_keep, run_since}
-use Rattle.laws_moves.proofs.Runs.Beside.{both}
-use Rattle.laws_moves.proofs.Runs.MachineLaws.{MachineLaw, law_beside}
+use Rattle.rules_moves.specs.Moves.{MayRenewing, Move, begins, blocks_plainly, counts_down, counts_up, does, fires, frees, message_in, message_out, message_through, recasts, record_in, record_out, records_of_ended, refills_one, registers, renews_with, sem_down, sem_up, sets_timer_by, takes_for, wakes_with}
+use Rattle.rules_moves.specs.UnitRanges.{BodiesFit}
+use Rattle.rules_moves.proofs.Waiters.AfterMoves.{part_begun, part_refill, part_renewed}
+use Rattle.rules_moves.proofs.Waiters.Best.{Each}
+use Rattle.rules_moves.proofs.Calls.Commuting.{wakes_telling_part}
+use Rattle.rules_moves.proofs.Runs.Listed.{each_kept}
+use Rattle.rules_moves.proofs.Runs.Since.{Rests, TickSince, items_keep, run_since}
+use Rattle.rules_moves.proofs.Runs.Beside.{both}
+use Rattle.rules_moves.proofs.Runs.MachineLaws.{MachineLaw, law_beside}
 use Rattle.laws_machine.proofs.Parts.Opening.{opening_listed}
 use Rattle.laws_machine.proofs.Lists.Kept.{Placed, Placing, opening_placed, placed_tick}
 use Rattle.laws_machine.proofs.Signals.Ignored.{each_last}

@@ -1,13 +1,13 @@
 -- The records that are pending are few, and there is a place for each that may become pending.
 use Rattle.std.proofs.Common.{◌≡◌, ◌≤◌, ◌<◌, ◌+◌, ℕ, suc, true, false, ap, arith, length}
 use Rattle.std.specs.Prelude.{filter_map, is_some, map, nat_le}
-use Rattle.script_code.specs.declared.cursor.Cursor.{Cursor}
+use Rattle.rules_bodies.specs.declared.cursor.Cursor.{Cursor}
 use Rattle.rules_machine.specs.GoodState.{SerialsAreRight, count_of, serial_of}
 use Rattle.rules_machine.specs.Lists.{is}
 use Rattle.rules_machine.specs.Signals.{is_counted, record_limit}
 use Rattle.rules_machine.specs.State.{Machine, SignalRecord, Thread}
 use Rattle.rules_machine.specs.Threads.{catches_signal, waiting_in}
-use Rattle.laws_moves.proofs.Waiters.Best.{Each}
+use Rattle.rules_moves.proofs.Waiters.Best.{Each}
 use Rattle.laws_machine.proofs.Signals.Records.{RecordsAreRight}
 use Rattle.laws_threads.specs.EachThread.{IsSourced}
 use Rattle.kernel_state.specs.Pending.{PendingFits}

@@ -7,14 +7,14 @@ use Rattle.words_script.specs.declared.decl.Decl.{Decl}
 use Rattle.words_script.specs.declared.decl.Decl.TheVariants as decl
 use Rattle.words_script.specs.declared.decl.Kind.TheVariants as kind
 use Rattle.words_script.specs.declared.decl.Script.{Script}
-use Rattle.script_code.specs.declared.unit.Unit as units
-use Rattle.script_code.specs.declared.unit.Unit.TheVariants as unit
-use Rattle.script_code.specs.Fetch.{fetched}
-use Rattle.script_code.specs.Flat.{NumberedBodies, bodies_of, no_bodies, with_decl, with_decls}
+use Rattle.rules_bodies.specs.declared.unit.Unit as units
+use Rattle.rules_bodies.specs.declared.unit.Unit.TheVariants as unit
+use Rattle.rules_bodies.specs.Fetch.{fetched}
+use Rattle.rules_bodies.specs.Flat.{NumberedBodies, bodies_of, no_bodies, with_decl, with_decls}
 use Rattle.rules_machine.specs.WellFormed.{BlockFits, CallFits, DeclsFit}
 use Rattle.rules_flat_code.specs.EachCall.{EachCall}
 use Rattle.rules_flat_code.specs.FlatBodies.{code_of, cursor_at, flat_bodies}
-use Rattle.laws_moves.specs.UnitRanges.{BodiesFit, UnitFits}
+use Rattle.rules_moves.specs.UnitRanges.{BodiesFit, UnitFits}
 use Rattle.laws_threads.proofs.MadeCalls.{UnitMakes, all_made, fetched_makes}
 
 each_fits : (b : Block) → BlockFits b → EachCall CallFits b

@@ -1,6 +1,6 @@
 -- How many objects a machine has, beside its threads.
 use Rattle.std.specs.Prelude.{ℕ, length, ◌≤◌, ◌<◌, ◌^◌}
-use Rattle.script_code.specs.declared.cursor.Cursor.{Cursor}
+use Rattle.rules_bodies.specs.declared.cursor.Cursor.{Cursor}
 use Rattle.rules_machine.specs.State.{Machine}
 use Rattle.rules_flat_code.specs.KnownCalls.{Objects}
 

@@ -1,7 +1,7 @@
 -- What the kernel counts on in each state of the run of a script.
 use Rattle.std.specs.Prelude.{◌≡◌, ℕ, false, length}
 use Rattle.words_script.specs.declared.decl.Script.{Script}
-use Rattle.script_code.specs.declared.cursor.Cursor.{Cursor}
+use Rattle.rules_bodies.specs.declared.cursor.Cursor.{Cursor}
 use Rattle.rules_machine.specs.Servers.{has_high}
 use Rattle.rules_machine.specs.State.{Machine}
 use Rattle.rules_machine.specs.Threads.{thread_at}

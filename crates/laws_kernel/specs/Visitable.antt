@@ -1,11 +1,11 @@
 -- What holds of each thread before a sweep and after it: there is room for the frame of a signal-catching function wherever one may
 -- begin, and a thread that waits has consumed nothing.
 use Rattle.std.specs.Prelude.{◌≡◌, ◌≤◌, ◌<◌, ℕ, List, Some, length, true}
-use Rattle.script_code.specs.declared.cursor.Cursor.{Cursor}
-use Rattle.script_code.specs.declared.op.Op.{Op}
-use Rattle.script_code.specs.Flat as flat
-use Rattle.parts_server.specs.declared.ServerKind.TheVariants as kind
-use Rattle.parts_server.specs.Server.{ServerState, is_high}
+use Rattle.rules_bodies.specs.declared.cursor.Cursor.{Cursor}
+use Rattle.rules_bodies.specs.declared.op.Op.{Op}
+use Rattle.rules_bodies.specs.Flat as flat
+use Rattle.rules_server.specs.declared.ServerKind.TheVariants as kind
+use Rattle.rules_server.specs.Server.{ServerState, is_high}
 use Rattle.rules_machine.specs.State.{Machine, Status, Thread}
 use Rattle.rules_machine.specs.Threads.{action_of, is_runnable, thread_at}
 use Rattle.laws_threads.specs.Frames.{AreInOrder}

@@ -9,7 +9,7 @@
 
 ghost use Rattle.std.specs.Prelude.{ℕ, ◌≡◌, ◌≤◌, ◌<◌, ◌+◌, ◌-◌, ◌++◌};
 ghost use Rattle.words_script.specs.declared.decl.Script.{Script};
-ghost use Rattle.script_code.specs.Next.{Place};
+ghost use Rattle.rules_bodies.specs.Next.{Place};
 ghost use Rattle.rules_machine.specs.Bodies.{Bodies};
 ghost use Rattle.rules_machine.specs.State.{Machine};
 ghost use Rattle.rules_machine.specs.Machine.{bodies_of, events, machine};

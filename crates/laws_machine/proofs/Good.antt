@@ -8,10 +8,10 @@ use Rattle.rules_machine.specs.Runs.{opening, ticks}
 use Rattle.rules_machine.specs.declared.frame.BodyOf.{BodyOf}
 use Rattle.rules_machine.specs.GoodState.{StaysGood, CleanupsAreRight, IsSwept, ListsAreRight, SerialsAreRight}
 use Rattle.rules_machine.specs.WellFormed.{IsWellFormed}
-use Rattle.laws_moves.specs.UnitRanges.{BodiesFit}
+use Rattle.rules_moves.specs.UnitRanges.{BodiesFit}
 use Rattle.rules_machine.specs.Throughout.{HoldsThroughout, after_items}
 use Rattle.laws_machine.proofs.Parts.Opening.{opening_listed}
-use Rattle.laws_moves.proofs.Runs.Since.{Rests, items_keep, run_since}
+use Rattle.rules_moves.proofs.Runs.Since.{Rests, items_keep, run_since}
 use Rattle.laws_machine.proofs.Lists.Places.{lists_right}
 use Rattle.laws_machine.proofs.Lists.Priorities.{priorities}
 use Rattle.laws_machine.proofs.Lists.Kept.{Placed}

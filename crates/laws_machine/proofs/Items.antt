@@ -9,14 +9,14 @@ use Rattle.rules_machine.specs.DueItems.{item_done, item_then, items_done, next_
 use Rattle.rules_machine.specs.Runs.{opening, ticks}
 use Rattle.rules_machine.specs.GoodState.{MutexesAreRight, ServersAreRight, SignalsAreRight, WaitsAreRight}
 use Rattle.rules_machine.specs.WellFormed.{IsWellFormed}
-use Rattle.laws_moves.specs.UnitRanges.{BodiesFit}
+use Rattle.rules_moves.specs.UnitRanges.{BodiesFit}
 use Rattle.rules_machine.specs.Throughout.{HoldsThroughout, after_items}
-use Rattle.laws_moves.proofs.Runs.Listed.{AllRun}
+use Rattle.rules_moves.proofs.Runs.Listed.{AllRun}
 use Rattle.laws_machine.proofs.Parts.Opening.{opening_listed, opening_right}
 use Rattle.laws_machine.proofs.Parts.Kept.{PartsRight, parts_tick}
 use Rattle.laws_machine.proofs.Signals.Records.{signals_right}
 use Rattle.laws_machine.proofs.Servers.Kept.{opening_served, servers_right}
-use Rattle.laws_moves.proofs.Runs.Ticks.{TickKeeps, items_keep, round_of, run_keep}
+use Rattle.rules_moves.proofs.Runs.Ticks.{TickKeeps, items_keep, round_of, run_keep}
 use Rattle.laws_machine.proofs.Servers.Ticks.{ServedDone, ServedMid, ServedRight, served_tick}
 
 -- ---- every law that a tick keeps

@@ -8,8 +8,8 @@ use Rattle.words_script.specs.declared.decl.Script.{Script}
 use Rattle.words_script.specs.declared.policy.Policy.TheVariants as policy
 use Rattle.words_script.specs.declared.policy.Protocol.TheVariants as protocol
 use Rattle.rules_machine.specs.WellFormed.{IsPriority, IsWellFormed}
-use Rattle.parts_lists.specs.Threads.{times}
-use Rattle.parts_ready.specs.Lists.{list_of}
+use Rattle.rules_lists.specs.Threads.{times}
+use Rattle.rules_lists.specs.Lists.{list_of}
 use Rattle.rules_machine.specs.Machine.{machine}
 use Rattle.rules_machine.specs.Priorities.{exec_in}
 use Rattle.rules_machine.specs.Promises.{RunStaysGood, guards_in}

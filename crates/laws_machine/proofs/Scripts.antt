@@ -10,7 +10,7 @@ use Rattle.laws_machine.specs.Times.{TimesAreRight}
 use Rattle.laws_machine.proofs.Times.{times_throughout}
 use Rattle.laws_machine.proofs.Servers.Latest.{latest_throughout}
 use Rattle.laws_machine.proofs.Servers.Rest.{rest_throughout}
-use Rattle.laws_moves.proofs.Runs.Units.{bodies_fit}
+use Rattle.rules_moves.proofs.Runs.Units.{bodies_fit}
 use Rattle.laws_machine.proofs.Cleanups.Blocks.{bodies_guarded}
 use Rattle.laws_machine.proofs.Good.{good_throughout}
 use Rattle.laws_machine.proofs.Budgets.Kept.{run_budgets}

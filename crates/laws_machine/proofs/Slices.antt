@@ -6,7 +6,7 @@ use Rattle.words_script.specs.declared.decl.Script.{Script}
 use Rattle.words_script.specs.declared.policy.Policy.{Policy}
 use Rattle.words_script.specs.declared.policy.Policy.TheVariants as policy
 use Rattle.words_trace.specs.declared.event.Event.TheVariants as event
-use Rattle.parts_server.specs.Server.{ServerState, activate, oldest_pending, plan, refill}
+use Rattle.rules_server.specs.Server.{ServerState, activate, oldest_pending, plan, refill}
 use Rattle.rules_machine.specs.Lists.{changed_at, is}
 use Rattle.rules_machine.specs.Bodies.{Bodies}
 use Rattle.rules_machine.specs.State.{Machine, Thread, for_end, waits_to_join}
@@ -24,12 +24,12 @@ use Rattle.rules_machine.specs.Units.{in_unit}
 use Rattle.rules_machine.specs.Ticks.{TickEnd, capacity_in, consumed_in, ends_tick, exhausting, nothing, planning, slice_charged, slice_is_used, slicing, tick_charged, tick_end, without_slice}
 use Rattle.rules_machine.specs.Runs.{opening, thread_opened}
 use Rattle.rules_machine.specs.WellFormed.{IsWellFormed}
-use Rattle.laws_moves.specs.Moves.{Core, MayRenewing, Move, alters, begins, blocks_for, blocks_plainly, core_of, does, drops, ends_with, enters_frame, leaves_frame, lives_no_more, prices, pushed, pushes, recasts, refills_one, rejoins, renews_with, wakes_with}
-use Rattle.laws_moves.proofs.Waiters.Best.{Each}
-use Rattle.laws_moves.proofs.Waiters.OfThreads.{changed_is}
+use Rattle.rules_moves.specs.Moves.{Core, MayRenewing, Move, alters, begins, blocks_for, blocks_plainly, core_of, does, drops, ends_with, enters_frame, leaves_frame, lives_no_more, prices, pushed, pushes, recasts, refills_one, rejoins, renews_with, wakes_with}
+use Rattle.rules_moves.proofs.Waiters.Best.{Each}
+use Rattle.rules_moves.proofs.Waiters.OfThreads.{changed_is}
 use Rattle.laws_machine.proofs.Lists.Priorities.{ThreadFits}
-use Rattle.laws_moves.proofs.Runs.Ticks.{charged_turn, dispatched}
-use Rattle.laws_moves.proofs.Runs.Beside.{TickBeside}
+use Rattle.rules_moves.proofs.Runs.Ticks.{charged_turn, dispatched}
+use Rattle.rules_moves.proofs.Runs.Beside.{TickBeside}
 use Rattle.laws_machine.proofs.Lists.Kept.{Placed, Placing, Plans, in_unit_plans}
 
 -- the head's interval may be used up from the charge to the end of the tick

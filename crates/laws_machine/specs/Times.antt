@@ -1,7 +1,7 @@
 -- How long a thread has run: no longer than the machine, in all, in its round robin interval, and at its high priority. All of it is
 -- this project's own.
 use Rattle.std.specs.Prelude.{None, Option, Some, ℕ, ◌≤◌}
-use Rattle.parts_server.specs.Server.{ServerState}
+use Rattle.rules_server.specs.Server.{ServerState}
 use Rattle.rules_machine.specs.State.{Machine, Thread}
 use Rattle.rules_machine.specs.Threads.{thread_at}
 

@@ -11,7 +11,7 @@
 
 ghost use Rattle.std.specs.Prelude.{None, ℕ, suc, ◌≡◌};
 ghost use Rattle.words_script.specs.declared.decl.Script.{Script};
-ghost use Rattle.script_code.specs.Next.{Place};
+ghost use Rattle.rules_bodies.specs.Next.{Place};
 ghost use Rattle.rules_machine.specs.Agenda.{agenda, items_due};
 ghost use Rattle.rules_machine.specs.DueItems.{due_items, instant, item_then, next_item};
 ghost use Rattle.rules_machine.specs.State.{Machine};

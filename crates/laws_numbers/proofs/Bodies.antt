@@ -8,8 +8,8 @@ use Rattle.words_script.specs.declared.decl.Decl.{Decl}
 use Rattle.words_script.specs.declared.decl.Decl.TheVariants as decl
 use Rattle.words_script.specs.declared.decl.Kind.TheVariants as kind
 use Rattle.words_script.specs.declared.decl.Script.{Script}
-use Rattle.script_code.specs.Next.{At, Due, Ended, In, Outcome, Place, capped, holds, or_finish, passes_of, rest_of, steps_from}
-use Rattle.script_code.proofs.Relative.{and_then, from_head, from_inside, from_place, in_guard, in_loop, in_test, later, later_by, place_same}
+use Rattle.rules_bodies.specs.Next.{At, Due, Ended, In, Outcome, Place, capped, holds, or_finish, passes_of, rest_of, steps_from}
+use Rattle.rules_bodies.proofs.Relative.{and_then, from_head, from_inside, from_place, in_guard, in_loop, in_test, later, later_by, place_same}
 use Rattle.rules_machine.specs.declared.frame.BodyOf.{BodyOf}
 use Rattle.rules_machine.specs.declared.frame.BodyOf.TheVariants as body_of
 use Rattle.rules_machine.specs.Declarations.{ThreadDecl, cleanup_kind, declared_thread, handler_kind, named, threads_of}
@@ -107,7 +107,7 @@ module _ (o : Objects) where
         later_by_small i (from_inside result value passes (λ inner. from_place result value place inner r) (steps_from i block) r)
         (inside_small passes (λ inner. from_place result value place inner r) (steps_from i block) r (λ inner k. place_small place inner r k s) (steps_small i block h) s)
 
-  abbrev FoundSmall : Rattle.script_code.specs.Next.Next → Type 0
+  abbrev FoundSmall : Rattle.rules_bodies.specs.Next.Next → Type 0
   FoundSmall n = UnitSmall o n.unit × IsSmall n.register
 
   or_small : (body : Block) (x : Outcome) → OutcomeSmall x → FoundSmall (or_finish body x)
@@ -155,7 +155,7 @@ module _ (script : Script) (known : IsInRange script) where
   bodies_small body place seen s =
       let o = objects_of script in
       let block = block_of script body in
-      let found : FoundSmall o (or_finish block (Rattle.script_code.specs.Next.from_place seen.result seen.value place block seen.register)) =
+      let found : FoundSmall o (or_finish block (Rattle.rules_bodies.specs.Next.from_place seen.result seen.value place block seen.register)) =
       subst (λ (x : Outcome). FoundSmall o (or_finish block x)) (sym (place_same seen.result seen.value place block seen.register))
       (or_small o block (from_place seen.result seen.value place block seen.register) (place_small o seen.result seen.value place block seen.register (block_small body) s)) in
       record { unit = found.0; register = found.1 }

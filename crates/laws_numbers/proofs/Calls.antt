@@ -9,10 +9,10 @@ use Rattle.words_script.specs.declared.call.Call.{Call}
 use Rattle.words_script.specs.declared.call.Call.TheVariants as call
 use Rattle.words_script.specs.declared.policy.Policy.{Policy}
 use Rattle.words_script.specs.declared.policy.Policy.TheVariants as policy
-use Rattle.script_code.specs.declared.unit.Unit.{Unit}
-use Rattle.script_code.specs.declared.unit.Unit.TheVariants as unit
+use Rattle.rules_bodies.specs.declared.unit.Unit.{Unit}
+use Rattle.rules_bodies.specs.declared.unit.Unit.TheVariants as unit
 use Rattle.words_trace.specs.declared.event.Event.TheVariants as event
-use Rattle.parts_server.specs.Server.{ServerState, set_high}
+use Rattle.rules_server.specs.Server.{ServerState, set_high}
 use Rattle.rules_machine.specs.declared.frame.FrameKind.{FrameKind}
 use Rattle.rules_machine.specs.declared.frame.FrameKind.TheVariants as frame
 use Rattle.rules_machine.specs.declared.thread.CondEnd.TheVariants as cond_end

@@ -6,8 +6,8 @@ use Rattle.rules_machine.specs.State.{Machine, Thread, Wait, Waiting}
 use Rattle.rules_machine.specs.Threads.{is_dormant, is_live, no_thread, thread_at, thread_in, waiting_in}
 use Rattle.rules_machine.specs.Waiters.{Waiter, best_waiter, waiters}
 use Rattle.rules_machine.specs.DueItems.{has_come, start_in}
-use Rattle.laws_moves.proofs.Waiters.Best as best
-use Rattle.laws_moves.proofs.Waiters.Best.{best_waits, blocked_within, first_one}
+use Rattle.rules_moves.proofs.Waiters.Best as best
+use Rattle.rules_moves.proofs.Waiters.Best.{best_waits, blocked_within, first_one}
 use Rattle.laws_numbers.specs.Numbers.{Each}
 
 pub changed : {X : Type 0} (Q : X → Type 0) (none : X) (n : ℕ) (f : X → X) (xs : List X) → Q (f (slice_index_or xs n none)) → ((k : ℕ) → Q (slice_index_or xs k none)) →

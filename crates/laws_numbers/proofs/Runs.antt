@@ -5,7 +5,7 @@ use Rattle.words_script.specs.declared.decl.Decl.{Decl}
 use Rattle.words_script.specs.declared.decl.Decl.TheVariants as decl
 use Rattle.words_script.specs.declared.decl.Kind.TheVariants as kind
 use Rattle.words_script.specs.declared.decl.Script.{Script}
-use Rattle.script_code.specs.Next.{Place}
+use Rattle.rules_bodies.specs.Next.{Place}
 use Rattle.rules_machine.specs.Bodies.{Bodies}
 use Rattle.rules_machine.specs.Declarations.{ThreadDecl, mutex_kind, named, queue_kind, semaphore_kind, threads_of, timer_kind}
 use Rattle.rules_machine.specs.State.{Machine}
@@ -23,12 +23,12 @@ use Rattle.rules_machine.specs.Ticks.{tick}
 use Rattle.rules_machine.specs.Throughout.{after_items}
 use Rattle.rules_machine.specs.WellFormed.{IsWellFormed}
 use Rattle.rules_flat_code.specs.KnownCalls.{Objects, objects_of}
-use Rattle.laws_moves.specs.UnitRanges.{BodiesFit}
-use Rattle.laws_moves.proofs.Waiters.Best.{running_within}
-use Rattle.laws_moves.proofs.Runs.Listed.{head_can_run}
-use Rattle.laws_moves.proofs.Runs.Preparing.{closes_keep}
-use Rattle.laws_moves.proofs.Runs.Since.{Rests, instant_keep, run_since}
-use Rattle.laws_moves.proofs.Runs.Units.{bodies_fit}
+use Rattle.rules_moves.specs.UnitRanges.{BodiesFit}
+use Rattle.rules_moves.proofs.Waiters.Best.{running_within}
+use Rattle.rules_moves.proofs.Runs.Listed.{head_can_run}
+use Rattle.rules_moves.proofs.Runs.Preparing.{closes_keep}
+use Rattle.rules_moves.proofs.Runs.Since.{Rests, instant_keep, run_since}
+use Rattle.rules_moves.proofs.Runs.Units.{bodies_fit}
 use Rattle.laws_machine.proofs.Lists.Kept.{Placed, Placing, opening_placed, placed_tick}
 use Rattle.laws_machine.proofs.Lists.Priorities.{priorities}
 use Rattle.laws_machine.proofs.Parts.Opening.{opening_listed}

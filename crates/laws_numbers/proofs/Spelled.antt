@@ -4,7 +4,7 @@ use Rattle.std.specs.Prelude.{map, option_map}
 use Rattle.words_script.specs.declared.decl.Script.{Script}
 use Rattle.script_table.specs.Table.{patterns}
 use Rattle.script_table.specs.Read.{read}
-use Rattle.parts_server.specs.Server.{ServerState}
+use Rattle.rules_server.specs.Server.{ServerState}
 use Rattle.words_trace.specs.declared.event.Event.{Event}
 use Rattle.words_trace.specs.declared.event.Event.TheVariants as event
 use Rattle.words_trace.specs.Text.{Entry}

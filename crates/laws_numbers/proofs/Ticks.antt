@@ -1,11 +1,11 @@
 -- What ticks and runs keep small.
 use Rattle.std.proofs.Common.{Bool, List, None, Option, Some, [], arith, false, refl, suc, true, zero, ℕ, ◌+◌, ◌^◌, ◌-◌, ◌<◌, ◌≤◌, ◌∷◌, ◌≡◌}
 use Rattle.std.specs.Prelude.{not, option_map, ◌&&◌}
-use Rattle.script_code.specs.declared.unit.Unit as units
-use Rattle.script_code.specs.declared.unit.Unit.TheVariants as unit
-use Rattle.script_code.specs.Next.{ticks_of}
+use Rattle.rules_bodies.specs.declared.unit.Unit as units
+use Rattle.rules_bodies.specs.declared.unit.Unit.TheVariants as unit
+use Rattle.rules_bodies.specs.Next.{ticks_of}
 use Rattle.words_trace.specs.declared.event.Event.TheVariants as event
-use Rattle.parts_server.specs.Server.{ServerState}
+use Rattle.rules_server.specs.Server.{ServerState}
 use Rattle.rules_machine.specs.Bodies.{Bodies, seen_by}
 use Rattle.rules_machine.specs.State.{Frame, Machine, Thread}
 use Rattle.rules_machine.specs.Threads.{can_run, thread_at, thread_numbers, top_left}

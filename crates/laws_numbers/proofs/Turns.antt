@@ -5,10 +5,10 @@ use mathlib.Core.Path.{subst, ◌∙◌}
 use Rattle.words_numbers.specs.declared.res.Res.{Res}
 use Rattle.words_script.specs.declared.call.Operand.{Operand}
 use Rattle.words_script.specs.declared.call.Operand.TheVariants as operand
-use Rattle.script_code.specs.Next.{capped}
+use Rattle.rules_bodies.specs.Next.{capped}
 use Rattle.words_trace.specs.declared.event.Event.{Event}
 use Rattle.words_trace.specs.declared.event.Event.TheVariants as event
-use Rattle.parts_server.specs.Server.{ServerState}
+use Rattle.rules_server.specs.Server.{ServerState}
 use Rattle.rules_machine.specs.State.{Mutex, Frame, Queue, SignalRecord, Status, Thread, Timer, Wait, Waiting, blocked}
 use Rattle.rules_machine.specs.Threads.{mutex_at, no_mutex, no_queue, no_thread, no_timer, number_of, queue_at, semaphore_at, thread_at, timer_at, top_register, waiting_in, waiting_of}
 use Rattle.rules_machine.specs.Turns.{Caller, Turn, answered, changes, changes_mutex, changes_pending, changes_queue, changes_semaphore, changes_timer, frames_answered, moves_if, returns, tells}
@@ -46,7 +46,7 @@ waiting_small status w h e = absurd (cc)
 
 pub high_small : (ticks : ℕ) (o : Option ServerState) → HasSmall ticks o → HasSmall ticks (high_server o)
 high_small ticks None h = tt
-high_small ticks (Some s) h = by (Rattle.parts_server.specs.Server.is_high s)
+high_small ticks (Some s) h = by (Rattle.rules_server.specs.Server.is_high s)
   where
     by : (b : Bool) → HasSmall ticks (if b then Some s else None)
     by true = h

@@ -5,8 +5,8 @@ use Rattle.std.specs.List.{list_any, range_with_len}
 use mathlib.Core.Path.{ap₂, ◌∙◌}
 use Rattle.words_script.specs.declared.policy.Protocol.{Protocol}
 use Rattle.words_script.specs.declared.policy.Protocol.TheVariants as protocol
-use Rattle.parts_lists.specs.Threads.{stands_in}
-use Rattle.parts_ready.specs.Lists.{to_tail}
+use Rattle.rules_lists.specs.Threads.{stands_in}
+use Rattle.rules_lists.specs.Lists.{to_tail}
 use Rattle.rules_machine.specs.declared.frame.BodyOf.{BodyOf}
 use Rattle.rules_machine.specs.Lists.{changed_at, first_by, is, kept_if, numbers_from}
 use Rattle.rules_machine.specs.State.{Frame, Machine, Mutex, Thread, Wait}

@@ -3,7 +3,7 @@ use Rattle.std.proofs.Common.{List, [], ap, refl, sym, ℕ, ◌+◌, ◌++◌, �
 use Rattle.std.specs.Prelude.{map}
 use mathlib.Core.Path.{◌∙◌}
 use Rattle.words_script.specs.declared.decl.Script.{Script}
-use Rattle.script_code.specs.Next.{Place}
+use Rattle.rules_bodies.specs.Next.{Place}
 use Rattle.words_trace.specs.declared.event.Event.TheVariants as event
 use Rattle.words_trace.specs.Text.{line, lines, report_line}
 use Rattle.rules_machine.specs.declared.frame.BodyOf.{BodyOf}

@@ -2,8 +2,8 @@
 use Rattle.std.proofs.Common.{◌≡◌, ℕ, true, false, List, [], ◌∷◌, ◌++◌, refl}
 use Rattle.std.specs.Prelude.{None}
 use Rattle.words_numbers.specs.Parameters.{Parameters}
-use Rattle.parts_server.specs.declared.ServerKind.TheVariants as kind
-use Rattle.parts_server.specs.Server.{ServerState, new_server_as, totals}
+use Rattle.rules_server.specs.declared.ServerKind.TheVariants as kind
+use Rattle.rules_server.specs.Server.{ServerState, new_server_as, totals}
 use Rattle.laws_strict_server.specs.Instants.{Step, after}
 
 abbrev parameters : ℕ → ℕ → ℕ → Parameters

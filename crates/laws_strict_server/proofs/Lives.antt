@@ -1,7 +1,7 @@
 -- The window of a strict thread, from its dormancy to its end: what each tick must do with its server, and what follows.
 use Rattle.std.proofs.Common.{◌≡◌, ℕ, zero, suc, ◌+◌, ◌-◌, ◌<◌, ◌≤◌, Bool, true, false, refl, arith, subst}
 use Rattle.std.specs.Prelude.{nat_lt}
-use Rattle.parts_server.specs.Server.{ServerState}
+use Rattle.rules_server.specs.Server.{ServerState}
 use Rattle.laws_strict_server.specs.Instants.{one_if}
 use Rattle.laws_strict_server.proofs.Sums.{early, early_le_total}
 use Rattle.laws_strict_server.proofs.Parts.{Late, Standing}

@@ -3,9 +3,9 @@ use Rattle.std.proofs.Common.{◌≡◌, ℕ, ◌+◌, ◌<◌, ◌≤◌, Bool,
 use Rattle.std.specs.Prelude.{not, nat_lt, nat_le, ◌&&◌, ◌||◌, ◌==◌, if◌then◌else◌}
 use Rattle.std.proofs.lemmas.Grind.{common_steps}
 use Rattle.words_numbers.specs.Parameters.{Parameters, AreParameters}
-use Rattle.parts_server.specs.declared.Replenish.{Replenish}
-use Rattle.parts_server.specs.declared.ServerKind.TheVariants as kind
-use Rattle.parts_server.specs.Server.{ServerState, charge, new_server_as, refill_from, replenishment, has_room, joined_after, planned_in}
+use Rattle.rules_server.specs.declared.Replenish.{Replenish}
+use Rattle.rules_server.specs.declared.ServerKind.TheVariants as kind
+use Rattle.rules_server.specs.Server.{ServerState, charge, new_server_as, refill_from, replenishment, has_room, joined_after, planned_in}
 use Rattle.laws_strict_server.specs.Kinds.{plan_strict}
 use Rattle.laws_strict_server.specs.Instants.{Step, after, charges_if, closed, ended, is_high, is_open, opened, opens_if, plans_if, ready, refilled_from, sets_high, ticked}
 use Rattle.laws_strict_server.specs.Facts.{DueBefore, IsStrict, NoneEmpty, RisesFrom}

@@ -1,7 +1,7 @@
 -- What one tick does with a strict server.
 use Rattle.std.proofs.Common.{◌≡◌, ℕ, zero, suc, ◌+◌, ◌≤◌, Bool, true, false, Option, None, Some, refl, arith}
 use Rattle.std.specs.Prelude.{not, ◌||◌, ◌==◌}
-use Rattle.parts_server.specs.Server.{ServerState, charge, replenishment, has_room}
+use Rattle.rules_server.specs.Server.{ServerState, charge, replenishment, has_room}
 use Rattle.laws_strict_server.specs.Instants.{ended, is_high, is_open, opened, opens_if, plans_if, sets_high}
 use Rattle.laws_strict_server.proofs.Sums.{early, planned_early, planned_total, total}
 

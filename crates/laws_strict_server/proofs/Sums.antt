@@ -2,8 +2,8 @@
 use Rattle.std.proofs.Common.{◌≡◌, ℕ, ◌+◌, ◌<◌, ◌≤◌, Bool, true, false, List, [], ◌∷◌, ◌++◌, refl, arith}
 use Rattle.std.specs.Prelude.{sum_by, nat_lt, nat_le, min, if◌then◌else◌}
 use Rattle.std.proofs.lemmas.Grind.{common_steps}
-use Rattle.parts_server.specs.declared.Replenish.{Replenish}
-use Rattle.parts_server.specs.Server.{ServerState, refill_from, joined_after, planned_in}
+use Rattle.rules_server.specs.declared.Replenish.{Replenish}
+use Rattle.rules_server.specs.Server.{ServerState, refill_from, joined_after, planned_in}
 use Rattle.laws_strict_server.specs.Instants.{refilled, refilled_from}
 
 abbrev pub total : List Replenish → ℕ

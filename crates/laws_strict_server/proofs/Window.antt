@@ -3,8 +3,8 @@ use Rattle.std.proofs.Common.{◌≡◌, ℕ, ◌+◌, ◌-◌, ◌<◌, ◌≤�
 use Rattle.std.specs.Prelude.{nat_lt, ◌&&◌, ◌||◌, ◌==◌}
 use Rattle.std.proofs.lemmas.Grind.{common_steps}
 use Rattle.words_numbers.specs.Parameters.{Parameters, AreParameters}
-use Rattle.parts_server.specs.declared.ServerKind.TheVariants as kind
-use Rattle.parts_server.specs.Server.{ServerState, charge, new_server_as}
+use Rattle.rules_server.specs.declared.ServerKind.TheVariants as kind
+use Rattle.rules_server.specs.Server.{ServerState, charge, new_server_as}
 use Rattle.laws_strict_server.specs.Instants.{Step, after, charges_if, closed, ended, high_ticks, is_high, is_open, one_if, opened, plans_if, ready, runs_high, sets_high, ticked}
 use Rattle.laws_strict_server.proofs.Sums.{early, early_le_total, refilled_is, total}
 use Rattle.laws_strict_server.proofs.Parts.{Late, Standing, Ticked, ends_priced, high, low, priced, rested}

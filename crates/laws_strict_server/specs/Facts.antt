@@ -1,9 +1,9 @@
 -- What holds of a strict server at each instant, before its due replenishments are carried out.
 use Rattle.std.specs.Prelude.{ℕ, ◌≡◌, ◌+◌, ◌≤◌, ◌<◌, List, [], ◌∷◌, length}
 use Rattle.words_numbers.specs.Parameters.{Parameters, AreParameters}
-use Rattle.parts_server.specs.declared.Replenish.{Replenish}
-use Rattle.parts_server.specs.declared.ServerKind.TheVariants as kind
-use Rattle.parts_server.specs.Server.{ServerState, new_server_as, pending_total}
+use Rattle.rules_server.specs.declared.Replenish.{Replenish}
+use Rattle.rules_server.specs.declared.ServerKind.TheVariants as kind
+use Rattle.rules_server.specs.Server.{ServerState, new_server_as, pending_total}
 use Rattle.laws_strict_server.specs.Instants.{Step, after}
 
 -- Each is due after those before it, and none before lo.

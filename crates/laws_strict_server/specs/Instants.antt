@@ -6,9 +6,9 @@
 -- is closed. What decides who is the head, and when the thread blocks, is left open.
 use Rattle.std.specs.Prelude.{ℕ, ◌+◌, ◌≤◌, Bool, true, false, not, ◌&&◌, ◌||◌, ◌==◌, nat_lt, nat_le, if◌then◌else◌, Option, None, Some, List, [], ◌∷◌, length}
 use Rattle.words_numbers.specs.Parameters.{Parameters, AreParameters}
-use Rattle.parts_server.specs.declared.Replenish.{Replenish}
-use Rattle.parts_server.specs.Server.{ServerState, new_server_as, charge, activate, refill_from, set_high}
-use Rattle.parts_server.specs.declared.ServerKind.TheVariants as kind
+use Rattle.rules_server.specs.declared.Replenish.{Replenish}
+use Rattle.rules_server.specs.Server.{ServerState, new_server_as, charge, activate, refill_from, set_high}
+use Rattle.rules_server.specs.declared.ServerKind.TheVariants as kind
 use Rattle.laws_strict_server.specs.Kinds.{is_high_strict, plan_strict}
 
 -- what a tick of the machine is to the server's thread

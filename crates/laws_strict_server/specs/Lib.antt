@@ -1,4 +1,4 @@
-pub use Rattle.parts_server.specs.Server
+pub use Rattle.rules_server.specs.Server
 pub mod Kinds
 pub mod Instants
 pub mod Facts

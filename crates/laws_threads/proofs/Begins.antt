@@ -6,12 +6,12 @@ use Rattle.words_script.specs.Block.{Block, Nothing}
 use Rattle.words_script.specs.declared.decl.Decl.{Decl}
 use Rattle.words_script.specs.declared.decl.Decl.TheVariants as decl
 use Rattle.words_script.specs.declared.decl.Script.{Script}
-use Rattle.script_code.specs.declared.op.Op.{Op}
-use Rattle.script_code.specs.Flat as flat
-use Rattle.script_code.specs.Fetch.{started}
-use Rattle.script_code.specs.Next.{body_start, register_limit}
-use Rattle.script_code.specs.Stands.{IsPlaced}
-use Rattle.script_code.proofs.Opens.{is_body_of_script}
+use Rattle.rules_bodies.specs.declared.op.Op.{Op}
+use Rattle.rules_bodies.specs.Flat as flat
+use Rattle.rules_bodies.specs.Fetch.{started}
+use Rattle.rules_bodies.specs.Next.{body_start, register_limit}
+use Rattle.rules_bodies.specs.Stands.{IsPlaced}
+use Rattle.rules_bodies.proofs.Opens.{is_body_of_script}
 use Rattle.rules_machine.specs.declared.frame.BodyOf.TheVariants as body_of
 use Rattle.rules_machine.specs.declared.signal.SigAction.{SigAction}
 use Rattle.rules_machine.specs.declared.signal.SigAction.TheVariants as action

@@ -25,7 +25,7 @@ use Rattle.rules_machine.specs.Scheduling.{sets_policy, sets_priority, takes_pri
 use Rattle.rules_machine.specs.Servers.{activates_if}
 use Rattle.rules_machine.specs.Lists.{changed_at}
 use Rattle.rules_machine.proofs.Reading.{changed-keeps, changed-twice}
-use Rattle.laws_moves.proofs.Runs.Listed.{each_kept}
+use Rattle.rules_moves.proofs.Runs.Listed.{each_kept}
 use Rattle.laws_threads.specs.EachThread.{Closed, Given, IsSourced}
 use Rattle.laws_threads.proofs.Objects.{each_and_last, none_known, one_known}
 use Rattle.laws_threads.proofs.Changes.{Holds, HoldsIn, changes_hold, if_holds, pending_holds, queue_holds, timer_holds}

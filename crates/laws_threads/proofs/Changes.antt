@@ -8,7 +8,7 @@ use Rattle.rules_machine.specs.State.{Queue, SignalRecord, Thread, Timer, Waitin
 use Rattle.rules_machine.specs.Threads.{no_queue, no_thread, no_timer, thread_at, waiting_in, waiting_of}
 use Rattle.rules_machine.specs.Turns.{Turn, changes, changes_pending, changes_queue, changes_timer}
 use Rattle.rules_machine.proofs.Reading.{changed-length}
-use Rattle.laws_moves.proofs.Waiters.Best.{Each}
+use Rattle.rules_moves.proofs.Waiters.Best.{Each}
 use Rattle.laws_threads.specs.EachThread.{ActionKnown, Closed, EachIn, Given}
 use Rattle.laws_threads.proofs.Objects.{NotifiesKnown, ObjectsHold, each_changed}
 

@@ -4,12 +4,12 @@ use Rattle.std.specs.Prelude.{drop}
 use Rattle.words_numbers.specs.declared.res.Res.{Res}
 use Rattle.words_numbers.specs.declared.res.Res.TheVariants as res
 use Rattle.words_script.specs.declared.decl.Script.{Script}
-use Rattle.script_code.specs.declared.cursor.Cursor.{Cursor}
-use Rattle.script_code.specs.declared.op.Op.{Op}
-use Rattle.script_code.specs.Flat.{NumberedBodies}
-use Rattle.script_code.specs.Fetch.{ops_of}
-use Rattle.script_code.specs.Next.{capped}
-use Rattle.script_code.specs.Stands.{IsPlaced}
+use Rattle.rules_bodies.specs.declared.cursor.Cursor.{Cursor}
+use Rattle.rules_bodies.specs.declared.op.Op.{Op}
+use Rattle.rules_bodies.specs.Flat.{NumberedBodies}
+use Rattle.rules_bodies.specs.Fetch.{ops_of}
+use Rattle.rules_bodies.specs.Next.{capped}
+use Rattle.rules_bodies.specs.Stands.{IsPlaced}
 use Rattle.rules_machine.specs.declared.frame.BodyOf.TheVariants as body_of
 use Rattle.rules_machine.specs.declared.frame.FrameKind.{FrameKind}
 use Rattle.rules_machine.specs.declared.frame.FrameKind.TheVariants as frame

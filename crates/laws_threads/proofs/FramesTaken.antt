@@ -4,14 +4,14 @@ use Rattle.std.specs.Prelude.{map, slice_index_or, ◌&&◌}
 use Rattle.std.proofs.lemmas.List.{length-map}
 use Rattle.words_script.specs.declared.call.Call.{Call}
 use Rattle.words_script.specs.declared.decl.Script.{Script}
-use Rattle.script_code.specs.declared.cursor.Cursor.{Cursor}
-use Rattle.script_code.specs.declared.op.Op.{Op}
-use Rattle.script_code.specs.declared.unit.Unit as units
-use Rattle.script_code.specs.declared.unit.Unit.TheVariants as unit
-use Rattle.script_code.specs.Flat.{NumberedBodies, bodies_of}
-use Rattle.script_code.specs.Fetch.{fetched, ops_of}
-use Rattle.script_code.specs.Stands.{IsPlaced}
-use Rattle.script_code.proofs.Agrees.{fetched_agrees, fetched_placed}
+use Rattle.rules_bodies.specs.declared.cursor.Cursor.{Cursor}
+use Rattle.rules_bodies.specs.declared.op.Op.{Op}
+use Rattle.rules_bodies.specs.declared.unit.Unit as units
+use Rattle.rules_bodies.specs.declared.unit.Unit.TheVariants as unit
+use Rattle.rules_bodies.specs.Flat.{NumberedBodies, bodies_of}
+use Rattle.rules_bodies.specs.Fetch.{fetched, ops_of}
+use Rattle.rules_bodies.specs.Stands.{IsPlaced}
+use Rattle.rules_bodies.proofs.Agrees.{fetched_agrees, fetched_placed}
 use Rattle.rules_machine.specs.declared.frame.FrameKind.{FrameKind}
 use Rattle.rules_machine.specs.declared.frame.FrameKind.TheVariants as frame
 use Rattle.rules_machine.specs.State.{Frame, Thread, Timer}

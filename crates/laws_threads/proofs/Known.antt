@@ -1,7 +1,7 @@
 -- Where nothing is asked of handlers and calls, all of them are known.
 use Rattle.std.proofs.Common.{List, ℕ}
-use Rattle.script_code.specs.declared.unit.Unit as units
-use Rattle.script_code.specs.declared.unit.Unit.TheVariants as unit
+use Rattle.rules_bodies.specs.declared.unit.Unit as units
+use Rattle.rules_bodies.specs.declared.unit.Unit.TheVariants as unit
 use Rattle.rules_machine.specs.declared.signal.SigAction.{SigAction}
 use Rattle.rules_machine.specs.declared.signal.SigAction.TheVariants as action
 use Rattle.rules_machine.specs.Bodies.{Bodies}

@@ -4,13 +4,13 @@ use Rattle.std.specs.Prelude.{All, map, slice_index_or}
 use Rattle.words_script.specs.Block.{Adding, Block, Guarding, Looping, Making, Nothing, Running, Setting, Taking, Testing}
 use Rattle.words_script.specs.declared.call.Call.{Call}
 use Rattle.words_script.specs.declared.call.Call.TheVariants as call
-use Rattle.script_code.specs.declared.cursor.Cursor.{Cursor}
-use Rattle.script_code.specs.declared.op.Op.{Op}
-use Rattle.script_code.specs.declared.op.Op.TheVariants as op
-use Rattle.script_code.specs.declared.unit.Unit as units
-use Rattle.script_code.specs.declared.unit.Unit.TheVariants as unit
-use Rattle.script_code.specs.Flat.{NumberedBodies, flat, op_number}
-use Rattle.script_code.specs.Fetch.{after_pass, carried_out, fetched, found_in, innermost, moved_on, or_search, ops_of}
+use Rattle.rules_bodies.specs.declared.cursor.Cursor.{Cursor}
+use Rattle.rules_bodies.specs.declared.op.Op.{Op}
+use Rattle.rules_bodies.specs.declared.op.Op.TheVariants as op
+use Rattle.rules_bodies.specs.declared.unit.Unit as units
+use Rattle.rules_bodies.specs.declared.unit.Unit.TheVariants as unit
+use Rattle.rules_bodies.specs.Flat.{NumberedBodies, flat, op_number}
+use Rattle.rules_bodies.specs.Fetch.{after_pass, carried_out, fetched, found_in, innermost, moved_on, or_search, ops_of}
 use Rattle.rules_flat_code.specs.EachCall.{EachCall, EachMade}
 
 module _ (Holds : Call → Type 0) where

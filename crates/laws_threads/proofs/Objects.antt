@@ -3,7 +3,7 @@ use Rattle.std.proofs.Common.{List, None, Some, [], arith, suc, zero, ℕ, ◌�
 use Rattle.rules_machine.specs.Lists.{changed_at}
 use Rattle.rules_machine.specs.State.{Queue, Registration, SignalRecord, Timer}
 use Rattle.rules_machine.specs.Queues.{registered}
-use Rattle.laws_moves.proofs.Waiters.Best.{Each}
+use Rattle.rules_moves.proofs.Waiters.Best.{Each}
 use Rattle.laws_threads.specs.EachThread.{Given}
 
 -- ---- lists

@@ -8,7 +8,7 @@ use Rattle.words_script.specs.declared.decl.Decl.{Decl}
 use Rattle.words_script.specs.declared.decl.Decl.TheVariants as decl
 use Rattle.words_script.specs.declared.decl.Kind.TheVariants as kind
 use Rattle.words_script.specs.declared.decl.Script.{Script}
-use Rattle.script_code.specs.Fetch.{ops_of}
+use Rattle.rules_bodies.specs.Fetch.{ops_of}
 use Rattle.rules_machine.specs.declared.frame.BodyOf.TheVariants as body_of
 use Rattle.rules_machine.specs.Declarations.{cleanup_kind, handler_kind, named}
 use Rattle.rules_machine.specs.Machine.{block_of}

@@ -1,6 +1,6 @@
 -- What threads keep, ticks and runs keep.
 use Rattle.std.proofs.Common.{Bool, None, Option, Some, arith, false, length, refl, subst, suc, sym, true, zero, ℕ, ◌+◌, ◌∙◌, ◌≡◌, List, [], ◌∷◌}
-use Rattle.script_code.specs.declared.unit.Unit as units
+use Rattle.rules_bodies.specs.declared.unit.Unit as units
 use Rattle.words_trace.specs.declared.event.Event.{Event}
 use Rattle.words_trace.specs.declared.event.Event.TheVariants as event
 use Rattle.rules_machine.specs.Lists.{is}
@@ -22,7 +22,7 @@ use Rattle.laws_threads.proofs.Waking.{moves_if_hold, moves_unless_boosted_hold,
 use Rattle.laws_threads.proofs.Table.{unit_effect_hold}
 use Rattle.laws_threads.proofs.Items.{instant_hold, items_done_hold, sweeps_hold}
 use Rattle.std.specs.Prelude.{not, ◌&&◌}
-use Rattle.parts_server.specs.Server.{ServerState}
+use Rattle.rules_server.specs.Server.{ServerState}
 
 module _ {P : Type 0} (given : Given P) (Q : ℕ → ℕ → Thread P → Type 0) (closed : Closed given Q) where
   abbrev Holding : Turn P → Type 0

@@ -5,8 +5,8 @@ use Rattle.words_numbers.specs.Signals.{has_signal}
 use Rattle.words_numbers.specs.declared.res.Res.TheVariants as res
 use Rattle.words_script.specs.declared.call.Call.{Call}
 use Rattle.words_script.specs.declared.call.Call.TheVariants as call
-use Rattle.script_code.specs.declared.unit.Unit as units
-use Rattle.script_code.specs.declared.unit.Unit.TheVariants as unit
+use Rattle.rules_bodies.specs.declared.unit.Unit as units
+use Rattle.rules_bodies.specs.declared.unit.Unit.TheVariants as unit
 use Rattle.rules_machine.specs.State.{SignalRecord, Thread, Timer, Wait, for_condition, for_end, for_message, for_mutex, for_room, for_semaphore, for_signal, for_time}
 use Rattle.rules_machine.specs.Threads.{lives, number_of, queue_at, semaphore_at, thread_at, timer_at}
 use Rattle.rules_machine.specs.Waiters.{best_waiter}

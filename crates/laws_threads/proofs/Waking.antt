@@ -6,7 +6,7 @@ use Rattle.words_numbers.specs.declared.res.Res.TheVariants as res
 use Rattle.words_script.specs.declared.call.Call.{Call}
 use Rattle.words_trace.specs.declared.event.Event.{Event}
 use Rattle.words_trace.specs.declared.event.Event.TheVariants as event
-use Rattle.parts_server.specs.Server.{ServerState, activate, oldest_pending, plan, refill}
+use Rattle.rules_server.specs.Server.{ServerState, activate, oldest_pending, plan, refill}
 use Rattle.rules_machine.specs.declared.thread.CondEnd.{CondEnd}
 use Rattle.rules_machine.specs.declared.thread.CondEnd.TheVariants as cond_end
 use Rattle.rules_machine.specs.State.{Thread, Wait, Waiting, for_condition, for_mutex, for_mutex_again}
@@ -21,7 +21,7 @@ use Rattle.rules_machine.specs.Conditions.{broadcasts, contends, reacquires_or_w
 use Rattle.rules_machine.specs.Semaphores.{blocks_unless_late}
 use Rattle.rules_machine.specs.Cancellation.{request_acts}
 use Rattle.rules_machine.proofs.Reading.{changed-keeps}
-use Rattle.laws_moves.proofs.Waiters.Best.{best_waits}
+use Rattle.rules_moves.proofs.Waiters.Best.{best_waits}
 use Rattle.laws_threads.specs.EachThread.{Cancels, Closed, Given, MakesWait, MayEnd}
 use Rattle.laws_threads.proofs.Changes.{Holds, changes_hold, if_holds, waiting_known}
 

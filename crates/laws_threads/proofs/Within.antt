@@ -4,8 +4,8 @@ use Rattle.std.specs.Prelude.{if◌then◌else◌, map, option_map, slice_index_
 use Rattle.words_script.specs.declared.decl.Script.{Script}
 use Rattle.words_script.specs.declared.policy.Policy.{Policy}
 use Rattle.words_script.specs.declared.policy.Policy.TheVariants as policy
-use Rattle.parts_server.specs.declared.Replenish.{Replenish}
-use Rattle.parts_server.specs.Server.{ServerState, activate, charge, is_high, plan, refill, refill_from, set_high}
+use Rattle.rules_server.specs.declared.Replenish.{Replenish}
+use Rattle.rules_server.specs.Server.{ServerState, activate, charge, is_high, plan, refill, refill_from, set_high}
 use Rattle.rules_machine.specs.Bodies.{Bodies}
 use Rattle.rules_machine.specs.State.{Frame, Machine, Thread}
 use Rattle.rules_machine.specs.Threads.{no_thread}

@@ -6,10 +6,10 @@ use Rattle.words_script.specs.declared.call.Call.{Call}
 use Rattle.words_script.specs.declared.call.Call.TheVariants as call
 use Rattle.words_script.specs.declared.call.Operand.{Operand}
 use Rattle.words_script.specs.declared.policy.Policy.{Policy}
-use Rattle.script_code.specs.declared.unit.Unit as units
-use Rattle.script_code.specs.declared.unit.Unit.TheVariants as unit
-use Rattle.script_code.specs.Next.{capped}
-use Rattle.parts_server.specs.Server.{activate, plan, refill}
+use Rattle.rules_bodies.specs.declared.unit.Unit as units
+use Rattle.rules_bodies.specs.declared.unit.Unit.TheVariants as unit
+use Rattle.rules_bodies.specs.Next.{capped}
+use Rattle.rules_server.specs.Server.{activate, plan, refill}
 use Rattle.rules_machine.specs.declared.frame.BodyOf.TheVariants as body_of
 use Rattle.rules_machine.specs.declared.frame.FrameKind.TheVariants as frame
 use Rattle.rules_machine.specs.declared.signal.SigAction.{SigAction}

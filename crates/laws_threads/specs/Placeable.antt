@@ -1,7 +1,7 @@
 -- What of a script keeps the frames of its threads at places of its flat code. Whatever the reader accepts has it.
 use Rattle.std.specs.Prelude.{All, length}
 use Rattle.words_script.specs.declared.decl.Script.{Script}
-use Rattle.script_code.specs.Flat.{IsFlattenable, bodies_of}
+use Rattle.rules_bodies.specs.Flat.{IsFlattenable, bodies_of}
 use Rattle.rules_machine.specs.Declarations.{handlers_of}
 use Rattle.rules_machine.specs.WellFormed.{DeclsGuarded}
 use Rattle.rules_flat_code.specs.EachCall.{EachCall}

@@ -2,7 +2,7 @@
 -- own.
 use Rattle.std.specs.Prelude.{None, Option, Some, ℕ, ◌≤◌}
 use Rattle.words_script.specs.declared.decl.Script.{Script}
-use Rattle.parts_server.specs.Server.{ServerState}
+use Rattle.rules_server.specs.Server.{ServerState}
 use Rattle.rules_machine.specs.State.{Machine, Thread}
 use Rattle.rules_machine.specs.Threads.{thread_at}
 use Rattle.rules_machine.specs.Runs.{opening}

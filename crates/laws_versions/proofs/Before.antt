@@ -3,10 +3,10 @@ use Rattle.std.proofs.Common.{ℕ, ◌≡◌, List, Ok}
 use Rattle.words_script.specs.declared.decl.Script.{Script}
 use Rattle.script_table.specs.Read.{read}
 use Rattle.script_table.specs.Table.{patterns}
-use Rattle.script_code.specs.Next.{Place}
+use Rattle.rules_bodies.specs.Next.{Place}
 use Rattle.rules_machine.specs.Machine.{bodies_of}
 use Rattle.rules_machine.specs.Runs.{opening}
-use Rattle.laws_moves.proofs.Runs.Units.{bodies_fit}
+use Rattle.rules_moves.proofs.Runs.Units.{bodies_fit}
 use Rattle.laws_window.specs.Before.{RunsAsBefore}
 use Rattle.laws_window.proofs.AsBefore as before
 use Rattle.laws_window.proofs.InWindow.{stands_at}

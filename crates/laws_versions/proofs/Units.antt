@@ -5,10 +5,10 @@ use Rattle.words_numbers.specs.declared.res.Res.{Res}
 use Rattle.words_script.specs.Block.{Adding, Block, Guarding, Looping, Making, Nothing, Running, Setting, Taking, Testing}
 use Rattle.words_script.specs.declared.call.Call.{Call}
 use Rattle.words_script.specs.declared.call.Call.TheVariants as call
-use Rattle.script_code.specs.declared.unit.Unit as unit_type
-use Rattle.script_code.specs.declared.unit.Unit.TheVariants as unit
-use Rattle.script_code.specs.Next.{At, Due, Ended, In, Outcome, Place, capped, holds, or_finish, passes_of, rest_of, steps_from}
-use Rattle.script_code.proofs.Relative.{and_then, from_head, from_inside, from_place, in_guard, in_loop, in_test, later, later_by, place_same}
+use Rattle.rules_bodies.specs.declared.unit.Unit as unit_type
+use Rattle.rules_bodies.specs.declared.unit.Unit.TheVariants as unit
+use Rattle.rules_bodies.specs.Next.{At, Due, Ended, In, Outcome, Place, capped, holds, or_finish, passes_of, rest_of, steps_from}
+use Rattle.rules_bodies.proofs.Relative.{and_then, from_head, from_inside, from_place, in_guard, in_loop, in_test, later, later_by, place_same}
 use Rattle.rules_machine.specs.Bodies.{Seen}
 use Rattle.rules_machine.specs.Machine.{next_in}
 use Rattle.rules_flat_code.specs.EachCall.{EachCall}

@@ -8,7 +8,7 @@ ghost use Rattle.std.specs.Prelude.{ℕ, ◌≡◌, List, Ok};
 ghost use Rattle.rules_machine.specs.Machine.{bodies_of};
 ghost use Rattle.rules_machine.specs.Runs.{opening};
 ghost use Rattle.laws_window.specs.Before.{RunsAsBefore};
-ghost use Rattle.script_code.specs.Next.{Place};
+ghost use Rattle.rules_bodies.specs.Next.{Place};
 ghost use Rattle.script_table.specs.Read.{read};
 ghost use Rattle.script_table.specs.Table.{patterns};
 ghost use Rattle.script_writer.specs.Upgraded.{upgraded};

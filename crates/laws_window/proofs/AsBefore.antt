@@ -8,11 +8,11 @@ use Rattle.words_script.specs.declared.call.Call.{Call}
 use Rattle.words_script.specs.declared.call.Call.TheVariants as call
 use Rattle.words_script.specs.declared.policy.Policy.{Policy}
 use Rattle.words_script.specs.declared.policy.Policy.TheVariants as policy
-use Rattle.script_code.specs.declared.unit.Unit.{Unit}
-use Rattle.script_code.specs.declared.unit.Unit.TheVariants as unit
+use Rattle.rules_bodies.specs.declared.unit.Unit.{Unit}
+use Rattle.rules_bodies.specs.declared.unit.Unit.TheVariants as unit
 use Rattle.words_trace.specs.declared.event.Event.TheVariants as event
-use Rattle.parts_server.specs.declared.ServerKind.TheVariants as kind
-use Rattle.parts_server.specs.Server.{ServerState, activate, oldest_pending, plan, refill}
+use Rattle.rules_server.specs.declared.ServerKind.TheVariants as kind
+use Rattle.rules_server.specs.Server.{ServerState, activate, oldest_pending, plan, refill}
 use Rattle.rules_machine.specs.Lists.{changed_at}
 use Rattle.rules_machine.specs.Bodies.{Bodies}
 use Rattle.rules_machine.specs.State.{Frame, Joiner, Machine, Thread, Wait, Waiting, for_end, waits_to_join}
@@ -31,20 +31,20 @@ use Rattle.rules_machine.specs.Dispatch.{head}
 use Rattle.rules_machine.specs.GoodState.{HasParameters}
 use Rattle.rules_machine.specs.Ticks.{runs_head, unless_killed, TickEnd, completes_at, ends_tick, exhausting, nothing, planning, prepares, runs, slicing, tick_charged, tick_end, without_slice}
 use Rattle.rules_machine.specs.Runs.{Ran, follow, ran, tick_of, ticks}
-use Rattle.laws_moves.specs.Moves.{Core, KeepsAwake, Stops, alters, begins, blocks_for, blocks_plainly, core_of, does, drops, ends_with, enters_frame, leaves_frame, lives_no_more, prices, pushed, pushes, recasts, refills_one, rejoins, renews_with, wakes_with}
-use Rattle.laws_moves.specs.UnitRanges.{BodiesFit, UnitFits}
-use Rattle.laws_moves.proofs.Waiters.OfThreads.{changed_is}
-use Rattle.laws_moves.proofs.Runs.Ticks.{Rests, RoundKeeps, instant_keep, run_keep, charged_runs, charged_turn, completes_keep, dispatched}
-use Rattle.laws_moves.proofs.Runs.Listed.{AllRun, head_can_run}
+use Rattle.rules_moves.specs.Moves.{Core, KeepsAwake, Stops, alters, begins, blocks_for, blocks_plainly, core_of, does, drops, ends_with, enters_frame, leaves_frame, lives_no_more, prices, pushed, pushes, recasts, refills_one, rejoins, renews_with, wakes_with}
+use Rattle.rules_moves.specs.UnitRanges.{BodiesFit, UnitFits}
+use Rattle.rules_moves.proofs.Waiters.OfThreads.{changed_is}
+use Rattle.rules_moves.proofs.Runs.Ticks.{Rests, RoundKeeps, instant_keep, run_keep, charged_runs, charged_turn, completes_keep, dispatched}
+use Rattle.rules_moves.proofs.Runs.Listed.{AllRun, head_can_run}
 use Rattle.laws_machine.proofs.Servers.Ticks.{ServedDone, ServedMid, ServedRight, served_tick}
 use Rattle.laws_window.specs.Before.{AreBodiesPlain, AreThreadsPlain, IsPlainUnit, RunsAsBefore, is_strict_policy, runs_head_before, tick_before, ticks_before}
 use Rattle.laws_window.proofs.Versions.{NoneStrict, is_strict_server, runs_head_as_before}
 use Rattle.rules_machine.specs.Delivery.{sweeps, sweeps_all}
 use Rattle.rules_machine.specs.Units.{Following, advances, advancing, begins_finish, cleaning_up, continuing, finishing, following, in_cleanup, in_unit, takes_unit}
 use Rattle.rules_machine.specs.Budget.{renews}
-use Rattle.laws_moves.proofs.Calls.Table.{sweeps_all_keep, unit_keep}
-use Rattle.laws_moves.proofs.Runs.Units.{in_unit_fits}
-use Rattle.laws_moves.proofs.Runs.Preparing.{Alike, IsReady, PreparingKeeps, alike_runs, prepared, prepares_keep}
+use Rattle.rules_moves.proofs.Calls.Table.{sweeps_all_keep, unit_keep}
+use Rattle.rules_moves.proofs.Runs.Units.{in_unit_fits}
+use Rattle.rules_moves.proofs.Runs.Preparing.{Alike, IsReady, PreparingKeeps, alike_runs, prepared, prepares_keep}
 use Rattle.laws_machine.proofs.Parts.Kept.{PartsRight, elsewhere, ends_keep, parts_keep, parts_stop}
 use Rattle.laws_machine.proofs.Servers.Units.{kept_in_unit}
 

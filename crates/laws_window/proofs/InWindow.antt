@@ -7,10 +7,10 @@ use Rattle.words_script.specs.declared.call.Call.TheVariants as call
 use Rattle.words_script.specs.declared.decl.Script.{Script}
 use Rattle.words_script.specs.declared.policy.Policy.{Policy}
 use Rattle.words_script.specs.declared.policy.Policy.TheVariants as policy
-use Rattle.script_code.specs.declared.unit.Unit.{Unit}
-use Rattle.script_code.specs.declared.unit.Unit.TheVariants as unit
-use Rattle.parts_server.specs.declared.ServerKind.TheVariants as kind
-use Rattle.parts_server.specs.Server.{ServerState}
+use Rattle.rules_bodies.specs.declared.unit.Unit.{Unit}
+use Rattle.rules_bodies.specs.declared.unit.Unit.TheVariants as unit
+use Rattle.rules_server.specs.declared.ServerKind.TheVariants as kind
+use Rattle.rules_server.specs.Server.{ServerState}
 use Rattle.rules_machine.specs.Bodies.{Bodies}
 use Rattle.rules_machine.specs.State.{Machine, Status, Thread, blocked, dormant, ended, runnable}
 use Rattle.rules_machine.specs.Threads.{can_run, is_dormant, is_live, is_runnable, lives, thread_at, top_left}
@@ -28,11 +28,11 @@ use Rattle.rules_machine.specs.WellFormed.{IsWellFormed}
 use Rattle.rules_machine.proofs.Counting.{tick_now}
 use Rattle.rules_machine.proofs.Parts.{finished_in_parts, prepares_unended, tick_in_parts}
 use Rattle.rules_machine.proofs.Reading.{thread-other}
-use Rattle.laws_moves.specs.UnitRanges.{BodiesFit, UnitFits}
-use Rattle.laws_moves.proofs.Runs.Listed.{AllRun, head_can_run}
-use Rattle.laws_moves.proofs.Runs.Units.{in_unit_fits}
-use Rattle.laws_moves.proofs.Runs.Preparing.{Alike, IsReady, alike_runs, prepared, prepares_keep}
-use Rattle.laws_moves.proofs.Runs.Ticks.{Rests, charged_runs, charged_turn, completes_keep, instant_keep, run_keep}
+use Rattle.rules_moves.specs.UnitRanges.{BodiesFit, UnitFits}
+use Rattle.rules_moves.proofs.Runs.Listed.{AllRun, head_can_run}
+use Rattle.rules_moves.proofs.Runs.Units.{in_unit_fits}
+use Rattle.rules_moves.proofs.Runs.Preparing.{Alike, IsReady, alike_runs, prepared, prepares_keep}
+use Rattle.rules_moves.proofs.Runs.Ticks.{Rests, charged_runs, charged_turn, completes_keep, instant_keep, run_keep}
 use Rattle.laws_machine.proofs.Parts.Kept.{PartsRight, ends_keep, parts_tick}
 use Rattle.laws_machine.proofs.Parts.Opening.{opening_listed}
 use Rattle.laws_machine.proofs.Servers.Right.{ServerIn, ThreadIn, in_time}

@@ -8,13 +8,13 @@ use Rattle.words_numbers.specs.declared.res.Res.TheVariants as res
 use Rattle.words_script.specs.declared.call.Call.{Call}
 use Rattle.words_script.specs.declared.call.Call.TheVariants as call
 use Rattle.words_script.specs.declared.policy.Policy.{Policy}
-use Rattle.script_code.specs.declared.unit.Unit.{Unit}
-use Rattle.script_code.specs.declared.unit.Unit.TheVariants as unit
+use Rattle.rules_bodies.specs.declared.unit.Unit.{Unit}
+use Rattle.rules_bodies.specs.declared.unit.Unit.TheVariants as unit
 use Rattle.words_trace.specs.declared.event.Event.{Event}
 use Rattle.words_trace.specs.declared.event.Event.TheVariants as event
-use Rattle.parts_server.specs.declared.ServerKind.{ServerKind}
-use Rattle.parts_server.specs.declared.ServerKind.TheVariants as kind
-use Rattle.parts_server.specs.Server.{ServerState, activate, charge, is_high, plan}
+use Rattle.rules_server.specs.declared.ServerKind.{ServerKind}
+use Rattle.rules_server.specs.declared.ServerKind.TheVariants as kind
+use Rattle.rules_server.specs.Server.{ServerState, activate, charge, is_high, plan}
 use Rattle.rules_machine.specs.Lists.{changed_at, is}
 use Rattle.rules_machine.specs.Bodies.{Bodies}
 use Rattle.rules_machine.specs.State.{Machine, Status, Thread, Wait, Waiting, blocked, dormant, ended, for_end, runnable, waits_to_join}
@@ -34,15 +34,15 @@ use Rattle.rules_machine.specs.Units.{in_unit}
 use Rattle.rules_machine.specs.Budget.{renews}
 use Rattle.rules_machine.specs.Ticks.{TickEnd, capacity_in, completes_at, consumed_in, ends_tick, exhausting, later, nothing, planning, prepares, runs, slice_is_used, slicing, tick_charged, tick_end, tick_ends, unit_ticked, without_slice}
 use Rattle.rules_machine.proofs.Reading.{thread-other, thread-same}
-use Rattle.laws_moves.specs.Moves.{KeepsAwake, Stops}
-use Rattle.laws_moves.specs.UnitRanges.{BodiesFit, UnitFits}
-use Rattle.laws_moves.proofs.Waiters.Best.{running_within}
-use Rattle.laws_moves.proofs.Waiters.OfThreads.{changed_is}
-use Rattle.laws_moves.proofs.Calls.Table.{JoinersWait, sweeps_all_keep, unit_keep}
-use Rattle.laws_moves.proofs.Runs.Units.{in_unit_fits}
-use Rattle.laws_moves.proofs.Runs.Listed.{AllRun}
-use Rattle.laws_moves.proofs.Runs.Preparing.{IsReady, PreparingKeeps}
-use Rattle.laws_moves.proofs.Runs.Ticks.{RoundKeeps, charged_runs, charged_turn, dispatched}
+use Rattle.rules_moves.specs.Moves.{KeepsAwake, Stops}
+use Rattle.rules_moves.specs.UnitRanges.{BodiesFit, UnitFits}
+use Rattle.rules_moves.proofs.Waiters.Best.{running_within}
+use Rattle.rules_moves.proofs.Waiters.OfThreads.{changed_is}
+use Rattle.rules_moves.proofs.Calls.Table.{JoinersWait, sweeps_all_keep, unit_keep}
+use Rattle.rules_moves.proofs.Runs.Units.{in_unit_fits}
+use Rattle.rules_moves.proofs.Runs.Listed.{AllRun}
+use Rattle.rules_moves.proofs.Runs.Preparing.{IsReady, PreparingKeeps}
+use Rattle.rules_moves.proofs.Runs.Ticks.{RoundKeeps, charged_runs, charged_turn, dispatched}
 use Rattle.laws_machine.proofs.Parts.Kept.{PartsRight, elsewhere, ends_keep, parts_keep, parts_renew, parts_stop, parts_tick}
 use Rattle.laws_machine.proofs.Servers.Right.{high_parts, opening_none, run_parts}
 use Rattle.laws_machine.proofs.Servers.Units.{kept_in_unit}

@@ -2,7 +2,7 @@
 use Rattle.std.proofs.Common.{ap, Bool, List, None, Option, Some, [], false, refl, true, ℕ, ◌∷◌, ◌≡◌}
 use Rattle.std.specs.Prelude.{not, ◌&&◌}
 use mathlib.Core.Path.{◌∙◌}
-use Rattle.parts_server.specs.Server.{ServerState}
+use Rattle.rules_server.specs.Server.{ServerState}
 use Rattle.rules_machine.specs.Lists.{is}
 use Rattle.rules_machine.specs.State.{Machine}
 use Rattle.rules_machine.specs.Threads.{thread_at, thread_numbers}

@@ -6,7 +6,7 @@
 #![tactic(auto)]
 
 ghost use Rattle.words_script.specs.declared.decl.Script.{Script};
-ghost use Rattle.script_code.specs.Next.{Place};
+ghost use Rattle.rules_bodies.specs.Next.{Place};
 ghost use Rattle.rules_machine.specs.WellFormed.{IsWellFormed};
 ghost use Rattle.rules_machine.specs.Machine.{bodies_of};
 ghost use Rattle.rules_machine.specs.Runs.{opening};

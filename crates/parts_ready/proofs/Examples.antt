@@ -1,7 +1,7 @@
 -- Moves between the lists, computed by their definitions.
 use Rattle.std.proofs.Common.{◌≡◌, ℕ, List, [], ◌∷◌, refl}
 use Rattle.std.specs.Prelude.{Some, None}
-use Rattle.parts_ready.specs.Lists.{empty_lists, list_of, without, to_tail, to_head, highest, prio_of}
+use Rattle.rules_lists.specs.Lists.{empty_lists, list_of, without, to_tail, to_head, highest, prio_of}
 
 -- the threads 0 and 1 at priority 5, and thread 2 at priority 9
 abbrev three : List (List ℕ)

@@ -6,12 +6,12 @@ use Rattle.std.proofs.lemmas.Bool.Decides.{nat_tests, eqb_tells}
 use Rattle.std.proofs.lemmas.List.{get_or-set_other}
 use Rattle.std.proofs.lemmas.Grind.{common_steps}
 use Rattle.parts_links.specs.Links.{follower, follower_on, stands_in as node_stands, without as without_node}
-use Rattle.parts_lists.specs.Threads.{times, without_thread}
+use Rattle.rules_lists.specs.Threads.{times, without_thread}
 use Rattle.parts_ready.specs.declared.End.{End}
 use Rattle.parts_ready.specs.declared.End.TheVariants.{Head, Tail}
 use Rattle.parts_ready.specs.Ends.{at_end}
 use Rattle.parts_ready.specs.Bits.{ChangesBit}
-use Rattle.parts_ready.specs.Lists.{AreReadyLists, change_list, highest, times_in_all, to_tail, without}
+use Rattle.rules_lists.specs.Lists.{AreReadyLists, change_list, highest, times_in_all, to_tail, without}
 use Rattle.parts_ready.specs.ReadyView.{AreMarked, named}
 use Rattle.parts_ready.proofs.Places.{at_tail, highest_at, marked_after, times_at_le, without_at, without_ok}
 use Rattle.parts_ready.proofs.Tails.{follower_at, set_again}

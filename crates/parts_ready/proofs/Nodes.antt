@@ -3,10 +3,10 @@ use Rattle.std.specs.Prelude.{MatchOption}
 use Rattle.std.proofs.Common.{replicate, nat_lt, ◌≡◌, ℕ, zero, suc, ◌+◌, ◌<◌, ◌≤◌, true, false, Option, Some, None, List, [], ◌∷◌, length, map, set, get_or, refl, sym, ap, ◌∙◌, arith, get_or-set_same}
 use Rattle.std.proofs.lemmas.Bool.Decides.{nat_tests}
 use Rattle.parts_links.specs.Links.{on_a_list, stands_in as node_stands, without as without_node}
-use Rattle.parts_lists.specs.Threads.{times, stands_in, without_thread}
-use Rattle.parts_lists.proofs.Standing.{without_absent}
+use Rattle.rules_lists.specs.Threads.{times, stands_in, without_thread}
+use Rattle.rules_lists.proofs.Standing.{without_absent}
 use Rattle.parts_ready.specs.Bits.{is_set, NoneIsSet}
-use Rattle.parts_ready.specs.Lists.{AreReadyLists, without, prio_from, times_in_all}
+use Rattle.rules_lists.specs.Lists.{AreReadyLists, without, prio_from, times_in_all}
 use Rattle.parts_ready.proofs.Places.{without_at, times_at_le}
 
 stands_same : (t : ℕ) (xs : List ℕ) → node_stands t xs ≡ stands_in t xs

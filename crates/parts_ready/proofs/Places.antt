@@ -6,10 +6,10 @@ use Rattle.std.proofs.Math.ListN.{length-set}
 use Rattle.std.proofs.lemmas.List.{get_or-set_same, get_or-set_other}
 use Rattle.std.proofs.lemmas.Grind.{common_steps}
 use Rattle.std.proofs.lemmas.Bool.Decides.{nat_tests, eqb_tells}
-use Rattle.parts_lists.specs.Threads.{times, stands_in, without_thread}
-use Rattle.parts_lists.proofs.Standing.{times-append, times_gone, times_le, absent, present, without_absent}
+use Rattle.rules_lists.specs.Threads.{times, stands_in, without_thread}
+use Rattle.rules_lists.proofs.Standing.{times-append, times_gone, times_le, absent, present, without_absent}
 use Rattle.parts_ready.specs.Bits.{is_set, ChangesBit, NoneIsSet}
-use Rattle.parts_ready.specs.Lists.{ReadyLists, AreReadyLists, without, highest, prio_from, times_in_all}
+use Rattle.rules_lists.specs.Lists.{ReadyLists, AreReadyLists, without, highest, prio_from, times_in_all}
 
 -- ---- where a thread stands
 

@@ -4,9 +4,9 @@ use Rattle.std.specs.Prelude.{is_some, slice_get}
 use Rattle.std.proofs.lemmas.Bool.Decides.{nat_tests}
 use Rattle.std.proofs.lemmas.List.{set-get_or}
 use Rattle.parts_links.specs.Links.{follower, follower_on, stands_in as node_stands}
-use Rattle.parts_lists.specs.Threads.{times, without_thread}
-use Rattle.parts_lists.proofs.Standing.{without_absent}
-use Rattle.parts_ready.specs.Lists.{without, to_tail, times_in_all}
+use Rattle.rules_lists.specs.Threads.{times, without_thread}
+use Rattle.rules_lists.proofs.Standing.{without_absent}
+use Rattle.rules_lists.specs.Lists.{without, to_tail, times_in_all}
 use Rattle.parts_ready.proofs.Places.{without_at, times_at_le}
 use Rattle.parts_ready.proofs.Nodes.{present_node, absent_node}
 

@@ -2,12 +2,12 @@
 use Rattle.std.proofs.Common.{◌≡◌, ◌≢◌, ℕ, suc, zero, ◌-◌, ◌<◌, ◌≤◌, Bool, true, false, None, Some, List, [], ◌∷◌, length, get_or, refl, sym, ap, ◌∙◌, subst, arith, inl, inr, if◌then◌else◌}
 use Rattle.std.specs.Prelude.{nat_lt, slice_get}
 use Rattle.std.proofs.lemmas.Bool.Decides.{nat_tests, eqb_tells}
-use Rattle.parts_lists.specs.Threads.{without_thread}
+use Rattle.rules_lists.specs.Threads.{without_thread}
 use Rattle.parts_ready.specs.declared.End.{End}
 use Rattle.parts_ready.specs.declared.End.TheVariants.{Head, Tail}
 use Rattle.parts_ready.specs.Ends.{at_end, leads}
 use Rattle.parts_ready.specs.Bits.{is_set, AreClear, ChangesBit, IsTop, NoneIsSet}
-use Rattle.parts_ready.specs.Lists.{change_list, highest, without}
+use Rattle.rules_lists.specs.Lists.{change_list, highest, without}
 use Rattle.parts_ready.specs.ReadyView.{AreMarked, named}
 use Rattle.parts_ready.proofs.Places.{highest_at, is_empty}
 use Rattle.parts_ready.proofs.Heads.{Top, first_without, head_below, head_leads, named_small, named_some, put_leads, tail_below}

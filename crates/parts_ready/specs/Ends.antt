@@ -1,6 +1,6 @@
 -- The ends of a list (this project's own).
 use Rattle.std.specs.Prelude.{ℕ, Bool, nat_le, nat_lt, List, [], ◌∷◌, ◌++◌}
-use Rattle.parts_ready.specs.Lists.{to_tail, to_head}
+use Rattle.rules_lists.specs.Lists.{to_tail, to_head}
 use Rattle.parts_ready.specs.declared.End.{End}
 use Rattle.parts_ready.specs.declared.End.TheVariants.{Head, Tail}
 

@@ -1,5 +1,5 @@
-pub use Rattle.parts_lists.specs.Threads
+pub use Rattle.rules_lists.specs.Threads
+pub use Rattle.rules_lists.specs.Lists
 pub mod Bits
 pub mod Ends
-pub mod Lists
 pub mod ReadyView

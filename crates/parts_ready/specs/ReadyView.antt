@@ -1,7 +1,7 @@
 -- What contracts see of a `Ready`, and how its bitmap and its head are tied to its lists.
 use Rattle.std.specs.Prelude.{◌≡◌, ℕ, nat_lt, if◌then◌else◌, Option, Some, None, List, length, slice_index_or, []}
 use Rattle.parts_ready.specs.Bits.{is_set, IsTop}
-use Rattle.parts_ready.specs.Lists.{ReadyLists, AreReadyLists, highest}
+use Rattle.rules_lists.specs.Lists.{ReadyLists, AreReadyLists, highest}
 use Rattle.parts_ready.specs.declared.Ready.TheInside.{Inside}
 
 abbrev pub ready_lists : Inside → ReadyLists

@@ -9,7 +9,7 @@
 
 ghost use Rattle.std.specs.Prelude.{◌≡◌, ◌<◌, ◌≤◌, if◌then◌else◌, length, IfOk, IfSome, Some, false, true};
 ghost use Rattle.parts_links.specs.Links.{follower_on, list_at, on_a_list, stands_in};
-ghost use Rattle.parts_ready.specs.Lists.{AreReadyLists, change_list, empty_lists, list_of, without, to_tail, to_head, highest, prio_of};
+ghost use Rattle.rules_lists.specs.Lists.{AreReadyLists, change_list, empty_lists, list_of, without, to_tail, to_head, highest, prio_of};
 ghost use Rattle.parts_ready.specs.Ends.{at_end, leads, put_at};
 ghost use Rattle.parts_ready.specs.ReadyView.{AreMarked, named};
 ghost use Rattle.parts_ready.specs.Bits.{IsTop};
@@ -47,7 +47,7 @@ pub struct Ready {
 }
 
 impl Model for Ready {
-    ghost use Rattle.parts_ready.specs.Lists.{ReadyLists};
+    ghost use Rattle.rules_lists.specs.Lists.{ReadyLists};
 
     ghost Value = { ReadyLists };
 

@@ -1,4 +1,3 @@
 pub use Rattle.words_numbers.specs.Parameters
-pub mod Server
+pub use Rattle.rules_server.specs.Server
 pub mod ServerView
-pub mod Calls

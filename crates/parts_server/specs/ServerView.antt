@@ -1,5 +1,5 @@
 -- What contracts see of a `Server`.
-use Rattle.parts_server.specs.Server.{ServerState, IsServer}
+use Rattle.rules_server.specs.Server.{ServerState, IsServer}
 use Rattle.parts_server.specs.declared.Server.TheInside.{Inside}
 
 abbrev pub server_state : Inside → ServerState

@@ -4,45 +4,18 @@
 //! the initial budget, and high ticks are budget plus refills minus capacity.
 //!
 //! Times are instants in ticks; capacities, amounts and totals are numbers of ticks. The rules are those of SCHED_SPORADIC in
-//! IEEE 1003.1-2017, XSH 2.8.4; `specs/Server.antt` states them. No call takes memory.
+//! IEEE 1003.1-2017, XSH 2.8.4; `rules_server` states them. No call takes memory.
 #![tactic(auto)]
 
 ghost use Rattle.std.specs.Prelude.{true, false, ◌≡◌, ◌+◌, ◌^◌, ◌<◌, ◌≤◌, length, sum_by, IsTrue};
-ghost use Rattle.parts_server.specs.Server.{AddsUp, new_server_as, is_high, has_room, joined, joins_as, planned_in, assigned, charge_ticks, activate, plan, replenishment, refill, oldest_pending, next_due, set_high, totals};
-ghost use Rattle.parts_server.specs.Calls.{BudgetLaw, MayPlan};
+ghost use Rattle.rules_server.specs.Server.{AddsUp, new_server_as, is_high, has_room, joined, joins_as, planned_in, assigned, charge_ticks, activate, plan, replenishment, refill, oldest_pending, next_due, set_high, totals};
+ghost use Rattle.rules_server.specs.Calls.{BudgetLaw, MayPlan};
+
+pub use rules_server::{BudgetLine, Replenish, ServerKind};
 
 use arrayvec::ArrayVec;
 use std::marker::Model;
 use words_numbers::{Params, Prio, Tick};
-
-/// An amount of capacity that comes back at an instant.
-#[derive(Clone, Copy, Debug, Default, PartialEq, Eq)]
-pub struct Replenish {
-    pub amount: u64,
-    pub due: Tick,
-}
-
-/// What is told of a server when a run ends.
-#[derive(Clone, Copy, Debug, PartialEq, Eq)]
-pub struct BudgetLine {
-    /// The ticks that were run at the high priority since the server was new.
-    pub high: u64,
-    /// The initial budget.
-    pub init: u64,
-    /// The sum of the amounts that were refilled since the server was new.
-    pub refilled: u64,
-    /// The capacity that is left.
-    pub capacity: u64,
-}
-
-/// The rule by which a server plans its replenishments.
-#[derive(Clone, Copy, Debug, PartialEq, Eq)]
-pub enum ServerKind {
-    /// SCHED_SPORADIC.
-    Sporadic,
-    /// One replenishment for each run of ticks at the high priority (this project's own).
-    Strict,
-}
 
 /// The server of one thread.
 #[derive(Drop)]
@@ -59,7 +32,7 @@ pub struct Server {
 }
 
 impl Model for Server {
-    ghost use Rattle.parts_server.specs.Server.{ServerState};
+    ghost use Rattle.rules_server.specs.Server.{ServerState};
 
     ghost Value = { ServerState };
 
@@ -169,7 +142,7 @@ impl Server {
     }
 
     /// Runs k ticks at the high priority, at once: the server is as after k single ticks.
-    #[tactic(auto, using(crate::proofs::Laws::charge_ticks_is))]
+    #[tactic(auto, using(rules_server::proofs::Laws::charge_ticks_is))]
     pub fn charge(&mut self, k: u64)
         requires high { IsTrue (is_high self.old) }
         requires within { k ≤ self.old.capacity }
@@ -217,7 +190,7 @@ impl Server {
     }
 
     /// Carries out the oldest pending replenishment, and gives it. None exactly where none is pending.
-    #[tactic(auto, using(crate::proofs::Laws::refill_from_is))]
+    #[tactic(auto, using(rules_server::proofs::Laws::refill_from_is))]
     pub fn refill(&mut self) -> Option<Replenish>
         ensures value { result ≡ oldest_pending self.old }
         ensures after { self.new ≡ refill self.old }

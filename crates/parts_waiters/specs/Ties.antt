@@ -1,6 +1,6 @@
 -- How the places are those of the machine's waits.
 use Rattle.std.specs.Prelude.{Bool, List, None, Option, Some, false, length, option_map, slice_index_or, ℕ, ◌≡◌, ◌<◌}
-use Rattle.script_code.specs.declared.cursor.Cursor.{Cursor}
+use Rattle.rules_bodies.specs.declared.cursor.Cursor.{Cursor}
 use Rattle.rules_machine.specs.State.{Machine, SignalRecord, Wait, Waiting, for_condition, for_end, for_message, for_mutex, for_mutex_again, for_room, for_semaphore, for_signal, for_time}
 use Rattle.rules_machine.specs.Threads.{waiting_of}
 use Rattle.rules_machine.specs.Priorities.{exec}

@@ -7,8 +7,8 @@ use Rattle.words_script.specs.declared.decl.Script.{Script}
 use Rattle.words_script.specs.declared.decl.Decl.{Decl}
 use Rattle.words_script.specs.declared.decl.Decl.TheVariants.{Named, Action}
 use Rattle.words_script.specs.declared.decl.Kind.TheVariants.{Thread, Handler, Cleanup, Mutex, Cond, Sem, Queue, Timer}
-use Rattle.script_code.specs.Flat.{NumberedBodies, flat, no_bodies, with_decl, with_decls, bodies_of}
-use Rattle.script_code.specs.Fetch.{ops_of}
+use Rattle.rules_bodies.specs.Flat.{NumberedBodies, flat, no_bodies, with_decl, with_decls, bodies_of}
+use Rattle.rules_bodies.specs.Fetch.{ops_of}
 use Rattle.rules_machine.specs.declared.frame.BodyOf.{BodyOf}
 use Rattle.rules_machine.specs.declared.frame.BodyOf.TheVariants as body_of
 use Rattle.rules_machine.specs.Declarations.{ThreadDecl, cleanup_kind, declared_thread, handler_kind, named}

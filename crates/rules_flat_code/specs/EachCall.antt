@@ -3,8 +3,8 @@ use Rattle.std.specs.Prelude.{List, [], ◌∷◌}
 use Rattle.words_script.specs.Block.{Block, Nothing, Running, Making, Setting, Adding, Taking, Testing, Looping, Guarding}
 use Rattle.words_script.specs.declared.call.Call.{Call}
 use Rattle.words_script.specs.declared.call.Call.TheVariants as call
-use Rattle.script_code.specs.declared.op.Op.{Op}
-use Rattle.script_code.specs.declared.op.Op.TheVariants as op
+use Rattle.rules_bodies.specs.declared.op.Op.{Op}
+use Rattle.rules_bodies.specs.declared.op.Op.TheVariants as op
 
 abbrev pub EachCall : (Call → Type 0) → Block → Type 0
 EachCall Holds Nothing = Unit {0}

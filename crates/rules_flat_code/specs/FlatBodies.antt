@@ -2,11 +2,11 @@
 use Rattle.words_numbers.specs.declared.res.Res.TheVariants as res
 use Rattle.std.specs.Prelude.{ℕ, List, length, slice_index_or}
 use Rattle.words_script.specs.declared.decl.Script.{Script}
-use Rattle.script_code.specs.declared.cursor.Cursor.{Cursor}
-use Rattle.script_code.specs.declared.op.Op.{Op}
-use Rattle.script_code.specs.declared.unit.Unit as unit
-use Rattle.script_code.specs.Flat as flat
-use Rattle.script_code.specs.Fetch.{fetched, started}
+use Rattle.rules_bodies.specs.declared.cursor.Cursor.{Cursor}
+use Rattle.rules_bodies.specs.declared.op.Op.{Op}
+use Rattle.rules_bodies.specs.declared.unit.Unit as unit
+use Rattle.rules_bodies.specs.Flat as flat
+use Rattle.rules_bodies.specs.Fetch.{fetched, started}
 use Rattle.rules_machine.specs.declared.frame.BodyOf.{BodyOf}
 use Rattle.rules_machine.specs.declared.frame.BodyOf.TheVariants as body_of
 use Rattle.rules_machine.specs.Bodies.{Bodies, NextUnit, Seen}

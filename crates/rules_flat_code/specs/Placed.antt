@@ -1,9 +1,9 @@
 -- Frames that are at places of the code.
 use Rattle.std.specs.Prelude.{List, [], ◌∷◌}
-use Rattle.script_code.specs.declared.cursor.Cursor.{Cursor}
-use Rattle.script_code.specs.declared.op.Op.{Op}
-use Rattle.script_code.specs.Flat.{NumberedBodies}
-use Rattle.script_code.specs.Stands.{IsPlaced}
+use Rattle.rules_bodies.specs.declared.cursor.Cursor.{Cursor}
+use Rattle.rules_bodies.specs.declared.op.Op.{Op}
+use Rattle.rules_bodies.specs.Flat.{NumberedBodies}
+use Rattle.rules_bodies.specs.Stands.{IsPlaced}
 use Rattle.rules_machine.specs.Bodies.{seen_by}
 use Rattle.rules_machine.specs.State.{Frame}
 use Rattle.rules_flat_code.specs.FlatBodies.{cursor_at}

@@ -8,7 +8,7 @@ use Rattle.words_script.specs.declared.decl.Kind.TheVariants as kind
 use Rattle.words_script.specs.declared.decl.Script.{Script}
 use Rattle.words_script.specs.declared.policy.Policy.{Policy}
 use Rattle.words_script.specs.declared.policy.Policy.TheVariants as policy
-use Rattle.script_code.specs.Flat.{IsFlattenable, bodies_of}
+use Rattle.rules_bodies.specs.Flat.{IsFlattenable, bodies_of}
 use Rattle.rules_machine.specs.Declarations.{ThreadDecl, handlers_of, queues_of, threads_of, timers_of}
 use Rattle.rules_machine.specs.Semaphores.{semaphore_limit}
 use Rattle.rules_flat_code.specs.EachCall.{EachCall}

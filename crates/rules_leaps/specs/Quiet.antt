@@ -4,9 +4,9 @@ use Rattle.std.specs.Prelude.{List, None, Option, Some, [], false, option_map, â
 use Rattle.words_script.specs.declared.decl.Script.{Script}
 use Rattle.words_script.specs.declared.policy.Policy.{Policy}
 use Rattle.words_script.specs.declared.policy.Policy.TheVariants as policy
-use Rattle.script_code.specs.Next.{Place}
+use Rattle.rules_bodies.specs.Next.{Place}
 use Rattle.words_trace.specs.Text.{Entry}
-use Rattle.parts_server.specs.Server.{ServerState, charge_ticks, is_high}
+use Rattle.rules_server.specs.Server.{ServerState, charge_ticks, is_high}
 use Rattle.rules_machine.specs.declared.dispatch.LastDispatch.TheVariants as last
 use Rattle.rules_machine.specs.Bodies.{Bodies}
 use Rattle.rules_machine.specs.State.{Frame, Machine, Thread}

@@ -6,11 +6,11 @@ use mathlib.Core.Path.{◌∙◌}
 use Rattle.words_numbers.specs.declared.item.Item.{Item}
 use Rattle.words_numbers.specs.declared.item.Item.TheVariants as item
 use Rattle.words_numbers.specs.declared.res.Res.TheVariants as res
-use Rattle.script_code.specs.Next.{capped}
-use Rattle.script_code.specs.declared.unit.Unit.{Unit}
+use Rattle.rules_bodies.specs.Next.{capped}
+use Rattle.rules_bodies.specs.declared.unit.Unit.{Unit}
 use Rattle.words_trace.specs.declared.event.Event.{Event}
 use Rattle.words_trace.specs.declared.event.Event.TheVariants as event
-use Rattle.parts_server.specs.Server.{ServerState, activate, is_high, oldest_pending, plan, refill, replenishment}
+use Rattle.rules_server.specs.Server.{ServerState, activate, is_high, oldest_pending, plan, refill, replenishment}
 use Rattle.rules_machine.specs.declared.frame.BodyOf.TheVariants as body_of
 use Rattle.rules_machine.specs.declared.frame.FrameKind.TheVariants as frame
 use Rattle.rules_machine.specs.declared.signal.SigAction.{SigAction}

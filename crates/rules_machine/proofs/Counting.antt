@@ -8,7 +8,7 @@ use Rattle.words_numbers.specs.declared.item.Item.TheVariants as item
 use Rattle.words_numbers.specs.declared.res.Res.TheVariants as res
 use Rattle.words_trace.specs.declared.event.Event.{Event}
 use Rattle.words_trace.specs.declared.event.Event.TheVariants as event
-use Rattle.parts_server.specs.Server.{ServerState, is_high, oldest_pending, refill}
+use Rattle.rules_server.specs.Server.{ServerState, is_high, oldest_pending, refill}
 use Rattle.rules_machine.specs.declared.thread.CondEnd.TheVariants as cond_end
 use Rattle.rules_machine.specs.Bodies.{Bodies}
 use Rattle.rules_machine.specs.State.{Machine, Wait, Waiting, for_condition, for_signal, for_time}

@@ -3,8 +3,8 @@ use Rattle.std.proofs.Common.{Bool, List, None, Option, Some, [], ap, refl, suc,
 use mathlib.Core.Path.{◌∙◌}
 use Rattle.words_numbers.specs.declared.res.Res.TheVariants as res
 use Rattle.words_trace.specs.declared.event.Event.TheVariants as event
-use Rattle.script_code.specs.declared.unit.Unit.{Unit}
-use Rattle.parts_server.specs.Server.{ServerState}
+use Rattle.rules_bodies.specs.declared.unit.Unit.{Unit}
+use Rattle.rules_server.specs.Server.{ServerState}
 use Rattle.rules_machine.specs.declared.signal.SigAction.{SigAction}
 use Rattle.rules_machine.specs.declared.signal.SigAction.TheVariants as action
 use Rattle.rules_machine.specs.Bodies.{Bodies}

@@ -5,7 +5,7 @@ use mathlib.Core.Path.{subst, ◌∙◌}
 use Rattle.words_numbers.specs.declared.item.Item.{Item}
 use Rattle.words_numbers.specs.declared.item.Item.TheVariants as item
 use Rattle.words_numbers.specs.declared.res.Res.TheVariants as res
-use Rattle.script_code.specs.Next.{capped}
+use Rattle.rules_bodies.specs.Next.{capped}
 use Rattle.words_trace.specs.declared.event.Event.TheVariants as event
 use Rattle.rules_machine.specs.declared.frame.BodyOf.TheVariants as body_of
 use Rattle.rules_machine.specs.declared.frame.FrameKind.TheVariants as frame

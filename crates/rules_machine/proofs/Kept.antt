@@ -3,7 +3,7 @@ use Rattle.std.proofs.Common.{Bool, List, None, Option, Some, false, refl, true,
 use Rattle.std.specs.Prelude.{if◌then◌else◌}
 use Rattle.words_numbers.specs.declared.res.Res.{Res}
 use Rattle.words_trace.specs.declared.event.Event.{Event}
-use Rattle.parts_server.specs.Server.{ServerState}
+use Rattle.rules_server.specs.Server.{ServerState}
 use Rattle.rules_machine.specs.declared.dispatch.LastDispatch.{LastDispatch}
 use Rattle.rules_machine.specs.declared.signal.SigAction.{SigAction}
 use Rattle.rules_machine.specs.declared.thread.CondEnd.{CondEnd}

@@ -5,7 +5,7 @@ use mathlib.Core.Path.{◌∙◌}
 use Rattle.words_numbers.specs.declared.item.Item.{Item}
 use Rattle.rules_machine.specs.Bodies.{Bodies}
 use Rattle.rules_machine.specs.State.{Machine, Thread}
-use Rattle.parts_server.specs.Server.{ServerState, is_high}
+use Rattle.rules_server.specs.Server.{ServerState, is_high}
 use Rattle.words_trace.specs.declared.event.Event.{Event}
 use Rattle.rules_machine.specs.Lists.{is}
 use Rattle.rules_machine.specs.Threads.{thread_at, thread_numbers, top_left}

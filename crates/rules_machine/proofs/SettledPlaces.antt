@@ -3,8 +3,8 @@ use Rattle.std.proofs.Common.{Bool, List, [], ap, arith, false, length, refl, su
 use Rattle.std.specs.Prelude.{filter, not, ◌-◌, ◌==◌, ◌&&◌, if◌then◌else◌}
 use Rattle.std.specs.List.{range_with_len}
 use mathlib.Core.Path.{subst, ◌∙◌}
-use Rattle.parts_lists.specs.Threads.{stands_in, times}
-use Rattle.parts_ready.specs.Lists.{list_of, to_tail}
+use Rattle.rules_lists.specs.Threads.{stands_in, times}
+use Rattle.rules_lists.specs.Lists.{list_of, to_tail}
 use Rattle.rules_machine.specs.State.{Machine}
 use Rattle.rules_machine.specs.Threads.{can_run, thread_numbers}
 use Rattle.rules_machine.specs.Priorities.{exec}

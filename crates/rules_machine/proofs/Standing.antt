@@ -2,8 +2,8 @@
 use Rattle.std.proofs.Common.{Bool, List, [], ap, arith, false, length, refl, suc, sym, true, zero, ℕ, ◌+◌, ◌<◌, ◌∷◌, ◌++◌, ◌≡◌}
 use Rattle.std.specs.Prelude.{filter, map, slice_index_or, ◌-◌, ◌==◌, if◌then◌else◌}
 use mathlib.Core.Path.{◌∙◌}
-use Rattle.parts_lists.specs.Threads.{times, without_thread}
-use Rattle.parts_ready.specs.Lists.{to_head, to_tail, without}
+use Rattle.rules_lists.specs.Threads.{times, without_thread}
+use Rattle.rules_lists.specs.Lists.{to_head, to_tail, without}
 use Rattle.rules_machine.specs.Lists.{changed_at}
 
 -- how often a thread stands on the list of an index; the list of priority p has index p - 1

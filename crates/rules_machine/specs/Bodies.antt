@@ -3,7 +3,7 @@
 use Rattle.std.specs.Prelude.{ℕ}
 use Rattle.words_numbers.specs.declared.res.Res.{Res}
 use Rattle.rules_machine.specs.declared.frame.BodyOf.{BodyOf}
-use Rattle.script_code.specs.declared.unit.Unit.{Unit}
+use Rattle.rules_bodies.specs.declared.unit.Unit.{Unit}
 use Rattle.rules_machine.specs.State.{Frame}
 
 -- what the steps that take no time see: the register, and the last call's result and value

@@ -3,15 +3,15 @@
 use Rattle.std.specs.Prelude.{All, Bool, List, None, Option, Some, [], false, filter_map, flat_map, length, map, max, suc, take, true, zero, ℕ, ◌≡◌, ◌≤◌, ◌+◌, ◌==◌, ◌&&◌, ◌∷◌, ◌++◌, if◌then◌else◌}
 use Rattle.std.specs.List.{sum}
 use Rattle.words_script.specs.declared.call.Call.TheVariants as call
-use Rattle.script_code.specs.declared.unit.Unit.{Unit}
-use Rattle.script_code.specs.declared.unit.Unit.TheVariants as unit
+use Rattle.rules_bodies.specs.declared.unit.Unit.{Unit}
+use Rattle.rules_bodies.specs.declared.unit.Unit.TheVariants as unit
 use Rattle.words_trace.specs.declared.event.Event.{Event}
 use Rattle.words_trace.specs.declared.event.Event.TheVariants as event
 use Rattle.words_trace.specs.Text.{Entry}
-use Rattle.parts_server.specs.declared.Replenish.{Replenish}
-use Rattle.parts_server.specs.declared.ServerKind.{ServerKind}
-use Rattle.parts_server.specs.declared.ServerKind.TheVariants as server_kind
-use Rattle.parts_server.specs.Server.{ServerState, pending_total}
+use Rattle.rules_server.specs.declared.Replenish.{Replenish}
+use Rattle.rules_server.specs.declared.ServerKind.{ServerKind}
+use Rattle.rules_server.specs.declared.ServerKind.TheVariants as server_kind
+use Rattle.rules_server.specs.Server.{ServerState, pending_total}
 use Rattle.rules_machine.specs.Bodies.{Bodies}
 use Rattle.rules_machine.specs.State.{Machine}
 use Rattle.rules_machine.specs.Threads.{lives, thread_at}

@@ -3,8 +3,8 @@ use Rattle.std.specs.Prelude.{None, Some, ℕ, ◌+◌, ◌&&◌, if◌then◌el
 use Rattle.words_numbers.specs.declared.res.Res.TheVariants as res
 use Rattle.words_script.specs.declared.call.Call.{Call}
 use Rattle.words_script.specs.declared.call.Call.TheVariants as call
-use Rattle.script_code.specs.declared.unit.Unit.{Unit}
-use Rattle.script_code.specs.declared.unit.Unit.TheVariants as unit
+use Rattle.rules_bodies.specs.declared.unit.Unit.{Unit}
+use Rattle.rules_bodies.specs.declared.unit.Unit.TheVariants as unit
 use Rattle.rules_machine.specs.Bodies.{Bodies}
 use Rattle.rules_machine.specs.Threads.{number_of, thread_at}
 use Rattle.rules_machine.specs.Turns.{Caller, Turn, returns}

@@ -2,7 +2,7 @@
 use Rattle.std.specs.Prelude.{Bool, None, Option, Some, false, is_some, true, ℕ, ◌==◌, if◌then◌else◌}
 use Rattle.words_trace.specs.declared.event.Event.{Event}
 use Rattle.words_trace.specs.declared.event.Event.TheVariants as event
-use Rattle.parts_ready.specs.Lists.{highest}
+use Rattle.rules_lists.specs.Lists.{highest}
 use Rattle.rules_machine.specs.declared.dispatch.LastDispatch.{LastDispatch}
 use Rattle.rules_machine.specs.declared.dispatch.LastDispatch.TheVariants as last
 use Rattle.rules_machine.specs.State.{Machine}

@@ -4,7 +4,7 @@ use Rattle.std.specs.Prelude.{Bool, List, None, Option, Some, [], false, filter,
 use Rattle.words_numbers.specs.declared.item.Item.{Item}
 use Rattle.words_numbers.specs.declared.item.Item.TheVariants as item
 use Rattle.words_numbers.specs.declared.res.Res.TheVariants as res
-use Rattle.parts_server.specs.Server.{ServerState, next_due}
+use Rattle.rules_server.specs.Server.{ServerState, next_due}
 use Rattle.rules_machine.specs.declared.thread.CondEnd.TheVariants as cond_end
 use Rattle.rules_machine.specs.Lists.{numbers}
 use Rattle.rules_machine.specs.Bodies.{Bodies}

@@ -3,11 +3,11 @@ use Rattle.std.specs.Prelude.{All, Bool, List, None, Option, Some, [], false, fi
 use Rattle.std.specs.List.{IsDistinct, AllAdjacentBelow}
 use Rattle.words_script.specs.declared.policy.Policy.{Policy}
 use Rattle.words_script.specs.declared.policy.Policy.TheVariants as policy
-use Rattle.parts_server.specs.declared.Replenish.{Replenish}
-use Rattle.parts_server.specs.declared.ServerKind.TheVariants as kind
-use Rattle.parts_server.specs.Server.{ServerState, is_high, pending_total}
-use Rattle.parts_lists.specs.Threads.{times}
-use Rattle.parts_ready.specs.Lists.{list_of}
+use Rattle.rules_server.specs.declared.Replenish.{Replenish}
+use Rattle.rules_server.specs.declared.ServerKind.TheVariants as kind
+use Rattle.rules_server.specs.Server.{ServerState, is_high, pending_total}
+use Rattle.rules_lists.specs.Threads.{times}
+use Rattle.rules_lists.specs.Lists.{list_of}
 use Rattle.rules_machine.specs.declared.frame.BodyOf.{BodyOf}
 use Rattle.rules_machine.specs.Lists.{is}
 use Rattle.rules_machine.specs.Bodies.{Bodies}

@@ -2,8 +2,8 @@
 use Rattle.std.specs.Prelude.{List, [], map, option_map, slice_index_or, ℕ, ◌+◌, ◌∷◌, ◌++◌}
 use Rattle.words_script.specs.Block.{Block, Nothing}
 use Rattle.words_script.specs.declared.decl.Script.{Script}
-use Rattle.script_code.specs.Next.{Place, body_start, next}
-use Rattle.parts_server.specs.Server.{ServerState}
+use Rattle.rules_bodies.specs.Next.{Place, body_start, next}
+use Rattle.rules_server.specs.Server.{ServerState}
 use Rattle.words_trace.specs.declared.event.Event.TheVariants as event
 use Rattle.words_trace.specs.declared.report.BudgetView.{BudgetView}
 use Rattle.words_trace.specs.declared.report.Report.{Report}

@@ -4,7 +4,7 @@ use Rattle.words_script.specs.declared.policy.Policy.{Policy}
 use Rattle.words_script.specs.declared.policy.Policy.TheVariants as policy
 use Rattle.words_script.specs.declared.policy.Protocol.{Protocol}
 use Rattle.words_script.specs.declared.policy.Protocol.TheVariants as protocol
-use Rattle.parts_server.specs.Server.{ServerState, assigned}
+use Rattle.rules_server.specs.Server.{ServerState, assigned}
 use Rattle.rules_machine.specs.Lists.{greatest, is, numbers_where}
 use Rattle.rules_machine.specs.State.{Machine, Mutex, Thread, Wait, Waiting, for_mutex, for_mutex_again}
 use Rattle.rules_machine.specs.Threads.{waiting_in}

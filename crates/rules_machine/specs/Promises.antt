@@ -2,7 +2,7 @@
 use Rattle.std.specs.Prelude.{List, [], ℕ, ◌∷◌, ◌++◌}
 use Rattle.words_script.specs.Block.{Block, Guarding, Looping, Testing}
 use Rattle.words_script.specs.declared.decl.Script.{Script}
-use Rattle.script_code.specs.Next.{At, In, Place, steps_from}
+use Rattle.rules_bodies.specs.Next.{At, In, Place, steps_from}
 use Rattle.rules_machine.specs.declared.frame.BodyOf.{BodyOf}
 use Rattle.rules_machine.specs.Runs.{opening}
 use Rattle.rules_machine.specs.Eventful.{busy}

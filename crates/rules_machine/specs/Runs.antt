@@ -2,7 +2,7 @@
 use Rattle.std.specs.Prelude.{List, None, Option, [], map, suc, zero, ℕ, ◌++◌}
 use Rattle.words_script.specs.declared.decl.Script.{Script}
 use Rattle.words_trace.specs.Text.{Entry}
-use Rattle.parts_ready.specs.Lists.{empty_lists}
+use Rattle.rules_lists.specs.Lists.{empty_lists}
 use Rattle.rules_machine.specs.declared.dispatch.LastDispatch.TheVariants as last
 use Rattle.rules_machine.specs.Bodies.{Bodies}
 use Rattle.rules_machine.specs.State.{Machine, Thread, dormant}

@@ -4,7 +4,7 @@ use Rattle.std.specs.Prelude.{Bool, nat_lt, option_map, true, ℕ, if◌then◌e
 use Rattle.words_numbers.specs.declared.res.Res.TheVariants as res
 use Rattle.words_script.specs.declared.policy.Policy.{Policy}
 use Rattle.words_script.specs.declared.policy.Policy.TheVariants as policy
-use Rattle.parts_server.specs.Server.{set_high}
+use Rattle.rules_server.specs.Server.{set_high}
 use Rattle.rules_machine.specs.State.{Thread}
 use Rattle.rules_machine.specs.Threads.{can_run, thread_at}
 use Rattle.rules_machine.specs.Turns.{Caller, Turn, changes, moves, returns, ◌▷◌}

@@ -4,10 +4,10 @@ use Rattle.std.specs.Prelude.{Bool, List, None, Option, Some, [], false, is_some
 use Rattle.words_script.specs.declared.policy.Policy.{Policy}
 use Rattle.words_script.specs.declared.policy.Policy.TheVariants as policy
 use Rattle.words_trace.specs.declared.event.Event.TheVariants as event
-use Rattle.parts_server.specs.declared.Replenish.{Replenish}
-use Rattle.parts_server.specs.declared.ServerKind.{ServerKind}
-use Rattle.parts_server.specs.declared.ServerKind.TheVariants as kind
-use Rattle.parts_server.specs.Server.{ServerState, activate, charge, is_high, new_server, new_server_as, oldest_pending, plan, refill, replenishment}
+use Rattle.rules_server.specs.declared.Replenish.{Replenish}
+use Rattle.rules_server.specs.declared.ServerKind.{ServerKind}
+use Rattle.rules_server.specs.declared.ServerKind.TheVariants as kind
+use Rattle.rules_server.specs.Server.{ServerState, activate, charge, is_high, new_server, new_server_as, oldest_pending, plan, refill, replenishment}
 use Rattle.rules_machine.specs.Lists.{is}
 use Rattle.rules_machine.specs.State.{Thread}
 use Rattle.rules_machine.specs.Threads.{can_run, thread_at, thread_numbers}

@@ -1,7 +1,7 @@
 -- The moves of one effect or item.
 use Rattle.std.specs.Prelude.{List, [], filter, map, nat_lt, not, ℕ, ◌&&◌, ◌∷◌, if◌then◌else◌}
-use Rattle.parts_lists.specs.Threads.{stands_in}
-use Rattle.parts_ready.specs.Lists.{to_head, to_tail}
+use Rattle.rules_lists.specs.Threads.{stands_in}
+use Rattle.rules_lists.specs.Lists.{to_head, to_tail}
 use Rattle.rules_machine.specs.State.{Machine}
 use Rattle.rules_machine.specs.Threads.{can_run, thread_numbers}
 use Rattle.rules_machine.specs.Priorities.{exec}

@@ -8,7 +8,7 @@ use Rattle.words_numbers.specs.declared.sig_code.SigCode.{SigCode}
 use Rattle.words_script.specs.declared.call.Call.{Call}
 use Rattle.words_script.specs.declared.policy.Policy.{Policy}
 use Rattle.words_script.specs.declared.policy.Protocol.{Protocol}
-use Rattle.parts_server.specs.Server.{ServerState}
+use Rattle.rules_server.specs.Server.{ServerState}
 use Rattle.rules_machine.specs.declared.dispatch.LastDispatch.{LastDispatch}
 use Rattle.rules_machine.specs.declared.frame.BodyOf.{BodyOf}
 use Rattle.rules_machine.specs.declared.frame.FrameKind.{FrameKind}

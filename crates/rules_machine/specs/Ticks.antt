@@ -3,8 +3,8 @@ use Rattle.std.specs.Prelude.{Bool, List, None, Option, Some, [], false, nat_lt,
 use Rattle.words_script.specs.declared.policy.Policy.{Policy}
 use Rattle.words_script.specs.declared.policy.Policy.TheVariants as policy
 use Rattle.words_trace.specs.declared.event.Event.TheVariants as event
-use Rattle.parts_server.specs.Server.{ServerState}
-use Rattle.script_code.specs.declared.unit.Unit.{Unit}
+use Rattle.rules_server.specs.Server.{ServerState}
+use Rattle.rules_bodies.specs.declared.unit.Unit.{Unit}
 use Rattle.rules_machine.specs.State.{Frame, Machine, Thread}
 use Rattle.rules_machine.specs.Threads.{can_run, is_blocked, is_runnable, thread_at, top_left}
 use Rattle.rules_machine.specs.Bodies.{Bodies}

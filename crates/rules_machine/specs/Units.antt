@@ -1,8 +1,8 @@
 -- The unit that a thread is in, or takes next. Units and their ticks are this project's own.
 use Rattle.std.specs.Prelude.{Bool, List, [], false, suc, true, zero, ℕ, ◌&&◌, ◌∷◌}
-use Rattle.script_code.specs.declared.unit.Unit.{Unit}
-use Rattle.script_code.specs.declared.unit.Unit.TheVariants as unit
-use Rattle.script_code.specs.Next.{ticks_of}
+use Rattle.rules_bodies.specs.declared.unit.Unit.{Unit}
+use Rattle.rules_bodies.specs.declared.unit.Unit.TheVariants as unit
+use Rattle.rules_bodies.specs.Next.{ticks_of}
 use Rattle.rules_machine.specs.declared.frame.BodyOf.TheVariants as body_of
 use Rattle.rules_machine.specs.declared.frame.FrameKind.TheVariants as frame
 use Rattle.rules_machine.specs.State.{Frame, Thread}

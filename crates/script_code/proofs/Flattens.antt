@@ -7,10 +7,10 @@ use Rattle.words_script.specs.declared.body.Body.TheDeep.{deep-Step}
 use Rattle.words_script.specs.declared.call.Call.TheVariants as call
 use Rattle.words_script.specs.declared.body.Step.{Step}
 use Rattle.words_script.specs.declared.body.Step.TheVariants as step
-use Rattle.script_code.specs.declared.op.Op.{Op}
-use Rattle.script_code.specs.declared.op.Op.TheVariants as op
-use Rattle.script_code.specs.Flat.{flat, op_number}
-use Rattle.script_code.proofs.Lands.{length-flat}
+use Rattle.rules_bodies.specs.declared.op.Op.{Op}
+use Rattle.rules_bodies.specs.declared.op.Op.TheVariants as op
+use Rattle.rules_bodies.specs.Flat.{flat, op_number}
+use Rattle.rules_bodies.proofs.Lands.{length-flat}
 
 flat-last : (head : List Op) (number : ℕ) (steps : List Step) (at : ℕ)
     → head ++ flat (at + number) (block_of steps) ≡ (head ++ []) ++ flat (at + (number + 0)) (block_of steps)

@@ -1,10 +1,4 @@
-pub mod Lands
-pub mod Places
-pub mod Agrees
 pub mod Safe
 pub mod Flattens
-pub mod Opens
-pub mod Examples
-pub mod Relative
 pub mod Told
 pub mod Packs

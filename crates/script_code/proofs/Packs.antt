@@ -4,11 +4,11 @@ use Rattle.std.proofs.lemmas.List.{get_or_append_left, map_push}
 use Rattle.std.proofs.lemmas.Option.{get_or_from_slice_get, slice_get_read, slice_get_within}
 use Rattle.words_script.specs.declared.call.Call.{Call}
 use Rattle.words_script.specs.declared.call.Call.TheVariants as call
-use Rattle.script_code.specs.declared.op.Op.{Op}
-use Rattle.script_code.specs.declared.op.Op.TheVariants as op
+use Rattle.rules_bodies.specs.declared.op.Op.{Op}
+use Rattle.rules_bodies.specs.declared.op.Op.TheVariants as op
 use Rattle.script_code.specs.declared.ops.Packed.{Packed}
 use Rattle.script_code.specs.declared.ops.Packed.TheVariants.{Run, Make, Yield, Lock, Unlock, Post, Sleep, Set, Add, Take, Test, Begin, Repeat, Again}
-use Rattle.script_code.specs.Fetch.{most_skipped}
+use Rattle.rules_bodies.specs.Fetch.{most_skipped}
 use Rattle.script_code.specs.Fetched.{call_at}
 use Rattle.script_code.specs.Packed.{AreIn, IsIn, all_unpacked, short_call, unpacked}
 

@@ -7,19 +7,19 @@ use Rattle.std.proofs.Math.Seq.{drop-append_seam}
 use Rattle.words_script.specs.Block.{Block, Nothing, Running, Making, Setting, Adding, Taking, Testing, Looping, Guarding}
 use Rattle.words_script.specs.Tree.{step_count}
 use Rattle.words_script.specs.declared.call.Call.TheVariants as call
-use Rattle.script_code.specs.declared.cursor.Cursor.{Cursor}
-use Rattle.script_code.specs.declared.op.Op.{Op}
-use Rattle.script_code.specs.declared.op.Op.TheVariants as op
-use Rattle.script_code.specs.declared.unit.Unit as unit
-use Rattle.script_code.specs.declared.unit.Unit.TheVariants.{Finish}
-use Rattle.script_code.specs.Next.{Place, At, In, rest_of, steps_from, holds}
-use Rattle.script_code.specs.Flat.{NumberedBodies, flat, op_number, nesting}
-use Rattle.script_code.specs.Fetch.{Effect, Gives, Skips, moved_on, innermost, outer, after_pass, carried_out, or_search, found_in, ops_of}
-use Rattle.script_code.specs.Stands.{step_at, op_at, counts_inside, counts_at, IsPlaced}
+use Rattle.rules_bodies.specs.declared.cursor.Cursor.{Cursor}
+use Rattle.rules_bodies.specs.declared.op.Op.{Op}
+use Rattle.rules_bodies.specs.declared.op.Op.TheVariants as op
+use Rattle.rules_bodies.specs.declared.unit.Unit as unit
+use Rattle.rules_bodies.specs.declared.unit.Unit.TheVariants.{Finish}
+use Rattle.rules_bodies.specs.Next.{Place, At, In, rest_of, steps_from, holds}
+use Rattle.rules_bodies.specs.Flat.{NumberedBodies, flat, op_number, nesting}
+use Rattle.rules_bodies.specs.Fetch.{Effect, Gives, Skips, moved_on, innermost, outer, after_pass, carried_out, or_search, found_in, ops_of}
+use Rattle.rules_bodies.specs.Stands.{step_at, op_at, counts_inside, counts_at, IsPlaced}
 use Rattle.script_code.specs.Ready.{open_loops, IsSafe, IsReady}
-use Rattle.script_code.proofs.Lands.{length-flat, forever_ops, loop_ops}
-use Rattle.script_code.proofs.Places.{ops_inside, ops_from, drop-flat, behind-place}
-use Rattle.script_code.proofs.Agrees.{ops_of-body}
+use Rattle.rules_bodies.proofs.Lands.{length-flat, forever_ops, loop_ops}
+use Rattle.rules_bodies.proofs.Places.{ops_inside, ops_from, drop-flat, behind-place}
+use Rattle.rules_bodies.proofs.Agrees.{ops_of-body}
 
 pub IsSafe-tail : (o : Op) (ops : List Op) → IsSafe (o ∷ ops) → IsSafe ops
 IsSafe-tail (op.Run n) ops h = h

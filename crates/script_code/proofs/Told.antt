@@ -3,18 +3,18 @@ use Rattle.std.proofs.Common.{◌≡◌, ℕ, zero, suc, ◌+◌, ◌≤◌, ◌
 use Rattle.std.proofs.lemmas.Option.{slice_get_read}
 use Rattle.words_script.specs.declared.call.Call.{Call}
 use Rattle.words_script.specs.declared.call.Call.TheVariants.{Yield}
-use Rattle.script_code.specs.declared.cursor.Cursor.{Cursor}
-use Rattle.script_code.specs.declared.op.Op.{Op}
-use Rattle.script_code.specs.declared.op.Op.TheVariants as op
-use Rattle.script_code.specs.declared.unit.Unit as unit
-use Rattle.script_code.specs.declared.unit.Unit.TheVariants.{Run, Make, Jump, Finish}
+use Rattle.rules_bodies.specs.declared.cursor.Cursor.{Cursor}
+use Rattle.rules_bodies.specs.declared.op.Op.{Op}
+use Rattle.rules_bodies.specs.declared.op.Op.TheVariants as op
+use Rattle.rules_bodies.specs.declared.unit.Unit as unit
+use Rattle.rules_bodies.specs.declared.unit.Unit.TheVariants.{Run, Make, Jump, Finish}
 use Rattle.script_code.specs.declared.fetched.Fetched.{Fetched}
 use Rattle.script_code.specs.declared.fetched.Fetched.TheVariants as a
 use Rattle.script_code.specs.declared.ops.Packed.{Packed}
 use Rattle.script_code.specs.declared.ops.Packed.TheVariants as kept
-use Rattle.script_code.specs.Fetch.{Effect, Gives, Skips, moved_on, innermost, after_pass, carried_out, fetched, found_in, most_skipped, ops_of}
+use Rattle.rules_bodies.specs.Fetch.{Effect, Gives, Skips, moved_on, innermost, after_pass, carried_out, fetched, found_in, most_skipped, ops_of}
 use Rattle.script_code.specs.Fetched.{StandsIn, call_at, fetched_at, fetched_from, told, unit_in, unit_of}
-use Rattle.script_code.specs.Flat.{NumberedBodies}
+use Rattle.rules_bodies.specs.Flat.{NumberedBodies}
 use Rattle.script_code.specs.Packed.{unpacked}
 use Rattle.script_code.specs.Ready.{IsSafe}
 use Rattle.script_code.proofs.Safe.{SearchesOn, search_finds, search_goes_on}

@@ -2,18 +2,18 @@
 use Rattle.std.specs.Prelude.{◌≡◌, ℕ, ◌+◌, Option, None, Some, List, slice_get}
 use Rattle.words_script.specs.declared.call.Call.{Call}
 use Rattle.words_script.specs.declared.call.Call.TheVariants as call
-use Rattle.script_code.specs.declared.cursor.Cursor.{Cursor}
-use Rattle.script_code.specs.declared.op.Op.{Op}
-use Rattle.script_code.specs.declared.op.Op.TheVariants as op
-use Rattle.script_code.specs.declared.unit.Unit as unit
-use Rattle.script_code.specs.declared.unit.Unit.TheVariants as a
+use Rattle.rules_bodies.specs.declared.cursor.Cursor.{Cursor}
+use Rattle.rules_bodies.specs.declared.op.Op.{Op}
+use Rattle.rules_bodies.specs.declared.op.Op.TheVariants as op
+use Rattle.rules_bodies.specs.declared.unit.Unit as unit
+use Rattle.rules_bodies.specs.declared.unit.Unit.TheVariants as a
 use Rattle.script_code.specs.declared.fetched.CallPlace.{CallPlace}
 use Rattle.script_code.specs.declared.fetched.Fetched.{Fetched}
 use Rattle.script_code.specs.declared.fetched.Fetched.TheVariants.{Run, Jump, Make, Yield, Lock, Unlock, Post, Sleep, Finish}
 use Rattle.script_code.specs.declared.ops.Packed.{Packed}
 use Rattle.script_code.specs.declared.ops.Packed.TheVariants as kept
-use Rattle.script_code.specs.Fetch.{Effect, Gives, Skips, ops_of}
-use Rattle.script_code.specs.Flat.{NumberedBodies}
+use Rattle.rules_bodies.specs.Fetch.{Effect, Gives, Skips, ops_of}
+use Rattle.rules_bodies.specs.Flat.{NumberedBodies}
 
 -- the call that an operation makes; `yield` where it makes none
 abbrev pub call_at : Option Op → Call

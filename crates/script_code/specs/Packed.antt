@@ -2,8 +2,8 @@
 use Rattle.std.specs.Prelude.{◌<◌, Option, None, Some, List, [], ◌∷◌, length, map, get_or}
 use Rattle.words_script.specs.declared.call.Call.{Call}
 use Rattle.words_script.specs.declared.call.Call.TheVariants as call
-use Rattle.script_code.specs.declared.op.Op.{Op}
-use Rattle.script_code.specs.declared.op.Op.TheVariants as op
+use Rattle.rules_bodies.specs.declared.op.Op.{Op}
+use Rattle.rules_bodies.specs.declared.op.Op.TheVariants as op
 use Rattle.script_code.specs.declared.ops.Packed.{Packed}
 use Rattle.script_code.specs.declared.ops.Packed.TheVariants.{Run, Make, Yield, Lock, Unlock, Post, Sleep, Set, Add, Take, Test, Begin, Repeat, Again}
 

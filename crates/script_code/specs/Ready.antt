@@ -1,9 +1,9 @@
 -- When a search through operations is safe: a test passes over no more operations than there are, and the counted loops round an
 -- operation are those that have passes left. The flat form of a body and the cursors in it are so.
 use Rattle.std.specs.Prelude.{ℕ, ◌≡◌, ◌+◌, ◌-◌, ◌<◌, ◌≤◌, List, [], ◌∷◌, length, drop}
-use Rattle.script_code.specs.declared.cursor.Cursor.{Cursor}
-use Rattle.script_code.specs.declared.op.Op.{Op}
-use Rattle.script_code.specs.declared.op.Op.TheVariants as op
+use Rattle.rules_bodies.specs.declared.cursor.Cursor.{Cursor}
+use Rattle.rules_bodies.specs.declared.op.Op.{Op}
+use Rattle.rules_bodies.specs.declared.op.Op.TheVariants as op
 
 -- how many counted loops are open in front of operations: those that are closed behind and not begun there
 abbrev pub open_loops : List Op → ℕ

@@ -4,12 +4,12 @@ ghost use Rattle.words_script.specs.Block.{Block};
 ghost use Rattle.words_script.specs.declared.call.Call.{Call};
 ghost use Rattle.words_script.specs.declared.call.Call.TheVariants.{Yield};
 ghost use Rattle.words_script.specs.Tree.{step_count};
-ghost use Rattle.script_code.specs.Next.{Place, body_start, register_limit};
-ghost use Rattle.script_code.specs.Flat.{IsFlattenable, bodies_of, body_list, flat, flat_form, with_decl};
-ghost use Rattle.script_code.specs.Fetch.{carried_out, innermost, most_skipped, pass_ended, started, fetched};
+ghost use Rattle.rules_bodies.specs.Next.{Place, body_start, register_limit};
+ghost use Rattle.rules_bodies.specs.Flat.{IsFlattenable, bodies_of, body_list, flat, flat_form, with_decl};
+ghost use Rattle.rules_bodies.specs.Fetch.{carried_out, innermost, most_skipped, pass_ended, started, fetched};
 ghost use Rattle.script_code.specs.Fetched.{call_of, told, unit_of};
 ghost use Rattle.script_code.specs.Packed.{unpacked};
-ghost use Rattle.script_code.specs.Stands.{IsBody, Stands, IsPlaced, Fetches};
+ghost use Rattle.rules_bodies.specs.Stands.{IsBody, Stands, IsPlaced, Fetches};
 
 use crate::flatten::flatten;
 use crate::next::{capped, holds};
@@ -33,8 +33,8 @@ pub struct Code {
 
 impl Model for Code {
     ghost use Rattle.std.specs.Prelude.{List};
-    ghost use Rattle.script_code.specs.Flat.{NumberedBodies};
-    ghost use Rattle.script_code.specs.declared.op.Op.{Op};
+    ghost use Rattle.rules_bodies.specs.Flat.{NumberedBodies};
+    ghost use Rattle.rules_bodies.specs.declared.op.Op.{Op};
 
     ghost Value = { NumberedBodies (List Op) };
 
@@ -201,67 +201,65 @@ impl Code {
     }
 }
 
-impl Cursor {
-    // Jumps back.
-    fn jump(&mut self, first: u32) -> Fetched
-        ensures place { self.new ≡ record self.old { pc = first } }
-        ensures unit { result ≡ Fetched.Jump }
-    {
-        self.pc = first;
-        Fetched::Jump
-    }
+// Jumps back.
+fn jump(at: &mut Cursor, first: u32) -> Fetched
+    ensures place { at.new ≡ record at.old { pc = first } }
+    ensures unit { result ≡ Fetched.Jump }
+{
+    at.pc = first;
+    Fetched::Jump
+}
 
-    // Ends a pass of the innermost counted loop: whether another one is left.
-    #[inline(never)]
-    fn end_pass(&mut self) -> bool
-        requires { length self.old.counts.items ≤ 15 }
-        ensures { pass_ended (innermost self.old.counts.items) self.old ≡ (self.new, result) }
-    {
-        match self.counts.pop() {
-            Some(passes) if passes > 1 => {
-                self.counts.push(passes - 1);
-                true
-            }
-            _ => false,
+// Ends a pass of the innermost counted loop: whether another one is left.
+#[inline(never)]
+fn end_pass(at: &mut Cursor) -> bool
+    requires { length at.old.counts.items ≤ 15 }
+    ensures { pass_ended (innermost at.old.counts.items) at.old ≡ (at.new, result) }
+{
+    match at.counts.pop() {
+        Some(passes) if passes > 1 => {
+            at.counts.push(passes - 1);
+            true
         }
+        _ => false,
     }
+}
 
-    // Carries out the operation of that number, behind which the cursor stands: the unit that it gives, or none where it takes no time.
-    #[inline(always)]
-    pub(crate) fn carry_out(&mut self, op: &Packed, number: u32) -> Option<Fetched>
-        requires few { length self.old.counts.items ≤ 15 }
-        requires room { self.old.pc + most_skipped (unpacked [] op.now) < 2 ^ 32 }
-        ensures { (calls : List Call) → told self.old.body number op.now (carried_out (unpacked calls op.now) self.old) ≡ (self.new, result) }
-    {
-        match *op {
-            Packed::Run(n) => return Some(Fetched::Run(n)),
-            Packed::Yield => return Some(Fetched::Yield),
-            Packed::Lock(k) => return Some(Fetched::Lock(k)),
-            Packed::Unlock(k) => return Some(Fetched::Unlock(k)),
-            Packed::Post(k) => return Some(Fetched::Post(k)),
-            Packed::Sleep(n) => return Some(Fetched::Sleep(n)),
-            Packed::Make(_) => {
-                return Some(Fetched::Make(CallPlace {
-                    body: self.body as usize,
-                    op: number as usize,
-                }));
-            }
-            Packed::Set(n) => self.register = capped(n),
-            Packed::Add(n) => self.register = capped(self.register.saturating_add(n)),
-            Packed::Take => self.register = capped(self.value),
-            Packed::Test { res, equal, skip } => {
-                if !holds(res, equal, self.result) {
-                    self.pc += skip;
-                }
-            }
-            Packed::Begin(times) => self.counts.push(times),
-            Packed::Repeat { first } => {
-                if self.end_pass() {
-                    return Some(self.jump(first));
-                }
-            }
-            Packed::Again { first } => return Some(self.jump(first)),
+// Carries out the operation of that number, behind which the cursor stands: the unit that it gives, or none where it takes no time.
+#[inline(always)]
+pub(crate) fn carry_out(at: &mut Cursor, op: &Packed, number: u32) -> Option<Fetched>
+    requires few { length at.old.counts.items ≤ 15 }
+    requires room { at.old.pc + most_skipped (unpacked [] op.now) < 2 ^ 32 }
+    ensures { (calls : List Call) → told at.old.body number op.now (carried_out (unpacked calls op.now) at.old) ≡ (at.new, result) }
+{
+    match *op {
+        Packed::Run(n) => return Some(Fetched::Run(n)),
+        Packed::Yield => return Some(Fetched::Yield),
+        Packed::Lock(k) => return Some(Fetched::Lock(k)),
+        Packed::Unlock(k) => return Some(Fetched::Unlock(k)),
+        Packed::Post(k) => return Some(Fetched::Post(k)),
+        Packed::Sleep(n) => return Some(Fetched::Sleep(n)),
+        Packed::Make(_) => {
+            return Some(Fetched::Make(CallPlace {
+                body: at.body as usize,
+                op: number as usize,
+            }));
         }
-        None
+        Packed::Set(n) => at.register = capped(n),
+        Packed::Add(n) => at.register = capped(at.register.saturating_add(n)),
+        Packed::Take => at.register = capped(at.value),
+        Packed::Test { res, equal, skip } => {
+            if !holds(res, equal, at.result) {
+                at.pc += skip;
+            }
+        }
+        Packed::Begin(times) => at.counts.push(times),
+        Packed::Repeat { first } => {
+            if end_pass(at) {
+                return Some(jump(at, first));
+            }
+        }
+        Packed::Again { first } => return Some(jump(at, first)),
     }
+    None
 }

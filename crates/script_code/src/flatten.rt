@@ -1,7 +1,7 @@
 // Trees of steps into flat operations.
 ghost use Rattle.std.specs.Prelude.{◌≡◌, ◌+◌, ◌<◌, ◌^◌, [], ◌∷◌, ◌++◌, length, OnOk};
 ghost use Rattle.words_script.specs.Tree.{block_of};
-ghost use Rattle.script_code.specs.Flat.{flat, op_number};
+ghost use Rattle.rules_bodies.specs.Flat.{flat, op_number};
 
 use crate::ops::{Ops, Packed};
 use words_script::{Body, Call, Step};

@@ -5,18 +5,13 @@
 #![tactic(auto)]
 
 mod code;
-mod cursor;
 mod fetched;
 mod flatten;
 mod next;
-mod op;
 mod ops;
-mod unit;
 mod units;
 
 pub use code::Code;
-pub use cursor::Cursor;
 pub use fetched::{CallPlace, Fetched};
-pub use op::Op;
-pub use unit::Unit;
+pub use rules_bodies::{Cursor, Op, Unit};
 pub use units::Units;

@@ -1,6 +1,6 @@
 // What a register may hold, and whether a test holds.
 ghost use Rattle.std.specs.Prelude.{◌≡◌};
-ghost use Rattle.script_code.specs.Next.{capped, holds};
+ghost use Rattle.rules_bodies.specs.Next.{capped, holds};
 
 use words_numbers::{Res, Tick};
 

@@ -1,7 +1,7 @@
 // The operations of a body as they are kept.
 ghost use Rattle.std.specs.Prelude.{◌≡◌, ◌<◌, [], ◌∷◌, ◌++◌, length, slice_get, slice_set, unwrap_or, IfSome, OnOk, OnErr, Some};
 ghost use Rattle.words_script.specs.declared.call.Call.TheVariants.{Yield};
-ghost use Rattle.script_code.specs.declared.op.Op.TheVariants.{Make, Test};
+ghost use Rattle.rules_bodies.specs.declared.op.Op.TheVariants.{Make, Test};
 ghost use Rattle.script_code.specs.Fetched.{call_at};
 ghost use Rattle.script_code.specs.Packed.{IsIn, all_unpacked, short_call, unpacked};
 
@@ -39,7 +39,7 @@ pub(crate) struct Ops {
 
 impl Model for Ops {
     ghost use Rattle.std.specs.Prelude.{List};
-    ghost use Rattle.script_code.specs.declared.op.Op.{Op};
+    ghost use Rattle.rules_bodies.specs.declared.op.Op.{Op};
 
     ghost Value = { List Op };
 

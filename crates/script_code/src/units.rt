@@ -1,13 +1,14 @@
 // The units of one body.
 ghost use Rattle.std.specs.Prelude.{◌≡◌, ◌≤◌, ◌<◌, ◌^◌, drop, length};
 ghost use Rattle.words_script.specs.Block.{Block};
-ghost use Rattle.script_code.specs.Fetch.{fetched, found_in, ops_of};
+ghost use Rattle.rules_bodies.specs.Fetch.{fetched, found_in, ops_of};
 ghost use Rattle.script_code.specs.Fetched.{StandsIn, unit_in, unit_of};
-ghost use Rattle.script_code.specs.Next.{Place};
+ghost use Rattle.rules_bodies.specs.Next.{Place};
 ghost use Rattle.script_code.specs.Ready.{IsReady};
-ghost use Rattle.script_code.specs.Stands.{Fetches, IsBody, IsPlaced, Stands};
+ghost use Rattle.rules_bodies.specs.Stands.{Fetches, IsBody, IsPlaced, Stands};
 
 use crate::ops::{Ops, Packed};
+use crate::code::carry_out;
 use crate::{Code, Cursor, Fetched};
 use words_script::Call;
 use std::marker::Model;
@@ -23,7 +24,7 @@ pub struct Units<'a> {
 
 impl<'a> Model for Units<'a> {
     ghost use Rattle.std.specs.Prelude.{◌≡◌};
-    ghost use Rattle.script_code.specs.Fetch.{OneBody, ops_of};
+    ghost use Rattle.rules_bodies.specs.Fetch.{OneBody, ops_of};
     ghost use Rattle.script_code.specs.Packed.{all_unpacked};
 
     ghost Value = { OneBody };
@@ -77,7 +78,7 @@ impl<'a> Units<'a> {
         while let Some(op) = self.packed.get(at.pc as usize) {
             let number = at.pc;
             at.pc += 1;
-            if let Some(unit) = at.carry_out(op, number) {
+            if let Some(unit) = carry_out(at, op, number) {
                 return unit;
             }
         }

@@ -23,8 +23,6 @@ mod signals;
 #[cfg(test)]
 mod table;
 #[cfg(test)]
-mod threads;
-#[cfg(test)]
 mod timers;
 #[cfg(test)]
 mod waits;

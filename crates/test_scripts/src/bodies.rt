@@ -2,8 +2,8 @@
 ghost use Rattle.std.specs.Prelude.{◌≡◌, ◌≤◌, [], ◌∷◌, IfOk};
 ghost use Rattle.words_script.specs.Block.{Nothing};
 ghost use Rattle.words_script.specs.Tree.{step_count};
-ghost use Rattle.script_code.specs.Flat.{nesting};
-ghost use Rattle.script_code.specs.Stands.{IsBody, IsPlaced};
+ghost use Rattle.rules_bodies.specs.Flat.{nesting};
+ghost use Rattle.rules_bodies.specs.Stands.{IsBody, IsPlaced};
 
 use script_code::{Code, Cursor, Fetched};
 use words_script::{Body, Call, Decl, Decls, Kind, Name, Policy, Script, Step};

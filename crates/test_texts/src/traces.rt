@@ -1,7 +1,8 @@
 // Each form of line against its literal, and sinks that fail.
 ghost use Rattle.std.specs.Prelude.{◌≡◌, length};
 
-use words_trace::{BudgetView, CallName, Event, Names, Report, Tracer, line_len};
+use parts_tracer::{Names, Tracer, line_len};
+use words_trace::{BudgetView, CallName, Event, Report};
 use parts_io::MemSink;
 use std::test::Fail;
 use words_numbers::{Prio, Res, SigCode, Tick, Tid};

@@ -1,7 +1,7 @@
 // The parts below, each public call once.
 ghost use Rattle.std.specs.Prelude.{◌≡◌};
 
-use words_trace::Tracer;
+use parts_tracer::Tracer;
 use parts_io::MemSink;
 use kernel_leaps::{Kernel, RunEnd};
 use std::alloc::Global;

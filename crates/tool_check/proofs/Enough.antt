@@ -7,8 +7,8 @@ use Rattle.std.proofs.lemmas.List.{take-append-drop}
 use Rattle.std.proofs.lemmas.List.Sums.{sum_by-append, common_prefix_len-le}
 use Rattle.script_lex.specs.Lines.{lines_of}
 use Rattle.script_lex.specs.Words.{onto_first}
-use Rattle.words_trace.specs.ShortLines.{column_after, HasShortLines}
-use Rattle.words_trace.specs.Printed.{Printed}
+use Rattle.parts_tracer.specs.ShortLines.{column_after, HasShortLines}
+use Rattle.parts_tracer.specs.Printed.{Printed}
 use Rattle.tool_check.specs.Difference.{common_len, line_ends, difference}
 use Rattle.tool_check.specs.Comparison.{comparison, comparison_at, difference_text, line_at}
 use Rattle.tool_check.proofs.Short.{end_behind, ends_here, ends_later}

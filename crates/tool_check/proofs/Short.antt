@@ -4,8 +4,8 @@ use Rattle.std.specs.Prelude.{◌==◌, nat_lt, is_some, slice_get, cond}
 use Rattle.std.proofs.lemmas.List.Sums.{sum_by-cons}
 use Rattle.script_lex.specs.Lines.{lines_of}
 use Rattle.script_lex.specs.Words.{onto_first}
-use Rattle.words_trace.specs.ShortLines.{column_after}
-use Rattle.words_trace.proofs.ShortLines.{column_behind, column-append}
+use Rattle.parts_tracer.specs.ShortLines.{column_after}
+use Rattle.parts_tracer.proofs.ShortLines.{column_behind, column-append}
 use Rattle.tool_check.specs.Difference.{line_ends}
 
 abbrev IsShort : ℕ → List ℕ → Type 0

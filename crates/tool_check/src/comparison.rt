@@ -2,7 +2,7 @@
 ghost use Rattle.std.specs.Prelude.{◌≡◌, ◌≤◌, ◌+◌, ◌++◌, [], Some, codes, decimal, length, is_some, slice_get, true, IfSome};
 ghost use Rattle.std.specs.Option.{option_map};
 ghost use Rattle.script_lex.specs.Lines.{lines_of};
-ghost use Rattle.words_trace.specs.ShortLines.{column_after};
+ghost use Rattle.parts_tracer.specs.ShortLines.{column_after};
 ghost use Rattle.tool_check.specs.Lines.{reading};
 ghost use Rattle.tool_check.specs.Comparison.{line_or_nothing, word_of_reading, word_or_nothing, difference_text, comparison};
 

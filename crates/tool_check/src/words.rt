@@ -7,6 +7,7 @@ ghost use Rattle.words_trace.specs.Calls.{call_word};
 ghost use Rattle.words_script.specs.Names.{is_name};
 ghost use Rattle.tool_check.specs.Words.{trace_words, words_ahead, is_plain, number_of, is_call, is_code};
 
+use parts_tracer::call_text;
 use words_trace::CallName;
 use script_table::{capped_value, is_number};
 use words_script::Name;
@@ -158,7 +159,7 @@ fn is_call_of(calls: &[CallName], word: &[u8]) -> bool
 {
     match calls {
         [] => false,
-        [call, rest @ ..] => word == call.word() || is_call_of(rest, word),
+        [call, rest @ ..] => word == call_text(*call) || is_call_of(rest, word),
     }
 }
 

@@ -1,7 +1,7 @@
 -- A kernel that was just opened: the text of its run, its closing lines after some ticks, and how busy it is.
 use Rattle.std.proofs.Common.{◌≡◌, ℕ, ◌∙◌, ap}
 use Rattle.words_script.specs.declared.decl.Script.{Script}
-use Rattle.script_code.specs.declared.cursor.Cursor.{Cursor}
+use Rattle.rules_bodies.specs.declared.cursor.Cursor.{Cursor}
 use Rattle.rules_machine.specs.Machine.{bodies_of, closing, names_of, trace}
 use Rattle.rules_machine.specs.Runs.{Ran, opening, ticks}
 use Rattle.rules_machine.specs.Eventful.{busy}

@@ -1,13 +1,13 @@
 -- What is promised of the run of each script that is read or generated.
 use Rattle.std.proofs.Common.{◌≡◌, ℕ, List, Ok, refl}
 use Rattle.laws_canonical_text.proofs.Again.{upgraded_again}
-use Rattle.laws_moves.proofs.Runs.Units.{bodies_fit}
+use Rattle.rules_moves.proofs.Runs.Units.{bodies_fit}
 use Rattle.rules_machine.specs.Machine.{bodies_of}
 use Rattle.rules_machine.specs.Runs.{opening}
 use Rattle.laws_window.specs.Before.{RunsAsBefore}
 use Rattle.laws_window.specs.Window.{RunKeepsWindows}
 use Rattle.laws_window.proofs.InWindow as windows
-use Rattle.script_code.specs.Next.{Place}
+use Rattle.rules_bodies.specs.Next.{Place}
 use Rattle.script_writer.specs.Canon.{canon}
 use Rattle.script_writer.specs.Upgraded.{upgraded}
 use Rattle.laws_versions.specs.Versions.{RunsAlike}

@@ -1,7 +1,7 @@
 -- The next serial of a run, which the laws of the kernel bound over flat code.
 use Rattle.std.proofs.Common.{◌≡◌, ◌≤◌, ◌<◌, ◌^◌, ℕ, List, Ok, ap, arith}
 use Rattle.words_script.specs.declared.decl.Script.{Script}
-use Rattle.script_code.specs.declared.cursor.Cursor.{Cursor}
+use Rattle.rules_bodies.specs.declared.cursor.Cursor.{Cursor}
 use Rattle.script_table.specs.Table.{patterns}
 use Rattle.script_table.specs.Read.{read}
 use Rattle.rules_machine.specs.Machine.{bodies_of, machine}

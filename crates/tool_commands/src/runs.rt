@@ -1,7 +1,7 @@
 // Runs of scripts.
 ghost use Rattle.std.specs.Prelude.{◌≡◌, ◌≤◌, ◌+◌, ◌^◌, false, IfOk, OnOk, OnErr};
-ghost use Rattle.words_trace.specs.Prints.{Prints};
-ghost use Rattle.words_trace.specs.Printed.{Printed, outlet};
+ghost use Rattle.parts_tracer.specs.Prints.{Prints};
+ghost use Rattle.parts_tracer.specs.Printed.{Printed, outlet};
 ghost use Rattle.rules_flat_code.specs.FlatBodies.{flat_bodies};
 ghost use Rattle.rules_flat_code.specs.Runnable.{IsRunnable};
 ghost use Rattle.rules_machine.specs.Eventful.{busy};
@@ -11,7 +11,7 @@ ghost use Rattle.rules_machine.specs.WellFormed.{IsWellFormed};
 ghost use Rattle.kernel_leaps.specs.Ran.{kernel_trace, ticked_by};
 ghost use Rattle.tool_commands.specs.Answer.{closing_lines};
 
-use words_trace::Tracer;
+use parts_tracer::Tracer;
 use parts_io::{NullSink, Sink};
 use kernel_leaps::Kernel;
 use words_script::Script;

@@ -10,7 +10,7 @@ ghost use Rattle.rules_machine.specs.Machine.{bodies_of, trace};
 ghost use Rattle.rules_machine.specs.Runs.{opening};
 ghost use Rattle.laws_window.specs.Before.{RunsAsBefore};
 ghost use Rattle.laws_window.specs.Window.{RunKeepsWindows};
-ghost use Rattle.script_code.specs.Next.{Place};
+ghost use Rattle.rules_bodies.specs.Next.{Place};
 ghost use Rattle.script_writer.specs.Canon.{canon};
 ghost use Rattle.script_writer.specs.Upgraded.{upgraded};
 ghost use Rattle.laws_versions.specs.Versions.{RunsAlike};

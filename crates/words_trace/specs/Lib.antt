@@ -1,7 +1,2 @@
 pub mod Calls
 pub mod Text
-pub mod ShortLines
-pub mod Printed
-pub mod Prints
-pub mod Tells
-pub mod Placed

@@ -1,7 +1,7 @@
 -- A thread that came to run by a signal or a timer has a direct move.
 use Rattle.std.proofs.Common.{◌≡◌, ℕ, zero, suc, None, Option, Some, ap, refl, sym, ◌∙◌}
 use Rattle.std.specs.Prelude.{◌+◌, ◌&&◌}
-use Rattle.parts_lists.specs.Threads.{stands_in}
+use Rattle.rules_lists.specs.Threads.{stands_in}
 use Rattle.words_numbers.specs.Signals.{has_signal}
 use Rattle.words_numbers.specs.declared.res.Res.TheVariants as res
 use Rattle.words_trace.specs.declared.event.Event.TheVariants as event

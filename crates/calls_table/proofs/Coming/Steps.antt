@@ -1,10 +1,10 @@
 -- A thread that came to run has a direct move: the steps of which effects are made.
 use Rattle.std.proofs.Common.{◌≡◌, ℕ, zero, suc, List, [], ◌∷◌, ◌++◌, Bool, true, false, ap, arith, refl, sym, ◌∙◌}
 use Rattle.std.specs.Prelude.{None, Option, Some, ◌==◌, ◌&&◌, slice_index_or, if◌then◌else◌}
-use Rattle.parts_lists.specs.Threads.{stands_in}
+use Rattle.rules_lists.specs.Threads.{stands_in}
 use Rattle.words_numbers.specs.declared.res.Res.{Res}
 use Rattle.words_numbers.specs.declared.res.Res.TheVariants as res
-use Rattle.parts_server.specs.Server.{ServerState, activate, oldest_pending, refill}
+use Rattle.rules_server.specs.Server.{ServerState, activate, oldest_pending, refill}
 use Rattle.words_trace.specs.declared.event.Event.{Event}
 use Rattle.words_trace.specs.declared.event.Event.TheVariants as event
 use Rattle.rules_machine.specs.Bodies.{Bodies}

@@ -5,7 +5,7 @@ use Rattle.std.specs.List.{range_with_len}
 use mathlib.Core.Path.{◌∙◌}
 use Rattle.words_numbers.specs.declared.item.Item.{Item}
 use Rattle.words_numbers.specs.declared.item.Item.TheVariants as item
-use Rattle.parts_server.specs.Server.{next_due}
+use Rattle.rules_server.specs.Server.{next_due}
 use Rattle.rules_machine.specs.Agenda.{Coming, agenda, coming_at, coming_of, due_by, items_due}
 use Rattle.rules_machine.specs.Bodies.{Bodies}
 use Rattle.rules_machine.specs.DueItems.{first_item, next_item, refill_due, start_due, start_in, timeout_due, timer_due}
@@ -14,7 +14,7 @@ use Rattle.rules_machine.specs.State.{Machine, Thread, Waiting}
 use Rattle.rules_machine.specs.Threads.{no_thread, thread_at, thread_numbers, waiting_in}
 use Rattle.rules_machine.specs.Units.{in_unit}
 use Rattle.rules_machine.proofs.Reading.{changed-length}
-use Rattle.laws_moves.proofs.Runs.Ticks.{in_unit_status}
+use Rattle.rules_moves.proofs.Runs.Ticks.{in_unit_status}
 use Rattle.laws_machine.proofs.Agenda.{due_are_of_agenda}
 use Rattle.laws_machine.proofs.Lists.Kept.{Plans, in_unit_plans}
 use Rattle.rules_leaps.specs.Leap.{ticks_to_next}

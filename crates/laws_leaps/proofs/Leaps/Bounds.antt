@@ -7,7 +7,7 @@ use Rattle.words_numbers.specs.declared.item.Item.{Item}
 use Rattle.words_numbers.specs.declared.item.Item.TheVariants as item
 use Rattle.words_script.specs.declared.policy.Policy.{Policy}
 use Rattle.words_script.specs.declared.policy.Policy.TheVariants as policy
-use Rattle.parts_server.specs.Server.{ServerState, charge_ticks, is_high, next_due}
+use Rattle.rules_server.specs.Server.{ServerState, charge_ticks, is_high, next_due}
 use Rattle.rules_machine.specs.declared.dispatch.LastDispatch.TheVariants as last
 use Rattle.rules_machine.specs.Lists.{changed_at}
 use Rattle.rules_machine.specs.Bodies.{Bodies}
@@ -21,8 +21,8 @@ use Rattle.rules_machine.specs.Eventful.{has_item, head_matters, tick_matters, u
 use Rattle.rules_machine.proofs.Reading.{changed-length, thread-same}
 use Rattle.rules_leaps.specs.Quiet.{after_ticks, frames_after, head_after, server_after, slice_after}
 use Rattle.rules_leaps.specs.Leap.{later_by}
-use Rattle.laws_moves.proofs.Waiters.OfThreads.{changed_is}
-use Rattle.laws_moves.proofs.Runs.Ticks.{in_unit_status}
+use Rattle.rules_moves.proofs.Waiters.OfThreads.{changed_is}
+use Rattle.rules_moves.proofs.Runs.Ticks.{in_unit_status}
 use Rattle.laws_machine.proofs.Lists.Kept.{Plans, in_unit_plans}
 use Rattle.laws_machine.proofs.Signals.Takers.{charge_of}
 use Rattle.laws_leaps.proofs.Quiet.Runs.{charges}

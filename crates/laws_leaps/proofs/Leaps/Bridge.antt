@@ -1,7 +1,7 @@
 -- Charges of a machine are charges alone of it as its head begins its tick.
 use Rattle.std.proofs.Common.{Bool, None, Option, Some, ap, arith, false, refl, suc, sym, true, zero, ℕ, ◌<◌, ◌≡◌}
 use mathlib.Core.Path.{subst, ◌∙◌}
-use Rattle.parts_ready.specs.Lists.{highest}
+use Rattle.rules_lists.specs.Lists.{highest}
 use Rattle.rules_machine.specs.Bodies.{Bodies}
 use Rattle.rules_machine.specs.State.{Machine}
 use Rattle.rules_machine.specs.Turns.{Turn, turn_of}
@@ -10,7 +10,7 @@ use Rattle.rules_machine.specs.Dispatch.{head}
 use Rattle.rules_machine.specs.Eventful.{has_item, head_matters, unless_ended}
 use Rattle.rules_machine.specs.Ticks.{prepares}
 use Rattle.rules_machine.proofs.Parts.{prepares_unended}
-use Rattle.laws_moves.proofs.Runs.Preparing.{prepared}
+use Rattle.rules_moves.proofs.Runs.Preparing.{prepared}
 use Rattle.rules_leaps.specs.Quiet.{at_head, charged_head, charged_unless_killed, one_charge}
 use Rattle.laws_leaps.proofs.Quiet.Prepared.{Begun, begun_head, charged_begun, one_plain, plain_charges, plain_unless_killed, prepared_lists}
 use Rattle.laws_leaps.proofs.Quiet.Runs.{charges}

@@ -16,8 +16,8 @@ use Rattle.rules_machine.specs.Runs.{Ran, follow, tick_of, ticks}
 use Rattle.rules_machine.specs.Eventful.{head_matters, unless_ended}
 use Rattle.rules_machine.specs.Ticks.{goes_on, prepares}
 use Rattle.rules_machine.proofs.Standing.{one_if}
-use Rattle.laws_moves.proofs.Waiters.Best.{Each}
-use Rattle.laws_moves.proofs.Runs.Listed.{AllRun, head_can_run}
+use Rattle.rules_moves.proofs.Waiters.Best.{Each}
+use Rattle.rules_moves.proofs.Runs.Listed.{AllRun, head_can_run}
 use Rattle.laws_machine.proofs.Lists.Places.{Stand}
 use Rattle.laws_machine.proofs.Sweeps.Visits.{Quiet}
 use Rattle.laws_leaps.proofs.Quiet.Ticks.{idle_items}
@@ -26,7 +26,7 @@ use Rattle.laws_leaps.proofs.Quiet.Charges.{QuietTick, StaysSo, charged_can_run,
 use Rattle.rules_leaps.specs.Quiet.{charged_head, charged_unless_killed, one_charge, told_with_dispatch}
 use Rattle.laws_leaps.proofs.Quiet.Runs.{charges}
 use Rattle.laws_leaps.proofs.Quiet.Events.{nothing_more, silent}
-use Rattle.laws_moves.proofs.Runs.Preparing.{alike_listed}
+use Rattle.rules_moves.proofs.Runs.Preparing.{alike_listed}
 
 each_by : {X : Type 0} (A B : X → Type 0) → ((x : X) → A x → B x) → (xs : List X) → Each A xs → Each B xs
 each_by A B f [] each = tt

@@ -4,8 +4,8 @@ use Rattle.std.specs.Prelude.{length, nat_lt, option_and_then, option_map, ◌-�
 use mathlib.Core.Path.{ap₂, subst, ◌∙◌}
 use Rattle.words_script.specs.declared.policy.Policy.{Policy}
 use Rattle.words_script.specs.declared.policy.Policy.TheVariants as policy
-use Rattle.parts_server.specs.Server.{ServerState, assigned, charge_ticks, is_high}
-use Rattle.parts_server.proofs.Laws.{charge_ticks_is}
+use Rattle.rules_server.specs.Server.{ServerState, assigned, charge_ticks, is_high}
+use Rattle.rules_server.proofs.Laws.{charge_ticks_is}
 use Rattle.rules_machine.specs.declared.frame.FrameKind.{FrameKind}
 use Rattle.rules_machine.specs.declared.dispatch.LastDispatch.TheVariants as last
 use Rattle.rules_machine.specs.Bodies.{Bodies}
@@ -23,9 +23,9 @@ use Rattle.rules_machine.specs.Turns.{Turn, settles_since, turn_of, with_thread}
 use Rattle.rules_machine.specs.Units.{in_unit}
 use Rattle.rules_machine.proofs.Reading.{thread-same}
 use Rattle.rules_machine.proofs.Standing.{stands}
-use Rattle.laws_moves.proofs.Runs.Ticks.{in_unit_status}
-use Rattle.laws_moves.proofs.Waiters.Best.{running_within}
-use Rattle.laws_moves.proofs.Waiters.OfThreads.{changed_is}
+use Rattle.rules_moves.proofs.Runs.Ticks.{in_unit_status}
+use Rattle.rules_moves.proofs.Waiters.Best.{running_within}
+use Rattle.rules_moves.proofs.Waiters.OfThreads.{changed_is}
 use Rattle.laws_machine.proofs.Lists.Kept.{Plans, in_unit_plans}
 use Rattle.laws_machine.proofs.Lists.Places.{Stand, settled_stays}
 use Rattle.laws_machine.proofs.Signals.Ignored.{sent}

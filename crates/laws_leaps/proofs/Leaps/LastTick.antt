@@ -3,11 +3,11 @@
 use Rattle.std.proofs.Common.{Bool, List, None, Option, Some, [], ap, arith, false, refl, suc, sym, true, zero, ℕ, ◌∷◌, ◌≡◌}
 use Rattle.std.specs.Prelude.{is_some, not, option_map, ◌-◌, ◌&&◌, if◌then◌else◌}
 use mathlib.Core.Path.{subst, ◌∙◌}
-use Rattle.parts_lists.specs.Threads.{stands_in}
-use Rattle.script_code.specs.declared.unit.Unit.{Unit}
-use Rattle.script_code.specs.declared.unit.Unit.TheVariants as unit
-use Rattle.script_code.specs.Next.{ticks_of}
-use Rattle.parts_server.specs.Server.{ServerState, charge_ticks, is_high}
+use Rattle.rules_lists.specs.Threads.{stands_in}
+use Rattle.rules_bodies.specs.declared.unit.Unit.{Unit}
+use Rattle.rules_bodies.specs.declared.unit.Unit.TheVariants as unit
+use Rattle.rules_bodies.specs.Next.{ticks_of}
+use Rattle.rules_server.specs.Server.{ServerState, charge_ticks, is_high}
 use Rattle.rules_machine.specs.declared.dispatch.LastDispatch.TheVariants as last
 use Rattle.rules_machine.specs.Bodies.{Bodies}
 use Rattle.rules_machine.specs.State.{Frame, Machine, Thread}
@@ -26,7 +26,7 @@ use Rattle.rules_machine.proofs.Reading.{thread-same}
 use Rattle.rules_leaps.specs.Quiet.{after_ticks, head_after, server_after}
 use Rattle.rules_leaps.specs.Leap.{leap_runs, unit_leapt}
 use Rattle.laws_machine.proofs.Lists.Kept.{Plans, in_unit_plans}
-use Rattle.laws_moves.proofs.Runs.Ticks.{charged_turn}
+use Rattle.rules_moves.proofs.Runs.Ticks.{charged_turn}
 use Rattle.laws_leaps.proofs.Quiet.Ticks.{left_over}
 use Rattle.rules_leaps.specs.Quiet.{after_quiet}
 use Rattle.laws_leaps.proofs.Quiet.Charges.{charged_can_run, charged_exec}

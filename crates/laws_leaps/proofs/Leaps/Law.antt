@@ -2,7 +2,7 @@
 use Rattle.std.proofs.Common.{Bool, List, None, Option, Some, [], ap, arith, refl, suc, sym, true, zero, ℕ, ◌+◌, ◌++◌, ◌≡◌}
 use mathlib.Core.Path.{subst, ◌∙◌}
 use Rattle.words_trace.specs.Text.{Entry}
-use Rattle.parts_server.specs.Server.{ServerState, charge_ticks, is_high}
+use Rattle.rules_server.specs.Server.{ServerState, charge_ticks, is_high}
 use Rattle.rules_machine.specs.declared.dispatch.LastDispatch.{LastDispatch}
 use Rattle.rules_machine.specs.declared.dispatch.LastDispatch.TheVariants as last
 use Rattle.rules_machine.specs.Bodies.{Bodies}
@@ -20,10 +20,10 @@ use Rattle.rules_machine.proofs.Behind.{AddsBehind, behind}
 use Rattle.rules_machine.proofs.BehindTicks.{completes_behind, sweeps_behind, tick_ends_behind}
 use Rattle.rules_leaps.specs.Quiet.{after_ticks}
 use Rattle.rules_leaps.specs.Leap.{later_by, leap, leap_goes_on, leap_head, leap_runs, unit_leapt}
-use Rattle.laws_moves.proofs.Waiters.Best.{running_within}
-use Rattle.laws_moves.proofs.Runs.Listed.{head_can_run}
-use Rattle.laws_moves.proofs.Runs.Ticks.{dispatched}
-use Rattle.laws_moves.proofs.Runs.Since.{dispatched_direct}
+use Rattle.rules_moves.proofs.Waiters.Best.{running_within}
+use Rattle.rules_moves.proofs.Runs.Listed.{head_can_run}
+use Rattle.rules_moves.proofs.Runs.Ticks.{dispatched}
+use Rattle.rules_moves.proofs.Runs.Since.{dispatched_direct}
 use Rattle.rules_leaps.specs.Quiet.{told_with_dispatch}
 use Rattle.laws_leaps.proofs.Quiet.Runs.{charges}
 use Rattle.laws_leaps.proofs.Quiet.Once.{StaysHigh, charged_is, idle_once, Begins}
@@ -31,7 +31,7 @@ use Rattle.laws_leaps.proofs.Quiet.Events.{nothing_more}
 use Rattle.laws_leaps.proofs.Leaps.Calm.{Calm, Handled, calm_then_tick, charges_handled, tick_handled, steady}
 use Rattle.laws_leaps.proofs.Leaps.LastTick.{last_is_leap}
 use Rattle.rules_machine.proofs.Parts.{prepares_unended}
-use Rattle.laws_moves.proofs.Runs.Preparing.{alike_runs}
+use Rattle.rules_moves.proofs.Runs.Preparing.{alike_runs}
 use Rattle.laws_leaps.proofs.Quiet.Prepared.{Begun, prepares_nothing}
 use Rattle.laws_leaps.proofs.Quiet.Charges.{prepared_machine, sent_last}
 use Rattle.laws_leaps.proofs.Leaps.Bridge.{bridge, going_at, plain_of, ready_alive, ready_first}

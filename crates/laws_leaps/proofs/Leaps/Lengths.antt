@@ -6,7 +6,7 @@ use mathlib.Core.Path.{subst, ◌∙◌}
 use Rattle.words_script.specs.declared.policy.Policy.{Policy}
 use Rattle.words_script.specs.declared.policy.Policy.TheVariants as policy
 use Rattle.words_trace.specs.declared.event.Event.{Event}
-use Rattle.parts_server.specs.Server.{ServerState, activate, charge_ticks, is_high, plan}
+use Rattle.rules_server.specs.Server.{ServerState, activate, charge_ticks, is_high, plan}
 use Rattle.rules_machine.specs.Bodies.{Bodies}
 use Rattle.rules_machine.specs.State.{Frame, Machine, Thread}
 use Rattle.rules_machine.specs.Threads.{can_run, no_thread, thread_at, top_left}
@@ -19,9 +19,9 @@ use Rattle.rules_machine.specs.Ticks.{capacity_in, prepares, slice_is_used, unle
 use Rattle.rules_machine.specs.Runs.{Ran, ran, ticks}
 use Rattle.rules_machine.specs.Eventful.{has_item, is_eventful, next_tick_matters, tick_matters}
 use Rattle.rules_machine.proofs.Reading.{changed-keeps}
-use Rattle.laws_moves.proofs.Waiters.Best.{running_within}
-use Rattle.laws_moves.proofs.Runs.Preparing.{PreparingKeeps, alike_runs, prepares_keep}
-use Rattle.laws_moves.proofs.Runs.Listed.{head_can_run}
+use Rattle.rules_moves.proofs.Waiters.Best.{running_within}
+use Rattle.rules_moves.proofs.Runs.Preparing.{PreparingKeeps, alike_runs, prepares_keep}
+use Rattle.rules_moves.proofs.Runs.Listed.{head_can_run}
 use Rattle.laws_machine.proofs.Agenda.{due_are_of_agenda}
 use Rattle.laws_machine.proofs.Lists.Kept.{Plans, in_unit_plans}
 use Rattle.rules_leaps.specs.Quiet.{after_ticks, frames_after, server_after, slice_after}

@@ -11,8 +11,8 @@ use Rattle.rules_machine.proofs.ItemsEnd.{instant_ends}
 use Rattle.rules_leaps.specs.Leap.{AreLeaps, IsLeap, in_leaps, leap_length}
 use Rattle.laws_leaps.proofs.Quiet.Runs.{handled_stands, handled_swept}
 use Rattle.rules_machine.specs.Bodies.{Bodies}
-use Rattle.laws_moves.specs.UnitRanges.{BodiesFit}
-use Rattle.laws_moves.proofs.Runs.Units.{bodies_fit}
+use Rattle.rules_moves.specs.UnitRanges.{BodiesFit}
+use Rattle.rules_moves.proofs.Runs.Units.{bodies_fit}
 use Rattle.laws_leaps.proofs.Leaps.Lengths.{is_leap}
 use Rattle.laws_leaps.proofs.Leaps.Counts.{StaysReady, are_leaps, busy_later, ready_on}
 

@@ -3,7 +3,7 @@
 use Rattle.std.proofs.Common.{Bool, List, None, Option, Some, [], ap, arith, false, length, refl, suc, sym, true, zero, ℕ, ◌+◌, ◌<◌, ◌≤◌, ◌∷◌, ◌≡◌}
 use Rattle.std.specs.Prelude.{nat_lt, slice_index_or, ◌-◌, ◌==◌, ◌&&◌, if◌then◌else◌}
 use mathlib.Core.Path.{subst, ◌∙◌}
-use Rattle.parts_lists.specs.Threads.{times}
+use Rattle.rules_lists.specs.Threads.{times}
 use Rattle.rules_machine.specs.Bodies.{Bodies}
 use Rattle.rules_machine.specs.State.{Machine}
 use Rattle.rules_machine.specs.Threads.{can_run}
@@ -15,8 +15,8 @@ use Rattle.rules_machine.specs.Dispatch.{head}
 use Rattle.rules_machine.specs.Runs.{Ran, ticks}
 use Rattle.rules_machine.specs.Eventful.{has_item, is_eventful, next_tick_matters, unless_ended}
 use Rattle.rules_machine.proofs.Standing.{one_if, stands}
-use Rattle.laws_moves.proofs.Waiters.Best.{Each, running_within}
-use Rattle.laws_moves.proofs.Runs.Listed.{head_can_run}
+use Rattle.rules_moves.proofs.Waiters.Best.{Each, running_within}
+use Rattle.rules_moves.proofs.Runs.Listed.{head_can_run}
 use Rattle.laws_machine.proofs.Lists.Places.{Stand}
 use Rattle.rules_leaps.specs.Quiet.{AreCharges, IsHandled, IsQuiet, at_once, one_charge, ticks_of_head, ticks_unless_killed, told_with_dispatch}
 use Rattle.laws_leaps.proofs.Quiet.Ticks.{idle_items}
@@ -26,7 +26,7 @@ use Rattle.laws_leaps.proofs.Leaps.Calm.{Calm, Handled, calm_ticks, matters_afte
 use Rattle.laws_leaps.proofs.Leaps.Bounds.{more_calm, no_calm}
 use Rattle.laws_leaps.proofs.Leaps.Ended.{ended_stays}
 use Rattle.rules_machine.specs.Ticks.{prepares}
-use Rattle.laws_moves.proofs.Runs.Preparing.{alike_runs}
+use Rattle.rules_moves.proofs.Runs.Preparing.{alike_runs}
 use Rattle.laws_leaps.proofs.Leaps.Bridge.{bridge, matters_at, ready_alive, ready_first}
 
 -- ---- where the threads stand, by the index of a list

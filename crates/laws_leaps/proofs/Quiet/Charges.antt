@@ -6,7 +6,7 @@ use Rattle.words_script.specs.declared.policy.Policy.{Policy}
 use Rattle.words_script.specs.declared.policy.Policy.TheVariants as policy
 use Rattle.words_trace.specs.Text.{Entry}
 use Rattle.rules_machine.specs.declared.dispatch.LastDispatch.{LastDispatch}
-use Rattle.parts_server.specs.Server.{ServerState, activate, assigned, charge, is_high, plan}
+use Rattle.rules_server.specs.Server.{ServerState, activate, assigned, charge, is_high, plan}
 use Rattle.rules_machine.specs.Lists.{changed_at}
 use Rattle.rules_machine.specs.Bodies.{Bodies}
 use Rattle.rules_machine.specs.State.{Machine, Status, Thread, Waiting, blocked, dormant, ended, runnable, Frame}
@@ -22,12 +22,12 @@ use Rattle.rules_machine.specs.Ticks.{TickEnd, capacity_in, completes_at, ends_t
 use Rattle.rules_machine.specs.Eventful.{head_matters, tick_matters, unless_ended}
 use Rattle.rules_machine.proofs.Reading.{thread-same}
 use Rattle.rules_machine.proofs.Standing.{stands}
-use Rattle.laws_moves.proofs.Waiters.Best.{running_within}
-use Rattle.laws_moves.proofs.Waiters.OfThreads.{changed_is}
-use Rattle.laws_moves.proofs.Runs.Listed.{AllRun, head_can_run}
+use Rattle.rules_moves.proofs.Waiters.Best.{running_within}
+use Rattle.rules_moves.proofs.Waiters.OfThreads.{changed_is}
+use Rattle.rules_moves.proofs.Runs.Listed.{AllRun, head_can_run}
 use Rattle.laws_machine.proofs.Lists.Places.{Stand, settled_stays}
-use Rattle.laws_moves.proofs.Runs.Ticks.{charged_turn, dispatched, in_unit_status}
-use Rattle.laws_moves.proofs.Runs.Since.{dispatched_direct}
+use Rattle.rules_moves.proofs.Runs.Ticks.{charged_turn, dispatched, in_unit_status}
+use Rattle.rules_moves.proofs.Runs.Since.{dispatched_direct}
 use Rattle.laws_machine.proofs.Lists.Kept.{Plans, in_unit_plans, stand_prepared, strict_high}
 use Rattle.laws_machine.proofs.Signals.Ignored.{sent}
 use Rattle.laws_machine.proofs.Sweeps.Visits.{Quiet, sweeps_nothing}
@@ -35,7 +35,7 @@ use Rattle.laws_leaps.proofs.Quiet.Ticks.{left_over, quiet_end}
 use Rattle.rules_leaps.specs.Quiet.{charged_head, charged_unless_killed, one_charge, told_with_dispatch}
 use Rattle.laws_machine.proofs.Signals.Takers.{Taker, charge_of, charged_taker, taken_by, taker_of}
 use Rattle.rules_machine.proofs.BehindTicks.{prepares_behind}
-use Rattle.laws_moves.proofs.Runs.Preparing.{Alike, PreparingKeeps, alike_runs, prepares_keep}
+use Rattle.rules_moves.proofs.Runs.Preparing.{Alike, PreparingKeeps, alike_runs, prepares_keep}
 use Rattle.laws_machine.proofs.Servers.Right.{run_parts}
 use Rattle.laws_machine.proofs.Sweeps.Kept.{Swept, swept_dispatched, swept_planned, swept_served}
 use Rattle.laws_leaps.proofs.Quiet.Once.{less_high}

@@ -2,7 +2,7 @@
 use Rattle.std.proofs.Common.{Bool, List, None, Option, Some, [], ap, arith, false, refl, suc, sym, true, zero, ℕ, ◌+◌, ◌<◌, ◌≤◌, ◌∷◌, ◌++◌, ◌≡◌}
 use mathlib.Core.Path.{◌∙◌}
 use Rattle.words_script.specs.declared.decl.Script.{Script}
-use Rattle.script_code.specs.Next.{Place}
+use Rattle.rules_bodies.specs.Next.{Place}
 use Rattle.words_trace.specs.Text.{Entry}
 use Rattle.rules_machine.specs.Bodies.{Bodies}
 use Rattle.rules_machine.specs.State.{Machine}
@@ -15,10 +15,10 @@ use Rattle.rules_machine.specs.WellFormed.{IsWellFormed}
 use Rattle.rules_leaps.specs.Quiet.{IsQuietBetween, told_with_dispatch}
 use Rattle.rules_leaps.specs.Quiet.{charged_head, charged_unless_killed, one_charge, told_with_dispatch}
 use Rattle.laws_leaps.proofs.Quiet.Runs.{first_of, handled, handled_nothing, later_by, later_is, tick_charges, tick_quiet}
-use Rattle.parts_ready.specs.Lists.{highest}
+use Rattle.rules_lists.specs.Lists.{highest}
 use Rattle.rules_machine.specs.Ticks.{prepares}
 use Rattle.rules_machine.proofs.Parts.{prepares_unended}
-use Rattle.laws_moves.proofs.Runs.Preparing.{prepared}
+use Rattle.rules_moves.proofs.Runs.Preparing.{prepared}
 use Rattle.laws_leaps.proofs.Quiet.Prepared.{charged_begun, prepared_lists, prepares_nothing}
 
 pub nothing_more : {X : Type 0} (xs : List X) → xs ++ [] ≡ xs

@@ -3,7 +3,7 @@
 use Rattle.std.proofs.Common.{ap, arith, false, suc, sym, zero, ℕ, ◌+◌, ◌<◌, ◌≤◌, ◌≡◌}
 use mathlib.Core.Path.{subst, ◌∙◌}
 use Rattle.words_script.specs.declared.decl.Script.{Script}
-use Rattle.script_code.specs.Next.{Place}
+use Rattle.rules_bodies.specs.Next.{Place}
 use Rattle.rules_machine.specs.State.{Machine}
 use Rattle.rules_machine.specs.Turns.{Turn, turn_of}
 use Rattle.rules_machine.specs.Runs.{opening}
@@ -11,7 +11,7 @@ use Rattle.rules_machine.specs.Machine.{bodies_of, machine}
 use Rattle.rules_machine.specs.Eventful.{has_item, is_eventful, next_tick_matters, unless_ended}
 use Rattle.rules_machine.specs.WellFormed.{IsWellFormed}
 use Rattle.laws_leaps.proofs.Quiet.Runs.{charges, handled_swept, first_of, handled, handled_nothing, handled_stands, last_charge, quiet_ticks, second_of}
-use Rattle.laws_moves.proofs.Runs.Units.{bodies_fit}
+use Rattle.rules_moves.proofs.Runs.Units.{bodies_fit}
 use Rattle.rules_leaps.specs.Quiet.{IsQuietBetween, at_once, one_charge}
 use Rattle.laws_leaps.proofs.Quiet.AnyMachine.{charged_at_once}
 use Rattle.laws_leaps.proofs.Leaps.Calm.{Handled}

@@ -4,9 +4,9 @@ use Rattle.std.specs.Prelude.{nat_lt, option_map, ◌-◌, ◌==◌, ◌&&◌, �
 use mathlib.Core.Path.{subst, ◌∙◌}
 use Rattle.words_script.specs.declared.policy.Policy.{Policy}
 use Rattle.words_script.specs.declared.policy.Policy.TheVariants as policy
-use Rattle.parts_server.specs.declared.ServerKind.{ServerKind}
-use Rattle.parts_server.specs.declared.ServerKind.TheVariants as kind
-use Rattle.parts_server.specs.Server.{ServerState, charge, charge_ticks, is_high, is_high_as}
+use Rattle.rules_server.specs.declared.ServerKind.{ServerKind}
+use Rattle.rules_server.specs.declared.ServerKind.TheVariants as kind
+use Rattle.rules_server.specs.Server.{ServerState, charge, charge_ticks, is_high, is_high_as}
 use Rattle.rules_machine.specs.declared.dispatch.LastDispatch.TheVariants as last
 use Rattle.rules_machine.specs.Lists.{changed_at}
 use Rattle.rules_machine.specs.Bodies.{Bodies}

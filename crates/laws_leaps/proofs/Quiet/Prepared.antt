@@ -3,7 +3,7 @@ use Rattle.std.proofs.Common.{Bool, List, None, Option, Some, [], ap, arith, fal
 use Rattle.std.specs.Prelude.{is_some, nat_lt, not, option_map, ◌==◌, ◌&&◌, ◌||◌, if◌then◌else◌}
 use mathlib.Core.Path.{subst, ◌∙◌}
 use Rattle.words_trace.specs.declared.event.Event.{Event}
-use Rattle.parts_server.specs.Server.{ServerState, activate, charge, is_high, plan}
+use Rattle.rules_server.specs.Server.{ServerState, activate, charge, is_high, plan}
 use Rattle.rules_machine.specs.declared.dispatch.LastDispatch.{LastDispatch}
 use Rattle.rules_machine.specs.declared.dispatch.LastDispatch.TheVariants as last
 use Rattle.rules_machine.specs.Lists.{changed_at, is}
@@ -16,8 +16,8 @@ use Rattle.rules_machine.specs.Dispatch.{dispatch_event, dispatch_of, dispatches
 use Rattle.rules_machine.specs.Units.{in_unit}
 use Rattle.rules_machine.specs.Ticks.{prepares, tick_charged}
 use Rattle.rules_machine.proofs.Reading.{thread-same}
-use Rattle.laws_moves.proofs.Waiters.OfThreads.{changed_is}
-use Rattle.laws_moves.proofs.Runs.Preparing.{IsReady}
+use Rattle.rules_moves.proofs.Waiters.OfThreads.{changed_is}
+use Rattle.rules_moves.proofs.Runs.Preparing.{IsReady}
 use Rattle.laws_machine.proofs.Lists.Kept.{Plans, in_unit_plans}
 use Rattle.rules_leaps.specs.Quiet.{after_quiet, at_head, charged_head}
 

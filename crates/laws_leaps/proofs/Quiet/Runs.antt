@@ -4,7 +4,7 @@ use Rattle.std.specs.Prelude.{is_some, ◌||◌}
 use mathlib.Core.Path.{◌∙◌}
 use Rattle.words_numbers.specs.declared.item.Item.{Item}
 use Rattle.words_script.specs.declared.decl.Script.{Script}
-use Rattle.script_code.specs.Next.{Place}
+use Rattle.rules_bodies.specs.Next.{Place}
 use Rattle.rules_machine.specs.Bodies.{Bodies}
 use Rattle.rules_machine.specs.State.{Machine}
 use Rattle.rules_machine.specs.Turns.{Turn, turn_of}
@@ -13,10 +13,10 @@ use Rattle.rules_machine.specs.Runs.{opening, ticks}
 use Rattle.rules_machine.specs.Machine.{bodies_of, machine}
 use Rattle.rules_machine.specs.Eventful.{has_item, is_eventful, next_tick_matters}
 use Rattle.rules_machine.specs.WellFormed.{IsWellFormed}
-use Rattle.laws_moves.specs.UnitRanges.{BodiesFit}
-use Rattle.laws_moves.proofs.Runs.Units.{bodies_fit}
+use Rattle.rules_moves.specs.UnitRanges.{BodiesFit}
+use Rattle.rules_moves.proofs.Runs.Units.{bodies_fit}
 use Rattle.laws_machine.proofs.Parts.Opening.{opening_listed}
-use Rattle.laws_moves.proofs.Runs.Since.{Rests, instant_keep, run_since}
+use Rattle.rules_moves.proofs.Runs.Since.{Rests, instant_keep, run_since}
 use Rattle.laws_machine.proofs.Sweeps.Kept.{EndHeard, InHeard, LawHeard, RestHeard, Swept, brings, instant_after, opening_rest, run_quiet, tick_heard}
 use Rattle.laws_leaps.proofs.Quiet.Ticks.{idle_items}
 use Rattle.laws_leaps.proofs.Quiet.Charges.{QuietTick, goes_on_quiet}

@@ -4,14 +4,14 @@ use Rattle.std.specs.Prelude.{All, filter_map, map, sum_by, take, ◌&&◌, ◌|
 use Rattle.std.specs.List.{sum}
 use Rattle.std.proofs.lemmas.List.Sums.{sum_by-append}
 use mathlib.Core.Path.{subst, ◌∙◌, ap₂}
-use Rattle.parts_server.specs.declared.Replenish.{Replenish}
-use Rattle.parts_server.specs.declared.ServerKind.{ServerKind}
-use Rattle.parts_server.specs.declared.ServerKind.TheVariants as kind
-use Rattle.parts_server.specs.Server.{ServerState, activate, charge, new_server, pending_total, plan, refill, refill_from, replenishment, set_high, joined_after, joins_as, new_server_as, planned_in}
+use Rattle.rules_server.specs.declared.Replenish.{Replenish}
+use Rattle.rules_server.specs.declared.ServerKind.{ServerKind}
+use Rattle.rules_server.specs.declared.ServerKind.TheVariants as kind
+use Rattle.rules_server.specs.Server.{ServerState, activate, charge, new_server, pending_total, plan, refill, refill_from, replenishment, set_high, joined_after, joins_as, new_server_as, planned_in}
 use Rattle.words_numbers.specs.Parameters.{Parameters}
 use Rattle.rules_machine.specs.Budget.{KeepsAccount, Plan, ServerEvent, activated, high_ticks, expected_plans, expected_since, plan_in, planned, plans_in, refill_amount, refill_amounts, refill_time, refill_times, refilled, replenishment_in, used, used_one, FallInto, FollowsPlans, Group, OneByOne, joined_with, refill_in, refills_in}
 use Rattle.rules_machine.specs.Budget.{plans_follow}
-use Rattle.laws_moves.proofs.Waiters.Best.{Each}
+use Rattle.rules_moves.proofs.Waiters.Best.{Each}
 use Rattle.std.proofs.lemmas.Grind.{common_steps}
 
 -- whether an activation is entered

@@ -6,12 +6,12 @@ use Rattle.words_script.specs.declared.call.Call.{Call}
 use Rattle.words_script.specs.declared.call.Call.TheVariants as call
 use Rattle.words_script.specs.declared.decl.Script.{Script}
 use Rattle.words_script.specs.declared.policy.Policy.{Policy}
-use Rattle.script_code.specs.declared.unit.Unit.{Unit}
-use Rattle.script_code.specs.declared.unit.Unit.TheVariants as unit
+use Rattle.rules_bodies.specs.declared.unit.Unit.{Unit}
+use Rattle.rules_bodies.specs.declared.unit.Unit.TheVariants as unit
 use Rattle.words_trace.specs.Text.{Entry}
-use Rattle.parts_server.specs.declared.ServerKind.TheVariants as server_kind
+use Rattle.rules_server.specs.declared.ServerKind.TheVariants as server_kind
 use Rattle.words_trace.specs.declared.event.Event.TheVariants as event
-use Rattle.parts_server.specs.Server.{ServerState, activate, joins_as, plan, replenishment}
+use Rattle.rules_server.specs.Server.{ServerState, activate, joins_as, plan, replenishment}
 use Rattle.rules_machine.specs.Throughout.{after_items, turn_after}
 use Rattle.laws_machine.proofs.Items.{servers_throughout}
 use Rattle.rules_machine.specs.Budget.{KeepsBudgets, KeepsServer, ServerEvent, account, account_after, all_recorded, recorded_if, recorded_tick, renews, ticked_account, used, activated}
@@ -32,11 +32,11 @@ use Rattle.rules_machine.proofs.ItemsEnd.{instant_ends}
 use Rattle.rules_machine.proofs.Parts.{tick_in_parts, finished_in_parts, prepares_unended}
 use Rattle.rules_machine.proofs.Reading.{thread-other, thread-same}
 use Rattle.rules_machine.specs.WellFormed.{IsWellFormed}
-use Rattle.laws_moves.specs.UnitRanges.{BodiesFit}
-use Rattle.laws_moves.proofs.Waiters.Best.{running_within}
-use Rattle.laws_moves.proofs.Runs.Listed.{AllRun, head_can_run}
-use Rattle.laws_moves.proofs.Runs.Units.{in_unit_fits}
-use Rattle.laws_moves.proofs.Runs.Ticks.{Rests, charged_runs, charged_turn, completes_keep, dispatched, in_unit_status, instant_keep, items_keep, run_keep, sweeps_keep}
+use Rattle.rules_moves.specs.UnitRanges.{BodiesFit}
+use Rattle.rules_moves.proofs.Waiters.Best.{running_within}
+use Rattle.rules_moves.proofs.Runs.Listed.{AllRun, head_can_run}
+use Rattle.rules_moves.proofs.Runs.Units.{in_unit_fits}
+use Rattle.rules_moves.proofs.Runs.Ticks.{Rests, charged_runs, charged_turn, completes_keep, dispatched, in_unit_status, instant_keep, items_keep, run_keep, sweeps_keep}
 use Rattle.laws_machine.proofs.Servers.Moves.{Threads}
 use Rattle.laws_machine.proofs.Servers.Ticks.{ServedDone, ServedMid, ServedRight, dispatched_threads, served_stop, served_tick}
 use Rattle.laws_machine.proofs.Servers.Units.{kept_in_unit}
@@ -48,8 +48,8 @@ use Rattle.laws_machine.proofs.Budgets.Booked.{Booked, IsActive, Still, active_b
 use Rattle.laws_machine.proofs.Budgets.Moves.{Recorded, Has, activated_map, activates_other, activates_some, own, posted_so, told, told_plainly}
 use Rattle.rules_machine.specs.Lists.{changed_at, is}
 use Rattle.rules_machine.specs.Priorities.{exec}
-use Rattle.laws_moves.proofs.Waiters.OfThreads.{changed_is}
-use Rattle.laws_moves.proofs.Runs.Preparing.{Alike, PreparingKeeps, alike_runs, closed_all, closes_keep, prepared, prepares_keep}
+use Rattle.rules_moves.proofs.Waiters.OfThreads.{changed_is}
+use Rattle.rules_moves.proofs.Runs.Preparing.{Alike, PreparingKeeps, alike_runs, closed_all, closes_keep, prepared, prepares_keep}
 use Rattle.laws_machine.proofs.Servers.Right.{in_time, in_time_later, not_strict, only, opening_none, planned_due, run_parts}
 use Rattle.laws_machine.proofs.Servers.Ends.{has_server}
 

@@ -9,9 +9,9 @@ use Rattle.words_script.specs.declared.policy.Policy.TheVariants as policy
 use Rattle.words_trace.specs.declared.event.Event.{Event}
 use Rattle.words_trace.specs.declared.event.Event.TheVariants as event
 use Rattle.words_trace.specs.Text.{Entry}
-use Rattle.parts_server.specs.declared.ServerKind.{ServerKind}
-use Rattle.parts_server.specs.declared.ServerKind.TheVariants as kind
-use Rattle.parts_server.specs.Server.{ServerState, activate, is_high, new_server, next_due, oldest_pending, refill, set_high, new_server_as}
+use Rattle.rules_server.specs.declared.ServerKind.{ServerKind}
+use Rattle.rules_server.specs.declared.ServerKind.TheVariants as kind
+use Rattle.rules_server.specs.Server.{ServerState, activate, is_high, new_server, next_due, oldest_pending, refill, set_high, new_server_as}
 use Rattle.rules_machine.specs.Budget.{ServerEvent, activated, all_recorded, recorded, recorded_if, refilled}
 use Rattle.rules_machine.specs.Lists.{changed_at}
 use Rattle.rules_machine.specs.Bodies.{Bodies}
@@ -25,9 +25,9 @@ use Rattle.rules_machine.specs.Cancellation.{without_cleanup}
 use Rattle.rules_machine.specs.Scheduling.{with_policy, with_priority}
 use Rattle.rules_machine.specs.DueItems.{has_come}
 use Rattle.rules_machine.proofs.Reading.{changed-length, thread-other, thread-same}
-use Rattle.laws_moves.specs.Moves.{Core, MayAwake, Move, alters, begins, blocks_for, blocks_plainly, does, drops, ends_with, enters_frame, is_plain, is_quiet, leaves_frame, lives_no_more, prices, pushed, pushes, recasts, refills_one, rejoins, renews_with, tells_of, wakes_with}
-use Rattle.laws_moves.proofs.Waiters.Best.{blocked_within}
-use Rattle.laws_moves.proofs.Waiters.OfThreads.{changed_is}
+use Rattle.rules_moves.specs.Moves.{Core, MayAwake, Move, alters, begins, blocks_for, blocks_plainly, does, drops, ends_with, enters_frame, is_plain, is_quiet, leaves_frame, lives_no_more, prices, pushed, pushes, recasts, refills_one, rejoins, renews_with, tells_of, wakes_with}
+use Rattle.rules_moves.proofs.Waiters.Best.{blocked_within}
+use Rattle.rules_moves.proofs.Waiters.OfThreads.{changed_is}
 use Rattle.laws_machine.proofs.Servers.Right.{ServerIn, ThreadRight, none_consumed, only, not_strict}
 use Rattle.laws_machine.proofs.Servers.Moves.{Awake, Threads, here, sleeper}
 use Rattle.laws_machine.proofs.Servers.Ends.{has_server}

@@ -10,15 +10,15 @@ use Rattle.words_numbers.specs.declared.res.Res.TheVariants as res
 use Rattle.words_script.specs.declared.call.Call.{Call}
 use Rattle.words_script.specs.declared.call.Call.TheVariants as call
 use Rattle.words_script.specs.declared.policy.Policy.{Policy}
-use Rattle.script_code.specs.declared.unit.Unit.{Unit}
-use Rattle.script_code.specs.declared.unit.Unit.TheVariants as unit
-use Rattle.script_code.specs.Next.{ticks_of}
+use Rattle.rules_bodies.specs.declared.unit.Unit.{Unit}
+use Rattle.rules_bodies.specs.declared.unit.Unit.TheVariants as unit
+use Rattle.rules_bodies.specs.Next.{ticks_of}
 use Rattle.words_trace.specs.declared.event.Event.TheVariants as event
 use Rattle.words_trace.specs.Text.{Entry}
-use Rattle.parts_server.specs.declared.Replenish.{Replenish}
-use Rattle.parts_server.specs.declared.ServerKind.{ServerKind}
-use Rattle.parts_server.specs.declared.ServerKind.TheVariants as kind
-use Rattle.parts_server.specs.Server.{ServerState, charge, is_high, next_due, plan, replenishment}
+use Rattle.rules_server.specs.declared.Replenish.{Replenish}
+use Rattle.rules_server.specs.declared.ServerKind.{ServerKind}
+use Rattle.rules_server.specs.declared.ServerKind.TheVariants as kind
+use Rattle.rules_server.specs.Server.{ServerState, charge, is_high, next_due, plan, replenishment}
 use Rattle.rules_machine.specs.Budget.{ServerEvent, planned, recorded_if, renews, used}
 use Rattle.rules_machine.specs.Bodies.{Bodies}
 use Rattle.rules_machine.specs.State.{Frame, Machine, Status, Thread, blocked, dormant, ended, runnable, waits_to_join}
@@ -34,12 +34,12 @@ use Rattle.rules_machine.specs.DueItems.{due_items, first_item, has_come, next_i
 use Rattle.rules_machine.specs.Units.{Following, advances, advancing, begins_finish, cleaning_up, continuing, finishing, following, in_cleanup, in_unit, takes_unit}
 use Rattle.rules_machine.specs.Ticks.{TickEnd, capacity_in, consumed_in, ends_tick, exhausting, frames_charged, nothing, planning, runs, slice_is_used, slicing, tick_end, without_slice}
 use Rattle.rules_machine.proofs.Reading.{changed-length, thread-same}
-use Rattle.laws_moves.specs.Moves.{KeepsAwake, Stops}
-use Rattle.laws_moves.specs.UnitRanges.{UnitFits}
-use Rattle.laws_moves.proofs.Waiters.Best.{Each}
-use Rattle.laws_moves.proofs.Calls.Objects.{answered_status}
-use Rattle.laws_moves.proofs.Calls.Table.{unit_keep}
-use Rattle.laws_moves.proofs.Runs.Ticks.{RoundKeeps}
+use Rattle.rules_moves.specs.Moves.{KeepsAwake, Stops}
+use Rattle.rules_moves.specs.UnitRanges.{UnitFits}
+use Rattle.rules_moves.proofs.Waiters.Best.{Each}
+use Rattle.rules_moves.proofs.Calls.Objects.{answered_status}
+use Rattle.rules_moves.proofs.Calls.Table.{unit_keep}
+use Rattle.rules_moves.proofs.Runs.Ticks.{RoundKeeps}
 use Rattle.laws_machine.proofs.Servers.Right.{Rising, only, high_parts, InTime}
 use Rattle.laws_machine.proofs.Servers.Moves.{here}
 use Rattle.laws_machine.proofs.Servers.Alert.{awake_of}

@@ -11,7 +11,7 @@ use Rattle.words_script.specs.declared.call.Call.{Call}
 use Rattle.words_script.specs.declared.call.Call.TheVariants as call
 use Rattle.words_script.specs.declared.policy.Policy.{Policy}
 use Rattle.words_trace.specs.declared.event.Event.TheVariants as event
-use Rattle.parts_server.specs.Server.{ServerState, oldest_pending, plan, refill}
+use Rattle.rules_server.specs.Server.{ServerState, oldest_pending, plan, refill}
 use Rattle.rules_machine.specs.declared.frame.BodyOf.TheVariants as body_of
 use Rattle.rules_machine.specs.declared.thread.CondEnd.TheVariants as cond_end
 use Rattle.rules_machine.specs.Bodies.{Bodies}
@@ -34,13 +34,13 @@ use Rattle.rules_machine.specs.Calls.{call_effect, makes_call}
 use Rattle.rules_machine.specs.DueItems.{handles, has_come, start_due, start_in, times_out, wait_times_out}
 use Rattle.rules_machine.specs.Ticks.{TickEnd, ends_tick, exhausting, nothing, planning, slicing, without_slice}
 use Rattle.rules_machine.proofs.ItemsEnd.{is_due}
-use Rattle.laws_moves.proofs.Calls.Objects.{answered_status}
+use Rattle.rules_moves.proofs.Calls.Objects.{answered_status}
 use Rattle.rules_machine.specs.declared.frame.BodyOf.{BodyOf}
 use Rattle.rules_machine.specs.Lists.{changed_at}
 use Rattle.rules_machine.specs.Threads.{no_thread, thread_in}
 use Rattle.rules_machine.specs.WellFormed.{is_guarding}
 use Rattle.laws_machine.specs.GuardedBodies.{BodiesGuarded}
-use Rattle.laws_moves.proofs.Waiters.OfThreads.{changed_is}
+use Rattle.rules_moves.proofs.Waiters.OfThreads.{changed_is}
 use Rattle.laws_machine.proofs.Cleanups.Frames.{Clean, Keeps, activated, activated_if, cancelled_same, change, contend_same, deliver_same, doze_same, ending_clean, generate_same, if_same, release_same, returned, signals_same, sleep_same, wakes_same}
 
 module _ {P : Type 0} (bodies : Bodies P) (guards : BodyOf → P → List ℕ) (guarded : BodiesGuarded bodies guards) where

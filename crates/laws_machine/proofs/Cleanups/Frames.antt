@@ -6,7 +6,7 @@ use Rattle.words_numbers.specs.declared.res.Res.{Res}
 use Rattle.words_numbers.specs.declared.res.Res.TheVariants as res
 use Rattle.words_trace.specs.declared.event.Event.{Event}
 use Rattle.words_trace.specs.declared.event.Event.TheVariants as event
-use Rattle.parts_server.specs.Server.{ServerState, activate}
+use Rattle.rules_server.specs.Server.{ServerState, activate}
 use Rattle.rules_machine.specs.declared.thread.CondEnd.{CondEnd}
 use Rattle.rules_machine.specs.declared.thread.CondEnd.TheVariants as cond_end
 use Rattle.rules_machine.specs.State.{Frame, SignalRecord, Thread, Wait, Waiting, for_mutex_again}
@@ -23,8 +23,8 @@ use Rattle.rules_machine.specs.declared.frame.BodyOf.{BodyOf}
 use Rattle.rules_machine.specs.declared.frame.BodyOf.TheVariants as body_of
 use Rattle.rules_machine.specs.Lists.{changed_at}
 use Rattle.rules_machine.specs.GoodState.{main_guards}
-use Rattle.laws_moves.proofs.Waiters.Best.{Each}
-use Rattle.laws_moves.proofs.Waiters.OfThreads.{changed_is}
+use Rattle.rules_moves.proofs.Waiters.Best.{Each}
+use Rattle.rules_moves.proofs.Waiters.OfThreads.{changed_is}
 
 abbrev pub is_thread : BodyOf → Bool
 is_thread (body_of.Thread t) = true

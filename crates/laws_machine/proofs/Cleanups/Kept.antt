@@ -22,13 +22,13 @@ use Rattle.rules_machine.specs.Runs.{opening, thread_opened, ticks}
 use Rattle.rules_machine.proofs.ItemsEnd.{next_is_due}
 use Rattle.rules_machine.proofs.Reading.{thread-other, thread-same}
 use Rattle.rules_machine.specs.WellFormed.{IsWellFormed}
-use Rattle.laws_moves.specs.UnitRanges.{BodiesFit}
+use Rattle.rules_moves.specs.UnitRanges.{BodiesFit}
 use Rattle.laws_machine.specs.GuardedBodies.{BodiesGuarded, most_of}
-use Rattle.laws_moves.proofs.Waiters.Best.{Each, running_within}
-use Rattle.laws_moves.proofs.Runs.Listed.{AllRun, head_can_run}
-use Rattle.laws_moves.proofs.Runs.Preparing.{PreparingKeeps, alike_runs, prepares_keep}
-use Rattle.laws_moves.proofs.Runs.Ticks.{charged_runs, charged_turn, dispatched}
-use Rattle.laws_moves.proofs.Runs.Since.{Rests, instant_keep, run_since}
+use Rattle.rules_moves.proofs.Waiters.Best.{Each, running_within}
+use Rattle.rules_moves.proofs.Runs.Listed.{AllRun, head_can_run}
+use Rattle.rules_moves.proofs.Runs.Preparing.{PreparingKeeps, alike_runs, prepares_keep}
+use Rattle.rules_moves.proofs.Runs.Ticks.{charged_runs, charged_turn, dispatched}
+use Rattle.rules_moves.proofs.Runs.Since.{Rests, instant_keep, run_since}
 use Rattle.laws_machine.proofs.Lists.Kept.{Placed, Placing, opening_placed, placed_tick}
 use Rattle.laws_machine.proofs.Parts.Opening.{opening_listed}
 use Rattle.laws_machine.proofs.Cleanups.Frames.{Clean, FrameFits, activated}

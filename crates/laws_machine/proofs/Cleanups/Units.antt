@@ -5,9 +5,9 @@ use mathlib.Core.Path.{subst, ◌∙◌}
 use Rattle.words_numbers.specs.declared.res.Res.TheVariants as res
 use Rattle.words_script.specs.declared.call.Call.{Call}
 use Rattle.words_script.specs.declared.call.Call.TheVariants as call
-use Rattle.script_code.specs.Next.{capped, ticks_of}
-use Rattle.script_code.specs.declared.unit.Unit.{Unit as Step}
-use Rattle.script_code.specs.declared.unit.Unit.TheVariants as unit
+use Rattle.rules_bodies.specs.Next.{capped, ticks_of}
+use Rattle.rules_bodies.specs.declared.unit.Unit.{Unit as Step}
+use Rattle.rules_bodies.specs.declared.unit.Unit.TheVariants as unit
 use Rattle.words_trace.specs.declared.event.Event.TheVariants as event
 use Rattle.rules_machine.specs.declared.frame.BodyOf.{BodyOf}
 use Rattle.rules_machine.specs.declared.frame.BodyOf.TheVariants as body_of
@@ -32,7 +32,7 @@ use Rattle.rules_machine.proofs.Reading.{thread-other, thread-same}
 use Rattle.rules_machine.specs.WellFormed.{is_guarding}
 use Rattle.laws_machine.specs.GuardedBodies.{BodiesGuarded, Guards, most_of}
 use Rattle.rules_machine.proofs.Parts.{by_following}
-use Rattle.laws_moves.proofs.Waiters.Best.{Each, running_within}
+use Rattle.rules_moves.proofs.Waiters.Best.{Each, running_within}
 use Rattle.laws_machine.proofs.Cleanups.Frames.{Clean, FrameFits, Keeps, change, deliver_same, is_thread, returned, wakes_same}
 use Rattle.laws_machine.proofs.Cleanups.Calls.{joined_same, made_same}
 

@@ -8,9 +8,9 @@ use Rattle.words_script.specs.declared.decl.Kind.TheVariants as kind
 use Rattle.words_script.specs.declared.decl.Script.{Script}
 use Rattle.words_script.specs.declared.policy.Policy.{Policy}
 use Rattle.words_script.specs.declared.policy.Policy.TheVariants as policy
-use Rattle.parts_server.specs.declared.ServerKind.{ServerKind}
-use Rattle.parts_server.specs.declared.ServerKind.TheVariants as server_kind
-use Rattle.parts_server.specs.Server.{ServerState, activate, is_high, is_high_as, plan}
+use Rattle.rules_server.specs.declared.ServerKind.{ServerKind}
+use Rattle.rules_server.specs.declared.ServerKind.TheVariants as server_kind
+use Rattle.rules_server.specs.Server.{ServerState, activate, is_high, is_high_as, plan}
 use Rattle.words_trace.specs.declared.event.Event.TheVariants as event
 use Rattle.rules_machine.specs.declared.dispatch.LastDispatch.{LastDispatch}
 use Rattle.rules_machine.specs.Lists.{changed_at}
@@ -30,21 +30,21 @@ use Rattle.rules_machine.specs.Ticks.{TickEnd, ends_tick, exhausting, nothing, p
 use Rattle.rules_machine.specs.Runs.{opening, thread_opened}
 use Rattle.rules_machine.proofs.Standing.{stands, one_if}
 use Rattle.rules_machine.specs.WellFormed.{DeclsFit, PolicyFits, IsWellFormed}
-use Rattle.laws_moves.specs.Moves.{KeepsRenewing, Sleeps}
-use Rattle.laws_moves.proofs.Waiters.Best.{Each}
+use Rattle.rules_moves.specs.Moves.{KeepsRenewing, Sleeps}
+use Rattle.rules_moves.proofs.Waiters.Best.{Each}
 use Rattle.laws_machine.proofs.Lists.Places.{Stand, stand_again}
 use Rattle.laws_machine.proofs.Lists.Priorities.{AllFit, MutexFits, ThreadFits, charged_fits, fitting_keep, one, planned_fits, priorities, same_parameters}
 use Rattle.laws_machine.proofs.Lists.Arrivals.{Come, changed_come, come_keep, come_stop, ended_come}
-use Rattle.laws_moves.proofs.Runs.Units.{threads_fit}
-use Rattle.laws_moves.proofs.Runs.Ticks.{charged_turn, dispatched}
-use Rattle.laws_moves.proofs.Runs.Since.{TickSince, dispatched_direct}
+use Rattle.rules_moves.proofs.Runs.Units.{threads_fit}
+use Rattle.rules_moves.proofs.Runs.Ticks.{charged_turn, dispatched}
+use Rattle.rules_moves.proofs.Runs.Since.{TickSince, dispatched_direct}
 use Rattle.laws_machine.proofs.Parts.Kept.{PartsRight, elsewhere, parts_renewing, parts_stop, parts_tick, recast}
 use Rattle.laws_machine.proofs.Parts.Opening.{opening_right}
-use Rattle.laws_moves.proofs.Runs.Units as units_fit
+use Rattle.rules_moves.proofs.Runs.Units as units_fit
 use Rattle.rules_machine.specs.Priorities.{Claim, assigned_under, claim_of, exec_in, mutex_awaited_by}
 use Rattle.rules_machine.proofs.Reading.{changed-keeps}
 use Rattle.laws_machine.proofs.Servers.Right.{not_strict, run_parts}
-use Rattle.laws_moves.proofs.Runs.Preparing.{PreparingKeeps}
+use Rattle.rules_moves.proofs.Runs.Preparing.{PreparingKeeps}
 
 -- between settlings' effects
 -- a strict server goes by its capacity alone

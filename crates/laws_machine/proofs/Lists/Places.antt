@@ -2,8 +2,8 @@
 use Rattle.std.proofs.Common.{◌≡◌, ◌<◌, ◌≤◌, ◌-◌, ◌∷◌, ℕ, List, [], suc, Bool, true, false, ap, arith, length, refl}
 use Rattle.std.specs.Prelude.{filter, if◌then◌else◌, map, not, ◌==◌, ◌&&◌}
 use mathlib.Core.Path.{subst, ◌∙◌}
-use Rattle.parts_lists.specs.Threads.{stands_in, times}
-use Rattle.parts_ready.specs.Lists.{list_of, to_tail}
+use Rattle.rules_lists.specs.Threads.{stands_in, times}
+use Rattle.rules_lists.specs.Lists.{list_of, to_tail}
 use Rattle.rules_machine.specs.State.{Machine}
 use Rattle.rules_machine.specs.Threads.{can_run, thread_numbers}
 use Rattle.rules_machine.specs.Priorities.{exec}
@@ -11,7 +11,7 @@ use Rattle.rules_machine.specs.Settling.{Shift, fell, left_runnable, moved_all, 
 use Rattle.rules_machine.specs.GoodState.{ListsAreRight}
 use Rattle.rules_machine.proofs.Standing.{head_length, head_other, map_length, one_if, stands, stands_kept, tail_length, tail_other}
 use Rattle.rules_machine.proofs.SettledPlaces.{settled_places, stands_on_list}
-use Rattle.laws_moves.proofs.Waiters.Best.{running_within}
+use Rattle.rules_moves.proofs.Waiters.Best.{running_within}
 
 -- each thread that can run stands on the list of its execution priority alone, and no other thread on any
 pub record Stand {P : Type 0} (m : Machine P) : Type 0 where

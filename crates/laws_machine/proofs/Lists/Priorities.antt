@@ -8,8 +8,8 @@ use Rattle.words_script.specs.declared.policy.Policy.TheVariants as policy
 use Rattle.words_script.specs.declared.policy.Protocol.{Protocol}
 use Rattle.words_script.specs.declared.policy.Protocol.TheVariants as protocol
 use Rattle.words_trace.specs.declared.event.Event.TheVariants as event
-use Rattle.parts_server.specs.declared.Replenish.{Replenish}
-use Rattle.parts_server.specs.Server.{ServerState, activate, is_high, oldest_pending, plan, refill, refill_from, set_high, charge}
+use Rattle.rules_server.specs.declared.Replenish.{Replenish}
+use Rattle.rules_server.specs.Server.{ServerState, activate, is_high, oldest_pending, plan, refill, refill_from, set_high, charge}
 use Rattle.rules_machine.specs.Lists.{changed_at, greatest, is}
 use Rattle.rules_machine.specs.Bodies.{Bodies}
 use Rattle.rules_machine.specs.State.{Machine, Mutex, Thread}
@@ -25,8 +25,8 @@ use Rattle.rules_machine.specs.Scheduling.{at_priority, with_policy, with_priori
 use Rattle.rules_machine.specs.GoodState.{HasParameters}
 use Rattle.rules_machine.specs.WellFormed.{IsPriority, PolicyFits, ProtocolFits}
 use Rattle.words_numbers.specs.Parameters.{AreParameters}
-use Rattle.laws_moves.specs.Moves.{Core, KeepsRenewing, alters, begins, blocks_for, blocks_plainly, core_of, counts_down, counts_up, drops, ends_with, enters_frame, frees, leaves_frame, lives_no_more, prices, pushed, pushes, recasts, refills_one, rejoins, renews_with, takes_for, wakes_with}
-use Rattle.laws_moves.proofs.Waiters.Best.{Each}
+use Rattle.rules_moves.specs.Moves.{Core, KeepsRenewing, alters, begins, blocks_for, blocks_plainly, core_of, counts_down, counts_up, drops, ends_with, enters_frame, frees, leaves_frame, lives_no_more, prices, pushed, pushes, recasts, refills_one, rejoins, renews_with, takes_for, wakes_with}
+use Rattle.rules_moves.proofs.Waiters.Best.{Each}
 use Rattle.laws_machine.proofs.Lists.Places.{HavePriorities}
 
 abbrev pub ThreadFits : {P : Type 0} → Thread P → Type 0

@@ -5,7 +5,7 @@ use Rattle.std.specs.List.{AllByRecursion, IsDistinct, list_any}
 use Rattle.std.proofs.lemmas.Map.Steps.{length-le_from_distinct_below}
 use mathlib.Core.Path.{subst, ◌∙◌}
 use Rattle.rules_machine.specs.Lists.{is}
-use Rattle.laws_moves.proofs.Waiters.Best.{Each}
+use Rattle.rules_moves.proofs.Waiters.Best.{Each}
 
 contra : {b : Bool} → b ≡ true → b ≡ false → ⊥
 contra p q = grind arith

@@ -4,7 +4,7 @@ use Rattle.std.specs.Prelude.{filter, is_none, option_and_then, slice_index_or, 
 use Rattle.std.specs.Option.{option_map_or}
 use mathlib.Core.Path.{subst, ◌∙◌}
 use Rattle.words_trace.specs.declared.event.Event.TheVariants as event
-use Rattle.parts_server.specs.Server.{ServerState, activate, oldest_pending, refill}
+use Rattle.rules_server.specs.Server.{ServerState, activate, oldest_pending, refill}
 use Rattle.rules_machine.specs.Lists.{changed_at, is}
 use Rattle.rules_machine.specs.Bodies.{Bodies}
 use Rattle.rules_machine.specs.State.{Machine, Mutex, Status, Thread, Wait, Waiting, blocked, dormant, ended, for_condition, for_end, for_message, for_mutex, for_mutex_again, for_room, for_semaphore, for_signal, for_time, runnable}
@@ -20,11 +20,11 @@ use Rattle.rules_machine.specs.Mutexes.{closes_cycle, counted_down, counted_up, 
 use Rattle.rules_machine.specs.Scheduling.{with_policy, with_priority}
 use Rattle.rules_machine.specs.GoodState.{MutexesAreRight, OwnerIsRight, is_in_condition_wait}
 use Rattle.rules_machine.proofs.Reading.{changed-length}
-use Rattle.laws_moves.specs.Moves.{Keeps, May, MayWait, Move, alters, begins, blocks_for, blocks_plainly, counts_down, counts_up, does, drops, ends_with, enters_frame, frees, leaves_frame, lives_no_more, prices, pushed, pushes, recasts, refills_one, rejoins, renews_with, takes_for, wakes_with}
-use Rattle.laws_moves.proofs.Waiters.Best.{running_within}
-use Rattle.laws_moves.proofs.Calls.Commuting.{wakes_telling_part}
-use Rattle.laws_moves.proofs.Waiters.AfterMoves.{part_begun, part_refill, part_renewed, wait_begun, waited_before}
-use Rattle.laws_moves.proofs.Waiters.OfThreads.{BeginsToWait, changed_is, waited}
+use Rattle.rules_moves.specs.Moves.{Keeps, May, MayWait, Move, alters, begins, blocks_for, blocks_plainly, counts_down, counts_up, does, drops, ends_with, enters_frame, frees, leaves_frame, lives_no_more, prices, pushed, pushes, recasts, refills_one, rejoins, renews_with, takes_for, wakes_with}
+use Rattle.rules_moves.proofs.Waiters.Best.{running_within}
+use Rattle.rules_moves.proofs.Calls.Commuting.{wakes_telling_part}
+use Rattle.rules_moves.proofs.Waiters.AfterMoves.{part_begun, part_refill, part_renewed, wait_begun, waited_before}
+use Rattle.rules_moves.proofs.Waiters.OfThreads.{BeginsToWait, changed_is, waited}
 use Rattle.laws_machine.proofs.Mutexes.Chains.{is_some_of, leads, leads_bounded, no_new_cycle, still_no_cycle}
 
 contra : {b : Bool} → b ≡ true → b ≡ false → ⊥

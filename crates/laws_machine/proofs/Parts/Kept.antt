@@ -2,7 +2,7 @@
 use Rattle.std.proofs.Common.{Bool, List, None, Option, Some, [], ap, arith, false, inl, inr, refl, sym, true, ℕ, ◌+◌, ◌∷◌, ◌≡◌, ◌⊎◌}
 use Rattle.std.specs.Prelude.{◌==◌}
 use mathlib.Core.Path.{subst, ◌∙◌}
-use Rattle.parts_server.specs.Server.{ServerState, plan, activate}
+use Rattle.rules_server.specs.Server.{ServerState, plan, activate}
 use Rattle.words_trace.specs.declared.event.Event.TheVariants as event
 use Rattle.rules_machine.specs.declared.dispatch.LastDispatch.{LastDispatch}
 use Rattle.rules_machine.specs.Bodies.{Bodies}
@@ -15,7 +15,7 @@ use Rattle.rules_machine.specs.Lives.{with_joiner}
 use Rattle.rules_machine.specs.Settling.{settled}
 use Rattle.rules_machine.specs.GoodState.{MutexesAreRight}
 use Rattle.rules_machine.specs.Ticks.{TickEnd, ends_tick, exhausting, nothing, planning, slicing, tick_charged, without_slice}
-use Rattle.laws_moves.specs.Moves.{Keeps, KeepsAwake, KeepsRenewing, May, Move, Runs, Stops, blocks_for, blocks_plainly, does, recasts, renews_with}
+use Rattle.rules_moves.specs.Moves.{Keeps, KeepsAwake, KeepsRenewing, May, Move, Runs, Stops, blocks_for, blocks_plainly, does, recasts, renews_with}
 use Rattle.laws_machine.proofs.Waits.Semaphores.{SemaphoresAreRight, semaphores_keep}
 use Rattle.laws_machine.proofs.Waits.Queues.{QueuesAreRight, queues_keep}
 use Rattle.laws_machine.proofs.Signals.Records.{RecordsAreRight, records_keep}
@@ -24,10 +24,10 @@ use Rattle.laws_machine.proofs.Waits.Joiners.{changed_joiners, idle, joiners_kee
 use Rattle.rules_machine.specs.Units.{Following, advances, advancing, begins_finish, cleaning_up, continuing, finishing, following, in_unit, takes_unit}
 use Rattle.rules_machine.specs.Dispatch.{dispatch_of, dispatches}
 use Rattle.rules_machine.proofs.Reading.{changed-keeps, thread-other, thread-same}
-use Rattle.laws_moves.proofs.Waiters.Best.{running_within}
-use Rattle.laws_moves.proofs.Calls.Commuting.{status_kept}
-use Rattle.laws_moves.proofs.Runs.Ticks.{TickKeeps, dispatched, in_unit_status}
-use Rattle.laws_moves.proofs.Calls.Table.{JoinersWait, nobody_waits_so, rejoined}
+use Rattle.rules_moves.proofs.Waiters.Best.{running_within}
+use Rattle.rules_moves.proofs.Calls.Commuting.{status_kept}
+use Rattle.rules_moves.proofs.Runs.Ticks.{TickKeeps, dispatched, in_unit_status}
+use Rattle.rules_moves.proofs.Calls.Table.{JoinersWait, nobody_waits_so, rejoined}
 
 -- what every move keeps, it keeps where nobody's own call blocks
 pub awake : {P : Type 0} (bodies : Bodies P) (who : Option ℕ) (Law : Turn P → Type 0) → Keeps bodies who Law → KeepsAwake bodies who Law

@@ -18,7 +18,7 @@ use Rattle.rules_machine.specs.Semaphores.{waits_on_semaphore}
 use Rattle.rules_machine.specs.Queues.{waits_to_send}
 use Rattle.rules_machine.specs.Runs.{opening, thread_opened}
 use Rattle.rules_machine.specs.GoodState.{OwnerIsRight, is_in_condition_wait}
-use Rattle.laws_moves.proofs.Runs.Listed.{AllRun}
+use Rattle.rules_moves.proofs.Runs.Listed.{AllRun}
 use Rattle.laws_machine.proofs.Parts.Kept.{PartsRight}
 
 -- ---- nobody waits, and nobody joins

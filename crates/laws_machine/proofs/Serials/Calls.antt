@@ -10,10 +10,10 @@ use Rattle.words_numbers.specs.declared.res.Res.TheVariants as res
 use Rattle.words_script.specs.declared.call.Call.{Call}
 use Rattle.words_script.specs.declared.call.Call.TheVariants as call
 use Rattle.words_script.specs.declared.policy.Policy.{Policy}
-use Rattle.script_code.specs.declared.unit.Unit.{Unit}
-use Rattle.script_code.specs.declared.unit.Unit.TheVariants as unit
+use Rattle.rules_bodies.specs.declared.unit.Unit.{Unit}
+use Rattle.rules_bodies.specs.declared.unit.Unit.TheVariants as unit
 use Rattle.words_trace.specs.declared.event.Event.TheVariants as event
-use Rattle.parts_server.specs.Server.{ServerState, oldest_pending, plan, refill}
+use Rattle.rules_server.specs.Server.{ServerState, oldest_pending, plan, refill}
 use Rattle.rules_machine.specs.declared.frame.BodyOf.TheVariants as body_of
 use Rattle.rules_machine.specs.declared.frame.FrameKind.{FrameKind}
 use Rattle.rules_machine.specs.declared.frame.FrameKind.TheVariants as frame
@@ -38,8 +38,8 @@ use Rattle.rules_machine.specs.Calls.{call_effect, makes_call, unit_effect}
 use Rattle.rules_machine.specs.DueItems.{handles, has_come, start_due, start_in, times_out, wait_times_out}
 use Rattle.rules_machine.specs.Ticks.{TickEnd, ends_tick, exhausting, nothing, planning, slicing, without_slice}
 use Rattle.rules_machine.proofs.ItemsEnd.{is_due}
-use Rattle.laws_moves.proofs.Waiters.Best.{Each}
-use Rattle.laws_moves.proofs.Calls.Objects.{answered_status}
+use Rattle.rules_moves.proofs.Waiters.Best.{Each}
+use Rattle.rules_moves.proofs.Calls.Objects.{answered_status}
 use Rattle.laws_machine.proofs.Serials.Distinct.{one_if, pends}
 use Rattle.laws_machine.proofs.Serials.Costs.{Costs, IsPlain, activated, activated_if, cancelled_cost, change, contend_cost, deliver_cost, doze_cost, generate_cost, if_costs, one_small, out_cost, release_cost, returned, same, signals_cost, sleep_cost, sources_untargeted, wakes_cost}
 

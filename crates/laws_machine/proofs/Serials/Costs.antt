@@ -6,7 +6,7 @@ use Rattle.words_numbers.specs.declared.res.Res.{Res}
 use Rattle.words_numbers.specs.declared.res.Res.TheVariants as res
 use Rattle.words_trace.specs.declared.event.Event.{Event}
 use Rattle.words_trace.specs.declared.event.Event.TheVariants as event
-use Rattle.parts_server.specs.Server.{ServerState, activate}
+use Rattle.rules_server.specs.Server.{ServerState, activate}
 use Rattle.rules_machine.specs.declared.frame.FrameKind.{FrameKind}
 use Rattle.rules_machine.specs.declared.thread.CondEnd.{CondEnd}
 use Rattle.rules_machine.specs.declared.thread.CondEnd.TheVariants as cond_end
@@ -24,7 +24,7 @@ use Rattle.rules_machine.specs.Signals.{acceptor, becomes_pending, delivers, gen
 use Rattle.rules_machine.specs.Lives.{without_target}
 use Rattle.rules_machine.specs.GoodState.{waits_on_any_condition}
 use Rattle.rules_machine.specs.Lists.{is}
-use Rattle.laws_moves.proofs.Waiters.Best.{Each}
+use Rattle.rules_moves.proofs.Waiters.Best.{Each}
 use Rattle.laws_machine.proofs.Serials.Distinct.{one_if, pends}
 
 -- ---- what counts

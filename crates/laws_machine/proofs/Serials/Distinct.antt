@@ -5,7 +5,7 @@ use Rattle.std.specs.Prelude.{All, filter, filter_map, map, nat_lt, not, ◌==�
 use Rattle.std.specs.List.{AllByRecursion, IsDistinct}
 use mathlib.Core.Path.{subst}
 use Rattle.words_trace.specs.declared.event.Event.TheVariants as event
-use Rattle.parts_server.specs.Server.{ServerState, activate, oldest_pending, plan, refill}
+use Rattle.rules_server.specs.Server.{ServerState, activate, oldest_pending, plan, refill}
 use Rattle.rules_machine.specs.Lists.{changed_at, is}
 use Rattle.rules_machine.specs.Bodies.{Bodies}
 use Rattle.rules_machine.specs.State.{Machine, SignalRecord, Status, Thread, Wait, Waiting, for_end, for_time, waits_to_join}
@@ -20,10 +20,10 @@ use Rattle.rules_machine.specs.Scheduling.{with_policy, with_priority}
 use Rattle.rules_machine.specs.GoodState.{is_ordered, serial_of, serials}
 use Rattle.rules_machine.specs.Units.{in_unit}
 use Rattle.rules_machine.specs.Ticks.{TickEnd, ends_tick, exhausting, nothing, planning, slicing, tick_charged, without_slice}
-use Rattle.parts_lists.specs.Threads.{times}
-use Rattle.laws_moves.specs.Moves.{Core, MayRenewing, MayWaitPlainly, Move, alters, begins, blocks_for, blocks_plainly, does, drops, ends_with, enters_frame, fires, leaves_frame, lives_no_more, prices, pushed, pushes, recasts, record_in, record_out, records_of_ended, refills_one, rejoins, renews_with, wakes_with}
-use Rattle.laws_moves.proofs.Runs.Ticks.{in_unit_status}
-use Rattle.laws_moves.proofs.Runs.MachineLaws.{MachineLaw}
+use Rattle.rules_lists.specs.Threads.{times}
+use Rattle.rules_moves.specs.Moves.{Core, MayRenewing, MayWaitPlainly, Move, alters, begins, blocks_for, blocks_plainly, does, drops, ends_with, enters_frame, fires, leaves_frame, lives_no_more, prices, pushed, pushes, recasts, record_in, record_out, records_of_ended, refills_one, rejoins, renews_with, wakes_with}
+use Rattle.rules_moves.proofs.Runs.Ticks.{in_unit_status}
+use Rattle.rules_moves.proofs.Runs.MachineLaws.{MachineLaw}
 
 abbrev pub one_if : Bool → ℕ
 one_if true = 1

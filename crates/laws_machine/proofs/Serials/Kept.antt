@@ -4,7 +4,7 @@ use Rattle.std.specs.Prelude.{map, nat_lt, ◌&&◌}
 use mathlib.Core.Path.{subst, ◌∙◌}
 use Rattle.words_numbers.specs.declared.item.Item.{Item}
 use Rattle.words_script.specs.declared.decl.Script.{Script}
-use Rattle.script_code.specs.declared.unit.Unit.{Unit}
+use Rattle.rules_bodies.specs.declared.unit.Unit.{Unit}
 use Rattle.rules_machine.specs.Bodies.{Bodies}
 use Rattle.rules_machine.specs.State.{Machine, Thread}
 use Rattle.rules_machine.specs.Threads.{can_run, is_live, thread_at, thread_numbers, top_left}
@@ -19,14 +19,14 @@ use Rattle.rules_machine.specs.Ticks.{completes_at, runs, runs_head, tick, tick_
 use Rattle.rules_machine.specs.Runs.{opening, thread_opened, ticks}
 use Rattle.rules_machine.proofs.ItemsEnd.{instant_ends, next_is_due}
 use Rattle.rules_machine.specs.WellFormed.{IsWellFormed}
-use Rattle.laws_moves.specs.UnitRanges.{BodiesFit}
-use Rattle.laws_moves.proofs.Calls.Table.{sweeps_all_keep}
-use Rattle.laws_moves.proofs.Runs.Listed.{AllRun, head_can_run}
-use Rattle.laws_moves.proofs.Runs.Units.{in_unit_fits}
-use Rattle.laws_moves.proofs.Runs.Ticks.{charged_runs, charged_turn, dispatched}
-use Rattle.laws_moves.proofs.Runs.Since.{Rests, TickSince, asleep, completes_keep, ends_keep, handles_keep, instant_keep, item_done_keep, narrowed, run_since, settles_keep, prepares_rest}
-use Rattle.laws_moves.proofs.Runs.Beside.{both}
-use Rattle.laws_moves.proofs.Runs.MachineLaws.{law_beside}
+use Rattle.rules_moves.specs.UnitRanges.{BodiesFit}
+use Rattle.rules_moves.proofs.Calls.Table.{sweeps_all_keep}
+use Rattle.rules_moves.proofs.Runs.Listed.{AllRun, head_can_run}
+use Rattle.rules_moves.proofs.Runs.Units.{in_unit_fits}
+use Rattle.rules_moves.proofs.Runs.Ticks.{charged_runs, charged_turn, dispatched}
+use Rattle.rules_moves.proofs.Runs.Since.{Rests, TickSince, asleep, completes_keep, ends_keep, handles_keep, instant_keep, item_done_keep, narrowed, run_since, settles_keep, prepares_rest}
+use Rattle.rules_moves.proofs.Runs.Beside.{both}
+use Rattle.rules_moves.proofs.Runs.MachineLaws.{law_beside}
 use Rattle.laws_machine.proofs.Sweeps.Kept.{EndHeard, InHeard, LawHeard, RestHeard, opening_rest, tick_heard}
 use Rattle.laws_machine.proofs.Parts.Opening.{opening_listed}
 use Rattle.laws_machine.proofs.Signals.Takers.{Taker, charge_of, charged_taker}
@@ -35,7 +35,7 @@ use Rattle.laws_machine.proofs.Serials.Costs.{Costs, CostsOf, bonus, cost_change
 use Rattle.laws_machine.proofs.Serials.Calls.{end_cost, item_cost, unit_cost}
 use Rattle.laws_machine.proofs.Signals.Sources.{Plain, plain_law}
 use Rattle.laws_machine.proofs.Serials.Sweeps.{Few, visit_cost}
-use Rattle.laws_moves.proofs.Runs.Preparing.{IsReady, PreparingKeeps, alike_runs, prepared, prepares_keep}
+use Rattle.rules_moves.proofs.Runs.Preparing.{IsReady, PreparingKeeps, alike_runs, prepared, prepares_keep}
 
 module _ {P : Type 0} (bodies : Bodies P) where
   abbrev pub RestOrdered : Machine P → Type 0

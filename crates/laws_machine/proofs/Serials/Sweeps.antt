@@ -4,10 +4,10 @@ use Rattle.std.specs.Prelude.{filter, is_some, nat_lt, not, ◌&&◌}
 use mathlib.Core.Path.{subst, ◌∙◌}
 use Rattle.words_numbers.specs.declared.res.Res.TheVariants as res
 use Rattle.words_numbers.specs.declared.res.Res.{Res}
-use Rattle.script_code.specs.Next.{capped}
+use Rattle.rules_bodies.specs.Next.{capped}
 use Rattle.words_trace.specs.declared.event.Event.{Event}
 use Rattle.words_trace.specs.declared.event.Event.TheVariants as event
-use Rattle.parts_server.specs.Server.{ServerState, activate}
+use Rattle.rules_server.specs.Server.{ServerState, activate}
 use Rattle.rules_machine.specs.declared.frame.BodyOf.TheVariants as body_of
 use Rattle.rules_machine.specs.declared.frame.FrameKind.TheVariants as frame
 use Rattle.rules_machine.specs.declared.signal.SigAction.{SigAction}

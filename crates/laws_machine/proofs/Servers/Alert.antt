@@ -6,8 +6,8 @@ use mathlib.Core.Path.{subst, ◌∙◌}
 use Rattle.words_script.specs.declared.policy.Policy.{Policy}
 use Rattle.words_script.specs.declared.policy.Policy.TheVariants as policy
 use Rattle.words_trace.specs.declared.event.Event.TheVariants as event
-use Rattle.parts_server.specs.declared.ServerKind.TheVariants as kind
-use Rattle.parts_server.specs.Server.{ServerState, activate, new_server, new_server_as, set_high}
+use Rattle.rules_server.specs.declared.ServerKind.TheVariants as kind
+use Rattle.rules_server.specs.Server.{ServerState, activate, new_server, new_server_as, set_high}
 use Rattle.rules_machine.specs.Lists.{changed_at, is}
 use Rattle.rules_machine.specs.Bodies.{Bodies}
 use Rattle.rules_machine.specs.State.{Status, Thread, Waiting, blocked, dormant, ended, for_mutex_again, runnable}
@@ -20,8 +20,8 @@ use Rattle.rules_machine.specs.Cancellation.{without_cleanup}
 use Rattle.rules_machine.specs.Scheduling.{with_policy, with_priority}
 use Rattle.rules_machine.specs.Ticks.{nothing}
 use Rattle.rules_machine.specs.GoodState.{is_in_condition_wait}
-use Rattle.laws_moves.specs.Moves.{Core, KeepsAwake, alters, begins, blocks_for, blocks_plainly, drops, ends_with, enters_frame, leaves_frame, lives_no_more, prices, pushed, pushes, recasts, refills_one, rejoins, renews_with, wakes_with}
-use Rattle.laws_moves.proofs.Waiters.OfThreads.{changed_is}
+use Rattle.rules_moves.specs.Moves.{Core, KeepsAwake, alters, begins, blocks_for, blocks_plainly, drops, ends_with, enters_frame, leaves_frame, lives_no_more, prices, pushed, pushes, recasts, refills_one, rejoins, renews_with, wakes_with}
+use Rattle.rules_moves.proofs.Waiters.OfThreads.{changed_is}
 use Rattle.laws_machine.proofs.Servers.Right.{only}
 use Rattle.laws_machine.proofs.Servers.Moves.{Awake, one}
 

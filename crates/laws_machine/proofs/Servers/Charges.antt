@@ -3,15 +3,15 @@ use Rattle.std.proofs.Common.{Bool, List, None, Option, Some, [], ap, arith, fal
 use Rattle.std.specs.Prelude.{is_some, nat_lt, option_map, ◌&&◌, if◌then◌else◌}
 use mathlib.Core.Path.{◌∙◌}
 use Rattle.words_script.specs.declared.policy.Policy.{Policy}
-use Rattle.parts_server.specs.declared.Replenish.{Replenish}
-use Rattle.parts_server.specs.declared.ServerKind.TheVariants as kind
-use Rattle.parts_server.specs.Server.{ServerState, charge, is_high}
+use Rattle.rules_server.specs.declared.Replenish.{Replenish}
+use Rattle.rules_server.specs.declared.ServerKind.TheVariants as kind
+use Rattle.rules_server.specs.Server.{ServerState, charge, is_high}
 use Rattle.rules_machine.specs.State.{Status, Waiting, blocked, dormant, ended, runnable}
 use Rattle.rules_machine.specs.Threads.{is_live, is_runnable}
 use Rattle.rules_machine.specs.Servers.{charged, has_high, has_run, is_strict, may_open}
 use Rattle.rules_machine.specs.Ticks.{nothing}
 use Rattle.rules_machine.specs.GoodState.{is_sporadic}
-use Rattle.laws_moves.proofs.Waiters.Best.{Each}
+use Rattle.rules_moves.proofs.Waiters.Best.{Each}
 use Rattle.laws_machine.proofs.Servers.Right.{ServerIn, Sound, ThreadIn, charged_in, only, with_other}
 use Rattle.laws_machine.proofs.Servers.Alert.{NoneOf, contra}
 

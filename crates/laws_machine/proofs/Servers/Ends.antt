@@ -5,7 +5,7 @@ use mathlib.Core.Path.{subst, ◌∙◌}
 use Rattle.words_script.specs.declared.policy.Policy.{Policy}
 use Rattle.words_script.specs.declared.policy.Policy.TheVariants as policy
 use Rattle.words_trace.specs.declared.event.Event.TheVariants as event
-use Rattle.parts_server.specs.Server.{ServerState, is_high, plan}
+use Rattle.rules_server.specs.Server.{ServerState, is_high, plan}
 use Rattle.rules_machine.specs.Lists.{is}
 use Rattle.rules_machine.specs.Bodies.{Bodies}
 use Rattle.rules_machine.specs.State.{Status, Thread, Waiting, blocked, dormant, ended, runnable}
@@ -16,7 +16,7 @@ use Rattle.rules_machine.specs.Waking.{put_to_wait}
 use Rattle.rules_machine.specs.Ticks.{TickEnd, capacity_in, consumed_in, ends_tick, exhausting, nothing, planning, slice_is_used, slicing, tick_end, without_slice}
 use Rattle.rules_machine.specs.GoodState.{HasParameters, is_sporadic}
 use Rattle.rules_machine.proofs.Reading.{changed-keeps, thread-other, thread-same}
-use Rattle.laws_moves.specs.Moves.{Runs}
+use Rattle.rules_moves.specs.Moves.{Runs}
 use Rattle.laws_machine.proofs.Servers.Right.{ServerIn, ThreadIn, ThreadRight, high_again, only, planned_in}
 use Rattle.laws_machine.proofs.Servers.Moves.{Threads, one}
 use Rattle.laws_machine.proofs.Servers.Alert.{NoneOf, contra}

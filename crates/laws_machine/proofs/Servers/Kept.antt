@@ -6,8 +6,8 @@ use mathlib.Core.Path.{subst, ◌∙◌}
 use Rattle.words_script.specs.declared.decl.Script.{Script}
 use Rattle.words_script.specs.declared.policy.Policy.{Policy}
 use Rattle.words_script.specs.declared.policy.Policy.TheVariants as policy
-use Rattle.parts_server.specs.declared.Replenish.{Replenish}
-use Rattle.parts_server.specs.Server.{ServerState}
+use Rattle.rules_server.specs.declared.Replenish.{Replenish}
+use Rattle.rules_server.specs.Server.{ServerState}
 use Rattle.rules_machine.specs.Bodies.{Bodies}
 use Rattle.rules_machine.specs.State.{Machine, Thread}
 use Rattle.rules_machine.specs.Threads.{is_live, thread_at, thread_in}
@@ -16,9 +16,9 @@ use Rattle.rules_machine.specs.Turns.{turn_of}
 use Rattle.rules_machine.specs.Runs.{opening, thread_opened}
 use Rattle.rules_machine.specs.GoodState.{HasParameters, ServerIsRight, ServersAreRight, is_sporadic}
 use Rattle.rules_machine.specs.WellFormed.{IsWellFormed}
-use Rattle.laws_moves.proofs.Waiters.Best.{Each}
-use Rattle.laws_moves.proofs.Runs.Units as units_fit
-use Rattle.laws_moves.proofs.Runs.Units.{threads_fit}
+use Rattle.rules_moves.proofs.Waiters.Best.{Each}
+use Rattle.rules_moves.proofs.Runs.Units as units_fit
+use Rattle.rules_moves.proofs.Runs.Units.{threads_fit}
 use Rattle.laws_machine.proofs.Servers.Right.{MayServe, Rising, ServerIn, ThreadRight, fits_serve}
 use Rattle.laws_machine.proofs.Servers.Moves.{Threads}
 use Rattle.laws_machine.proofs.Servers.Ticks.{ServedRight}

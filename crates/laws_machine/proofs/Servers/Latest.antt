@@ -6,10 +6,10 @@ use Rattle.words_script.specs.declared.decl.Script.{Script}
 use Rattle.words_script.specs.declared.policy.Policy.{Policy}
 use Rattle.words_script.specs.declared.policy.Policy.TheVariants as policy
 use Rattle.words_trace.specs.declared.event.Event.TheVariants as event
-use Rattle.parts_server.specs.declared.Replenish.{Replenish}
-use Rattle.parts_server.specs.declared.ServerKind.{ServerKind}
-use Rattle.parts_server.specs.declared.ServerKind.TheVariants as kind
-use Rattle.parts_server.specs.Server.{ServerState, activate, oldest_pending, plan, refill, refill_from, set_high}
+use Rattle.rules_server.specs.declared.Replenish.{Replenish}
+use Rattle.rules_server.specs.declared.ServerKind.{ServerKind}
+use Rattle.rules_server.specs.declared.ServerKind.TheVariants as kind
+use Rattle.rules_server.specs.Server.{ServerState, activate, oldest_pending, plan, refill, refill_from, set_high}
 use Rattle.rules_machine.specs.declared.dispatch.LastDispatch.{LastDispatch}
 use Rattle.rules_machine.specs.declared.dispatch.LastDispatch.TheVariants as last
 use Rattle.rules_machine.specs.Lists.{changed_at, is}
@@ -29,13 +29,13 @@ use Rattle.rules_machine.specs.Ticks.{TickEnd, ends_tick, exhausting, nothing, p
 use Rattle.rules_machine.specs.Runs.{opening, thread_opened, ticks}
 use Rattle.rules_machine.specs.Throughout.{HoldsThroughout}
 use Rattle.rules_machine.specs.WellFormed.{IsWellFormed}
-use Rattle.laws_moves.specs.Moves.{Core, MayRenewing, Move, alters, begins, blocks_for, blocks_plainly, core_of, does, drops, ends_with, enters_frame, leaves_frame, lives_no_more, prices, pushed, pushes, recasts, refills_one, rejoins, renews_with, wakes_with}
-use Rattle.laws_moves.specs.UnitRanges.{BodiesFit}
-use Rattle.laws_moves.proofs.Waiters.OfThreads.{changed_is}
-use Rattle.laws_moves.proofs.Runs.Preparing.{Closed, IsReady}
-use Rattle.laws_moves.proofs.Runs.Ticks.{charged_turn, dispatched}
-use Rattle.laws_moves.proofs.Runs.Since.{Rests, TickSince, items_keep, run_since}
-use Rattle.laws_moves.proofs.Runs.Beside.{TickBeside, both}
+use Rattle.rules_moves.specs.Moves.{Core, MayRenewing, Move, alters, begins, blocks_for, blocks_plainly, core_of, does, drops, ends_with, enters_frame, leaves_frame, lives_no_more, prices, pushed, pushes, recasts, refills_one, rejoins, renews_with, wakes_with}
+use Rattle.rules_moves.specs.UnitRanges.{BodiesFit}
+use Rattle.rules_moves.proofs.Waiters.OfThreads.{changed_is}
+use Rattle.rules_moves.proofs.Runs.Preparing.{Closed, IsReady}
+use Rattle.rules_moves.proofs.Runs.Ticks.{charged_turn, dispatched}
+use Rattle.rules_moves.proofs.Runs.Since.{Rests, TickSince, items_keep, run_since}
+use Rattle.rules_moves.proofs.Runs.Beside.{TickBeside, both}
 use Rattle.laws_machine.specs.Rest.{RunsAreLatest}
 use Rattle.laws_machine.proofs.Parts.Opening.{opening_listed}
 use Rattle.laws_machine.proofs.Lists.Kept.{Placed, Placing, opening_placed, placed_tick}

@@ -8,9 +8,9 @@ use Rattle.words_script.specs.declared.policy.Policy.{Policy}
 use Rattle.words_script.specs.declared.policy.Policy.TheVariants as policy
 use Rattle.words_trace.specs.declared.event.Event.{Event}
 use Rattle.words_trace.specs.declared.event.Event.TheVariants as event
-use Rattle.parts_server.specs.declared.ServerKind.{ServerKind}
-use Rattle.parts_server.specs.declared.ServerKind.TheVariants as kind
-use Rattle.parts_server.specs.Server.{ServerState, activate, is_high, new_server, new_server_as, oldest_pending, refill}
+use Rattle.rules_server.specs.declared.ServerKind.{ServerKind}
+use Rattle.rules_server.specs.declared.ServerKind.TheVariants as kind
+use Rattle.rules_server.specs.Server.{ServerState, activate, is_high, new_server, new_server_as, oldest_pending, refill}
 use Rattle.rules_machine.specs.Lists.{changed_at, is}
 use Rattle.rules_machine.specs.Bodies.{Bodies}
 use Rattle.rules_machine.specs.State.{Status, Thread, Waiting, blocked, dormant, ended, for_mutex_again, runnable}
@@ -23,9 +23,9 @@ use Rattle.rules_machine.specs.Cancellation.{without_cleanup}
 use Rattle.rules_machine.specs.Scheduling.{with_policy, with_priority}
 use Rattle.rules_machine.specs.GoodState.{HasParameters, is_in_condition_wait, is_sporadic}
 use Rattle.rules_machine.proofs.Reading.{changed-length, changed-twice, thread-other, thread-same}
-use Rattle.laws_moves.specs.Moves.{Core, MayAwake, Move, alters, begins, blocks_for, blocks_plainly, core_of, does, drops, ends_with, enters_frame, leaves_frame, lives_no_more, prices, pushed, pushes, recasts, refills_one, rejoins, renews_with, wakes_with}
-use Rattle.laws_moves.proofs.Waiters.Best.{blocked_within}
-use Rattle.laws_moves.proofs.Waiters.OfThreads.{changed_is}
+use Rattle.rules_moves.specs.Moves.{Core, MayAwake, Move, alters, begins, blocks_for, blocks_plainly, core_of, does, drops, ends_with, enters_frame, leaves_frame, lives_no_more, prices, pushed, pushes, recasts, refills_one, rejoins, renews_with, wakes_with}
+use Rattle.rules_moves.proofs.Waiters.Best.{blocked_within}
+use Rattle.rules_moves.proofs.Waiters.OfThreads.{changed_is}
 use Rattle.laws_machine.proofs.Servers.Right.{MayServe, ServerIn, ThreadIn, ThreadRight, activated_as, activated_in, new_thread_in, none_consumed, only, priced_in, refill_kind, refill_params, refilled_in, refilled_of, with_other, woken_if, woken_in, woken_server}
 
 module _ {P : Type 0} (bodies : Bodies P) (who : Option ℕ) where

@@ -2,14 +2,14 @@
 use Rattle.std.proofs.Common.{Bool, arith, false, length, suc, true, zero, ℕ, ◌<◌, ◌≡◌, ◌≤◌}
 use Rattle.std.specs.Prelude.{nat_lt, ◌&&◌}
 use Rattle.words_script.specs.declared.decl.Script.{Script}
-use Rattle.parts_server.specs.Server.{ServerState, is_high}
+use Rattle.rules_server.specs.Server.{ServerState, is_high}
 use Rattle.rules_machine.specs.Bodies.{Bodies}
 use Rattle.rules_machine.specs.State.{Machine}
 use Rattle.rules_machine.specs.GoodState.{ServersAreRight}
 use Rattle.rules_machine.specs.Runs.{opening}
 use Rattle.rules_machine.specs.Throughout.{HoldsThroughout, after_items}
 use Rattle.rules_machine.specs.WellFormed.{IsWellFormed}
-use Rattle.laws_moves.specs.UnitRanges.{BodiesFit}
+use Rattle.rules_moves.specs.UnitRanges.{BodiesFit}
 use Rattle.laws_machine.specs.Rest.{ServersRest}
 use Rattle.laws_machine.proofs.Items.{servers_throughout}
 use Rattle.laws_machine.proofs.Servers.Right.{high_parts}

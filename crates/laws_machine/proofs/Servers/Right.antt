@@ -7,19 +7,19 @@ use mathlib.Core.Path.{subst, ◌∙◌}
 use Rattle.words_numbers.specs.Parameters.{Parameters}
 use Rattle.words_script.specs.declared.policy.Policy.{Policy}
 use Rattle.words_script.specs.declared.policy.Policy.TheVariants as policy
-use Rattle.parts_server.specs.declared.Replenish.{Replenish}
-use Rattle.parts_server.specs.declared.ServerKind.{ServerKind}
-use Rattle.parts_server.specs.declared.ServerKind.TheVariants as kind
-use Rattle.parts_server.specs.Calls.{MayPlan}
-use Rattle.parts_server.specs.Server as server
-use Rattle.parts_server.specs.Server.{ServerState, activate, charge, is_high, is_high_as, joined_after, joins_as, new_server, new_server_as, pending_total, plan, refill, refill_from, replenishment, set_high}
+use Rattle.rules_server.specs.declared.Replenish.{Replenish}
+use Rattle.rules_server.specs.declared.ServerKind.{ServerKind}
+use Rattle.rules_server.specs.declared.ServerKind.TheVariants as kind
+use Rattle.rules_server.specs.Calls.{MayPlan}
+use Rattle.rules_server.specs.Server as server
+use Rattle.rules_server.specs.Server.{ServerState, activate, charge, is_high, is_high_as, joined_after, joins_as, new_server, new_server_as, pending_total, plan, refill, refill_from, replenishment, set_high}
 use Rattle.rules_machine.specs.State.{Status, Thread, blocked, dormant, ended, runnable}
 use Rattle.rules_machine.specs.Threads.{is_blocked, is_live, is_runnable}
 use Rattle.rules_machine.specs.Servers.{has_run, is_strict, may_open, server_of}
 use Rattle.rules_machine.specs.WellFormed.{PolicyFits}
 use Rattle.rules_machine.specs.Scheduling.{at_priority}
 use Rattle.rules_machine.specs.GoodState.{HasParameters, is_sporadic}
-use Rattle.laws_moves.proofs.Waiters.Best.{Each}
+use Rattle.rules_moves.proofs.Waiters.Best.{Each}
 
 -- ---- a server
 

@@ -3,7 +3,7 @@ use Rattle.std.proofs.Common.{Bool, None, Option, Some, ap, arith, false, refl, 
 use Rattle.std.specs.Prelude.{option_map, ◌==◌}
 use mathlib.Core.Path.{subst, ◌∙◌}
 use Rattle.words_script.specs.declared.policy.Policy.{Policy}
-use Rattle.parts_server.specs.Server.{ServerState, charge, plan}
+use Rattle.rules_server.specs.Server.{ServerState, charge, plan}
 use Rattle.rules_machine.specs.Lists.{is}
 use Rattle.rules_machine.specs.Bodies.{Bodies}
 use Rattle.rules_machine.specs.State.{Machine, Status, Thread, Waiting, blocked, dormant, ended, for_end, runnable, waits_to_join}
@@ -16,13 +16,13 @@ use Rattle.rules_machine.specs.Dispatch.{dispatches}
 use Rattle.rules_machine.specs.Units.{in_unit}
 use Rattle.rules_machine.specs.Ticks.{tick_charged, tick_end}
 use Rattle.rules_machine.proofs.Reading.{changed-keeps, thread-other, thread-same}
-use Rattle.laws_moves.specs.Moves.{Stops}
-use Rattle.laws_moves.proofs.Waiters.Best.{running_within}
-use Rattle.laws_moves.proofs.Calls.Commuting.{status_kept}
+use Rattle.rules_moves.specs.Moves.{Stops}
+use Rattle.rules_moves.proofs.Waiters.Best.{running_within}
+use Rattle.rules_moves.proofs.Calls.Commuting.{status_kept}
 use Rattle.laws_machine.proofs.Servers.Right.{ThreadIn, ThreadRight, closed_in, fits_serve, only, opening_none, with_other}
 use Rattle.laws_machine.proofs.Servers.Moves.{Awake, Threads, activates_right, one, threads_keep, threads_renewed}
-use Rattle.laws_moves.proofs.Runs.Preparing.{IsReady}
-use Rattle.laws_moves.proofs.Runs.Ticks.{TickKeeps, charged_turn, dispatched}
+use Rattle.rules_moves.proofs.Runs.Preparing.{IsReady}
+use Rattle.rules_moves.proofs.Runs.Ticks.{TickKeeps, charged_turn, dispatched}
 use Rattle.laws_machine.proofs.Parts.Kept.{PartsRight, parts_keep, parts_renew, parts_stop, parts_tick}
 use Rattle.laws_machine.proofs.Servers.Alert.{Alert, NoneOf, alert_keep, alert_renewed, awake_of}
 use Rattle.laws_machine.proofs.Servers.Units.{kept_in_unit}

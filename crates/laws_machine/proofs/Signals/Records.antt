@@ -12,9 +12,9 @@ use Rattle.rules_machine.specs.Queues.{record_of_notification, registered, with_
 use Rattle.rules_machine.specs.GoodState.{SignalsAreRight, count_of}
 use Rattle.rules_machine.specs.Turns.{Turn, changes_queue}
 use Rattle.rules_machine.proofs.Reading.{changed-keeps}
-use Rattle.laws_moves.specs.Moves.{Keeps, begins, fires, message_in, message_out, message_through, record_in, record_out, records_of_ended, refills_one, registers, renews_with, wakes_with}
-use Rattle.laws_moves.proofs.Calls.Commuting.{wakes_telling_part}
-use Rattle.laws_moves.proofs.Waiters.AfterMoves.{part_begun, part_refill, part_renewed}
+use Rattle.rules_moves.specs.Moves.{Keeps, begins, fires, message_in, message_out, message_through, record_in, record_out, records_of_ended, refills_one, registers, renews_with, wakes_with}
+use Rattle.rules_moves.proofs.Calls.Commuting.{wakes_telling_part}
+use Rattle.rules_moves.proofs.Waiters.AfterMoves.{part_begun, part_refill, part_renewed}
 
 -- what the parts of a machine with records are
 pub record RecordsAreRight {P : Type 0} (m : Machine P) : Type 0 where

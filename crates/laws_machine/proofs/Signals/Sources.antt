@@ -3,7 +3,7 @@ use Rattle.std.proofs.Common.{Bool, List, None, Option, Some, ap, arith, false, 
 use Rattle.std.specs.Prelude.{is_some}
 use mathlib.Core.Path.{subst}
 use Rattle.words_trace.specs.declared.event.Event.TheVariants as event
-use Rattle.parts_server.specs.Server.{ServerState}
+use Rattle.rules_server.specs.Server.{ServerState}
 use Rattle.rules_machine.specs.Bodies.{Bodies}
 use Rattle.rules_machine.specs.State.{Machine, SignalRecord}
 use Rattle.rules_machine.specs.Threads.{can_run, thread_at}
@@ -11,13 +11,13 @@ use Rattle.rules_machine.specs.Turns.{Turn, changes, moves_if, tells}
 use Rattle.rules_machine.specs.Servers.{plans_server}
 use Rattle.rules_machine.specs.Queues.{record_of_notification}
 use Rattle.rules_machine.specs.Ticks.{TickEnd, ends_tick, exhausting, nothing, planning, slicing, without_slice}
-use Rattle.laws_moves.specs.Moves.{MayRenewing, Move, begins, blocks_plainly, does, fires, recasts, record_in, record_out, records_of_ended, refills_one, renews_with, wakes_with}
-use Rattle.laws_moves.proofs.Waiters.Best.{Each}
-use Rattle.laws_moves.proofs.Calls.Commuting.{wakes_telling_part}
-use Rattle.laws_moves.proofs.Waiters.AfterMoves.{part_begun, part_refill, part_renewed}
-use Rattle.laws_moves.proofs.Runs.Listed.{each_kept}
+use Rattle.rules_moves.specs.Moves.{MayRenewing, Move, begins, blocks_plainly, does, fires, recasts, record_in, record_out, records_of_ended, refills_one, renews_with, wakes_with}
+use Rattle.rules_moves.proofs.Waiters.Best.{Each}
+use Rattle.rules_moves.proofs.Calls.Commuting.{wakes_telling_part}
+use Rattle.rules_moves.proofs.Waiters.AfterMoves.{part_begun, part_refill, part_renewed}
+use Rattle.rules_moves.proofs.Runs.Listed.{each_kept}
 use Rattle.laws_machine.proofs.Signals.Ignored.{each_last}
-use Rattle.laws_moves.proofs.Runs.MachineLaws.{MachineLaw}
+use Rattle.rules_moves.proofs.Runs.MachineLaws.{MachineLaw}
 use Rattle.laws_machine.proofs.Serials.Distinct.{one_if}
 use Rattle.laws_machine.proofs.Serials.Costs.{IsPlain, one_small}
 

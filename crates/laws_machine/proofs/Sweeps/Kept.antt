@@ -16,20 +16,20 @@ use Rattle.rules_machine.specs.Ticks.{completes_at, later, runs, runs_head, tick
 use Rattle.rules_machine.specs.Runs.{opening, ticks}
 use Rattle.rules_machine.proofs.ItemsEnd.{instant_ends, next_is_due}
 use Rattle.rules_machine.specs.WellFormed.{IsWellFormed}
-use Rattle.laws_moves.specs.UnitRanges.{BodiesFit}
-use Rattle.laws_moves.proofs.Runs.Listed.{AllRun, head_can_run}
-use Rattle.laws_moves.proofs.Runs.Units.{in_unit_fits}
-use Rattle.laws_moves.proofs.Runs.Ticks.{charged_runs, charged_turn, dispatched}
-use Rattle.laws_moves.proofs.Runs.Since.{Rests, TickSince, completes_keep, ends_keep, handles_keep, instant_keep, item_done_keep, run_since, settles_keep, prepares_rest}
-use Rattle.laws_moves.proofs.Runs.Beside.{TickBeside, both}
+use Rattle.rules_moves.specs.UnitRanges.{BodiesFit}
+use Rattle.rules_moves.proofs.Runs.Listed.{AllRun, head_can_run}
+use Rattle.rules_moves.proofs.Runs.Units.{in_unit_fits}
+use Rattle.rules_moves.proofs.Runs.Ticks.{charged_runs, charged_turn, dispatched}
+use Rattle.rules_moves.proofs.Runs.Since.{Rests, TickSince, completes_keep, ends_keep, handles_keep, instant_keep, item_done_keep, run_since, settles_keep, prepares_rest}
+use Rattle.rules_moves.proofs.Runs.Beside.{TickBeside, both}
 use Rattle.laws_machine.proofs.Lists.Kept.{Placed, Placing, opening_placed, placed_tick}
 use Rattle.laws_machine.proofs.Slices.{In, Slices, opening_slices, slices_tick}
 use Rattle.laws_machine.proofs.Signals.Ignored.{Heard, Hears, heard_tick, sent}
 use Rattle.laws_machine.proofs.Sweeps.Visits.{Quiet, sweeps_quiet, taken_of}
 use Rattle.laws_machine.proofs.Parts.Opening.{opening_listed}
-use Rattle.laws_moves.proofs.Runs.Preparing.{IsReady, PreparingKeeps, alike_runs, prepared, prepares_keep}
+use Rattle.rules_moves.proofs.Runs.Preparing.{IsReady, PreparingKeeps, alike_runs, prepared, prepares_keep}
 use Rattle.rules_machine.proofs.Reading.{changed-keeps}
-use Rattle.parts_server.specs.Server.{ServerState, activate, plan}
+use Rattle.rules_server.specs.Server.{ServerState, activate, plan}
 
 module _ {P : Type 0} (bodies : Bodies P) (fits : BodiesFit bodies) (Rest : Machine P → Type 0) (Law : Machine P → Turn P → Type 0) (Mid Done : Bool → ℕ → Machine P → Turn P → Type 0) (End : Bool → ℕ → Machine P → Type 0)
     (all : TickSince bodies Rest Law Mid Done End) (After : Machine P → Type 0) where

@@ -7,11 +7,11 @@ use mathlib.Core.Path.{subst, ◌∙◌}
 use Rattle.words_numbers.specs.Signals.{has_signal}
 use Rattle.words_numbers.specs.declared.res.Res.{Res}
 use Rattle.words_numbers.specs.declared.res.Res.TheVariants as res
-use Rattle.parts_lists.specs.Threads.{stands_in}
-use Rattle.script_code.specs.Next.{capped}
+use Rattle.rules_lists.specs.Threads.{stands_in}
+use Rattle.rules_bodies.specs.Next.{capped}
 use Rattle.words_trace.specs.declared.event.Event.{Event}
 use Rattle.words_trace.specs.declared.event.Event.TheVariants as event
-use Rattle.parts_server.specs.Server.{ServerState, activate}
+use Rattle.rules_server.specs.Server.{ServerState, activate}
 use Rattle.rules_machine.specs.declared.frame.BodyOf.TheVariants as body_of
 use Rattle.rules_machine.specs.declared.frame.FrameKind.TheVariants as frame
 use Rattle.rules_machine.specs.declared.signal.SigAction.{SigAction}
@@ -28,10 +28,10 @@ use Rattle.rules_machine.specs.Delivery.{acts, can_take, catches, defers_handler
 use Rattle.rules_machine.specs.Settling.{settled}
 use Rattle.rules_machine.specs.GoodState.{IsSwept}
 use Rattle.rules_machine.proofs.Reading.{thread-other}
-use Rattle.laws_moves.proofs.Waiters.Best.{first_none, first_one}
-use Rattle.laws_moves.proofs.Calls.Commuting.{wakes_telling_part}
+use Rattle.rules_moves.proofs.Waiters.Best.{first_none, first_one}
+use Rattle.rules_moves.proofs.Calls.Commuting.{wakes_telling_part}
 use Rattle.laws_machine.proofs.Signals.Ignored.{Heard, Sent, same_heard, sent}
-use Rattle.laws_moves.proofs.Runs.Listed.{each_kept}
+use Rattle.rules_moves.proofs.Runs.Listed.{each_kept}
 use Rattle.laws_machine.proofs.Lists.Places.{Stand, settled_stays}
 
 -- ---- a thread that another's waking does not touch

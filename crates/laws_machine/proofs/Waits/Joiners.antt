@@ -4,7 +4,7 @@ use Rattle.std.specs.Prelude.{◌&&◌}
 use Rattle.std.specs.Option.{option_map_or}
 use mathlib.Core.Path.{subst, ◌∙◌}
 use Rattle.words_trace.specs.declared.event.Event.TheVariants as event
-use Rattle.parts_server.specs.Server.{ServerState, activate, oldest_pending, refill}
+use Rattle.rules_server.specs.Server.{ServerState, activate, oldest_pending, refill}
 use Rattle.words_script.specs.declared.policy.Policy.{Policy}
 use Rattle.rules_machine.specs.Lists.{changed_at}
 use Rattle.rules_machine.specs.Bodies.{Bodies}
@@ -17,9 +17,9 @@ use Rattle.rules_machine.specs.Lives.{with_joiner, without_life, without_top}
 use Rattle.rules_machine.specs.Cancellation.{without_cleanup}
 use Rattle.rules_machine.specs.Scheduling.{with_policy, with_priority}
 use Rattle.rules_machine.specs.GoodState.{is_in_condition_wait}
-use Rattle.laws_moves.specs.Moves.{Core, KeepsAwake, Unawaited, alters, begins, blocks_for, blocks_plainly, drops, ends_with, enters_frame, is_for_end, leaves_frame, lives_no_more, prices, pushed, pushes, recasts, refills_one, rejoins, renews_with, wakes_with}
-use Rattle.laws_moves.proofs.Waiters.OfThreads.{changed_is}
-use Rattle.laws_moves.proofs.Calls.Table.{JoinersWait}
+use Rattle.rules_moves.specs.Moves.{Core, KeepsAwake, Unawaited, alters, begins, blocks_for, blocks_plainly, drops, ends_with, enters_frame, is_for_end, leaves_frame, lives_no_more, prices, pushed, pushes, recasts, refills_one, rejoins, renews_with, wakes_with}
+use Rattle.rules_moves.proofs.Waiters.OfThreads.{changed_is}
+use Rattle.rules_moves.proofs.Calls.Table.{JoinersWait}
 
 only : {a b : Waiting} → Some a ≡ Some b → a ≡ b
 only {a} {b} p = ap out p

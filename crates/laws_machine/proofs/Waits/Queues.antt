@@ -11,10 +11,10 @@ use Rattle.rules_machine.specs.Waiters.{somebody_waits}
 use Rattle.rules_machine.specs.Turns.{Turn, changes_queue}
 use Rattle.rules_machine.specs.Queues.{has_room, highest_priority, next_message, registered, waits_to_receive, waits_to_send, with_message, without_message}
 use Rattle.rules_machine.proofs.Reading.{changed-twice}
-use Rattle.laws_moves.specs.Moves.{Keeps, May, Move, begins, blocks_for, blocks_plainly, does, fires, message_in, message_out, message_through, refills_one, registers, renews_with, wakes_with}
-use Rattle.laws_moves.proofs.Calls.Commuting.{wakes_telling_part}
-use Rattle.laws_moves.proofs.Waiters.AfterMoves.{part_begun, part_refill, part_renewed, wait_begun, waited_before}
-use Rattle.laws_moves.proofs.Waiters.OfThreads.{changed_is}
+use Rattle.rules_moves.specs.Moves.{Keeps, May, Move, begins, blocks_for, blocks_plainly, does, fires, message_in, message_out, message_through, refills_one, registers, renews_with, wakes_with}
+use Rattle.rules_moves.proofs.Calls.Commuting.{wakes_telling_part}
+use Rattle.rules_moves.proofs.Waiters.AfterMoves.{part_begun, part_refill, part_renewed, wait_begun, waited_before}
+use Rattle.rules_moves.proofs.Waiters.OfThreads.{changed_is}
 
 -- one queue, whom some wait to receive from, and some to send to
 pub record QueueRight (x : Queue) (receiving sending : Bool) : Type 0 where

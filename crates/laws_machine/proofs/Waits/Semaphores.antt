@@ -9,9 +9,9 @@ use Rattle.rules_machine.specs.Threads.{semaphore_at}
 use Rattle.rules_machine.specs.Waiters.{somebody_waits}
 use Rattle.rules_machine.specs.Semaphores.{waits_on_semaphore}
 use Rattle.rules_machine.specs.Turns.{Turn}
-use Rattle.laws_moves.specs.Moves.{Keeps, May, Move, blocks_for, blocks_plainly, does, sem_down, sem_up, refills_one, wakes_with, begins, renews_with}
-use Rattle.laws_moves.proofs.Waiters.AfterMoves.{part_begun, part_refill, part_renewed, wait_begun, waited_before}
-use Rattle.laws_moves.proofs.Calls.Commuting.{wakes_telling_part}
+use Rattle.rules_moves.specs.Moves.{Keeps, May, Move, blocks_for, blocks_plainly, does, sem_down, sem_up, refills_one, wakes_with, begins, renews_with}
+use Rattle.rules_moves.proofs.Waiters.AfterMoves.{part_begun, part_refill, part_renewed, wait_begun, waited_before}
+use Rattle.rules_moves.proofs.Calls.Commuting.{wakes_telling_part}
 
 abbrev pub SemaphoresAreRight : {P : Type 0} → Machine P → Type 0
 SemaphoresAreRight m = (k : ℕ) → somebody_waits m (waits_on_semaphore k) ≡ true → semaphore_at m k ≡ 0

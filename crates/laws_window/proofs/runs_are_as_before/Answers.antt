@@ -1,6 +1,6 @@
 use Rattle.rules_machine.specs.Machine.{bodies_of}
 use Rattle.rules_machine.specs.Runs.{opening}
-use Rattle.laws_moves.proofs.Runs.Units.{bodies_fit}
+use Rattle.rules_moves.proofs.Runs.Units.{bodies_fit}
 use Rattle.laws_window.proofs.InWindow.{stands_at}
 use Rattle.laws_window.proofs.AsBefore.{runs_as_before}
 use Rattle.laws_window.proofs.runs_are_as_before.Goals as goal

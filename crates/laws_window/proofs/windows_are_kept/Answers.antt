@@ -1,5 +1,5 @@
 use Rattle.rules_machine.specs.Machine.{bodies_of}
-use Rattle.laws_moves.proofs.Runs.Units.{bodies_fit}
+use Rattle.rules_moves.proofs.Runs.Units.{bodies_fit}
 use Rattle.laws_window.proofs.InWindow.{keeps_windows}
 use Rattle.laws_window.proofs.windows_are_kept.Goals as goal
 

@@ -1,5 +1,5 @@
 use Rattle.std.proofs.Common.{◌≡◌, ◌∷◌, ◌++◌, []}
-use Rattle.parts_server.proofs.Laws.{joined_last}
+use Rattle.rules_server.proofs.Laws.{joined_last}
 use Rattle.parts_server.proofs.join.Goals as goal
 
 pub returns : goal.returns

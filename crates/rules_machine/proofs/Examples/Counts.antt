@@ -2,8 +2,8 @@
 use Rattle.std.proofs.Common.{List, [], arith, ◌∷◌, ◌≡◌, Some, refl}
 use Rattle.std.specs.Prelude.{codes}
 use Rattle.words_numbers.specs.declared.item.Item.TheVariants as item
-use Rattle.parts_server.specs.declared.ServerKind.TheVariants as server_kind
-use Rattle.parts_server.specs.Server.{ServerState}
+use Rattle.rules_server.specs.declared.ServerKind.TheVariants as server_kind
+use Rattle.rules_server.specs.Server.{ServerState}
 use Rattle.words_script.specs.declared.call.Call.TheVariants as call
 use Rattle.words_script.specs.declared.policy.Policy.TheVariants as policy
 use Rattle.words_script.specs.declared.decl.Decl.TheVariants as decl

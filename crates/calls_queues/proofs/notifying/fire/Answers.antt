@@ -1,5 +1,5 @@
 use Rattle.std.proofs.Common.{◌≡◌, None, subst}
-use Rattle.words_trace.specs.Tells.{Tells}
+use Rattle.parts_tracer.specs.Tells.{Tells}
 use Rattle.rules_machine.specs.Queues.{record_of_notification, registered}
 use Rattle.rules_machine.specs.Signals.{generates}
 use Rattle.rules_machine.specs.State.{SignalRecord}

@@ -1,5 +1,5 @@
 use Rattle.std.proofs.Common.{◌≡◌, subst}
-use Rattle.words_trace.specs.Tells.{Tells}
+use Rattle.parts_tracer.specs.Tells.{Tells}
 use Rattle.words_numbers.specs.declared.res.Res.TheVariants as res
 use Rattle.rules_machine.specs.Signals.{delivers}
 use Rattle.rules_machine.specs.Waking.{wakes}

@@ -1,5 +1,5 @@
 use Rattle.std.proofs.Common.{◌≡◌, subst}
-use Rattle.words_trace.specs.Tells.{Tells}
+use Rattle.parts_tracer.specs.Tells.{Tells}
 use Rattle.rules_machine.specs.Signals.{sends_signal}
 use Rattle.rules_machine.specs.State.{SignalRecord}
 use Rattle.kernel_state.specs.Kernel.{after, by, told}

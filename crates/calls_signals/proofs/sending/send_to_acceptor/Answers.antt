@@ -1,5 +1,5 @@
 use Rattle.words_numbers.specs.declared.res.Res.TheVariants as res
-use Rattle.script_code.specs.declared.cursor.Cursor.{Cursor}
+use Rattle.rules_bodies.specs.declared.cursor.Cursor.{Cursor}
 use Rattle.rules_machine.specs.Signals.{delivers}
 use Rattle.rules_machine.specs.Turns.{Turn, returns, ◌▷◌}
 use Rattle.rules_machine.specs.Waking.{wakes}

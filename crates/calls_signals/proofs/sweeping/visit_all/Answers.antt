@@ -1,5 +1,5 @@
 use Rattle.std.proofs.Common.{◌≡◌, ◌<◌, ℕ, arith, length, subst, sym}
-use Rattle.words_trace.specs.Tells.{Tells}
+use Rattle.parts_tracer.specs.Tells.{Tells}
 use Rattle.rules_machine.specs.Threads.{thread_at}
 use Rattle.rules_flat_code.specs.FlatBodies.{flat_bodies}
 use Rattle.kernel_state.specs.Kernel.{after, told}

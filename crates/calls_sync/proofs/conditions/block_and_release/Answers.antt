@@ -2,7 +2,7 @@ use Rattle.rules_machine.specs.Mutexes.{releases}
 use Rattle.rules_machine.specs.State.{for_condition}
 use Rattle.rules_machine.specs.Waking.{blocks}
 use Rattle.rules_machine.proofs.Behind.{releases_behind}
-use Rattle.words_trace.proofs.Tells.{tells_nothing}
+use Rattle.parts_tracer.proofs.Tells.{tells_nothing}
 use Rattle.kernel_state.specs.Kernel.{by}
 use Rattle.kernel_state.proofs.Turns.{then_state, then_told}
 use Rattle.calls_sync.proofs.conditions.block_and_release.Goals as goal

@@ -1,10 +1,10 @@
 use Rattle.std.proofs.Common.{◌≡◌, ◌∙◌, ℕ, ap, subst, sym}
 use Rattle.words_numbers.specs.declared.res.Res.TheVariants as res
-use Rattle.words_trace.specs.Tells.{Tells}
+use Rattle.parts_tracer.specs.Tells.{Tells}
 use Rattle.rules_machine.specs.Conditions.{signals_best_times}
 use Rattle.rules_machine.specs.Turns.{Turn, returns}
 use Rattle.rules_machine.proofs.BehindCalls.{signals_best_of_behind}
-use Rattle.script_code.specs.declared.cursor.Cursor.{Cursor}
+use Rattle.rules_bodies.specs.declared.cursor.Cursor.{Cursor}
 use Rattle.kernel_state.specs.Kernel.{Kernel, after, by, told, turn}
 use Rattle.calls_sync.specs.Waits.{WaitsFit}
 use Rattle.calls_sync.proofs.Returned.{returned_fits}

@@ -1,7 +1,7 @@
 use Rattle.std.proofs.Common.{Bool, List, not, subst, sym}
-use Rattle.words_trace.specs.Tells.{Tells}
+use Rattle.parts_tracer.specs.Tells.{Tells}
 use Rattle.words_trace.specs.Text.{Entry}
-use Rattle.script_code.specs.declared.cursor.Cursor.{Cursor}
+use Rattle.rules_bodies.specs.declared.cursor.Cursor.{Cursor}
 use Rattle.rules_machine.specs.Mutexes.{owns_boosting}
 use Rattle.rules_machine.specs.Servers.{activates_if}
 use Rattle.rules_machine.specs.Threads.{can_run}

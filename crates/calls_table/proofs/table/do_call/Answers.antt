@@ -1,5 +1,5 @@
 use Rattle.std.proofs.Common.{◌≡◌, ℕ, Some, subst, sym}
-use Rattle.words_trace.specs.Tells.{Tells}
+use Rattle.parts_tracer.specs.Tells.{Tells}
 use Rattle.words_script.specs.declared.call.Call.{Call}
 use Rattle.rules_machine.specs.Calls.{call_effect}
 use Rattle.rules_machine.specs.Conditions.{waits}

@@ -1,7 +1,7 @@
 use Rattle.std.proofs.Common.{subst, sym}
 use Rattle.words_trace.specs.declared.event.Event.TheVariants as event
-use Rattle.words_trace.specs.Tells.{Tells}
-use Rattle.script_code.specs.declared.cursor.Cursor.{Cursor}
+use Rattle.parts_tracer.specs.Tells.{Tells}
+use Rattle.rules_bodies.specs.declared.cursor.Cursor.{Cursor}
 use Rattle.rules_machine.specs.Lives.{wakes_joiner, without_life, without_target}
 use Rattle.rules_machine.specs.State.{Joiner}
 use Rattle.rules_machine.specs.Turns.{Turn, changes, changes_pending, tells, ◌▷◌}

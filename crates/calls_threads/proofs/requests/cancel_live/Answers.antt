@@ -1,6 +1,6 @@
 use Rattle.std.proofs.Common.{subst, sym}
 use Rattle.words_numbers.specs.declared.res.Res.TheVariants as res
-use Rattle.script_code.specs.declared.cursor.Cursor.{Cursor}
+use Rattle.rules_bodies.specs.declared.cursor.Cursor.{Cursor}
 use Rattle.rules_machine.specs.Cancellation.{acts_if_blocked, requested}
 use Rattle.rules_machine.specs.Turns.{Turn, changes, returns, ◌▷◌}
 use Rattle.rules_machine.proofs.BehindCalls.{acts_if_blocked_behind}

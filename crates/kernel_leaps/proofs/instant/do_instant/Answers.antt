@@ -1,5 +1,5 @@
 use Rattle.std.proofs.Common.{◌≡◌, ◌<◌, ◌^◌, arith, subst, sym, ◌∙◌}
-use Rattle.words_trace.specs.Tells.{Tells}
+use Rattle.parts_tracer.specs.Tells.{Tells}
 use Rattle.rules_machine.specs.DueItems.{item_done}
 use Rattle.rules_machine.proofs.ItemsEnd.{item_falls}
 use Rattle.rules_flat_code.specs.FlatBodies.{flat_bodies}
@@ -7,7 +7,7 @@ use Rattle.kernel_state.specs.Kernel.{Kernel, after, told, turn}
 use Rattle.calls_table.specs.Handled.{CanHandle}
 use Rattle.rules_machine.specs.DueItems.{handles}
 use Rattle.rules_machine.specs.Turns.{Turn, settles_since, ◌▷◌}
-use Rattle.script_code.specs.declared.cursor.Cursor.{Cursor}
+use Rattle.rules_bodies.specs.declared.cursor.Cursor.{Cursor}
 use Rattle.calls_signals.specs.Sweeping.{CanSweep}
 use Rattle.kernel_leaps.proofs.Landing.{item_sweeps}
 use Rattle.kernel_leaps.proofs.Halfway.{all_state, all_told, fits_now, one_done}

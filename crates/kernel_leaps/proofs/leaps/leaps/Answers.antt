@@ -1,7 +1,7 @@
 use Rattle.std.proofs.Common.{◌+◌, ◌≤◌, ◌^◌, ◌∙◌, None, Some, ap, arith, sym}
 use Rattle.rules_machine.proofs.Counting.{instant_now}
 use Rattle.rules_flat_code.specs.FlatBodies.{flat_bodies}
-use Rattle.script_code.specs.declared.cursor.Cursor.{Cursor}
+use Rattle.rules_bodies.specs.declared.cursor.Cursor.{Cursor}
 use Rattle.rules_machine.specs.State.{Machine}
 use Rattle.kernel_state.specs.Kernel.{Kernel, turn}
 use Rattle.kernel_leaps.proofs.Fitting.{instant_fits}

@@ -1,5 +1,5 @@
 use Rattle.std.proofs.Common.{◌≡◌, ◌≤◌, ◌+◌, ◌-◌, ℕ, arith, subst, sym, ◌∙◌}
-use Rattle.words_trace.specs.Tells.{Tells}
+use Rattle.parts_tracer.specs.Tells.{Tells}
 use Rattle.rules_machine.specs.Eventful.{busy}
 use Rattle.rules_machine.specs.Runs.{ticks}
 use Rattle.rules_flat_code.specs.FlatBodies.{flat_bodies}

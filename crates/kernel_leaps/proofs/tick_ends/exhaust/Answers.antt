@@ -1,5 +1,5 @@
 use Rattle.std.proofs.Common.{List, not, refl, subst, sym}
-use Rattle.words_trace.specs.Tells.{Tells}
+use Rattle.parts_tracer.specs.Tells.{Tells}
 use Rattle.words_trace.specs.Text.{Entry}
 use Rattle.words_trace.specs.declared.event.Event.TheVariants as event
 use Rattle.rules_machine.specs.Mutexes.{owns_boosting}

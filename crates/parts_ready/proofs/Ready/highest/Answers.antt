@@ -1,5 +1,5 @@
 use Rattle.std.proofs.Common.{subst, ◌∙◌}
-use Rattle.parts_ready.specs.Lists.{AreReadyLists}
+use Rattle.rules_lists.specs.Lists.{AreReadyLists}
 use Rattle.parts_ready.proofs.Places.{head_known}
 use Rattle.parts_ready.proofs.Heads.{named_given}
 use Rattle.parts_ready.proofs.Ready.highest.Goals as goal

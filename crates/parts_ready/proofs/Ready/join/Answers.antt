@@ -1,6 +1,6 @@
 use Rattle.std.proofs.Common.{◌≡◌, ◌-◌, ◌<◌, ◌∷◌, ◌++◌, [], ℕ, List, false, nat_lt, length, get_or, set, subst, sym, ap, ◌∙◌, arith}
 use Rattle.parts_links.specs.Links.{Lists, on_a_list}
-use Rattle.parts_ready.specs.Lists.{ReadyLists}
+use Rattle.rules_lists.specs.Lists.{ReadyLists}
 use Rattle.parts_ready.proofs.Places.{at_tail, at_head, marked_after, tail_marks, head_marks, without_nowhere}
 use Rattle.parts_ready.proofs.Nodes.{times_off}
 use Rattle.parts_ready.specs.declared.End.TheVariants.{Head, Tail}

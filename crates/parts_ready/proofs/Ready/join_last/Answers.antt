@@ -1,5 +1,5 @@
 use Rattle.std.proofs.Common.{◌≡◌}
-use Rattle.parts_ready.specs.Lists.{without}
+use Rattle.rules_lists.specs.Lists.{without}
 use Rattle.parts_ready.proofs.Places.{without_nowhere}
 use Rattle.parts_ready.proofs.Nodes.{times_off}
 use Rattle.parts_ready.proofs.Ready.join_last.Goals as goal

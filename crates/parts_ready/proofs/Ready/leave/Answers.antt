@@ -1,7 +1,7 @@
 use Rattle.std.specs.Prelude.{slice_get, List, [], ℕ}
 use Rattle.std.proofs.Common.{◌≡◌, ◌<◌, true, get_or, refl, subst, sym, ap, ◌∙◌, arith}
 use Rattle.parts_links.specs.Links.{Lists, stands_in}
-use Rattle.parts_ready.specs.Lists.{ReadyLists, highest, without}
+use Rattle.rules_lists.specs.Lists.{ReadyLists, highest, without}
 use Rattle.parts_ready.proofs.Places.{without_ok}
 use Rattle.parts_ready.proofs.Nodes.{on_at, all_without}
 use Rattle.parts_ready.proofs.Heads.{head_goes, is_head, is_other, mark_goes, marks_stay, named_small, other_goes, stands_within}

@@ -1,5 +1,5 @@
 use Rattle.std.proofs.Common.{◌≡◌, ap}
-use Rattle.parts_ready.specs.Lists.{ReadyLists, times_in_all}
+use Rattle.rules_lists.specs.Lists.{ReadyLists, times_in_all}
 use Rattle.parts_ready.proofs.Places.{times_gone_in_all}
 use Rattle.parts_ready.proofs.Nodes.{off_lists}
 use Rattle.parts_ready.proofs.Ready.put.Goals as goal

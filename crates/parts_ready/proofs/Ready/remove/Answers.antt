@@ -1,6 +1,6 @@
 use Rattle.std.proofs.Common.{◌≡◌, false, refl, subst}
 use Rattle.parts_links.specs.Links.{on_a_list}
-use Rattle.parts_ready.specs.Lists.{ReadyLists, without}
+use Rattle.rules_lists.specs.Lists.{ReadyLists, without}
 use Rattle.parts_ready.proofs.Places.{without_nowhere}
 use Rattle.parts_ready.proofs.Nodes.{times_off}
 use Rattle.parts_ready.proofs.Ready.remove.Goals as goal

@@ -1,6 +1,6 @@
 use Rattle.std.proofs.Common.{◌≡◌, ◌≢◌, ◌-◌, [], Some, true, get_or, subst, refl, sym, ap, ◌∙◌, arith}
 use Rattle.parts_links.specs.Links.{Lists, follower_on, stands_in}
-use Rattle.parts_ready.specs.Lists.{ReadyLists, highest}
+use Rattle.rules_lists.specs.Lists.{ReadyLists, highest}
 use Rattle.parts_ready.proofs.Nodes.{on_at}
 use Rattle.parts_ready.proofs.Heads.{head_is, head_rotates, is_head, moved, named_small, other_rotates, rotated_marks, rotated_ok}
 use Rattle.parts_ready.proofs.Ready.rotate.Goals as goal

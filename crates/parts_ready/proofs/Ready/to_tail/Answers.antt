@@ -1,6 +1,6 @@
 use Rattle.std.proofs.Common.{◌≡◌, ◌+◌, [], None, get_or, true, subst, sym, ap, ◌∙◌, arith}
 use Rattle.parts_links.specs.Links.{follower_on, stands_in}
-use Rattle.parts_ready.specs.Lists.{ReadyLists, to_tail}
+use Rattle.rules_lists.specs.Lists.{ReadyLists, to_tail}
 use Rattle.parts_ready.proofs.Nodes.{on_at}
 use Rattle.parts_ready.proofs.Tails.{tail_stays}
 use Rattle.parts_ready.proofs.Ready.to_tail.Goals as goal

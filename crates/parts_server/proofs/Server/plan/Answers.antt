@@ -1,9 +1,9 @@
 use Rattle.std.proofs.Common.{length, ◌≡◌, ◌≤◌, subst, sym, ap}
-use Rattle.parts_server.specs.declared.Replenish.{Replenish}
-use Rattle.parts_server.specs.Server.{ServerState, joins_as, replenishment}
-use Rattle.parts_server.specs.Calls.{MayPlan}
+use Rattle.rules_server.specs.declared.Replenish.{Replenish}
+use Rattle.rules_server.specs.Server.{ServerState, joins_as, replenishment}
+use Rattle.rules_server.specs.Calls.{MayPlan}
 use Rattle.parts_server.specs.ServerView.{server_state}
-use Rattle.parts_server.proofs.Laws.{put_keeps}
+use Rattle.rules_server.proofs.Laws.{put_keeps}
 use Rattle.parts_server.proofs.Server.plan.Goals as goal
 
 pub invariant_of-self : goal.invariant_of-self

@@ -1,6 +1,6 @@
 use Rattle.std.proofs.Common.{◌<◌, length, arith, rules}
 use Rattle.std.proofs.lemmas.Grind.{common_steps}
-use Rattle.parts_server.proofs.Laws.{rest_of}
+use Rattle.rules_server.proofs.Laws.{rest_of}
 use Rattle.parts_server.proofs.Server.refill.Goals as goal
 
 pub invariant_of-self : goal.invariant_of-self

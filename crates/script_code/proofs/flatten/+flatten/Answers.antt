@@ -1,9 +1,9 @@
 use Rattle.std.proofs.Common.{rules, arith, ◌≡◌, ◌-◌, slice_set, length, ap, length-append, ◌∙◌, sym, ◌++◌, ◌∷◌, []}
 use Rattle.words_script.specs.Tree.{block_of}
-use Rattle.script_code.specs.declared.op.Op.{Op}
-use Rattle.script_code.specs.declared.op.Op.TheVariants as op
-use Rattle.script_code.specs.Flat.{flat, op_number}
-use Rattle.script_code.proofs.Lands.{length-flat}
+use Rattle.rules_bodies.specs.declared.op.Op.{Op}
+use Rattle.rules_bodies.specs.declared.op.Op.TheVariants as op
+use Rattle.rules_bodies.specs.Flat.{flat, op_number}
+use Rattle.rules_bodies.proofs.Lands.{length-flat}
 use Rattle.script_code.proofs.Flattens.{room_for, flattens_more, test_done, deep-at}
 use Rattle.script_code.proofs.flatten.+flatten.Goals as goal
 

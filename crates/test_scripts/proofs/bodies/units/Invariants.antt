@@ -1,4 +1,4 @@
-use Rattle.script_code.specs.Stands.{IsPlaced}
+use Rattle.rules_bodies.specs.Stands.{IsPlaced}
 use Rattle.test_scripts.proofs.bodies.units.Given as goal
 
 abbrev pub invariant-loop : goal.invariant-loop

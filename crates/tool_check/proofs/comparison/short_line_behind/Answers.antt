@@ -2,7 +2,7 @@ use Rattle.std.proofs.Common.{◌≡◌, ◌≤◌, ℕ, List, length, sym, Opti
 use Rattle.std.specs.Prelude.{is_some, slice_get}
 use Rattle.std.specs.Option.{option_map}
 use Rattle.script_lex.specs.Lines.{lines_of}
-use Rattle.words_trace.specs.ShortLines.{column_after}
+use Rattle.parts_tracer.specs.ShortLines.{column_after}
 use Rattle.tool_check.proofs.Short.{line_is_short}
 use Rattle.tool_check.proofs.comparison.short_line_behind.Goals as goal
 

@@ -1,6 +1,6 @@
 use Rattle.std.proofs.Common.{◌≡◌, length, sym, ◌∙◌, ap, subst, Some, false}
 use Rattle.std.specs.Prelude.{◌⊎◌}
-use Rattle.words_trace.specs.Printed.{Printed}
+use Rattle.parts_tracer.specs.Printed.{Printed}
 use Rattle.rules_machine.specs.Machine.{trace}
 use Rattle.tool_check.specs.Comparison.{comparison}
 use Rattle.tool_check.specs.Held.{Held}

@@ -1,5 +1,5 @@
 use Rattle.std.proofs.Common.{◌≤◌, ◌+◌, ℕ, subst}
-use Rattle.words_trace.specs.Prints.{Prints}
+use Rattle.parts_tracer.specs.Prints.{Prints}
 use Rattle.tool_commands.proofs.Opened.{opened_busy, opened_text}
 use Rattle.tool_commands.proofs.runs.open_and_run.Goals as goal
 

@@ -1,5 +1,5 @@
 use Rattle.std.proofs.Common.{◌≡◌, ◌≤◌, ◌+◌, ◌∙◌, ℕ, ap, subst}
-use Rattle.words_trace.specs.Prints.{Prints}
+use Rattle.parts_tracer.specs.Prints.{Prints}
 use Rattle.rules_machine.specs.Machine.{closing}
 use Rattle.kernel_state.specs.Kernel.{Kernel}
 use Rattle.tool_commands.specs.Answer.{closing_lines}

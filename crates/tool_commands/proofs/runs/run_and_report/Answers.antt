@@ -1,5 +1,5 @@
 use Rattle.std.proofs.Common.{◌≡◌, ◌-◌, ◌∙◌, sym, arith}
-use Rattle.words_trace.proofs.Prints.{prints_both, prints_stopped}
+use Rattle.parts_tracer.proofs.Prints.{prints_both, prints_stopped}
 use Rattle.rules_machine.specs.Machine.{closing}
 use Rattle.rules_machine.specs.Runs.{ticks}
 use Rattle.rules_flat_code.specs.FlatBodies.{flat_bodies}

@@ -1,7 +1,7 @@
-use Rattle.script_code.specs.declared.cursor.Cursor.{Cursor}
+use Rattle.rules_bodies.specs.declared.cursor.Cursor.{Cursor}
 use Rattle.rules_machine.specs.State.{Thread}
 use Rattle.rules_machine.specs.Servers.{with_server}
-use Rattle.parts_server.specs.Server.{activate}
+use Rattle.rules_server.specs.Server.{activate}
 use Rattle.kernel_state.proofs.Carried.{as_many, none_thread, tied_again}
 use Rattle.kernel_state.proofs.parts.Parts.activate_thread.Goals as goal
 

@@ -1,5 +1,5 @@
 use Rattle.std.proofs.Common.{Bool, ap, false, subst, sym, ◌≡◌, ◌∙◌}
-use Rattle.words_trace.specs.Tells.{Tells}
+use Rattle.parts_tracer.specs.Tells.{Tells}
 use Rattle.rules_machine.specs.declared.dispatch.LastDispatch.{LastDispatch}
 use Rattle.rules_machine.specs.Dispatch.{dispatch_event, dispatches, is_same, tells_unless}
 use Rattle.rules_machine.specs.Servers.{closes}

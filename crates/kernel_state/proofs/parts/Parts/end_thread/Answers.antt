@@ -1,5 +1,5 @@
 use Rattle.std.proofs.Common.{arith}
-use Rattle.script_code.specs.declared.cursor.Cursor.{Cursor}
+use Rattle.rules_bodies.specs.declared.cursor.Cursor.{Cursor}
 use Rattle.rules_machine.specs.State.{Thread}
 use Rattle.rules_machine.specs.Lives.{without_life}
 use Rattle.kernel_state.proofs.Carried.{as_many, beside_keeps, beside_there, fit, self_thread, tied_again}

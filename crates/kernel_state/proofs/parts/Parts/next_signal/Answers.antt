@@ -1,5 +1,5 @@
 use Rattle.std.proofs.Common.{◌≡◌, ◌∙◌, true, ap, arith, subst}
-use Rattle.script_code.specs.declared.cursor.Cursor.{Cursor}
+use Rattle.rules_bodies.specs.declared.cursor.Cursor.{Cursor}
 use Rattle.rules_machine.specs.Delivery.{may_be_interrupted, taken_by_sweep}
 use Rattle.rules_machine.specs.State.{Thread}
 use Rattle.kernel_threads.specs.Signals.{runs_handlers}

@@ -1,6 +1,6 @@
 use Rattle.std.proofs.Common.{Option, arith, subst, ℕ, ◌≤◌}
-use Rattle.words_trace.specs.Tells.{Tells}
-use Rattle.script_code.specs.declared.cursor.Cursor.{Cursor}
+use Rattle.parts_tracer.specs.Tells.{Tells}
+use Rattle.rules_bodies.specs.declared.cursor.Cursor.{Cursor}
 use Rattle.rules_machine.specs.Dispatch.{dispatches}
 use Rattle.rules_machine.specs.Servers.{closes, opens}
 use Rattle.rules_machine.specs.Ticks.{prepares}

@@ -1,7 +1,7 @@
-use Rattle.script_code.specs.declared.cursor.Cursor.{Cursor}
+use Rattle.rules_bodies.specs.declared.cursor.Cursor.{Cursor}
 use Rattle.rules_machine.specs.State.{Thread}
 use Rattle.rules_machine.specs.Servers.{with_server}
-use Rattle.parts_server.specs.Server.{refill}
+use Rattle.rules_server.specs.Server.{refill}
 use Rattle.kernel_state.proofs.Carried.{as_many, fit, tied_again, told_there, told_thread}
 use Rattle.kernel_state.proofs.parts.Parts.refill_thread.Goals as goal
 

@@ -1,6 +1,6 @@
 use Rattle.std.proofs.Common.{subst}
-use Rattle.words_trace.specs.Tells.{Tells}
-use Rattle.script_code.specs.declared.cursor.Cursor.{Cursor}
+use Rattle.parts_tracer.specs.Tells.{Tells}
+use Rattle.rules_bodies.specs.declared.cursor.Cursor.{Cursor}
 use Rattle.rules_machine.specs.Turns.{Turn, moves, tells, ◌▷◌}
 use Rattle.rules_machine.specs.Servers.{activates_if_high}
 use Rattle.rules_machine.proofs.Behind.{activates_server_behind}

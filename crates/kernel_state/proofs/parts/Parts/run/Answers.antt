@@ -1,5 +1,5 @@
 use Rattle.std.proofs.Common.{ap, refl, true, ◌∙◌}
-use Rattle.script_code.specs.declared.cursor.Cursor.{Cursor}
+use Rattle.rules_bodies.specs.declared.cursor.Cursor.{Cursor}
 use Rattle.rules_machine.specs.State.{Thread}
 use Rattle.rules_machine.specs.Threads.{is_runnable, thread_in}
 use Rattle.rules_flat_code.specs.FlatBodies.{flat_bodies}

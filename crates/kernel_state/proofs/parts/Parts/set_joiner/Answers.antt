@@ -1,4 +1,4 @@
-use Rattle.script_code.specs.declared.cursor.Cursor.{Cursor}
+use Rattle.rules_bodies.specs.declared.cursor.Cursor.{Cursor}
 use Rattle.rules_machine.specs.State.{Thread}
 use Rattle.rules_machine.specs.Lives.{with_joiner}
 use Rattle.kernel_threads.specs.Plain.{joiner_of}

@@ -1,4 +1,4 @@
-use Rattle.script_code.specs.declared.cursor.Cursor.{Cursor}
+use Rattle.rules_bodies.specs.declared.cursor.Cursor.{Cursor}
 use Rattle.rules_machine.specs.State.{Thread}
 use Rattle.kernel_state.proofs.Carried.{as_many, none_thread, tied_again}
 use Rattle.kernel_state.proofs.parts.Parts.set_mask.Goals as goal

@@ -1,5 +1,5 @@
 use Rattle.std.proofs.Common.{None, refl}
-use Rattle.script_code.specs.declared.cursor.Cursor.{Cursor}
+use Rattle.rules_bodies.specs.declared.cursor.Cursor.{Cursor}
 use Rattle.rules_machine.specs.State.{Thread}
 use Rattle.rules_machine.specs.Waking.{woken}
 use Rattle.kernel_state.proofs.Carried.{as_many, tied_again, told_thread}

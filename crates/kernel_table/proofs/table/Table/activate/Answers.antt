@@ -1,5 +1,5 @@
 use Rattle.std.proofs.Common.{refl}
-use Rattle.parts_server.specs.Server.{activate}
+use Rattle.rules_server.specs.Server.{activate}
 use Rattle.rules_machine.specs.Servers.{with_server}
 use Rattle.kernel_table.proofs.Statuses.{activated_claim}
 use Rattle.kernel_table.proofs.Ties.{still_tied}

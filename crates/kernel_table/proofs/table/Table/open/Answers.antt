@@ -1,5 +1,5 @@
 use Rattle.std.proofs.Common.{◌≤◌, List, arith, length, subst, sym}
-use Rattle.script_code.specs.declared.cursor.Cursor.{Cursor}
+use Rattle.rules_bodies.specs.declared.cursor.Cursor.{Cursor}
 use Rattle.rules_machine.specs.Declarations.{threads_of}
 use Rattle.rules_machine.specs.State.{Thread}
 use Rattle.kernel_table.specs.Opening.{NoneWaits}

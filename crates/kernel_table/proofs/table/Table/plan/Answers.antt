@@ -1,10 +1,10 @@
 use Rattle.std.proofs.Common.{ap, option_map, refl, slice_set, ◌∙◌}
-use Rattle.parts_server.specs.Server.{plan}
+use Rattle.rules_server.specs.Server.{plan}
 use Rattle.rules_machine.specs.Servers.{with_server}
 use Rattle.kernel_table.specs.Times.{start_of, timeout_of}
 use Rattle.kernel_table.proofs.Ties.{placed}
 use Rattle.kernel_table.proofs.Moved.{reassigned_tied}
-use Rattle.script_code.specs.declared.cursor.Cursor.{Cursor}
+use Rattle.rules_bodies.specs.declared.cursor.Cursor.{Cursor}
 use Rattle.rules_machine.specs.State.{Thread}
 use Rattle.rules_machine.specs.Threads.{no_thread}
 use Rattle.kernel_threads.specs.Ends.{planned_of}

@@ -1,5 +1,5 @@
 use Rattle.std.proofs.Common.{ap, refl, slice_set, sym, ◌∙◌, ◌≡◌}
-use Rattle.parts_server.specs.Server.{refill}
+use Rattle.rules_server.specs.Server.{refill}
 use Rattle.rules_machine.specs.Servers.{with_server}
 use Rattle.rules_machine.specs.Priorities.{assigned_of}
 use Rattle.rules_machine.specs.Threads.{no_thread, thread_in}

@@ -1,5 +1,5 @@
 use Rattle.std.proofs.Common.{ap, refl, slice_set, sym, ◌∙◌}
-use Rattle.script_code.specs.declared.cursor.Cursor.{Cursor}
+use Rattle.rules_bodies.specs.declared.cursor.Cursor.{Cursor}
 use Rattle.rules_machine.specs.State.{Thread}
 use Rattle.kernel_table.proofs.Ties.{placed}
 use Rattle.kernel_table.proofs.Moved.{reassigned_tied}

@@ -1,5 +1,5 @@
 use Rattle.std.proofs.Common.{refl}
-use Rattle.script_code.specs.declared.cursor.Cursor.{Cursor}
+use Rattle.rules_bodies.specs.declared.cursor.Cursor.{Cursor}
 use Rattle.rules_machine.specs.State.{Thread}
 use Rattle.kernel_table.proofs.Ties.{still_tied}
 use Rattle.kernel_table.proofs.ToldMoves.{claims_kept, table_with}

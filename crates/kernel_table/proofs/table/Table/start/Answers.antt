@@ -1,5 +1,5 @@
 use Rattle.std.proofs.Common.{None, [], ◌∷◌, ◌≡◌, ap, length, refl, slice_set, ◌∙◌}
-use Rattle.script_code.specs.declared.cursor.Cursor.{Cursor}
+use Rattle.rules_bodies.specs.declared.cursor.Cursor.{Cursor}
 use Rattle.rules_machine.specs.Servers.{server_of}
 use Rattle.rules_machine.specs.State.{Thread, runnable}
 use Rattle.kernel_table.proofs.Moved.{restated_tied}

@@ -1,5 +1,5 @@
 use Rattle.std.proofs.Common.{ap, arith, refl}
-use Rattle.script_code.specs.declared.unit.Unit.TheVariants as unit
+use Rattle.rules_bodies.specs.declared.unit.Unit.TheVariants as unit
 use Rattle.kernel_threads.specs.View.{frame_of}
 use Rattle.kernel_threads.proofs.Passing.{goes_on}
 use Rattle.kernel_threads.proofs.frame.Frame.begin.Goals as goal

@@ -1,5 +1,5 @@
 use Rattle.std.proofs.Common.{◌∙◌, ap, subst, sym}
-use Rattle.script_code.specs.declared.cursor.Cursor.{Cursor}
+use Rattle.rules_bodies.specs.declared.cursor.Cursor.{Cursor}
 use Rattle.rules_machine.specs.GoodState.{HasParameters}
 use Rattle.rules_machine.specs.State.{Thread}
 use Rattle.kernel_threads.proofs.Charged.{run_fifo, run_rr, run_sporadic, run_strict}

@@ -1,5 +1,5 @@
 use Rattle.std.proofs.Common.{◌+◌, Option, subst, sym}
-use Rattle.parts_server.specs.Server.{ServerState}
+use Rattle.rules_server.specs.Server.{ServerState}
 use Rattle.kernel_threads.specs.Held.{IsHeld}
 use Rattle.kernel_threads.proofs.Charges.{held_after}
 use Rattle.kernel_threads.proofs.thread.Thread.run_capacity.Goals as goal

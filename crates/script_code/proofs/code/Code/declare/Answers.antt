@@ -1,7 +1,7 @@
 use Rattle.std.proofs.Common.{ap, ◌∙◌}
 use Rattle.words_script.specs.declared.decl.Decl.TheVariants.{Named}
-use Rattle.script_code.specs.Flat.{body_list}
-use Rattle.script_code.proofs.Opens.{short_body}
+use Rattle.rules_bodies.specs.Flat.{body_list}
+use Rattle.rules_bodies.proofs.Opens.{short_body}
 use Rattle.script_code.proofs.code.Code.declare.Goals as goal
 
 pub add-requires-clause-short : goal.add-requires-clause-short

@@ -1,5 +1,5 @@
-use Rattle.script_code.specs.Flat.{bodies_of}
-use Rattle.script_code.proofs.Opens.{opens_empty, opens_next, opens_more, opens_all, is_body_of_script}
+use Rattle.rules_bodies.specs.Flat.{bodies_of}
+use Rattle.rules_bodies.proofs.Opens.{opens_empty, opens_next, opens_more, opens_all, is_body_of_script}
 use Rattle.script_code.proofs.code.Code.open.Goals as goal
 
 pub loop-decl-init : goal.loop-decl-init

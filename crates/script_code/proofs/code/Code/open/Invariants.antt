@@ -1,5 +1,5 @@
 use Rattle.std.proofs.Common.{drop}
-use Rattle.script_code.proofs.Opens.{Opens}
+use Rattle.rules_bodies.proofs.Opens.{Opens}
 use Rattle.script_code.proofs.code.Code.open.Given as goal
 
 abbrev pub invariant-loop-decl : goal.invariant-loop-decl

@@ -1,5 +1,5 @@
 use Rattle.std.proofs.Common.{refl}
-use Rattle.script_code.specs.Next.{At}
+use Rattle.rules_bodies.specs.Next.{At}
 use Rattle.script_code.proofs.code.Code.start.Goals as goal
 
 pub returns-clause-placed : goal.returns-clause-placed

@@ -1,5 +1,5 @@
 use Rattle.std.proofs.Common.{ap, ◌∙◌, slice_set}
-use Rattle.script_code.specs.declared.op.Op.TheVariants as op
+use Rattle.rules_bodies.specs.declared.op.Op.TheVariants as op
 use Rattle.script_code.specs.declared.ops.Packed.TheVariants.{Test}
 use Rattle.script_code.proofs.Packs.{are_in_set, unpacked_set}
 use Rattle.script_code.proofs.ops.Ops.set_test.Goals as goal

@@ -1,8 +1,8 @@
 use Rattle.std.proofs.Common.{ap, arith, drop, length, subst, sym}
-use Rattle.script_code.specs.Fetch.{ops_of}
+use Rattle.rules_bodies.specs.Fetch.{ops_of}
 use Rattle.script_code.specs.Fetched.{unit_of}
 use Rattle.script_code.specs.Ready.{IsReady}
-use Rattle.script_code.proofs.Agrees.{fetches, stays_placed}
+use Rattle.rules_bodies.proofs.Agrees.{fetches, stays_placed}
 use Rattle.script_code.proofs.Safe.{placed_ready, placed_within}
 use Rattle.script_code.proofs.Told.{fetched_told}
 use Rattle.script_code.proofs.units.Units.fetch.Goals as goal

@@ -1,5 +1,5 @@
 use Rattle.std.proofs.Common.{◌∙◌, ap, arith, rules}
-use Rattle.script_code.specs.Fetch.{ops_of}
+use Rattle.rules_bodies.specs.Fetch.{ops_of}
 use Rattle.script_code.specs.Packed.{unpacked}
 use Rattle.script_code.proofs.Packs.{is_at, most_skipped_alone}
 use Rattle.script_code.proofs.Told.{search_told, skips_within, told_moves}

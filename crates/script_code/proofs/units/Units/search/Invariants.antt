@@ -1,5 +1,5 @@
 use Rattle.std.proofs.Common.{◌-◌, length}
-use Rattle.script_code.specs.Fetch.{ops_of}
+use Rattle.rules_bodies.specs.Fetch.{ops_of}
 use Rattle.script_code.proofs.Safe.{SearchesOn}
 use Rattle.script_code.proofs.units.Units.search.Given as goal
 

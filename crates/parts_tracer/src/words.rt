@@ -1,0 +1,239 @@
+// The words of events and reports, which stand behind the head of a line.
+ghost use Rattle.std.specs.Prelude.{◌≡◌, ◌≤◌, ◌<◌, ◌+◌, ◌++◌, ◌∷◌, [], length, codes, decimal, IfSome, None, Some};
+ghost use Rattle.words_trace.specs.Text.{IsNamed, budget_words, event_words, name_at, report_line, signal_name};
+ghost use Rattle.parts_io.specs.Placed.{Placed};
+ghost use Rattle.parts_tracer.specs.Placed.{blanks_before, words_behind};
+ghost use Rattle.words_trace.specs.Calls.{call_word};
+
+use crate::call_name::place_call_text;
+use crate::head::HEAD;
+use crate::place::{place_byte, place_number};
+use crate::Names;
+use itoa::Buffer;
+use parts_io::place_word;
+use words_numbers::{Res, Tid};
+use words_trace::{BudgetView, CallName, Event, Report};
+
+/// Puts the words of an event and the line end behind the head, where it is one of the commonest.
+#[inline(always)]
+pub(crate) fn place_common(text: &mut [u8], e: &Event, names: &Names) -> Option<usize>
+    requires room { length text.old ≡ 256 }
+    requires named { IsNamed names.now e.now }
+    ensures placed { IfSome result (λ end.
+        Placed text.old text.new 20 (words_behind (event_words names.now e.now)) end × (end ≤ 256)) }
+    ensures kept { result ≡ None → text.new ≡ text.old }
+{
+    if let Event::Return(t, call, res, value) = e {
+        return match res {
+            Res::Zero if *value == 0 => Some(place_success(text, names, *t, *call)),
+            _ => None,
+        };
+    }
+    if let Event::Dispatch(t, prio) = e {
+        let level = prio.get() as u64;
+        if level < 100 {
+            return Some(place_with_number(text, b" dispatch ", names, *t, level));
+        }
+    }
+    None
+}
+
+// Puts the whole of a call that succeeded, with no value to tell, behind the head.
+#[inline(always)]
+fn place_success(text: &mut [u8], names: &Names, t: Tid, call: CallName) -> usize
+    requires room { length text.old ≡ 256 }
+    requires named { t < length names.now }
+    ensures placed { Placed text.old text.new 20
+        (codes " return " ++ (name_at names.now t ++ 32 ∷ (call_word call ++ codes " 0 0\n"))) result }
+    ensures within { result ≤ 84 }
+{
+    let at = place_call(text, names, t, call);
+    place_word(text, at, b" 0 0\n")
+}
+
+// Puts that a call returned behind the head, and the names of its thread and of itself.
+#[inline(always)]
+fn place_call(text: &mut [u8], names: &Names, t: Tid, call: CallName) -> usize
+    requires room { length text.old ≡ 256 }
+    requires named { t < length names.now }
+    ensures placed { Placed text.old text.new 20
+        (codes " return " ++ (name_at names.now t ++ 32 ∷ call_word call)) result }
+    ensures within { result ≤ 79 }
+{
+    let at = place_of_thread(text, b" return ", names, t);
+    let at = place_byte(text, at, b' ');
+    place_call_text(call, text, at)
+}
+
+/// Puts the words of an event and the line end behind the head.
+pub(crate) fn place_event(text: &mut [u8], e: &Event, names: &Names) -> usize
+    requires room { length text.old ≡ 256 }
+    requires named { IsNamed names.now e.now }
+    ensures placed { Placed text.old text.new 20 (words_behind (event_words names.now e.now)) result }
+    ensures within { result ≤ 256 }
+{
+    match e {
+        Event::Dispatch(t, prio) => {
+            place_with_number(text, b" dispatch ", names, *t, prio.get() as u64)
+        }
+        Event::Idle => place_word(text, HEAD, b" idle\n"),
+        Event::Start(t) => place_alone(text, b" start ", names, *t),
+        Event::Return(t, call, res, value) => {
+            let at = place_call(text, names, *t, *call);
+            place_outcome(text, at, res.text(), *value)
+        }
+        Event::Deliver(t, sig, code, value) => {
+            let at = place_of_thread(text, b" deliver ", names, *t);
+            let at = place_signal(text, at, *sig);
+            place_outcome(text, at, code.text(), *value)
+        }
+        Event::Activate(t, capacity) => {
+            place_with_number(text, b" activate ", names, *t, *capacity)
+        }
+        Event::Exhaust(t) => place_alone(text, b" exhaust ", names, *t),
+        Event::Plan(t, amount, due) => {
+            place_with_numbers(text, b" plan ", names, *t, *amount, due.get())
+        }
+        Event::Refill(t, amount, capacity) => {
+            place_with_numbers(text, b" refill ", names, *t, *amount, *capacity)
+        }
+        Event::Cancel(t) => place_alone(text, b" cancel ", names, *t),
+        Event::Exit(t) => place_alone(text, b" exit ", names, *t),
+        Event::Killed(sig) => place_killed(text, *sig),
+        Event::End => place_word(text, HEAD, b" end\n"),
+    }
+}
+
+// Puts the whole of an event that only has a thread behind the head.
+#[inline(always)]
+fn place_alone(text: &mut [u8], what: &[u8], names: &Names, t: Tid) -> usize
+    requires room { length text.old ≡ 256 }
+    requires short { length what.now ≤ 10 }
+    requires named { t < length names.now }
+    ensures placed { Placed text.old text.new 20 (what.now ++ (name_at names.now t ++ 10 ∷ [])) result }
+    ensures within { result ≤ 63 }
+{
+    let at = place_of_thread(text, what, names, t);
+    place_byte(text, at, b'\n')
+}
+
+// Puts the whole of an event that has a thread and a number behind the head.
+#[inline(always)]
+fn place_with_number(text: &mut [u8], what: &[u8], names: &Names, t: Tid, n: u64) -> usize
+    requires room { length text.old ≡ 256 }
+    requires short { length what.now ≤ 10 }
+    requires named { t < length names.now }
+    ensures placed { Placed text.old text.new 20
+        (what.now ++ (name_at names.now t ++ 32 ∷ decimal n ++ 10 ∷ [])) result }
+    ensures within { result ≤ 84 }
+{
+    let at = place_of_thread(text, what, names, t);
+    let at = place_number(text, at, n);
+    place_byte(text, at, b'\n')
+}
+
+// Puts the whole of an event that has a thread and two numbers behind the head.
+fn place_with_numbers(
+    text: &mut [u8],
+    what: &[u8],
+    names: &Names,
+    t: Tid,
+    first: u64,
+    second: u64,
+) -> usize
+    requires room { length text.old ≡ 256 }
+    requires short { length what.now ≤ 10 }
+    requires named { t < length names.now }
+    ensures placed { Placed text.old text.new 20
+        (what.now ++ (name_at names.now t ++ 32 ∷ decimal first ++ 32 ∷ decimal second ++ 10 ∷ [])) result }
+    ensures within { result ≤ 105 }
+{
+    let at = place_of_thread(text, what, names, t);
+    let at = place_number(text, at, first);
+    let at = place_number(text, at, second);
+    place_byte(text, at, b'\n')
+}
+
+// Puts the last two words of a line, of which the second is a number, and the line end.
+fn place_outcome(text: &mut [u8], at: usize, word: &str, value: u64) -> usize
+    requires room { at + 55 ≤ length text.old }
+    requires short { length word.now ≤ 32 }
+    ensures placed { Placed text.old text.new at (32 ∷ word.now ++ 32 ∷ decimal value ++ 10 ∷ []) result }
+    ensures within { result ≤ at + 55 }
+{
+    let at = place_byte(text, at, b' ');
+    let at = place_word(text, at, word.as_bytes());
+    let at = place_number(text, at, value);
+    place_byte(text, at, b'\n')
+}
+
+// Puts what happens behind the head, and the name of the thread to which it happens.
+#[inline(always)]
+fn place_of_thread(text: &mut [u8], what: &[u8], names: &Names, t: Tid) -> usize
+    requires room { length text.old ≡ 256 }
+    requires short { length what.now ≤ 10 }
+    requires named { t < length names.now }
+    ensures placed { Placed text.old text.new 20 (what.now ++ name_at names.now t) result }
+    ensures within { result ≤ 62 }
+{
+    let at = place_word(text, HEAD, what);
+    names.name(t).place(text, at)
+}
+
+// Puts the whole of the event that a signal ended the process behind the head.
+#[inline(never)]
+fn place_killed(text: &mut [u8], sig: u8) -> usize
+    requires { length text.old ≡ 256 }
+    ensures placed { Placed text.old text.new 20 (words_behind (codes "killed" ∷ signal_name sig ∷ [])) result }
+    ensures within { result ≤ 256 }
+{
+    let at = place_word(text, HEAD, b" killed");
+    let at = place_signal(text, at, sig);
+    place_byte(text, at, b'\n')
+}
+
+// Puts a blank and a signal.
+#[inline(never)]
+fn place_signal(text: &mut [u8], at: usize, sig: u8) -> usize
+    requires { at + 24 ≤ length text.old }
+    ensures placed { Placed text.old text.new at (32 ∷ signal_name sig) result }
+    ensures within { result ≤ at + 24 }
+{
+    let at = place_word(text, at, b" rt");
+    place_word(text, at, Buffer::new().format(sig).as_bytes())
+}
+
+/// Puts the closing line of a thread behind the head.
+pub(crate) fn place_report(text: &mut [u8], t: Tid, report: &Report, names: &Names) -> usize
+    requires room { length text.old ≡ 256 }
+    requires named { t < length names.now }
+    ensures placed { Placed text.old text.new 20 (report_line names.now t report.now) result }
+    ensures within { result ≤ 256 }
+{
+    let at = place_of_thread(text, b"thread ", names, t);
+    let at = place_word(text, at, b" ticks");
+    let at = place_number(text, at, report.ticks);
+    match &report.budget {
+        Some(budget) => {
+            let at = place_budget(text, at, budget);
+            place_byte(text, at, b'\n')
+        }
+        None => place_byte(text, at, b'\n'),
+    }
+}
+
+// Puts the words on a sporadic server.
+fn place_budget(text: &mut [u8], at: usize, budget: &BudgetView) -> usize
+    requires { at + 112 ≤ length text.old }
+    ensures placed { Placed text.old text.new at (blanks_before (budget_words (Some budget.now))) result }
+    ensures within { result ≤ at + 112 }
+{
+    let at = place_word(text, at, b" high");
+    let at = place_number(text, at, budget.high);
+    let at = place_word(text, at, b" init");
+    let at = place_number(text, at, budget.init);
+    let at = place_word(text, at, b" refilled");
+    let at = place_number(text, at, budget.refilled);
+    let at = place_word(text, at, b" capacity");
+    place_number(text, at, budget.capacity)
+}

@@ -1,0 +1,4 @@
+pub mod Fetch
+pub mod Flat
+pub mod Next
+pub mod Stands
