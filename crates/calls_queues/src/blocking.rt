@@ -7,13 +7,13 @@ ghost use Rattle.rules_machine.specs.Threads.{can_run};
 ghost use Rattle.kernel_threads.specs.Plain.{wait_of};
 ghost use Rattle.kernel_state.specs.Kernel.{after, by, told};
 
-use kernel_state::Parts;
 use calls_sync::block_unless_late;
-use parts_tracer::Tracer;
-use parts_io::Sink;
-use words_script::Call;
+use kernel_state::Parts;
 use kernel_threads::Wait;
+use parts_io::Sink;
+use parts_tracer::Tracer;
 use words_numbers::{ObjId, Res, Tick, Tid};
+use words_script::Call;
 
 /// The call is refused where calls on the queue do not block; and else the caller waits, unless its time has passed.
 pub(crate) fn block_unless_nonblock<K: Sink>(

@@ -6,11 +6,11 @@
 #![tactic(auto)]
 
 mod blocking;
-mod entering;
-mod notifying;
-mod receiving;
-mod sending;
+mod entries;
+mod notification;
+mod receives;
+mod sends;
 
-pub use notifying::ask_notification;
-pub use receiving::receive;
-pub use sending::send;
+pub use notification::mq_notify;
+pub use receives::mq_receive;
+pub use sends::mq_send;

@@ -7,17 +7,17 @@
 //! it, by its handler or as the end of the process, with the moves.
 #![tactic(auto)]
 
-mod catching;
-mod generating;
+mod delivery;
+mod generation;
+mod kills;
 mod masks;
-mod sending;
-mod sweeping;
+mod sigwait;
+mod sweeps;
 mod timers;
-mod waiting;
 
-pub use generating::generate;
-pub use masks::{block, set, unblock};
-pub use sending::{kill, kill_thread, queue};
-pub use sweeping::sweep;
-pub use timers::{expire, expiry_after, expiry_at, read_overrun, read_timer, set_timer};
-pub use waiting::wait;
+pub use generation::generate;
+pub use kills::{kill, sigqueue, tkill};
+pub use masks::{sigmask_block, sigmask_set, sigmask_unblock};
+pub use sigwait::sigtimedwait;
+pub use sweeps::sweep;
+pub use timers::{expire, expiry_after, expiry_at, timer_getoverrun, timer_gettime, timer_settime};

@@ -5,13 +5,19 @@ ghost use Rattle.rules_machine.specs.Signals.{sets_mask, with_signals, without_s
 ghost use Rattle.kernel_state.specs.Kernel.{after, by, told};
 
 use kernel_state::Parts;
-use parts_tracer::Tracer;
 use parts_io::Sink;
-use words_script::Call;
+use parts_tracer::Tracer;
 use words_numbers::{Res, SigSet, Tid};
+use words_script::Call;
 
 /// The thread blocks the signals of a set.
-pub fn set<K: Sink>(p: &mut Parts, t: Tid, call: &Call, mask: SigSet, out: &mut Tracer<'_, K>)
+pub fn sigmask_set<K: Sink>(
+    p: &mut Parts,
+    t: Tid,
+    call: &Call,
+    mask: SigSet,
+    out: &mut Tracer<'_, K>,
+)
     requires { t < length p.old.names }
     ensures state { p.new ≡ after (sets_mask (by t call.now) (λ (was : ℕ). mask)) p.old }
     ensures told { Tells K.text K.faults p.old.names out.old out.new (told (sets_mask (by t call.now) (λ (was : ℕ). mask)) p.old) }
@@ -21,21 +27,33 @@ pub fn set<K: Sink>(p: &mut Parts, t: Tid, call: &Call, mask: SigSet, out: &mut 
 }
 
 /// The thread blocks those of a set as well.
-pub fn block<K: Sink>(p: &mut Parts, t: Tid, call: &Call, more: SigSet, out: &mut Tracer<'_, K>)
+pub fn sigmask_block<K: Sink>(
+    p: &mut Parts,
+    t: Tid,
+    call: &Call,
+    more: SigSet,
+    out: &mut Tracer<'_, K>,
+)
     requires { t < length p.old.names }
     ensures state { p.new ≡ after (sets_mask (by t call.now) (with_signals more)) p.old }
     ensures told { Tells K.text K.faults p.old.names out.old out.new (told (sets_mask (by t call.now) (with_signals more)) p.old) }
 {
     let mask = p.mask_with(t, more);
-    set(p, t, call, mask, out);
+    sigmask_set(p, t, call, mask, out);
 }
 
 /// The thread no longer blocks those of a set.
-pub fn unblock<K: Sink>(p: &mut Parts, t: Tid, call: &Call, fewer: SigSet, out: &mut Tracer<'_, K>)
+pub fn sigmask_unblock<K: Sink>(
+    p: &mut Parts,
+    t: Tid,
+    call: &Call,
+    fewer: SigSet,
+    out: &mut Tracer<'_, K>,
+)
     requires { t < length p.old.names }
     ensures state { p.new ≡ after (sets_mask (by t call.now) (without_signals fewer)) p.old }
     ensures told { Tells K.text K.faults p.old.names out.old out.new (told (sets_mask (by t call.now) (without_signals fewer)) p.old) }
 {
     let mask = p.mask_without(t, fewer);
-    set(p, t, call, mask, out);
+    sigmask_set(p, t, call, mask, out);
 }

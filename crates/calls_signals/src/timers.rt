@@ -9,12 +9,12 @@ ghost use Rattle.kernel_state.specs.Kernel.{after, by, told};
 ghost use Rattle.kernel_state.specs.Pending.{PendingFits, SignalsFit};
 ghost use Rattle.calls_signals.specs.Sweeping.{AllRest};
 
-use crate::generating::generate;
+use crate::generation::generate;
 use kernel_state::Parts;
-use parts_tracer::Tracer;
 use parts_io::Sink;
-use words_script::Call;
+use parts_tracer::Tracer;
 use words_numbers::{ObjId, Res, Tick, Tid};
+use words_script::Call;
 
 /// When a timer that is set for so many ticks from now first expires. `None` exactly where that is 0: it is disarmed.
 pub fn expiry_after(now: Tick, n: u64) -> Option<Tick>
@@ -34,7 +34,7 @@ pub fn expiry_at(at: Tick) -> Option<Tick>
 
 /// `timer_settime`: the timer is due at that tick, and then again after each interval of so many ticks; with an interval of 0 once. With
 /// `None` it is disarmed.
-pub fn set_timer<K: Sink>(
+pub fn timer_settime<K: Sink>(
     p: &mut Parts,
     t: Tid,
     call: &Call,
@@ -54,7 +54,7 @@ pub fn set_timer<K: Sink>(
 }
 
 /// `timer_gettime`: the answer is the ticks from now until the timer expires; 0 where it is disarmed, or due by now.
-pub fn read_timer<K: Sink>(p: &mut Parts, t: Tid, call: &Call, k: ObjId, out: &mut Tracer<'_, K>)
+pub fn timer_gettime<K: Sink>(p: &mut Parts, t: Tid, call: &Call, k: ObjId, out: &mut Tracer<'_, K>)
     requires known { t < length p.old.names }
     requires timer { k < length p.old.machine.timers }
     ensures state { p.new ≡ after (reads_timer (by t call.now) k) p.old }
@@ -65,7 +65,13 @@ pub fn read_timer<K: Sink>(p: &mut Parts, t: Tid, call: &Call, k: ObjId, out: &m
 }
 
 /// `timer_getoverrun`: the answer is the overrun of the timer's last signal, at most 2,147,483,647.
-pub fn read_overrun<K: Sink>(p: &mut Parts, t: Tid, call: &Call, k: ObjId, out: &mut Tracer<'_, K>)
+pub fn timer_getoverrun<K: Sink>(
+    p: &mut Parts,
+    t: Tid,
+    call: &Call,
+    k: ObjId,
+    out: &mut Tracer<'_, K>,
+)
     requires known { t < length p.old.names }
     requires timer { k < length p.old.machine.timers }
     ensures state { p.new ≡ after (reads_overrun (by t call.now) k) p.old }

@@ -7,10 +7,10 @@ ghost use Rattle.rules_machine.specs.Turns.{is_late};
 ghost use Rattle.kernel_threads.specs.Plain.{wait_of};
 ghost use Rattle.calls_sync.specs.Answers.{answer_of, is_cancelled_wait, owner_answer};
 
-use parts_owners::MutexState;
 use kernel_state::Parts;
-use rules_machine::CondEnd;
 use kernel_threads::Wait;
+use parts_owners::MutexState;
+use rules_machine::CondEnd;
 use words_numbers::{ObjId, Res, Tick, Tid};
 
 /// How a lock comes out.

@@ -9,11 +9,11 @@ ghost use Rattle.kernel_state.specs.Kernel.{after, by, told};
 
 use crate::answers::is_late;
 use kernel_state::Parts;
-use parts_tracer::Tracer;
-use parts_io::Sink;
-use words_script::Call;
 use kernel_threads::Wait;
+use parts_io::Sink;
+use parts_tracer::Tracer;
 use words_numbers::{Res, Tick, Tid};
+use words_script::Call;
 
 /// The caller waits for something that is no mutex, until that tick where there is one; where the tick is not in the future, its call
 /// returns at once.

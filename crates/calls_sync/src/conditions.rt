@@ -17,13 +17,13 @@ ghost use Rattle.calls_sync.specs.Waits.{OwnsNone, WaitsFit};
 
 use crate::mutexes::release;
 use kernel_state::Parts;
-use rules_machine::CondEnd;
-use parts_tracer::Tracer;
-use parts_io::Sink;
-use words_script::Call;
 use kernel_threads::Wait;
-use words_numbers::{ObjId, Res, Tick, Tid};
+use parts_io::Sink;
+use parts_tracer::Tracer;
 use parts_waiters::WaitObj;
+use rules_machine::CondEnd;
+use words_numbers::{ObjId, Res, Tick, Tid};
+use words_script::Call;
 
 // A condition wait is over, with the mutex owned again.
 fn return_from_wait<K: Sink>(p: &mut Parts, t: Tid, how: CondEnd, out: &mut Tracer<'_, K>)
@@ -188,7 +188,13 @@ fn signal_all<K: Sink>(p: &mut Parts, c: ObjId, out: &mut Tracer<'_, K>)
 
 /// `pthread_cond_broadcast`.
 #[tactic(auto, using(crate::proofs::Returned::returned_fits))]
-pub fn broadcast<K: Sink>(p: &mut Parts, t: Tid, call: &Call, c: ObjId, out: &mut Tracer<'_, K>)
+pub fn cond_broadcast<K: Sink>(
+    p: &mut Parts,
+    t: Tid,
+    call: &Call,
+    c: ObjId,
+    out: &mut Tracer<'_, K>,
+)
     requires known { t < length p.old.names }
     requires fits { WaitsFit p.old.machine }
     requires room { length p.old.direct < 128 }
@@ -203,7 +209,7 @@ pub fn broadcast<K: Sink>(p: &mut Parts, t: Tid, call: &Call, c: ObjId, out: &mu
 
 /// `pthread_cond_signal`.
 #[tactic(auto, using(crate::proofs::Returned::returned_fits))]
-pub fn signal<K: Sink>(p: &mut Parts, t: Tid, call: &Call, c: ObjId, out: &mut Tracer<'_, K>)
+pub fn cond_signal<K: Sink>(p: &mut Parts, t: Tid, call: &Call, c: ObjId, out: &mut Tracer<'_, K>)
     requires known { t < length p.old.names }
     requires fits { WaitsFit p.old.machine }
     requires room { length p.old.direct < 256 }

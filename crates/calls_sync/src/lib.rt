@@ -7,10 +7,10 @@
 mod answers;
 mod blocking;
 mod conditions;
-mod counting;
 mod mutexes;
+mod semaphores;
 
 pub use blocking::block_unless_late;
-pub use conditions::{broadcast, cond_wait, contend, signal};
-pub use counting::{get_value, post, try_wait, wait};
-pub use mutexes::{lock, try_lock, unlock};
+pub use conditions::{cond_broadcast, cond_signal, cond_wait, contend};
+pub use mutexes::{mutex_lock, mutex_trylock, mutex_unlock};
+pub use semaphores::{sem_getvalue, sem_post, sem_trywait, sem_wait};

@@ -14,12 +14,12 @@ use crate::answers::{
     LockAnswer, answer_as_owner, is_cancelled_waiter, lock_answer, trylock_answer,
 };
 use kernel_state::Parts;
-use parts_tracer::Tracer;
-use parts_io::Sink;
-use words_script::Call;
 use kernel_threads::Wait;
-use words_numbers::{ObjId, Res, Tick, Tid};
+use parts_io::Sink;
+use parts_tracer::Tracer;
 use parts_waiters::WaitObj;
+use words_numbers::{ObjId, Res, Tick, Tid};
+use words_script::Call;
 
 // The caller's mutex is counted once more.
 fn count_up<K: Sink>(p: &mut Parts, t: Tid, call: &Call, k: ObjId, out: &mut Tracer<'_, K>)
@@ -79,7 +79,7 @@ fn act<K: Sink>(
 /// `pthread_mutex_lock`, and with a time `pthread_mutex_timedlock`. Mostly the mutex is free, and to take it raises nobody.
 #[inline(always)]
 #[tactic(auto, using(crate::proofs::Acts::awaits_none))]
-pub fn lock<K: Sink>(
+pub fn mutex_lock<K: Sink>(
     p: &mut Parts,
     t: Tid,
     call: &Call,
@@ -125,7 +125,7 @@ fn lock_any<K: Sink>(
 
 /// `pthread_mutex_trylock`. It never waits.
 #[tactic(auto, using(crate::proofs::Acts::trylock_can))]
-pub fn try_lock<K: Sink>(p: &mut Parts, t: Tid, call: &Call, k: ObjId, out: &mut Tracer<'_, K>)
+pub fn mutex_trylock<K: Sink>(p: &mut Parts, t: Tid, call: &Call, k: ObjId, out: &mut Tracer<'_, K>)
     requires known { t < length p.old.names }
     requires runs { can_run p.old.machine t ≡ true }
     requires mutex { k < length p.old.machine.mutexes }
@@ -206,7 +206,7 @@ fn give_up<K: Sink>(p: &mut Parts, t: Tid, call: &Call, k: ObjId, out: &mut Trac
 }
 
 /// `pthread_mutex_unlock`.
-pub fn unlock<K: Sink>(p: &mut Parts, t: Tid, call: &Call, k: ObjId, out: &mut Tracer<'_, K>)
+pub fn mutex_unlock<K: Sink>(p: &mut Parts, t: Tid, call: &Call, k: ObjId, out: &mut Tracer<'_, K>)
     requires known { t < length p.old.names }
     requires runs { can_run p.old.machine t ≡ true }
     requires mutex { k < length p.old.machine.mutexes }

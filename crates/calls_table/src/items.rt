@@ -15,14 +15,14 @@ ghost use Rattle.kernel_state.specs.Kernel.{Kernel, after, refilled_telling, tol
 ghost use Rattle.kernel_state.specs.Stood.{StoodRight};
 
 use calls_signals::{expire, sweep};
-use kernel_state::Parts;
 use calls_sync::contend;
-use rules_machine::CondEnd;
-use parts_tracer::Tracer;
-use words_trace::Event;
-use parts_io::Sink;
+use kernel_state::Parts;
 use kernel_threads::{Refilled, Wait};
+use parts_io::Sink;
+use parts_tracer::Tracer;
+use rules_machine::CondEnd;
 use words_numbers::{Item, Res, SigSet, Tid};
+use words_trace::Event;
 
 // It is told, and the thread is activated where it got its high priority back and can run.
 fn tell_refill<K: Sink>(p: &mut Parts, t: Tid, r: &Refilled, runs: bool, out: &mut Tracer<'_, K>)

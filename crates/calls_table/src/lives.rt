@@ -10,10 +10,10 @@ ghost use Rattle.rules_flat_code.specs.FlatBodies.{flat_bodies};
 ghost use Rattle.kernel_state.specs.Kernel.{after, by, told};
 
 use kernel_state::Parts;
-use parts_tracer::Tracer;
 use parts_io::Sink;
-use words_script::Call;
+use parts_tracer::Tracer;
 use words_numbers::{Res, Tid};
+use words_script::Call;
 
 // The thread starts, once the call has returned.
 fn create_dormant<K: Sink>(p: &mut Parts, t: Tid, call: &Call, u: Tid, out: &mut Tracer<'_, K>)

@@ -11,10 +11,10 @@ ghost use Rattle.kernel_threads.specs.Unused.{IsUnused};
 ghost use Rattle.kernel_state.specs.Kernel.{after, by, changes_policy, told};
 
 use kernel_state::Parts;
-use parts_tracer::Tracer;
 use parts_io::Sink;
-use words_script::{Call, Policy};
+use parts_tracer::Tracer;
 use words_numbers::{Prio, Res, Tid};
+use words_script::{Call, Policy};
 
 /// `sched_yield`.
 pub(crate) fn make_yield<K: Sink>(p: &mut Parts, t: Tid, call: &Call, out: &mut Tracer<'_, K>)

@@ -15,22 +15,23 @@ ghost use Rattle.kernel_state.specs.Pending.{PendingFits, SignalsFit};
 use crate::lives::make_create;
 use crate::scheduling::{make_setprio, make_setsched, make_yield};
 use crate::time::{end_of_sleep, sleep_until};
+use calls_queues::{mq_notify, mq_receive, mq_send};
+use calls_signals::{
+    expiry_after, expiry_at, kill, sigmask_block, sigmask_set, sigmask_unblock, sigqueue,
+    sigtimedwait, timer_getoverrun, timer_gettime, timer_settime, tkill,
+};
+use calls_sync::{
+    cond_broadcast, cond_signal, cond_wait, mutex_lock, mutex_trylock, mutex_unlock, sem_getvalue,
+    sem_post, sem_trywait, sem_wait,
+};
 use calls_threads::{
     acts_in_place, cancel, exit, join, pop_cleanup, push_cleanup, set_cancelability,
 };
-use calls_queues::{ask_notification, receive, send};
-use calls_signals::{
-    block, expiry_after, expiry_at, kill, kill_thread, queue, read_overrun, read_timer,
-    set as set_mask, set_timer, unblock, wait as wait_for_signal,
-};
 use kernel_state::Parts;
-use calls_sync::{
-    broadcast, cond_wait, get_value, lock, post, signal, try_lock, try_wait, unlock, wait,
-};
-use parts_tracer::Tracer;
 use parts_io::Sink;
-use words_script::Call;
+use parts_tracer::Tracer;
 use words_numbers::{Res, Tid};
+use words_script::Call;
 
 /// The effect of a call.
 #[inline(always)]
@@ -62,26 +63,26 @@ fn do_call<K: Sink>(p: &mut Parts, t: Tid, call: &Call, out: &mut Tracer<'_, K>)
         Call::Exit(v) => exit(p, t, call, p.number(t, v)),
         Call::Setprio(u, prio) => make_setprio(p, t, call, *u, *prio, out),
         Call::Setsched(u, policy) => make_setsched(p, t, call, *u, *policy, out),
-        Call::Lock(k) => lock(p, t, call, *k, None, out),
-        Call::Timedlock { mutex, at } => lock(p, t, call, *mutex, Some(p.moment(t, at)), out),
-        Call::Trylock(k) => try_lock(p, t, call, *k, out),
-        Call::Unlock(k) => unlock(p, t, call, *k, out),
+        Call::Lock(k) => mutex_lock(p, t, call, *k, None, out),
+        Call::Timedlock { mutex, at } => mutex_lock(p, t, call, *mutex, Some(p.moment(t, at)), out),
+        Call::Trylock(k) => mutex_trylock(p, t, call, *k, out),
+        Call::Unlock(k) => mutex_unlock(p, t, call, *k, out),
         Call::Wait(c, k) => cond_wait(p, t, call, *c, *k, None, out),
         Call::Timedwait { cond, mutex, at } => {
             cond_wait(p, t, call, *cond, *mutex, Some(p.moment(t, at)), out)
         }
-        Call::Signal(c) => signal(p, t, call, *c, out),
-        Call::Broadcast(c) => broadcast(p, t, call, *c, out),
-        Call::SemWait(k) => wait(p, t, call, *k, None, out),
-        Call::SemTimedwait { sem, at } => wait(p, t, call, *sem, Some(p.moment(t, at)), out),
-        Call::SemTrywait(k) => try_wait(p, t, call, *k, out),
-        Call::SemGetvalue(k) => get_value(p, t, call, *k, out),
-        Call::SemPost(k) => post(p, t, call, *k, out),
+        Call::Signal(c) => cond_signal(p, t, call, *c, out),
+        Call::Broadcast(c) => cond_broadcast(p, t, call, *c, out),
+        Call::SemWait(k) => sem_wait(p, t, call, *k, None, out),
+        Call::SemTimedwait { sem, at } => sem_wait(p, t, call, *sem, Some(p.moment(t, at)), out),
+        Call::SemTrywait(k) => sem_trywait(p, t, call, *k, out),
+        Call::SemGetvalue(k) => sem_getvalue(p, t, call, *k, out),
+        Call::SemPost(k) => sem_post(p, t, call, *k, out),
         Call::Nanosleep(n) => sleep_until(p, t, call, end_of_sleep(p.instant(), *n), out),
         Call::ClockNanosleep { at } => sleep_until(p, t, call, p.moment(t, at), out),
         Call::Gettime => p.returns(t, call, Res::Zero, p.instant().get(), out),
         Call::TimerSettimeRel(k, n, interval) => {
-            set_timer(
+            timer_settime(
                 p,
                 t,
                 call,
@@ -92,20 +93,20 @@ fn do_call<K: Sink>(p: &mut Parts, t: Tid, call: &Call, out: &mut Tracer<'_, K>)
             )
         }
         Call::TimerSettimeAbs(k, at, interval) => {
-            set_timer(p, t, call, *k, expiry_at(p.moment(t, at)), *interval, out)
+            timer_settime(p, t, call, *k, expiry_at(p.moment(t, at)), *interval, out)
         }
-        Call::TimerGettime(k) => read_timer(p, t, call, *k, out),
-        Call::TimerGetoverrun(k) => read_overrun(p, t, call, *k, out),
+        Call::TimerGettime(k) => timer_gettime(p, t, call, *k, out),
+        Call::TimerGetoverrun(k) => timer_getoverrun(p, t, call, *k, out),
         Call::Kill(signal) => kill(p, t, call, *signal, out),
-        Call::Tkill(u, signal) => kill_thread(p, t, call, *u, *signal, out),
-        Call::Sigqueue(signal, v) => queue(p, t, call, *signal, p.number(t, v), out),
-        Call::SigmaskBlock(set) => block(p, t, call, *set, out),
-        Call::SigmaskUnblock(set) => unblock(p, t, call, *set, out),
-        Call::SigmaskSet(set) => set_mask(p, t, call, *set, out),
-        Call::Sigwaitinfo(set) => wait_for_signal(p, t, call, *set, None, out),
-        Call::Sigtimedwait(set, n) => wait_for_signal(p, t, call, *set, Some(*n), out),
+        Call::Tkill(u, signal) => tkill(p, t, call, *u, *signal, out),
+        Call::Sigqueue(signal, v) => sigqueue(p, t, call, *signal, p.number(t, v), out),
+        Call::SigmaskBlock(set) => sigmask_block(p, t, call, *set, out),
+        Call::SigmaskUnblock(set) => sigmask_unblock(p, t, call, *set, out),
+        Call::SigmaskSet(set) => sigmask_set(p, t, call, *set, out),
+        Call::Sigwaitinfo(set) => sigtimedwait(p, t, call, *set, None, out),
+        Call::Sigtimedwait(set, n) => sigtimedwait(p, t, call, *set, Some(*n), out),
         Call::MqSend(q, len, priority, v) => {
-            send(p, t, call, *q, *len, *priority, p.number(t, v), None, out)
+            mq_send(p, t, call, *q, *len, *priority, p.number(t, v), None, out)
         }
         Call::MqTimedsend {
             queue,
@@ -113,7 +114,7 @@ fn do_call<K: Sink>(p: &mut Parts, t: Tid, call: &Call, out: &mut Tracer<'_, K>)
             prio,
             value,
             at,
-        } => send(
+        } => mq_send(
             p,
             t,
             call,
@@ -124,8 +125,8 @@ fn do_call<K: Sink>(p: &mut Parts, t: Tid, call: &Call, out: &mut Tracer<'_, K>)
             Some(p.moment(t, at)),
             out,
         ),
-        Call::MqReceive(q) => receive(p, t, call, *q, None, out),
-        Call::MqTimedreceive { queue, at } => receive(
+        Call::MqReceive(q) => mq_receive(p, t, call, *q, None, out),
+        Call::MqTimedreceive { queue, at } => mq_receive(
             p,
             t,
             call,
@@ -133,15 +134,7 @@ fn do_call<K: Sink>(p: &mut Parts, t: Tid, call: &Call, out: &mut Tracer<'_, K>)
             Some(p.moment(t, at)),
             out,
         ),
-        Call::MqNotify(q, signal, v) => ask_notification(
-            p,
-            t,
-            call,
-            *q,
-            *signal,
-            p.number(t, v),
-            out,
-        ),
+        Call::MqNotify(q, signal, v) => mq_notify(p, t, call, *q, *signal, p.number(t, v), out),
     }
 }
 

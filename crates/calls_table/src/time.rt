@@ -7,11 +7,11 @@ ghost use Rattle.rules_machine.specs.Timers.{sleeps_until};
 ghost use Rattle.kernel_state.specs.Kernel.{after, by, told};
 
 use kernel_state::Parts;
-use parts_tracer::Tracer;
-use parts_io::Sink;
-use words_script::Call;
 use kernel_threads::Wait;
+use parts_io::Sink;
+use parts_tracer::Tracer;
 use words_numbers::{Res, Tick, Tid};
+use words_script::Call;
 
 /// `nanosleep` and `clock_nanosleep`.
 #[inline(always)]

@@ -9,10 +9,10 @@ ghost use Rattle.kernel_threads.specs.Handlers.{AreHandlers};
 ghost use Rattle.kernel_state.specs.Kernel.{after, by, told};
 
 use kernel_state::Parts;
-use parts_tracer::Tracer;
 use parts_io::Sink;
-use words_script::Call;
+use parts_tracer::Tracer;
 use words_numbers::{ObjId, Res, Tid};
+use words_script::Call;
 
 /// `pthread_cleanup_push`.
 pub fn push_cleanup<K: Sink>(p: &mut Parts, t: Tid, call: &Call, u: ObjId, out: &mut Tracer<'_, K>)

@@ -15,13 +15,13 @@ ghost use Rattle.calls_sync.specs.Waits.{BlockedRest};
 ghost use Rattle.calls_threads.specs.Joins.{JoinerFits, JoinsFit};
 
 use kernel_state::Parts;
-use rules_machine::FrameKind;
-use parts_tracer::Tracer;
-use words_trace::Event;
-use parts_io::Sink;
-use words_script::Call;
 use kernel_threads::Joiner;
+use parts_io::Sink;
+use parts_tracer::Tracer;
+use rules_machine::FrameKind;
 use words_numbers::{Res, Tid};
+use words_script::Call;
+use words_trace::Event;
 
 // The thread that waits to join one that has ended wakes with its value.
 #[tactic(auto, using(crate::proofs::Joined::joined_unused))]

@@ -11,11 +11,11 @@ ghost use Rattle.kernel_threads.specs.Plain.{joiner_of};
 ghost use Rattle.kernel_state.specs.Kernel.{after, by, told};
 
 use kernel_state::Parts;
-use parts_tracer::Tracer;
-use parts_io::Sink;
-use words_script::Call;
 use kernel_threads::{Joiner, Wait};
+use parts_io::Sink;
+use parts_tracer::Tracer;
 use words_numbers::{Res, Tid};
+use words_script::Call;
 
 fn is_nobody(joiner: Joiner) -> bool
     ensures { result ≡ is_nobody (joiner_of joiner) }

@@ -4,12 +4,12 @@
 //! ends its thread, whose joiner wakes with its value, or drops a handler's frame.
 #![tactic(auto)]
 
+mod cancellation;
 mod cleanups;
 mod ends;
 mod joins;
-mod requests;
 
+pub use cancellation::{acts_in_place, cancel, set_cancelability};
 pub use cleanups::{pop_cleanup, push_cleanup};
 pub use ends::{exit, finish};
 pub use joins::join;
-pub use requests::{acts_in_place, cancel, set_cancelability};

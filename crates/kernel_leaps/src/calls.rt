@@ -12,11 +12,11 @@ ghost use Rattle.kernel_state.specs.Kernel.{after, by, told};
 
 use calls_table::make_call;
 use kernel_state::Parts;
-use parts_tracer::Tracer;
 use parts_io::Sink;
+use parts_tracer::Tracer;
 use script_code::CallPlace;
-use words_script::Call;
 use words_numbers::{ObjId, Tid};
+use words_script::Call;
 
 /// The call that stands at a place.
 #[inline(never)]

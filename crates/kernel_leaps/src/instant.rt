@@ -10,8 +10,8 @@ ghost use Rattle.kernel_state.specs.Stood.{StoodRight};
 
 use calls_table::do_item;
 use kernel_state::Parts;
-use parts_tracer::Tracer;
 use parts_io::Sink;
+use parts_tracer::Tracer;
 
 /// All items of the instant.
 #[inline(always)]

@@ -22,15 +22,15 @@ ghost use Rattle.kernel_leaps.specs.Ran.{ticked_by};
 
 use crate::run::{RunEnd, run_leaps};
 use kernel_state::Parts;
-use parts_tracer::Tracer;
 use parts_io::Sink;
-use words_script::Script;
 use parts_server::BudgetLine;
+use parts_steps::Steps;
+use parts_tracer::Tracer;
 use std::alloc::{AllocError, Global};
 use std::marker::Model;
 use std::sync::ledger::Ledger;
-use parts_steps::Steps;
 use words_numbers::{Tick, Tid};
+use words_script::Script;
 
 /// A kernel that runs a script. It stands for a state of the machine over the script's flat code, which contracts see.
 #[derive(Drop)]

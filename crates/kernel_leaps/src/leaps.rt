@@ -14,10 +14,10 @@ use crate::tick_ends::end_tick;
 use crate::units::{complete_at_end, run_thread};
 use calls_signals::sweep;
 use kernel_state::Parts;
-use parts_tracer::Tracer;
 use parts_io::Sink;
-use std::sync::ledger::Ledger;
 use parts_steps::Steps;
+use parts_tracer::Tracer;
+use std::sync::ledger::Ledger;
 use words_numbers::Tid;
 
 // Ticks of a thread, to the nearest due tick at most: the units that it passes, and a leap. The answer is how many they were.

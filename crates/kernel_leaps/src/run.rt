@@ -12,10 +12,10 @@ ghost use Rattle.kernel_state.specs.Stood.{StoodRight};
 
 use crate::leaps::leaps;
 use kernel_state::Parts;
-use parts_tracer::Tracer;
 use parts_io::Sink;
-use std::sync::ledger::Ledger;
 use parts_steps::Steps;
+use parts_tracer::Tracer;
+use std::sync::ledger::Ledger;
 use words_numbers::Tick;
 
 /// How a run ended.

@@ -9,11 +9,11 @@ ghost use Rattle.kernel_state.specs.Kernel.{Kernel, after, told};
 ghost use Rattle.kernel_state.specs.Stood.{StoodRight};
 
 use kernel_state::Parts;
-use parts_tracer::Tracer;
-use words_trace::Event;
-use parts_io::Sink;
 use kernel_threads::TickEnd;
+use parts_io::Sink;
+use parts_tracer::Tracer;
 use words_numbers::Tid;
+use words_trace::Event;
 
 // The round robin interval is used up: the thread goes to the tail.
 #[inline(never)]

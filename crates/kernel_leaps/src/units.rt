@@ -20,14 +20,14 @@ use crate::calls::{make_any, make_lock, make_sleep};
 use calls_table::make_call;
 use calls_threads::finish;
 use kernel_state::Parts;
-use parts_tracer::Tracer;
-use parts_io::Sink;
-use script_code::{CallPlace, Fetched};
-use words_script::Call;
-use std::sync::ledger::Ledger;
-use parts_steps::Steps;
 use kernel_threads::Ran;
+use parts_io::Sink;
+use parts_steps::Steps;
+use parts_tracer::Tracer;
+use script_code::{CallPlace, Fetched};
+use std::sync::ledger::Ledger;
 use words_numbers::Tid;
+use words_script::Call;
 
 /// A thread runs by itself for at most so many ticks, but one at least, and the instant moves on.
 #[inline(always)]

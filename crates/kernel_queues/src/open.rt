@@ -3,8 +3,8 @@ ghost use Rattle.std.specs.Prelude.{◌≡◌, ◌++◌, option_to_list, IfOk};
 ghost use Rattle.rules_machine.specs.Declarations.{named, queue_kind, queues_of};
 
 use crate::queue::MessageQueue;
-use words_script::{Decl, Kind, Script};
 use std::alloc::{AllocError, Global};
+use words_script::{Decl, Kind, Script};
 
 // A queue that is declared there is put behind the others.
 fn add_queue(alloc: Global, queues: &mut Vec<MessageQueue>, decl: &Decl) -> Result<(), AllocError>

@@ -7,10 +7,10 @@ ghost use Rattle.kernel_queues.specs.Queues.{next_value, queue_in, with_queue, w
 use crate::open::open_queues;
 use crate::queue::MessageQueue;
 use crate::registration::Registration;
-use words_script::Script;
 use std::alloc::{AllocError, Global};
 use std::marker::Model;
 use words_numbers::ObjId;
+use words_script::Script;
 
 /// The message queues of a script, by their numbers in the order of declaration.
 #[derive(Drop)]

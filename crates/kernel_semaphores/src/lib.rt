@@ -13,11 +13,11 @@ ghost use Rattle.rules_flat_code.specs.Runnable.{HasValue};
 
 mod value;
 
-use words_script::{Decl, Kind, Script};
 use std::alloc::{AllocError, Global};
 use std::marker::Model;
-use words_numbers::ObjId;
 use value::SemaphoreValue;
+use words_numbers::ObjId;
+use words_script::{Decl, Kind, Script};
 
 /// The semaphores of a script, by number.
 #[derive(Drop)]

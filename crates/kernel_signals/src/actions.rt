@@ -7,9 +7,9 @@ ghost use Rattle.rules_machine.specs.Signals.{is_kill};
 ghost use Rattle.kernel_signals.specs.Actions.{Kills};
 
 use rules_machine::SigAction;
-use words_script::{Decl, Script};
 use std::marker::Model;
 use words_numbers::{ObjId, SigSet};
+use words_script::{Decl, Script};
 
 /// The actions of the 32 signals, fixed by the script.
 #[derive(Drop)]

@@ -23,12 +23,12 @@ ghost use Rattle.rules_machine.specs.Ticks.{consumed_in};
 ghost use Rattle.kernel_threads.specs.Ends.{refilled_of};
 
 use crate::parts::Parts;
+use kernel_threads::{Frame, Refilled, Waiting};
+use parts_server::Replenish;
 use rules_machine::{BodyOf, FrameKind};
 use script_code::CallPlace;
-use words_script::{Call, Policy};
-use parts_server::Replenish;
-use kernel_threads::{Frame, Refilled, Waiting};
 use words_numbers::{Prio, Res, SigSet, Tid};
+use words_script::{Call, Policy};
 
 impl Parts {
     pub fn answer_thread(&mut self, t: Tid, res: Res, value: u64)

@@ -12,8 +12,8 @@ ghost use Rattle.kernel_state.specs.Kernel.{after, by};
 ghost use Rattle.kernel_state.specs.Waits.{CanWait};
 
 use crate::parts::Parts;
-use rules_machine::CondEnd;
 use kernel_threads::{Wait, Waiting};
+use rules_machine::CondEnd;
 use words_numbers::{ObjId, Tid};
 
 impl Parts {

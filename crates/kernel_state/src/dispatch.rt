@@ -11,10 +11,10 @@ ghost use Rattle.rules_machine.specs.Turns.{tells, ◌▷◌};
 ghost use Rattle.kernel_state.specs.Kernel.{Kernel, after, told};
 
 use crate::parts::Parts;
-use parts_tracer::Tracer;
-use words_trace::Event;
 use parts_io::Sink;
+use parts_tracer::Tracer;
 use words_numbers::Tid;
+use words_trace::Event;
 
 impl Parts {
     // The processor is given to another thread, or to none.

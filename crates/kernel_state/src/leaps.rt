@@ -9,9 +9,9 @@ ghost use Rattle.kernel_threads.specs.Running.{HasRun, HasTime};
 ghost use Rattle.kernel_state.specs.Kernel.{after};
 
 use crate::parts::Parts;
-use std::sync::ledger::Ledger;
-use parts_steps::Steps;
 use kernel_threads::Ran;
+use parts_steps::Steps;
+use std::sync::ledger::Ledger;
 use words_numbers::Tid;
 
 impl Parts {

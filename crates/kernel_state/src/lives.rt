@@ -15,12 +15,12 @@ ghost use Rattle.kernel_threads.specs.Unused.{IsUnused};
 ghost use Rattle.kernel_state.specs.Kernel.{after, told};
 
 use crate::parts::Parts;
-use rules_machine::{BodyOf, FrameKind};
-use parts_tracer::Tracer;
-use words_trace::Event;
-use parts_io::Sink;
 use kernel_threads::Joiner;
+use parts_io::Sink;
+use parts_tracer::Tracer;
+use rules_machine::{BodyOf, FrameKind};
 use words_numbers::{ObjId, Res, Tid};
+use words_trace::Event;
 
 /// The value of a cancelled thread, as `PTHREAD_CANCELED`.
 const CANCELLED_VALUE: u64 = 3_000_000_000_000_000_000;

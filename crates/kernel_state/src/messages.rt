@@ -15,8 +15,8 @@ ghost use Rattle.kernel_state.specs.Messages.{waiting_message};
 use crate::parts::Parts;
 use kernel_queues::Registration;
 use kernel_threads::{Message, Wait};
-use words_numbers::{ObjId, Tid};
 use parts_waiters::WaitObj;
+use words_numbers::{ObjId, Tid};
 
 // The message that a wait is for room for; for another wait one of priority 0 and value 0.
 fn message_in(wait: &Wait) -> Message

@@ -15,14 +15,14 @@ ghost use Rattle.kernel_threads.specs.Unused.{IsUnused};
 ghost use Rattle.kernel_state.specs.Kernel.{after, told};
 
 use crate::parts::Parts;
-use parts_owners::MutexState;
-use rules_machine::call_name;
-use parts_tracer::Tracer;
-use words_trace::Event;
 use parts_io::Sink;
-use words_script::Protocol;
-use words_numbers::{ObjId, Res, Tid};
+use parts_owners::MutexState;
+use parts_tracer::Tracer;
 use parts_waiters::WaitObj;
+use rules_machine::call_name;
+use words_numbers::{ObjId, Res, Tid};
+use words_script::Protocol;
+use words_trace::Event;
 
 impl Parts {
     /// A mutex as it stands.

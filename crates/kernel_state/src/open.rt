@@ -10,17 +10,17 @@ ghost use Rattle.kernel_state.specs.Settled.{HavePriorities};
 use crate::direct::Direct;
 use crate::named::Named;
 use crate::parts::Parts;
-use rules_machine::LastDispatch;
 use kernel_queues::Queues;
-use parts_tracer::Names;
-use parts_ready::Ready;
-use kernel_signals::{Actions, Pending};
-use script_code::Code;
-use words_script::{Decl, Kind, Script};
 use kernel_semaphores::Semaphores;
-use std::alloc::{AllocError, Global};
+use kernel_signals::{Actions, Pending};
 use kernel_table::Table;
+use parts_ready::Ready;
+use parts_tracer::Names;
+use rules_machine::LastDispatch;
+use script_code::Code;
+use std::alloc::{AllocError, Global};
 use words_numbers::{Tick, Tid};
+use words_script::{Decl, Kind, Script};
 
 fn tid_of(place: usize) -> Tid
     requires { place < 256 }

@@ -9,18 +9,18 @@ ghost use Rattle.std.specs.Prelude.{Some, is_some};
 
 use crate::direct::Direct;
 use crate::named::Named;
-use rules_machine::LastDispatch;
 use kernel_queues::Queues;
-use parts_tracer::{Names, Tracer};
-use words_trace::Event;
-use parts_ready::Ready;
-use parts_io::Sink;
-use kernel_signals::{Actions, Pending};
-use script_code::Code;
 use kernel_semaphores::Semaphores;
-use std::marker::Model;
+use kernel_signals::{Actions, Pending};
 use kernel_table::Table;
+use parts_io::Sink;
+use parts_ready::Ready;
+use parts_tracer::{Names, Tracer};
+use rules_machine::LastDispatch;
+use script_code::Code;
+use std::marker::Model;
 use words_numbers::{Tick, Tid};
+use words_trace::Event;
 
 /// All parts of the kernel.
 #[derive(Drop)]

@@ -13,10 +13,10 @@ ghost use Rattle.kernel_threads.specs.Unused.{IsUnused};
 ghost use Rattle.kernel_state.specs.Kernel.{Kernel, activates_now, after, told};
 
 use crate::parts::Parts;
-use parts_tracer::Tracer;
-use words_trace::Event;
 use parts_io::Sink;
+use parts_tracer::Tracer;
 use words_numbers::Tid;
+use words_trace::Event;
 
 impl Parts {
     // The activation time of a server with that capacity is now.

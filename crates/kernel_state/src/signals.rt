@@ -18,12 +18,12 @@ ghost use Rattle.kernel_state.specs.Caught.{HasRoomToPend};
 ghost use Rattle.kernel_state.specs.Kernel.{after, told};
 
 use crate::parts::Parts;
-use rules_machine::SigAction;
-use parts_tracer::Tracer;
-use words_trace::Event;
-use parts_io::Sink;
 use kernel_signals::SignalRecord;
+use parts_io::Sink;
+use parts_tracer::Tracer;
+use rules_machine::SigAction;
 use words_numbers::{ObjId, SigSet, Tid};
+use words_trace::Event;
 
 impl Parts {
     /// Whether nothing is pending.

@@ -13,10 +13,10 @@ ghost use Rattle.rules_machine.specs.Ticks.{tick_end};
 ghost use Rattle.kernel_threads.specs.Ends.{end_of};
 
 use crate::parts::Parts;
-use words_script::{Call, Operand};
-use parts_server::BudgetLine;
 use kernel_threads::{TickEnd, Wait};
+use parts_server::BudgetLine;
 use words_numbers::{Prio, SigSet, Tick, Tid};
+use words_script::{Call, Operand};
 
 impl Parts {
     pub fn is_runnable(&self, t: Tid) -> bool

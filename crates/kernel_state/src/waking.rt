@@ -16,13 +16,13 @@ ghost use Rattle.rules_flat_code.specs.FlatBodies.{flat_bodies};
 ghost use Rattle.kernel_state.specs.Kernel.{Kernel, after, by, told, starts_telling};
 
 use crate::parts::Parts;
-use rules_machine::call_name;
-use parts_tracer::Tracer;
-use words_trace::Event;
-use parts_io::Sink;
-use words_script::Call;
 use kernel_threads::{Wait, Waiting};
+use parts_io::Sink;
+use parts_tracer::Tracer;
+use rules_machine::call_name;
 use words_numbers::{Res, SigSet, Tick, Tid};
+use words_script::Call;
+use words_trace::Event;
 
 impl Parts {
     /// The caller's call returns.

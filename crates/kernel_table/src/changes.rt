@@ -21,11 +21,11 @@ use crate::movers::thread_of;
 use crate::plans::take_plan;
 use crate::table::Table;
 use crate::times::{end_sleep, retime_refill, time_refill, time_wait};
-use script_code::Code;
-use words_script::Policy;
-use parts_server::Replenish;
 use kernel_threads::{Ran, Refilled};
+use parts_server::Replenish;
+use script_code::Code;
 use words_numbers::{Prio, Res, Tick, Tid};
+use words_script::Policy;
 
 impl Table {
     /// The last call of its body has that answer. No execution priority changes.

@@ -16,9 +16,9 @@ ghost use Rattle.kernel_table.specs.Table.{with_thread};
 ghost use Rattle.kernel_table.specs.Movers.{KeepsExec};
 
 use crate::table::Table;
+use kernel_threads::Joiner;
 use rules_machine::{BodyOf, FrameKind};
 use script_code::Code;
-use kernel_threads::Joiner;
 use words_numbers::{ObjId, Tid};
 
 impl Table {

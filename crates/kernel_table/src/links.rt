@@ -8,10 +8,10 @@ ghost use Rattle.parts_owners.specs.Chains.{assigned_at, assigned_to, awaited_in
 ghost use Rattle.parts_owners.specs.Moves.{IsPlaced, TellsMoved, entered, left, mutex_named};
 ghost use Rattle.kernel_table.specs.Moves.{ArePriced, MayAwait, begun};
 
-use parts_owners::{Chain, Moved};
 use kernel_threads::{Threads, Wait, Waiting};
-use words_numbers::{ObjId, Tid};
+use parts_owners::{Chain, Moved};
 use parts_waiters::{WaitObj, Waits};
+use words_numbers::{ObjId, Tid};
 
 /// The chain takes the assigned priority of the thread, where it is another.
 #[inline(always)]

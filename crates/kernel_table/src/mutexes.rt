@@ -16,8 +16,8 @@ use crate::links::stop_waiting;
 use crate::movers::thread_of;
 use crate::table::Table;
 use crate::times::time_wait;
-use words_numbers::{ObjId, Res, Tid};
 use parts_waiters::WaitObj;
+use words_numbers::{ObjId, Res, Tid};
 
 impl Table {
     /// The mutex is counted so often, with the same owner. No execution priority changes.

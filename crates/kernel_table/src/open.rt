@@ -10,14 +10,14 @@ ghost use Rattle.kernel_table.specs.Table as table;
 use crate::links::reassign;
 use crate::table::Table;
 use crate::times::time_all;
-use parts_owners::{Chain, MutexKind};
-use kernel_timers::Timers;
-use words_script::{Decl, Kind, Script};
-use std::alloc::{AllocError, Global};
 use kernel_threads::Threads;
-use words_numbers::Tid;
-use parts_wheel::Wheel;
+use kernel_timers::Timers;
+use parts_owners::{Chain, MutexKind};
 use parts_waiters::Waits;
+use parts_wheel::Wheel;
+use std::alloc::{AllocError, Global};
+use words_numbers::Tid;
+use words_script::{Decl, Kind, Script};
 
 // A mutex that is declared there is put behind the others.
 fn add_mutex(kinds: &mut Vec<MutexKind>, decl: &Decl) -> Result<(), AllocError>

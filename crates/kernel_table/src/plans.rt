@@ -12,11 +12,11 @@ ghost use Rattle.kernel_table.specs.Times.{refill_of};
 
 use crate::links::{reassign, reassign_changed};
 use crate::times::retime_refill;
-use parts_owners::{Chain, Moved};
 use kernel_threads::{Planned, Threads};
-use words_numbers::{Item, Tid};
-use parts_wheel::Wheel;
+use parts_owners::{Chain, Moved};
 use parts_waiters::Waits;
+use parts_wheel::Wheel;
+use words_numbers::{Item, Tid};
 
 /// The refill of the thread is armed as it is due after the plan, and the chain takes its assigned priority. Mostly the plan is the only
 /// one, and the priority stays.

@@ -11,8 +11,8 @@ ghost use Rattle.rules_machine.specs.Priorities.{claims};
 ghost use Rattle.kernel_table.specs.Table.{exec};
 
 use crate::table::Table;
-use parts_owners::MutexState;
 use kernel_threads::Thread;
+use parts_owners::MutexState;
 use words_numbers::{ObjId, Prio, Tid};
 
 impl Table {

@@ -16,11 +16,11 @@ ghost use Rattle.kernel_table.specs.Movers.{KeepsExec};
 
 use crate::open::tid_of;
 use crate::table::Table;
+use kernel_threads::Threads;
+use parts_waiters::WaitObj;
 use rules_machine::{BodyOf, FrameKind};
 use script_code::Code;
-use kernel_threads::Threads;
 use words_numbers::{ObjId, SigSet, Tid};
-use parts_waiters::WaitObj;
 
 // The signals that each thread waits for.
 fn awaited_sets(threads: &Threads) -> [SigSet; 256]

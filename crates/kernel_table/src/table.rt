@@ -1,12 +1,12 @@
 // The threads, the chain of their claims, their places as waiters, the timers, and the wheel of what falls due of threads and timers.
 ghost use Rattle.std.specs.Prelude.{◌≡◌, ◌<◌, ◌≤◌, length};
 
-use parts_owners::Chain;
-use kernel_timers::Timers;
-use std::marker::Model;
 use kernel_threads::Threads;
-use parts_wheel::Wheel;
+use kernel_timers::Timers;
+use parts_owners::Chain;
 use parts_waiters::Waits;
+use parts_wheel::Wheel;
+use std::marker::Model;
 
 /// The threads with their mutexes, priorities and waits, and the interval timers.
 #[derive(Drop)]

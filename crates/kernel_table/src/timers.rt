@@ -9,8 +9,8 @@ ghost use Rattle.kernel_table.specs.Tied.{expiring};
 
 use crate::table::Table;
 use kernel_timers::Timers;
-use words_numbers::{Item, ObjId, Tick};
 use parts_wheel::Wheel;
+use words_numbers::{Item, ObjId, Tick};
 
 // The expiry of the timer is armed as it is due now.
 fn reset(timers: &Timers, wheel: &mut Wheel, k: ObjId)

@@ -11,8 +11,8 @@ ghost use Rattle.kernel_table.specs.Times.{in_time, least_due};
 use crate::open::tid_of;
 use crate::table::Table;
 use kernel_threads::Threads;
-use words_numbers::{Item, ItemId, Tick, Tid};
 use parts_wheel::Wheel;
+use words_numbers::{Item, ItemId, Tick, Tid};
 
 /// The item falls due at the tick, where that is an instant; it is not armed afterwards where it is none.
 #[inline(always)]

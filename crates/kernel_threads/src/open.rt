@@ -4,8 +4,8 @@ ghost use Rattle.rules_machine.specs.Declarations.{declared_thread, threads_of};
 ghost use Rattle.rules_machine.specs.Runs.{thread_opened};
 
 use crate::thread::Thread;
-use words_script::{Decl, Kind, Script};
 use std::alloc::{AllocError, Global};
+use words_script::{Decl, Kind, Script};
 
 // A thread that is declared there is put behind the others.
 fn add_thread(threads: &mut Vec<Thread>, decl: &Decl) -> Result<(), AllocError>

@@ -12,8 +12,8 @@ use crate::frame::Frame;
 use crate::server::new_server;
 use crate::thread::Thread;
 use arrayvec::ArrayVec;
-use words_script::Policy;
 use words_numbers::{Params, Prio, Tick};
+use words_script::Policy;
 
 impl Thread {
     /// The priority that its policy gives.

@@ -13,10 +13,10 @@ ghost use Rattle.rules_server.specs.Calls.{MayPlan};
 
 use crate::ends::{Planned, Refilled};
 use crate::thread::Thread;
-use words_trace::BudgetView;
-use words_script::Policy;
 use parts_server::{BudgetLine, Server, ServerKind};
 use words_numbers::Tick;
+use words_script::Policy;
+use words_trace::BudgetView;
 
 impl Thread {
     /// The capacity of its server, where an activation is made at once: a strict server is activated where a run of it opens.

@@ -18,8 +18,8 @@ use crate::status::{Status, Wait};
 use crate::thread::Thread;
 use rules_machine::{BodyOf, FrameKind};
 use script_code::Code;
-use words_script::Call;
 use words_numbers::{ObjId, SigSet, Tick};
+use words_script::Call;
 
 /// The greatest number that a register may hold.
 const REGISTER_LIMIT: u64 = 2_000_000_000_000_000_000;

@@ -4,8 +4,8 @@ ghost use Rattle.rules_machine.specs.Conditions.{released_mutex, waits_on_condit
 ghost use Rattle.kernel_threads.specs.Plain.{wait_of};
 
 use rules_machine::CondEnd;
-use words_script::Call;
 use words_numbers::{ObjId, SigSet, Tick, Tid};
+use words_script::Call;
 
 /// A message of a queue.
 #[derive(Clone, Copy)]

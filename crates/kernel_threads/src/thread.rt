@@ -23,12 +23,12 @@ use crate::frame::Frame;
 use crate::server::{budget_of, new_server};
 use crate::status::{Joiner, Status, Wait, Waiting};
 use arrayvec::ArrayVec;
-use words_trace::Report;
-use script_code::{Code, Unit};
-use words_script::{Call, Operand, Policy};
 use parts_server::Server;
+use script_code::{Code, Unit};
 use std::marker::Model;
 use words_numbers::{ObjId, Res, SigSet, Tick};
+use words_script::{Call, Operand, Policy};
+use words_trace::Report;
 
 /// A thread of a script.
 #[derive(Drop)]

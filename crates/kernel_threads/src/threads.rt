@@ -9,10 +9,10 @@ ghost use Rattle.kernel_threads.specs.Lending.{LendsThread};
 
 use crate::open::open_threads;
 use crate::thread::Thread;
-use words_script::Script;
 use std::alloc::{AllocError, Global};
 use std::marker::Model;
 use words_numbers::Tid;
+use words_script::Script;
 
 /// The threads by their numbers.
 #[derive(Drop)]

@@ -3,8 +3,8 @@ ghost use Rattle.std.specs.Prelude.{◌≡◌, ◌++◌, option_to_list, IfOk};
 ghost use Rattle.rules_machine.specs.Declarations.{named, timer_kind, timers_of};
 
 use crate::timer::Timer;
-use words_script::{Decl, Kind, Script};
 use std::alloc::{AllocError, Global};
+use words_script::{Decl, Kind, Script};
 
 // A timer that is declared there is put behind the others.
 fn add_timer(timers: &mut Vec<Timer>, decl: &Decl) -> Result<(), AllocError>

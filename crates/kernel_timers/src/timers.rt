@@ -7,10 +7,10 @@ ghost use Rattle.kernel_timers.specs.Timers.{timer_in, with_timer};
 
 use crate::open::open_timers;
 use crate::timer::Timer;
-use words_script::Script;
 use std::alloc::{AllocError, Global};
 use std::marker::Model;
 use words_numbers::{ObjId, Tick};
+use words_script::Script;
 
 /// The interval timers of a script, by their numbers in the order of declaration.
 #[derive(Drop)]

@@ -6,8 +6,8 @@ ghost use Rattle.script_table.specs.Operands.{operand_at};
 ghost use Rattle.script_writer.specs.Words.{operand_word, signal_word, set_word};
 ghost use Rattle.laws_canonical_text.specs.Laws.{IsInScript};
 
-use words_script::Operand;
 use words_numbers::{Res, SigSet};
+use words_script::Operand;
 
 /// The decimal text of a number is a number of that value.
 pub fn numbers_read_back(n: u64)

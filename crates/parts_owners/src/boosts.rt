@@ -6,8 +6,8 @@ ghost use Rattle.rules_machine.specs.Mutexes.{is_boosting};
 ghost use Rattle.rules_machine.specs.State.{Mutex};
 
 use crate::claims::MutexState;
-use words_script::Protocol;
 use words_numbers::Tid;
+use words_script::Protocol;
 
 impl MutexState {
     // Whether it can raise its owner's priority.

@@ -20,10 +20,10 @@ use crate::claims::{
     MutexKind, MutexState, ThreadClaim, free_mutexes, fresh_claims, leads_to, lowest,
 };
 use crate::walk::Moved;
+use parts_waiters::Waits;
 use std::alloc::{AllocError, Global};
 use std::marker::Model;
 use words_numbers::{ObjId, Prio, Tid};
-use parts_waiters::Waits;
 
 /// The claims of threads, the mutexes, and the execution priority of each thread.
 #[derive(Drop)]

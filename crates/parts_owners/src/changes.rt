@@ -14,8 +14,8 @@ use crate::claims::{
 };
 use crate::equations::{is_at_assigned, is_plainly_free, lends_nothing};
 use crate::walk::{Moved, turn_alone, walk};
-use words_numbers::{ObjId, Prio, Tid};
 use parts_waiters::{WaitObj, Waits};
+use words_numbers::{ObjId, Prio, Tid};
 
 /// The assigned priority of the thread is another.
 pub(crate) fn change_base(

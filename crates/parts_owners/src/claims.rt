@@ -6,10 +6,10 @@ ghost use Rattle.rules_machine.specs.Threads.{no_mutex};
 ghost use Rattle.parts_owners.specs.Fresh.{free_mutex, fresh_claim};
 ghost use Rattle.parts_owners.specs.Chains.{OwnersAreThreads, counted, closes_cycle_in, assigned_to, no_claim, waiting_for, next_in};
 
-use words_script::Protocol;
 use std::alloc::{AllocError, Global};
 use std::marker::Model;
 use words_numbers::{ObjId, Prio, Tid};
+use words_script::Protocol;
 
 /// The assigned priority of a thread, and the mutex that it waits for.
 #[derive(Drop)]

@@ -9,9 +9,9 @@ ghost use Rattle.parts_owners.specs.Chains.{asked_in, is_plainly_free, no_claim,
 ghost use Rattle.parts_owners.specs.Moves.{StandsAt, WaitersStand};
 
 use crate::claims::{MutexState, ThreadClaim};
-use words_script::Protocol;
-use words_numbers::{ObjId, Prio, Tid};
 use parts_waiters::{WaitObj, Waits};
+use words_numbers::{ObjId, Prio, Tid};
+use words_script::Protocol;
 
 // The greater of a priority and a number.
 fn larger(p: Prio, n: u8) -> Prio

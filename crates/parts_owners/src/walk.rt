@@ -6,8 +6,8 @@ ghost use Rattle.parts_owners.specs.Moves.{MayWalk, SamePlaces, StandsAt, TellsM
 
 use crate::claims::{MutexState, ThreadClaim, next};
 use crate::equations::asked;
-use words_numbers::{Prio, Tid};
 use parts_waiters::Waits;
+use words_numbers::{Prio, Tid};
 
 /// A thread whose execution priority changed.
 #[derive(Clone, Copy)]

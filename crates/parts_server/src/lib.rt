@@ -11,9 +11,8 @@ ghost use Rattle.std.specs.Prelude.{true, false, ◌≡◌, ◌+◌, ◌^◌, �
 ghost use Rattle.rules_server.specs.Server.{AddsUp, new_server_as, is_high, has_room, joined, joins_as, planned_in, assigned, charge_ticks, activate, plan, replenishment, refill, oldest_pending, next_due, set_high, totals};
 ghost use Rattle.rules_server.specs.Calls.{BudgetLaw, MayPlan};
 
-pub use rules_server::{BudgetLine, Replenish, ServerKind};
-
 use arrayvec::ArrayVec;
+pub use rules_server::{BudgetLine, Replenish, ServerKind};
 use std::marker::Model;
 use words_numbers::{Params, Prio, Tick};
 

@@ -3,9 +3,9 @@ ghost use Rattle.std.specs.Prelude.{◌≡◌, ◌≤◌, ◌<◌, [], length, t
 ghost use Rattle.words_trace.specs.Text.{IsNamed, line, report_line};
 ghost use Rattle.parts_tracer.specs.ShortLines.{AreWhole};
 
+use crate::Names;
 use crate::head::{HEAD, NO_HUNDRED, place_near, place_time};
 use crate::words::{place_common, place_event, place_report};
-use crate::Names;
 use std::marker::Model;
 use words_numbers::{Res, Tick, Tid};
 use words_trace::{Event, Report};

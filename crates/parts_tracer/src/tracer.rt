@@ -5,8 +5,8 @@ ghost use Rattle.parts_tracer.specs.Prints.{Prints};
 ghost use Rattle.parts_tracer.specs.ShortLines.{AreWhole};
 ghost use Rattle.parts_tracer.specs.Tells.{Tells};
 
-use crate::line::LineBuffer;
 use crate::Names;
+use crate::line::LineBuffer;
 use parts_io::Sink;
 use words_numbers::{Tick, Tid};
 use words_trace::{Event, Report};

@@ -5,10 +5,10 @@ ghost use Rattle.parts_io.specs.Placed.{Placed};
 ghost use Rattle.parts_tracer.specs.Placed.{blanks_before, words_behind};
 ghost use Rattle.words_trace.specs.Calls.{call_word};
 
+use crate::Names;
 use crate::call_name::place_call_text;
 use crate::head::HEAD;
 use crate::place::{place_byte, place_number};
-use crate::Names;
 use itoa::Buffer;
 use parts_io::place_word;
 use words_numbers::{Res, Tid};

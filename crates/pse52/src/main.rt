@@ -5,15 +5,15 @@
 
 ghost use Rattle.std.specs.Prelude.{◌≡◌};
 
-use tool_commands::{Status, run_tool};
 use parts_io::{Sink, Source, StdSink, StdSource};
+use parts_steps::Steps;
 use std::alloc::Global;
 use std::io::{BufReader, ErrorKind};
 use std::marker::Brand;
 use std::process::ExitCode;
 use std::sync::ledger::{Blank, Ledger};
 use std::{env, io};
-use parts_steps::Steps;
+use tool_commands::{Status, run_tool};
 
 // How many bytes of the output are gathered before they are written.
 const HELD_BACK: usize = 65_536;

@@ -1,6 +1,6 @@
 // Operations of the flat code.
-use words_script::Call;
 use words_numbers::Res;
+use words_script::Call;
 
 /// An operation of the flat code. A body's operations are numbered from 0. Contracts speak of it, and the code keeps it packed (`ops.rt`).
 #[derive(Clone, Copy)]

@@ -1,6 +1,5 @@
 pub mod Lists
 pub mod State
-pub mod Kinds
 pub mod Bodies
 pub mod Threads
 pub mod Priorities

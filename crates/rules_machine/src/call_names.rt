@@ -2,8 +2,8 @@
 ghost use Rattle.std.specs.Prelude.{◌≡◌};
 ghost use Rattle.rules_machine.specs.CallNames.{name_of};
 
-use words_trace::CallName;
 use words_script::Call;
+use words_trace::CallName;
 
 /// The name of a call: the first word of its line.
 pub fn call_name(call: &Call) -> CallName

@@ -5,6 +5,7 @@ ghost use Rattle.rules_machine.specs.Cancellation.{is_cancellation_point};
 use words_script::Call;
 
 /// Whether a call is a cancellation point, IEEE 1003.1-2017, XSH 2.9.5.2: there a request for cancellation acts in its place.
+#[inline(always)]
 pub fn is_cancellation_point(call: &Call) -> bool
     ensures { result ≡ is_cancellation_point call.now }
 {

@@ -17,4 +17,4 @@ pub use cancellation::is_cancellation_point;
 pub use dispatch::LastDispatch;
 pub use frame::{BodyOf, FrameKind};
 pub use signal::SigAction;
-pub use thread::{CondEnd, ThreadState, WaitKind};
+pub use thread::CondEnd;

@@ -16,10 +16,10 @@ use crate::next::{capped, holds};
 use crate::ops::{Ops, Packed};
 use crate::{CallPlace, Cursor, Fetched, Units};
 use arrayvec::ArrayVec;
-use words_script::{Body, Call, Decl, Kind, Script};
 use std::alloc::{AllocError, Global};
 use std::marker::Model;
 use words_numbers::{ObjId, Res, Tid};
+use words_script::{Body, Call, Decl, Kind, Script};
 
 /// The bodies of a script as flat code. Contracts see it as the operations of each body, and the numbers of the bodies of the
 /// threads, handlers and cleanup handlers.

@@ -4,8 +4,8 @@ ghost use Rattle.words_script.specs.Tree.{block_of};
 ghost use Rattle.rules_bodies.specs.Flat.{flat, op_number};
 
 use crate::ops::{Ops, Packed};
-use words_script::{Body, Call, Step};
 use std::alloc::AllocError;
+use words_script::{Body, Call, Step};
 
 // Appends the operations of a step.
 #[cycle(flatten)]

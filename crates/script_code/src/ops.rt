@@ -5,10 +5,10 @@ ghost use Rattle.rules_bodies.specs.declared.op.Op.TheVariants.{Make, Test};
 ghost use Rattle.script_code.specs.Fetched.{call_at};
 ghost use Rattle.script_code.specs.Packed.{IsIn, all_unpacked, short_call, unpacked};
 
-use words_script::Call;
 use std::alloc::{AllocError, Global};
 use std::marker::Model;
 use words_numbers::{ObjId, Res};
+use words_script::Call;
 
 /// An operation in 16 bytes. The calls that are made most often, and have one number at most, are kept whole; any other, which takes 48
 /// bytes by itself, is told by its number in the table of its body.

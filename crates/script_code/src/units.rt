@@ -7,11 +7,11 @@ ghost use Rattle.rules_bodies.specs.Next.{Place};
 ghost use Rattle.script_code.specs.Ready.{IsReady};
 ghost use Rattle.rules_bodies.specs.Stands.{Fetches, IsBody, IsPlaced, Stands};
 
-use crate::ops::{Ops, Packed};
 use crate::code::carry_out;
+use crate::ops::{Ops, Packed};
 use crate::{Code, Cursor, Fetched};
-use words_script::Call;
 use std::marker::Model;
+use words_script::Call;
 
 /// The units of one body, whose operations are looked up once. Contracts see the code, and the number of the body in it.
 #[derive(Drop)]

@@ -10,9 +10,9 @@ ghost use Rattle.script_generator.specs.Generated.{policy_of, policy_from, holdi
 use crate::draws::Draws;
 use arrayvec::ArrayVec;
 use itoa::Buffer;
-use words_script::{Body, Call, Decl, Decls, Kind, Name, Operand, Policy, Protocol, Script, Step};
 use std::alloc::{AllocError, Global};
 use words_numbers::{ObjId, Params, Prio};
+use words_script::{Body, Call, Decl, Decls, Kind, Name, Operand, Policy, Protocol, Script, Step};
 
 // The name that these bytes spell.
 fn name(bytes: &[u8]) -> Name

@@ -20,8 +20,8 @@ pub use form::{
 };
 pub use line_faults::{Fitting, any_agrees, fitting_pattern, pattern_of};
 pub use pattern::{Bar, Closer, Opening, Pattern, Place, Table};
-pub use words_script::NameKind;
 pub use table::patterns;
 pub use version::Version;
 pub use word_faults::WordFaults;
 pub use words::{answer_of, capped_value, is_number, is_register, set_of, short_number, signal_of};
+pub use words_script::NameKind;

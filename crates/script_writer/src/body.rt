@@ -13,8 +13,8 @@ use crate::line::Word::{Keyword, Name, Number};
 use crate::line::{LineText, line_of};
 use crate::names::object;
 use parts_io::{Failed, Sink};
-use words_script::{Body, Decl, NameKind, Step};
 use words_numbers::Res;
+use words_script::{Body, Decl, NameKind, Step};
 
 /// Writes a line at once.
 pub(crate) fn write_line<K: Sink>(sink: &mut K, line: LineText) -> Result<(), Failed>

@@ -16,10 +16,10 @@ use operands::{
     bare, on_object, on_object_with, on_thread, two_keywords, with_number, with_operand,
 };
 use queues::{mq_notify, mq_send, mq_timedsend};
-use words_script::{Call, Decl, NameKind};
 use signals::{kill, sigmask, sigqueue, sigtimedwait, sigwaitinfo, tkill};
 use threads::{setprio, setsched};
 use timers::{settime_abs, settime_rel};
+use words_script::{Call, Decl, NameKind};
 
 /// The line of a call.
 pub(crate) fn call_line(decls: &[Decl], call: &Call) -> LineText

@@ -12,8 +12,8 @@ use crate::line::Word::{Keyword, Name, Number, Signal};
 use crate::line::{LineText, line_of};
 use crate::names::object;
 use parts_io::{Failed, Sink};
-use words_script::{Body, Decl, Kind, NameKind, Policy, Protocol};
 use words_numbers::{ObjId, Params, Prio};
+use words_script::{Body, Decl, Kind, NameKind, Policy, Protocol};
 
 // The line of a SCHED_FIFO or SCHED_RR thread.
 fn plain_thread_line<'a>(

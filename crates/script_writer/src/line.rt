@@ -5,10 +5,10 @@ ghost use Rattle.script_writer.specs.Words.{operand_word, signal_word, set_word,
 ghost use Rattle.script_writer.specs.Line.{spelled, width, total_width, line_text, IsShort, AreShort};
 
 use arrayvec::ArrayVec;
-use parts_text::{add, add_number};
 use itoa::Buffer;
-use words_script::Operand;
+use parts_text::{add, add_number};
 use words_numbers::SigSet;
+use words_script::Operand;
 
 /// The text of a line with its end.
 pub(crate) type LineText = ArrayVec<u8, 256>;

@@ -3,8 +3,8 @@ ghost use Rattle.std.specs.Prelude.{◌≡◌, ◌≤◌, length};
 ghost use Rattle.script_writer.specs.Names.{name_of};
 ghost use Rattle.words_script.specs.declared.name_kind.NameKind.TheVariants as name_kind;
 
-use words_script::{Decl, NameKind};
 use words_numbers::{ObjId, Tid};
+use words_script::{Decl, NameKind};
 
 // The name of what is the k-th of its kind, or nothing where there are fewer.
 fn name_of(decls: &[Decl], of: NameKind, k: u16) -> &[u8]

@@ -1,7 +1,7 @@
 // What is known of a call.
 use rules_machine::{call_name, is_cancellation_point};
-use words_trace::CallName;
 use words_script::{Call, Operand};
+use words_trace::CallName;
 
 #[test]
 fn names_and_points_of_two_calls(rt: HostRuntime) {

@@ -4,9 +4,9 @@ ghost use Rattle.rules_machine.specs.Declarations.{queues_of};
 
 use crate::numbers::object;
 use kernel_queues::{Queues, Registration};
-use words_script::{Decl, Decls, Kind, Name, Script};
 use std::alloc::{AllocError, Global};
 use std::test::Fail;
+use words_script::{Decl, Decls, Kind, Name, Script};
 
 fn script(alloc: Global) -> Result<Script, AllocError>
     ensures { IfOk result (λ s. queues_of s ≡ record { depth = 2; longest = 8; is_nonblock = false; messages = []; registration = None } ∷ []) }

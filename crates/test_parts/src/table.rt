@@ -3,11 +3,11 @@ ghost use Rattle.std.specs.Prelude.{◌≡◌, ◌≤◌, ◌^◌, IfOk, None, l
 ghost use Rattle.rules_machine.specs.Declarations.{named, threads_of, timer_kind, timers_of};
 
 use crate::numbers::{thread, tick};
-use words_script::{Body, Decl, Decls, Kind, Name, Policy, Script};
+use kernel_table::Table;
 use std::alloc::Global;
 use std::test::Fail;
-use kernel_table::Table;
 use words_numbers::{Item, ObjId, Prio, Tid};
+use words_script::{Body, Decl, Decls, Kind, Name, Policy, Script};
 
 fn one_timer(alloc: Global) -> Result<Script, Fail>
     ensures threads { IfOk result (λ s. length (threads_of s) ≤ 256) }

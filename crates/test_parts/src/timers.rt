@@ -4,9 +4,9 @@ ghost use Rattle.rules_machine.specs.Declarations.{timers_of};
 
 use crate::numbers::{object, tick};
 use kernel_timers::Timers;
-use words_script::{Decl, Decls, Kind, Name, Script};
 use std::alloc::{AllocError, Global};
 use std::test::Fail;
+use words_script::{Decl, Decls, Kind, Name, Script};
 
 fn script(alloc: Global) -> Result<Script, AllocError>
     ensures { IfOk result (λ s. timers_of s ≡ record { signal = 5; value = 77; due = None; interval = 0; extra = 0; overrun = 0 } ∷ []) }

@@ -4,10 +4,10 @@ ghost use Rattle.parts_waiters.specs.Places.{place_in};
 ghost use Rattle.parts_waiters.specs.declared.WaitObj.TheVariants.{Mutex};
 
 use crate::numbers::{object, prio, thread};
+use parts_waiters::{WaitObj, Waits};
 use std::alloc::{AllocError, Global};
 use std::test::Fail;
 use words_numbers::SigSet;
-use parts_waiters::{WaitObj, Waits};
 
 fn mutex() -> WaitObj
     ensures { result ≡ Mutex 7 }

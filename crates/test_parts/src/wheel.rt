@@ -2,9 +2,9 @@
 ghost use Rattle.std.specs.Prelude.{◌≡◌};
 
 use crate::numbers::tick;
+use parts_wheel::Wheel;
 use std::test::Fail;
 use words_numbers::ItemId;
-use parts_wheel::Wheel;
 
 fn item(number: u32) -> ItemId
     ensures { result.number ≡ number }

@@ -1,7 +1,7 @@
 // What is read of texts that are accepted, and the limits at their edges.
+use script_reader::{Decl, FaultKind, Kind, Script, ScriptEnd, read_script};
 use std::alloc::{AllocError, Global};
 use std::test::Fail;
-use script_reader::{Decl, FaultKind, Kind, Script, ScriptEnd, read_script};
 
 // What reading a text of any length answers: no fault where it is a script.
 fn fault_of(alloc: Global, text: &[u8]) -> Option<(u32, FaultKind)> {

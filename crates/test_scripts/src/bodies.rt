@@ -6,10 +6,10 @@ ghost use Rattle.rules_bodies.specs.Flat.{nesting};
 ghost use Rattle.rules_bodies.specs.Stands.{IsBody, IsPlaced};
 
 use script_code::{Code, Cursor, Fetched};
-use words_script::{Body, Call, Decl, Decls, Kind, Name, Policy, Script, Step};
 use std::alloc::Global;
 use std::test::Fail;
 use words_numbers::{ObjId, Prio, Res, Tid};
+use words_script::{Body, Call, Decl, Decls, Kind, Name, Policy, Script, Step};
 
 // The code of a script whose declarations are a thread, a handler and a cleanup handler with these bodies.
 fn code_of(alloc: Global, thread: Body, handler: Body, cleanup: Body) -> Result<Code, Fail>

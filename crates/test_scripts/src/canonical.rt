@@ -1,9 +1,9 @@
 // Canonical texts, and that they are read back.
 use parts_io::MemSink;
+use script_reader::read_script;
 use script_writer::write_script;
 use std::alloc::Global;
 use std::test::Fail;
-use script_reader::read_script;
 
 // A text and its canonical text; the last four are the scripts of examples/.
 static TEXTS: [(&str, &str); 8] = [

@@ -1,7 +1,7 @@
 // Texts that are refused, with the line and the kind of their least fault. What is expected comes from the reference
 // simulator in tools/reference, which reads by another program.
-use std::alloc::Global;
 use script_reader::{FaultKind, ScriptEnd, read_script};
+use std::alloc::Global;
 
 struct Case {
     line: u32,

@@ -1,9 +1,9 @@
 // Scripts of version 2.
 use parts_io::MemSink;
+use script_reader::{FaultKind, Script, ScriptEnd, read_script};
 use script_writer::{canon_len, write_script};
 use std::alloc::{AllocError, Global};
 use std::test::Fail;
-use script_reader::{FaultKind, Script, ScriptEnd, read_script};
 
 // A text with so many threads behind a heading.
 fn threads(alloc: Global, heading: &[u8], count: u32) -> Result<Vec<u8>, AllocError> {

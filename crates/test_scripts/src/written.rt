@@ -1,10 +1,10 @@
 // The text of each form of declaration, step, block and call, against literals.
 use parts_io::MemSink;
 use script_writer::write_script;
-use words_script::{Body, Call, Decl, Decls, Kind, Name, Operand, Policy, Protocol, Script, Step};
 use std::alloc::Global;
 use std::test::Fail;
 use words_numbers::{ObjId, Params, Prio, Res, SigSet, Tid};
+use words_script::{Body, Call, Decl, Decls, Kind, Name, Operand, Policy, Protocol, Script, Step};
 
 fn declare(decls: &mut Vec<Decl>, name: &str, kind: Kind) -> Result<(), Fail> {
     let name = Name::try_new(name.as_bytes()).ok_or("no name")?;

@@ -1,9 +1,9 @@
 // Audits of traces, line by line, and the faults of heads. The verdicts were worked out by hand.
 ghost use Rattle.std.specs.Prelude.{◌≤◌, length};
 
-use tool_audit::{Audit, AuditEnd, Breach, HeadFault};
 use std::alloc::{AllocError, Global};
 use std::test::Fail;
+use tool_audit::{Audit, AuditEnd, Breach, HeadFault};
 
 const HEAD: &str = "server s 10 3 4\n";
 

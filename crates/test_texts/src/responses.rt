@@ -1,13 +1,13 @@
 // The lines of three tasks, whole and cut off.
 ghost use Rattle.std.specs.Prelude.{◌≡◌, ◌^◌, ◌≤◌};
 
-use tool_report::put_responses;
 use parts_io::{Failed, MemSink, Sink};
-use tool_times::Tasks;
+use parts_steps::Steps;
 use std::marker::Brand;
 use std::sync::ledger::{Blank, Ledger};
 use std::test::Fail;
-use parts_steps::Steps;
+use tool_report::put_responses;
+use tool_times::Tasks;
 
 const THREE: &str = "task a 3 1 4 0\ntask b 2 2 6 0\ntask c 1 3 12 0\n";
 

@@ -1,11 +1,11 @@
 // Worked texts of tasks: their responses, and their faults. The values were worked out by hand.
 ghost use Rattle.std.specs.Prelude.{◌≡◌, ◌^◌, ◌≤◌, length};
 
-use tool_times::{RtaEnd, TaskFault, Tasks};
+use parts_steps::Steps;
 use std::alloc::{AllocError, Global};
 use std::marker::Brand;
 use std::sync::ledger::{Blank, Ledger};
-use parts_steps::Steps;
+use tool_times::{RtaEnd, TaskFault, Tasks};
 
 const THREE: &str = "task a 3 1 4 0\ntask b 2 2 6 0\ntask c 1 3 12 0\n";
 

@@ -1,11 +1,11 @@
 // Each form of line against its literal, and sinks that fail.
 ghost use Rattle.std.specs.Prelude.{◌≡◌, length};
 
-use parts_tracer::{Names, Tracer, line_len};
-use words_trace::{BudgetView, CallName, Event, Report};
 use parts_io::MemSink;
+use parts_tracer::{Names, Tracer, line_len};
 use std::test::Fail;
 use words_numbers::{Prio, Res, SigCode, Tick, Tid};
+use words_trace::{BudgetView, CallName, Event, Report};
 
 const LONGEST_NAME: &[u8] = b"abcdefghijklmnopqrstuvwxyz_01234";
 

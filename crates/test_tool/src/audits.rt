@@ -1,9 +1,9 @@
 // Audits of traces through the one call.
 use crate::commands::run_from;
-use tool_commands::Status;
 use parts_io::{MemSink, MemSource, SureSource};
 use std::alloc::{AllocError, Global};
 use std::test::Fail;
+use tool_commands::Status;
 
 // Inputs, and what is told of them.
 static AUDITED: [(&str, Status, &str); 9] = [

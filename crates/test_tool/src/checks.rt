@@ -1,9 +1,9 @@
 // Traces beside those of scripts, through the one call.
 use crate::commands::run_from;
-use tool_commands::Status;
 use parts_io::{MemSink, MemSource, SureSource};
 use std::alloc::{AllocError, Global};
 use std::test::Fail;
+use tool_commands::Status;
 
 const SCRIPT: &str = "thread a fifo 5 at 0\nrun 3\nend\n";
 

@@ -1,13 +1,13 @@
 // Worked examples through the one call.
 ghost use Rattle.std.specs.Prelude.{◌≡◌};
 
-use tool_commands::{Status, run_tool};
 use parts_io::{MemSink, MemSource, Sink, Source, SureSource};
+use parts_steps::Steps;
 use std::alloc::{AllocError, Global};
 use std::marker::Brand;
 use std::sync::ledger::{Blank, Ledger};
 use std::test::Fail;
-use parts_steps::Steps;
+use tool_commands::{Status, run_tool};
 
 const ONE_THREAD: &str = "thread a fifo 5 at 0\nrun 3\nend\n";
 

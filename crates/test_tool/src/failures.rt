@@ -1,11 +1,11 @@
 // One run in which each write fails in turn, and each read.
 use crate::commands::run_from;
-use tool_commands::Status;
 use parts_io::{MemSink, MemSource, Source, StdSource, SureSource};
 use std::alloc::{AllocError, Global};
 use std::io;
 use std::io::{ErrorKind, Read};
 use std::test::Fail;
+use tool_commands::Status;
 
 // A thread is cancelled in its condition wait, so that its cleanup handler runs as the owner of the mutex.
 const SCRIPT: &str =

@@ -1,9 +1,9 @@
 // Scripts that are generated, through the one call.
 use crate::commands::run_from;
-use tool_commands::Status;
 use parts_io::{MemSink, MemSource};
 use std::alloc::{AllocError, Global};
 use std::test::Fail;
+use tool_commands::Status;
 
 // The canonical text of the script of number 0.
 const SCRIPT_0: &str =

@@ -1,8 +1,8 @@
 // The calls and policies of the whole machine, through the one call.
 use crate::commands::run_from;
-use tool_commands::Status;
 use parts_io::{MemSink, SureSource};
 use std::test::Fail;
+use tool_commands::Status;
 
 // A horizon, a script and its trace.
 static RUNS: [(&str, &str, &str); 6] = [

@@ -1,6 +1,5 @@
 // A source is read whole before the first write: a reader and a writer share the count of the reads.
 use crate::commands::run_from;
-use tool_commands::Status;
 use parts_io::{StdSink, StdSource};
 use std::alloc::{AllocError, Global};
 use std::cell::Cell;
@@ -8,6 +7,7 @@ use std::io;
 use std::io::{ErrorKind, Read, Write};
 use std::rc::Rc;
 use std::test::Fail;
+use tool_commands::Status;
 
 // Gives at most `width` bytes a read, and counts the reads.
 #[derive(Drop)]

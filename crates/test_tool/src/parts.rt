@@ -1,15 +1,15 @@
 // The parts below, each public call once.
 ghost use Rattle.std.specs.Prelude.{◌≡◌};
 
-use parts_tracer::Tracer;
-use parts_io::MemSink;
 use kernel_leaps::{Kernel, RunEnd};
+use parts_io::MemSink;
+use parts_steps::Steps;
+use parts_tracer::Tracer;
+use script_reader::{Name, read_script};
 use std::alloc::Global;
 use std::marker::Brand;
 use std::sync::ledger::{Blank, Ledger};
 use std::test::Fail;
-use parts_steps::Steps;
-use script_reader::{Name, read_script};
 use words_numbers::{Item, ObjId, Params, Prio, Res, SigCode, SigSet, Tick, Tid};
 
 const TWO_THREADS: &[u8] = b"thread a fifo 5 at 0\nrun 3\nend\nthread b fifo 9 at 2\nend\n";

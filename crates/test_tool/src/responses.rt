@@ -1,8 +1,8 @@
 // Worked texts of tasks through the one call.
 use crate::commands::run_from;
-use tool_commands::Status;
 use parts_io::{MemSink, SureSource};
 use std::test::Fail;
+use tool_commands::Status;
 
 // A bound, a text of tasks, and the lines that tell their response times.
 static TOLD: [(&str, &str, &str); 7] = [

@@ -1,9 +1,9 @@
 // Scripts of version 1 as scripts of version 2 through the one call.
 use crate::commands::run_from;
-use tool_commands::Status;
 use parts_io::{MemSink, MemSource, SureSource};
 use std::alloc::{AllocError, Global};
 use std::test::Fail;
+use tool_commands::Status;
 
 // Words, inputs, and what is told of them.
 static UPGRADED: [(&[&str], &str, Status, &str); 6] = [

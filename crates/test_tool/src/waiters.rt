@@ -1,9 +1,9 @@
 // Worked examples of mutexes and semaphores, whose traces were written by hand from the rules.
 use crate::commands::run_from;
-use tool_commands::Status;
 use parts_io::{MemSink, SureSource};
 use std::alloc::Global;
 use std::test::Fail;
+use tool_commands::Status;
 
 // A horizon, a script and its trace.
 static RUNS: [(&str, &str, &str); 5] = [

@@ -6,9 +6,9 @@ ghost use Rattle.tool_audit.specs.Head.{operand_faults, word_faults, line_faults
 use crate::{HeadFault, Limits, NamedServer};
 use script_lex::{Line, Words};
 use script_table::{capped_value, is_number};
-use words_script::Name;
 use std::marker::Model;
 use words_numbers::GREATEST_NUMBER;
+use words_script::Name;
 
 /// The words of a `server` line behind its keyword.
 #[derive(Clone, Copy)]

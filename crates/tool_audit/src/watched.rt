@@ -12,9 +12,9 @@ ghost use Rattle.tool_audit.specs.Watch.{fits_end, watched, watched_after, watch
 use crate::NamedServer;
 use crate::replay::Replay;
 use crate::saying::Saying;
-use words_script::Name;
 use std::marker::Model;
 use tool_check::{Form, TraceLine};
+use words_script::Name;
 
 /// Whether a line of this form closes a trace.
 pub(crate) fn is_closing(form: Form) -> bool

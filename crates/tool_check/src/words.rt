@@ -8,10 +8,10 @@ ghost use Rattle.words_script.specs.Names.{is_name};
 ghost use Rattle.tool_check.specs.Words.{trace_words, words_ahead, is_plain, number_of, is_call, is_code};
 
 use parts_tracer::call_text;
-use words_trace::CallName;
 use script_table::{capped_value, is_number};
-use words_script::Name;
 use std::marker::Model;
+use words_script::Name;
+use words_trace::CallName;
 
 // The greatest number of a trace.
 const GREATEST: u64 = 3_000_000_000_000_000_000;

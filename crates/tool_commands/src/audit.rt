@@ -10,9 +10,9 @@ ghost use Rattle.tool_commands.specs.Answer.{Told, SinkFaults, audit_answer, aud
 use crate::Status;
 use crate::message::{breach_line, refused_head_line};
 use crate::tool::put_text;
-use tool_audit::{Audit, AuditEnd};
 use parts_io::Sink;
 use std::alloc::Global;
+use tool_audit::{Audit, AuditEnd};
 use tool_check::divide;
 
 // Tells the first breach of a trace. It takes no memory.

@@ -14,13 +14,13 @@ use crate::message::refused_line;
 use crate::runs::print_run;
 use crate::tool::put_text;
 use parts_io::Sink;
+use parts_steps::Steps;
+use script_reader::{Script, ScriptEnd, read_script};
 use std::alloc::{AllocError, Global};
 use std::marker::Brand;
 use std::sync::ledger::Ledger;
-use parts_steps::Steps;
-use script_reader::{Script, ScriptEnd, read_script};
-use words_numbers::Tick;
 use tool_check::{Difference, KnownRoom, Room, compare, divide};
+use words_numbers::Tick;
 
 const SCRIPT_LIMIT: usize = 1_048_576;
 

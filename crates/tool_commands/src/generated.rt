@@ -11,13 +11,13 @@ ghost use Rattle.tool_commands.specs.Taken.{IsWithoutSource};
 use crate::Status;
 use crate::runs::print_soak;
 use parts_io::Sink;
+use parts_steps::Steps;
 use script_generator::make;
 use script_writer::write_script;
-use words_script::Script;
 use std::alloc::Global;
 use std::sync::ledger::Ledger;
-use parts_steps::Steps;
 use words_numbers::Tick;
+use words_script::Script;
 
 /// Writes the canonical text of a script.
 pub(crate) fn put_script<K: Sink>(script: &Script, sink: &mut K) -> Status

@@ -7,10 +7,10 @@ ghost use Rattle.tool_times.specs.Faults as task_faults;
 ghost use Rattle.tool_commands.specs.Message.{refused_line};
 
 use arrayvec::ArrayVec;
-use tool_audit::{Breach, HeadFault};
 use parts_text::{add, add_number};
-use tool_times::TaskFault;
 use script_table::FaultKind;
+use tool_audit::{Breach, HeadFault};
+use tool_times::TaskFault;
 
 /// Room for the longest line of a fault.
 pub(crate) type Message = ArrayVec<u8, 128>;

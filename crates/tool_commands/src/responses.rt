@@ -7,12 +7,12 @@ ghost use Rattle.tool_commands.specs.Answer.{Told, SinkFaults, responses_answer}
 use crate::Status;
 use crate::message::refused_task_line;
 use crate::tool::put_text;
-use tool_report::put_responses;
 use parts_io::Sink;
-use tool_times::{RtaEnd, Tasks};
+use parts_steps::Steps;
 use std::alloc::Global;
 use std::sync::ledger::Ledger;
-use parts_steps::Steps;
+use tool_report::put_responses;
+use tool_times::{RtaEnd, Tasks};
 
 // Writes the line of each task.
 fn print_responses<K: Sink, L: Ledger>(

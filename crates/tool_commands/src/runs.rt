@@ -11,14 +11,14 @@ ghost use Rattle.rules_machine.specs.WellFormed.{IsWellFormed};
 ghost use Rattle.kernel_leaps.specs.Ran.{kernel_trace, ticked_by};
 ghost use Rattle.tool_commands.specs.Answer.{closing_lines};
 
-use parts_tracer::Tracer;
-use parts_io::{NullSink, Sink};
 use kernel_leaps::Kernel;
-use words_script::Script;
+use parts_io::{NullSink, Sink};
+use parts_steps::Steps;
+use parts_tracer::Tracer;
 use std::alloc::{AllocError, Global};
 use std::sync::ledger::Ledger;
-use parts_steps::Steps;
 use words_numbers::Tick;
+use words_script::Script;
 
 // Runs a kernel from its first instant to the horizon, and prints the trace. A process that a signal ended has come to an ordinary end.
 fn run_and_report<K: Sink, L: Ledger>(

@@ -37,10 +37,10 @@ use crate::responses::tell_responses;
 use crate::runs::print_run;
 use crate::upgrade::upgrade_text;
 use parts_io::{ReadEnd, Sink, Source, read_whole};
-use std::alloc::Global;
-use std::sync::ledger::Ledger;
 use parts_steps::Steps;
 use script_reader::{Script, ScriptEnd, read_script};
+use std::alloc::Global;
+use std::sync::ledger::Ledger;
 use words_numbers::Tick;
 
 // Runs a script and prints its trace.

@@ -10,9 +10,9 @@ use crate::generated::put_script;
 use crate::message::refused_line;
 use crate::tool::put_text;
 use parts_io::Sink;
+use script_reader::{Script, ScriptEnd, read_script};
 use script_writer::canon_len;
 use std::alloc::Global;
-use script_reader::{Script, ScriptEnd, read_script};
 
 /// The greatest length of a script's text, in bytes.
 const SCRIPT_LIMIT: u64 = 1_048_576;

@@ -8,9 +8,9 @@ ghost use Rattle.tool_times.specs.Answer.{task_line, response_lines};
 
 use crate::line::task_line;
 use parts_io::{Failed, Sink};
-use tool_times::Tasks;
-use std::sync::ledger::Ledger;
 use parts_steps::Steps;
+use std::sync::ledger::Ledger;
+use tool_times::Tasks;
 
 // Writes the line of task k, by one write.
 fn put_response<K: Sink, L: Ledger>(

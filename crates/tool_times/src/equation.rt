@@ -5,8 +5,8 @@ ghost use Rattle.tool_times.specs.Schedule.{finish_by};
 ghost use Rattle.tool_times.specs.Equation.{work_before, work_above, interference, demand, Solves, IsLeastSolution};
 
 use crate::Task;
-use std::sync::ledger::Ledger;
 use parts_steps::Steps;
+use std::sync::ledger::Ledger;
 use words_numbers::Prio;
 
 // The work that a task releases before the instant n.

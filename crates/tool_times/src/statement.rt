@@ -9,9 +9,9 @@ ghost use Rattle.tool_times.specs.Tasks.{IsTask};
 use crate::{Task, TaskFault};
 use script_lex::{Line, Words};
 use script_table::{capped_value, is_number};
-use words_script::Name;
 use std::marker::Model;
 use words_numbers::Prio;
+use words_script::Name;
 
 /// The words of a `task` line behind its keyword.
 #[derive(Clone, Copy)]

@@ -1,6 +1,6 @@
 // A periodic task.
-use words_script::Name;
 use words_numbers::Prio;
+use words_script::Name;
 
 /// A periodic task. It releases a job at the instant 0 and at each multiple of its period.
 #[derive(Drop)]

@@ -6,10 +6,10 @@ ghost use Rattle.tool_times.specs.Equation.{Solves, IsLeastSolution};
 
 use crate::Task;
 use crate::equation::least_solution;
+use parts_steps::Steps;
 use std::alloc::{AllocError, Global};
 use std::marker::Model;
 use std::sync::ledger::Ledger;
-use parts_steps::Steps;
 use words_numbers::Prio;
 
 /// Independent periodic tasks, of which no two have one priority, so at most 255. Contracts see them as the list of them.

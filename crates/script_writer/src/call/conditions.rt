@@ -8,8 +8,8 @@ ghost use Rattle.words_script.specs.declared.name_kind.NameKind.TheVariants as n
 use crate::line::Word::{Keyword, Name, Value};
 use crate::line::{LineText, line_of};
 use crate::names::object;
-use words_script::{Decl, NameKind, Operand};
 use words_numbers::ObjId;
+use words_script::{Decl, NameKind, Operand};
 
 pub(super) fn wait(decls: &[Decl], cond: ObjId, mutex: ObjId) -> LineText
     ensures { result.items ≡ line_text (codes "wait" ∷ name_of decls.now name_kind.Cond cond

@@ -8,8 +8,8 @@ ghost use Rattle.words_script.specs.declared.name_kind.NameKind.TheVariants as n
 use crate::line::Word::{Keyword, Name, Number, Value};
 use crate::line::{LineText, line_of};
 use crate::names::{object, thread};
-use words_script::{Decl, NameKind, Operand};
 use words_numbers::{ObjId, Tid};
+use words_script::{Decl, NameKind, Operand};
 
 pub(super) fn bare(word: &[u8]) -> LineText
     requires { length word.now ≤ 16 }

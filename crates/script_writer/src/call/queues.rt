@@ -8,8 +8,8 @@ ghost use Rattle.words_script.specs.declared.name_kind.NameKind.TheVariants as n
 use crate::line::Word::{Keyword, Name, Number, Signal, Value};
 use crate::line::{LineText, line_of};
 use crate::names::object;
-use words_script::{Decl, NameKind, Operand};
 use words_numbers::ObjId;
+use words_script::{Decl, NameKind, Operand};
 
 pub(super) fn mq_send(decls: &[Decl], queue: ObjId, len: u32, prio: u8, value: Operand) -> LineText
     ensures { result.items ≡ line_text (codes "mq_send" ∷ name_of decls.now name_kind.Queue queue

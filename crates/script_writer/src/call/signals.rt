@@ -8,8 +8,8 @@ ghost use Rattle.words_script.specs.declared.name_kind.NameKind.TheVariants as n
 use crate::line::Word::{Keyword, Name, Number, Signal, Signals, Value};
 use crate::line::{LineText, line_of};
 use crate::names::thread;
-use words_script::{Decl, Operand};
 use words_numbers::{SigSet, Tid};
+use words_script::{Decl, Operand};
 
 pub(super) fn kill(sig: u8) -> LineText
     ensures { result.items ≡ line_text (codes "kill" ∷ signal_word sig ∷ []) }

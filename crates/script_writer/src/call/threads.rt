@@ -8,8 +8,8 @@ ghost use Rattle.words_script.specs.declared.name_kind.NameKind.TheVariants as n
 use crate::line::Word::{Keyword, Name, Number};
 use crate::line::{LineText, line_of};
 use crate::names::thread;
-use words_script::{Decl, Policy};
 use words_numbers::{Prio, Tid};
+use words_script::{Decl, Policy};
 
 pub(super) fn setprio(decls: &[Decl], t: Tid, prio: Prio) -> LineText
     ensures { result.items ≡ line_text (codes "setprio" ∷ name_of decls.now name_kind.Thread t ∷ decimal prio ∷ []) }

@@ -8,8 +8,8 @@ ghost use Rattle.words_script.specs.declared.name_kind.NameKind.TheVariants as n
 use crate::line::Word::{Keyword, Name, Number, Value};
 use crate::line::{LineText, line_of};
 use crate::names::object;
-use words_script::{Decl, NameKind, Operand};
 use words_numbers::ObjId;
+use words_script::{Decl, NameKind, Operand};
 
 // With a first expiry after so many ticks.
 pub(super) fn settime_rel(decls: &[Decl], timer: ObjId, first: u64, interval: u64) -> LineText

@@ -37,10 +37,10 @@ returns-in-Timedwait-clause-told g c =
 pub returns-in-Tkill-clause-state : goal.returns-in-Tkill-clause-state
 returns-in-Tkill-clause-state g c =
     let p = c.args.p.now in
-    subst (λ (x : Call). c.kill_thread.new.p ≡ after (call_effect (flat_bodies p.code) (by c.args.t c.args.call.now) x) p) (sym c.in-Tkill.is) c.kill_thread.ensures.state
+    subst (λ (x : Call). c.tkill.new.p ≡ after (call_effect (flat_bodies p.code) (by c.args.t c.args.call.now) x) p) (sym c.in-Tkill.is) c.tkill.ensures.state
 
 pub returns-in-Tkill-clause-told : goal.returns-in-Tkill-clause-told
 returns-in-Tkill-clause-told g c =
     let p = c.args.p.now in
-    subst (λ (x : Call). Tells g.K.Sink.text g.K.Sink.faults p.names c.args.out.now c.kill_thread.new.out (told (call_effect (flat_bodies p.code) (by c.args.t c.args.call.now) x) p))
-    (sym c.in-Tkill.is) c.kill_thread.ensures.told
+    subst (λ (x : Call). Tells g.K.Sink.text g.K.Sink.faults p.names c.args.out.now c.tkill.new.out (told (call_effect (flat_bodies p.code) (by c.args.t c.args.call.now) x) p))
+    (sym c.in-Tkill.is) c.tkill.ensures.told

@@ -1,0 +1,235 @@
+// Sending signals: `kill`, `pthread_kill` and `sigqueue`.
+ghost use Rattle.std.specs.Prelude.{◌≡◌, ◌≤◌, ◌<◌, ◌^◌, IfSome, None, Some, false, length, option_map, true};
+ghost use Rattle.words_numbers.specs.declared.res.Res.TheVariants as res;
+ghost use Rattle.parts_tracer.specs.Tells.{Tells};
+ghost use Rattle.rules_machine.specs.Cancellation.{on_live};
+ghost use Rattle.rules_machine.specs.Signals.{acceptor, becomes_pending, delivers, is_full, is_ignore, record_of_kill, record_of_sigqueue, sends_signal};
+ghost use Rattle.rules_machine.specs.Threads.{action_of, is_blocked, thread_at};
+ghost use Rattle.rules_machine.specs.Turns.{returns, ◌▷◌};
+ghost use Rattle.rules_machine.specs.Waiters.{Waiter};
+ghost use Rattle.rules_machine.specs.Waking.{wakes};
+ghost use Rattle.kernel_state.specs.Caught.{HasRoomToPend};
+ghost use Rattle.kernel_state.specs.Kernel.{after, by, told};
+ghost use Rattle.calls_signals.specs.Sweeping.{AllRest};
+
+use crate::delivery::deliver;
+use kernel_signals::SignalRecord;
+use kernel_state::Parts;
+use parts_io::Sink;
+use parts_tracer::Tracer;
+use rules_machine::SigAction;
+use words_numbers::{Res, Tid};
+use words_script::Call;
+
+// Whether an action is to ignore its signal.
+fn is_ignore(action: &SigAction) -> bool
+    ensures { result ≡ is_ignore action.now }
+{
+    match action {
+        SigAction::Ignore => true,
+        _ => false,
+    }
+}
+
+// Whether the record's signal is ignored.
+pub(crate) fn is_ignored(p: &Parts, r: &SignalRecord) -> bool
+    requires { r.now.signal < 32 }
+    ensures { result ≡ is_ignore (action_of p.now.machine r.now.signal) }
+{
+    is_ignore(&p.action(r.signal()))
+}
+
+// A thread that waits for the signal accepts it.
+#[tactic(auto, using(crate::proofs::Sent::delivered_unused, crate::proofs::Sent::delivered_room, crate::proofs::Sent::delivered_now))]
+pub(crate) fn accept<K: Sink>(p: &mut Parts, w: Tid, r: &SignalRecord, out: &mut Tracer<'_, K>)
+    requires known { w < length p.old.names }
+    requires room { length p.old.direct < 256 }
+    requires blocked { is_blocked (thread_at p.old.machine w).status ≡ true }
+    requires rests { AllRest p.old.machine }
+    requires early { p.old.machine.now ≤ 10 ^ 18 }
+    ensures state { p.new ≡ after (λ s. s ▷ delivers w r.now ▷ wakes w res.Zero r.now.signal) p.old }
+    ensures told { Tells K.text K.faults p.old.names out.old out.new (told (λ s. s ▷ delivers w r.now ▷ wakes w res.Zero r.now.signal) p.old) }
+{
+    deliver(p, w, r, out);
+    p.wake(w, Res::Zero, r.signal() as u64, out);
+}
+
+// The call returns, and a thread that waits for the signal accepts it.
+#[tactic(auto, using(crate::proofs::Sent::returned_blocked, crate::proofs::Sent::returned_rests))]
+fn send_to_acceptor<K: Sink>(
+    p: &mut Parts,
+    t: Tid,
+    call: &Call,
+    w: Tid,
+    r: &SignalRecord,
+    out: &mut Tracer<'_, K>,
+)
+    requires known { t < length p.old.names }
+    requires waiter { w < length p.old.names }
+    requires room { length p.old.direct < 256 }
+    requires blocked { is_blocked (thread_at p.old.machine w).status ≡ true }
+    requires rests { AllRest p.old.machine }
+    requires early { p.old.machine.now ≤ 10 ^ 18 }
+    ensures state { p.new ≡ after (λ s. s ▷ returns (by t call.now) res.Zero 0 ▷ delivers w r.now ▷ wakes w res.Zero r.now.signal) p.old }
+    ensures told { Tells K.text K.faults p.old.names out.old out.new (told (λ s. s ▷ returns (by t call.now) res.Zero 0 ▷ delivers w r.now ▷ wakes w res.Zero r.now.signal) p.old) }
+{
+    p.returns(t, call, Res::Zero, 0, out);
+    accept(p, w, r, out);
+}
+
+// The call returns, and the signal becomes pending.
+#[tactic(auto, using(crate::proofs::Sent::returned_pends))]
+fn send_pending<K: Sink>(
+    p: &mut Parts,
+    t: Tid,
+    call: &Call,
+    r: &SignalRecord,
+    out: &mut Tracer<'_, K>,
+)
+    requires known { t < length p.old.names }
+    requires signal { r.now.signal < 32 }
+    requires pends { HasRoomToPend p.old.machine }
+    requires serial { p.old.machine.next_serial < 2 ^ 63 }
+    ensures state { p.new ≡ after (λ s. s ▷ returns (by t call.now) res.Zero 0 ▷ becomes_pending r.now) p.old }
+    ensures told { Tells K.text K.faults p.old.names out.old out.new (told (λ s. s ▷ returns (by t call.now) res.Zero 0 ▷ becomes_pending r.now) p.old) }
+{
+    p.returns(t, call, Res::Zero, 0, out);
+    p.pend(*r);
+}
+
+// Nobody accepts the signal: it is ignored, or there is no room, or it becomes pending.
+#[tactic(auto, using(crate::proofs::Sent::as_ignored, crate::proofs::Sent::as_full, crate::proofs::Sent::as_pending, crate::proofs::Sent::told_ignored, crate::proofs::Sent::told_full, crate::proofs::Sent::told_pending))]
+fn send_unaccepted<K: Sink>(
+    p: &mut Parts,
+    t: Tid,
+    call: &Call,
+    r: &SignalRecord,
+    out: &mut Tracer<'_, K>,
+)
+    requires known { t < length p.old.names }
+    requires signal { r.now.signal < 32 }
+    requires nobody { acceptor p.old.machine r.now ≡ None }
+    requires pends { is_full p.old.machine ≡ false → HasRoomToPend p.old.machine }
+    requires serial { p.old.machine.next_serial < 2 ^ 63 }
+    ensures state { p.new ≡ after (sends_signal (by t call.now) r.now) p.old }
+    ensures told { Tells K.text K.faults p.old.names out.old out.new (told (sends_signal (by t call.now) r.now) p.old) }
+{
+    if is_ignored(p, r) {
+        p.returns(t, call, Res::Zero, 0, out);
+    } else if p.is_full() {
+        p.returns(t, call, Res::Again, 0, out);
+    } else {
+        send_pending(p, t, call, r, out);
+    }
+}
+
+// The record, which a call of the thread generates, is accepted by a thread that waits for it, or is ignored, or becomes pending,
+// unless there is no room.
+#[tactic(auto, using(crate::proofs::Sent::as_sent_to, crate::proofs::Sent::told_sent_to, crate::proofs::Sent::nobody_accepts))]
+fn send<K: Sink>(p: &mut Parts, t: Tid, call: &Call, r: &SignalRecord, out: &mut Tracer<'_, K>)
+    requires known { t < length p.old.names }
+    requires signal { r.now.signal < 32 }
+    requires target { IfSome r.now.target (λ u. u < length p.old.names) }
+    requires room { length p.old.direct < 256 }
+    requires rests { AllRest p.old.machine }
+    requires pends { is_full p.old.machine ≡ false → HasRoomToPend p.old.machine }
+    requires serial { p.old.machine.next_serial < 2 ^ 63 }
+    requires early { p.old.machine.now ≤ 10 ^ 18 }
+    ensures state { p.new ≡ after (sends_signal (by t call.now) r.now) p.old }
+    ensures told { Tells K.text K.faults p.old.names out.old out.new (told (sends_signal (by t call.now) r.now) p.old) }
+{
+    match p.acceptor(r) {
+        Some(w) => send_to_acceptor(p, t, call, w, r, out),
+        None => send_unaccepted(p, t, call, r, out),
+    }
+}
+
+/// `kill`.
+pub fn kill<K: Sink>(p: &mut Parts, t: Tid, call: &Call, signal: u8, out: &mut Tracer<'_, K>)
+    requires known { t < length p.old.names }
+    requires signal { signal < 32 }
+    requires room { length p.old.direct < 256 }
+    requires rests { AllRest p.old.machine }
+    requires pends { is_full p.old.machine ≡ false → HasRoomToPend p.old.machine }
+    requires serial { p.old.machine.next_serial < 2 ^ 63 }
+    requires early { p.old.machine.now ≤ 10 ^ 18 }
+    ensures state { p.new ≡ after (sends_signal (by t call.now) (record_of_kill signal None)) p.old }
+    ensures told { Tells K.text K.faults p.old.names out.old out.new (told (sends_signal (by t call.now) (record_of_kill signal None)) p.old) }
+{
+    let r = SignalRecord::of_kill(signal, None);
+    send(p, t, call, &r, out);
+}
+
+// The signal goes to a thread that lives.
+fn kill_live<K: Sink>(
+    p: &mut Parts,
+    t: Tid,
+    call: &Call,
+    u: Tid,
+    signal: u8,
+    out: &mut Tracer<'_, K>,
+)
+    requires known { t < length p.old.names }
+    requires thread { u < length p.old.names }
+    requires signal { signal < 32 }
+    requires room { length p.old.direct < 256 }
+    requires rests { AllRest p.old.machine }
+    requires pends { is_full p.old.machine ≡ false → HasRoomToPend p.old.machine }
+    requires serial { p.old.machine.next_serial < 2 ^ 63 }
+    requires early { p.old.machine.now ≤ 10 ^ 18 }
+    ensures state { p.new ≡ after (sends_signal (by t call.now) (record_of_kill signal (Some u))) p.old }
+    ensures told { Tells K.text K.faults p.old.names out.old out.new (told (sends_signal (by t call.now) (record_of_kill signal (Some u))) p.old) }
+{
+    let r = SignalRecord::of_kill(signal, Some(u));
+    send(p, t, call, &r, out);
+}
+
+/// `pthread_kill`.
+pub fn tkill<K: Sink>(
+    p: &mut Parts,
+    t: Tid,
+    call: &Call,
+    u: Tid,
+    signal: u8,
+    out: &mut Tracer<'_, K>,
+)
+    requires known { t < length p.old.names }
+    requires thread { u < length p.old.names }
+    requires signal { signal < 32 }
+    requires room { length p.old.direct < 256 }
+    requires rests { AllRest p.old.machine }
+    requires pends { is_full p.old.machine ≡ false → HasRoomToPend p.old.machine }
+    requires serial { p.old.machine.next_serial < 2 ^ 63 }
+    requires early { p.old.machine.now ≤ 10 ^ 18 }
+    ensures state { p.new ≡ after (on_live (by t call.now) u (sends_signal (by t call.now) (record_of_kill signal (Some u)))) p.old }
+    ensures told { Tells K.text K.faults p.old.names out.old out.new (told (on_live (by t call.now) u (sends_signal (by t call.now) (record_of_kill signal (Some u)))) p.old) }
+{
+    if p.is_live(u) {
+        kill_live(p, t, call, u, signal, out);
+    } else {
+        p.returns(t, call, Res::Srch, 0, out);
+    }
+}
+
+/// `sigqueue`.
+pub fn sigqueue<K: Sink>(
+    p: &mut Parts,
+    t: Tid,
+    call: &Call,
+    signal: u8,
+    value: u64,
+    out: &mut Tracer<'_, K>,
+)
+    requires known { t < length p.old.names }
+    requires signal { signal < 32 }
+    requires room { length p.old.direct < 256 }
+    requires rests { AllRest p.old.machine }
+    requires pends { is_full p.old.machine ≡ false → HasRoomToPend p.old.machine }
+    requires serial { p.old.machine.next_serial < 2 ^ 63 }
+    requires early { p.old.machine.now ≤ 10 ^ 18 }
+    ensures state { p.new ≡ after (sends_signal (by t call.now) (record_of_sigqueue signal value)) p.old }
+    ensures told { Tells K.text K.faults p.old.names out.old out.new (told (sends_signal (by t call.now) (record_of_sigqueue signal value)) p.old) }
+{
+    let r = SignalRecord::of_sigqueue(signal, value);
+    send(p, t, call, &r, out);
+}

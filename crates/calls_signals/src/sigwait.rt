@@ -1,0 +1,115 @@
+// Waiting for signals: `sigwaitinfo`, and with ticks `sigtimedwait`.
+ghost use Rattle.std.specs.Prelude.{◌≡◌, ◌≤◌, ◌<◌, ◌+◌, ◌^◌, Contains, IfSome, Some, length, true};
+ghost use Rattle.words_numbers.specs.declared.res.Res.TheVariants as res;
+ghost use Rattle.parts_tracer.specs.Tells.{Tells};
+ghost use Rattle.rules_machine.specs.Signals.{delivers, waits_signal, blocks_for_signal, without_record};
+ghost use Rattle.rules_machine.specs.State.{for_signal};
+ghost use Rattle.rules_machine.specs.Threads.{can_run};
+ghost use Rattle.rules_machine.specs.Turns.{changes_pending, returns, ◌▷◌};
+ghost use Rattle.kernel_state.specs.Kernel.{after, by, told};
+
+use crate::delivery::deliver;
+use kernel_signals::SignalRecord;
+use kernel_state::Parts;
+use kernel_threads::Wait;
+use parts_io::Sink;
+use parts_tracer::Tracer;
+use words_numbers::{Res, SigSet, Tick, Tid};
+use words_script::Call;
+
+// When a wait of so many ticks ends.
+fn end_of_wait(now: Tick, n: u64) -> Tick
+    requires now { now ≤ 10 ^ 18 }
+    requires ticks { n ≤ 10 ^ 18 }
+    ensures { result ≡ now + n }
+{
+    match now.after(n) {
+        Some(at) => at,
+        None => unreachable!(),
+    }
+}
+
+// A pending record is accepted.
+fn take<K: Sink>(p: &mut Parts, t: Tid, call: &Call, r: &SignalRecord, out: &mut Tracer<'_, K>)
+    requires known { t < length p.old.names }
+    requires pending { Contains p.old.machine.pending r.now }
+    ensures state { p.new ≡ after (λ s. s ▷ changes_pending (without_record r.now) ▷ delivers t r.now ▷ returns (by t call.now) res.Zero r.now.signal) p.old }
+    ensures told { Tells K.text K.faults p.old.names out.old out.new (told (λ s. s ▷ changes_pending (without_record r.now) ▷ delivers t r.now ▷ returns (by t call.now) res.Zero r.now.signal) p.old) }
+{
+    p.take_record(r);
+    deliver(p, t, r, out);
+    p.returns(t, call, Res::Zero, r.signal() as u64, out);
+}
+
+// The caller blocks for so many ticks, or returns where that is none.
+#[tactic(auto, using(crate::proofs::Awaited::waits_some_ticks, crate::proofs::Awaited::told_some_ticks))]
+fn wait_at_most<K: Sink>(
+    p: &mut Parts,
+    t: Tid,
+    call: &Call,
+    awaited: SigSet,
+    n: u64,
+    out: &mut Tracer<'_, K>,
+)
+    requires known { t < length p.old.names }
+    requires runs { can_run p.old.machine t ≡ true }
+    requires ticks { n ≤ 10 ^ 18 }
+    requires serial { p.old.machine.next_serial < 2 ^ 63 }
+    requires early { p.old.machine.now ≤ 10 ^ 18 }
+    ensures state { p.new ≡ after (blocks_for_signal (Some n) (by t call.now) awaited) p.old }
+    ensures told { Tells K.text K.faults p.old.names out.old out.new (told (blocks_for_signal (Some n) (by t call.now) awaited) p.old) }
+{
+    if n == 0 {
+        p.returns(t, call, Res::Again, 0, out);
+    } else {
+        let at = end_of_wait(p.instant(), n);
+        p.block(t, call, Wait::Signal(awaited), Some(at));
+    }
+}
+
+// Nothing is pending: the caller blocks, or returns where no time is given to wait.
+fn wait_ticks<K: Sink>(
+    p: &mut Parts,
+    t: Tid,
+    call: &Call,
+    awaited: SigSet,
+    ticks: Option<u64>,
+    out: &mut Tracer<'_, K>,
+)
+    requires known { t < length p.old.names }
+    requires runs { can_run p.old.machine t ≡ true }
+    requires ticks { IfSome ticks (λ n. n ≤ 10 ^ 18) }
+    requires serial { p.old.machine.next_serial < 2 ^ 63 }
+    requires early { p.old.machine.now ≤ 10 ^ 18 }
+    ensures state { p.new ≡ after (blocks_for_signal ticks (by t call.now) awaited) p.old }
+    ensures told { Tells K.text K.faults p.old.names out.old out.new (told (blocks_for_signal ticks (by t call.now) awaited) p.old) }
+{
+    match ticks {
+        None => p.block(t, call, Wait::Signal(awaited), None),
+        Some(n) => wait_at_most(p, t, call, awaited, n, out),
+    }
+}
+
+/// A pending record of the set is accepted, whatever its action and the mask.
+#[tactic(auto, using(crate::proofs::Awaited::waits_some, crate::proofs::Awaited::waits_none, crate::proofs::Awaited::told_some, crate::proofs::Awaited::told_none))]
+pub fn sigtimedwait<K: Sink>(
+    p: &mut Parts,
+    t: Tid,
+    call: &Call,
+    awaited: SigSet,
+    ticks: Option<u64>,
+    out: &mut Tracer<'_, K>,
+)
+    requires known { t < length p.old.names }
+    requires runs { can_run p.old.machine t ≡ true }
+    requires ticks { IfSome ticks (λ n. n ≤ 10 ^ 18) }
+    requires serial { p.old.machine.next_serial < 2 ^ 63 }
+    requires early { p.old.machine.now ≤ 10 ^ 18 }
+    ensures state { p.new ≡ after (waits_signal ticks (by t call.now) awaited) p.old }
+    ensures told { Tells K.text K.faults p.old.names out.old out.new (told (waits_signal ticks (by t call.now) awaited) p.old) }
+{
+    match p.next_awaited(t, awaited) {
+        Some(r) => take(p, t, call, &r, out),
+        None => wait_ticks(p, t, call, awaited, ticks, out),
+    }
+}

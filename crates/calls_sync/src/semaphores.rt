@@ -1,0 +1,128 @@
+// Semaphores.
+ghost use Rattle.std.specs.Prelude.{◌≡◌, ◌≤◌, ◌<◌, ◌^◌, length, pred, suc, true};
+ghost use Rattle.words_numbers.specs.declared.res.Res.TheVariants as res;
+ghost use Rattle.parts_tracer.specs.Tells.{Tells};
+ghost use Rattle.rules_machine.specs.Semaphores.{posts, reads_semaphore, semaphore_limit, tries_semaphore, waits_semaphore};
+ghost use Rattle.rules_machine.specs.Threads.{can_run, is_blocked, semaphore_at, thread_at};
+ghost use Rattle.rules_machine.specs.Turns.{changes_semaphore, returns, ◌▷◌};
+ghost use Rattle.rules_machine.specs.Waking.{wakes};
+ghost use Rattle.kernel_state.specs.Kernel.{after, by, told};
+ghost use Rattle.calls_sync.specs.Waits.{BlockedRest};
+
+use crate::blocking::block_unless_late;
+use kernel_state::Parts;
+use kernel_threads::Wait;
+use parts_io::Sink;
+use parts_tracer::Tracer;
+use parts_waiters::WaitObj;
+use words_numbers::{ObjId, Res, Tick, Tid};
+use words_script::Call;
+
+/// The greatest value of a semaphore.
+const SEM_VALUE_MAX: u16 = 32_767;
+
+// The value, which is above 0, falls by one.
+fn take<K: Sink>(p: &mut Parts, t: Tid, call: &Call, k: ObjId, out: &mut Tracer<'_, K>)
+    requires known { t < length p.old.names }
+    requires semaphore { k < length p.old.machine.semaphores }
+    requires above { 0 < semaphore_at p.old.machine k }
+    ensures state { p.new ≡ after (λ s. s ▷ changes_semaphore k pred ▷ returns (by t call.now) res.Zero 0) p.old }
+    ensures told { Tells K.text K.faults p.old.names out.old out.new (told (λ s. s ▷ changes_semaphore k pred ▷ returns (by t call.now) res.Zero 0) p.old) }
+{
+    p.take_semaphore(k);
+    p.returns(t, call, Res::Zero, 0, out);
+}
+
+/// `sem_wait`, and with a time `sem_timedwait`.
+pub fn sem_wait<K: Sink>(
+    p: &mut Parts,
+    t: Tid,
+    call: &Call,
+    k: ObjId,
+    due: Option<Tick>,
+    out: &mut Tracer<'_, K>,
+)
+    requires known { t < length p.old.names }
+    requires runs { can_run p.old.machine t ≡ true }
+    requires semaphore { k < length p.old.machine.semaphores }
+    requires serial { p.old.machine.next_serial < 2 ^ 63 }
+    ensures state { p.new ≡ after (waits_semaphore (by t call.now) k due) p.old }
+    ensures told { Tells K.text K.faults p.old.names out.old out.new (told (waits_semaphore (by t call.now) k due) p.old) }
+{
+    if p.semaphore(k) > 0 {
+        take(p, t, call, k, out);
+    } else {
+        block_unless_late(p, t, call, Wait::Semaphore(k), due, out);
+    }
+}
+
+/// `sem_trywait`.
+pub fn sem_trywait<K: Sink>(p: &mut Parts, t: Tid, call: &Call, k: ObjId, out: &mut Tracer<'_, K>)
+    requires known { t < length p.old.names }
+    requires semaphore { k < length p.old.machine.semaphores }
+    ensures state { p.new ≡ after (tries_semaphore (by t call.now) k) p.old }
+    ensures told { Tells K.text K.faults p.old.names out.old out.new (told (tries_semaphore (by t call.now) k) p.old) }
+{
+    if p.semaphore(k) == 0 {
+        p.returns(t, call, Res::Again, 0, out);
+    } else {
+        take(p, t, call, k, out);
+    }
+}
+
+/// `sem_getvalue`.
+pub fn sem_getvalue<K: Sink>(p: &mut Parts, t: Tid, call: &Call, k: ObjId, out: &mut Tracer<'_, K>)
+    requires known { t < length p.old.names }
+    requires semaphore { k < length p.old.machine.semaphores }
+    ensures state { p.new ≡ after (reads_semaphore (by t call.now) k) p.old }
+    ensures told { Tells K.text K.faults p.old.names out.old out.new (told (reads_semaphore (by t call.now) k) p.old) }
+{
+    let value = p.semaphore(k);
+    p.returns(t, call, Res::Zero, value as u64, out);
+}
+
+// The value rises by one, unless it is the greatest.
+fn raise<K: Sink>(p: &mut Parts, t: Tid, call: &Call, k: ObjId, out: &mut Tracer<'_, K>)
+    requires known { t < length p.old.names }
+    requires semaphore { k < length p.old.machine.semaphores }
+    requires below { semaphore_at p.old.machine k < semaphore_limit }
+    ensures state { p.new ≡ after (λ s. s ▷ changes_semaphore k suc ▷ returns (by t call.now) res.Zero 0) p.old }
+    ensures told { Tells K.text K.faults p.old.names out.old out.new (told (λ s. s ▷ changes_semaphore k suc ▷ returns (by t call.now) res.Zero 0) p.old) }
+{
+    p.post_semaphore(k);
+    p.returns(t, call, Res::Zero, 0, out);
+}
+
+// The call returns, and the waiter that is served first wakes.
+fn return_and_wake<K: Sink>(p: &mut Parts, t: Tid, call: &Call, w: Tid, out: &mut Tracer<'_, K>)
+    requires known { t < length p.old.names }
+    requires waiter { w < length p.old.names }
+    requires room { length p.old.direct < 256 }
+    requires rests { BlockedRest p.old.machine }
+    requires blocked { is_blocked (thread_at p.old.machine w).status ≡ true }
+    requires early { p.old.machine.now ≤ 10 ^ 18 }
+    ensures state { p.new ≡ after (λ s. s ▷ returns (by t call.now) res.Zero 0 ▷ wakes w res.Zero 0) p.old }
+    ensures told { Tells K.text K.faults p.old.names out.old out.new (told (λ s. s ▷ returns (by t call.now) res.Zero 0 ▷ wakes w res.Zero 0) p.old) }
+{
+    p.returns(t, call, Res::Zero, 0, out);
+    p.wake(w, Res::Zero, 0, out);
+}
+
+/// `sem_post`.
+pub fn sem_post<K: Sink>(p: &mut Parts, t: Tid, call: &Call, k: ObjId, out: &mut Tracer<'_, K>)
+    requires known { t < length p.old.names }
+    requires semaphore { k < length p.old.machine.semaphores }
+    requires room { length p.old.direct < 256 }
+    requires rests { BlockedRest p.old.machine }
+    requires early { p.old.machine.now ≤ 10 ^ 18 }
+    ensures state { p.new ≡ after (posts (by t call.now) k) p.old }
+    ensures told { Tells K.text K.faults p.old.names out.old out.new (told (posts (by t call.now) k) p.old) }
+{
+    if let Some(w) = p.best_waiter(WaitObj::Sem(k)) {
+        return_and_wake(p, t, call, w, out);
+    } else if p.semaphore(k) == SEM_VALUE_MAX {
+        p.returns(t, call, Res::Overflow, 0, out);
+    } else {
+        raise(p, t, call, k, out);
+    }
+}

@@ -1,0 +1,172 @@
+// Cancellation: requests to end, and where they act.
+ghost use Rattle.std.specs.Prelude.{◌≡◌, ◌≤◌, ◌<◌, ◌&&◌, ◌^◌, Bool, length};
+ghost use Rattle.words_numbers.specs.declared.res.Res.TheVariants as res;
+ghost use Rattle.parts_tracer.specs.Tells.{Tells};
+ghost use Rattle.rules_machine.specs.Cancellation.{acts_if_blocked, cancels, is_cancellation_point, leaves, leaves_wait, request_acts, requested, sets_cancelability};
+ghost use Rattle.rules_machine.specs.Lives.{with_joiner};
+ghost use Rattle.rules_machine.specs.State.{nobody};
+ghost use Rattle.rules_machine.specs.Threads.{thread_at, waiting_of};
+ghost use Rattle.rules_machine.specs.Turns.{changes, returns, ◌▷◌};
+ghost use Rattle.rules_machine.specs.Waking.{wakes_cancelled};
+ghost use Rattle.kernel_threads.specs.Plain.{wait_of};
+ghost use Rattle.kernel_threads.specs.Unused.{IsUnused};
+ghost use Rattle.kernel_state.specs.Kernel.{after, by, told};
+ghost use Rattle.calls_sync.specs.Waits.{WaitsFit};
+ghost use Rattle.calls_threads.specs.Joins.{EndIsKnown, JoinsFit};
+
+use calls_sync::contend;
+use kernel_state::Parts;
+use kernel_threads::{Joiner, Wait};
+use parts_io::Sink;
+use parts_tracer::Tracer;
+use rules_machine::{CondEnd, is_cancellation_point};
+use words_numbers::{Res, Tid};
+use words_script::Call;
+
+/// Whether a request acts in place of the call.
+pub fn acts_in_place(p: &Parts, t: Tid, call: &Call) -> bool
+    requires { t < length p.now.names }
+    ensures { result ≡ (is_cancellation_point call.now && request_acts (thread_at p.now.machine t)) }
+{
+    is_cancellation_point(call) && p.request_acts(t)
+}
+
+/// `pthread_setcancelstate`.
+pub fn set_cancelability<K: Sink>(
+    p: &mut Parts,
+    t: Tid,
+    call: &Call,
+    on: bool,
+    out: &mut Tracer<'_, K>,
+)
+    requires known { t < length p.old.names }
+    ensures state { p.new ≡ after (sets_cancelability (by t call.now) on) p.old }
+    ensures told { Tells K.text K.faults p.old.names out.old out.new (told (sets_cancelability (by t call.now) on) p.old) }
+{
+    p.set_enabled(t, on);
+    p.returns(t, call, Res::Zero, 0, out);
+}
+
+// A joiner leaves its thread to be joined by another.
+#[tactic(auto, using(crate::proofs::Joined::joined_unused))]
+fn leave_end<K: Sink>(p: &mut Parts, t: Tid, u: Tid, out: &mut Tracer<'_, K>)
+    requires thread { t < length p.old.names }
+    requires known { u < length p.old.names }
+    requires room { length p.old.direct < 256 }
+    requires unused { IsUnused (thread_at p.old.machine u).server }
+    requires early { p.old.machine.now ≤ 10 ^ 18 }
+    ensures state { p.new ≡ after (λ s. s ▷ changes t (with_joiner nobody) ▷ wakes_cancelled u) p.old }
+    ensures told { Tells K.text K.faults p.old.names out.old out.new (told (λ s. s ▷ changes t (with_joiner nobody) ▷ wakes_cancelled u) p.old) }
+{
+    p.set_joiner(t, Joiner::Nobody);
+    p.wake_cancelled(u, out);
+}
+
+// A request acts in a thread that waits so.
+fn leave<K: Sink>(p: &mut Parts, wait: &Wait, u: Tid, out: &mut Tracer<'_, K>)
+    requires known { u < length p.old.names }
+    requires end { EndIsKnown (length p.old.names) (wait_of wait.now) }
+    requires fits { WaitsFit p.old.machine }
+    requires unused { IsUnused (thread_at p.old.machine u).server }
+    requires room { length p.old.direct < 256 }
+    requires serial { p.old.machine.next_serial < 2 ^ 63 }
+    requires early { p.old.machine.now ≤ 10 ^ 18 }
+    ensures state { p.new ≡ after (leaves (wait_of wait.now) u) p.old }
+    ensures told { Tells K.text K.faults p.old.names out.old out.new (told (leaves (wait_of wait.now) u) p.old) }
+{
+    match wait {
+        Wait::Mutex(_) => return,
+        Wait::MutexAgain(_, _) => return,
+        Wait::Condition(_, _) => contend(p, u, CondEnd::Cancelled, out),
+        Wait::End(t) => leave_end(p, *t, u, out),
+        Wait::Semaphore(_) => p.wake_cancelled(u, out),
+        Wait::Time => p.wake_cancelled(u, out),
+        Wait::Room(_, _) => p.wake_cancelled(u, out),
+        Wait::Message(_) => p.wake_cancelled(u, out),
+        Wait::Signal(_) => p.wake_cancelled(u, out),
+    }
+}
+
+// A request acts in a thread, if that waits.
+#[tactic(auto, using(crate::proofs::Left::none_left, crate::proofs::Left::some_left, crate::proofs::Left::end_known, crate::proofs::Left::left_unused))]
+fn leave_wait<K: Sink>(p: &mut Parts, u: Tid, out: &mut Tracer<'_, K>)
+    requires known { u < length p.old.names }
+    requires threads { length p.old.machine.threads ≡ length p.old.names }
+    requires fits { WaitsFit p.old.machine }
+    requires joins { JoinsFit p.old.machine }
+    requires room { length p.old.direct < 256 }
+    requires serial { p.old.machine.next_serial < 2 ^ 63 }
+    requires early { p.old.machine.now ≤ 10 ^ 18 }
+    ensures state { p.new ≡ after (λ s. leaves_wait (waiting_of s.machine u) u s) p.old }
+    ensures told { Tells K.text K.faults p.old.names out.old out.new (told (λ s. leaves_wait (waiting_of s.machine u) u s) p.old) }
+{
+    match p.wait(u) {
+        None => return,
+        Some(wait) => leave(p, &wait, u, out),
+    }
+}
+
+// A request acts at once in a thread that waits.
+fn act_if_blocked<K: Sink>(p: &mut Parts, u: Tid, out: &mut Tracer<'_, K>)
+    requires known { u < length p.old.names }
+    requires threads { length p.old.machine.threads ≡ length p.old.names }
+    requires fits { WaitsFit p.old.machine }
+    requires joins { JoinsFit p.old.machine }
+    requires room { length p.old.direct < 256 }
+    requires serial { p.old.machine.next_serial < 2 ^ 63 }
+    requires early { p.old.machine.now ≤ 10 ^ 18 }
+    ensures state { p.new ≡ after (acts_if_blocked u) p.old }
+    ensures told { Tells K.text K.faults p.old.names out.old out.new (told (acts_if_blocked u) p.old) }
+{
+    if p.request_acts(u) {
+        leave_wait(p, u, out);
+    }
+}
+
+// A thread is asked to end, once the call has returned.
+fn ask_to_end<K: Sink>(p: &mut Parts, t: Tid, call: &Call, u: Tid, out: &mut Tracer<'_, K>)
+    requires known { t < length p.old.names }
+    requires thread { u < length p.old.names }
+    ensures state { p.new ≡ after (λ s. s ▷ returns (by t call.now) res.Zero 0 ▷ changes u requested) p.old }
+    ensures told { Tells K.text K.faults p.old.names out.old out.new (told (λ s. s ▷ returns (by t call.now) res.Zero 0 ▷ changes u requested) p.old) }
+{
+    p.returns(t, call, Res::Zero, 0, out);
+    p.request_end(u);
+}
+
+// A live thread is asked to end, and the request acts where it waits.
+fn cancel_live<K: Sink>(p: &mut Parts, t: Tid, call: &Call, u: Tid, out: &mut Tracer<'_, K>)
+    requires known { t < length p.old.names }
+    requires thread { u < length p.old.names }
+    requires threads { length p.old.machine.threads ≡ length p.old.names }
+    requires fits { WaitsFit p.old.machine }
+    requires joins { JoinsFit p.old.machine }
+    requires room { length p.old.direct < 256 }
+    requires serial { p.old.machine.next_serial < 2 ^ 63 }
+    requires early { p.old.machine.now ≤ 10 ^ 18 }
+    ensures state { p.new ≡ after (λ s. s ▷ returns (by t call.now) res.Zero 0 ▷ changes u requested ▷ acts_if_blocked u) p.old }
+    ensures told { Tells K.text K.faults p.old.names out.old out.new (told (λ s. s ▷ returns (by t call.now) res.Zero 0 ▷ changes u requested ▷ acts_if_blocked u) p.old) }
+{
+    ask_to_end(p, t, call, u, out);
+    act_if_blocked(p, u, out);
+}
+
+/// `pthread_cancel`.
+pub fn cancel<K: Sink>(p: &mut Parts, t: Tid, call: &Call, u: Tid, out: &mut Tracer<'_, K>)
+    requires known { t < length p.old.names }
+    requires thread { u < length p.old.names }
+    requires threads { length p.old.machine.threads ≡ length p.old.names }
+    requires fits { WaitsFit p.old.machine }
+    requires joins { JoinsFit p.old.machine }
+    requires room { length p.old.direct < 256 }
+    requires serial { p.old.machine.next_serial < 2 ^ 63 }
+    requires early { p.old.machine.now ≤ 10 ^ 18 }
+    ensures state { p.new ≡ after (cancels (by t call.now) u) p.old }
+    ensures told { Tells K.text K.faults p.old.names out.old out.new (told (cancels (by t call.now) u) p.old) }
+{
+    if p.is_live(u) {
+        cancel_live(p, t, call, u, out);
+    } else {
+        p.returns(t, call, Res::Srch, 0, out);
+    }
+}
