@@ -18,7 +18,7 @@ WIDTH = 128
 def crates() -> list[str]:
     """The crates of crates.txt, in its order, but those of tests."""
     names = re.findall(r"(?m)^(\w+)[^:#\n]*:", (TOP / "crates.txt").read_text())
-    return [name for name in names if not name.endswith("_tests")]
+    return [name for name in names if not name.startswith("test_")]
 
 
 def proved_of(crate: str) -> str | None:
