@@ -8,6 +8,7 @@ pub mod Halfway
 pub mod Running
 pub mod WholeTrace
 pub mod Opened
+pub mod ScriptRun
 pub mod Charged
 pub mod Begins
 pub mod Onward

@@ -7,7 +7,8 @@ ghost use Rattle.words_script.specs.declared.decl.Script as tree;
 ghost use Rattle.rules_machine.specs.Budget.{KeepsBudgets};
 ghost use Rattle.rules_leaps.specs.Leap.{in_leaps};
 ghost use Rattle.rules_machine.specs.Eventful.{busy};
-ghost use Rattle.rules_machine.specs.Machine.{closing};
+ghost use Rattle.rules_machine.specs.Machine.{closing, names_of, run};
+ghost use Rattle.rules_machine.specs.Promises.{busy_between};
 ghost use Rattle.rules_machine.specs.Runs.{ticks};
 ghost use Rattle.rules_machine.specs.Threads.{thread_at};
 ghost use Rattle.rules_flat_code.specs.FlatBodies.{flat_bodies};
@@ -19,6 +20,8 @@ ghost use Rattle.calls_table.specs.Calls.{objects_in};
 ghost use Rattle.kernel_leaps.specs.Fits.{StaysFit};
 ghost use Rattle.kernel_leaps.specs.Good.{IsGood};
 ghost use Rattle.kernel_leaps.specs.Ran.{ticked_by};
+ghost use Rattle.laws_flat_code.specs.Places.{carry};
+ghost use Rattle.laws_places.specs.Carried.{ran_carried};
 
 use crate::run::{RunEnd, run_leaps};
 use kernel_state::Parts;
@@ -107,6 +110,14 @@ impl Kernel {
         ensures not_beyond { self.new.machine.now ≤ horizon }
         ensures steps { steps.new ≤ steps.old + (in_leaps (flat_bodies self.old.code) (horizon - self.old.machine.now) self.old.machine).count }
         ensures busy { steps.new ≤ steps.old + busy (flat_bodies self.old.code) self.old.machine 0 (horizon - self.old.machine.now) + 1 }
+
+        // Of a kernel that was opened for a script and has not run yet it is the script's run, tick by tick: the machine, where each place
+        // of a frame is written as the place in the code that stands for it, the events, and how many instants are eventful.
+        ensures machine { out.new.failed ≡ false → (script : tree.Script) → self.old ≡ opened script
+            → self.new.machine ≡ (ran_carried (carry script) (run script horizon)).machine }
+        ensures events { (script : tree.Script) → self.old ≡ opened script
+            → Tells K.text K.faults (names_of script) out.old out.new (run script horizon).events }
+        ensures eventful { (script : tree.Script) → self.old ≡ opened script → steps.new ≤ steps.old + busy_between script 0 horizon + 1 }
 
         // The state that it leaves is good, and each server keeps its budget in the runs of well formed scripts.
         ensures good { out.new.failed ≡ false → IsGood (flat_bodies self.new.code) self.new.machine }

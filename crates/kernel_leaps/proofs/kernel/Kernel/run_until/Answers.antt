@@ -1,4 +1,5 @@
 use Rattle.kernel_leaps.proofs.Opened.{budgets_kept}
+use Rattle.kernel_leaps.proofs.ScriptRun.{busy_of, events_of, machine_of}
 use Rattle.kernel_leaps.proofs.kernel.Kernel.run_until.Goals as goal
 
 pub returns-clause-good : goal.returns-clause-good
@@ -6,3 +7,12 @@ returns-clause-good g c ended = (c.run_leaps.ensures.fits.each 0 0).good
 
 pub returns-clause-budgets : goal.returns-clause-budgets
 returns-clause-budgets g c script fits is n k = budgets_kept script fits c.args.self.now is n k
+
+pub returns-clause-machine : goal.returns-clause-machine
+returns-clause-machine g c ended script is = machine_of script c.args.horizon c.args.self.now is _ (c.run_leaps.ensures.state ended)
+
+pub returns-clause-events : goal.returns-clause-events
+returns-clause-events g c script is = events_of script c.args.horizon c.args.self.now is g.K.Sink.text g.K.Sink.faults _ _ c.run_leaps.ensures.told
+
+pub returns-clause-eventful : goal.returns-clause-eventful
+returns-clause-eventful g c script is = busy_of script c.args.horizon c.args.self.now is _ _ c.run_leaps.ensures.busy
