@@ -6,7 +6,7 @@ The code's table (crates/script_table/src/table.rt) says which patterns the lang
 reference says what the examples of the pages answer, and what each call of docs/CALLS.md does. Each function that a page names stands
 in the file that it names, docs/WALK.md has lines of the trace of its script, and each page that a page names is there. README says what
 the proof takes as bin/pse52 does, docs/PROVED.md has each crate with what its head says of it, docs/ARCHITECTURE.md and docs/layers.svg the
-crates by their wings (--write puts all three there), each crate stands only on what its wing may stand on, and no line of a page is too
+crates by their wings, docs/PUBLIC_CALLS.md the public calls (--write makes all four so), each crate stands only on what its wing may stand on, and no line of a page is too
 long. Prints what differs, with exit status 1.
 """
 from __future__ import annotations
@@ -20,7 +20,7 @@ TOP = Path(__file__).resolve().parent.parent
 sys.path[:0] = [str(TOP / "tools"), str(TOP / "tools" / "reference")]
 
 from forms import Stage  # noqa: E402
-from pages import calls, proved, wings  # noqa: E402
+from pages import calls, proved, surface, wings  # noqa: E402
 from pages.wrap import too_long  # noqa: E402
 from simulate import answer  # noqa: E402
 
@@ -160,6 +160,7 @@ def main() -> int:
     if sys.argv[1:] == ["--write"]:
         proved.PAGE.write_text(proved.with_part(proved.PAGE.read_text()))
         wings.write()
+        surface.write()
     elif len(sys.argv) > 1:
         print(__doc__, file=sys.stderr)
         return 2
@@ -172,7 +173,8 @@ def main() -> int:
     wrong += wrong_patterns(language) + wrong_faults(language)
     wrong += wrong_places((TOP / "docs/WALK.md").read_text())
     wrong += calls.faults_of(calls.PAGE.read_text(), calls.by_reference)
-    wrong += wings.wrong_wings() + wings.wrong_pages() + proved.wrong_items() + wrong_cost() + too_long(pages())
+    wrong += wings.wrong_wings() + wings.wrong_pages() + surface.wrong_page()
+    wrong += proved.wrong_items() + wrong_cost() + too_long(pages())
     print(*wrong, f"documents: {len(wrong)} differ", sep="\n")
     return 1 if wrong else 0
 
