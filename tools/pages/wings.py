@@ -112,7 +112,8 @@ def with_list(page: str) -> str:
 # ---- the picture
 
 LEFT, RIGHT, ROW, LINE, LETTER = 150, 1040, 14, 24, 6.6
-FILL = {"words": "#e8eef7", "rules": "#dcebdc", "laws": "#f6ecd2", "test": "#eeeeee"}
+FILL = {"words": "#d5e2f3", "rules": "#cfe6cf", "laws": "#f4e3b5", "test": "#e6e6e6"}  # code: CODE
+CODE, BAND = "#f0d9d9", "#f7f7f7"
 
 
 def rows_of(names: list[str]) -> list[list[str]]:
@@ -131,15 +132,14 @@ def band(wing: Wing, top: int) -> tuple[list[str], int]:
     """A wing's band, and where it ends."""
     rows = rows_of(list(wing.crates))
     height = len(rows) * LINE + 12
-    fill = FILL.get(first_word(next(iter(wing.crates))), "#f3e3e3")
-    lines = [f'<rect x="8" y="{top}" width="{RIGHT}" height="{height}" fill="{fill}" rx="5"/>',
+    lines = [f'<rect x="8" y="{top}" width="{RIGHT}" height="{height}" fill="{BAND}" rx="5"/>',
              f'<text x="20" y="{top + height / 2 + 5:g}" font-weight="bold">{escape(wing.name)}</text>']
     for number, row in enumerate(rows):
         x = float(LEFT)
         for name in row:
             width = len(name) * LETTER + 16
             y = top + 6 + number * LINE
-            lines.append(f'<rect x="{x:g}" y="{y + 2}" width="{width:g}" height="{LINE - 5}" fill="#ffffff" stroke="#999999" rx="3"/>'
+            lines.append(f'<rect x="{x:g}" y="{y + 2}" width="{width:g}" height="{LINE - 5}" fill="{FILL.get(first_word(name), CODE)}" stroke="#999999" rx="3"/>'
                          f'<text x="{x + 8:g}" y="{y + 16}">{escape(name)}</text>')
             x += width + 10
     return lines, top + height + 6
