@@ -4,7 +4,7 @@
 # and no later call takes any. It stands outside the gate, since each number builds the tests anew. Usage: tools/check_opens.sh [CRATE..]
 set -u
 top=$(cd "$(dirname "$0")/.." && pwd) || exit 1
-[ "$#" -gt 0 ] || set -- part_tests
+[ "$#" -gt 0 ] || set -- test_parts
 most=40
 failed=0
 for crate in "$@"; do

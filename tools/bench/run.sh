@@ -1,7 +1,7 @@
 #!/usr/bin/env bash
 # Times the ready lists before and after they stood on linked cells, and the timer wheel beside a plain search, in one run.
 # Usage: tools/bench/run.sh [COMMIT], COMMIT being the one whose ready lists are the earlier ones; without it the last before they
-# took up `parts_links`. README.md says what is compared.
+# took up `raw_links`, as `parts_links` was called. README.md says what is compared.
 set -u
 here=$(cd "$(dirname "$0")" && pwd) || exit 1
 top=$(cd "$here/../.." && pwd) || exit 1
@@ -13,14 +13,17 @@ cleanup() {
 }
 trap cleanup EXIT
 
-turned=$(git -C "$top" log --format=%H -S'use parts_links::Links' -- crates/parts_ready/src/lib.rt | tail -n 1)
+# The crates had other names then.
+turned=$(git -C "$top" log --format=%H -S'use raw_links::Links' -- crates/ready_lists/src/lib.rt | tail -n 1)
+names_then='s/\bparts_ready\b/ready_lists/g; s/\bwords_numbers\b/tick_num/g'
 commit=${1:-$turned~1}
 git -C "$top" worktree add --detach "$earlier" "$commit" >/dev/null 2>&1 || {
     echo "bench: no commit $commit"
     exit 1
 }
 
-# A copy of the repository at $1 in $2, with one crate more, named $3, of the files of the folder $4, which stands on the crates $5.
+# A copy of the repository at $1 in $2, with one crate more, named $3, of the files of the folder $4, changed by $6, which stands on
+# the crates $5.
 # The program of that crate is proved and built, as any other.
 build() {
     local from=$1 copy=$2 name=$3 files=$4 below=$5
@@ -28,12 +31,12 @@ build() {
     cp "$from/HANDLES" "$copy/"
     tar -C "$from" --exclude=out -cf - crates | tar -C "$copy" -xf -
     { cat "$from/crates.txt" && echo "$name: $below"; } >"$copy/crates.txt"
-    cp "$here/$files/main.rt.txt" "$copy/crates/$name/src/main.rt"
+    sed "${6:-}" "$here/$files/main.rt.txt" >"$copy/crates/$name/src/main.rt"
     for text in "$here/$files"/*.Invariants.antt.txt; do
         local of
         of=$(basename "$text" .Invariants.antt.txt)
         mkdir -p "$copy/crates/$name/proofs/$of"
-        cp "$text" "$copy/crates/$name/proofs/$of/Invariants.antt"
+        sed "${6:-}" "$text" >"$copy/crates/$name/proofs/$of/Invariants.antt"
     done
     (cd "$copy/crates/$name" && rt run >"$copy/log" 2>&1)
     if [ ! -x "$copy/crates/$name/out/$name" ]; then
@@ -43,9 +46,9 @@ build() {
     fi
 }
 
-build "$earlier" "$work/before" list_bench lists "tick_num ready_lists"
-build "$top" "$work/after" list_bench lists "tick_num ready_lists"
-build "$top" "$work/wheel" wheel_bench wheel "tick_num timer_wheel"
+build "$earlier" "$work/before" list_bench lists "tick_num ready_lists" "$names_then"
+build "$top" "$work/after" list_bench lists "words_numbers parts_ready"
+build "$top" "$work/wheel" wheel_bench wheel "words_numbers parts_wheel"
 
 for side in before after; do
     "$work/$side/crates/list_bench/out/list_bench" >"$work/$side.times" || exit 1

@@ -79,11 +79,11 @@ def scratch(folder: Path) -> Path:
         if ":" in line and not line.startswith("#"):
             name, below = line.split(":", 1)
             lines[name.split()[0]] = below.split()
-    wanted = sorted(crates_below("machine_rules", lines))
+    wanted = sorted(crates_below("rules_machine", lines))
     for name in wanted:
         shutil.copytree(TOP / "crates" / name, folder / "crates" / name, ignore=shutil.ignore_patterns("out", "must-fail"))
     listing = [f"{name}: {' '.join(lines[name])}" for name in wanted]
-    needs = "tick_num script_tree pse52_trace machine_rules"
+    needs = "words_numbers words_script words_trace rules_machine"
     (folder / "crates.txt").write_text("\n".join([*listing, f"{CRATE}: {needs}", ""]))
     crate = folder / "crates" / CRATE
     (crate / "src").mkdir(parents=True)

@@ -8,13 +8,13 @@ from script import (
 
 SPECS = "Rattle.rules_machine.specs"
 VARIANTS = {
-    "res": "tick_num.specs.declared.res.Res",
-    "call": "script_tree.specs.declared.call.Call",
-    "operand": "script_tree.specs.declared.call.Operand",
-    "policy": "script_tree.specs.declared.policy.Policy",
-    "protocol": "script_tree.specs.declared.policy.Protocol",
-    "decl": "script_tree.specs.declared.decl.Decl",
-    "kind": "script_tree.specs.declared.decl.Kind",
+    "res": "words_numbers.specs.declared.res.Res",
+    "call": "words_script.specs.declared.call.Call",
+    "operand": "words_script.specs.declared.call.Operand",
+    "policy": "words_script.specs.declared.policy.Policy",
+    "protocol": "words_script.specs.declared.policy.Protocol",
+    "decl": "words_script.specs.declared.decl.Decl",
+    "kind": "words_script.specs.declared.decl.Kind",
 }
 HEADER = "".join([
     "use Rattle.std.specs.Prelude.{ℕ, List, [], ◌∷◌, ◌≡◌, Some, None, true, false, codes, refl}\n",
