@@ -1,2 +1,2 @@
-mod Narrow
+mod Parts
 mod WordBits

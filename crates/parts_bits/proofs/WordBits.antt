@@ -1,8 +1,8 @@
 -- Bits of a word, and those from one of them on.
-use Rattle.std.proofs.Common.{◌≡◌, ◌≢◌, ◌<◌, ◌≤◌, ◌⊎◌, inl, inr, ℕ, ◌+◌, ◌-◌, ◌*◌, ◌/◌, ◌%◌, ◌^◌, ap, arith, bit_and, sym, w64, ◌∙◌}
+use Rattle.std.proofs.Common.{◌≡◌, ◌≢◌, ◌<◌, ◌≤◌, ◌⊎◌, inl, inr, ℕ, ◌+◌, ◌-◌, ◌*◌, ◌/◌, ◌%◌, ◌^◌, ap, arith, bit_and, nat_eq, refl, sym, true, w64, ◌∙◌}
 use Rattle.std.specs.Int.{bit_at, bit_not, trailing_zeros}
 use Rattle.std.proofs.lemmas.Nat.{and_le_l, shr_le, shr-shr}
-use Rattle.std.proofs.lemmas.Nat.Bits.{bit_at-trailing_zeros, bit_at-zero, bit_at_above, bit_at_clear_other}
+use Rattle.std.proofs.lemmas.Nat.Bits.{bit_at-trailing_zeros, bit_at-zero, bit_at_above, bit_at_clear_other, same_from_bits_below}
 use Rattle.parts_bits.specs.Words.{IsFirstBit}
 
 low_or_high : (u : ℕ) → (u < 64) ⊎ (64 ≤ u)
@@ -53,3 +53,11 @@ cleared word bit k low fits other = by_size (low_or_high k)
     by_size (inr high) =
         let less = and_le_l word (bit_not w64 (1 * 2 ^ bit % 2 ^ 64)) in
         above (bit_and word (bit_not w64 (1 * 2 ^ bit % 2 ^ 64))) k (omega (arith, less, fits)) high ∙ sym (above word k fits high)
+
+-- the word 0 is the one with no bit
+pub zero_clear : (word : ℕ) → nat_eq word 0 ≡ true → (k : ℕ) → k < 64 → bit_at word k ≡ 0
+zero_clear word zero k small = let none : word ≡ 0 = grind arith in ap (λ (w : ℕ). bit_at w k) none ∙ bit_at-zero k
+
+pub clear_zero : (word : ℕ) → word < 2 ^ 64 → ((k : ℕ) → k < 64 → bit_at word k ≡ 0) → nat_eq word 0 ≡ true
+clear_zero word fits none =
+    let zero : word ≡ 0 = same_from_bits_below 64 word 0 fits (omega arith) (λ k small. none k small ∙ sym (bit_at-zero k)) in rw zero refl

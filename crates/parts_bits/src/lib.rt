@@ -1,39 +1,43 @@
 //! Sets of the numbers below 256, a bit of four words for each.
 //!
-//! Contracts see the four words; `specs/Sets.antt` says which numbers they have. Where all numbers of a set are below 64 every call
-//! looks at the first word alone. No call takes memory, and none goes over the numbers.
+//! Contracts see the four words; `specs/Sets.antt` says which numbers they have. The first word is kept apart from the other three:
+//! below 64 every call takes a few steps over the first word alone, and no step that a set of 64 numbers would not take but a
+//! comparison. No call takes memory, and none goes over the numbers.
 //!
 //! Proved: each call leaves or tells the numbers that the four words have: which set one and clear one, the first number
 //! from one on, and whether there is none from one on or none but one.
 #![tactic(auto)]
 
-ghost use Rattle.std.specs.Prelude.{◌≡◌, ◌<◌, ◌↔◌, ℕ, IfSome, MatchOption, false, true};
+ghost use Rattle.std.specs.Prelude.{◌≡◌, ◌<◌, ◌≤◌, ◌↔◌, ℕ, IfSome, MatchOption, false, true};
 ghost use Rattle.parts_bits.specs.Sets.{HasNoneFrom, HasNoOther, IsFirstFrom, Turns, has};
 
 mod wide;
 pub mod words;
 
 use std::marker::Model;
-use wide::{first_in, has_wide, is_alone_in};
-use words::{first_bit, with_bit, without_bit};
+use wide::{add_in, first_in, is_alone_in, remove_in};
+use words::{first_bit, has_no_bit, with_bit, without_bit};
 
 /// A set of numbers below 256.
 #[derive(Drop)]
 pub struct BitSet {
-    words: [u64; 4],
+    // the numbers below 64
+    low: u64,
+    // the numbers from 64 on
+    high: [u64; 3],
     // whether it has a number from 64 on
     is_wide: bool,
 }
 
 impl Model for BitSet {
-    ghost use Rattle.std.specs.Prelude.{List, ℕ};
-    ghost use Rattle.parts_bits.specs.Wide.{IsSet};
+    ghost use Rattle.std.specs.Prelude.{◌∷◌, List, ℕ};
+    ghost use Rattle.parts_bits.specs.Wide.{TellsAny};
 
     ghost Value = { List ℕ };
 
-    ghost view = { λ s. s.words };
+    ghost view = { λ s. s.low ∷ s.high };
 
-    ghost invariant = { λ s. IsSet s.is_wide s.words };
+    ghost invariant = { λ s. TellsAny s.is_wide s.high };
 }
 
 impl BitSet {
@@ -42,7 +46,8 @@ impl BitSet {
         ensures { (t : ℕ) → has t result ≡ false }
     {
         BitSet {
-            words: [0; 4],
+            low: 0,
+            high: [0; 3],
             is_wide: false,
         }
     }
@@ -53,11 +58,22 @@ impl BitSet {
         requires { number < 256 }
         ensures { Turns number true self.old self.new }
     {
-        let index = number as usize / 64;
-        self.words[index] = with_bit(self.words[index], number % 64);
-        if index != 0 {
-            self.is_wide = true;
+        if number < 64 {
+            self.low = with_bit(self.low, number);
+        } else {
+            self.add_high(number);
         }
+    }
+
+    #[inline(never)]
+    #[tactic(auto, using(crate::proofs::Parts::turned_high))]
+    fn add_high(&mut self, number: u32)
+        requires high { 64 ≤ number }
+        requires small { number < 256 }
+        ensures { Turns number true self.old self.new }
+    {
+        add_in(&mut self.high, number - 64);
+        self.is_wide = true;
     }
 
     /// The number goes out, where it is in it.
@@ -66,11 +82,21 @@ impl BitSet {
         requires { number < 256 }
         ensures { Turns number false self.old self.new }
     {
-        let index = number as usize / 64;
-        self.words[index] = without_bit(self.words[index], number % 64);
-        if index != 0 {
-            self.is_wide = has_wide(&self.words);
+        if number < 64 {
+            self.low = without_bit(self.low, number);
+        } else {
+            self.remove_high(number);
         }
+    }
+
+    #[inline(never)]
+    #[tactic(auto, using(crate::proofs::Parts::turned_high))]
+    fn remove_high(&mut self, number: u32)
+        requires high { 64 ≤ number }
+        requires small { number < 256 }
+        ensures { Turns number false self.old self.new }
+    {
+        self.is_wide = remove_in(&mut self.high, number - 64);
     }
 
     /// The least number of the set from that one on; `None` exactly where it has none.
@@ -79,10 +105,27 @@ impl BitSet {
         ensures first { MatchOption result (HasNoneFrom from self.now) (λ t. IsFirstFrom from self.now t) }
         ensures small { IfSome result (λ t. t < 256) }
     {
-        if self.is_wide {
-            return first_in(&self.words, from);
+        if let Some(number) = first_bit(self.low, from) {
+            return Some(number);
         }
-        first_bit(self.words[0], from)
+        if !self.is_wide {
+            return None;
+        }
+        self.first_high(from)
+    }
+
+    // The same, where no number below 64 is such a one.
+    #[inline(never)]
+    #[tactic(auto, using(crate::proofs::Parts::none_high))]
+    fn first_high(&self, from: u32) -> Option<u32>
+        requires { (t : ℕ) → from ≤ t → t < 64 → has t self.now ≡ false }
+        ensures first { MatchOption result (HasNoneFrom from self.now) (λ t. IsFirstFrom from self.now t) }
+        ensures small { IfSome result (λ t. t < 256) }
+    {
+        match first_in(&self.high, from.saturating_sub(64)) {
+            None => None,
+            Some(number) => Some(64 + number),
+        }
     }
 
     /// Whether the set has no other number.
@@ -91,9 +134,18 @@ impl BitSet {
         requires { number < 256 }
         ensures { (result ≡ true) ↔ HasNoOther number self.now }
     {
-        if self.is_wide || number >= 64 {
-            return is_alone_in(&self.words, number);
+        if number >= 64 {
+            return self.is_alone_high(number);
         }
-        without_bit(self.words[0], number) == 0
+        has_no_bit(without_bit(self.low, number)) && !self.is_wide
+    }
+
+    #[inline(never)]
+    fn is_alone_high(&self, number: u32) -> bool
+        requires high { 64 ≤ number }
+        requires small { number < 256 }
+        ensures { (result ≡ true) ↔ HasNoOther number self.now }
+    {
+        has_no_bit(self.low) && is_alone_in(&self.high, number - 64)
     }
 }

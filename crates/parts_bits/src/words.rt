@@ -1,5 +1,5 @@
 //! The bits of one word.
-ghost use Rattle.std.specs.Prelude.{◌≡◌, ◌≢◌, ℕ, ◌<◌, ◌≤◌, IfSome, MatchOption};
+ghost use Rattle.std.specs.Prelude.{◌≡◌, ◌≢◌, ℕ, ◌<◌, ◌≤◌, ◌↔◌, IfSome, MatchOption, true};
 ghost use Rattle.std.specs.Int.{bit_at};
 ghost use Rattle.parts_bits.specs.Words.{IsFirstBit};
 
@@ -21,6 +21,14 @@ pub fn without_bit(word: u64, bit: u32) -> u64
     ensures others { (k : ℕ) → k ≢ bit → bit_at result k ≡ bit_at word k }
 {
     word & !(1u64 << bit)
+}
+
+/// Whether no bit is set.
+#[inline(always)]
+pub fn has_no_bit(word: u64) -> bool
+    ensures { (result ≡ true) ↔ ((k : ℕ) → k < 64 → bit_at word k ≡ 0) }
+{
+    word == 0
 }
 
 /// The lowest bit from that one on that is set; `None` exactly where none is.
