@@ -1,8 +1,9 @@
 // The response times of tasks.
-ghost use Rattle.std.specs.Prelude.{◌≡◌, ◌≤◌, ◌^◌, length};
+ghost use Rattle.std.specs.Prelude.{◌≡◌, ◌≤◌, ◌+◌, ◌*◌, ◌^◌, length};
 ghost use Rattle.tool_times.specs.Answer.{response_lines};
 ghost use Rattle.tool_times.specs.Read.{read};
 ghost use Rattle.tool_commands.specs.Answer.{Told, SinkFaults, responses_answer};
+ghost use Rattle.tool_commands.specs.Few.{RoundsAreFew};
 
 use crate::Status;
 use crate::message::refused_task_line;
@@ -27,6 +28,7 @@ fn print_responses<K: Sink, L: Ledger>(
     ensures faults { SinkFaults result (K.faults sink.old) (K.faults sink.new) }
     ensures read { result ≡ Status.ReadFault → ⊥ }
     ensures memory { result ≡ Status.OutOfMemory → ⊥ }
+    ensures rounds { steps.new ≤ steps.old + length tasks.now * (bound + 1) }
 {
     match put_responses(tasks, bound, sink, steps) {
         Ok(()) => Status::Done,
@@ -48,6 +50,7 @@ pub(crate) fn tell_responses<K: Sink, L: Ledger>(
     ensures faults { SinkFaults result (K.faults sink.old) (K.faults sink.new) }
     ensures read { result ≡ Status.ReadFault → ⊥ }
     ensures unchanged { result ≡ Status.OutOfMemory → sink.new ≡ sink.old }
+    ensures rounds { RoundsAreFew bound text.now steps.old steps.new }
 {
     match Tasks::open(alloc, text) {
         Ok(tasks) => print_responses(&tasks, bound, sink, steps),

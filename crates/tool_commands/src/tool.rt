@@ -21,7 +21,7 @@ ghost use Rattle.words_script.specs.declared.decl.Script.{Script};
 ghost use Rattle.tool_commands.specs.Command.{command, limit_of, reads, words_limit, Audits, Compares, HasSecondLimit, Divides, Generates, IsWithinLimit, Reads};
 ghost use Rattle.rules_machine.specs.Promises.{RunKeepsBudgets, RunStaysGood, busy_between};
 ghost use Rattle.tool_commands.specs.Audited.{BreaksNoRule, BudgetsHold};
-ghost use Rattle.tool_commands.specs.Few.{StepsAreFew};
+ghost use Rattle.tool_commands.specs.Few.{RoundsAreFew, StepsAreFew};
 ghost use Rattle.tool_commands.specs.Spelled.{LinesHaveOneReading, RunHasSmallNumbers};
 ghost use Rattle.laws_threads.specs.HeadRuns.{HeadRuns};
 ghost use Rattle.tool_commands.specs.Answer.{answer, run_answer, text_answer, usage_line, too_long_line, no_trace_line, Told, SinkFaults, HasText};
@@ -125,6 +125,7 @@ fn answer_text<K: Sink, L: Ledger>(
     ensures unchanged { result ≡ Status.OutOfMemory → sink.new ≡ sink.old }
     ensures kind { reads command.now ≡ false → IsWithoutSource result }
     ensures busy { (n : ℕ) → command.now ≡ Command.Run n → StepsAreFew n text.now steps.old steps.new }
+    ensures rounds { (n : ℕ) → command.now ≡ Command.ResponseTimes n → RoundsAreFew n text.now steps.old steps.new }
     ensures soaks { (seed n : ℕ) → command.now ≡ Command.Soak seed n → steps.new ≤ steps.old + busy_between (script_of seed) 0 n + 1 }
 {
     match *command {
@@ -204,9 +205,12 @@ pub fn run_tool<S: Source, K: Sink, L: Ledger>(
     ensures first_versions { (bytes : List ℕ) (script : Script) → read patterns bytes ≡ Ok script → script.version ≡ 1
         → RunsAsBefore (bodies_of script) (opening {P = Place} script) }
 
-    // A run has at most one step more than there are eventful instants before its horizon.
+    // A run has at most one step more than there are eventful instants before its horizon, and the response times of tasks at most one more
+    // than the bound for each task.
     ensures busy { (n : ℕ) (bytes : List ℕ) → command (map string_bytes words.now) ≡ Some (Command.Run n) → S.rest source.old ≡ Some bytes
         → StepsAreFew n bytes steps.old steps.new }
+    ensures rounds { (n : ℕ) (bytes : List ℕ) → command (map string_bytes words.now) ≡ Some (Command.ResponseTimes n) → S.rest source.old ≡ Some bytes
+        → RoundsAreFew n bytes steps.old steps.new }
     ensures soaks { (seed n : ℕ) → command (map string_bytes words.now) ≡ Some (Command.Soak seed n)
         → steps.new ≤ steps.old + busy_between (script_of seed) 0 n + 1 }
 
