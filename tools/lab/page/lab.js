@@ -10,7 +10,8 @@ import * as sweep from "./sweep.js";
 const element = (id) => document.getElementById(id);
 const HORIZON = /^\s*#\s*horizon (\d+)\b/;
 let about, editor, pictures, runs;
-let example = null, kept = null, cursor = 0n, ran = null, difference = { threads: {}, instants: [] }, quiet = false, showing = false, pressedAt = 0;
+const NONE = { threads: {}, instants: [] };
+let example = null, kept = null, cursor = 0n, ran = null, difference = NONE, compared = false, quiet = false, showing = false, pressedAt = 0;
 
 const script = () => editor.text();
 const horizon = () => element("horizon").value.trim();
@@ -47,7 +48,7 @@ function shownA(told, wanted) {
 // Shows a run in a pane, with its cursor at the tick of the page, which stays where a run is shorter than that.
 function put(pane, data) {
   showing = true;
-  pictures[pane].show(data); pictures[pane].goTo(cursor);
+  pictures[pane].show(data, cursor);
   showing = false;
 }
 
@@ -67,7 +68,8 @@ function keep(text) {
   compare(); remember();
 }
 function compare() {
-  if (kept === null || !ran) { difference = { threads: {}, instants: [] }; editor.changed([]); pictures.a.differ({}); pictures.b.differ({}); return; }
+  if (kept === null || !ran) { forgetDifferences(); return; }
+  compared = true;
   const words = scriptsDiffer(kept, script());
   editor.changed(words.words);
   element("words").replaceChildren(...words.lines.slice(0, 40).map(([number, before, after]) => {
@@ -80,6 +82,11 @@ function compare() {
   const count = difference.instants.length;
   element("differs").textContent = count ? "The runs differ at " + count + (count === 1 ? " instant" : " instants") + ", first at " + difference.instants[0] + "." : "The runs do not differ.";
   element("next").disabled = !count;
+}
+function forgetDifferences() {
+  if (!compared) return;
+  compared = false; difference = NONE;
+  editor.changed([]); pictures.a.differ({}); pictures.b.differ({});
 }
 function nextDifference() {
   if (!difference.instants.length) return;
@@ -172,7 +179,7 @@ function moved(side, tick) {
   remember();
 }
 window.addEventListener("keydown", (key) => {
-  pressedAt = performance.now();
+  pressedAt = key.timeStamp;
   const typing = ["INPUT", "TEXTAREA", "SELECT"].includes(key.target.tagName) || key.target.isContentEditable;
   if ((typing && !key.ctrlKey) || key.altKey || key.metaKey) return;
   const onButton = key.target.tagName === "BUTTON" && (key.key === "Enter" || key.key === " ");

@@ -20,6 +20,8 @@ INHERIT = (TOP / "examples" / "05_inherit.task").read_text()
 # How long a picture may take from the last key on, and a frame while a long run is stepped through, in milliseconds.
 PICTURE, FRAME = 200, 100
 KEYS = 5
+DRAWN = "return lab.drawn === document.querySelector('.CodeMirror').CodeMirror.getValue()"
+NAMES = "return fetch('about.json').then((said) => said.json()).then((about) => about.gallery.map((one) => one.name))"
 
 
 def has_codemirror() -> bool:
@@ -292,32 +294,63 @@ class Speed(InBrowser):
             self.skipTest("libjs-codemirror is not here")
         super().setUp()
 
-    def test_from_the_last_key_to_the_picture(self) -> None:
-        """Of each example, a digit is typed at the end of a comment and taken away, again and again."""
+    def choose(self, example: str) -> None:
+        self.does("const menu = document.getElementById('gallery'); menu.value = arguments[0]; menu.dispatchEvent(new Event('change'))", example)
+        self.until(DRAWN)
+
+    def latencies(self) -> list[float]:
+        """At the number of the first `run` a digit is typed and taken away, again and again."""
         from selenium.webdriver.common.keys import Keys
 
-        busy = os.getloadavg()[0] > (os.cpu_count() or 1)
-        figures = {}
-        self.open()
-        for example in self.does("return fetch('about.json').then((said) => said.json()).then((about) => about.gallery.map((one) => one.name))"):
-            self.does("const menu = document.getElementById('gallery'); menu.value = arguments[0]; menu.dispatchEvent(new Event('change'))", example)
-            self.until("return lab.drawn === document.querySelector('.CodeMirror').CodeMirror.getValue()")
-            self.does("const code = document.querySelector('.CodeMirror').CodeMirror; code.focus(); code.setCursor(0, 999)")
-            took = []
-            for number in range(KEYS):
-                self.press("7" if number % 2 == 0 else Keys.BACKSPACE)
-                self.until("return lab.drawn === document.querySelector('.CodeMirror').CodeMirror.getValue()")
-                took.append(float(str(self.does("return lab.latency"))))
-            self.assertTrue(all(took))
-            figures[example] = median(took), min(took)
-        middle, least = (max(figures, key=lambda name: figures[name][which]) for which in (0, 1))
-        print(f"from a key to the picture, of {len(figures)} examples, {KEYS} keys each: at most {figures[middle][0]:.0f} ms in the middle ({middle}), "
-              f"{figures[least][1]:.0f} ms at the quickest ({least}); load {os.getloadavg()[0]:.1f}")
-        # Where other work wants the processors too, what the page itself takes is seen of the quickest key; and of none where that is far more.
-        if figures[middle][0] >= PICTURE and os.getloadavg()[0] > 2 * (os.cpu_count() or 1):
-            print(f"skipped: how soon a picture is there, since other work has the processors, load {os.getloadavg()[0]:.0f}")
+        lines = self.script().splitlines()
+        line = next(number for number, text in enumerate(lines) if text.split()[:1] == ["run"])
+        self.does("const code = document.querySelector('.CodeMirror').CodeMirror; code.focus(); code.setCursor(arguments[0], 999)", line)
+        took = []
+        for number in range(KEYS):
+            before = self.in_frame("data.lines.join()", "a")
+            self.press("7" if number % 2 == 0 else Keys.BACKSPACE)
+            self.until(DRAWN)
+            self.changes += self.in_frame("data.lines.join()", "a") != before
+            took.append(float(str(self.does("return lab.latency"))))
+        return took
+
+    def judge(self, what: str, figures: dict[str, list[float]]) -> None:
+        """All figures are below PICTURE in the middle; where other work has the processors too, what the page itself takes is seen of the quickest."""
+        load, processors = os.getloadavg()[0], os.cpu_count() or 1
+        middle, least = (max(figures, key=lambda name: of(figures[name])) for of in (median, min))
+        print(f"{what}, {len(figures)} examples: at most {median(figures[middle]):.0f} ms in the middle ({middle}), "
+              f"{min(figures[least]):.0f} ms at the quickest ({least}); load {load:.1f}")
+        if "PSE52_SHOTS" in os.environ:
+            rows = [f"{name:24} middle {median(took):5.0f} ms, least {min(took):5.0f}, greatest {max(took):5.0f}\n" for name, took in figures.items()]
+            (Path(os.environ["PSE52_SHOTS"]) / f"{self.id().rpartition('.')[2]}.txt").write_text(f"{what}; load {load:.1f}\n" + "".join(rows))
+        if median(figures[middle]) >= PICTURE and load > 2 * processors:
+            print(f"skipped: {what}, since other work has the processors, load {load:.0f}")
             self.skipTest("the machine is busy")
-        self.assertLess(figures[least][1] if busy else figures[middle][0], PICTURE)
+        self.assertLess(min(figures[least]) if load > processors else median(figures[middle]), PICTURE)
+
+    def test_from_the_last_key_to_the_picture(self) -> None:
+        self.open()
+        self.changes, figures = 0, {}
+        for example in self.does(NAMES):
+            self.choose(example)
+            figures[example] = self.latencies()
+            self.assertTrue(all(figures[example]))
+        # Some runs are the same with another number, where the thread does not come so far.
+        self.assertGreater(self.changes, len(figures) * KEYS * 3 / 4)
+        self.judge("from a key to the picture", figures)
+
+    def test_from_the_last_key_of_a_word(self) -> None:
+        """Ten keys within less than a second, as they are typed: of the last one the picture is as soon there."""
+        self.open()
+        figures: dict[str, list[float]] = {}
+        for example in ("20_controller", "13_server_and_polling", "one_thread"):
+            self.choose(example)
+            self.does("const code = document.querySelector('.CodeMirror').CodeMirror; code.focus(); code.setCursor(0, 999)")
+            for _ in range(KEYS):
+                self.press(*"0123456789")
+                self.until(DRAWN)
+                figures.setdefault(example, []).append(float(str(self.does("return lab.latency"))))
+        self.judge("from the last of ten keys to the picture", figures)
 
     def test_a_long_run_stays_fluid(self) -> None:
         """64 threads and 100,000 lines: stepping, zooming and panning, each up to the end of its frame."""
