@@ -10,13 +10,13 @@ const isWhole = () => scale <= Math.max(1, width - gutter - 24) / total * 1.0001
 // Shows a run with the cursor at a tick. What is zoomed at stays. What differs from another run is drawn with it, where that is said.
 function show(given, tick) {
   const from = tickAt(Math.max(0, left)).tick, moves = tick !== tickNow();
-  take(given); measure();
+  take(given); measure(); overview(); legend();
   place = placeOfTick(inRun(tick)); held = true; second = second === null ? null : inRun(second);
   if (fits) scale = 0; else left = placeOfTick(inRun(from));
   width = canvas.clientWidth; height = canvas.clientHeight;
   clampView();
   if (moves) reveal();
-  legend(); tell(); drawSoon();
+  tell(); drawSoon();
 }
 // Draws in the next frame, once, however many things of it have changed.
 let asked = 0;

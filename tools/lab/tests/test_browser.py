@@ -369,6 +369,8 @@ class Speed(InBrowser):
             const measure = async (name, does) => { took[name] = []; for (let n = 0; n < 25; n++) { await next(); const began = performance.now(); does(n); await next(); took[name].push(performance.now() - began); } };
             (async () => {
               goTo(20000n);
+              await measure("the slider", (n) => { slider.value = n / 25; slider.dispatchEvent(new Event("input")); });
+              goTo(20000n);
               await measure("a step", () => KEYS.ArrowRight()); await measure("an event", () => KEYS.n());
               await measure("zoom", () => zoom(1.5, 400)); await measure("pan", () => { left += 20 / scale; clampView(); draw(); });
               await measure("zoom out", () => zoom(1 / 1.5, 400));
