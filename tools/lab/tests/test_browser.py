@@ -229,6 +229,17 @@ class Page(InBrowser):
         self.assertEqual(self.does("return document.getElementById('horizon').value"), "120")
         self.shot("controller")
 
+    def test_the_overview_of_a_long_run(self) -> None:
+        self.open("#example=20_controller&horizon=120")
+        self.assertTrue(self.in_frame("element('overview').hidden", "a"))
+        self.does("const horizon = document.getElementById('horizon'); horizon.value = '2000'; horizon.dispatchEvent(new Event('input'))")
+        self.until("return document.getElementById('a').contentWindow.pane.data().ticks.at(-1)", "2000")
+        self.assertFalse(self.in_frame("element('overview').hidden", "a"))
+        self.in_frame("(zoom(20, gutter), slider.value = placeOfTick(1500n) / total, slider.dispatchEvent(new Event('input')))", "a")
+        self.assertTrue(self.in_frame("xOf(place) > gutter && xOf(place) < width && left > 0", "a"))
+        self.until("return location.hash.includes('cursor=1500')")
+        self.shot("overview")
+
     def test_dark_and_light(self) -> None:
         self.open("#example=20_controller&cursor=27")
         paper = "return getComputedStyle(document.body).backgroundColor"
