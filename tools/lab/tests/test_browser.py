@@ -200,6 +200,18 @@ class Page(InBrowser):
         self.does("document.getElementById('beside').click()")
         self.assertEqual(self.does("return document.getElementById('figure_b').hidden"), True)
 
+    def test_a_line_more_and_a_word_changed(self) -> None:
+        """The line that is new is told as such, and of the changed one the word alone is marked."""
+        self.open("#example=25_budget_in_a_window")
+        self.does("[...document.querySelectorAll('#changes button')].find((button) => button.textContent === 'make it strict').click()")
+        self.until("return document.getElementById('differs').textContent.startsWith('The runs differ')")
+        self.assertEqual(self.does("return [...document.querySelectorAll('#words li')].map((li) => li.textContent)"),
+                         ["line 9: → version 2", "line 10: thread server sporadic 8 2 10 3 4 at 2 → thread server strict 8 2 10 3 4 at 2"])
+        if not self.is_plain:
+            self.assertEqual(self.does("return [...document.querySelectorAll('.CodeMirror .changed')].map((word) => word.textContent)"), ["version", "2", "strict"])
+        self.does("document.getElementById('a').contentWindow.pane.goTo(7n)")
+        self.assertEqual([self.table("Budgets", frame) for frame in "ab"], [["server | capacity 3"]] * 2)
+
     def test_a_link_opened_again(self) -> None:
         self.open("#example=04_inversion&horizon=30")
         self.does("[...document.querySelectorAll('#changes button')].find((button) => button.textContent === 'let medium run 14').click()")
