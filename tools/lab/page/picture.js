@@ -1,5 +1,6 @@
 // One picture of the page to work in. The page around it gives it data, a cursor and what differs, and hears of its keys and its cursor.
-const EMPTY = { ticks: ["0", "1"], places: [0, 1], cuts: [], detail: true, threads: [], colours: {}, shown: {}, kinds: {}, words: {}, frames: [], mutexes: [], wakes: [], facts: {}, lines: [], at: [] };
+const EMPTY = { ticks: ["0", "1"], places: [0, 1], cuts: [], detail: true, threads: [], colours: {}, shown: {}, kinds: {}, words: {},
+  frames: [], mutexes: [], wakes: [], facts: {}, lines: [], at: [] };
 const side = window.frameElement ? window.frameElement.id : "a";
 let differing = {}, fits = true;
 
@@ -31,7 +32,9 @@ function paintDifferences(bars) {
     for (const [from, to] of differing[thread.name] || []) {
       if (from > ticks[last]) continue;
       const x = Math.max(gutter, xOf(placeOfTick(inRun(from)))), end = xOf(placeOfTick(inRun(to)));
-      if (end > gutter && x < width) { pen.globalAlpha = 0.13; pen.fillRect(x, bars[number] - 2, Math.max(2, end - x), sizes.bar + 5); pen.globalAlpha = 1; pen.fillRect(x, bars[number] + sizes.bar + 1, Math.max(2, end - x), 3); }
+      if (end <= gutter || x >= width) continue;
+      pen.globalAlpha = 0.13; pen.fillRect(x, bars[number] - 2, Math.max(2, end - x), sizes.bar + 5);
+      pen.globalAlpha = 1; pen.fillRect(x, bars[number] + sizes.bar + 1, Math.max(2, end - x), 3);
     }
   });
 }

@@ -212,6 +212,15 @@ class Page(InBrowser):
         self.does("document.getElementById('a').contentWindow.pane.goTo(7n)")
         self.assertEqual([self.table("Budgets", frame) for frame in "ab"], [["server | capacity 3"]] * 2)
 
+    def test_a_run_that_is_shorter(self) -> None:
+        """The kept run is killed at 32: the cursor goes on in the other one."""
+        self.open("#example=07_pathfinder")
+        self.does("[...document.querySelectorAll('#changes button')].find((button) => button.textContent === 'make it inherit').click()")
+        self.until("return document.getElementById('differs').textContent.startsWith('The runs differ')")
+        self.does("document.getElementById('a').contentWindow.pane.goTo(50n)")
+        self.assertEqual([self.in_frame("pane.tick().toString()", frame) for frame in "ab"], ["50", "32"])
+        self.until("return location.hash.includes('cursor=50')")
+
     def test_a_link_opened_again(self) -> None:
         self.open("#example=04_inversion&horizon=30")
         self.does("[...document.querySelectorAll('#changes button')].find((button) => button.textContent === 'let medium run 14').click()")
@@ -389,7 +398,8 @@ class Speed(InBrowser):
         self.driver.set_script_timeout(120)
         frames = self.driver.execute_async_script("""const done = arguments[arguments.length - 1], took = {};
             const next = () => new Promise((go) => requestAnimationFrame(() => setTimeout(go)));
-            const measure = async (name, does) => { took[name] = []; for (let n = 0; n < 25; n++) { await next(); const began = performance.now(); does(n); await next(); took[name].push(performance.now() - began); } };
+            const timed = async (does, n) => { await next(); const began = performance.now(); does(n); await next(); return performance.now() - began; };
+            const measure = async (name, does) => { took[name] = []; for (let n = 0; n < 25; n++) took[name].push(await timed(does, n)); };
             (async () => {
               goTo(20000n);
               await measure("the slider", (n) => { slider.value = n / 25; slider.dispatchEvent(new Event("input")); });

@@ -88,5 +88,6 @@ window.addEventListener("keydown", (key) => {
   key.preventDefault(); KEYS[key.key]();
 });
 element("search").addEventListener("input", () => { wanted = element("search").value.trim(); tell(); });
-for (const [id, does] of [["in", KEYS["+"]], ["out", KEYS["-"]], ["all", showAll], ["before", KEYS.p], ["after", KEYS.n], ["mark", setSecond], ["lists", toggleLists], ["dark", toggleDark], ["help", toggleHelp]]) element(id).onclick = does;
+const BUTTONS = { in: KEYS["+"], out: KEYS["-"], all: showAll, before: KEYS.p, after: KEYS.n, mark: setSecond, lists: toggleLists, dark: toggleDark, help: toggleHelp };
+for (const [id, does] of Object.entries(BUTTONS)) element(id).onclick = does;
 window.addEventListener("resize", resized);
