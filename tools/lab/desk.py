@@ -34,6 +34,7 @@ class Worker:
     def __init__(self) -> None:
         self._process = subprocess.Popen([sys.executable, str(WORKER)], stdin=subprocess.PIPE, stdout=subprocess.PIPE, start_new_session=True)
         self._why = ""
+        self._is_ready = False
 
     def stop(self, why: str) -> None:
         self._why = self._why or why
@@ -53,7 +54,8 @@ class Worker:
                 pass
 
     def ask(self, request: Request, seconds: float) -> bytes:
-        """The answer, as JSON. Raises Stopped; the worker is of no more use then."""
+        """The answer, as JSON. The time of the run counts, and not that of the worker's start. Raises Stopped; the worker is of no more use then."""
+        self._is_ready = self._is_ready or self._process.stdout.readline() == b"ready\n"
         head = {"size": len(request.script), "horizon": request.horizon, "form": request.form, "title": request.title}
         clock = threading.Timer(seconds, self.stop, [f"the run took longer than {seconds:g} s and was ended; take a smaller horizon"])
         clock.daemon = True

@@ -5,46 +5,35 @@ import argparse
 import re
 import secrets
 import signal
-import sys
 import threading
 import webbrowser
-from enum import IntEnum
 from pathlib import Path
 from urllib.parse import quote
 
+from command import Status, Words, carried_out
 from view.source import horizon_of
 
 from .desk import Desk
 from .parts import parts
 from .server import GREATEST_SCRIPT, Lab
 
-TOP = Path(__file__).resolve().parents[2]
 TOOL = "pse52-lab"
 LINK = re.compile(r"(?:https?://[^#]*)?#(.*)")
 
 
-class Status(IntEnum):
-    """The exit statuses, those of pse52 where they mean the same."""
-
-    DONE = 0
-    USAGE = 1
-    READ_FAULT = 4
-    NO_PORT = 5
+class NoPort(Exception):
+    """Why the port cannot be had."""
 
 
 def command_of(words: list[str]) -> argparse.Namespace:
     """What the words ask for."""
-    parser = argparse.ArgumentParser(
-        prog=TOOL, allow_abbrev=False,
-        description="Serves a page on this machine, to write a script in and see what it does. Ctrl-C ends it.")
-    parser.exit_on_error = False
-    parser.add_argument("--version", action="version", version=f"{TOOL} {(TOP / 'VERSION').read_text().strip()}")
+    parser = Words(TOOL, "Serves a page on this machine, to write a script in and see what it does. Ctrl-C ends it.")
     parser.add_argument("link", nargs="?", metavar="LINK|SCRIPT", help="a link of a lesson, or a script, to begin with")
     parser.add_argument("--port", type=int, default=0, metavar="N", help="the port; without it a free one")
     parser.add_argument("--seconds", type=float, default=10.0, metavar="S", help="how long a run may take; without it 10")
     parser.add_argument("--plain", action="store_true", help="a plain text area, also where CodeMirror is installed")
     parser.add_argument("--open", action="store_true", help="open the page in a browser")
-    return parser.parse_args(words)
+    return parser.read(words)
 
 
 def fragment_of(said: str | None) -> str:
@@ -59,24 +48,15 @@ def fragment_of(said: str | None) -> str:
     return f"#script={quote(script.decode('ascii', 'replace'), safe='')}" + (f"&horizon={horizon}" if horizon is not None else "")
 
 
-def main(words: list[str]) -> Status:
-    try:
-        said = command_of(words)
-        fragment = fragment_of(said.link)
-    except SystemExit as ended:
-        return Status.DONE if ended.code == 0 else Status.USAGE
-    except argparse.ArgumentError as wrong:
-        print(f"{TOOL}: {wrong}; --help tells all", file=sys.stderr)
-        return Status.USAGE
-    except OSError as error:
-        print(f"{TOOL}: {error.filename} was not read: {error.strerror}", file=sys.stderr)
-        return Status.READ_FAULT
+def served(words: list[str]) -> int:
+    """Serves the page until it is ended."""
+    said = command_of(words)
+    fragment = fragment_of(said.link)
     desk = Desk(said.seconds)
     try:
         lab = Lab(said.port, secrets.token_urlsafe(24), parts(said.plain), desk)
     except (OSError, OverflowError) as error:
-        print(f"{TOOL}: the port {said.port} cannot be had: {error}", file=sys.stderr)
-        return Status.NO_PORT
+        raise NoPort(f"the port {said.port} cannot be had: {error}") from None
     for pane in ("a", "b"):
         threading.Thread(target=desk.prepare, args=[pane], daemon=True).start()
     for asked in (signal.SIGINT, signal.SIGTERM):  # SIGINT too: a shell without a terminal has it ignored in the background
@@ -91,3 +71,7 @@ def main(words: list[str]) -> Status:
     finally:
         desk.close()
     return Status.DONE
+
+
+def main(words: list[str]) -> int:
+    return carried_out(TOOL, lambda: served(words), {NoPort: Status.WRITE_FAULT})

@@ -1,7 +1,8 @@
 """What is answered to a script: its faults, or its picture, its trace or its detail.
 
 The trace is that of the program where one is here. The facts are the program's where it has `detail`, and else those of the
-reference; then the trace is held against the events of the reference, and the answer tells where they differ.
+reference; then the trace is held against the events of the reference, and the answer tells where they differ. A program that
+refuses what has no fault is of another version: then the reference makes both, and the answer says so.
 """
 from __future__ import annotations
 
@@ -22,6 +23,7 @@ from view.svg import draw
 USAGE, REFUSED = 1, 2
 MOST_DETAIL = 64 * 1024 * 1024
 FORMS = ("picture", "svg", "trace", "detail")
+REFERENCES = "the reference"
 
 
 class NoRun(Exception):
@@ -58,36 +60,69 @@ def trace_of(detail: bytes) -> bytes:
     return b"".join(line for line in detail.splitlines(keepends=True) if line.split(b" ", 2)[1] not in words or line.startswith(b"thread "))
 
 
-def _asked(program: list[str], command: str, horizon: int, script: bytes) -> tuple[int, bytes]:
+def _begun(program: list[str], command: str, horizon: int, script: bytes) -> subprocess.Popen[bytes]:
+    """A program that has its script. Raises NoRun."""
     try:
-        ended = subprocess.run([*program, command, str(horizon)], input=script, capture_output=True, check=False)
+        begun = subprocess.Popen([*program, command, str(horizon)], stdin=subprocess.PIPE, stdout=subprocess.PIPE, stderr=subprocess.DEVNULL)
     except OSError as error:
         raise NoRun(f"{program[0]} cannot be started: {error.strerror}") from None
-    return ended.returncode, ended.stdout
+    try:
+        with begun.stdin:
+            begun.stdin.write(script)
+    except BrokenPipeError:
+        pass  # it ended before it had read all, and its status says why
+    return begun
 
 
-def run(script: bytes, horizon: int, sources: Sources) -> Run:
-    """Runs a script that has no fault. Raises NoRun."""
-    trace, detail = None, None
-    name = shlex.join(sources.program or [])
-    if sources.program is not None:
-        status, trace = _asked(sources.program, "run", horizon, script)
-        if status != 0:
-            raise NoRun(f"{name} ended with the status {status}: {trace.decode('ascii', 'backslashreplace').strip()[:200]}")
-        if sources.has_detail:
-            status, detail = _asked(sources.program, "detail", horizon, script)
-            sources.has_detail = status != USAGE
-            detail = detail if status == 0 else None
-    if detail is not None and trace is not None:
-        return Run(trace, detail, name, name, _difference(trace, detail))
+def _ended(begun: subprocess.Popen[bytes]) -> tuple[int, bytes]:
+    text = begun.stdout.read()
+    return begun.wait(), text
+
+
+def _trace_by(begun: subprocess.Popen[bytes], name: str) -> tuple[bytes | None, str]:
+    """The trace of a program, or none and why where it does not know this language. Raises NoRun."""
+    status, trace = _ended(begun)
+    said = trace.decode("ascii", "backslashreplace").strip()[:200]
+    if status == REFUSED:
+        return None, f"{name} is of another version and does not take this script ({said}); the reference made the trace"
+    if status != 0:
+        raise NoRun(f"{name} ended with the status {status}: {said}")
+    return trace, ""
+
+
+def _detail_by(horizon: int, script: bytes, sources: Sources) -> bytes | None:
+    """The detail of the program, where it has one."""
+    with _begun(sources.program or [], "detail", horizon, script) as begun:
+        status, detail = _ended(begun)
+    sources.has_detail = status != USAGE
+    return detail if status == 0 else None
+
+
+def _of_reference(script: bytes, horizon: int) -> bytes:
+    """The detail by the reference. Raises NoRun."""
     if horizon > MOST_TICKS:
         raise NoRun(f"the reference tells the facts, a tick at a time: {MOST_TICKS} ticks are the most that it is asked for")
     status, detail = reference_answer(script, horizon, command="detail")
     if status != 0:
         raise NoRun(f"the reference: {detail.decode().strip()}")
+    return detail
+
+
+def run(script: bytes, horizon: int, sources: Sources) -> Run:
+    """Runs a script that has no fault. Raises NoRun."""
+    if sources.program is None:
+        detail = _of_reference(script, horizon)
+        return Run(trace_of(detail), detail, REFERENCES, REFERENCES)
+    name = shlex.join(sources.program)
+    with _begun(sources.program, "run", horizon, script) as begun:
+        # While it runs, the facts are asked for.
+        detail = _detail_by(horizon, script, sources) if sources.has_detail else None
+        facts_by = REFERENCES if detail is None else name
+        detail = detail or _of_reference(script, horizon)
+        trace, why = _trace_by(begun, name)
     if trace is None:
-        return Run(trace_of(detail), detail, "the reference", "the reference")
-    return Run(trace, detail, name, "the reference", _difference(trace, detail))
+        return Run(trace_of(detail), detail, REFERENCES, facts_by, why)
+    return Run(trace, detail, name, facts_by, _difference(trace, detail))
 
 
 def _difference(trace: bytes, detail: bytes) -> str:

@@ -1,6 +1,7 @@
 """The process that runs scripts for the page, one after another. The server ends it where a run takes too long.
 
-Each request is a line of JSON and then the bytes of the script; each answer is a line with the number of its bytes, and the bytes.
+It says `ready` once it is. Each request is a line of JSON and then the bytes of the script; each answer is a line with the number of
+its bytes, and the bytes.
 """
 from __future__ import annotations
 
@@ -30,6 +31,8 @@ def main() -> None:
     sources = Sources.found()
     # One run, so that what the first one loads and prepares is there before a user waits for it.
     answer(b"thread a fifo 1 at 0\nrun 1\nend\n", 3, "picture", "", sources)
+    sys.stdout.buffer.write(b"ready\n")
+    sys.stdout.buffer.flush()
     while line := sys.stdin.buffer.readline():
         request = json.loads(line)
         script = sys.stdin.buffer.read(request["size"])

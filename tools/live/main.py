@@ -7,12 +7,17 @@ import sys
 from enum import IntEnum
 from pathlib import Path
 
+import command
+from command import Usage, Words, carried_out
+
 from . import known
 from .due import NoTrace, Refused, Side, other_side
 from .log import NotALog
 from .rig import CannotRun, Options, Result, TooLong, run_script
 from .runner import NoLog, NotBuilt, build, last_core
 from .settings import Interrupted, NotAllowed, refused_by_kernel, why_not
+
+TOOL = "pse52-live"
 
 
 class Status(IntEnum):
@@ -31,9 +36,8 @@ class Status(IntEnum):
 
 
 def words_of(words: list[str]) -> argparse.Namespace:
-    parser = argparse.ArgumentParser(
-        prog="pse52-live", description="Runs a script on real threads of this machine's kernel, and tells where its trace differs "
-        "from the one that is due. The trace that came out goes to standard output, all else to standard error.")
+    parser = Words(TOOL, """Runs a script on real threads of this machine's kernel, and tells where its trace differs from the one that is due.
+The trace that came out goes to standard output, all else to standard error.""")
     parser.add_argument("script", type=Path, metavar="SCRIPT")
     parser.add_argument("horizon", type=int, metavar="N", help="the horizon in ticks")
     parser.add_argument("--core", type=int, default=last_core(), metavar="K", help="the core that the threads run on")
@@ -43,14 +47,14 @@ def words_of(words: list[str]) -> argparse.Namespace:
                         help="let signal handlers run while their thread waits for a mutex, a condition or the end of a thread")
     parser.add_argument("--program", metavar="WORDS", help="what says which trace is due; without it PSE52 of the environment, "
                         "or the proved program that bin/pse52 runs, or the reference")
-    said = parser.parse_args(words)
+    said = parser.read(words)
     if said.horizon < 0 or said.times < 1:
-        parser.error("N is at least 0, and T at least 1")
+        raise Usage("N is at least 0, and T at least 1")
     return said
 
 
 def say(text: str) -> None:
-    print(f"pse52-live: {text}", file=sys.stderr)
+    command.say(TOOL, text)
 
 
 def report(result: Result, side: Side) -> Status:
@@ -87,15 +91,12 @@ def carry_out(said: argparse.Namespace) -> Status:
     return report(result, side)
 
 
-def main(words: list[str]) -> int:
+def carefully(words: list[str]) -> int:
+    """Does what the words ask for, where this machine lets it."""
     why = why_not() or refused_by_kernel()
     if why is not None and not {"-h", "--help"} & set(words):
-        say(why)
-        return Status.NOT_ALLOWED
-    try:
-        said = words_of(words)
-    except SystemExit as ended:
-        return Status.SAME if ended.code == 0 else Status.USAGE
+        raise NotAllowed(why)
+    said = words_of(words)
     try:
         build()
         return carry_out(said)
@@ -106,15 +107,12 @@ def main(words: list[str]) -> int:
         for line in cannot.lines:
             say(f"cannot run this: {line}")
         return Status.CANNOT_RUN
-    except (TooLong, OSError) as wrong:
-        say(str(wrong))
-        return Status.USAGE
-    except NotAllowed as wrong:
-        say(str(wrong))
-        return Status.NOT_ALLOWED
-    except (NoTrace, NotBuilt, NoLog, NotALog) as missing:
-        say(str(missing))
-        return Status.NOT_BUILT
     except (Interrupted, KeyboardInterrupt) as interrupted:
         say("interrupted; the settings of the kernel are as they were")
         return Status.INTERRUPTED + getattr(interrupted, "number", signal.SIGINT)
+
+
+def main(words: list[str]) -> int:
+    return carried_out(TOOL, lambda: carefully(words), {
+        TooLong: Status.USAGE, NotAllowed: Status.NOT_ALLOWED, OSError: Status.USAGE,
+        **dict.fromkeys((NoTrace, NotBuilt, NoLog, NotALog), Status.NOT_BUILT)})

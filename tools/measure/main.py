@@ -2,14 +2,12 @@
 from __future__ import annotations
 
 import argparse
-import os
-import sys
 import tomllib
-from enum import IntEnum
 from pathlib import Path
 
+from command import Status, Usage, Words, carried_out, say, standard_input, write
 from view.lines import NotATraceLine, read_trace
-from view.source import TOP, NoSource, detail_of, horizon_of
+from view.source import NoSource, detail_of
 
 from .jobs import NamesNothing, SLEEP
 from .measures import Measure, WrongMeasure, measure_of, measure_of_words
@@ -28,35 +26,15 @@ Without --script the trace comes on standard input.
 A job of a periodic thread counts from its release, whether or not the thread waited for it."""
 
 
-class Status(IntEnum):
-    """The exit statuses, those of pse52 where they mean the same."""
-
-    DONE = 0
-    USAGE = 1
-    REFUSED = 2
-    READ_FAULT = 4
-    WRITE_FAULT = 5
-
-
-class Usage(Exception):
-    """What is wrong with the words of the command."""
-
-
-class _Parser(argparse.ArgumentParser):
-    def error(self, message: str) -> None:
-        raise Usage(message)
-
-
 def words_of(words: list[str]) -> argparse.Namespace:
-    parser = _Parser(prog=TOOL, description=HELP, formatter_class=argparse.RawDescriptionHelpFormatter, allow_abbrev=False)
-    parser.add_argument("--version", action="version", version=f"{TOOL} {(TOP / 'VERSION').read_text().strip()}")
+    parser = Words(TOOL, HELP)
     parser.add_argument("--script", type=Path, metavar="FILE", help="run this script, in place of a trace on standard input")
     parser.add_argument("--horizon", type=int, metavar="N", help="for so many ticks; without it as a comment '# horizon N' on line 1 says")
     parser.add_argument("--jobs", action="append", default=[], metavar="WORDS", help="measure jobs; it may come several times")
     parser.add_argument("--measures", type=Path, metavar="FILE", help="measure the jobs that the tables [[measure]] of this file say")
     parser.add_argument("--csv", action="store_true", help="write one CSV: table, of, what, figure, value")
     parser.add_argument("--rta", action="store_true", help="also the periodic tasks of the script, and the response times that are proved for them")
-    said = parser.parse_args(words)
+    said = parser.read(words)
     if said.script is None and (said.horizon is not None or said.rta):
         raise Usage("--horizon and --rta need --script FILE")
     if said.horizon is not None and not 0 <= said.horizon <= 10**18:
@@ -79,14 +57,8 @@ def measures_of(said: argparse.Namespace) -> list[Measure]:
 def seen_of(said: argparse.Namespace) -> Seen:
     """The trace or detail that is measured."""
     if said.script is None:
-        if sys.stdin is None:
-            raise OSError(9, os.strerror(9))
-        return Seen(read_trace(sys.stdin.buffer))
-    script = said.script.read_bytes()
-    horizon = horizon_of(script) if said.horizon is None else said.horizon
-    if horizon is None:
-        raise Usage("--horizon N says for how many ticks the script runs")
-    return Seen(read_trace(detail_of(script, horizon, TOOL)))
+        return Seen(read_trace(standard_input()))
+    return Seen(read_trace(detail_of(said.script.read_bytes(), said.horizon, TOOL)))
 
 
 def check(seen: Seen, measures: list[Measure]) -> list[str]:
@@ -119,26 +91,12 @@ def heading(seen: Seen) -> str:
     return f"{seen.end} ticks, of which the processor ran for {busy} ({share(busy, seen.end) or '0%'}) and was idle for {idle}\n\n"
 
 
-def write(text: str) -> Status:
-    try:
-        if sys.stdout is None:
-            raise OSError(9, os.strerror(9))
-        sys.stdout.write(text)
-        sys.stdout.flush()
-    except OSError as error:
-        print(f"{TOOL}: the output was not written: {error.strerror}", file=sys.stderr)
-        if sys.stdout is not None:
-            os.dup2(os.open(os.devnull, os.O_WRONLY), sys.stdout.fileno())
-        return Status.WRITE_FAULT
-    return Status.DONE
-
-
 def measured(said: argparse.Namespace) -> str:
     """The text that is written."""
     measures = measures_of(said)
     seen = seen_of(said)
     for note in check(seen, measures):
-        print(f"{TOOL}: {note}", file=sys.stderr)
+        say(TOOL, note)
     tables = list(tables_of(seen, measures))
     if not said.rta:
         return as_csv(tables) if said.csv else heading(seen) + as_text(tables)
@@ -149,20 +107,6 @@ def measured(said: argparse.Namespace) -> str:
     return as_csv(tables) if said.csv else heading(seen) + as_text(tables) + remarks(analysis)
 
 
-def main(words: list[str]) -> Status:
-    try:
-        return write(measured(words_of(words)))
-    except SystemExit as ended:
-        return Status.DONE if ended.code == 0 else Status.USAGE
-    except Usage as wrong:
-        print(f"{TOOL}: {wrong}; --help tells all", file=sys.stderr)
-        return Status.USAGE
-    except NotATraceLine as wrong:
-        print(f"{TOOL}: {wrong}", file=sys.stderr)
-        return Status.REFUSED
-    except (NamesNothing, WrongMeasure, NoSource, NoTask) as wrong:
-        print(f"{TOOL}: {wrong}", file=sys.stderr)
-        return Status.REFUSED
-    except OSError as error:
-        print(f"{TOOL}: {error.filename or 'the trace'} was not read: {error.strerror}", file=sys.stderr)
-        return Status.READ_FAULT
+def main(words: list[str]) -> int:
+    return carried_out(TOOL, lambda: write(TOOL, measured(words_of(words))),
+                       dict.fromkeys((NotATraceLine, NamesNothing, WrongMeasure, NoSource, NoTask), Status.REFUSED))

@@ -136,7 +136,7 @@ class NotATraceLine(Exception):
         self.number, self.text, self.why = number, text, why
 
     def __str__(self) -> str:
-        return f"line {self.number} is no trace line, since {self.why}: {self.text}"
+        return f"line {self.number} is no trace line, since {self.why}" + (f": {self.text}" if self.text else "")
 
 
 class _Wrong(Exception):

@@ -3,29 +3,28 @@ from __future__ import annotations
 
 import argparse
 import gc
-import os
 import re
 import shutil
 import sys
 from collections.abc import Callable
-from enum import IntEnum
 from importlib import import_module
 from pathlib import Path
 
+from command import Status, Usage, Words, carried_out, standard_input, write
 from measure.jobs import NamesNothing
 from measure.measures import WrongMeasure, measure_of_words
 
 from .lines import NotATraceLine, Trace, read_trace
 from .progress import Progress
 from .releases import mark_jobs
-from .source import TOP, NoSource, detail_of, horizon_of
+from .source import NoSource, detail_of
 from .seen import timeline_of
 from .timeline import Timeline
 from .window import NoWindow, window
 
 TOOL = "pse52-view"
 FORMATS = ("text", "svg", "html", "vcd", "perfetto", "ftrace", "trace.dat")
-WIDE, WITH_LISTS = ("text", "svg"), ("text", "svg")
+WIDE, WITH_LISTS, OF_LINUX = ("text", "svg"), ("text", "svg"), ("ftrace", "trace.dat")
 TICK = re.compile(r"([1-9][0-9]{0,5})(ns|us|ms|s)")
 HELP = """FORMAT is one of
   text      a time line for a terminal; --width is its columns
@@ -38,25 +37,6 @@ HELP = """FORMAT is one of
 
 What is drawn is FILE, or standard input: a trace, a detail, or a script. A script is run for as many ticks as --horizon says,
 or as its first line does, # horizon N. A trace alone does not tell why a thread does not run; a detail or a script does."""
-
-
-class Status(IntEnum):
-    """The exit statuses, those of pse52 where they mean the same."""
-
-    DONE = 0
-    USAGE = 1
-    REFUSED = 2
-    READ_FAULT = 4
-    WRITE_FAULT = 5
-
-
-class Usage(Exception):
-    """What is wrong with the words of the command."""
-
-
-class _Parser(argparse.ArgumentParser):
-    def error(self, message: str) -> None:
-        raise Usage(message)
 
 
 def _number(word: str) -> int:
@@ -79,8 +59,7 @@ def _tick(word: str) -> str:
 
 def command_of(words: list[str]) -> argparse.Namespace:
     """What the words ask for. Raises Usage."""
-    parser = _Parser(prog=TOOL, description=HELP, formatter_class=argparse.RawDescriptionHelpFormatter, allow_abbrev=False)
-    parser.add_argument("--version", action="version", version=f"{TOOL} {(TOP / 'VERSION').read_text().strip()}")
+    parser = Words(TOOL, HELP)
     parser.add_argument("format", choices=FORMATS, metavar="FORMAT")
     parser.add_argument("file", nargs="?", type=Path, metavar="FILE")
     parser.add_argument("--script", type=Path, metavar="FILE", help="a script to run, in place of FILE")
@@ -89,12 +68,12 @@ def command_of(words: list[str]) -> argparse.Namespace:
     parser.add_argument("--to", dest="end", type=_number, metavar="N", help="end it at this one")
     parser.add_argument("--threads", type=lambda word: word.split(","), metavar="A,B", help="only these threads, in this order")
     parser.add_argument("--title", metavar="TEXT", help="a title; without it the name of the script")
-    parser.add_argument("--tick", type=_tick, metavar="1us", help="how long a tick is; without it 1 ns in the formats that have no ticks")
+    parser.add_argument("--tick", type=_tick, metavar="1us", help="how long a tick is; without it 1 us for ftrace and trace.dat, 1 ns for vcd and perfetto")
     parser.add_argument("--jobs", action="append", default=[], metavar="WORDS",
                         help="mark releases and missed deadlines, as 'thread=lo period=20 deadline=15'; the words are those of pse52-measure")
     parser.add_argument("--lists", action="store_true", help="text and svg: also who stands on which list, head first")
     parser.add_argument("--width", type=_width, metavar="N", help="text and svg: columns or pixels")
-    said = parser.parse_args(words)
+    said = parser.read(words)
     if said.script is not None and said.file is not None:
         raise Usage("--script FILE stands in place of FILE")
     if said.width is not None and said.format not in WIDE:
@@ -116,38 +95,17 @@ def terminal_width(name: str, width: int | None) -> int | None:
     return width
 
 
-def write(text: str | bytes) -> Status:
-    try:
-        if sys.stdout is None:
-            raise OSError(9, os.strerror(9))
-        sys.stdout.buffer.write(text if isinstance(text, bytes) else text.encode())
-        sys.stdout.buffer.flush()
-    except OSError as error:
-        print(f"{TOOL}: the output was not written: {error.strerror}", file=sys.stderr)
-        if sys.stdout is not None:
-            # What is left in the buffer must not be written, and complained about, at the end of the process.
-            os.dup2(os.open(os.devnull, os.O_WRONLY), sys.stdout.fileno())
-        return Status.WRITE_FAULT
-    return Status.DONE
-
-
 def traced(said: argparse.Namespace, progress: Progress) -> tuple[Trace, str]:
     """What is drawn, and its title where it has one: a script is run for its detail."""
     path = said.script or said.file
-    if path is None and sys.stdin is None:
-        raise OSError(9, os.strerror(9))
-    source = path.open("rb") if path else sys.stdin.buffer
+    source = path.open("rb") if path else standard_input()
     first = source.peek(1)[:1]
     if said.script is None and (not first or first.isdigit() or first == b"r"):
         if said.horizon is not None:
             raise Usage("--horizon is for a script, and this is none")
         return read_trace(source, progress.lines), ""
-    script = source.read()
-    horizon = horizon_of(script) if said.horizon is None else said.horizon
-    if horizon is None:
-        raise Usage("--horizon N says for how many ticks the script is run")
     progress.say("running the script")
-    return read_trace(detail_of(script, horizon, TOOL), progress.lines), path.stem if path else ""
+    return read_trace(detail_of(source.read(), said.horizon, TOOL), progress.lines), path.stem if path else ""
 
 
 def picture(said: argparse.Namespace, progress: Progress) -> str | bytes:
@@ -157,31 +115,22 @@ def picture(said: argparse.Namespace, progress: Progress) -> str | bytes:
     seen: Timeline = timeline_of(trace)
     mark_jobs(seen, [measure_of_words(words) for words in said.jobs])
     seen = window(seen, said.start, said.end, said.threads)
-    seen.title, seen.tick = title if said.title is None else said.title, said.tick or ""
+    seen.title = title if said.title is None else said.title
+    seen.tick = said.tick or ("1us" if said.format in OF_LINUX else "")
     if said.format in WITH_LISTS:
         return drawer(said.format)(seen, terminal_width(said.format, said.width), said.lists)
     return drawer(said.format)(seen)
 
 
-def main(words: list[str]) -> Status:
-    progress = Progress()
+def main(words: list[str]) -> int:
     # A long trace is many small values and no cycles, and the process ends after its one picture.
     gc.disable()
-    try:
-        text = picture(command_of(words), progress)
-    except SystemExit as ended:
-        return Status.DONE if ended.code == 0 else Status.USAGE
-    except Usage as wrong:
-        return _refused(progress, f"{wrong}; --help tells all", Status.USAGE)
-    except (NotATraceLine, NoSource, NoWindow, NamesNothing, WrongMeasure) as wrong:
-        return _refused(progress, str(wrong), Status.REFUSED)
-    except OSError as error:
-        return _refused(progress, f"{error.filename or 'the trace'} was not read: {error.strerror}", Status.READ_FAULT)
-    progress.done()
-    return write(text)
+    progress = Progress()
 
-
-def _refused(progress: Progress, why: str, status: Status) -> Status:
-    progress.done()
-    print(f"{TOOL}: {why}", file=sys.stderr)
-    return status
+    def work() -> Status:
+        try:
+            text = picture(command_of(words), progress)
+        finally:
+            progress.done()
+        return write(TOOL, text)
+    return carried_out(TOOL, work, dict.fromkeys((NotATraceLine, NoSource, NoWindow, NamesNothing, WrongMeasure), Status.REFUSED))

@@ -8,6 +8,8 @@ import subprocess
 import sys
 from pathlib import Path
 
+from command import Usage
+
 TOP = Path(__file__).resolve().parents[2]
 REFERENCE = TOP / "tools" / "reference" / "simulate.py"
 RESPONSE_TIMES = TOP / "tools" / "reference" / "response_times.py"
@@ -83,6 +85,10 @@ def _why(ended: subprocess.CompletedProcess[bytes]) -> str:
     return f"the program ended with the status {ended.returncode}" + (f": {said[-1]}" if said else "")
 
 
-def detail_of(script: bytes, horizon: int, tool: str) -> list[bytes]:
-    """The lines of the detail of a script."""
+def detail_of(script: bytes, horizon: int | None, tool: str) -> list[bytes]:
+    """The lines of the detail of a script, for so many ticks, or as many as its first line says. Raises Usage and NoSource."""
+    if horizon is None:
+        horizon = horizon_of(script)
+    if horizon is None:
+        raise Usage("--horizon N says for how many ticks the script is run")
     return answer(["detail", str(horizon)], script, REFERENCE, tool).splitlines(keepends=True)

@@ -83,6 +83,7 @@ class Builder:
         self.end: int | None = None
         self.line = 0
         self.strict: set[str] = set()
+        self.changed = 0
 
     def track(self, name: str) -> Track:
         track = self.tracks.get(name)
@@ -137,6 +138,8 @@ class Builder:
         else:
             track = self.mark(event, MarkKind.ERROR, event.result)
         track.wakes(event.time, event.call)
+        if event.call == "setsched" and event.result == "0":
+            self.changed = event.time
 
     def cancel(self, event: Cancel) -> None:
         self.mark(event, MarkKind.CANCEL).wakes(event.time, "cancelled")
@@ -152,8 +155,15 @@ class Builder:
         track = self.mark(event, MarkKind.ACTIVATE)
         if isinstance(self.trace.events[self.line - 1], Dispatch):
             self.strict.add(event.name)
+            self.was_full(track, event.capacity)
         track.set_capacity(event.time, event.capacity)
         track.high = True
+
+    def was_full(self, track: Track, budget: int) -> None:
+        """A strict server is new, and full, from its thread's start on or a change of parameters; that is told where it first runs, or at the end."""
+        starts = [mark.time for mark in track.line.marks if mark.kind is MarkKind.START]
+        if starts and track.capacity is None:
+            track.capacity, track.capacity_since = budget, max(starts[-1], self.changed)
 
     def exhaust(self, event: Exhaust) -> None:
         track = self.mark(event, MarkKind.EXHAUST)
@@ -190,7 +200,11 @@ class Builder:
         self.end = event.time
 
     def closing(self, event: Closing) -> None:
-        self.track(event.name).line.closing = event
+        track = self.track(event.name)
+        track.line.closing = event
+        if event.budget is not None and event.budget.high == 0 and self.end is not None:
+            self.was_full(track, event.budget.init)
+            track.hold(self.end)
 
     def finish(self, time: int) -> None:
         """The run is over: each stretch that is open ends here."""

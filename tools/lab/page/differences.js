@@ -1,6 +1,6 @@
 // What differs between two scripts, and between two runs.
 const NO_WORDS = { words: [], lines: [] };
-const MOST_LINES = 1500;
+const MOST_LINES = 1500, MOST_SHIFT = 20;
 
 // Pairs of line numbers of the longest common part of two lists of lines.
 function common(one, other) {
@@ -15,6 +15,19 @@ function common(one, other) {
   return pairs;
 }
 const wordsOf = (line) => [...line.matchAll(/\S+/g)];
+const shared = (one, other) => { const words = wordsOf(one).map((word) => word[0]); return wordsOf(other).filter((word) => words.includes(word[0])).length; };
+
+// Pairs of two lists: the shorter one lies beside the longer where the pairs are most alike, and null stands beside the rest.
+function paired(one, other, alike) {
+  const long = Math.max(one.length, other.length), room = long - Math.min(one.length, other.length), at = (list, shift, n) => list[list.length < long ? n - shift : n] ?? null;
+  let best = 0, most = -1;
+  for (let shift = 0; shift <= Math.min(room, MOST_SHIFT); shift++) {
+    let sum = 0;
+    for (let n = 0; n < long; n++) { const a = at(one, shift, n), b = at(other, shift, n); if (a !== null && b !== null) sum += alike(a, b); }
+    if (sum > most) { most = sum; best = shift; }
+  }
+  return Array.from({ length: long }, (_, n) => [at(one, best, n), at(other, best, n)]);
+}
 
 // The words of `now` that `kept` does not have, with their places, and the lines that differ: [number, kept, now].
 export function scriptsDiffer(kept, now) {
@@ -22,12 +35,13 @@ export function scriptsDiffer(kept, now) {
   if (one.length > MOST_LINES || other.length > MOST_LINES) return NO_WORDS;
   let i = 0, j = 0;
   for (const [endI, endJ] of [...common(one, other), [one.length, other.length]]) {
-    for (let n = 0; n < Math.max(endI - i, endJ - j); n++) {
-      const before = i + n < endI ? one[i + n] : null, after = j + n < endJ ? other[j + n] : null;
-      lines.push([after === null ? null : j + n + 1, before, after]);
+    const numbers = Array.from({ length: endJ - j }, (_, n) => j + n);
+    for (const [before, number] of paired(one.slice(i, endI), numbers, (text, at) => shared(text, other[at]))) {
+      const after = number === null ? null : other[number];
+      lines.push([after === null ? null : number + 1, before, after]);
       if (after === null) continue;
       const had = before === null ? [] : wordsOf(before).map((word) => word[0]);
-      wordsOf(after).forEach((word, place) => { if (had[place] !== word[0]) places.push({ line: j + n, from: word.index, to: word.index + word[0].length }); });
+      wordsOf(after).forEach((word, place) => { if (had[place] !== word[0]) places.push({ line: number, from: word.index, to: word.index + word[0].length }); });
     }
     i = endI + 1; j = endJ + 1;
   }

@@ -10,7 +10,8 @@ import * as sweep from "./sweep.js";
 const element = (id) => document.getElementById(id);
 const HORIZON = /^\s*#\s*horizon (\d+)\b/;
 let about, editor, pictures, runs;
-let example = null, kept = null, cursor = 0n, ran = null, difference = { threads: {}, instants: [] }, quiet = false, showing = false, pressedAt = 0;
+const NONE = { threads: {}, instants: [] };
+let example = null, kept = null, keptRan = null, cursor = 0n, ran = null, difference = NONE, compared = false, quiet = false, showing = false, pressedAt = 0;
 
 const script = () => editor.text();
 const horizon = () => element("horizon").value.trim();
@@ -47,7 +48,7 @@ function shownA(told, wanted) {
 // Shows a run in a pane, with its cursor at the tick of the page, which stays where a run is shorter than that.
 function put(pane, data) {
   showing = true;
-  pictures[pane].show(data); pictures[pane].goTo(cursor);
+  pictures[pane].show(data, cursor);
   showing = false;
 }
 
@@ -55,10 +56,11 @@ function put(pane, data) {
 
 function shownB(told) {
   if (!told.data) { say(told.why || "the kept script is refused"); return; }
+  keptRan = told;
   put("b", told.data); compare();
 }
 function keep(text) {
-  kept = text;
+  kept = text; keptRan = null;
   const two = kept !== null;
   element("beside").setAttribute("aria-pressed", String(two));
   element("figure_b").hidden = element("compared").hidden = !two;
@@ -67,12 +69,14 @@ function keep(text) {
   compare(); remember();
 }
 function compare() {
-  if (kept === null || !ran) { difference = { threads: {}, instants: [] }; editor.changed([]); pictures.a.differ({}); pictures.b.differ({}); return; }
+  if (!ran || !keptRan) { forgetDifferences(); return; }
+  compared = true;
   const words = scriptsDiffer(kept, script());
   editor.changed(words.words);
   element("words").replaceChildren(...words.lines.slice(0, 40).map(([number, before, after]) => {
     const line = document.createElement("li");
-    line.append((number === null ? "gone" : "line " + number) + ": ", before === null ? "" : before.trim() + " ", after === null ? "" : "→ ", Object.assign(document.createElement("mark"), { textContent: after === null ? "" : after.trim() }));
+    const mark = Object.assign(document.createElement("mark"), { textContent: after === null ? "" : after.trim() });
+    line.append((number === null ? "gone" : "line " + number) + ": ", before === null ? "" : before.trim() + " ", after === null ? "" : "→ ", mark);
     return line;
   }));
   difference = runsDiffer(pictures.b.data(), pictures.a.data());
@@ -80,6 +84,12 @@ function compare() {
   const count = difference.instants.length;
   element("differs").textContent = count ? "The runs differ at " + count + (count === 1 ? " instant" : " instants") + ", first at " + difference.instants[0] + "." : "The runs do not differ.";
   element("next").disabled = !count;
+}
+function forgetDifferences() {
+  if (!compared) return;
+  compared = false; difference = NONE;
+  editor.changed([]); pictures.a.differ({}); pictures.b.differ({});
+  element("differs").textContent = ""; element("words").replaceChildren(); element("next").disabled = true;
 }
 function nextDifference() {
   if (!difference.instants.length) return;
@@ -137,7 +147,8 @@ function now() {
 function remember() { if (!quiet) toAddress(now); }
 function readAddress() {
   const said = fromAddress(), of = about.gallery.find((one) => one.name === said.example) || null;
-  if (of || said.script !== null) start({ text: said.script !== null ? said.script : of.script, of, ticks: said.horizon || (of ? String(of.horizon) : ""), at: said.cursor ? BigInt(said.cursor) : 0n, beside: said.beside });
+  if (of || said.script !== null) start({ text: said.script !== null ? said.script : of.script, of, ticks: said.horizon || (of ? String(of.horizon) : ""),
+    at: said.cursor ? BigInt(said.cursor) : 0n, beside: said.beside });
   else if (about.gallery.length) begin(about.gallery[0].name);
   else start({ text: "thread a fifo 5 at 0\n    run 3\nend\n" });
 }
@@ -168,11 +179,14 @@ function moved(side, tick) {
   if (!pictures || showing) return;
   cursor = tick;
   const other = pictures[side === "a" ? "b" : "a"];
+  // The other one follows; where its run is shorter, or not there yet, it stands at its end, and the cursor does not.
+  showing = true;
   if (kept !== null && other.tick() !== tick) other.goTo(tick);
+  showing = false;
   remember();
 }
 window.addEventListener("keydown", (key) => {
-  pressedAt = performance.now();
+  pressedAt = key.timeStamp;
   const typing = ["INPUT", "TEXTAREA", "SELECT"].includes(key.target.tagName) || key.target.isContentEditable;
   if ((typing && !key.ctrlKey) || key.altKey || key.metaKey) return;
   const onButton = key.target.tagName === "BUTTON" && (key.key === "Enter" || key.key === " ");

@@ -1,5 +1,6 @@
 // One picture of the page to work in. The page around it gives it data, a cursor and what differs, and hears of its keys and its cursor.
-const EMPTY = { ticks: ["0", "1"], places: [0, 1], cuts: [], detail: true, threads: [], colours: {}, shown: {}, kinds: {}, words: {}, frames: [], mutexes: [], wakes: [], facts: {}, lines: [], at: [] };
+const EMPTY = { ticks: ["0", "1"], places: [0, 1], cuts: [], detail: true, threads: [], colours: {}, shown: {}, kinds: {}, words: {},
+  frames: [], mutexes: [], wakes: [], facts: {}, lines: [], at: [] };
 const side = window.frameElement ? window.frameElement.id : "a";
 let differing = {}, fits = true;
 
@@ -7,14 +8,21 @@ const tickNow = () => tickAt(place).tick;
 const inRun = (tick) => tick < ticks[0] ? ticks[0] : tick > ticks[last] ? ticks[last] : tick;
 const isWhole = () => scale <= Math.max(1, width - gutter - 24) / total * 1.0001;
 
-// Shows a run. The cursor stays at its tick, and so does what is zoomed at.
-function show(given) {
-  const tick = tickNow(), from = tickAt(Math.max(0, left)).tick;
-  take(given); measure();
-  place = placeOfTick(inRun(tick)); second = second === null ? null : inRun(second);
+// Shows a run with the cursor at a tick. What is zoomed at stays. What differs from another run is drawn with it, where that is said.
+function show(given, tick) {
+  const from = tickAt(Math.max(0, left)).tick, moves = tick !== tickNow();
+  take(given); measure(); overview(); legend();
+  place = placeOfTick(inRun(tick)); held = true; second = second === null ? null : inRun(second);
   if (fits) scale = 0; else left = placeOfTick(inRun(from));
   width = canvas.clientWidth; height = canvas.clientHeight;
-  clampView(); legend(); draw(); tell();
+  clampView();
+  if (moves) reveal();
+  tell(); drawSoon();
+}
+// Draws in the next frame, once, however many things of it have changed.
+let asked = 0;
+function drawSoon() {
+  asked = asked || requestAnimationFrame(() => { asked = 0; draw(); });
 }
 function goTo(tick) { held = true; moveTo(placeOfTick(inRun(tick))); }
 function press(name) { if (!KEYS[name]) return false; KEYS[name](); return true; }
@@ -24,7 +32,9 @@ function paintDifferences(bars) {
     for (const [from, to] of differing[thread.name] || []) {
       if (from > ticks[last]) continue;
       const x = Math.max(gutter, xOf(placeOfTick(inRun(from)))), end = xOf(placeOfTick(inRun(to)));
-      if (end > gutter && x < width) { pen.globalAlpha = 0.13; pen.fillRect(x, bars[number] - 2, Math.max(2, end - x), sizes.bar + 5); pen.globalAlpha = 1; pen.fillRect(x, bars[number] + sizes.bar + 1, Math.max(2, end - x), 3); }
+      if (end <= gutter || x >= width) continue;
+      pen.globalAlpha = 0.13; pen.fillRect(x, bars[number] - 2, Math.max(2, end - x), sizes.bar + 5);
+      pen.globalAlpha = 1; pen.fillRect(x, bars[number] + sizes.bar + 1, Math.max(2, end - x), 3);
     }
   });
 }
@@ -45,5 +55,5 @@ new ResizeObserver(() => { if (fits) showAll(); else resized(); }).observe(canva
 for (const done of ["wheel", "keydown", "click", "pointermove"]) window.addEventListener(done, () => setTimeout(() => { if (canvas.clientWidth) fits = isWhole(); }));
 take(EMPTY); measure(); setDark(false); showAll();
 // Not `picture`: that is the canvas, by its id.
-window.pane = { show, goTo, press, dark: setDark, tick: tickNow, focus: () => canvas.focus(), differ(threads) { differing = threads; draw(); },
-  data: () => data, redraw: draw };
+window.pane = { show, goTo, press, dark: setDark, tick: tickNow, focus: () => canvas.focus(), differ(threads) { differing = threads; drawSoon(); },
+  data: () => data };

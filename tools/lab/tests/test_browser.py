@@ -20,6 +20,8 @@ INHERIT = (TOP / "examples" / "05_inherit.task").read_text()
 # How long a picture may take from the last key on, and a frame while a long run is stepped through, in milliseconds.
 PICTURE, FRAME = 200, 100
 KEYS = 5
+DRAWN = "return lab.drawn === document.querySelector('.CodeMirror').CodeMirror.getValue()"
+NAMES = "return fetch('about.json').then((said) => said.json()).then((about) => about.gallery.map((one) => one.name))"
 
 
 def has_codemirror() -> bool:
@@ -198,6 +200,27 @@ class Page(InBrowser):
         self.does("document.getElementById('beside').click()")
         self.assertEqual(self.does("return document.getElementById('figure_b').hidden"), True)
 
+    def test_a_line_more_and_a_word_changed(self) -> None:
+        """The line that is new is told as such, and of the changed one the word alone is marked."""
+        self.open("#example=25_budget_in_a_window")
+        self.does("[...document.querySelectorAll('#changes button')].find((button) => button.textContent === 'make it strict').click()")
+        self.until("return document.getElementById('differs').textContent.startsWith('The runs differ')")
+        self.assertEqual(self.does("return [...document.querySelectorAll('#words li')].map((li) => li.textContent)"),
+                         ["line 9: → version 2", "line 10: thread server sporadic 8 2 10 3 4 at 2 → thread server strict 8 2 10 3 4 at 2"])
+        if not self.is_plain:
+            self.assertEqual(self.does("return [...document.querySelectorAll('.CodeMirror .changed')].map((word) => word.textContent)"), ["version", "2", "strict"])
+        self.does("document.getElementById('a').contentWindow.pane.goTo(7n)")
+        self.assertEqual([self.table("Budgets", frame) for frame in "ab"], [["server | capacity 3"]] * 2)
+
+    def test_a_run_that_is_shorter(self) -> None:
+        """The kept run is killed at 32: the cursor goes on in the other one."""
+        self.open("#example=07_pathfinder")
+        self.does("[...document.querySelectorAll('#changes button')].find((button) => button.textContent === 'make it inherit').click()")
+        self.until("return document.getElementById('differs').textContent.startsWith('The runs differ')")
+        self.does("document.getElementById('a').contentWindow.pane.goTo(50n)")
+        self.assertEqual([self.in_frame("pane.tick().toString()", frame) for frame in "ab"], ["50", "32"])
+        self.until("return location.hash.includes('cursor=50')")
+
     def test_a_link_opened_again(self) -> None:
         self.open("#example=04_inversion&horizon=30")
         self.does("[...document.querySelectorAll('#changes button')].find((button) => button.textContent === 'let medium run 14').click()")
@@ -226,6 +249,17 @@ class Page(InBrowser):
         self.assertEqual(len(self.driver.find_elements("css selector", "#changes button")), 3)
         self.assertEqual(self.does("return document.getElementById('horizon').value"), "120")
         self.shot("controller")
+
+    def test_the_overview_of_a_long_run(self) -> None:
+        self.open("#example=20_controller&horizon=120")
+        self.assertTrue(self.in_frame("element('overview').hidden", "a"))
+        self.does("const horizon = document.getElementById('horizon'); horizon.value = '2000'; horizon.dispatchEvent(new Event('input'))")
+        self.until("return document.getElementById('a').contentWindow.pane.data().ticks.at(-1)", "2000")
+        self.assertFalse(self.in_frame("element('overview').hidden", "a"))
+        self.in_frame("(zoom(20, gutter), slider.value = placeOfTick(1500n) / total, slider.dispatchEvent(new Event('input')))", "a")
+        self.assertTrue(self.in_frame("xOf(place) > gutter && xOf(place) < width && left > 0", "a"))
+        self.until("return location.hash.includes('cursor=1500')")
+        self.shot("overview")
 
     def test_dark_and_light(self) -> None:
         self.open("#example=20_controller&cursor=27")
@@ -292,32 +326,63 @@ class Speed(InBrowser):
             self.skipTest("libjs-codemirror is not here")
         super().setUp()
 
-    def test_from_the_last_key_to_the_picture(self) -> None:
-        """Of each example, a digit is typed at the end of a comment and taken away, again and again."""
+    def choose(self, example: str) -> None:
+        self.does("const menu = document.getElementById('gallery'); menu.value = arguments[0]; menu.dispatchEvent(new Event('change'))", example)
+        self.until(DRAWN)
+
+    def latencies(self) -> list[float]:
+        """At the number of the first `run` a digit is typed and taken away, again and again."""
         from selenium.webdriver.common.keys import Keys
 
-        busy = os.getloadavg()[0] > (os.cpu_count() or 1)
-        figures = {}
-        self.open()
-        for example in self.does("return fetch('about.json').then((said) => said.json()).then((about) => about.gallery.map((one) => one.name))"):
-            self.does("const menu = document.getElementById('gallery'); menu.value = arguments[0]; menu.dispatchEvent(new Event('change'))", example)
-            self.until("return lab.drawn === document.querySelector('.CodeMirror').CodeMirror.getValue()")
-            self.does("const code = document.querySelector('.CodeMirror').CodeMirror; code.focus(); code.setCursor(0, 999)")
-            took = []
-            for number in range(KEYS):
-                self.press("7" if number % 2 == 0 else Keys.BACKSPACE)
-                self.until("return lab.drawn === document.querySelector('.CodeMirror').CodeMirror.getValue()")
-                took.append(float(str(self.does("return lab.latency"))))
-            self.assertTrue(all(took))
-            figures[example] = median(took), min(took)
-        middle, least = (max(figures, key=lambda name: figures[name][which]) for which in (0, 1))
-        print(f"from a key to the picture, of {len(figures)} examples, {KEYS} keys each: at most {figures[middle][0]:.0f} ms in the middle ({middle}), "
-              f"{figures[least][1]:.0f} ms at the quickest ({least}); load {os.getloadavg()[0]:.1f}")
-        # Where other work wants the processors too, what the page itself takes is seen of the quickest key; and of none where that is far more.
-        if figures[middle][0] >= PICTURE and os.getloadavg()[0] > 2 * (os.cpu_count() or 1):
-            print(f"skipped: how soon a picture is there, since other work has the processors, load {os.getloadavg()[0]:.0f}")
+        lines = self.script().splitlines()
+        line = next(number for number, text in enumerate(lines) if text.split()[:1] == ["run"])
+        self.does("const code = document.querySelector('.CodeMirror').CodeMirror; code.focus(); code.setCursor(arguments[0], 999)", line)
+        took = []
+        for number in range(KEYS):
+            before = self.in_frame("data.lines.join()", "a")
+            self.press("7" if number % 2 == 0 else Keys.BACKSPACE)
+            self.until(DRAWN)
+            self.changes += self.in_frame("data.lines.join()", "a") != before
+            took.append(float(str(self.does("return lab.latency"))))
+        return took
+
+    def judge(self, what: str, figures: dict[str, list[float]]) -> None:
+        """All figures are below PICTURE in the middle; where other work has the processors too, what the page itself takes is seen of the quickest."""
+        load, processors = os.getloadavg()[0], os.cpu_count() or 1
+        middle, least = (max(figures, key=lambda name: of(figures[name])) for of in (median, min))
+        print(f"{what}, {len(figures)} examples: at most {median(figures[middle]):.0f} ms in the middle ({middle}), "
+              f"{min(figures[least]):.0f} ms at the quickest ({least}); load {load:.1f}")
+        if "PSE52_SHOTS" in os.environ:
+            rows = [f"{name:24} middle {median(took):5.0f} ms, least {min(took):5.0f}, greatest {max(took):5.0f}\n" for name, took in figures.items()]
+            (Path(os.environ["PSE52_SHOTS"]) / f"{self.id().rpartition('.')[2]}.txt").write_text(f"{what}; load {load:.1f}\n" + "".join(rows))
+        if median(figures[middle]) >= PICTURE and load > 2 * processors:
+            print(f"skipped: {what}, since other work has the processors, load {load:.0f}")
             self.skipTest("the machine is busy")
-        self.assertLess(figures[least][1] if busy else figures[middle][0], PICTURE)
+        self.assertLess(min(figures[least]) if load > processors else median(figures[middle]), PICTURE)
+
+    def test_from_the_last_key_to_the_picture(self) -> None:
+        self.open()
+        self.changes, figures = 0, {}
+        for example in self.does(NAMES):
+            self.choose(example)
+            figures[example] = self.latencies()
+            self.assertTrue(all(figures[example]))
+        # Some runs are the same with another number, where the thread does not come so far.
+        self.assertGreater(self.changes, len(figures) * KEYS * 3 / 4)
+        self.judge("from a key to the picture", figures)
+
+    def test_from_the_last_key_of_a_word(self) -> None:
+        """Ten keys within less than a second, as they are typed: of the last one the picture is as soon there."""
+        self.open()
+        figures: dict[str, list[float]] = {}
+        for example in ("20_controller", "13_server_and_polling", "one_thread"):
+            self.choose(example)
+            self.does("const code = document.querySelector('.CodeMirror').CodeMirror; code.focus(); code.setCursor(0, 999)")
+            for _ in range(KEYS):
+                self.press(*"0123456789")
+                self.until(DRAWN)
+                figures.setdefault(example, []).append(float(str(self.does("return lab.latency"))))
+        self.judge("from the last of ten keys to the picture", figures)
 
     def test_a_long_run_stays_fluid(self) -> None:
         """64 threads and 100,000 lines: stepping, zooming and panning, each up to the end of its frame."""
@@ -333,8 +398,11 @@ class Speed(InBrowser):
         self.driver.set_script_timeout(120)
         frames = self.driver.execute_async_script("""const done = arguments[arguments.length - 1], took = {};
             const next = () => new Promise((go) => requestAnimationFrame(() => setTimeout(go)));
-            const measure = async (name, does) => { took[name] = []; for (let n = 0; n < 25; n++) { await next(); const began = performance.now(); does(n); await next(); took[name].push(performance.now() - began); } };
+            const timed = async (does, n) => { await next(); const began = performance.now(); does(n); await next(); return performance.now() - began; };
+            const measure = async (name, does) => { took[name] = []; for (let n = 0; n < 25; n++) took[name].push(await timed(does, n)); };
             (async () => {
+              goTo(20000n);
+              await measure("the slider", (n) => { slider.value = n / 25; slider.dispatchEvent(new Event("input")); });
               goTo(20000n);
               await measure("a step", () => KEYS.ArrowRight()); await measure("an event", () => KEYS.n());
               await measure("zoom", () => zoom(1.5, 400)); await measure("pan", () => { left += 20 / scale; clampView(); draw(); });

@@ -2,14 +2,19 @@
 from __future__ import annotations
 
 import json
+import sys
+import tempfile
 import threading
 import time
 import unittest
 from pathlib import Path
 
-from lab.runs import trace_of
+TOOLS = Path(__file__).resolve().parents[2]
+sys.path.append(str(TOOLS / "reference"))
 
-from .served import TOP, Served, alive
+from lab.runs import NoRun, Sources, answer, run, trace_of  # noqa: E402
+
+from .served import TOP, Served, alive  # noqa: E402
 
 SCRIPT = b"thread a fifo 5 at 0\nrun 3\nend\n"
 # Takes the reference a minute: it ticks, and each yield is a line.
@@ -18,7 +23,7 @@ LONG = b"thread a fifo 5 at 0\nforever\nyield\nend\nend\n"
 
 class Server(unittest.TestCase):
     def setUp(self) -> None:
-        self.lab = Served("--seconds", "2")
+        self.lab = Served("--seconds", "4")
         self.addCleanup(self.lab.end)
 
     def test_the_page_and_a_run(self) -> None:
@@ -80,8 +85,8 @@ class Server(unittest.TestCase):
         self.lab.run(SCRIPT)
         began = time.monotonic()
         status, text, _ = self.lab.run(LONG, 9_000_000)
-        self.assertEqual((status, json.loads(text)), (200, {"why": "the run took longer than 2 s and was ended; take a smaller horizon"}))
-        self.assertLess(time.monotonic() - began, 20)
+        self.assertEqual((status, json.loads(text)), (200, {"why": "the run took longer than 4 s and was ended; take a smaller horizon"}))
+        self.assertLess(time.monotonic() - began, 40)
         status, text, _ = self.lab.run(SCRIPT, form="trace")
         self.assertIn("4 exit a", json.loads(text)["text"])
 
@@ -114,6 +119,40 @@ class Program(unittest.TestCase):
     def test_the_trace_in_a_detail(self) -> None:
         detail = b"0 start list\n0 dispatch list 5\n0 list 5 list\n0 thread list ready 5 5\n4 end\nthread list ticks 4\n"
         self.assertEqual(trace_of(detail), b"0 start list\n0 dispatch list 5\n4 end\nthread list ticks 4\n")
+
+    def program(self, text: str) -> list[str]:
+        """The words of a program that does what this text of a shell says."""
+        file = Path(self.enterContext(tempfile.TemporaryDirectory())) / "pse52"
+        file.write_text(text)
+        return ["sh", str(file)]
+
+    def test_a_program_of_another_version(self) -> None:
+        """It refuses what has no fault: the reference makes the trace, and the page says so."""
+        old = Sources(self.program("echo 'refused 9 2 UnknownWord'; [ $1 = run ] && exit 2; exit 1"))
+        script = (TOP / "examples" / "26_strict_window.task").read_bytes()
+        ran = run(script, 26, old)
+        self.assertEqual((ran.trace_by, ran.facts_by), ("the reference", "the reference"))
+        self.assertEqual(ran.trace, (TOP / "examples" / "26_strict_window.trace").read_bytes())
+        self.assertIn("does not take this script (refused 9 2 UnknownWord)", str(answer(script, 26, "picture", "", old)["warning"]))
+
+    def test_a_program_that_says_otherwise(self) -> None:
+        liar = Sources(self.program("[ $1 = run ] || exit 1; printf '0 start a\\n0 dispatch a 5\\n3 exit a\\n3 idle\\n20 end\\nthread a ticks 3\\n'"))
+        self.assertIn("differ from line 3 of the trace on", run(SCRIPT, 20, liar).warning)
+        self.assertEqual(run(SCRIPT, 20, liar).facts_by, "the reference")
+
+    def test_a_program_that_fails(self) -> None:
+        with self.assertRaisesRegex(NoRun, "ended with the status 70: no space"):
+            run(SCRIPT, 20, Sources(self.program("[ $1 = run ] || exit 1; echo no space; exit 70")))
+        with self.assertRaisesRegex(NoRun, "cannot be started"):
+            run(SCRIPT, 20, Sources([str(TOP / "nothing")]))
+
+    def test_a_program_with_facts_and_a_long_trace(self) -> None:
+        """It writes more than a pipe holds before it is read."""
+        program = [sys.executable, str(TOOLS / "reference" / "simulate.py")]
+        script = LONG.replace(b"forever", b"loop 5000")
+        ran = run(script, 7000, Sources(program))
+        self.assertGreater(len(ran.trace), 65536)
+        self.assertEqual((ran.facts_by, ran.warning), (" ".join(program), ""))
 
     def test_an_example_is_run_as_its_trace_says(self) -> None:
         lab = Served()

@@ -4,6 +4,7 @@ from __future__ import annotations
 import random
 import unittest
 from collections import Counter
+from collections.abc import Iterator
 
 from measure.jobs import periodic
 from measure.seen import Seen
@@ -13,7 +14,8 @@ from view.tests.details import detail_of, trace_of
 
 from .watched import Watched
 
-from generate import accepted  # noqa: E402  (the reference is on the path by `watched`)
+from forms import Stage  # noqa: E402  (the reference is on the path by `watched`)
+from generate import accepted  # noqa: E402
 
 SCRIPTS = 24
 
@@ -22,13 +24,19 @@ def seen_of(text: bytes) -> Seen:
     return Seen(read_trace(text.splitlines(keepends=True)))
 
 
+def scripts(count: int) -> Iterator[tuple[bytes, int, tuple[int, str]]]:
+    """Scripts of both versions with their horizons, and what each is called: those of version 2 have strict servers."""
+    for seed in range(count):
+        stage = (Stage.WHOLE, Stage.VERSION2)[seed % 2]
+        yield *accepted(seed, stage), (seed, stage.name)
+
+
 class Counted(unittest.TestCase):
     """A wait that ends and begins anew in the same call within one instant is told as one by the count, so counts are at most."""
 
     def test_threads(self) -> None:
         stopped = waited = lifted = 0
-        for seed in range(SCRIPTS):
-            script, horizon = accepted(seed)
+        for script, horizon, seed in scripts(SCRIPTS):
             machine = Watched(script)
             machine.run_until(horizon)
             seen = seen_of(detail_of(script, horizon))
@@ -54,8 +62,7 @@ class Counted(unittest.TestCase):
 
     def test_high_ticks_from_a_trace_alone(self) -> None:
         servers = 0
-        for seed in range(3 * SCRIPTS):
-            script, horizon = accepted(seed)
+        for script, horizon, seed in scripts(3 * SCRIPTS):
             machine = Watched(script)
             machine.run_until(horizon)
             seen = seen_of(trace_of(script, horizon))

@@ -1,7 +1,8 @@
 // The picture on the canvas.
 const canvas = document.getElementById("picture"), pen = canvas.getContext("2d");
 const FONT = '"DejaVu Sans", Verdana, Helvetica, Arial, sans-serif';
-const sizesOf = (rows) => rows <= 12 ? { bar: 20, marks: 16, server: 54, gap: 8, object: 20 } : rows <= 28 ? { bar: 14, marks: 12, server: 38, gap: 5, object: 16 } : { bar: 10, marks: 8, server: 26, gap: 3, object: 12 };
+const sizesOf = (rows) => rows <= 12 ? { bar: 20, marks: 16, server: 54, gap: 8, object: 20 }
+  : rows <= 28 ? { bar: 14, marks: 12, server: 38, gap: 5, object: 16 } : { bar: 10, marks: 8, server: 26, gap: 3, object: 12 };
 const MOST_SCALE = 120, AXIS = 34, BIN = 3, MOST_LEVELS = 4;
 let sizes, gutter, levels, greatest;
 let width = 0, height = 0, scale = 1, left = 0, scroll = 0, place = 0, held = false, second = null, withLists = false, look = {};
@@ -34,10 +35,11 @@ const room = (number) => sizes.marks + (levels[number] - 1) * (2 * radius() + 2)
 const ROW = (number) => room(number) + sizes.bar + sizes.gap + (data.threads[number].server ? sizes.server : 0);
 const whole = () => AXIS + 18 + data.threads.reduce((sum, _, number) => sum + ROW(number), 0) + data.mutexes.length * sizes.object + (withLists ? lists.length * 16 : 0);
 
+const COLOURS = ["ink", "faint", "line", "pale", "paper", "now", "held", "second", "cut", "blue", "owner", "contended", "dense-ready", "dense-wait", "arrow"];
 function readLook() {
   const style = getComputedStyle(document.documentElement);
   look.dark = document.documentElement.classList.contains("dark");
-  for (const name of ["ink", "faint", "line", "pale", "paper", "now", "held", "second", "cut", "blue", "owner", "contended", "dense-ready", "dense-wait", "arrow"]) look[name] = style.getPropertyValue("--" + name).trim();
+  for (const name of COLOURS) look[name] = style.getPropertyValue("--" + name).trim();
 }
 function line(colour, wide, x, y, toX, toY, dashes = []) {
   pen.strokeStyle = colour; pen.lineWidth = wide; pen.setLineDash(dashes);

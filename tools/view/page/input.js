@@ -15,12 +15,12 @@ function zoom(factor, x) {
   clampView(); draw();
 }
 function showAll() { width = canvas.clientWidth; height = canvas.clientHeight; scale = 0; left = 0; clampView(); draw(); }
-function moveTo(where) {
-  place = Math.max(0, Math.min(total, where));
+// Pans so far that the cursor is in sight.
+function reveal() {
   const x = xOf(place);
   if (x < gutter || x > width - 10) { left = place - (width - gutter) / 2 / scale; clampView(); }
-  tell(); draw();
 }
+function moveTo(where) { place = Math.max(0, Math.min(total, where)); reveal(); tell(); draw(); }
 function point(x) { place = Math.max(0, Math.min(total, placeOf(x))); tell(); draw(); }
 function step(direction) {
   const tick = tickAt(place).tick + BigInt(direction);
@@ -88,5 +88,6 @@ window.addEventListener("keydown", (key) => {
   key.preventDefault(); KEYS[key.key]();
 });
 element("search").addEventListener("input", () => { wanted = element("search").value.trim(); tell(); });
-for (const [id, does] of [["in", KEYS["+"]], ["out", KEYS["-"]], ["all", showAll], ["before", KEYS.p], ["after", KEYS.n], ["mark", setSecond], ["lists", toggleLists], ["dark", toggleDark], ["help", toggleHelp]]) element(id).onclick = does;
+const BUTTONS = { in: KEYS["+"], out: KEYS["-"], all: showAll, before: KEYS.p, after: KEYS.n, mark: setSecond, lists: toggleLists, dark: toggleDark, help: toggleHelp };
+for (const [id, does] of Object.entries(BUTTONS)) element(id).onclick = does;
 window.addEventListener("resize", resized);

@@ -58,7 +58,8 @@ function factAt(changes, point) {
 }
 const factsOf = (word) => Object.entries(data.facts).filter(([name]) => name.startsWith(word + " ")).map(([name, changes]) => [name.slice(word.length + 1), changes]);
 const FACTS = [["mutex", "mutex"], ["waiters", "waiting for"], ["sem", "semaphore"], ["messages", "queue"], ["senders", "sending to"], ["receivers", "receiving from"],
-  ["notify", "to be notified of"], ["timer", "timer"], ["signal", "pending"], ["mask", "mask of"], ["cancelability", "cancellation of"], ["cleanups", "cleanups of"], ["pending", "replenishments of"]];
+  ["notify", "to be notified of"], ["timer", "timer"], ["signal", "pending"], ["mask", "mask of"],
+  ["cancelability", "cancellation of"], ["cleanups", "cleanups of"], ["pending", "replenishments of"]];
 
 // A state in words, as a thread has it in a span.
 function inWords(span) {

@@ -1,6 +1,6 @@
 // The page begins with the run that stands in it.
 take(JSON.parse(document.getElementById("data").textContent));
-measure();
+measure(); overview();
 element("title").textContent = document.title;
 element("lists").hidden = !data.detail;
 canvas.setAttribute("aria-label", document.title + ". The events and the states at the cursor's tick stand beside it as text.");

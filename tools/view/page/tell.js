@@ -70,7 +70,8 @@ function legend() {
   if (has((span) => span[2] > WAITING)) items.push([box('<path d="M0,5.5H20" stroke="currentColor" stroke-dasharray="1 4"/>'), "does not run, no more is told"]);
   for (const [cleanup, text] of [[0, "in a signal handler"], [1, "in a cleanup handler"]])
     if (has((span) => span[9] && span[10] === cleanup)) items.push([box(`<rect width="20" height="11" fill="#bbb"/><rect width="20" height="4" fill="${data.frames[cleanup]}"/>`), text]);
-  if (data.mutexes.length) items.push([box('<rect width="20" height="11" fill="var(--owner)"/>'), "owner of a mutex"], [box('<rect width="20" height="11" fill="var(--contended)"/>'), "others wait for it"]);
+  if (data.mutexes.length) items.push([box('<rect width="20" height="11" fill="var(--owner)"/>'), "owner of a mutex"],
+    [box('<rect width="20" height="11" fill="var(--contended)"/>'), "others wait for it"]);
   if (data.wakes.length) items.push([box('<path d="M2,1C-2,6 6,6 9,10" fill="none" stroke="var(--arrow)"/>'), "who wakes whom"]);
   for (const [kind, [colour, corners, text]] of Object.entries(SHAPES))
     if (data.threads.some((thread) => thread.marks.some((mark) => mark[1] === kind)))

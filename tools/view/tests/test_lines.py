@@ -119,6 +119,18 @@ class Command(unittest.TestCase):
             self.assertEqual((ended.returncode, ended.stdout), (1, b""), words)
             self.assertIn(why, ended.stderr.decode(), words)
 
+    def test_options_stand_anywhere(self) -> None:
+        file = str(TOP / "examples" / "06_protect.trace")
+        drawn = {view(words, b"").stdout for words in (["text", file, "--from", "2", "--to", "9"], ["text", "--from", "2", file, "--to", "9"],
+                                                       ["--from", "2", "--to", "9", "text", file], ["--from", "2", "text", "--to", "9", file])}
+        self.assertEqual(len(drawn), 1)
+        self.assertTrue(drawn.pop().startswith(b"ticks 2 to 9"))
+
+    def test_a_tick_is_a_microsecond_where_linux_counts_them(self) -> None:
+        file = str(TOP / "examples" / "06_protect.trace")
+        self.assertIn(b" 0.000024000: sched_switch", view(["ftrace", file], b"").stdout)
+        self.assertIn(b" 0.000000024: sched_switch", view(["ftrace", "--tick", "1ns", file], b"").stdout)
+
     def test_closed_streams(self) -> None:
         for closed, status, words in (("<&-", 4, "text"), (">&-", 5, "svg"), (">&-", 5, "text")):
             ended = subprocess.run(["sh", "-c", f"{sys.executable} {VIEW} {words} {closed}"], input=b"0 end\n" if ">" in closed else None,

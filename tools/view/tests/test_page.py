@@ -177,6 +177,29 @@ class Page(unittest.TestCase):
         self.does('(showAll(), zoom(200, gutter + 300))')
         self.assertFalse(self.does("isDense(data.threads[0])"))
 
+    def test_the_overview_of_a_long_run(self) -> None:
+        self.detail(CONTROLLER)
+        self.assertTrue(self.does('element("overview").hidden'))
+        script = b"thread a fifo 5 at 0\nloop 300\nrun 4\nnanosleep 5\nend\nnanosleep 3000\nrun 300\nend\n"
+        windows = ((300, 2700), (3600, 6000), (6400, 6600))
+        ran = lambda tick: int(detail_of(script, tick).split()[-1])  # noqa: E731
+        self.open(drawer("html")(timeline_of(read_trace(detail_of(script, 7000).splitlines(keepends=True)))))
+        self.assertFalse(self.does('element("overview").hidden'))
+        # So high is the strip coloured as the thread has run there, by its ticks up to each instant.
+        shares = self.does("""((windows) => { const { width: wide, height: high } = strip, dots = strip.getContext("2d").getImageData(0, 0, wide, high).data;
+            return windows.map((ticks) => { const [from, to] = ticks.map((tick) => Math.round(placeOfTick(BigInt(tick)) / total * wide)); let count = 0;
+              for (let x = from; x < to; x++) for (let y = 2; y < high - 2; y++) count += Math.abs(dots[4 * (y * wide + x)] - dots[4 * (y * wide + x) + 2]) > 60;
+              return count / (to - from) / (high - 4); }); })"""
+                           f"({[list(window) for window in windows]})")
+        for (start, end), share in zip(windows, shares):
+            self.assertAlmostEqual(share, (ran(end) - ran(start)) / (end - start), delta=0.12)
+        self.does('(zoom(40, gutter + 10), slider.value = placeOfTick(3000n) / total, slider.dispatchEvent(new Event("input")))')
+        self.assertEqual(self.does("tickAt(place).tick.toString()"), "3000")
+        self.assertTrue(self.does("xOf(place) > gutter && xOf(place) < width"))
+        self.does('key("ArrowRight")')
+        self.assertEqual(self.does('slider.getAttribute("aria-valuetext")'), "tick 3001")
+        self.shot("overview")
+
     def test_every_example_opens(self) -> None:
         for file in sorted((TOP / "examples").glob("*.task")):
             horizon = int(file.read_text().split()[2].rstrip(","))

@@ -1,0 +1,83 @@
+"""What the commands beside the program have in common: their words, their exit statuses, and what they say where something is wrong."""
+from __future__ import annotations
+
+import argparse
+import os
+import sys
+from collections.abc import Callable, Mapping
+from enum import IntEnum
+from pathlib import Path
+
+VERSION = Path(__file__).resolve().parents[2] / "VERSION"
+
+
+class Status(IntEnum):
+    """The exit statuses that several commands have, those of pse52 where they mean the same."""
+
+    DONE = 0
+    USAGE = 1
+    REFUSED = 2
+    READ_FAULT = 4
+    WRITE_FAULT = 5
+
+
+class Usage(Exception):
+    """What is wrong with the words of the command."""
+
+
+class Words(argparse.ArgumentParser):
+    """The words that a command takes, options before, between and behind the others. Those that are wrong are a Usage."""
+
+    def __init__(self, tool: str, description: str) -> None:
+        super().__init__(prog=tool, description=description, formatter_class=argparse.RawDescriptionHelpFormatter, allow_abbrev=False)
+        self.add_argument("--version", action="version", version=f"{tool} {VERSION.read_text().strip()}")
+
+    def error(self, message: str) -> None:
+        raise Usage(message)
+
+    def read(self, words: list[str]) -> argparse.Namespace:
+        return self.parse_intermixed_args(words)
+
+
+def say(tool: str, text: str) -> None:
+    print(f"{tool}: {text}", file=sys.stderr)
+
+
+def carried_out(tool: str, work: Callable[[], int], statuses: Mapping[type[Exception], int]) -> int:
+    """Does the work of a command. Of an exception it is said what is wrong; `statuses` has what is returned then."""
+    try:
+        return work()
+    except SystemExit as ended:  # --help and --version
+        return Status.DONE if ended.code == 0 else Status.USAGE
+    except Usage as wrong:
+        say(tool, f"{wrong}; --help tells all")
+        return Status.USAGE
+    except tuple(statuses) as wrong:
+        say(tool, str(wrong))
+        return next(status for kind, status in statuses.items() if isinstance(wrong, kind))
+    except OSError as error:
+        say(tool, f"{error.filename or 'the trace'} was not read: {error.strerror}")
+        return Status.READ_FAULT
+
+
+def standard_input():
+    """The bytes of standard input. Raises OSError where it is closed."""
+    if sys.stdin is None:
+        raise OSError(9, os.strerror(9))
+    return sys.stdin.buffer
+
+
+def write(tool: str, text: str | bytes) -> Status:
+    """Writes to standard output, and says where that fails."""
+    try:
+        if sys.stdout is None:
+            raise OSError(9, os.strerror(9))
+        sys.stdout.buffer.write(text if isinstance(text, bytes) else text.encode())
+        sys.stdout.buffer.flush()
+    except OSError as error:
+        say(tool, f"the output was not written: {error.strerror}")
+        if sys.stdout is not None:
+            # What is left in the buffer must not be written, and complained about, at the end of the process.
+            os.dup2(os.open(os.devnull, os.O_WRONLY), sys.stdout.fileno())
+        return Status.WRITE_FAULT
+    return Status.DONE
