@@ -38,5 +38,5 @@ module _ (script : Script) (h : ℕ) (k : Kernel) (is : k ≡ opened script) whe
   pub busy_of : (before after : ℕ) → after ≤ before + busy (flat_bodies k.code) k.machine 0 (h - k.machine.now) + 1 → after ≤ before + busy_between script 0 h + 1
   busy_of before after bound =
       let counted = ap (λ (x : Kernel). busy (flat_bodies x.code) x.machine 0 (h - x.machine.now)) is
-          ∙ ap (busy (flat_bodies (code_of script)) (opening script) 0) from_start ∙ flat_busy script 0 h in
+      ∙ ap (busy (flat_bodies (code_of script)) (opening script) 0) from_start ∙ flat_busy script 0 h in
       subst (λ (n : ℕ). after ≤ before + n + 1) counted bound
