@@ -1,9 +1,9 @@
 -- Who accepts a signal.
-use Rattle.std.specs.Prelude.{◌≡◌, ◌<◌, ℕ, List, Option, length, option_map, slice_index_or}
+use Rattle.std.specs.Prelude.{ℕ, Option, option_map}
 use Rattle.rules_bodies.specs.declared.cursor.Cursor.{Cursor}
 use Rattle.rules_machine.specs.Signals.{acceptor}
 use Rattle.rules_machine.specs.State.{SignalRecord, Thread}
-use Rattle.rules_machine.specs.Threads.{thread_in, waiting_in}
+use Rattle.rules_machine.specs.Threads.{waiting_in}
 use Rattle.rules_machine.specs.Waiters.{Waiter}
 use Rattle.kernel_threads.specs.Signals.{signals_awaited}
 use Rattle.kernel_table.specs.Table.{Table, machine_with}
@@ -11,11 +11,6 @@ use Rattle.kernel_table.specs.Table.{Table, machine_with}
 -- the signals that a thread waits for
 abbrev pub set_awaited : Thread Cursor → ℕ
 set_awaited th = signals_awaited (waiting_in th.status)
-
--- there is room for 256 threads, and the sets of the first are theirs
-pub record AreAwaited (threads : List (Thread Cursor)) (n : ℕ) (sets : List ℕ) : Type 0 where
-  pub long : length sets ≡ 256
-  pub each : (t : ℕ) → t < n → slice_index_or sets t 0 ≡ set_awaited (thread_in threads t)
 
 -- the thread that accepts a record as it is generated
 abbrev pub acceptor_in : Table → SignalRecord → Option ℕ

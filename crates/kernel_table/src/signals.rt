@@ -1,5 +1,5 @@
 // Masks, handlers of signals, and who accepts a signal.
-ghost use Rattle.std.specs.Prelude.{◌≡◌, ◌≤◌, ◌<◌, length, None};
+ghost use Rattle.std.specs.Prelude.{◌≡◌, ◌≤◌, ◌<◌, length, map, None};
 ghost use Rattle.rules_bodies.specs.Next.{capped};
 ghost use Rattle.rules_bodies.specs.declared.cursor.Cursor.{Cursor};
 ghost use Rattle.rules_machine.specs.declared.frame.BodyOf.{BodyOf};
@@ -9,28 +9,24 @@ ghost use Rattle.rules_machine.specs.Threads.{thread_in};
 ghost use Rattle.rules_machine.specs.Waking.{new_frame, on_top};
 ghost use Rattle.rules_flat_code.specs.FlatBodies.{flat_bodies};
 ghost use Rattle.kernel_threads.specs.Handlers.{CatchersBegin};
-ghost use Rattle.kernel_table.specs.Acceptors.{AreAwaited, acceptor_in};
+ghost use Rattle.kernel_table.specs.Acceptors.{acceptor_in, set_awaited};
 ghost use Rattle.kernel_table.specs.Table as table;
 ghost use Rattle.kernel_table.specs.Table.{with_thread};
 ghost use Rattle.kernel_table.specs.Movers.{KeepsExec};
 
-use crate::open::tid_of;
 use crate::table::Table;
-use kernel_threads::Threads;
-use parts_waiters::WaitObj;
+use parts_waiters::{SignalSets, WaitObj};
 use rules_machine::{BodyOf, FrameKind};
 use script_code::Code;
 use words_numbers::{ObjId, SigSet, Tid};
 
-// The signals that each thread waits for.
-fn awaited_sets(threads: &Threads) -> [SigSet; 256]
-    ensures { AreAwaited threads.now (length threads.now) result }
-{
-    let mut sets = [SigSet::new(0); 256];
-    for number in 0..threads.count() {
-        sets[number as usize] = threads.get(tid_of(number)).awaited_signals();
+impl SignalSets for Table {
+    ghost sets = { λ table. map set_awaited table.threads };
+
+    #[tactic(auto, using(crate::proofs::Accepting::has_set, crate::proofs::Accepting::set_read))]
+    fn set_of(&self, t: Tid) -> SigSet {
+        self.threads.get(t).awaited_signals()
     }
-    sets
 }
 
 impl Table {
@@ -76,8 +72,7 @@ impl Table {
         requires { signal < 32 }
         ensures { (r : SignalRecord) → r.signal ≡ signal → r.target ≡ None → result ≡ acceptor_in self.now r }
     {
-        let sets = awaited_sets(&self.threads);
         self.waits.serve_by_the_rules();
-        self.waits.best_for_signal(&sets, signal)
+        self.waits.best_for_signal(self, signal)
     }
 }

@@ -1,5 +1,5 @@
 -- Waiters that come and go, and who is served first, and who next.
-use Rattle.std.specs.Prelude.{IsSome, option_map, slice_index_or}
+use Rattle.std.specs.Prelude.{IsSome, option_map}
 use Rattle.std.proofs.Common.{◌≡◌, ◌≢◌, ◌⊎◌, inl, inr, ⊎_elim, ℕ, zero, suc, ◌<◌, ◌≤◌, true, false, replicate, Option, Some, None, List, [], ◌∷◌, length, map, get_or, set, refl, sym, ap, subst, ◌∙◌, arith}
 use borrow.Author.Tests.{clash}
 use Rattle.std.proofs.lemmas.List.{get_or-set_same, get_or-set_other, get_or_default}
@@ -214,6 +214,3 @@ repriced_is places t p old at = set_twice places t None (Some (record old { prio
 
 pub read_place : (places : List (Option Place)) (t : ℕ) (p : Place) (v : Option Place) → v ≡ get_or places t v → v ≡ Some p → t < length places → place_in places t ≡ Some p
 read_place places t p v e is l = sym (read_at places t v e l) ∙ is
-
-pub read_number : (xs : List ℕ) (i v : ℕ) → v ≡ slice_index_or xs i v → i < length xs → v ≡ slice_index_or xs i 0
-read_number xs i v e l = e ∙ get_or_default xs i v 0 l

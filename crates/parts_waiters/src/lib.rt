@@ -15,12 +15,14 @@ ghost use Rattle.parts_waiters.specs.Held.{id_of, number_of};
 ghost use Rattle.parts_waiters.specs.Ties.{BestsAreAcceptors, BestsAreWaiters};
 
 mod order;
+mod signal_sets;
 
 use order::{Candidate, first_awaiting, stand};
 use parts_links::Links;
+pub use signal_sets::SignalSets;
 use std::alloc::{AllocError, Global};
 use std::marker::Model;
-use words_numbers::{ObjId, Prio, SigSet, Tid};
+use words_numbers::{ObjId, Prio, Tid};
 
 /// What a thread waits for in an order.
 #[derive(Clone, Copy)]
@@ -195,11 +197,11 @@ impl Waits {
     }
 
     /// The thread that is served first of those that wait for the signal, 0 to 31, where each thread that waits for signals waits
-    /// for those of its set. None exactly where nobody waits for it.
-    pub fn best_for_signal(&self, sets: &[SigSet], sig: u8) -> Option<Tid>
-        requires sets { length self.now ≤ length sets.now }
+    /// for those of its set. None exactly where nobody waits for it. The set of a thread is asked for only as the search comes to it.
+    pub fn best_for_signal<S: SignalSets>(&self, sets: &S, sig: u8) -> Option<Tid>
+        requires sets { length self.now ≤ length (S.sets sets.now) }
         requires sig { sig ≤ 31 }
-        ensures { result ≡ best_for sig sets.now self.now }
+        ensures { result ≡ best_for sig (S.sets sets.now) self.now }
     {
         match first_awaiting(&self.links, sets, WaitObj::SigWait.number(), sig) {
             Some(node) => Tid::try_new(node as u16),

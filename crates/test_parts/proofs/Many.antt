@@ -1,7 +1,7 @@
--- The threads and timers of a list of declarations, and the places of many threads.
-use Rattle.std.proofs.Common.{◌≡◌, ◌≤◌, ◌++◌, ◌∷◌, [], ℕ, suc, List, None, Option, Some, arith, length, refl, replicate, zero}
-use Rattle.std.proofs.lemmas.List.{length-replicate}
-use Rattle.std.specs.Prelude.{Err, IfOk, Ok, Result, filter_map}
+-- The threads and timers of a list of declarations, the places of many threads, and sets of signals.
+use Rattle.std.proofs.Common.{◌≡◌, ◌<◌, ◌≤◌, ◌++◌, ◌∙◌, ◌∷◌, [], ℕ, suc, List, None, Option, Some, arith, length, refl, replicate, zero}
+use Rattle.std.proofs.lemmas.List.{get_or_default, length-replicate}
+use Rattle.std.specs.Prelude.{Err, IfOk, Ok, Result, filter_map, slice_index_or}
 use Rattle.std.proofs.lemmas.List.Elements.{filter_map-append}
 use Rattle.words_script.specs.declared.decl.Decl.{Decl}
 use Rattle.parts_waiters.specs.declared.Place.{Place}
@@ -37,3 +37,8 @@ all_nowhere (Err e) n is = tt
 
 pub long_nowhere : (places : List (Option Place)) (n : ℕ) → places ≡ replicate n None → length places ≡ n
 long_nowhere places n is = rw is (length-replicate n None)
+
+-- ---- a set of a list
+
+pub read_set : (sets : List ℕ) (i v : ℕ) → v ≡ slice_index_or sets i v → i < length sets → v ≡ slice_index_or sets i 0
+read_set sets i v e known = e ∙ get_or_default sets i v 0 known

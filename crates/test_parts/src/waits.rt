@@ -4,10 +4,25 @@ ghost use Rattle.parts_waiters.specs.Places.{place_in};
 ghost use Rattle.parts_waiters.specs.declared.WaitObj.TheVariants.{Mutex};
 
 use crate::numbers::{object, prio, thread};
-use parts_waiters::{WaitObj, Waits};
+use parts_waiters::{SignalSets, WaitObj, Waits};
 use std::alloc::{AllocError, Global};
 use std::test::Fail;
-use words_numbers::SigSet;
+use words_numbers::{SigSet, Tid};
+
+// The sets of two threads.
+#[derive(Drop)]
+struct TwoSets {
+    sets: [SigSet; 2],
+}
+
+impl SignalSets for TwoSets {
+    ghost sets = { λ two. two.sets };
+
+    #[tactic(auto, using(crate::proofs::Many::read_set))]
+    fn set_of(&self, t: Tid) -> SigSet {
+        self.sets[t.get() as usize]
+    }
+}
 
 fn mutex() -> WaitObj
     ensures { result ≡ Mutex 7 }
@@ -43,7 +58,9 @@ fn waiters_for_signals_by_their_sets(rt: HostRuntime) -> Result<(), Fail> {
     let mut waits = Waits::open(rt.alloc(), 2)?;
     waits.enter(WaitObj::SigWait, thread(0), prio(10), 1);
     waits.enter(WaitObj::SigWait, thread(1), prio(20), 2);
-    let sets = [SigSet::new(3), SigSet::new(2)];
+    let sets = TwoSets {
+        sets: [SigSet::new(3), SigSet::new(2)],
+    };
     assert_eq!(rt; waits.best_for_signal(&sets, 1), Some(thread(1)));
     assert_eq!(rt; waits.best_for_signal(&sets, 0), Some(thread(0)));
     assert_eq!(rt; waits.best_for_signal(&sets, 2), None);
