@@ -18,14 +18,16 @@ PICTURE = TOP / "docs" / "layers.svg"
 BEGIN, END = "<!-- the wings: tools/documents.py --write makes this list of crates.txt and of the heads of the crates -->\n", "<!-- end -->\n"
 WIDTH = 128
 
-# The first words of the crates that a wing may stand on, beside its own. No rule cites code, and no code cites a law, but for the
-# kernel that runs from tick to tick and for the tool, whose contracts name them.
+# The first words of the crates that a wing may stand on, beside its own. No rule cites code, but for the rules of texts, since the
+# canonical text is defined beside its writer; no code cites a law, but for the kernel that runs from tick to tick and for the tool,
+# whose contracts name them.
 MAY_CITE = {
     "words": "",
     "rules": "words",
     "laws": "words rules",
     "parts": "words rules",
     "script": "words rules parts",
+    "rules of texts": "words rules script",
     "laws of scripts": "words rules laws script",
     "kernel": "words rules parts script",
     "calls": "words rules parts script kernel",
@@ -33,7 +35,7 @@ MAY_CITE = {
     "tool": "words rules laws parts script kernel calls",
     "test": "words rules laws parts script kernel calls tool",
 }
-OWN_WORDS = {"laws of scripts": {"laws"}, "run": {"laws", "kernel"}, "tool": {"laws", "tool", "pse52"}}
+OWN_WORDS = {"rules of texts": {"rules"}, "laws of scripts": {"laws"}, "run": {"laws", "kernel"}, "tool": {"laws", "tool", "pse52"}}
 
 
 @dataclass

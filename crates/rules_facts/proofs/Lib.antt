@@ -1,0 +1,4 @@
+pub mod Order
+pub mod Dispatched
+pub mod Shows
+pub mod Details

@@ -1,0 +1,13 @@
+pub mod Fact
+pub mod Order
+pub mod Lists
+pub mod Threads
+pub mod Objects
+pub mod Queues
+pub mod Signals
+pub mod Facts
+pub mod Numbers
+pub mod Spelled
+pub mod Shown
+pub mod Detail
+pub mod Told
