@@ -1,6 +1,7 @@
 """A pse52-lab that runs for a test, and what a client may send to it."""
 from __future__ import annotations
 
+import contextlib
 import http.client
 import os
 import signal
@@ -16,22 +17,28 @@ class Served:
     """A server of the page in a process of its own, with its address, token and port."""
 
     def __init__(self, *words: str) -> None:
-        self._process = subprocess.Popen([sys.executable, str(TOP / "bin" / "pse52-lab"), *words], stdout=subprocess.PIPE, text=True)
+        # It has no stream of the test's: one that was left behind would keep whoever reads the test's output waiting.
+        self._process = subprocess.Popen([sys.executable, str(TOP / "bin" / "pse52-lab"), *words], stdout=subprocess.PIPE,
+                                         stderr=subprocess.DEVNULL, text=True)
         self.link = self._process.stdout.readline().strip()
         self.address = self.link.split("#")[0]
         parts = urlsplit(self.address)
         self.port, self.token = parts.port, parts.path.strip("/")
 
     def end(self) -> int:
-        self._process.send_signal(signal.SIGINT)
+        if self._process.poll() is None:
+            self._process.send_signal(signal.SIGINT)
         self._process.stdout.close()
         return self._process.wait(20)
 
     @property
     def children(self) -> list[int]:
         """The workers, by their process ids."""
-        said = Path(f"/proc/{self._process.pid}/task")
-        return [int(word) for task in said.iterdir() for word in (task / "children").read_text().split()]
+        found: list[int] = []
+        for task in Path(f"/proc/{self._process.pid}/task").iterdir():
+            with contextlib.suppress(FileNotFoundError, ProcessLookupError):  # a thread that has ended since
+                found += map(int, (task / "children").read_text().split())
+        return found
 
     def ask(self, method: str, path: str, body: bytes | None = None, **headers: str) -> tuple[int, bytes, dict[str, str]]:
         """The status, the text and the headers of an answer. A header None is not sent."""

@@ -108,6 +108,7 @@ class Server(unittest.TestCase):
 
     def test_the_workers_end_with_the_server(self) -> None:
         lab = Served()
+        self.addCleanup(lab.end)
         lab.run(SCRIPT)
         workers = lab.children
         self.assertTrue(workers)
