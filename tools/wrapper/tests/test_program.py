@@ -189,7 +189,7 @@ class Proofs(unittest.TestCase):
     TOOLCHAIN = """#!/bin/sh
 case $1 in
     run) mkdir -p out; printf '#!/bin/sh\\necho built: "$@"; cat\\n' >out/pse52; chmod +x out/pse52; exit 1 ;;
-    lib) [ ! -e "$FAILS" ] || exit 1; echo "$PWD" >>"$CALLS" ;;
+    lib) [ ! -e "$FAILS" ] || exit 1; mkdir -p out/rlib; echo proved >out/rlib/low; echo "$(cat src/lib.rt ../../crates.txt)" >>"$CALLS" ;;
     version) echo stand-in ;;
 esac
 """
@@ -208,7 +208,8 @@ esac
     def test_it_proves_what_the_program_stands_on_and_runs(self) -> None:
         ended = self.checkout.run("--prove", "run", "7", "s.task", **self.more)
         self.assertEqual((ended.status, ended.out), (0, BUILT))
-        self.assertEqual(self.calls.read_text().split(), [str(self.checkout.top.resolve() / "crates" / "low")])
+        self.assertEqual(self.calls.read_text(), "low\nlow: \n")
+        self.assertEqual((self.checkout.top / "crates/low/out/rlib/low").read_text(), "proved\n")
         self.assertIn("crate 2 of 2", ended.err)
         self.assertEqual(self.checkout.run("run", "7", "s.task").out, BUILT)
 
