@@ -22,17 +22,42 @@ if [ -x crates/pse52/out/pse52 ]; then
     export PSE52_PROGRAM
 fi
 failed=0
-folders=("$@")
-[ $# -gt 0 ] || folders=(view measure sweep ftrace explain wrapper pages live lab)
-for folder in "${folders[@]}"; do
-    log=$(python3 -m unittest discover -s "tools/$folder/tests" -t tools 2>&1)
-    if [ $? -eq 0 ]; then
-        printf '%s\n' "$log" | grep -o -e 'skipped: .*' -e '^from a key to the picture.*' -e '^a frame of .*' | sort -u
-        echo "$folder: $(printf '%s\n' "$log" | sed -n 's/^Ran \([0-9]* tests\).*/\1/p'), each passed or was skipped"
+logs=$(mktemp -d) || exit 1
+trap 'rm -rf "$logs"' EXIT
+
+# The tests of a folder, to a log of its own.
+try() {
+    python3 -m unittest discover -s "tools/$1/tests" -t tools >"$logs/$1" 2>&1
+}
+
+# What the tests of a folder said, where they ended well in short.
+tell() {
+    local folder=$1 status=$2
+    if [ "$status" -eq 0 ]; then
+        grep -o -e 'skipped: .*' -e '^from a key to the picture.*' -e '^a frame of .*' "$logs/$folder" | sort -u
+        echo "$folder: $(sed -n 's/^Ran \([0-9]* tests\).*/\1/p' "$logs/$folder"), each passed or was skipped"
     else
-        printf '%s\n' "$log" | tail -n 60
+        tail -n 60 "$logs/$folder"
         failed=1
     fi
+}
+
+# Side by side, but for those that look at a clock: these come last, one after another.
+together=("$@")
+alone=()
+[ $# -gt 0 ] || together=(view sweep pages measure wrapper explain ftrace) alone=(live lab)
+declare -A tries
+for folder in "${together[@]}"; do
+    try "$folder" &
+    tries[$folder]=$!
+done
+for folder in "${together[@]}"; do
+    wait "${tries[$folder]}"
+    tell "$folder" $?
+done
+for folder in "${alone[@]}"; do
+    try "$folder"
+    tell "$folder" $?
 done
 
 if [ $# -gt 0 ]; then
