@@ -1,3 +1,4 @@
+mod Asking
 pub mod ByAge
 pub mod Keeping
 pub mod Selecting
