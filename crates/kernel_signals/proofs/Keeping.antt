@@ -1,13 +1,15 @@
 -- Records that are kept as one becomes pending, and as one is taken.
-use Rattle.std.specs.Prelude.{All, Contains, filter, not}
+use Rattle.std.specs.Prelude.{All, Contains, filter, not, replicate}
 use Rattle.std.specs.List.{AllByRecursion}
-use Rattle.std.proofs.Common.{◌≡◌, ◌≢◌, ℕ, zero, suc, ◌+◌, ◌-◌, ◌<◌, ◌≤◌, ◌==◌, Bool, true, false, List, [], ◌∷◌, ◌++◌, length, set, get_or, if◌then◌else◌, refl, sym, ap, ap₂, subst, ◌∙◌, arith}
+use Rattle.std.proofs.Common.{◌≡◌, ◌≢◌, ℕ, zero, suc, ◌+◌, ◌-◌, ◌<◌, ◌≤◌, ◌==◌, Bool, true, false, List, [], ◌∷◌, ◌++◌, length, set, get_or, if◌then◌else◌, refl, sym, ap, ap₂, subst, subst₂, ◌∙◌, arith}
 use Rattle.std.proofs.lemmas.Bool.Decides.{nat_tests}
 use Rattle.std.proofs.lemmas.List.{get_or-set_same, get_or-set_other, length-set}
 use Rattle.rules_machine.specs.State.{SignalRecord}
 use Rattle.rules_machine.specs.Signals.{is_counted, without_record}
 use Rattle.parts_arrivals.specs.Arrivals.{Arrival, Arrivals, has_come, without_node}
-use Rattle.kernel_signals.specs.Kept.{AreKept, AreRanked, AreRising, counted_in, no_record, record_at, record_of, records_of, weight_of}
+use Rattle.kernel_signals.specs.Timed.{AreTimed, with_one, with_one_fewer}
+use Rattle.kernel_signals.proofs.Timing.{long_fewer, long_more, timed_fewer, timed_more, timed_none}
+use Rattle.kernel_signals.specs.Kept.{AreKept, AreRanked, AreRising, counted_in, no_record, room, record_at, record_of, records_of, weight_of}
 
 -- ---- of all members of a list
 
@@ -23,6 +25,18 @@ to_all P (x ∷ xs) all (suc k) d l = to_all P xs all.1 k d (omega (arith, l))
 all_back : {X : Type 0} (P : X → Type 0) (xs : List X) (x : X) → AllByRecursion P xs → P x → AllByRecursion P (xs ++ x ∷ [])
 all_back P [] x all p = (p, tt)
 all_back P (y ∷ xs) x all p = (all.0, all_back P xs x all.1 p)
+
+-- ---- nothing is pending
+
+pub kept_none : (arrivals : Arrivals) (records : List SignalRecord) (timers : List ℕ) → arrivals ≡ record { nodes = room; order = [] } → records ≡ replicate room no_record → timers ≡ replicate 256 0
+    → AreKept arrivals records 0 timers
+kept_none arrivals records timers a r t =
+    subst (λ (x : Arrivals). AreKept x records 0 timers) (sym a) (subst₂ (λ (rs : List SignalRecord) (ts : List ℕ). AreKept (record { nodes = room; order = [] }) rs 0 ts) (sym r) (sym t)
+    (record { nodes = refl; known = length_all no_record room; ranked = tt; rising = tt; signals = tt; tallied = refl; long = (let none : ℕ = 0 in length_all none 256); timed = timed_none }))
+  where
+    length_all : {X : Type 0} (x : X) (n : ℕ) → length (replicate n x) ≡ n
+    length_all x zero = refl
+    length_all x (suc n) = ap suc (length_all x n)
 
 -- ---- a record becomes pending
 
@@ -89,10 +103,10 @@ length_records records (a ∷ order) = ap suc (length_records records order)
 pub few_counted : (records : List SignalRecord) (order : List Arrival) → counted_in (records_of records order) ≤ length order
 few_counted records order = omega (arith, count_few (records_of records order), length_records records order)
 
-pub kept_with : (arrivals arrivals' : Arrivals) (records : List SignalRecord) (counted n : ℕ) (v : SignalRecord) → AreKept arrivals records counted → v.signal < 32 → n < arrivals.nodes → has_come n arrivals.order ≡ false →
+pub kept_with : (arrivals arrivals' : Arrivals) (records : List SignalRecord) (counted n : ℕ) (timers : List ℕ) (v : SignalRecord) → AreKept arrivals records counted timers → v.signal < 32 → n < arrivals.nodes → has_come n arrivals.order ≡ false →
     arrivals' ≡ record arrivals { order = arrivals.order ++ record { node = n; rank = v.signal } ∷ [] } → AllByRecursion (λ (r : SignalRecord). r.serial < v.serial) (records_of records arrivals.order) →
-    AreKept arrivals' (set records n v) (counted + weight_of v.code)
-kept_with arrivals arrivals' records counted n v kept small below fresh is youngest =
+    AreKept arrivals' (set records n v) (counted + weight_of v.code) (with_one v.timer timers)
+kept_with arrivals arrivals' records counted n timers v kept small below fresh is youngest =
     let known : n < length records = omega (arith, below, kept.nodes, kept.known) in
     let seen : records_of (set records n v) arrivals'.order ≡ records_of records arrivals.order ++ v ∷ [] =
     ap (λ (a : Arrivals). records_of (set records n v) a.order) is ∙ records_with records n v.signal v arrivals.order known fresh in
@@ -104,6 +118,8 @@ kept_with arrivals arrivals' records counted n v kept small below fresh is young
       signals = subst (λ (rs : List SignalRecord). AllByRecursion (λ (r : SignalRecord). r.signal < 32) rs) (sym seen)
           (all_back (λ (r : SignalRecord). r.signal < 32) (records_of records arrivals.order) v kept.signals small);
       tallied = omega (arith, kept.tallied, ap counted_in seen, count_with (records_of records arrivals.order) v);
+      long = long_more v.timer timers ∙ kept.long;
+      timed = subst (AreTimed (with_one v.timer timers)) (sym seen) (timed_more timers (records_of records arrivals.order) v kept.long kept.timed);
     }
 
 -- ---- a record is taken
@@ -186,15 +202,17 @@ module _ (records : List SignalRecord) (n : ℕ) where
   count_without [] came = cc
   count_without (a ∷ order) came = count_less a order (a.node == n) refl came (λ e. count_without order e)
 
-  pub kept_without : (arrivals arrivals' : Arrivals) (counted : ℕ) → AreKept arrivals records counted → has_come n arrivals.order ≡ true → arrivals' ≡ record arrivals { order = without_node n arrivals.order } →
-      AreKept arrivals' records (counted - weight_of (record_at records n).code)
-  kept_without arrivals arrivals' counted kept came is = record {
+  pub kept_without : (arrivals arrivals' : Arrivals) (counted : ℕ) (timers : List ℕ) → AreKept arrivals records counted timers → has_come n arrivals.order ≡ true → arrivals' ≡ record arrivals { order = without_node n arrivals.order } →
+      AreKept arrivals' records (counted - weight_of (record_at records n).code) (with_one_fewer (record_at records n).timer timers)
+  kept_without arrivals arrivals' counted timers kept came is = record {
     nodes = ap (λ (a : Arrivals). a.nodes) is ∙ kept.nodes;
     known = kept.known;
     ranked = subst (λ (a : Arrivals). AreRanked records a.order) (sym is) (ranked_without arrivals.order kept.ranked);
     rising = subst (λ (a : Arrivals). AreRising (records_of records a.order)) (sym is) (rising_without arrivals.order kept.rising);
     signals = subst (λ (a : Arrivals). AllByRecursion (λ (r : SignalRecord). r.signal < 32) (records_of records a.order)) (sym is) (all_without (λ (r : SignalRecord). r.signal < 32) arrivals.order kept.signals);
     tallied = omega (arith, kept.tallied, count_without arrivals.order came, ap (λ (a : Arrivals). counted_in (records_of records a.order)) is);
+    long = long_fewer (record_at records n).timer timers ∙ kept.long;
+    timed = subst (λ (a : Arrivals). AreTimed (with_one_fewer (record_at records n).timer timers) (records_of records a.order)) (sym is) (timed_fewer timers records n arrivals.order kept.long came kept.timed);
   }
 
 -- ---- a member

@@ -4,3 +4,4 @@ pub mod Keeping
 pub mod Selecting
 pub mod Walking
 pub mod Killing
+mod Timing
