@@ -67,15 +67,41 @@ not_proved() {
     exit 70
 }
 
-# Proves one crate for those above it, and the program's own crate up to the program: the run at the end has no words and no input.
+# Proves one crate for those above it, in a copy of its own of what it stands on: rt keeps every other rt out of a crate and of all that
+# it stands on until it ends, so that in one checkout nothing would be proved side by side. The program's own crate comes last, when no
+# other is under way; its run has no words and no input.
 prove() {
-    cd "$top/crates/$1" || return 70
-    if [ "$1" = pse52 ]; then
-        rt run --jobs "$2"
+    local name=$1 jobs=$2 room=$work/$1.room status
+    if [ "$name" = pse52 ]; then
+        cd "$top/crates/pse52" || return 70
+        rt run --jobs "$jobs"
         [ -x "$program" ]
-    else
-        rt lib --jobs "$2"
+        return
     fi
+    copy_crates "$room" "$name" || return 70
+    (cd "$room/crates/$name" && rt lib --jobs "$jobs")
+    status=$?
+    if [ "$status" -eq 0 ]; then
+        rm -rf "$top/crates/$name/out/rlib" "$top/crates/$name/out/incremental"
+        rm -f "$room/crates/$name/out/build.log"
+        mv "$room/crates/$name/out"/* "$top/crates/$name/out"
+        status=$?
+    fi
+    rm -rf "$room"
+    return "$status"
+}
+
+# Makes a room with a crate and, by links, those that are proved, among which are all that it stands on.
+copy_crates() {
+    local room=$1 name=$2 proved deps
+    mkdir -p "$room/crates" && cp "$top/HANDLES" "$room" && cp -a "$top/crates/$name" "$room/crates" || return
+    while read -r proved deps; do
+        if [ "$proved" != "$name" ]; then
+            [ -e "$work/$proved.proved" ] || continue
+            cp -al "$top/crates/$proved" "$room/crates" 2>/dev/null || cp -a "$top/crates/$proved" "$room/crates" || return
+        fi
+        echo "$proved: $deps"
+    done <"$work/crates" >"$room/crates.txt"
 }
 
 # Starts the proof of a crate: its name, and how many jobs it gets.
@@ -92,15 +118,31 @@ start() {
     echo "$SECONDS" >"$work/$1.started"
 }
 
-# Goes over the crates once: takes what has ended, and starts what may start, the processors shared among them. Sets `left` to how many
-# are not proved yet, and `under_way` to those that are being proved.
+# The crates, as they are told, with those first that have most above them in their longest chain, by the size of their files: what takes
+# longest is never kept waiting.
+longest_first() {
+    local name deps
+    while read -r name deps; do
+        echo "$(du -sb --exclude=out "$top/crates/$name" | cut -f 1) $name $deps"
+    done | tac | awk '
+        {
+            height = $1 + above[$2]
+            for (i = 3; i <= NF; i++) if (above[$i] < height) above[$i] = height
+            $1 = height
+            print
+        }' | sort -rn | cut -d ' ' -f 2-
+}
+
+# Goes over the crates once: takes what has ended, and starts what may start, the processors shared among them, two for the one that has
+# most above it. Sets `left` to how many are not proved yet, and `under_way` to those that are being proved.
 turn() {
-    local name deps dep ready='' is_ready
+    local name deps dep ready='' is_ready first='' jobs
     left=0
     under_way=
     while read -r name deps; do
         [ ! -e "$work/$name.proved" ] || continue
         left=$((left + 1))
+        : "${first:=$name}"
         if [ -e "$work/$name.status" ]; then
             [ "$(cat "$work/$name.status")" -eq 0 ] || not_proved "$name"
             mv "$work/$name.status" "$work/$name.proved"
@@ -119,7 +161,9 @@ turn() {
     local sharing=$((running + $(wc -w <<<"$ready")))
     for name in $ready; do
         [ "$running" -lt "$processors" ] || break
-        start "$name" "$((sharing < processors ? processors / sharing : 1))"
+        jobs=$((sharing < processors ? processors / sharing : 1))
+        [ "$name" != "$first" ] || [ "$jobs" -ge 2 ] || jobs=2
+        start "$name" "$jobs"
     done
 }
 
@@ -131,7 +175,7 @@ mkdir -p "$top/crates/pse52/out" || exit 70
 take_lock
 trap interrupted HUP INT PIPE TERM
 sources=$(sh "$wrapper/sum.sh" sources) || exit 70
-sh "$wrapper/crates.sh" >"$work/crates" || exit 70
+sh "$wrapper/crates.sh" | longest_first >"$work/crates" || exit 70
 total=$(wc -l <"$work/crates")
 processors=$(getconf _NPROCESSORS_ONLN 2>/dev/null) || processors=2
 number=0

@@ -8,6 +8,7 @@ use Rattle.rules_machine.specs.State.{SignalRecord}
 use Rattle.rules_machine.specs.Signals.{is_counted, without_record}
 use Rattle.parts_arrivals.specs.Arrivals.{Arrival, Arrivals, has_come, without_node}
 use Rattle.kernel_signals.specs.Timed.{AreTimed, with_one, with_one_fewer}
+use Rattle.kernel_signals.proofs.Counting.{count_back, count_few, count_less}
 use Rattle.kernel_signals.proofs.Timing.{long_fewer, long_more, timed_fewer, timed_more, timed_none}
 use Rattle.kernel_signals.specs.Kept.{AreKept, AreRanked, AreRising, counted_in, no_record, room, record_at, record_of, records_of, weight_of}
 
@@ -77,31 +78,15 @@ rising_with : (xs : List SignalRecord) (v : SignalRecord) → AreRising xs → A
 rising_with [] v rising below = (tt, tt)
 rising_with (x ∷ xs) v rising below = (all_back (λ (s : SignalRecord). x.serial < s.serial) xs v rising.0 below.0, rising_with xs v rising.1 below.1)
 
-count_if : (b : Bool) (r : SignalRecord) (rs : List SignalRecord) → length (if b then r ∷ rs else rs) ≡ (if b then 1 else 0) + length rs
-count_if true r rs = omega arith
-count_if false r rs = omega arith
-
-count_first : (r : SignalRecord) (rs : List SignalRecord) → counted_in (r ∷ rs) ≡ weight_of r.code + counted_in rs
-count_first r rs = count_if (is_counted r.code) r (filter (λ (r : SignalRecord). is_counted r.code) rs)
-
 pub count_with : (xs : List SignalRecord) (v : SignalRecord) → counted_in (xs ++ v ∷ []) ≡ counted_in xs + weight_of v.code
-count_with [] v = count_first v [] ∙ omega arith
-count_with (x ∷ xs) v = omega (arith, count_first x (xs ++ v ∷ []), count_with xs v, count_first x xs)
-
-count_few : (xs : List SignalRecord) → counted_in xs ≤ length xs
-count_few [] = omega arith
-count_few (x ∷ xs) = omega (arith, count_first x xs, count_few xs, at_most_one (is_counted x.code))
-  where
-    at_most_one : (b : Bool) → (if b then 1 else 0) ≤ 1
-    at_most_one true = omega arith
-    at_most_one false = omega arith
+count_with xs v = count_back (λ (r : SignalRecord). is_counted r.code) xs v
 
 pub length_records : (records : List SignalRecord) (order : List Arrival) → length (records_of records order) ≡ length order
 length_records records [] = refl
 length_records records (a ∷ order) = ap suc (length_records records order)
 
 pub few_counted : (records : List SignalRecord) (order : List Arrival) → counted_in (records_of records order) ≤ length order
-few_counted records order = omega (arith, count_few (records_of records order), length_records records order)
+few_counted records order = omega (arith, count_few (λ (r : SignalRecord). is_counted r.code) (records_of records order), length_records records order)
 
 pub kept_with : (arrivals arrivals' : Arrivals) (records : List SignalRecord) (counted n : ℕ) (timers : List ℕ) (v : SignalRecord) → AreKept arrivals records counted timers → v.signal < 32 → n < arrivals.nodes → has_come n arrivals.order ≡ false →
     arrivals' ≡ record arrivals { order = arrivals.order ++ record { node = n; rank = v.signal } ∷ [] } → AllByRecursion (λ (r : SignalRecord). r.serial < v.serial) (records_of records arrivals.order) →
@@ -188,19 +173,8 @@ module _ (records : List SignalRecord) (n : ℕ) where
   records_without [] rising came = cc
   records_without (a ∷ order) rising came = without_if a order (a.node == n) refl rising came (λ e. records_without order rising.1 e)
 
-  count_less : (a : Arrival) (order : List Arrival) (b : Bool) → (a.node == n) ≡ b → (if b then true else has_come n order) ≡ true →
-      (has_come n order ≡ true → counted_in (records_of records (without_node n order)) + weight_of (record_at records n).code ≡ counted_in (records_of records order)) →
-      counted_in (records_of records (if b then order else a ∷ without_node n order)) + weight_of (record_at records n).code ≡ counted_in (records_of records (a ∷ order))
-  count_less a order true e came later =
-      let is : a.node ≡ n = grind (arith, nat_tests, e) in
-      let weight : weight_of (record_of records a).code ≡ weight_of (record_at records n).code = ap (λ k. weight_of (record_at records k).code) is in
-      omega (arith, weight, count_first (record_of records a) (records_of records order))
-  count_less a order false e came later =
-      omega (arith, later came, count_first (record_of records a) (records_of records order), count_first (record_of records a) (records_of records (without_node n order)))
-
   pub count_without : (order : List Arrival) → has_come n order ≡ true → counted_in (records_of records (without_node n order)) + weight_of (record_at records n).code ≡ counted_in (records_of records order)
-  count_without [] came = cc
-  count_without (a ∷ order) came = count_less a order (a.node == n) refl came (λ e. count_without order e)
+  count_without order came = count_less (λ (r : SignalRecord). is_counted r.code) records n order came
 
   pub kept_without : (arrivals arrivals' : Arrivals) (counted : ℕ) (timers : List ℕ) → AreKept arrivals records counted timers → has_come n arrivals.order ≡ true → arrivals' ≡ record arrivals { order = without_node n arrivals.order } →
       AreKept arrivals' records (counted - weight_of (record_at records n).code) (with_one_fewer (record_at records n).timer timers)

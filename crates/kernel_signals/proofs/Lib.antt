@@ -1,3 +1,4 @@
+mod Counting
 mod Asking
 pub mod ByAge
 pub mod Keeping
