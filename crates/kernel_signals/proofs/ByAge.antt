@@ -9,6 +9,7 @@ use Rattle.rules_machine.specs.Lives.{without_target}
 use Rattle.rules_machine.specs.State.{SignalRecord}
 use Rattle.parts_arrivals.specs.Arrivals.{Arrival, Arrivals, AreDistinct, has_come, next_in_order, oldest, without_node}
 use Rattle.kernel_signals.specs.Ages.{before, before_node, kept_for, stays}
+use Rattle.kernel_signals.specs.Timed.{AreTimed}
 use Rattle.kernel_signals.specs.Kept.{AreKept, AreRanked, AreRising, counted_in, record_at, record_of, records_of, weight_of}
 use Rattle.kernel_signals.specs.Walks.{rest_of, since}
 use Rattle.kernel_signals.proofs.Keeping.{count_with, few_counted, records_back}
@@ -205,9 +206,9 @@ pub records_kept : (t : ℕ) (records : List SignalRecord) (order : List Arrival
 records_kept t records [] = refl
 records_kept t records (a ∷ order) = without_if t records a order (stays t records a) (records_kept t records order)
 
-pub kept_stay : (t counted counted' : ℕ) (records : List SignalRecord) (arrivals arrivals' : Arrivals) → AreKept arrivals records counted → arrivals' ≡ record arrivals { order = kept_for t records arrivals.order } →
-    counted' ≡ counted_in (records_of records arrivals'.order) → AreKept arrivals' records counted'
-kept_stay t counted counted' records arrivals arrivals' kept is e =
+pub kept_stay : (t counted counted' : ℕ) (records : List SignalRecord) (arrivals arrivals' : Arrivals) (timers timers' : List ℕ) → AreKept arrivals records counted timers → arrivals' ≡ record arrivals { order = kept_for t records arrivals.order } →
+    counted' ≡ counted_in (records_of records arrivals'.order) → length timers' ≡ 256 → AreTimed timers' (records_of records arrivals'.order) → AreKept arrivals' records counted' timers'
+kept_stay t counted counted' records arrivals arrivals' timers timers' kept is e long timed =
     let seen : records_of records arrivals'.order ≡ without_target t (records_of records arrivals.order) = ap (λ (a : Arrivals). records_of records a.order) is ∙ records_kept t records arrivals.order in
     record {
       nodes = ap (λ (a : Arrivals). a.nodes) is ∙ kept.nodes;
@@ -217,4 +218,6 @@ kept_stay t counted counted' records arrivals arrivals' kept is e =
       signals = subst (λ (rs : List SignalRecord). AllByRecursion (λ (r : SignalRecord). r.signal < 32) rs) (sym seen)
           (all_filter (λ (r : SignalRecord). r.signal < 32) (λ (r : SignalRecord). not (is_of r.target t)) (records_of records arrivals.order) kept.signals);
       tallied = e;
+      long = long;
+      timed = timed;
     }

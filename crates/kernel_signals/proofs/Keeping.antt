@@ -1,13 +1,16 @@
 -- Records that are kept as one becomes pending, and as one is taken.
-use Rattle.std.specs.Prelude.{All, Contains, filter, not}
+use Rattle.std.specs.Prelude.{All, Contains, filter, not, replicate}
 use Rattle.std.specs.List.{AllByRecursion}
-use Rattle.std.proofs.Common.{◌≡◌, ◌≢◌, ℕ, zero, suc, ◌+◌, ◌-◌, ◌<◌, ◌≤◌, ◌==◌, Bool, true, false, List, [], ◌∷◌, ◌++◌, length, set, get_or, if◌then◌else◌, refl, sym, ap, ap₂, subst, ◌∙◌, arith}
+use Rattle.std.proofs.Common.{◌≡◌, ◌≢◌, ℕ, zero, suc, ◌+◌, ◌-◌, ◌<◌, ◌≤◌, ◌==◌, Bool, true, false, List, [], ◌∷◌, ◌++◌, length, set, get_or, if◌then◌else◌, refl, sym, ap, ap₂, subst, subst₂, ◌∙◌, arith}
 use Rattle.std.proofs.lemmas.Bool.Decides.{nat_tests}
 use Rattle.std.proofs.lemmas.List.{get_or-set_same, get_or-set_other, length-set}
 use Rattle.rules_machine.specs.State.{SignalRecord}
 use Rattle.rules_machine.specs.Signals.{is_counted, without_record}
 use Rattle.parts_arrivals.specs.Arrivals.{Arrival, Arrivals, has_come, without_node}
-use Rattle.kernel_signals.specs.Kept.{AreKept, AreRanked, AreRising, counted_in, no_record, record_at, record_of, records_of, weight_of}
+use Rattle.kernel_signals.specs.Timed.{AreTimed, with_one, with_one_fewer}
+use Rattle.kernel_signals.proofs.Counting.{count_back, count_few, count_less}
+use Rattle.kernel_signals.proofs.Timing.{long_fewer, long_more, timed_fewer, timed_more, timed_none}
+use Rattle.kernel_signals.specs.Kept.{AreKept, AreRanked, AreRising, counted_in, no_record, room, record_at, record_of, records_of, weight_of}
 
 -- ---- of all members of a list
 
@@ -23,6 +26,18 @@ to_all P (x ∷ xs) all (suc k) d l = to_all P xs all.1 k d (omega (arith, l))
 all_back : {X : Type 0} (P : X → Type 0) (xs : List X) (x : X) → AllByRecursion P xs → P x → AllByRecursion P (xs ++ x ∷ [])
 all_back P [] x all p = (p, tt)
 all_back P (y ∷ xs) x all p = (all.0, all_back P xs x all.1 p)
+
+-- ---- nothing is pending
+
+pub kept_none : (arrivals : Arrivals) (records : List SignalRecord) (timers : List ℕ) → arrivals ≡ record { nodes = room; order = [] } → records ≡ replicate room no_record → timers ≡ replicate 256 0
+    → AreKept arrivals records 0 timers
+kept_none arrivals records timers a r t =
+    subst (λ (x : Arrivals). AreKept x records 0 timers) (sym a) (subst₂ (λ (rs : List SignalRecord) (ts : List ℕ). AreKept (record { nodes = room; order = [] }) rs 0 ts) (sym r) (sym t)
+    (record { nodes = refl; known = length_all no_record room; ranked = tt; rising = tt; signals = tt; tallied = refl; long = (let none : ℕ = 0 in length_all none 256); timed = timed_none }))
+  where
+    length_all : {X : Type 0} (x : X) (n : ℕ) → length (replicate n x) ≡ n
+    length_all x zero = refl
+    length_all x (suc n) = ap suc (length_all x n)
 
 -- ---- a record becomes pending
 
@@ -63,36 +78,20 @@ rising_with : (xs : List SignalRecord) (v : SignalRecord) → AreRising xs → A
 rising_with [] v rising below = (tt, tt)
 rising_with (x ∷ xs) v rising below = (all_back (λ (s : SignalRecord). x.serial < s.serial) xs v rising.0 below.0, rising_with xs v rising.1 below.1)
 
-count_if : (b : Bool) (r : SignalRecord) (rs : List SignalRecord) → length (if b then r ∷ rs else rs) ≡ (if b then 1 else 0) + length rs
-count_if true r rs = omega arith
-count_if false r rs = omega arith
-
-count_first : (r : SignalRecord) (rs : List SignalRecord) → counted_in (r ∷ rs) ≡ weight_of r.code + counted_in rs
-count_first r rs = count_if (is_counted r.code) r (filter (λ (r : SignalRecord). is_counted r.code) rs)
-
 pub count_with : (xs : List SignalRecord) (v : SignalRecord) → counted_in (xs ++ v ∷ []) ≡ counted_in xs + weight_of v.code
-count_with [] v = count_first v [] ∙ omega arith
-count_with (x ∷ xs) v = omega (arith, count_first x (xs ++ v ∷ []), count_with xs v, count_first x xs)
-
-count_few : (xs : List SignalRecord) → counted_in xs ≤ length xs
-count_few [] = omega arith
-count_few (x ∷ xs) = omega (arith, count_first x xs, count_few xs, at_most_one (is_counted x.code))
-  where
-    at_most_one : (b : Bool) → (if b then 1 else 0) ≤ 1
-    at_most_one true = omega arith
-    at_most_one false = omega arith
+count_with xs v = count_back (λ (r : SignalRecord). is_counted r.code) xs v
 
 pub length_records : (records : List SignalRecord) (order : List Arrival) → length (records_of records order) ≡ length order
 length_records records [] = refl
 length_records records (a ∷ order) = ap suc (length_records records order)
 
 pub few_counted : (records : List SignalRecord) (order : List Arrival) → counted_in (records_of records order) ≤ length order
-few_counted records order = omega (arith, count_few (records_of records order), length_records records order)
+few_counted records order = omega (arith, count_few (λ (r : SignalRecord). is_counted r.code) (records_of records order), length_records records order)
 
-pub kept_with : (arrivals arrivals' : Arrivals) (records : List SignalRecord) (counted n : ℕ) (v : SignalRecord) → AreKept arrivals records counted → v.signal < 32 → n < arrivals.nodes → has_come n arrivals.order ≡ false →
+pub kept_with : (arrivals arrivals' : Arrivals) (records : List SignalRecord) (counted n : ℕ) (timers : List ℕ) (v : SignalRecord) → AreKept arrivals records counted timers → v.signal < 32 → n < arrivals.nodes → has_come n arrivals.order ≡ false →
     arrivals' ≡ record arrivals { order = arrivals.order ++ record { node = n; rank = v.signal } ∷ [] } → AllByRecursion (λ (r : SignalRecord). r.serial < v.serial) (records_of records arrivals.order) →
-    AreKept arrivals' (set records n v) (counted + weight_of v.code)
-kept_with arrivals arrivals' records counted n v kept small below fresh is youngest =
+    AreKept arrivals' (set records n v) (counted + weight_of v.code) (with_one v.timer timers)
+kept_with arrivals arrivals' records counted n timers v kept small below fresh is youngest =
     let known : n < length records = omega (arith, below, kept.nodes, kept.known) in
     let seen : records_of (set records n v) arrivals'.order ≡ records_of records arrivals.order ++ v ∷ [] =
     ap (λ (a : Arrivals). records_of (set records n v) a.order) is ∙ records_with records n v.signal v arrivals.order known fresh in
@@ -104,6 +103,8 @@ kept_with arrivals arrivals' records counted n v kept small below fresh is young
       signals = subst (λ (rs : List SignalRecord). AllByRecursion (λ (r : SignalRecord). r.signal < 32) rs) (sym seen)
           (all_back (λ (r : SignalRecord). r.signal < 32) (records_of records arrivals.order) v kept.signals small);
       tallied = omega (arith, kept.tallied, ap counted_in seen, count_with (records_of records arrivals.order) v);
+      long = long_more v.timer timers ∙ kept.long;
+      timed = subst (AreTimed (with_one v.timer timers)) (sym seen) (timed_more timers (records_of records arrivals.order) v kept.long kept.timed);
     }
 
 -- ---- a record is taken
@@ -172,29 +173,20 @@ module _ (records : List SignalRecord) (n : ℕ) where
   records_without [] rising came = cc
   records_without (a ∷ order) rising came = without_if a order (a.node == n) refl rising came (λ e. records_without order rising.1 e)
 
-  count_less : (a : Arrival) (order : List Arrival) (b : Bool) → (a.node == n) ≡ b → (if b then true else has_come n order) ≡ true →
-      (has_come n order ≡ true → counted_in (records_of records (without_node n order)) + weight_of (record_at records n).code ≡ counted_in (records_of records order)) →
-      counted_in (records_of records (if b then order else a ∷ without_node n order)) + weight_of (record_at records n).code ≡ counted_in (records_of records (a ∷ order))
-  count_less a order true e came later =
-      let is : a.node ≡ n = grind (arith, nat_tests, e) in
-      let weight : weight_of (record_of records a).code ≡ weight_of (record_at records n).code = ap (λ k. weight_of (record_at records k).code) is in
-      omega (arith, weight, count_first (record_of records a) (records_of records order))
-  count_less a order false e came later =
-      omega (arith, later came, count_first (record_of records a) (records_of records order), count_first (record_of records a) (records_of records (without_node n order)))
-
   pub count_without : (order : List Arrival) → has_come n order ≡ true → counted_in (records_of records (without_node n order)) + weight_of (record_at records n).code ≡ counted_in (records_of records order)
-  count_without [] came = cc
-  count_without (a ∷ order) came = count_less a order (a.node == n) refl came (λ e. count_without order e)
+  count_without order came = count_less (λ (r : SignalRecord). is_counted r.code) records n order came
 
-  pub kept_without : (arrivals arrivals' : Arrivals) (counted : ℕ) → AreKept arrivals records counted → has_come n arrivals.order ≡ true → arrivals' ≡ record arrivals { order = without_node n arrivals.order } →
-      AreKept arrivals' records (counted - weight_of (record_at records n).code)
-  kept_without arrivals arrivals' counted kept came is = record {
+  pub kept_without : (arrivals arrivals' : Arrivals) (counted : ℕ) (timers : List ℕ) → AreKept arrivals records counted timers → has_come n arrivals.order ≡ true → arrivals' ≡ record arrivals { order = without_node n arrivals.order } →
+      AreKept arrivals' records (counted - weight_of (record_at records n).code) (with_one_fewer (record_at records n).timer timers)
+  kept_without arrivals arrivals' counted timers kept came is = record {
     nodes = ap (λ (a : Arrivals). a.nodes) is ∙ kept.nodes;
     known = kept.known;
     ranked = subst (λ (a : Arrivals). AreRanked records a.order) (sym is) (ranked_without arrivals.order kept.ranked);
     rising = subst (λ (a : Arrivals). AreRising (records_of records a.order)) (sym is) (rising_without arrivals.order kept.rising);
     signals = subst (λ (a : Arrivals). AllByRecursion (λ (r : SignalRecord). r.signal < 32) (records_of records a.order)) (sym is) (all_without (λ (r : SignalRecord). r.signal < 32) arrivals.order kept.signals);
     tallied = omega (arith, kept.tallied, count_without arrivals.order came, ap (λ (a : Arrivals). counted_in (records_of records a.order)) is);
+    long = long_fewer (record_at records n).timer timers ∙ kept.long;
+    timed = subst (λ (a : Arrivals). AreTimed (with_one_fewer (record_at records n).timer timers) (records_of records a.order)) (sym is) (timed_fewer timers records n arrivals.order kept.long came kept.timed);
   }
 
 -- ---- a member

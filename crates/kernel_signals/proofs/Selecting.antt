@@ -162,11 +162,6 @@ module _ (t set : ℕ) (records : List SignalRecord) where
       selected_in (records_of records order) (is_in_set t set) ≡ None
   none_selected nodes order each ranked none = ap (first_by is_selected_before) (none_pass nodes order each (are_above order 32 ranked none))
 
--- where nothing is pending, nothing is found
-pub none_of_none : (t set : ℕ) (records : List SignalRecord) (order : List Arrival) (limit : ℕ) → (length order == 0) ≡ true → NoneBelow t set records order limit
-none_of_none t set records [] limit e s below has = refl
-none_of_none t set records (a ∷ order) limit e s below has = absurd (grind (arith, nat_tests, e))
-
 -- ---- by a serial
 
 record_if : (P : Bool) (node n : ℕ) (rest : Option ℕ) (Q : ℕ → Type 0) → (P ≡ true → Q node) → (rest ≡ Some n → Q n) → (if P then Some node else rest) ≡ Some n → Q n

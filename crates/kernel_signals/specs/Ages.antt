@@ -4,13 +4,10 @@ use Rattle.rules_machine.specs.Lists.{is}
 use Rattle.rules_machine.specs.State.{SignalRecord}
 use Rattle.parts_arrivals.specs.Arrivals.{Arrival}
 use Rattle.kernel_signals.specs.Kept.{record_of}
-use Rattle.kernel_signals.specs.declared.ages.Source.{Source}
-use Rattle.kernel_signals.specs.declared.ages.Source.TheVariants.{Queue, Timer}
 
--- whether a record is from a timer or a queue
-abbrev pub is_from : Source → SignalRecord → Bool
-is_from (Timer k) r = is r.timer k
-is_from (Queue q) r = is r.queue q
+-- whether a record is from a queue's notification
+abbrev pub is_from : ℕ → SignalRecord → Bool
+is_from q r = is r.queue q
 
 abbrev pub stays : ℕ → List SignalRecord → Arrival → Bool
 stays t records a = not (is (record_of records a).target t)

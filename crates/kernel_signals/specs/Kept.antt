@@ -7,6 +7,7 @@ use Rattle.rules_machine.specs.GoodState.{count_of}
 use Rattle.rules_machine.specs.Signals.{is_counted}
 use Rattle.rules_machine.specs.State.{SignalRecord}
 use Rattle.parts_arrivals.specs.Arrivals.{Arrival, Arrivals}
+use Rattle.kernel_signals.specs.Timed.{AreTimed}
 
 -- what stands where there is no record
 abbrev pub no_record : SignalRecord
@@ -43,10 +44,12 @@ counted_in pending = count_of (λ (r : SignalRecord). is_counted r.code) pending
 abbrev pub room : ℕ
 room = 112
 
-pub record AreKept (arrivals : Arrivals) (records : List SignalRecord) (counted : ℕ) : Type 0 where
+pub record AreKept (arrivals : Arrivals) (records : List SignalRecord) (counted : ℕ) (timers : List ℕ) : Type 0 where
   pub nodes : arrivals.nodes ≡ room
   pub known : length records ≡ room
   pub ranked : AreRanked records arrivals.order
   pub rising : AreRising (records_of records arrivals.order)
   pub signals : AllByRecursion (λ (r : SignalRecord). r.signal < 32) (records_of records arrivals.order)
   pub tallied : counted ≡ counted_in (records_of records arrivals.order)
+  pub long : length timers ≡ 256
+  pub timed : AreTimed timers (records_of records arrivals.order)

@@ -3,3 +3,4 @@ pub mod Choice
 pub mod Kept
 pub mod Walks
 pub mod Actions
+pub mod Timed

@@ -4,17 +4,12 @@ ghost use Rattle.std.specs.List.{list_any};
 ghost use Rattle.rules_machine.specs.Lists.{is};
 ghost use Rattle.kernel_signals.specs.Ages.{is_from, kept_for};
 ghost use Rattle.kernel_signals.specs.Kept.{counted_in, records_of, weight_of};
+ghost use Rattle.kernel_signals.specs.Timed.{AreTimed};
 
 use crate::record::SignalRecord;
+use crate::timed::Timed;
 use parts_arrivals::Arrivals;
 use words_numbers::{ObjId, SigCode, Tid};
-
-/// What generated a record.
-#[derive(Clone, Copy)]
-pub(crate) enum Source {
-    Timer(ObjId),
-    Queue(ObjId),
-}
 
 /// How much a record of this code counts towards the limit.
 pub(crate) fn weight(code: SigCode) -> u32
@@ -36,13 +31,10 @@ fn is_object(k: ObjId, object: Option<ObjId>) -> bool
     }
 }
 
-fn is_from(source: &Source, kept: &SignalRecord) -> bool
-    ensures { result ≡ is_from source.now kept.now }
+fn is_from(q: ObjId, kept: &SignalRecord) -> bool
+    ensures { result ≡ is_from q kept.now }
 {
-    match *source {
-        Source::Timer(k) => is_object(k, kept.timer()),
-        Source::Queue(q) => is_object(q, kept.queue()),
-    }
+    is_object(q, kept.queue())
 }
 
 fn is_for(t: Tid, target: Option<Tid>) -> bool
@@ -54,14 +46,14 @@ fn is_for(t: Tid, target: Option<Tid>) -> bool
     }
 }
 
-/// Whether a record is from there.
-pub(crate) fn is_any_from(arrivals: &Arrivals, records: &[SignalRecord], source: &Source) -> bool
+/// Whether a record is from the queue's notification.
+pub(crate) fn is_any_from(arrivals: &Arrivals, records: &[SignalRecord], q: ObjId) -> bool
     requires { arrivals.now.nodes ≡ length records.now }
-    ensures { result ≡ list_any (is_from source.now) (records_of records.now arrivals.now.order) }
+    ensures { result ≡ list_any (is_from q) (records_of records.now arrivals.now.order) }
 {
     let mut at = arrivals.oldest();
     while let Some(node) = at {
-        if is_from(source, &records[node as usize]) {
+        if is_from(q, &records[node as usize]) {
             return true;
         }
         at = arrivals.after(node);
@@ -70,11 +62,20 @@ pub(crate) fn is_any_from(arrivals: &Arrivals, records: &[SignalRecord], source:
 }
 
 /// The records that are for the thread leave. The answer is how much those that stay count towards the limit.
-pub(crate) fn drop_for(arrivals: &mut Arrivals, records: &[SignalRecord], t: Tid) -> u32
+pub(crate) fn drop_for(
+    arrivals: &mut Arrivals,
+    records: &[SignalRecord],
+    timed: &mut Timed,
+    t: Tid,
+) -> u32
     requires known { arrivals.old.nodes ≡ length records.now }
     requires few { arrivals.old.nodes ≤ 65536 }
+    requires long { length timed.old ≡ 256 }
+    requires timed { AreTimed timed.old (records_of records.now arrivals.old.order) }
     ensures order { arrivals.new ≡ record arrivals.old { order = kept_for t records.now arrivals.old.order } }
     ensures counted { result ≡ counted_in (records_of records.now arrivals.new.order) }
+    ensures long { length timed.new ≡ 256 }
+    ensures timed { AreTimed timed.new (records_of records.now arrivals.new.order) }
 {
     let mut stay = 0;
     let mut at = arrivals.oldest();
@@ -83,6 +84,7 @@ pub(crate) fn drop_for(arrivals: &mut Arrivals, records: &[SignalRecord], t: Tid
         let kept = records[node as usize];
         if is_for(t, kept.target()) {
             arrivals.leave(node);
+            timed.remove(kept.timer());
         } else {
             stay += weight(kept.code());
         }

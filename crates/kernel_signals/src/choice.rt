@@ -6,6 +6,7 @@ ghost use Rattle.kernel_signals.specs.Choice.{IsLowest, NoneBelow, first_wanted,
 
 use crate::record::SignalRecord;
 use parts_arrivals::Arrivals;
+use parts_bits::words::first_bit;
 use words_numbers::{SigSet, Tid};
 
 /// What is asked of a record: that it may go to a thread, or that it has a serial.
@@ -56,7 +57,8 @@ pub(crate) fn first_wanted(
     None
 }
 
-/// The node of the record that is selected among those of the set that may go to the thread. None exactly where there is none.
+/// The node of the record that is selected among those of the set that may go to the thread. None exactly where there is none. It looks
+/// only at signals of the set that have records.
 pub(crate) fn lowest(
     arrivals: &Arrivals,
     records: &[SignalRecord],
@@ -68,16 +70,14 @@ pub(crate) fn lowest(
     ensures came { IfSome result (λ n. has_come n arrivals.now.order ≡ true) }
     ensures arrivals { AreArrivals arrivals.now }
 {
-    if arrivals.is_empty() {
-        return None;
-    }
-    for signal in 0u8..32 {
-        if set.contains(signal) {
-            let first = first_wanted(arrivals, records, signal, &Wanted::ForThread(t));
-            if first.is_some() {
-                return first;
-            }
+    let asked = (set.bits() & arrivals.ranks()) as u64;
+    let mut at = first_bit(asked, 0);
+    while let Some(signal) = at {
+        let first = first_wanted(arrivals, records, signal as u8, &Wanted::ForThread(t));
+        if first.is_some() {
+            return first;
         }
+        at = first_bit(asked, signal + 1);
     }
     None
 }

@@ -13,6 +13,7 @@ mod ages;
 mod choice;
 mod pending;
 mod record;
+mod timed;
 
 pub use actions::Actions;
 pub use pending::Pending;

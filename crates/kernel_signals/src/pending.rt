@@ -9,9 +9,10 @@ ghost use Rattle.rules_machine.specs.State as machine;
 ghost use Rattle.kernel_signals.specs.Choice.{is_in_set, may_take, selected_in, without_one};
 ghost use Rattle.kernel_signals.specs.Kept.{counted_in, no_record, room};
 
-use crate::ages::{Source, drop_for, is_any_from, weight};
+use crate::ages::{drop_for, is_any_from, weight};
 use crate::choice::{Wanted, first_wanted, lowest};
 use crate::record::SignalRecord;
+use crate::timed::Timed;
 use parts_arrivals::Arrivals;
 use std::alloc::{AllocError, Global};
 use std::marker::Model;
@@ -31,6 +32,7 @@ pub struct Pending {
     records: Vec<SignalRecord>,
     // those of kill, tkill and sigqueue
     counted: u32,
+    timed: Timed,
 }
 
 impl Model for Pending {
@@ -42,7 +44,7 @@ impl Model for Pending {
 
     ghost view = { λ p. records_of p.records.items p.arrivals.order };
 
-    ghost invariant = { λ p. AreKept p.arrivals p.records.items p.counted };
+    ghost invariant = { λ p. AreKept p.arrivals p.records.items p.counted p.timed };
 }
 
 // The signals that the mask lets through and that the thread takes.
@@ -77,6 +79,7 @@ impl Pending {
             arrivals,
             records,
             counted: 0,
+            timed: Timed::none(),
         })
     }
 
@@ -97,6 +100,7 @@ impl Pending {
         let node = self.arrivals.enter(generated.signal());
         self.records[node as usize] = generated.pending_since(serial);
         self.counted += weight(generated.code());
+        self.timed.add(generated.timer());
     }
 
     /// Takes the record that is selected among those of the set that are for the thread or for the process. None exactly where there is
@@ -109,6 +113,7 @@ impl Pending {
         self.arrivals.leave(node);
         let taken = self.records[node as usize];
         self.counted -= weight(taken.code());
+        self.timed.remove(taken.timer());
         Some(taken)
     }
 
@@ -157,26 +162,27 @@ impl Pending {
         self.arrivals.leave(node);
         let kept = self.records[node as usize];
         self.counted -= weight(kept.code());
+        self.timed.remove(kept.timer());
     }
 
     /// The records that are for the thread are no longer pending.
     pub fn drop_for(&mut self, t: Tid)
         ensures { self.new ≡ without_target t self.old }
     {
-        self.counted = drop_for(&mut self.arrivals, &self.records, t);
+        self.counted = drop_for(&mut self.arrivals, &self.records, &mut self.timed, t);
     }
 
     /// Whether a record of the timer is pending.
     pub fn is_pending_from_timer(&self, k: ObjId) -> bool
         ensures { result ≡ list_any (λ (r : machine.SignalRecord). is r.timer k) self.now }
     {
-        is_any_from(&self.arrivals, &self.records, &Source::Timer(k))
+        self.timed.has_any(k)
     }
 
     /// Whether a record of the queue's notification is pending.
     pub fn is_pending_from_queue(&self, q: ObjId) -> bool
         ensures { result ≡ list_any (λ (r : machine.SignalRecord). is r.queue q) self.now }
     {
-        is_any_from(&self.arrivals, &self.records, &Source::Queue(q))
+        is_any_from(&self.arrivals, &self.records, q)
     }
 }

@@ -57,6 +57,9 @@ module _ (arrived ranked : Lists) (ranks : List ℕ) (marks count : ℕ) (h : Ar
   pub first_held : (rank : ℕ) → rank < 32 → slice_get (list_at ranked.lists rank) 0 ≡ first_of_rank rank (order_of ranks (list_at arrived.lists 0))
   first_held rank l = ap (λ (xs : List ℕ). slice_get xs 0) (h.placed rank l) ∙ sym (Orders.first_is rank (order_of ranks (list_at arrived.lists 0)))
 
+  pub marked_held : (rank : ℕ) → rank < 32 → is_marked rank marks ≡ is_some (first_of_rank rank (order_of ranks (list_at arrived.lists 0)))
+  marked_held rank l = h.marked rank l ∙ sym (some_head (list_at ranked.lists rank)) ∙ ap (λ (o : Option ℕ). is_some o) (first_held rank l)
+
   pub highest_held : (o : Option ℕ) → MatchOption o (NoneIsMarked marks) (λ rank. IsHighest rank marks) → o ≡ highest_rank (order_of ranks (list_at arrived.lists 0))
   highest_held None none = highest_none arrived.nodes (order_of ranks (list_at arrived.lists 0)) are_arrivals.each
       (λ k l. ap (λ (xs : List ℕ). length xs) (sym (h.placed k l)) ∙ no_length (list_at ranked.lists k) (sym (h.marked k l) ∙ none k))

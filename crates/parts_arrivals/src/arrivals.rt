@@ -1,7 +1,7 @@
 //! The order of arrival, and that within each rank.
-ghost use Rattle.std.specs.Prelude.{◌≡◌, ◌==◌, ◌++◌, ◌∷◌, [], ◌<◌, ◌≤◌, false, true, not, nat_lt, IfOk, IfSome, length, replicate};
+ghost use Rattle.std.specs.Prelude.{◌≡◌, ◌==◌, ◌++◌, ◌∷◌, [], ◌<◌, ◌≤◌, false, true, not, nat_lt, ℕ, is_some, IfOk, IfSome, length, replicate};
 ghost use Rattle.parts_arrivals.specs.Arrivals.{AreArrivals, has_come, without_node, first_of_rank, next_of_rank, oldest, next_in_order, highest_rank};
-ghost use Rattle.parts_arrivals.specs.Held.{first_nodes};
+ghost use Rattle.parts_arrivals.specs.Held.{first_nodes, is_marked};
 
 use crate::marks::{highest_mark, with_mark};
 use parts_links::Links;
@@ -143,6 +143,14 @@ impl Arrivals {
         ensures rank { IfSome result (λ rank. rank < 32) }
     {
         highest_mark(self.marks)
+    }
+
+    /// The ranks that have nodes, a bit for each, the least standing for rank 0.
+    pub fn ranks(&self) -> u32
+        ensures value { (rank : ℕ) → rank < 32 → is_marked rank result ≡ is_some (first_of_rank rank self.now.order) }
+        ensures arrivals { AreArrivals self.now }
+    {
+        self.marks
     }
 
     /// The oldest of a rank. None exactly where the rank has none.

@@ -5,5 +5,6 @@ pub mod Linkeds
 mod Memory
 mod Sharing
 pub mod Standing
+mod Tails
 pub mod Walks
 mod Writes

@@ -86,6 +86,16 @@ impl Block {
         self.cells.get(next).number
     }
 
+    /// The number of the cell before this one.
+    pub(crate) fn before(&self, cell: u32) -> u32
+        requires { cell < length self.now.after }
+        ensures { result ≡ get_or self.now.before cell 0 }
+    {
+        let place = self.cells.place(self.base, cell as usize);
+        let last = Place::at(self.cells.get(place).before);
+        self.cells.get(last).number
+    }
+
     pub(crate) fn list(&self, cell: u32) -> u32
         requires { cell < length self.now.list }
         ensures { result ≡ get_or self.now.list cell 0 }

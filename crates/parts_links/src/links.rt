@@ -1,5 +1,6 @@
 //! Lists that share their nodes: each node stands at most once in all of them.
-ghost use Rattle.std.specs.Prelude.{IfSome, ◌≡◌, ◌++◌, [], ◌∷◌, ◌<◌, ◌≤◌, false, true, length, map, replicate, slice_get, slice_set, IfOk, MatchOption, get_or, ◌+◌, ◌⊎◌};
+ghost use Rattle.std.specs.Prelude.{IfSome, None, ◌≡◌, ◌++◌, [], ◌∷◌, ◌<◌, ◌≤◌, false, true, length, map, replicate, slice_get, slice_set, IfOk, MatchOption, get_or, ◌+◌, ◌⊎◌};
+ghost use Rattle.std.specs.List.{last_or};
 ghost use Rattle.parts_links.specs.Links.{Lists, list_at, stands_in, on_a_list, without, placed, placed_before, follower_on, OthersStay, StandOnce};
 
 use crate::block::Block;
@@ -96,6 +97,15 @@ impl Links {
         } else {
             None
         }
+    }
+
+    /// The tail of the list. None exactly where it is empty.
+    pub fn back(&self, list: u32) -> Option<u32>
+        requires { list < length self.now.lists }
+        ensures tail { result ≡ last_or None (list_at self.now.lists list) }
+    {
+        let last = self.block.before(self.nodes + list);
+        if last < self.nodes { Some(last) } else { None }
     }
 
     /// The node after this one in its list. None exactly where it is the last.

@@ -5,4 +5,5 @@ mod Precedence
 pub mod Served
 mod Serving
 pub mod Stands
+mod Tail
 mod Waiting

@@ -14,6 +14,7 @@ fn nodes_come_and_leave(rt: HostRuntime) -> Result<(), Fail> {
     let third = arrivals.enter(5);
     assert_eq!(rt; arrivals.len(), 3);
     assert_eq!(rt; arrivals.highest(), Some(31));
+    assert_eq!(rt; arrivals.ranks(), 1 << 5 | 1 << 31);
     assert_eq!(rt; arrivals.first(5), Some(first));
     assert_eq!(rt; arrivals.next(first), Some(third));
     assert_eq!(rt; arrivals.oldest(), Some(first));

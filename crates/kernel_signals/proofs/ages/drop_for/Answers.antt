@@ -1,10 +1,12 @@
-use Rattle.std.proofs.Common.{◌<◌, ◌+◌, ◌++◌, List, length, true, sym, ap, ap₂, subst₂, ◌∙◌, arith}
+use Rattle.std.proofs.Common.{◌<◌, ◌+◌, ◌++◌, ℕ, List, length, true, sym, ap, ap₂, subst₂, ◌∙◌, arith}
 use Rattle.rules_machine.specs.Lists.{is}
 use Rattle.rules_machine.specs.State.{SignalRecord}
 use Rattle.parts_arrivals.specs.Arrivals.{Arrival, Arrivals, has_come, next_in_order, without_node}
 use Rattle.kernel_signals.specs.Ages.{before, kept_for}
 use Rattle.kernel_signals.specs.Kept.{counted_in, records_of, weight_of}
 use Rattle.kernel_signals.specs.Walks.{rest_of}
+use Rattle.kernel_signals.specs.Timed.{AreTimed, with_one_fewer}
+use Rattle.kernel_signals.proofs.Timing.{long_fewer, timed_fewer}
 use Rattle.kernel_signals.proofs.ByAge.{after_in, after_shorter, counted_more, dropped, few_before, kept_gone, next_same, stayed, still_in}
 use Rattle.kernel_signals.proofs.Walking.{come_below, read_record}
 use Rattle.kernel_signals.proofs.ages.drop_for.Goals as goal
@@ -59,6 +61,9 @@ loop-at-preserved-then-is_for c =
       order = c.leave.ensures ∙ ap (λ (b : Arrivals). record b { order = without_node n b.order }) whole
           ∙ ap (λ (ys : List Arrival). record a { order = ys }) (dropped t rs o n came d goes ∙ sym (ap (λ q. kept_for t rs (before q o) ++ rest_of q o) next));
       come = λ m e. after_in (λ (r : SignalRecord). true) rs o n came d m (sym next ∙ e);
+      long = ap (λ ts. length ts) c.remove.ensures ∙ long_fewer c.timer.result c.loop-at.timed ∙ c.loop-at.invariant.long;
+      timed = subst₂ (λ (ts : List ℕ) (b : Arrivals). AreTimed ts (records_of rs b.order)) (sym (c.remove.ensures ∙ ap (λ q. with_one_fewer q c.loop-at.timed) (c.timer.ensures ∙ ap (λ (r : SignalRecord). r.timer) read))) (sym c.leave.ensures)
+          (timed_fewer c.loop-at.timed rs n c.loop-at.arrivals.order c.loop-at.invariant.long (ap (λ (b : Arrivals). has_come n b.order) whole ∙ still_in t rs o n came d) c.loop-at.invariant.timed);
       counted = c.loop-at.invariant.counted ∙ ap (λ q. counted_in (records_of rs (kept_for t rs (before q o)))) c.in-Some.is
           ∙ sym (ap (λ (xs : List Arrival). counted_in (records_of rs xs)) (kept_gone t rs o n came d goes)) ∙ sym (ap (λ q. counted_in (records_of rs (kept_for t rs (before q o)))) next);
     }
@@ -78,6 +83,8 @@ loop-at-preserved c =
     record {
       order = whole ∙ ap (λ (ys : List Arrival). record a { order = ys }) (stayed t rs o n came d goes ∙ sym (ap (λ q. kept_for t rs (before q o) ++ rest_of q o) next));
       come = λ m e. after_in (λ (r : SignalRecord). true) rs o n came d m (sym next ∙ e);
+      long = c.loop-at.invariant.long;
+      timed = c.loop-at.invariant.timed;
       counted = ap₂ (λ k w. k + w) until weight ∙ sym (counted_more t rs o n came d goes) ∙ sym (ap (λ q. counted_in (records_of rs (kept_for t rs (before q o)))) next);
     }
 

@@ -9,7 +9,7 @@ use Rattle.kernel_signals.proofs.ages.is_any_from.Goals as goal
 
 pub loop-at-init : goal.loop-at-init
 loop-at-init c =
-    let order = c.args.arrivals.now.order in let rs = c.args.records.now in let p = is_from c.args.source.now in (
+    let order = c.args.arrivals.now.order in let rs = c.args.records.now in let p = is_from c.args.q in (
       ap (λ o. list_any p (records_of rs (rest_of o order))) c.oldest-at.ensures.value ∙ ap (λ o. list_any p (records_of rs o)) (rest_oldest order),
       λ n e. oldest_in n order (sym c.oldest-at.ensures.value ∙ e),
     )
@@ -21,7 +21,7 @@ bounds-records-node c =
 
 pub returns-then-is_from : goal.returns-then-is_from
 returns-then-is_from c =
-    let a = c.args.arrivals.now in let n = c.in-Some.node in let rs = c.args.records.now in let p = is_from c.args.source.now in let d = c.oldest-at.ensures.arrivals.distinct in
+    let a = c.args.arrivals.now in let n = c.in-Some.node in let rs = c.args.records.now in let p = is_from c.args.q in let d = c.oldest-at.ensures.arrivals.distinct in
     let came = c.loop-at.invariant.1 n c.in-Some.is in
     let known : n < length rs = omega (arith, c.requires, come_below n a.nodes a.order c.oldest-at.ensures.arrivals.each came) in
     let read = read_record rs n c.index-records-node.result c.index-records-node.is known in
@@ -30,13 +30,13 @@ returns-then-is_from c =
 
 pub loop-at-smaller : goal.loop-at-smaller
 loop-at-smaller c =
-    let a = c.args.arrivals.now in let n = c.in-Some.node in let rs = c.args.records.now in let p = is_from c.args.source.now in let d = c.oldest-at.ensures.arrivals.distinct in
+    let a = c.args.arrivals.now in let n = c.in-Some.node in let rs = c.args.records.now in let p = is_from c.args.q in let d = c.oldest-at.ensures.arrivals.distinct in
     let came = c.loop-at.invariant.1 n c.in-Some.is in
     subst₂ (λ o q. length (rest_of o a.order) < length (rest_of q a.order)) (sym c.after-at.ensures) (sym c.in-Some.is) (after_shorter p rs a.order n came d)
 
 pub loop-at-preserved : goal.loop-at-preserved
 loop-at-preserved c =
-    let a = c.args.arrivals.now in let n = c.in-Some.node in let rs = c.args.records.now in let p = is_from c.args.source.now in let d = c.oldest-at.ensures.arrivals.distinct in
+    let a = c.args.arrivals.now in let n = c.in-Some.node in let rs = c.args.records.now in let p = is_from c.args.q in let d = c.oldest-at.ensures.arrivals.distinct in
     let came = c.loop-at.invariant.1 n c.in-Some.is in
     let known : n < length rs = omega (arith, c.requires, come_below n a.nodes a.order c.oldest-at.ensures.arrivals.each came) in
     let read = read_record rs n c.index-records-node.result c.index-records-node.is known in

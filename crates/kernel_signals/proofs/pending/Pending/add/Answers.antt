@@ -1,9 +1,11 @@
 use Rattle.std.specs.List.{AllByRecursion}
-use Rattle.std.proofs.Common.{◌<◌, ◌+◌, ◌∷◌, ◌++◌, [], List, length, set, subst, sym, ap, ◌∙◌, arith}
+use Rattle.std.proofs.Common.{◌<◌, ◌+◌, ◌∷◌, ◌++◌, [], List, length, set, subst, subst₂, sym, ap, ◌∙◌, arith}
 use Rattle.rules_machine.specs.State.{SignalRecord}
 use Rattle.parts_arrivals.specs.Arrivals.{Arrivals}
 use Rattle.kernel_signals.specs.Kept.{AreKept, records_of, weight_of}
 use Rattle.kernel_signals.proofs.Keeping.{by_recursion, few_counted, kept_with, length_records, records_with}
+use Rattle.kernel_signals.specs.Timed.{with_one}
+use Rattle.kernel_signals.proofs.Timing.{room_at}
 use Rattle.kernel_signals.proofs.pending.Pending.add.Goals as goal
 
 pub overflow_add-self : goal.overflow_add-self
@@ -21,8 +23,9 @@ invariant_of-self c =
     let young = subst (λ k. AllByRecursion (λ (r : SignalRecord). r.serial < k) (records_of p.records.items p.arrivals.order)) (sym (ap (λ (r : SignalRecord). r.serial) c.pending_since.ensures)) seen in
     let small = subst (λ k. k < 32) (sym (ap (λ (r : SignalRecord). r.signal) c.pending_since.ensures)) c.requires.signal in
     let weight = c.weight.ensures.value ∙ ap weight_of (c.code.ensures ∙ sym (ap (λ (r : SignalRecord). r.code) c.pending_since.ensures)) in
-    subst (λ k. AreKept c.enter-node.new.self (set p.records.items n v) (p.counted + k)) (sym weight)
-    (kept_with p.arrivals c.enter-node.new.self p.records.items p.counted n v c.self.invariant small c.enter-node.ensures.known c.enter-node.ensures.fresh is young)
+    let timers = c.add.ensures ∙ ap (λ o. with_one o p.timed) (c.timer.ensures ∙ sym (ap (λ (r : SignalRecord). r.timer) c.pending_since.ensures)) in
+    subst₂ (λ k ts. AreKept c.enter-node.new.self (set p.records.items n v) (p.counted + k) ts) (sym weight) (sym timers)
+    (kept_with p.arrivals c.enter-node.new.self p.records.items p.counted n p.timed v c.self.invariant small c.enter-node.ensures.known c.enter-node.ensures.fresh is young)
 
 pub returns : goal.returns
 returns c =
@@ -30,3 +33,8 @@ returns c =
     let seen = ap (λ (a : Arrivals). records_of (set p.records.items n v) a.order) c.enter-node.ensures.last in
     let with = records_with p.records.items n c.signal.result v p.arrivals.order (omega (arith, c.enter-node.ensures.known, c.self.invariant.nodes, c.self.invariant.known)) c.enter-node.ensures.fresh in
     rw (← c.self.view_is) (seen ∙ with ∙ ap (λ (r : SignalRecord). records_of p.records.items p.arrivals.order ++ r ∷ []) c.pending_since.ensures)
+
+pub add-requires : goal.add-requires
+add-requires c =
+    let p = c.self.inside in
+    room_at p.timed (records_of p.records.items p.arrivals.order) c.timer.result c.self.invariant.long c.self.invariant.timed (omega (arith, c.requires.room, ap (λ (rs : List SignalRecord). length rs) c.self.view_is))

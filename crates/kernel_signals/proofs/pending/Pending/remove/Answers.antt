@@ -1,5 +1,5 @@
 use Rattle.std.specs.Prelude.{Contains, IfSome, IsSome, Option}
-use Rattle.std.proofs.Common.{◌≡◌, ◌<◌, ◌-◌, ℕ, List, length, true, subst, sym, ap, ◌∙◌, arith, eqb-true}
+use Rattle.std.proofs.Common.{◌≡◌, ◌<◌, ◌-◌, ℕ, List, length, true, subst, subst₂, sym, ap, ◌∙◌, arith, eqb-true}
 use Rattle.rules_machine.specs.State.{SignalRecord}
 use Rattle.parts_arrivals.specs.Arrivals.{Arrivals, has_come}
 use Rattle.kernel_signals.specs.Kept.{AreKept, record_at, records_of, weight_of}
@@ -8,6 +8,7 @@ use Rattle.kernel_signals.specs.declared.choice.Wanted.TheVariants.{WithSerial}
 use Rattle.kernel_signals.proofs.Keeping.{contained, count_without, kept_without, records_without, same_serial}
 use Rattle.kernel_signals.proofs.Selecting.{has_serial, wanted_is}
 use Rattle.kernel_signals.proofs.Walking.{read_record}
+use Rattle.kernel_signals.specs.Timed.{with_one_fewer}
 use Rattle.kernel_signals.proofs.pending.Pending.remove.Goals as goal
 
 pub first_wanted-requires-clause-signal : goal.first_wanted-requires-clause-signal
@@ -48,8 +49,9 @@ invariant_of-self c =
     let known : n < length p.records.items = (let l = subst (λ (o : Option ℕ). IfSome o (λ n. n < p.arrivals.nodes)) c.unwrap-node.ensures c.first_wanted.ensures.known in omega (arith, l, c.self.invariant.nodes, c.self.invariant.known)) in
     let read = read_record p.records.items n c.index.result.now c.index.ensures known in
     let weight = c.weight.ensures.value ∙ ap weight_of (c.code.ensures ∙ ap (λ (r : SignalRecord). r.code) read) in
-    subst (λ k. AreKept c.leave.new.self p.records.items (p.counted - k)) (sym weight)
-    (kept_without p.records.items n p.arrivals c.leave.new.self p.counted c.self.invariant came c.leave.ensures)
+    let timers = c.remove.ensures ∙ ap (λ o. with_one_fewer o p.timed) (c.timer.ensures ∙ ap (λ (r : SignalRecord). r.timer) read) in
+    subst₂ (λ k ts. AreKept c.leave.new.self p.records.items (p.counted - k) ts) (sym weight) (sym timers)
+    (kept_without p.records.items n p.arrivals c.leave.new.self p.counted p.timed c.self.invariant came c.leave.ensures)
 
 pub returns : goal.returns
 returns c =

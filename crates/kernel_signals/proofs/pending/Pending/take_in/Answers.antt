@@ -1,5 +1,5 @@
 use Rattle.std.specs.Prelude.{Option}
-use Rattle.std.proofs.Common.{◌<◌, ◌-◌, List, Some, length, subst, sym, ap, ◌∙◌, arith}
+use Rattle.std.proofs.Common.{◌<◌, ◌-◌, List, Some, length, subst, subst₂, sym, ap, ◌∙◌, arith}
 use Rattle.rules_machine.specs.State.{SignalRecord}
 use Rattle.parts_arrivals.specs.Arrivals.{Arrivals}
 use Rattle.kernel_signals.specs.Choice.{IsLowest, NoneBelow, without_one}
@@ -7,6 +7,7 @@ use Rattle.kernel_signals.specs.Kept.{AreKept, records_of, weight_of}
 use Rattle.kernel_signals.proofs.Keeping.{count_without, kept_without, records_without}
 use Rattle.kernel_signals.proofs.Selecting.{is_selected, none_selected}
 use Rattle.kernel_signals.proofs.Walking.{come_below, read_record}
+use Rattle.kernel_signals.specs.Timed.{with_one_fewer}
 use Rattle.kernel_signals.proofs.pending.Pending.take_in.Goals as goal
 
 pub returns-in_err-node-clause-value : goal.returns-in_err-node-clause-value
@@ -41,8 +42,9 @@ invariant_of-self c =
     let known : n < length p.records.items = omega (arith, c.self.invariant.nodes, c.self.invariant.known, come_below n p.arrivals.nodes p.arrivals.order c.in_ok-node.ensures.arrivals.each c.in_ok-node.ensures.came) in
     let read = read_record p.records.items n c.index.result.now c.index.ensures known in
     let weight = c.weight.ensures.value ∙ ap weight_of (c.code.ensures ∙ ap (λ (r : SignalRecord). r.code) read) in
-    subst (λ k. AreKept c.leave.new.self p.records.items (p.counted - k)) (sym weight)
-    (kept_without p.records.items n p.arrivals c.leave.new.self p.counted c.self.invariant c.in_ok-node.ensures.came c.leave.ensures)
+    let timers = c.remove.ensures ∙ ap (λ o. with_one_fewer o p.timed) (c.timer.ensures ∙ ap (λ (r : SignalRecord). r.timer) read) in
+    subst₂ (λ k ts. AreKept c.leave.new.self p.records.items (p.counted - k) ts) (sym weight) (sym timers)
+    (kept_without p.records.items n p.arrivals c.leave.new.self p.counted p.timed c.self.invariant c.in_ok-node.ensures.came c.leave.ensures)
 
 pub returns-clause-value : goal.returns-clause-value
 returns-clause-value c =
