@@ -33,7 +33,7 @@ use Rattle.calls_table.specs.Calls.{objects_in}
 use Rattle.calls_table.proofs.Coming.Steps.{come_later}
 use Rattle.calls_signals.specs.Sweeping.{CanSweep}
 use Rattle.kernel_state.specs.Kernel.{Kernel, after, told, turn}
-use Rattle.kernel_state.specs.Settled.{HavePriorities, settled_now}
+use Rattle.kernel_state.specs.Settled.{HavePriorities, Settles}
 use Rattle.kernel_state.specs.Stood.{StoodRight}
 use Rattle.kernel_state.proofs.SettleIs.{settles_after}
 use Rattle.kernel_state.proofs.StoodAgain.{stood_again}
@@ -101,9 +101,9 @@ module _ (near t k : ℕ) (f : Fetched) (was : Bool) (p l : Kernel) (may : MayLe
 
     -- ---- the moves
 
-    module _ (n : Kernel) (settles : n ≡ settled_now m) (fits : HavePriorities m.machine) where
+    module _ (n : Kernel) (settles : Settles m n) (fits : HavePriorities m.machine) where
       settled : n ≡ after (λ (s : Turn Cursor). s ▷ unit_leapt bodies k s.machine t (in_unit bodies (thread_at s.machine t))) p
-      settled = settles_after p.machine (λ (s : Turn Cursor). completes bodies t taken.unit (charges_by t k p s)) p m n may.stood (ap (λ (x : Kept). x.lists) keeps) both settles fits
+      settled = settles_after p.machine (λ (s : Turn Cursor). completes bodies t taken.unit (charges_by t k p s)) p m n may.stood (ap (λ (x : Kept). x.lists) keeps) both settles
 
       pub settled_stood : StoodRight n.machine
       settled_stood =
