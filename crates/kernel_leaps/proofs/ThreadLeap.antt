@@ -147,15 +147,16 @@ module _ (near t k : ℕ) (f : Fetched) (was : Bool) (p l : Kernel) (may : MayLe
               then_told_in text faults (λ (b : Bodies Cursor) (s : Turn Cursor). s ▷ unit_leapt b k s.machine t (in_unit b (thread_at s.machine t)) ▷ tick_ends (has_high (thread_at s.machine t).server) t) sweeps p q a c d sweeps_behind ended ended_told of_sweep
 
 -- all of it: from where the thread began, past units, to behind its leap
-pub has_leapt : {K : Type 0} (text : K → Option (List ℕ)) (faults : K → ℕ) (near t : ℕ) (ran : Ran) (p l r : Kernel) (a d : Tracer K) (b : Begun near t ran p l) → r ≡ after (leap_runs (flat_bodies b.behind.code) ran.ticks (Some t)) b.behind →
-    Tells text faults b.behind.names a d (told (leap_runs (flat_bodies b.behind.code) ran.ticks (Some t)) b.behind) → HasLeapt text faults near t (ran.passed + ran.ticks) p r a d
-has_leapt text faults near t ran p l r a d b state tells = record {
+pub has_leapt : {K : Type 0} (text : K → Option (List ℕ)) (faults : K → ℕ) (near t : ℕ) (ran : Ran) (p l r : Kernel) (a d : Tracer K) {steps_before steps_now : ℕ} (b : Begun near t ran p l steps_before steps_now) → r ≡ after (leap_runs (flat_bodies b.behind.code) ran.ticks (Some t)) b.behind →
+    Tells text faults b.behind.names a d (told (leap_runs (flat_bodies b.behind.code) ran.ticks (Some t)) b.behind) → HasLeapt text faults near t (ran.passed + ran.ticks) p r a d steps_before steps_now
+has_leapt text faults near t ran p l r a d {steps_before} {steps_now} b state tells = record {
   units = b.units;
   each = b.each;
   all = (let passed = b.passed in let long = long' in omega (arith, passed, long));
   state = subst (λ (n : ℕ). r ≡ after (leap_runs (flat_bodies p.code) n (Some t)) (passed_by t b.units p)) long' (subst (λ (x : Kernel). r ≡ after (leap_runs (flat_bodies x.code) ran.ticks (Some t)) x) b.is state);
   told = subst (λ (n : ℕ). Tells text faults p.names a d (told (leap_runs (flat_bodies p.code) n (Some t)) (passed_by t b.units p))) long'
       (subst (λ (x : Kernel). Tells text faults x.names a d (told (leap_runs (flat_bodies x.code) ran.ticks (Some t)) x)) b.is tells);
+  steps = b.steps;
 }
   where
     long' : ran.ticks ≡ leap_of (near - all_of b.units) t (passed_by t b.units p)
