@@ -42,8 +42,9 @@ pub lasts_few : (most quantum : ℕ) (th : Thread Cursor) → lasts_by most quan
 lasts_few most quantum th = omega arith
 
 -- with the ticks of one more
-pub few_ran : (code : NumberedBodies (List Op)) (near quantum : ℕ) (ran : Ran) (old new : Thread Cursor) → HasRun code near quantum ran old new → ran.passed + ran.ticks ≤ max 1 near
-few_ran code near quantum ran old new h =
+pub few_ran : (code : NumberedBodies (List Op)) (near quantum : ℕ) (ran : Ran) (old new : Thread Cursor) (steps_before steps_now : ℕ) → HasRun code near quantum ran old new steps_before steps_now →
+    ran.passed + ran.ticks ≤ max 1 near
+few_ran code near quantum ran old new steps_before steps_now h =
     let few = few_passed (flat_bodies code) near quantum h.units old h.each in
     let passed = h.passed in
     let ticks = lasts_few (near - ran.passed) quantum (in_unit (flat_bodies code) (past (flat_bodies code) h.units old)).thread in
@@ -122,8 +123,23 @@ from_behind t gone k units x p l state is =
 
 -- ---- what a thread that ran has begun
 
+-- one step more, before and behind
+pub counted_once : {code : NumberedBodies (List Op)} {near quantum : ℕ} {ran : Ran} {old new : Thread Cursor} {steps_before steps_now : ℕ} →
+    HasRun code near quantum ran old new steps_before steps_now → HasRun code near quantum ran old new (steps_before + 1) (steps_now + 1)
+counted_once h = record {
+  units = h.units;
+  each = h.each;
+  passed = h.passed;
+  unit = h.unit;
+  ticks = h.ticks;
+  thread = h.thread;
+  complete = h.complete;
+  high = h.high;
+  steps = (let steps = h.steps in omega (arith, steps));
+}
+
 -- behind the units that it passed: the kernel there, and the leap that was charged
-pub record Begun (near t : ℕ) (ran : Ran) (p l : Kernel) : Type 0 where
+pub record Begun (near t : ℕ) (ran : Ran) (p l : Kernel) (steps_before steps_now : ℕ) : Type 0 where
   pub behind : Kernel
   pub units : List ℕ
   pub each : ArePassed (flat_bodies p.code) near p.machine.quantum units (thread_at p.machine t)
@@ -134,10 +150,12 @@ pub record Begun (near t : ℕ) (ran : Ran) (p l : Kernel) : Type 0 where
   pub state : l ≡ after (charges_by t ran.ticks behind) behind
   pub unit : unit_of behind.code ran.unit ≡ (in_unit (flat_bodies behind.code) (thread_at behind.machine t)).unit
   pub high : ran.was_high ≡ has_high (thread_at behind.machine t).server
+  pub steps : steps_now ≡ steps_before + length units + 1
 
-pub begun_at : (near t : ℕ) (ran : Ran) (p l : Kernel) → MayLeapOn near t p → HasRun p.code near p.machine.quantum ran (thread_at p.machine t) (thread_at l.machine t) →
-    l ≡ after (λ (s : Turn Cursor). s ▷ changes t (λ th. thread_at l.machine t) ▷ becomes (later_by (ran.passed + ran.ticks))) p → Begun near t ran p l
-begun_at near t ran p l may h state = record {
+pub begun_at : (near t : ℕ) (ran : Ran) (p l : Kernel) {steps_before steps_now : ℕ} → MayLeapOn near t p →
+    HasRun p.code near p.machine.quantum ran (thread_at p.machine t) (thread_at l.machine t) (steps_before + 1) steps_now →
+    l ≡ after (λ (s : Turn Cursor). s ▷ changes t (λ th. thread_at l.machine t) ▷ becomes (later_by (ran.passed + ran.ticks))) p → Begun near t ran p l steps_before steps_now
+begun_at near t ran p l {steps_before} {steps_now} may h state = record {
   behind = behind;
   units = h.units;
   each = h.each;
@@ -150,6 +168,7 @@ begun_at near t ran p l may h state = record {
       ∙ ap (λ (x : Thread Cursor). after (λ (s : Turn Cursor). s ▷ changes t (λ th. x) ▷ becomes (later_by ran.ticks)) behind) (h.thread ∙ ap (run_for bodies ran.ticks) (sym at));
   unit = h.unit ∙ ap (λ (th : Thread Cursor). (in_unit bodies th).unit) (sym at);
   high = h.high ∙ sym (high_same bodies near p.machine.quantum h.units (thread_at p.machine t) h.each) ∙ ap (λ (th : Thread Cursor). has_high th.server) (sym at);
+  steps = (let steps = h.steps in omega (arith, steps));
 }
   where
     bodies : Bodies Cursor

@@ -85,9 +85,9 @@ module _ {K : Type 0} (text : K → Option (List ℕ)) (faults : K → ℕ) (sta
           early = in_time text faults start fit k (Some t) most (near - all_of units) (0 + all_of units) before (before + length units) a d behind (10 ^ 18) early;
         }
 
-    -- its ticks are leaps, of which no more than one was counted as a step
-    pub thread_leapt : (q : Kernel) (e : Tracer K) (ticks later : ℕ) → HasLeapt text faults near t ticks p q d e → StoodRight q.machine → q.direct ≡ [] → later ≡ before + 1 → Leaping text faults start q most ticks before later a e
-    thread_leapt q e ticks later h stood quiet step =
+    -- its ticks are leaps, each of which was counted as a step
+    pub thread_leapt : (q : Kernel) (e : Tracer K) (ticks later : ℕ) → HasLeapt text faults near t ticks p q d e before later → StoodRight q.machine → q.direct ≡ [] → Leaping text faults start q most ticks before later a e
+    thread_leapt q e ticks later h stood quiet =
         let behind = passes h.units p t most near 0 before before a d m h.each in
         let k = passed_by t h.units p in
         let n = leap_of (near - all_of h.units) t k in
@@ -95,4 +95,4 @@ module _ {K : Type 0} (text : K → Option (List ℕ)) (faults : K → ℕ) (sta
         leapt_on text faults start fit k (Some t) most (near - all_of h.units) (0 + all_of h.units) before (before + length h.units) a d behind q e n ((before + length h.units) + 1) refl h.state h.told stood quiet refl in
         let all : (0 + all_of h.units) + n ≡ ticks = (let is = h.all in omega (arith, is)) in
         let there = subst (λ (i : ℕ). Leaping text faults start q most i before ((before + length h.units) + 1) a e) all on in
-        record { running = there.running; within = there.within; few = (let few = there.few in omega (arith, few, step)) }
+        record { running = there.running; within = there.within; few = (let few = there.few in let step = h.steps in omega (arith, few, step)) }

@@ -33,7 +33,7 @@ use Rattle.calls_table.specs.Calls.{objects_in}
 use Rattle.calls_table.proofs.Coming.Steps.{come_later}
 use Rattle.calls_signals.specs.Sweeping.{CanSweep}
 use Rattle.kernel_state.specs.Kernel.{Kernel, after, told, turn}
-use Rattle.kernel_state.specs.Settled.{HavePriorities, settled_now}
+use Rattle.kernel_state.specs.Settled.{HavePriorities, Settles}
 use Rattle.kernel_state.specs.Stood.{StoodRight}
 use Rattle.kernel_state.proofs.SettleIs.{settles_after}
 use Rattle.kernel_state.proofs.StoodAgain.{stood_again}
@@ -101,9 +101,9 @@ module _ (near t k : ℕ) (f : Fetched) (was : Bool) (p l : Kernel) (may : MayLe
 
     -- ---- the moves
 
-    module _ (n : Kernel) (settles : n ≡ settled_now m) (fits : HavePriorities m.machine) where
+    module _ (n : Kernel) (settles : Settles m n) (fits : HavePriorities m.machine) where
       settled : n ≡ after (λ (s : Turn Cursor). s ▷ unit_leapt bodies k s.machine t (in_unit bodies (thread_at s.machine t))) p
-      settled = settles_after p.machine (λ (s : Turn Cursor). completes bodies t taken.unit (charges_by t k p s)) p m n may.stood (ap (λ (x : Kept). x.lists) keeps) both settles fits
+      settled = settles_after p.machine (λ (s : Turn Cursor). completes bodies t taken.unit (charges_by t k p s)) p m n may.stood (ap (λ (x : Kept). x.lists) keeps) both settles
 
       pub settled_stood : StoodRight n.machine
       settled_stood =
@@ -147,15 +147,16 @@ module _ (near t k : ℕ) (f : Fetched) (was : Bool) (p l : Kernel) (may : MayLe
               then_told_in text faults (λ (b : Bodies Cursor) (s : Turn Cursor). s ▷ unit_leapt b k s.machine t (in_unit b (thread_at s.machine t)) ▷ tick_ends (has_high (thread_at s.machine t).server) t) sweeps p q a c d sweeps_behind ended ended_told of_sweep
 
 -- all of it: from where the thread began, past units, to behind its leap
-pub has_leapt : {K : Type 0} (text : K → Option (List ℕ)) (faults : K → ℕ) (near t : ℕ) (ran : Ran) (p l r : Kernel) (a d : Tracer K) (b : Begun near t ran p l) → r ≡ after (leap_runs (flat_bodies b.behind.code) ran.ticks (Some t)) b.behind →
-    Tells text faults b.behind.names a d (told (leap_runs (flat_bodies b.behind.code) ran.ticks (Some t)) b.behind) → HasLeapt text faults near t (ran.passed + ran.ticks) p r a d
-has_leapt text faults near t ran p l r a d b state tells = record {
+pub has_leapt : {K : Type 0} (text : K → Option (List ℕ)) (faults : K → ℕ) (near t : ℕ) (ran : Ran) (p l r : Kernel) (a d : Tracer K) {steps_before steps_now : ℕ} (b : Begun near t ran p l steps_before steps_now) → r ≡ after (leap_runs (flat_bodies b.behind.code) ran.ticks (Some t)) b.behind →
+    Tells text faults b.behind.names a d (told (leap_runs (flat_bodies b.behind.code) ran.ticks (Some t)) b.behind) → HasLeapt text faults near t (ran.passed + ran.ticks) p r a d steps_before steps_now
+has_leapt text faults near t ran p l r a d {steps_before} {steps_now} b state tells = record {
   units = b.units;
   each = b.each;
   all = (let passed = b.passed in let long = long' in omega (arith, passed, long));
   state = subst (λ (n : ℕ). r ≡ after (leap_runs (flat_bodies p.code) n (Some t)) (passed_by t b.units p)) long' (subst (λ (x : Kernel). r ≡ after (leap_runs (flat_bodies x.code) ran.ticks (Some t)) x) b.is state);
   told = subst (λ (n : ℕ). Tells text faults p.names a d (told (leap_runs (flat_bodies p.code) n (Some t)) (passed_by t b.units p))) long'
       (subst (λ (x : Kernel). Tells text faults x.names a d (told (leap_runs (flat_bodies x.code) ran.ticks (Some t)) x)) b.is tells);
+  steps = b.steps;
 }
   where
     long' : ran.ticks ≡ leap_of (near - all_of b.units) t (passed_by t b.units p)

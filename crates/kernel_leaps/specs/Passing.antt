@@ -1,5 +1,5 @@
 -- A thread that passes units and then leaps. This project's own.
-use Rattle.std.specs.Prelude.{◌≡◌, ◌≤◌, ◌+◌, ◌-◌, ◌^◌, ℕ, List, Option, Some, max}
+use Rattle.std.specs.Prelude.{◌≡◌, ◌≤◌, ◌+◌, ◌-◌, ◌^◌, ℕ, List, Option, Some, length, max}
 use Rattle.parts_tracer.specs.declared.tracer.Tracer.{Tracer}
 use Rattle.parts_tracer.specs.Tells.{Tells}
 use Rattle.rules_machine.specs.Threads.{thread_at}
@@ -36,10 +36,11 @@ abbrev pub MayLeapOn : ℕ → ℕ → Kernel → Type 0
 MayLeapOn near t k =
     (units : List ℕ) → ArePassed (flat_bodies k.code) near k.machine.quantum units (thread_at k.machine t) → MayLeap (near - all_of units) t (passed_by t units k)
 
--- so many ticks of a thread: the units that it passed, and the leap from behind them
-pub record HasLeapt {K : Type 0} (text : K → Option (List ℕ)) (faults : K → ℕ) (near t ticks : ℕ) (old new : Kernel) (a b : Tracer K) : Type 0 where
+-- so many ticks of a thread: the units that it passed, and the leap from behind them, each of them one step
+pub record HasLeapt {K : Type 0} (text : K → Option (List ℕ)) (faults : K → ℕ) (near t ticks : ℕ) (old new : Kernel) (a b : Tracer K) (steps_before steps_now : ℕ) : Type 0 where
   pub units : List ℕ
   pub each : ArePassed (flat_bodies old.code) near old.machine.quantum units (thread_at old.machine t)
   pub all : ticks ≡ all_of units + leap_of (near - all_of units) t (passed_by t units old)
   pub state : new ≡ after (leap_runs (flat_bodies old.code) (leap_of (near - all_of units) t (passed_by t units old)) (Some t)) (passed_by t units old)
   pub told : Tells text faults old.names a b (told (leap_runs (flat_bodies old.code) (leap_of (near - all_of units) t (passed_by t units old)) (Some t)) (passed_by t units old))
+  pub steps : steps_now ≡ steps_before + length units + 1

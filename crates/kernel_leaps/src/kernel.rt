@@ -87,9 +87,10 @@ impl Kernel {
     }
 
     /// Runs to the horizon, at most 10^18, until a signal ends the process, or until a write fails. It takes no memory, and is one step a
-    /// leap: from where something falls due, or a unit, an interval or a capacity ends, to where that happens next. Unless a write failed,
-    /// the state is that of the machine run tick by tick to the horizon, where an ended process stays as it is; what it printed is what
-    /// happens until then, or a part of it where a write failed. The answer is `Killed` also where the process had ended before.
+    /// leap: from where something falls due, or a unit, an interval or a capacity ends, to where that happens next, also where the same
+    /// thread goes on. Unless a write failed, the state is that of the machine run tick by tick to the horizon, where an ended process stays
+    /// as it is; what it printed is what happens until then, or a part of it where a write failed. The answer is `Killed` also where the
+    /// process had ended before.
     /// A kernel that stopped may be asked for `now` alone.
     pub fn run_until<K: Sink, L: Ledger>(
         &mut self,

@@ -20,7 +20,8 @@ use parts_tracer::Tracer;
 use std::sync::ledger::Ledger;
 use words_numbers::Tid;
 
-// Ticks of a thread, to the nearest due tick at most: the units that it passes, and a leap. The answer is how many they were.
+// Ticks of a thread, to the nearest due tick at most: the units that it passes, and a leap, each of them one step. The answer is how many
+// ticks they were.
 #[inline(always)]
 fn leap_thread<K: Sink, L: Ledger>(
     p: &mut Parts,
@@ -32,10 +33,9 @@ fn leap_thread<K: Sink, L: Ledger>(
     requires known { t < length p.old.names }
     requires quiet { p.old.direct ≡ [] }
     requires may { MayLeapOn near t p.old }
-    ensures leapt { HasLeapt K.text K.faults near t result p.old p.new out.old out.new }
+    ensures leapt { HasLeapt K.text K.faults near t result p.old p.new out.old out.new steps.old steps.new }
     ensures stood { StoodRight p.new.machine }
     ensures quiet { p.new.direct ≡ [] }
-    ensures step { steps.new ≡ steps.old + 1 }
 {
     let ran = run_thread(p, t, near, steps);
     complete_at_end(p, t, &ran, out);
@@ -46,7 +46,8 @@ fn leap_thread<K: Sink, L: Ledger>(
 }
 
 /// A leap of at most so many ticks: to where something falls due, or a unit, an interval or a capacity ends; past each unit at whose end
-/// nothing happens but that the same thread goes on. The answer is how many ticks it was.
+/// nothing happens but that the same thread goes on. Each of these units is a step, and what follows is one more. The answer is how many
+/// ticks it was.
 #[inline(always)]
 pub(crate) fn leaps<K: Sink, L: Ledger>(
     p: &mut Parts,

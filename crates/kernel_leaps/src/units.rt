@@ -29,7 +29,8 @@ use std::sync::ledger::Ledger;
 use words_numbers::Tid;
 use words_script::Call;
 
-/// A thread runs by itself for at most so many ticks, but one at least, and the instant moves on.
+/// A thread runs by itself for at most so many ticks, but one at least, and the instant moves on. Each unit that it passes is a step, and
+/// what it runs of the next is one more.
 #[inline(always)]
 pub(crate) fn run_thread<L: Ledger>(p: &mut Parts, t: Tid, near: u64, steps: &mut Steps<L>) -> Ran
     requires known { t < length p.old.names }
@@ -37,12 +38,11 @@ pub(crate) fn run_thread<L: Ledger>(p: &mut Parts, t: Tid, near: u64, steps: &mu
     requires ends { (thread_at p.old.machine t).is_ending ≡ true → CanEnd (length p.old.code.cleanups) (thread_at p.old.machine t) }
     requires within { IsWithin p.old.machine.now (thread_at p.old.machine t) }
     requires early { p.old.machine.now + max 1 near ≤ 10 ^ 18 }
-    ensures ran { HasRun p.old.code near p.old.machine.quantum result (thread_at p.old.machine t) (thread_at p.new.machine t) }
+    ensures ran { HasRun p.old.code near p.old.machine.quantum result (thread_at p.old.machine t) (thread_at p.new.machine t) (steps.old + 1) steps.new }
     ensures state { p.new ≡ after (λ s. s ▷ changes t (λ th. thread_at p.new.machine t) ▷ becomes (later_by (result.passed + result.ticks))) p.old }
     ensures few { result.passed + result.ticks ≤ max 1 near }
-    ensures step { steps.new ≡ steps.old + 1 }
 {
-    let ran = p.run(t, near);
+    let ran = p.run(t, near, steps);
     p.leap(ran.passed + ran.ticks, steps);
     ran
 }

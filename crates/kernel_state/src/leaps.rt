@@ -15,17 +15,17 @@ use std::sync::ledger::Ledger;
 use words_numbers::Tid;
 
 impl Parts {
-    /// A thread runs by itself for at most so many ticks, but one at least. The instant stays.
+    /// A thread runs by itself for at most so many ticks, but one at least. Each unit that it passes is a step. The instant stays.
     #[inline(always)]
-    pub fn run(&mut self, t: Tid, most: u64) -> Ran
+    pub fn run<L: Ledger>(&mut self, t: Tid, most: u64, steps: &mut Steps<L>) -> Ran
         requires known { t < length self.old.names }
         requires placed { ArePlaced self.old.code (thread_at self.old.machine t).frames }
         requires ends { (thread_at self.old.machine t).is_ending ≡ true → CanEnd (length self.old.code.cleanups) (thread_at self.old.machine t) }
         requires room { HasTime (max 1 most) (thread_at self.old.machine t) }
         ensures state { self.new ≡ after (changes t (λ th. thread_at self.new.machine t)) self.old }
-        ensures ran { HasRun self.old.code most self.old.machine.quantum result (thread_at self.old.machine t) (thread_at self.new.machine t) }
+        ensures ran { HasRun self.old.code most self.old.machine.quantum result (thread_at self.old.machine t) (thread_at self.new.machine t) steps.old steps.new }
     {
-        let (ran, moved) = self.table.run(t, &self.code, most, self.quantum);
+        let (ran, moved) = self.table.run(t, &self.code, most, self.quantum, steps);
         self.named.take_in(&moved);
         ran
     }

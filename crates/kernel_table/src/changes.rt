@@ -23,7 +23,9 @@ use crate::table::Table;
 use crate::times::{end_sleep, retime_refill, time_refill, time_wait};
 use kernel_threads::{Ran, Refilled};
 use parts_server::Replenish;
+use parts_steps::Steps;
 use script_code::Code;
+use std::sync::ledger::Ledger;
 use words_numbers::{Prio, Res, Tick, Tid};
 use words_script::Policy;
 
@@ -158,20 +160,27 @@ impl Table {
     }
 
     /// It runs by itself for at most so many ticks, but one at least. The second answer is the one thread that stands among no waiters and
-    /// whose execution priority changed; `None` exactly where there is none.
+    /// whose execution priority changed; `None` exactly where there is none. Each unit that it passes is a step.
     #[inline(always)]
     #[tactic(auto, using(crate::proofs::Ties::placed))]
-    pub fn run(&mut self, t: Tid, code: &Code, most: u64, quantum: u64) -> (Ran, Option<Tid>)
+    pub fn run<L: Ledger>(
+        &mut self,
+        t: Tid,
+        code: &Code,
+        most: u64,
+        quantum: u64,
+        steps: &mut Steps<L>,
+    ) -> (Ran, Option<Tid>)
         requires known { t < length self.old.threads }
         requires placed { ArePlaced code.now (thread_in self.old.threads t).frames }
         requires begins { HandlersBegin code.now }
         requires ends { (thread_in self.old.threads t).is_ending ≡ true → CanEnd (length code.now.cleanups) (thread_in self.old.threads t) }
         requires room { HasTime (max 1 most) (thread_in self.old.threads t) }
         ensures table { self.new ≡ with_thread t (λ th. thread_in self.new.threads t) self.old }
-        ensures ran { HasRun code.now most quantum result.0 (thread_in self.old.threads t) (thread_in self.new.threads t) }
+        ensures ran { HasRun code.now most quantum result.0 (thread_in self.old.threads t) (thread_in self.new.threads t) steps.old steps.new }
         ensures moved { TellsMoved self.old self.new result.1 }
     {
-        let ran = self.threads.get_mut(t).run(code, most, quantum);
+        let ran = self.threads.get_mut(t).run(code, most, quantum, steps);
         let moved = reassign_changed(
             &self.threads,
             &mut self.chain,

@@ -60,9 +60,9 @@ module _ (bodies : Bodies Cursor) (fs : List (Frame Cursor)) (th : Thread Cursor
       }
 
 -- a thread takes what its top frame begins
-pub taken_by_frame : (code : NumberedBodies (List Op)) (most : ℕ) (taken : Taken) (f g : Frame Cursor) (fs : List (Frame Cursor)) (th : Thread Cursor) →
-    f.left ≡ 0 → th.is_ending && is_main f.kind ≡ false → HasBegun code most taken f g → HasTaken code most taken (in_frame f fs th) (in_frame g fs th)
-taken_by_frame code most taken f g fs th whole goes_on begun =
+pub taken_by_frame : (code : NumberedBodies (List Op)) (most : ℕ) (taken : Taken) (steps_before steps_now : ℕ) (f g : Frame Cursor) (fs : List (Frame Cursor)) (th : Thread Cursor) →
+    f.left ≡ 0 → th.is_ending && is_main f.kind ≡ false → HasBegun code most taken f g steps_before steps_now → HasTaken code most taken (in_frame f fs th) (in_frame g fs th) steps_before steps_now
+taken_by_frame code most taken steps_before steps_now f g fs th whole goes_on begun =
     let bodies = flat_bodies code in
     let all = passes bodies fs th most begun.units f (record { whole = whole; goes_on = goes_on }) begun.each in
     let is = ap (λ t. in_unit bodies t) all.past ∙ advanced bodies fs th (frame_past bodies begun.units f) all.may in
@@ -73,29 +73,30 @@ taken_by_frame code most taken f g fs th whole goes_on begun =
       unit = begun.unit ∙ sym (ap (λ (x : InUnit Cursor). x.unit) is);
       thread = ap (λ h. in_frame h fs th) begun.frame ∙ sym (ap (λ (x : InUnit Cursor). x.thread) is);
       left = begun.left;
+      steps = begun.steps;
     }
 
-taken_by_top : (code : NumberedBodies (List Op)) (most : ℕ) (taken : Taken) (f g : Frame Cursor) (fs : List (Frame Cursor)) (th : Thread Cursor) →
-    th.frames ≡ f ∷ fs → top_left th.frames ≡ 0 → is_at_end th ≡ false → HasBegun code most taken f g → HasTaken code most taken th (in_frame g fs th)
-taken_by_top code most taken f g fs th is whole goes_on begun =
+taken_by_top : (code : NumberedBodies (List Op)) (most : ℕ) (taken : Taken) (steps_before steps_now : ℕ) (f g : Frame Cursor) (fs : List (Frame Cursor)) (th : Thread Cursor) →
+    th.frames ≡ f ∷ fs → top_left th.frames ≡ 0 → is_at_end th ≡ false → HasBegun code most taken f g steps_before steps_now → HasTaken code most taken th (in_frame g fs th) steps_before steps_now
+taken_by_top code most taken steps_before steps_now f g fs th is whole goes_on begun =
     let whole_top = subst (λ hs. top_left hs ≡ 0) is whole in
     let top_goes_on = subst (λ hs. th.is_ending && is_main (top_kind hs) ≡ false) is goes_on in
-    subst (λ hs. HasTaken code most taken (record th { frames = hs }) (in_frame g fs th)) (sym is) (taken_by_frame code most taken f g fs th whole_top top_goes_on begun)
+    subst (λ hs. HasTaken code most taken (record th { frames = hs }) (in_frame g fs th) steps_before steps_now) (sym is) (taken_by_frame code most taken steps_before steps_now f g fs th whole_top top_goes_on begun)
 
-pub taken_by_first : (code : NumberedBodies (List Op)) (most : ℕ) (taken : Taken) (f g : Frame Cursor) (th : Thread Cursor) →
-    0 < length th.frames → f ≡ get_or th.frames 0 f → top_left th.frames ≡ 0 → is_at_end th ≡ false → HasBegun code most taken f g →
-    HasTaken code most taken th (record th { frames = set th.frames 0 g })
-taken_by_first code most taken f g th = first th.frames refl
+pub taken_by_first : (code : NumberedBodies (List Op)) (most : ℕ) (taken : Taken) (steps_before steps_now : ℕ) (f g : Frame Cursor) (th : Thread Cursor) →
+    0 < length th.frames → f ≡ get_or th.frames 0 f → top_left th.frames ≡ 0 → is_at_end th ≡ false → HasBegun code most taken f g steps_before steps_now →
+    HasTaken code most taken th (record th { frames = set th.frames 0 g }) steps_before steps_now
+taken_by_first code most taken steps_before steps_now f g th = first th.frames refl
   where
-    first : (fs : List (Frame Cursor)) → th.frames ≡ fs → 0 < length fs → f ≡ get_or fs 0 f → top_left th.frames ≡ 0 → is_at_end th ≡ false → HasBegun code most taken f g →
-        HasTaken code most taken th (record th { frames = set fs 0 g })
+    first : (fs : List (Frame Cursor)) → th.frames ≡ fs → 0 < length fs → f ≡ get_or fs 0 f → top_left th.frames ≡ 0 → is_at_end th ≡ false → HasBegun code most taken f g steps_before steps_now →
+        HasTaken code most taken th (record th { frames = set fs 0 g }) steps_before steps_now
     first [] is some there whole goes_on begun = absurd (omega arith)
-    first (h ∷ fs) is some there whole goes_on begun = taken_by_top code most taken h g fs th is whole goes_on (subst (λ x. HasBegun code most taken x g) there begun)
+    first (h ∷ fs) is some there whole goes_on begun = taken_by_top code most taken steps_before steps_now h g fs th is whole goes_on (subst (λ x. HasBegun code most taken x g steps_before steps_now) there begun)
 
 -- and one with no frame takes its finish
-pub taken_by_none : (code : NumberedBodies (List Op)) (most : ℕ) (th : Thread Cursor) → length th.frames ≤ 0 → is_at_end th ≡ false →
-    HasTaken code most (record { passed = 0; unit = Finish; left = 0 }) th th
-taken_by_none code most th none goes_on =
+pub taken_by_none : (code : NumberedBodies (List Op)) (most steps : ℕ) (th : Thread Cursor) → length th.frames ≤ 0 → is_at_end th ≡ false →
+    HasTaken code most (record { passed = 0; unit = Finish; left = 0 }) th th steps steps
+taken_by_none code most steps th none goes_on =
     let is = no_frames th.frames none in
     let advances_none = chosen (top_left th.frames) (is_at_end th) (ap top_left is) goes_on is in
     record {
@@ -105,6 +106,7 @@ taken_by_none code most th none goes_on =
       unit = sym (ap (λ (x : InUnit Cursor). x.unit) advances_none);
       thread = sym (ap (λ (x : InUnit Cursor). x.thread) advances_none);
       left = sym (ap top_left is);
+      steps = omega arith;
     }
   where
     no_frames : (fs : List (Frame Cursor)) → length fs ≤ 0 → fs ≡ []

@@ -35,11 +35,11 @@ passed_within bodies most (k ∷ ks) th (over, each) =
     let within = over.within in
     omega arith
 
-pub taken_within : {code : NumberedBodies (List Op)} {most : ℕ} {taken : Taken} {old new : Thread Cursor} → HasTaken code most taken old new → taken.passed < max 1 most
-taken_within {code} {most} {taken} {old} {new} takes = subst (λ n. n < max 1 most) (sym takes.passed) (passed_within (flat_bodies code) most takes.units old takes.each)
+pub taken_within : {code : NumberedBodies (List Op)} {most : ℕ} {taken : Taken} {old new : Thread Cursor} {steps_before steps_now : ℕ} → HasTaken code most taken old new steps_before steps_now → taken.passed < max 1 most
+taken_within {code} {most} {taken} {old} {new} {steps_before} {steps_now} takes = subst (λ n. n < max 1 most) (sym takes.passed) (passed_within (flat_bodies code) most takes.units old takes.each)
 
-pub taken_counts : {code : NumberedBodies (List Op)} {most : ℕ} {taken : Taken} {old new : Thread Cursor} → HasTaken code most taken old new → HasCountsOf old new
-taken_counts {code} {most} {taken} {old} {new} takes = subst (λ t. HasCountsOf old t) (sym takes.thread) (past_counts (flat_bodies code) takes.units old)
+pub taken_counts : {code : NumberedBodies (List Op)} {most : ℕ} {taken : Taken} {old new : Thread Cursor} {steps_before steps_now : ℕ} → HasTaken code most taken old new steps_before steps_now → HasCountsOf old new
+taken_counts {code} {most} {taken} {old} {new} {steps_before} {steps_now} takes = subst (λ t. HasCountsOf old t) (sym takes.thread) (past_counts (flat_bodies code) takes.units old)
 
 -- ---- each unit
 
@@ -107,11 +107,11 @@ spent_in old passed n taken =
     counting old.policy (old.ticks + (passed + n)) (slice_after (passed + n) old.policy old.slice) (option_map (server_after (passed + n)) old.server)
     (record taken { frames = frames_after n taken.frames })
 
-has_run : (code : NumberedBodies (List Op)) (most quantum : ℕ) (ran : Ran) (old new : Thread Cursor) →
+has_run : (code : NumberedBodies (List Op)) (most quantum : ℕ) (ran : Ran) (old new : Thread Cursor) (steps_before steps_now : ℕ) →
     HasSpent code (lasts most quantum old.policy old.slice old.server) ran (slice_after (ran.passed + ran.ticks) old.policy old.slice)
-    (option_map (server_after (ran.passed + ran.ticks)) old.server) old new →
-    ran.was_high ≡ has_high old.server → HasRun code most quantum ran old new
-has_run code most quantum ran old new spent high =
+    (option_map (server_after (ran.passed + ran.ticks)) old.server) old new steps_before steps_now →
+    ran.was_high ≡ has_high old.server → HasRun code most quantum ran old new steps_before steps_now
+has_run code most quantum ran old new steps_before steps_now spent high =
     let bodies = flat_bodies code in
     let ks = spent.takes.units in
     let a = all_of ks in
@@ -141,44 +141,45 @@ has_run code most quantum ran old new spent high =
           (rw (← sums, ← slice_after_both a n old.slice old.policy, ← server_after_both most a n old.server fits) at_all);
       complete = spent.complete;
       high = high;
+      steps = spent.takes.steps;
     }
 
 -- ---- by policy
 
-module _ (code : NumberedBodies (List Op)) (most quantum : ℕ) (ran : Ran) (old new : Thread Cursor) where
+module _ (code : NumberedBodies (List Op)) (most quantum : ℕ) (ran : Ran) (old new : Thread Cursor) (steps_before steps_now : ℕ) where
   pub run_fifo : (prio : ℕ) → old.policy ≡ policy.Fifo prio → HasParameters old.policy old.server →
-      HasSpent code most ran old.slice old.server old new → ran.was_high ≡ false → HasRun code most quantum ran old new
+      HasSpent code most ran old.slice old.server old new steps_before steps_now → ran.was_high ≡ false → HasRun code most quantum ran old new steps_before steps_now
   run_fifo prio is parameters spent high =
       let none : old.server ≡ None = subst (λ p. HasParameters p old.server) is parameters in
       let limit : most ≡ lasts most quantum old.policy old.slice old.server = rw (is, none) (omega arith) in
       let slice : old.slice ≡ slice_after (ran.passed + ran.ticks) old.policy old.slice = rw is refl in
       let server : old.server ≡ option_map (server_after (ran.passed + ran.ticks)) old.server = rw none refl in
-      has_run code most quantum ran old new (rw (← limit, ← slice, ← server) spent) (high ∙ rw none refl)
+      has_run code most quantum ran old new steps_before steps_now (rw (← limit, ← slice, ← server) spent) (high ∙ rw none refl)
 
   pub run_rr : (prio : ℕ) → old.policy ≡ policy.Rr prio → HasParameters old.policy old.server →
-      HasSpent code (min most (quantum - old.slice)) ran (old.slice + (ran.passed + ran.ticks)) old.server old new → ran.was_high ≡ false → HasRun code most quantum ran old new
+      HasSpent code (min most (quantum - old.slice)) ran (old.slice + (ran.passed + ran.ticks)) old.server old new steps_before steps_now → ran.was_high ≡ false → HasRun code most quantum ran old new steps_before steps_now
   run_rr prio is parameters spent high =
       let none : old.server ≡ None = subst (λ p. HasParameters p old.server) is parameters in
       let limit : min most (quantum - old.slice) ≡ lasts most quantum old.policy old.slice old.server = rw (is, none) (omega arith) in
       let slice : old.slice + (ran.passed + ran.ticks) ≡ slice_after (ran.passed + ran.ticks) old.policy old.slice = rw is refl in
       let server : old.server ≡ option_map (server_after (ran.passed + ran.ticks)) old.server = rw none refl in
-      has_run code most quantum ran old new (rw (← limit, ← slice, ← server) spent) (high ∙ rw none refl)
+      has_run code most quantum ran old new steps_before steps_now (rw (← limit, ← slice, ← server) spent) (high ∙ rw none refl)
 
   pub run_sporadic : (params : Parameters) → old.policy ≡ policy.Sporadic params →
-      HasSpent code (min most (capacity_left most old.server)) ran old.slice (option_map (server_after (ran.passed + ran.ticks)) old.server) old new →
-      ran.was_high ≡ has_high old.server → HasRun code most quantum ran old new
+      HasSpent code (min most (capacity_left most old.server)) ran old.slice (option_map (server_after (ran.passed + ran.ticks)) old.server) old new steps_before steps_now →
+      ran.was_high ≡ has_high old.server → HasRun code most quantum ran old new steps_before steps_now
   run_sporadic params is spent high =
       let limit : min most (capacity_left most old.server) ≡ lasts most quantum old.policy old.slice old.server = rw is (omega arith) in
       let slice : old.slice ≡ slice_after (ran.passed + ran.ticks) old.policy old.slice = rw is refl in
-      has_run code most quantum ran old new (rw (← limit, ← slice) spent) high
+      has_run code most quantum ran old new steps_before steps_now (rw (← limit, ← slice) spent) high
 
   pub run_strict : (params : Parameters) → old.policy ≡ policy.Strict params →
-      HasSpent code (min most (capacity_left most old.server)) ran old.slice (option_map (server_after (ran.passed + ran.ticks)) old.server) old new →
-      ran.was_high ≡ has_high old.server → HasRun code most quantum ran old new
+      HasSpent code (min most (capacity_left most old.server)) ran old.slice (option_map (server_after (ran.passed + ran.ticks)) old.server) old new steps_before steps_now →
+      ran.was_high ≡ has_high old.server → HasRun code most quantum ran old new steps_before steps_now
   run_strict params is spent high =
       let limit : min most (capacity_left most old.server) ≡ lasts most quantum old.policy old.slice old.server = rw is (omega arith) in
       let slice : old.slice ≡ slice_after (ran.passed + ran.ticks) old.policy old.slice = rw is refl in
-      has_run code most quantum ran old new (rw (← limit, ← slice) spent) high
+      has_run code most quantum ran old new steps_before steps_now (rw (← limit, ← slice) spent) high
 
 -- ---- a unit that is over
 

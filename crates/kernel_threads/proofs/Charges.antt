@@ -1,5 +1,5 @@
 -- A server that is charged still stands beside its policy, and what it used can be planned.
-use Rattle.std.proofs.Common.{◌≡◌, ◌<◌, ◌+◌, ◌-◌, ℕ, Bool, true, false, None, Some, Option, length, refl, rules}
+use Rattle.std.proofs.Common.{◌≡◌, ◌+◌, ◌-◌, ℕ, Bool, true, false, None, Some, Option, length, refl, rules}
 use Rattle.std.specs.Prelude.{option_map, if◌then◌else◌}
 use Rattle.words_script.specs.declared.policy.Policy.{Policy}
 use Rattle.words_script.specs.declared.policy.Policy.TheVariants as policy

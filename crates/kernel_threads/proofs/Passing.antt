@@ -1,5 +1,5 @@
 -- A frame goes past one more unit.
-use Rattle.std.proofs.Common.{◌≡◌, ◌≤◌, ◌<◌, ◌+◌, ◌-◌, ◌∙◌, ℕ, List, [], ◌∷◌, ◌++◌, ap, arith, refl, subst, sym, true}
+use Rattle.std.proofs.Common.{◌≡◌, ◌≤◌, ◌<◌, ◌+◌, ◌-◌, ◌∙◌, ℕ, List, [], ◌∷◌, ◌++◌, ap, arith, length, refl, subst, sym, true}
 use Rattle.words_script.specs.Block.{Block}
 use Rattle.rules_bodies.specs.declared.cursor.Cursor.{Cursor}
 use Rattle.rules_bodies.specs.declared.op.Op.{Op}
@@ -13,9 +13,7 @@ use Rattle.rules_machine.specs.State.{Frame}
 use Rattle.rules_machine.specs.Units.{frame_begins, next_of}
 use Rattle.rules_flat_code.specs.FlatBodies.{flat_bodies, next_unit, place_of}
 use Rattle.rules_flat_code.specs.Placed.{cursor_of}
-use Rattle.script_code.specs.Fetched.{unit_of}
-use Rattle.kernel_threads.specs.declared.ran.Taken.{Taken}
-use Rattle.kernel_threads.specs.Passing.{FramePasses, HasBegun, IsOver, frame_behind, frame_past}
+use Rattle.kernel_threads.specs.Passing.{FramePasses, IsOver, frame_behind, frame_past}
 use Rattle.kernel_threads.specs.Running.{all_of, only_takes_time}
 
 -- ---- what was fetched
@@ -44,6 +42,7 @@ unit_is code f at u is = ap (λ x. (next_unit x).unit) is
 record Longer (bodies : Bodies Cursor) (most k : ℕ) (ks : List ℕ) (f g : Frame Cursor) : Type 0 where
   each : FramePasses bodies most (ks ++ k ∷ []) f
   total : all_of (ks ++ k ∷ []) ≡ all_of ks + k
+  count : length (ks ++ k ∷ []) ≡ length ks + 1
   past : frame_past bodies (ks ++ k ∷ []) f ≡ frame_behind bodies g
 
 module _ (bodies : Bodies Cursor) where
@@ -57,16 +56,17 @@ module _ (bodies : Bodies Cursor) where
       record {
         each = (subst (λ n. NextIsOver n k f) same (subst (λ h. NextIsOver rest k h) is over), tt);
         total = omega arith;
+        count = refl;
         past = ap (λ h. frame_behind bodies h) (sym is);
       }
   longer most rest k (j ∷ ks) f g (one, each) is total over =
       let more = longer (most - j) rest k ks (frame_behind bodies f) g each is (omega arith) over in
-      record { each = (one, more.each); total = omega (arith, more.total); past = more.past }
+      record { each = (one, more.each); total = omega (arith, more.total); count = omega (arith, more.count); past = more.past }
 
 -- ---- the loop
 
--- a frame has gone past units, and `rest` ticks are left of `most`
-pub record HasGone (code : NumberedBodies (List Op)) (most rest : ℕ) (old now : Frame Cursor) : Type 0 where
+-- a frame has gone past units, in a step each, and `rest` ticks are left of `most`
+pub record HasGone (code : NumberedBodies (List Op)) (most rest : ℕ) (old now : Frame Cursor) (steps_before steps_now : ℕ) : Type 0 where
   pub units : List ℕ
   pub each : FramePasses (flat_bodies code) most units old
   pub passed : rest + all_of units ≡ most
@@ -74,12 +74,13 @@ pub record HasGone (code : NumberedBodies (List Op)) (most rest : ℕ) (old now 
   pub body : (cursor_of now).body ≡ (cursor_of old).body
   pub placed : IsPlaced code (cursor_of now)
   pub whole : now.left ≡ 0
+  pub steps : steps_now ≡ steps_before + length units
 
-goes_past : (code : NumberedBodies (List Op)) (most rest k : ℕ) (old now : Frame Cursor) (at : Cursor) (u : unit_type.Unit) → HasGone code most rest old now →
+goes_past : (code : NumberedBodies (List Op)) (most rest k steps_before steps_now : ℕ) (old now : Frame Cursor) (at : Cursor) (u : unit_type.Unit) → HasGone code most rest old now steps_before steps_now →
     fetched code (cursor_of now) ≡ (at, u) →
     ((tree : Block) (place : Place) → IsBody code (cursor_of now).body tree → Stands tree place (cursor_of now) → Fetches tree place (cursor_of now) at u) →
-    IsPlaced code at → only_takes_time u ≡ true → k ≡ ticks_of u → 1 ≤ k → k < rest → HasGone code most (rest - k) old (frame_at now at)
-goes_past code most rest k old now at u gone is next placed idle long some within =
+    IsPlaced code at → only_takes_time u ≡ true → k ≡ ticks_of u → 1 ≤ k → k < rest → HasGone code most (rest - k) old (frame_at now at) steps_before (steps_now + 1)
+goes_past code most rest k steps_before steps_now old now at u gone is next placed idle long some within =
     let kept = next gone.placed.body gone.placed.place gone.placed.is_body gone.placed.stands in
     let over : IsOver rest k (ticks_of u) u = record { idle = idle; long = long; some = some; within = within } in
     let more = longer (flat_bodies code) most rest k gone.units old now gone.each gone.frame gone.passed
@@ -92,29 +93,14 @@ goes_past code most rest k old now at u gone is next placed idle long some withi
       body = kept.body_same ∙ gone.body;
       placed = placed;
       whole = gone.whole;
+      steps = omega (arith, more.count, gone.steps);
     }
 
 -- the same where the units of the body gave it
-pub goes_on : (code : NumberedBodies (List Op)) (units : OneBody) (most rest k : ℕ) (old now : Frame Cursor) (at : Cursor) (u : unit_type.Unit) → units.code ≡ code →
-    HasGone code most rest old now → fetched units.code (cursor_of now) ≡ (at, u) →
+pub goes_on : (code : NumberedBodies (List Op)) (units : OneBody) (most rest k steps_before steps_now : ℕ) (old now : Frame Cursor) (at : Cursor) (u : unit_type.Unit) → units.code ≡ code →
+    HasGone code most rest old now steps_before steps_now → fetched units.code (cursor_of now) ≡ (at, u) →
     ((tree : Block) (place : Place) → IsBody units.code (cursor_of now).body tree → Stands tree place (cursor_of now) → Fetches tree place (cursor_of now) at u) →
-    IsPlaced units.code at → only_takes_time u ≡ true → k ≡ ticks_of u → 1 ≤ k → k < rest → HasGone code most (rest - k) old (frame_at now at)
-goes_on code units most rest k old now at u same gone is next placed idle long some within =
-    subst (λ one. HasGone one most (rest - k) old (frame_at now at)) same
-    (goes_past units.code most rest k old now at u (subst (λ one. HasGone one most rest old now) (sym same) gone) is next placed idle long some within)
-
--- ---- with no tick to pass
-
-module _ (code : NumberedBodies (List Op)) (taken : Taken) (f g : Frame Cursor) where
-  no_units : (ks : List ℕ) → FramePasses (flat_bodies code) 0 ks f → ks ≡ []
-  no_units [] each = refl
-  no_units (k ∷ ks) (over, each) = absurd (omega (arith, over.within))
-
-  none_passed : (begun : HasBegun code 0 taken f g) → frame_past (flat_bodies code) begun.units f ≡ f
-  none_passed begun = ap (λ ks. frame_past (flat_bodies code) ks f) (no_units begun.units begun.each)
-
-  pub next_unit_begun : HasBegun code 0 taken f g → unit_of code taken.unit ≡ (next_of (flat_bodies code) f).unit
-  next_unit_begun begun = begun.unit ∙ ap (λ h. (next_of (flat_bodies code) h).unit) (none_passed begun)
-
-  pub next_frame_begun : HasBegun code 0 taken f g → g ≡ frame_begins (next_of (flat_bodies code) f) f
-  next_frame_begun begun = begun.frame ∙ ap (λ h. frame_begins (next_of (flat_bodies code) h) h) (none_passed begun)
+    IsPlaced units.code at → only_takes_time u ≡ true → k ≡ ticks_of u → 1 ≤ k → k < rest → HasGone code most (rest - k) old (frame_at now at) steps_before (steps_now + 1)
+goes_on code units most rest k steps_before steps_now old now at u same gone is next placed idle long some within =
+    subst (λ one. HasGone one most (rest - k) old (frame_at now at) steps_before (steps_now + 1)) same
+    (goes_past units.code most rest k steps_before steps_now old now at u (subst (λ one. HasGone one most rest old now steps_before steps_now) (sym same) gone) is next placed idle long some within)

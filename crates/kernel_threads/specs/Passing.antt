@@ -1,5 +1,5 @@
 -- How a frame, and a thread, go past units: what of it is in the bodies alone, before a tick is charged. All of it is this project's own.
-use Rattle.std.specs.Prelude.{List, Option, [], true, ℕ, ◌≡◌, ◌≤◌, ◌<◌, ◌+◌, ◌-◌, ◌==◌, ◌∷◌, max, min}
+use Rattle.std.specs.Prelude.{List, Option, [], length, true, ℕ, ◌≡◌, ◌≤◌, ◌<◌, ◌+◌, ◌-◌, ◌==◌, ◌∷◌, max, min}
 use Rattle.rules_bodies.specs.declared.cursor.Cursor.{Cursor}
 use Rattle.rules_bodies.specs.declared.op.Op.{Op}
 use Rattle.rules_bodies.specs.declared.unit.Unit as unit_type
@@ -56,25 +56,27 @@ module _ (bodies : Bodies Cursor) where
   ThreadPasses most (k ∷ ks) th =
       IsOver most k (top_left (in_unit bodies th).thread.frames) (in_unit bodies th).unit × ThreadPasses (most - k) ks (thread_behind k th)
 
--- ---- what the calls come to
+-- ---- what the calls come to, where each unit that is passed counts as one step
 
 -- a frame goes past units, and begins one more
-pub record HasBegun (code : NumberedBodies (List Op)) (most : ℕ) (taken : Taken) (old new : Frame Cursor) : Type 0 where
+pub record HasBegun (code : NumberedBodies (List Op)) (most : ℕ) (taken : Taken) (old new : Frame Cursor) (steps_before steps_now : ℕ) : Type 0 where
   pub units : List ℕ
   pub each : FramePasses (flat_bodies code) most units old
   pub passed : taken.passed ≡ all_of units
   pub unit : unit_of code taken.unit ≡ (next_of (flat_bodies code) (frame_past (flat_bodies code) units old)).unit
   pub frame : new ≡ frame_begins (next_of (flat_bodies code) (frame_past (flat_bodies code) units old)) (frame_past (flat_bodies code) units old)
   pub left : taken.left ≡ new.left
+  pub steps : steps_now ≡ steps_before + length units
 
 -- a thread goes past units, and is in one more
-pub record HasTaken (code : NumberedBodies (List Op)) (most : ℕ) (taken : Taken) (old new : Thread Cursor) : Type 0 where
+pub record HasTaken (code : NumberedBodies (List Op)) (most : ℕ) (taken : Taken) (old new : Thread Cursor) (steps_before steps_now : ℕ) : Type 0 where
   pub units : List ℕ
   pub each : ThreadPasses (flat_bodies code) most units old
   pub passed : taken.passed ≡ all_of units
   pub unit : unit_of code taken.unit ≡ (in_unit (flat_bodies code) (thread_past (flat_bodies code) units old)).unit
   pub thread : new ≡ (in_unit (flat_bodies code) (thread_past (flat_bodies code) units old)).thread
   pub left : taken.left ≡ top_left new.frames
+  pub steps : steps_now ≡ steps_before + length units
 
 -- what both have in common with the thread before
 pub record HasCountsOf (old new : Thread Cursor) : Type 0 where
@@ -84,9 +86,9 @@ pub record HasCountsOf (old new : Thread Cursor) : Type 0 where
   pub server : new.server ≡ old.server
 
 -- a thread goes past units and runs in one more, the ticks of both are counted, and its interval and its server are these
-pub record HasSpent (code : NumberedBodies (List Op)) (most : ℕ) (ran : Ran) (slice : ℕ) (server : Option ServerState) (old new : Thread Cursor) : Type 0 where
+pub record HasSpent (code : NumberedBodies (List Op)) (most : ℕ) (ran : Ran) (slice : ℕ) (server : Option ServerState) (old new : Thread Cursor) (steps_before steps_now : ℕ) : Type 0 where
   pub taken : Thread Cursor
-  pub takes : HasTaken code most (record { passed = ran.passed; unit = ran.unit; left = top_left taken.frames }) old taken
+  pub takes : HasTaken code most (record { passed = ran.passed; unit = ran.unit; left = top_left taken.frames }) old taken steps_before steps_now
   pub same : HasCountsOf old taken
   pub ticks : ran.ticks ≡ max 1 (min (most - ran.passed) (top_left taken.frames))
   pub within : ran.passed + ran.ticks ≤ max 1 most

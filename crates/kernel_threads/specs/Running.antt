@@ -1,5 +1,5 @@
 -- The units that a thread passes without a break, and the one that it is in then. All of it is this project's own.
-use Rattle.std.specs.Prelude.{Bool, List, Option, None, Some, [], false, true, ℕ, ◌≡◌, ◌≤◌, ◌<◌, ◌+◌, ◌-◌, ◌^◌, ◌==◌, ◌∷◌}
+use Rattle.std.specs.Prelude.{Bool, List, Option, None, Some, [], false, true, ℕ, ◌≡◌, ◌≤◌, ◌<◌, ◌+◌, ◌-◌, ◌^◌, ◌==◌, ◌∷◌, length}
 use Rattle.rules_bodies.specs.declared.cursor.Cursor.{Cursor}
 use Rattle.rules_bodies.specs.declared.op.Op.{Op}
 use Rattle.rules_bodies.specs.declared.unit.Unit as unit_type
@@ -52,8 +52,9 @@ module _ (bodies : Bodies Cursor) where
   ArePassed most quantum [] th = Unit {0}
   ArePassed most quantum (k ∷ ks) th = IsPassed most quantum k th × ArePassed (most - k) quantum ks (run_for k th)
 
--- What running by itself for at most so many ticks, but one at least, comes to: the units that are passed, and then ticks of one more.
-pub record HasRun (code : NumberedBodies (List Op)) (most quantum : ℕ) (ran : Ran) (old new : Thread Cursor) : Type 0 where
+-- What running by itself for at most so many ticks, but one at least, comes to: the units that are passed, each of them one step, and then
+-- ticks of one more.
+pub record HasRun (code : NumberedBodies (List Op)) (most quantum : ℕ) (ran : Ran) (old new : Thread Cursor) (steps_before steps_now : ℕ) : Type 0 where
   pub units : List ℕ
   pub each : ArePassed (flat_bodies code) most quantum units old
   pub passed : ran.passed ≡ all_of units
@@ -62,6 +63,7 @@ pub record HasRun (code : NumberedBodies (List Op)) (most quantum : ℕ) (ran : 
   pub thread : new ≡ run_for (flat_bodies code) ran.ticks (past (flat_bodies code) units old)
   pub complete : ran.is_complete ≡ (top_left new.frames == 0)
   pub high : ran.was_high ≡ has_high old.server
+  pub steps : steps_now ≡ steps_before + length units
 
 -- ---- the room for it
 

@@ -11,9 +11,11 @@ ghost use Rattle.kernel_threads.specs.Passing.{HasBegun};
 
 use crate::ran::Taken;
 use arrayvec::ArrayVec;
+use parts_steps::Steps;
 use rules_machine::{BodyOf, FrameKind};
 use script_code::{Code, Cursor, Fetched};
 use std::marker::Model;
+use std::sync::ledger::Ledger;
 use words_numbers::{Res, Tid};
 
 /// A body that a thread is in, with the ticks left of its present unit.
@@ -127,20 +129,21 @@ impl Frame {
 
     // It begins the next unit of its body.
     pub(crate) fn begin_next(&mut self, code: &Code) -> Fetched
-        requires placed { IsPlaced code.now (cursor_of self.old) }
-        requires whole { self.old.left ≡ 0 }
+        requires { IsPlaced code.now (cursor_of self.old) }
         ensures unit { unit_of code.now result ≡ (next_of (flat_bodies code.now) self.old).unit }
         ensures moved { self.new ≡ frame_begins (next_of (flat_bodies code.now) self.old) self.old }
     {
-        self.begin(code, 0).unit
+        let unit = code.fetch(&mut self.at);
+        self.left = ticks_of(code, &unit);
+        unit
     }
 
-    // It begins the next unit of its body, past each one that only takes time and is over before so many ticks are.
+    // It begins the next unit of its body, past each one that only takes time and is over before so many ticks are. Each of these is a step.
     #[inline(always)]
-    pub(crate) fn begin(&mut self, code: &Code, most: u64) -> Taken
+    pub(crate) fn begin<L: Ledger>(&mut self, code: &Code, most: u64, steps: &mut Steps<L>) -> Taken
         requires placed { IsPlaced code.now (cursor_of self.old) }
         requires whole { self.old.left ≡ 0 }
-        ensures { HasBegun code.now most result self.old self.new }
+        ensures { HasBegun code.now most result self.old self.new steps.old steps.new }
     {
         let mut rest = most;
         let body = code.units(self.at.body);
@@ -156,6 +159,7 @@ impl Frame {
                     return Taken { unit, passed, left };
                 }
             }
+            steps.tick();
         }
     }
 }

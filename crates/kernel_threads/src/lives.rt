@@ -20,8 +20,10 @@ use crate::frame::Frame;
 use crate::ran::Taken;
 use crate::status::{Joiner, Status};
 use crate::thread::Thread;
+use parts_steps::Steps;
 use rules_machine::{BodyOf, FrameKind};
 use script_code::{Code, Fetched};
+use std::sync::ledger::Ledger;
 use words_numbers::ObjId;
 
 // The frame of a cleanup handler, at its beginning.
@@ -146,13 +148,13 @@ impl Thread {
         self.frames.insert(0, handler_frame(code, u));
     }
 
-    // The next unit of its present body, past those that only take time and are over before so many ticks are.
+    // The next unit of its present body, past those that only take time and are over before so many ticks are. Each of these is a step.
     #[inline(always)]
-    fn advance(&mut self, code: &Code, most: u64) -> Taken
+    fn advance<L: Ledger>(&mut self, code: &Code, most: u64, steps: &mut Steps<L>) -> Taken
         requires placed { ArePlaced code.now self.old.frames }
         requires whole { top_left self.old.frames ≡ 0 }
         requires goes_on { is_at_end self.old ≡ false }
-        ensures { HasTaken code.now most result self.old self.new }
+        ensures { HasTaken code.now most result self.old self.new steps.old steps.new }
     {
         match self.frames.get_mut(0) {
             None => Taken {
@@ -160,7 +162,7 @@ impl Thread {
                 unit: Fetched::Finish,
                 left: 0,
             },
-            Some(frame) => frame.begin(code, most),
+            Some(frame) => frame.begin(code, most, steps),
         }
     }
 
@@ -206,13 +208,14 @@ impl Thread {
         }
     }
 
-    // The unit that it is in, or takes next, past those that only take time and are over before so many ticks are. No tick is charged.
+    // The unit that it is in, or takes next, past those that only take time and are over before so many ticks are. Each of these is a step.
+    // No tick is charged.
     #[inline(always)]
-    pub(crate) fn take(&mut self, code: &Code, most: u64) -> Taken
+    pub(crate) fn take<L: Ledger>(&mut self, code: &Code, most: u64, steps: &mut Steps<L>) -> Taken
         requires placed { ArePlaced code.now self.old.frames }
         requires begins { HandlersBegin code.now }
         requires ends { self.old.is_ending ≡ true → CanEnd (length code.now.cleanups) self.old }
-        ensures { HasTaken code.now most result self.old self.new }
+        ensures { HasTaken code.now most result self.old self.new steps.old steps.new }
     {
         let left = self.left();
         if left > 0 {
@@ -230,7 +233,7 @@ impl Thread {
                 left: self.left(),
             };
         }
-        self.advance(code, most)
+        self.advance(code, most, steps)
     }
 }
 

@@ -12,39 +12,53 @@ use crate::ran::Ran;
 use crate::scheduling::charge_top;
 use crate::server::charge_server;
 use crate::thread::Thread;
+use parts_steps::Steps;
 use script_code::Code;
+use std::sync::ledger::Ledger;
 use words_script::Policy;
 
 impl Thread {
     /// Runs by itself for at most so many ticks, but one at least: past each unit that only takes time and is over before they are, and then
-    /// to the end of one more, of its round robin interval or of its capacity, whichever is nearest.
+    /// to the end of one more, of its round robin interval or of its capacity, whichever is nearest. Each unit that it passes is a step.
     #[inline(always)]
-    pub fn run(&mut self, code: &Code, most: u64, quantum: u64) -> Ran
+    pub fn run<L: Ledger>(
+        &mut self,
+        code: &Code,
+        most: u64,
+        quantum: u64,
+        steps: &mut Steps<L>,
+    ) -> Ran
         requires placed { ArePlaced code.now self.old.frames }
         requires begins { HandlersBegin code.now }
         requires ends { self.old.is_ending ≡ true → CanEnd (length code.now.cleanups) self.old }
         requires room { HasTime (max 1 most) self.old }
-        ensures { HasRun code.now most quantum result self.old self.new }
+        ensures { HasRun code.now most quantum result self.old self.new steps.old steps.new }
     {
         match self.policy {
-            Policy::Fifo(_) => self.run_unit(code, most, false),
-            Policy::Rr(_) => self.run_slice(code, most, quantum),
-            Policy::Sporadic(_) => self.run_capacity(code, most),
-            Policy::Strict(_) => self.run_capacity(code, most),
+            Policy::Fifo(_) => self.run_unit(code, most, false, steps),
+            Policy::Rr(_) => self.run_slice(code, most, quantum, steps),
+            Policy::Sporadic(_) => self.run_capacity(code, most, steps),
+            Policy::Strict(_) => self.run_capacity(code, most, steps),
         }
     }
 
     // At most so many ticks, but one at least, to the end of a unit. They count for the thread alone.
     #[inline(always)]
-    fn run_unit(&mut self, code: &Code, most: u64, was_high: bool) -> Ran
+    fn run_unit<L: Ledger>(
+        &mut self,
+        code: &Code,
+        most: u64,
+        was_high: bool,
+        steps: &mut Steps<L>,
+    ) -> Ran
         requires placed { ArePlaced code.now self.old.frames }
         requires begins { HandlersBegin code.now }
         requires ends { self.old.is_ending ≡ true → CanEnd (length code.now.cleanups) self.old }
         requires room { self.old.ticks + max 1 most ≤ 2 ^ 63 }
-        ensures spent { HasSpent code.now most result self.old.slice self.old.server self.old self.new }
+        ensures spent { HasSpent code.now most result self.old.slice self.old.server self.old self.new steps.old steps.new }
         ensures high { result.was_high ≡ was_high }
     {
-        let taken = self.take(code, most);
+        let taken = self.take(code, most, steps);
         let ticks = (most - taken.passed).min(taken.left).max(1);
         self.ticks += taken.passed + ticks;
         charge_top(&mut self.frames, taken.left, ticks);
@@ -59,33 +73,39 @@ impl Thread {
 
     // The same, to the end of its round robin interval, for which they count too.
     #[inline(always)]
-    fn run_slice(&mut self, code: &Code, most: u64, quantum: u64) -> Ran
+    fn run_slice<L: Ledger>(
+        &mut self,
+        code: &Code,
+        most: u64,
+        quantum: u64,
+        steps: &mut Steps<L>,
+    ) -> Ran
         requires placed { ArePlaced code.now self.old.frames }
         requires begins { HandlersBegin code.now }
         requires ends { self.old.is_ending ≡ true → CanEnd (length code.now.cleanups) self.old }
         requires room { HasTime (max 1 most) self.old }
-        ensures spent { HasSpent code.now (min most (quantum - self.old.slice)) result (self.old.slice + (result.passed + result.ticks)) self.old.server self.old self.new }
+        ensures spent { HasSpent code.now (min most (quantum - self.old.slice)) result (self.old.slice + (result.passed + result.ticks)) self.old.server self.old self.new steps.old steps.new }
         ensures high { result.was_high ≡ false }
     {
         let slice = quantum.saturating_sub(self.slice);
-        let ran = self.run_unit(code, most.min(slice), false);
+        let ran = self.run_unit(code, most.min(slice), false, steps);
         self.slice += ran.passed + ran.ticks;
         ran
     }
 
     // The same, to the end of its capacity where it has its high priority, from which they are taken then.
     #[inline(always)]
-    fn run_capacity(&mut self, code: &Code, most: u64) -> Ran
+    fn run_capacity<L: Ledger>(&mut self, code: &Code, most: u64, steps: &mut Steps<L>) -> Ran
         requires placed { ArePlaced code.now self.old.frames }
         requires begins { HandlersBegin code.now }
         requires ends { self.old.is_ending ≡ true → CanEnd (length code.now.cleanups) self.old }
         requires room { HasTime (max 1 most) self.old }
-        ensures spent { HasSpent code.now (min most (capacity_left most self.old.server)) result self.old.slice (option_map (server_after (result.passed + result.ticks)) self.old.server) self.old self.new }
+        ensures spent { HasSpent code.now (min most (capacity_left most self.old.server)) result self.old.slice (option_map (server_after (result.passed + result.ticks)) self.old.server) self.old self.new steps.old steps.new }
         ensures high { result.was_high ≡ has_high self.old.server }
     {
         let was_high = self.has_high();
         let lasts = if was_high { self.capacity_left() } else { most };
-        let ran = self.run_unit(code, most.min(lasts), was_high);
+        let ran = self.run_unit(code, most.min(lasts), was_high, steps);
         charge_server(&mut self.server, ran.passed + ran.ticks);
         ran
     }

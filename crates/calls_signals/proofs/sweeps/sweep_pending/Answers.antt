@@ -14,7 +14,7 @@ pub returns-clause-state : goal.returns-clause-state
 returns-clause-state g c =
     let p = c.args.p.now in
     let bodies = flat_bodies p.code in
-    settles_after p.machine (sweeps_all bodies (thread_numbers p.machine)) p _ _ c.requires.stood (midway bodies (length p.machine.threads) (turn p)).lists c.visit_all.ensures.state c.settle.ensures.state c.settle.ensures.fits
+    settles_after p.machine (sweeps_all bodies (thread_numbers p.machine)) p _ _ c.requires.stood (midway bodies (length p.machine.threads) (turn p)).lists c.visit_all.ensures.state c.settle.ensures.moves
 
 pub returns-clause-stood : goal.returns-clause-stood
 returns-clause-stood g c =

@@ -15,7 +15,7 @@ pub returns-clause-state : goal.returns-clause-state
 returns-clause-state g c =
     let p = c.args.p.now in
     let bodies = flat_bodies p.code in
-    settles_after p.machine (handles bodies c.args.i) p _ _ c.requires.stood (ap (λ (x : Kept). x.lists) (handles_kept bodies c.args.i (turn p))) c.handle.ensures.state c.settle.ensures.state c.settle.ensures.fits
+    settles_after p.machine (handles bodies c.args.i) p _ _ c.requires.stood (ap (λ (x : Kept). x.lists) (handles_kept bodies c.args.i (turn p))) c.handle.ensures.state c.settle.ensures.moves
 
 pub returns-clause-stood : goal.returns-clause-stood
 returns-clause-stood g c =

@@ -18,7 +18,7 @@ returns-then-end_by_rule-clause-state g c =
     let p = c.args.p.now in
     let t = c.args.t in
     let e = tick_end c.args.was_high p.machine.quantum (thread_at p.machine t) in
-    settles_after p.machine (ends_tick e t) p _ _ c.requires.stood (ap (λ (x : Kept). x.lists) (ends_tick_kept e t (turn p))) c.end_by_rule.ensures.state c.settle.ensures.state c.settle.ensures.fits
+    settles_after p.machine (ends_tick e t) p _ _ c.requires.stood (ap (λ (x : Kept). x.lists) (ends_tick_kept e t (turn p))) c.end_by_rule.ensures.state c.settle.ensures.moves
 
 pub returns-then-end_by_rule-clause-stood : goal.returns-then-end_by_rule-clause-stood
 returns-then-end_by_rule-clause-stood g c =

@@ -9,7 +9,7 @@ use Rattle.kernel_state.proofs.Carried.{as_many, fit, tied_again, told_there, to
 use Rattle.kernel_state.proofs.parts.Parts.run.Goals as goal
 
 pub invariant_of-self : goal.invariant_of-self
-invariant_of-self c =
+invariant_of-self g c =
     let s = c.self.inside in
     let w = c.run-ran in
     let ran = w.ensures.ran in
@@ -23,7 +23,7 @@ invariant_of-self c =
     }
 
 pub take_in-requires : goal.take_in-requires
-take_in-requires c =
+take_in-requires g c =
     let s = c.self.inside in
     let w = c.run-ran in
     let to_new : Thread Cursor → Thread Cursor = λ th. thread_in w.new.self.threads c.args.t in

@@ -15,7 +15,7 @@ use Rattle.kernel_table.proofs.Armed.{still_armed, charged_due}
 use Rattle.kernel_table.proofs.table.Table.run.Goals as goal
 
 pub invariant_of-self : goal.invariant_of-self
-invariant_of-self c =
+invariant_of-self g c =
     let s = c.self.inside in
     let ran = c.run-ran.ensures in
     let bodies = flat_bodies c.args.code.now in
@@ -33,17 +33,17 @@ invariant_of-self c =
     }
 
 pub reassign_changed-moved-requires-clause-placed : goal.reassign_changed-moved-requires-clause-placed
-reassign_changed-moved-requires-clause-placed c = placed c.self.inside.threads c.self.inside.chain c.self.inside.waits c.self.invariant.tied
+reassign_changed-moved-requires-clause-placed g c = placed c.self.inside.threads c.self.inside.chain c.self.inside.waits c.self.invariant.tied
 
 pub returns-clause-moved : goal.returns-clause-moved
-returns-clause-moved c =
+returns-clause-moved g c =
     let s = c.self.inside in
     rw (← c.self.view_is, c.thread_of.ensures)
     (told s.timers s.threads (slice_set s.threads c.args.t c.run-ran.new.self) s.chain c.reassign_changed-moved.new.chain s.waits c.reassign_changed-moved.new.waits c.reassign_changed-moved.result (length-set s.threads c.args.t c.run-ran.new.self) c.self.invariant.tied
-    (invariant_of-self c).tied c.reassign_changed-moved.ensures.moved)
+    (invariant_of-self g c).tied c.reassign_changed-moved.ensures.moved)
 
 pub reassign_changed-moved-requires-clause-same : goal.reassign_changed-moved-requires-clause-same
-reassign_changed-moved-requires-clause-same c = λ low.
+reassign_changed-moved-requires-clause-same g c = λ low.
     let s = c.self.inside in
     let ran = c.run-ran.ensures in
     let bodies = flat_bodies c.args.code.now in
