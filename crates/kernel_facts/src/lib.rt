@@ -5,6 +5,14 @@
 //! The state is read and not changed. Lists are written word by word, so that no room limits their length.
 #![tactic(auto)]
 
+mod line;
+mod lists;
+mod names;
+mod numbers;
+mod objects;
+mod queues;
+mod signals;
 mod state;
+mod threads;
 
 pub use state::write_state;
