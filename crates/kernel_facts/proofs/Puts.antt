@@ -8,11 +8,11 @@ use Rattle.script_printer.proofs.Puts.{puts_both}
 use Rattle.kernel_facts.specs.Lines.{begun, end_text, more_text, told_text}
 use Rattle.kernel_facts.proofs.Lines.{begun_end, begun_more}
 
-module _ {K : Type 0} (text : K → Option (List ℕ)) (faults : K → ℕ) (a b c : Printer K) where
-  -- the same text in another form
-  pub puts_as : (xs ys : List ℕ) → xs ≡ ys → Puts text faults a b xs → Puts text faults a b ys
-  puts_as xs ys same h = subst (λ (t : List ℕ). Puts text faults a b t) same h
+-- the same text in another form
+pub puts_as : {K : Type 0} (text : K → Option (List ℕ)) (faults : K → ℕ) (a b : Printer K) (xs ys : List ℕ) → xs ≡ ys → Puts text faults a b xs → Puts text faults a b ys
+puts_as text faults a b xs ys same h = subst (λ (t : List ℕ). Puts text faults a b t) same h
 
+module _ {K : Type 0} (text : K → Option (List ℕ)) (faults : K → ℕ) (a b c : Printer K) where
   pub puts_more : (about told more : Words) (is_begun : Bool) → 0 < length about → 0 < length more → is_begun ≡ not (is_nil told)
       → Puts text faults a b (begun about told) → Puts text faults b c (more_text is_begun about more) → Puts text faults a c (begun about (told ++ more))
   puts_more about told more is_begun some any flag first second =

@@ -6,7 +6,9 @@ use Rattle.script_writer.specs.Canon.{Words}
 use Rattle.script_writer.specs.Line.{line_text}
 use Rattle.script_writer.specs.Words.{is_nil}
 use Rattle.rules_facts.specs.Fact.{Fact, Number}
-use Rattle.rules_facts.specs.Spelled.{number_words, subject, told}
+use Rattle.rules_facts.specs.Spelled.{body_name, number_words, subject, told}
+use Rattle.rules_machine.specs.State.{Frame}
+use Rattle.rules_machine.specs.Threads.{is_main}
 
 -- a line where anything is told of a subject, and else nothing
 abbrev pub told_text : Words → Words → List ℕ
@@ -33,6 +35,10 @@ more_text is_begun about more = if is_begun then after_blanks more else joined_w
 -- the end of a line that was begun
 abbrev pub end_text : Bool → List ℕ
 end_text is_begun = if is_begun then 10 ∷ [] else []
+
+-- the word of a frame above the main one
+abbrev pub frame_words : {P : Type 0} → List Decl → Frame P → Words
+frame_words decls f = if is_main f.kind then [] else body_name decls f.body ∷ []
 
 -- ---- one text for each number below a limit
 
