@@ -8,10 +8,12 @@
 //! own, so that no message is searched for. All room is taken by `open`, and no later call takes memory.
 #![tactic(auto)]
 
+mod message;
 mod open;
 mod queue;
 mod queues;
 mod registration;
 
+pub use message::HeldMessage;
 pub use queues::Queues;
 pub use registration::Registration;

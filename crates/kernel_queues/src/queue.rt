@@ -1,8 +1,11 @@
 // One message queue.
-ghost use Rattle.std.specs.Prelude.{◌≡◌, ◌≤◌, ◌<◌, ◌==◌, [], None, true, not, nat_lt, length, replicate, IfOk, IfSome};
+ghost use Rattle.std.specs.Prelude.{◌≡◌, ◌≤◌, ◌<◌, ◌==◌, [], None, true, not, nat_lt, length, replicate, slice_get, IfOk, IfSome};
+ghost use Rattle.std.specs.List.{AllByRecursion};
+ghost use Rattle.rules_machine.specs.State.{Message};
 ghost use Rattle.rules_machine.specs.Queues.{has_room, registered, with_message};
 ghost use Rattle.kernel_queues.specs.Queues.{next_value, without_next};
 
+use crate::message::HeldMessage;
 use crate::registration::Registration;
 use parts_arrivals::Arrivals;
 use std::alloc::{AllocError, Global};
@@ -85,6 +88,22 @@ impl MessageQueue {
         let node = self.arrivals.first(priority).unwrap();
         self.arrivals.leave(node);
         Some(self.values[node as usize])
+    }
+
+    // The message at a place in the order of arrival, from 0 on. None exactly where there are not so many.
+    pub(crate) fn nth(&self, place: u32) -> Option<HeldMessage>
+        ensures message { result ≡ slice_get self.now.messages place }
+        ensures few { IfSome result (λ _. place < 65536) }
+    {
+        let (node, priority) = self.arrivals.nth(place)?;
+        Some(HeldMessage::new(priority, self.values[node as usize]))
+    }
+
+    // Costs nothing when it runs: each priority is one from 0 to 31.
+    pub(crate) fn know_priorities(&self)
+        ensures { AllByRecursion (λ (m : Message). m.priority < 32) self.now.messages }
+    {
+        let _ = self.arrivals.len();
     }
 
     pub(crate) fn register(&mut self, registration: Option<Registration>)

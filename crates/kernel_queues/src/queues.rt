@@ -1,9 +1,12 @@
 // The queues by their numbers.
-ghost use Rattle.std.specs.Prelude.{◌≡◌, ◌<◌, ◌==◌, true, not, nat_lt, length, IfOk, IfSome};
+ghost use Rattle.std.specs.Prelude.{◌≡◌, ◌<◌, ◌==◌, true, not, nat_lt, length, slice_get, IfOk, IfSome};
+ghost use Rattle.std.specs.List.{AllByRecursion};
+ghost use Rattle.rules_machine.specs.State.{Message};
 ghost use Rattle.rules_machine.specs.Declarations.{queues_of};
 ghost use Rattle.rules_machine.specs.Queues.{has_room, registered, with_message};
 ghost use Rattle.kernel_queues.specs.Queues.{next_value, queue_in, with_queue, without_next};
 
+use crate::message::HeldMessage;
 use crate::open::open_queues;
 use crate::queue::MessageQueue;
 use crate::registration::Registration;
@@ -62,6 +65,18 @@ impl Queues {
         ensures room { IfSome result (λ _. has_room (queue_in self.new q) ≡ true) }
     {
         self.items[q.get() as usize].take()
+    }
+
+    /// The message at a place in the order of arrival, from 0 on; it stays. None exactly where the queue does not hold so many.
+    pub fn nth(&self, q: ObjId, place: u32) -> Option<HeldMessage>
+        requires { q < length self.now }
+        ensures message { result ≡ slice_get (queue_in self.now q).messages place }
+        ensures few { IfSome result (λ _. place < 65536) }
+        ensures priorities { AllByRecursion (λ (m : Message). m.priority < 32) (queue_in self.now q).messages }
+    {
+        let queue = &self.items[q.get() as usize];
+        queue.know_priorities();
+        queue.nth(place)
     }
 
     /// The registration becomes this one, or with None there is none.

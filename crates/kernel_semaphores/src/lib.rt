@@ -60,6 +60,13 @@ impl Semaphores {
         Ok(Semaphores { values })
     }
 
+    /// How many semaphores there are.
+    pub fn count(&self) -> usize
+        ensures { result ≡ length self.now }
+    {
+        self.values.len()
+    }
+
     /// The value, at most 32,767.
     pub fn value(&self, k: ObjId) -> u16
         requires { k < length self.now }

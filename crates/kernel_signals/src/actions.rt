@@ -100,6 +100,15 @@ impl Actions {
         Actions { items, kills }
     }
 
+    /// How many signals have an action: 32.
+    pub fn count(&self) -> usize
+        ensures value { result ≡ length self.now }
+        ensures all { result ≡ 32 }
+    {
+        let items = &self.items;
+        items.len()
+    }
+
     /// The action of a signal, 0 to 31.
     pub fn get(&self, signal: u8) -> SigAction
         requires { signal < 32 }

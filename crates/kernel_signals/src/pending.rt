@@ -1,5 +1,5 @@
 // The pending records.
-ghost use Rattle.std.specs.Prelude.{◌≡◌, ◌↔◌, IsTrue, ◌≤◌, ◌<◌, ◌&&◌, ◌||◌, not, ℕ, ◌++◌, ◌∷◌, [], All, Contains, nat_le, length, replicate, IfOk, IfSome};
+ghost use Rattle.std.specs.Prelude.{◌≡◌, ◌↔◌, IsTrue, ◌≤◌, ◌<◌, ◌&&◌, ◌||◌, not, ℕ, ◌++◌, ◌∷◌, [], All, Contains, nat_le, length, replicate, slice_get, IfOk, IfSome};
 ghost use Rattle.words_numbers.specs.Signals.{has_signal};
 ghost use Rattle.std.specs.List.{list_any};
 ghost use Rattle.rules_machine.specs.Lists.{is};
@@ -150,6 +150,15 @@ impl Pending {
         ensures signals { All (λ (r : machine.SignalRecord). r.signal < 32) self.now }
     {
         self.next_in(t, let_through(mask, kills, runs_handlers))
+    }
+
+    /// The record at a place in the order in which they became pending, from 0 on; it stays. None exactly where not so many are pending.
+    pub fn nth(&self, place: u32) -> Option<SignalRecord>
+        ensures value { result ≡ slice_get self.now place }
+        ensures few { IfSome result (λ _. place < 65536) }
+    {
+        let (node, _) = self.arrivals.nth(place)?;
+        Some(self.records[node as usize])
     }
 
     /// The record is no longer pending.

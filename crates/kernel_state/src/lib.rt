@@ -17,6 +17,7 @@ mod mutexes;
 mod named;
 mod open;
 mod parts;
+mod reads;
 mod report;
 mod semaphore_values;
 mod servers;

@@ -37,6 +37,12 @@ impl Table {
         self.threads.has_run(t)
     }
 
+    pub fn mutex_count(&self) -> usize
+        ensures { result ≡ length self.now.mutexes }
+    {
+        self.chain.mutex_count()
+    }
+
     pub fn mutex(&self, k: ObjId) -> &MutexState
         requires { k < length self.now.mutexes }
         ensures { result.now ≡ mutex_in self.now.mutexes k }

@@ -83,6 +83,22 @@ impl Table {
         self.timers.overrun(k)
     }
 
+    /// When the timer expires next; `None` exactly where it is disarmed.
+    pub fn timer_due(&self, k: ObjId) -> Option<Tick>
+        requires { k < length self.now.timers }
+        ensures { result ≡ (timer_in self.now.timers k).due }
+    {
+        self.timers.due(k)
+    }
+
+    /// The ticks from one expiry to the next; 0 where it expires once.
+    pub fn timer_interval(&self, k: ObjId) -> u64
+        requires { k < length self.now.timers }
+        ensures { result ≡ (timer_in self.now.timers k).interval }
+    {
+        self.timers.interval(k)
+    }
+
     /// The signal of an expiry, as it was declared.
     pub fn timer_signal(&self, k: ObjId) -> u8
         requires { k < length self.now.timers }

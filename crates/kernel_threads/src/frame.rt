@@ -99,6 +99,27 @@ impl Frame {
         }
     }
 
+    /// Whose body it is in.
+    pub fn body(&self) -> BodyOf
+        ensures { result ≡ self.now.body }
+    {
+        self.body
+    }
+
+    /// The answer of the last call of its body.
+    pub fn result(&self) -> Res
+        ensures { result ≡ self.now.result }
+    {
+        self.at.result
+    }
+
+    /// The value of the last call of its body.
+    pub fn value(&self) -> u64
+        ensures { result ≡ self.now.value }
+    {
+        self.at.value
+    }
+
     pub fn kind(&self) -> FrameKind
         ensures { result ≡ self.now.kind }
     {

@@ -104,6 +104,12 @@ impl Timer {
         self.due
     }
 
+    pub(crate) fn interval(&self) -> u64
+        ensures { result ≡ self.now.interval }
+    {
+        self.interval
+    }
+
     // 0 where it is not armed, or due by now.
     pub(crate) fn ticks_left(&self, now: Tick) -> u64
         ensures { result ≡ ticks_to self.now.due now }

@@ -102,6 +102,14 @@ impl Timers {
         self.items[k.get() as usize].due()
     }
 
+    /// The ticks from one expiry to the next; 0 where it expires once.
+    pub fn interval(&self, k: ObjId) -> u64
+        requires { k < length self.now }
+        ensures { result ≡ (timer_in self.now k).interval }
+    {
+        self.items[k.get() as usize].interval()
+    }
+
     /// The ticks from now until the timer expires; 0 where it is disarmed, or due by now.
     pub fn gettime(&self, k: ObjId, now: Tick) -> u64
         requires { k < length self.now }

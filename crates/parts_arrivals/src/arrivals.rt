@@ -1,7 +1,8 @@
 //! The order of arrival, and that within each rank.
-ghost use Rattle.std.specs.Prelude.{◌≡◌, ◌==◌, ◌++◌, ◌∷◌, [], ◌<◌, ◌≤◌, false, true, not, nat_lt, ℕ, is_some, IfOk, IfSome, length, replicate};
+ghost use Rattle.std.specs.Prelude.{◌≡◌, ◌==◌, ◌++◌, ◌∷◌, [], ◌<◌, ◌≤◌, false, true, not, nat_lt, ℕ, is_some, IfOk, IfSome, length, option_map, replicate, slice_get};
 ghost use Rattle.parts_arrivals.specs.Arrivals.{AreArrivals, has_come, without_node, first_of_rank, next_of_rank, oldest, next_in_order, highest_rank};
 ghost use Rattle.parts_arrivals.specs.Held.{first_nodes, is_marked};
+ghost use Rattle.parts_arrivals.specs.Nth.{arrival_of};
 
 use crate::marks::{highest_mark, with_mark};
 use parts_links::Links;
@@ -176,6 +177,16 @@ impl Arrivals {
         ensures arrivals { AreArrivals self.now }
     {
         self.arrived.front(COME)
+    }
+
+    /// The node at a place in the order of arrival, from 0 on, and its rank. None exactly where not so many have come.
+    pub fn nth(&self, place: u32) -> Option<(u32, u8)>
+        ensures value { option_map arrival_of result ≡ slice_get self.now.order place }
+        ensures known { IfSome result (λ a. a.0 < self.now.nodes) }
+        ensures few { IfSome result (λ _. place < 65536) }
+    {
+        let node = self.arrived.nth(COME, place)?;
+        Some((node, self.ranks[node as usize]))
     }
 
     /// The one that came next after this. None exactly where there is none.

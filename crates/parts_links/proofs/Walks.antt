@@ -18,7 +18,7 @@ pub rest_first : (xs : List ℕ) → rest_of (slice_get xs 0) xs ≡ xs
 rest_first [] = refl
 rest_first (x ∷ xs) = since_first x xs
 
-apart_stands : (x n : ℕ) (xs : List ℕ) → IsApart x xs → stands_in n xs ≡ true → n ≢ x
+pub apart_stands : (x n : ℕ) (xs : List ℕ) → IsApart x xs → stands_in n xs ≡ true → n ≢ x
 apart_stands x n [] a h same = clash h
 apart_stands x n (y ∷ ys) a h same = ⊎_elim (λ t. a.0 (sym same ∙ sym (eqb-true y n t))) (λ t. apart_stands x n ys a.1 (past t h) same) (decide (y == n))
 

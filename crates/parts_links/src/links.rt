@@ -118,6 +118,22 @@ impl Links {
         if next < self.nodes { Some(next) } else { None }
     }
 
+    /// The node at a place of the list, from 0 on. None exactly where the list is not so long.
+    pub fn nth(&self, list: u32, place: u32) -> Option<u32>
+        requires { list < length self.now.lists }
+        ensures node { result ≡ slice_get (list_at self.now.lists list) place }
+        ensures small { IfSome result (λ n. n < self.now.nodes) }
+        ensures few { IfSome result (λ _. place < 65536) }
+    {
+        let _nodes = self.nodes;
+        self.stand_once();
+        let mut node = self.front(list)?;
+        for _past in 0..place {
+            node = self.next(node)?;
+        }
+        Some(node)
+    }
+
     /// A node stands at most once in all the lists.
     pub fn stand_once(&self)
         ensures { StandOnce self.now }

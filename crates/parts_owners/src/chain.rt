@@ -66,6 +66,12 @@ impl Chain {
     }
 
     /// The mutex as it stands.
+    pub fn mutex_count(&self) -> usize
+        ensures { result ≡ length self.now.mutexes }
+    {
+        self.mutexes.len()
+    }
+
     pub fn mutex(&self, k: ObjId) -> &MutexState
         requires { k < length self.now.mutexes }
         ensures { result.now ≡ mutex_at self.now k }

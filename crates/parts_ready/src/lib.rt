@@ -7,7 +7,7 @@
 //! search, and a bitmap of four words finds the highest list that is not empty. No call after `open` takes memory.
 #![tactic(auto)]
 
-ghost use Rattle.std.specs.Prelude.{◌≡◌, ◌<◌, ◌≤◌, if◌then◌else◌, length, IfOk, IfSome, Some, false, true};
+ghost use Rattle.std.specs.Prelude.{◌≡◌, ◌<◌, ◌≤◌, if◌then◌else◌, length, slice_get, IfOk, IfSome, Some, false, true};
 ghost use Rattle.parts_links.specs.Links.{follower_on, list_at, on_a_list, stands_in};
 ghost use Rattle.rules_lists.specs.Lists.{AreReadyLists, change_list, empty_lists, list_of, without, to_tail, to_head, highest, prio_of};
 ghost use Rattle.parts_ready.specs.Ends.{at_end, leads, put_at};
@@ -209,6 +209,17 @@ impl Ready {
         ensures lists { AreReadyLists self.now }
     {
         Tid::try_new(self.head)
+    }
+
+    /// The thread at a place of the list of this priority, from 0 on, the head first. None exactly where the list is not so long.
+    pub fn nth(&self, p: Prio, place: u32) -> Option<Tid>
+        ensures thread { result ≡ slice_get (list_of p self.now.lists) place }
+        ensures few { IfSome result (λ _. place < 65536) }
+    {
+        match self.links.nth(p.get() as u32 - 1, place) {
+            Some(node) => Tid::try_new(node as u16),
+            None => None,
+        }
     }
 
     /// The priority of the list on which the thread stands. None exactly where it stands on none.

@@ -120,6 +120,13 @@ impl Server {
         self.consumed
     }
 
+    /// The time from which the next replenishment is due after its period.
+    pub fn activation(&self) -> Tick
+        ensures { result ≡ self.now.activation }
+    {
+        self.activation
+    }
+
     /// The pending replenishments, the oldest first.
     pub fn pending(&self) -> &[Replenish]
         ensures { result.now ≡ self.now.pending }

@@ -16,4 +16,6 @@ mod names;
 mod write;
 
 pub use length::canon_len;
+pub use line::{LineText, Word, word_text};
+pub use names::name_of;
 pub use write::write_script;

@@ -11,11 +11,11 @@ use words_numbers::SigSet;
 use words_script::Operand;
 
 /// The text of a line with its end.
-pub(crate) type LineText = ArrayVec<u8, 256>;
+pub type LineText = ArrayVec<u8, 256>;
 
 /// A word of a line.
 #[derive(Clone, Copy)]
-pub(crate) enum Word<'a> {
+pub enum Word<'a> {
     /// A keyword of at most 16 bytes.
     Keyword(&'a [u8]),
     /// A name of at most 32 bytes.
@@ -102,6 +102,16 @@ fn add_word(line: &mut LineText, word: &Word<'_>)
         Word::Signal(sig) => add_signal(line, *sig),
         Word::Signals(set) => add_signals(line, *set),
     }
+}
+
+/// The text of a word.
+pub fn word_text(word: &Word<'_>) -> LineText
+    requires { IsShort word.now }
+    ensures { result.items ≡ spelled word.now }
+{
+    let mut text = ArrayVec::new();
+    add_word(&mut text, word);
+    text
 }
 
 // The words, with a blank before each.

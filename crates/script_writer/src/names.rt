@@ -6,8 +6,8 @@ ghost use Rattle.words_script.specs.declared.name_kind.NameKind.TheVariants as n
 use words_numbers::{ObjId, Tid};
 use words_script::{Decl, NameKind};
 
-// The name of what is the k-th of its kind, or nothing where there are fewer.
-fn name_of(decls: &[Decl], of: NameKind, k: u16) -> &[u8]
+/// The name of what is the k-th of its kind among the declarations, from 0 on; nothing where there are fewer.
+pub fn name_of(decls: &[Decl], of: NameKind, k: u16) -> &[u8]
     ensures name { result.now ≡ name_of decls.now of k }
     ensures short { length result.now ≤ 32 }
 {

@@ -1,0 +1,4 @@
+pub mod Lines
+pub mod Living
+pub mod Ticks
+pub mod Puts

@@ -1,0 +1,26 @@
+-- The lines of facts as a printer prints them.
+use Rattle.std.proofs.Common.{◌≡◌, ◌<◌, ℕ, Bool, List, Option, ◌++◌, length, not, subst}
+use Rattle.script_writer.specs.Canon.{Words}
+use Rattle.script_writer.specs.Words.{is_nil}
+use Rattle.script_printer.specs.declared.printer.Printer.{Printer}
+use Rattle.script_printer.specs.Puts.{Puts}
+use Rattle.script_printer.proofs.Puts.{puts_both}
+use Rattle.kernel_facts.specs.Lines.{begun, end_text, more_text, told_text}
+use Rattle.kernel_facts.proofs.Lines.{begun_end, begun_more}
+
+-- the same text in another form
+pub puts_as : {K : Type 0} (text : K → Option (List ℕ)) (faults : K → ℕ) (a b : Printer K) (xs ys : List ℕ) → xs ≡ ys → Puts text faults a b xs → Puts text faults a b ys
+puts_as text faults a b xs ys same h = subst (λ (t : List ℕ). Puts text faults a b t) same h
+
+module _ {K : Type 0} (text : K → Option (List ℕ)) (faults : K → ℕ) (a b c : Printer K) where
+  pub puts_more : (about told more : Words) (is_begun : Bool) → 0 < length about → 0 < length more → is_begun ≡ not (is_nil told)
+      → Puts text faults a b (begun about told) → Puts text faults b c (more_text is_begun about more) → Puts text faults a c (begun about (told ++ more))
+  puts_more about told more is_begun some any flag first second =
+      subst (λ (t : List ℕ). Puts text faults a c t) (begun_more about told more is_begun some any flag)
+      (puts_both text faults a b c (begun about told) (more_text is_begun about more) first second)
+
+  pub puts_end : (about told : Words) (is_begun : Bool) → is_begun ≡ not (is_nil told)
+      → Puts text faults a b (begun about told) → Puts text faults b c (end_text is_begun) → Puts text faults a c (told_text about told)
+  puts_end about told is_begun flag first second =
+      subst (λ (t : List ℕ). Puts text faults a c t) (begun_end about told is_begun flag)
+      (puts_both text faults a b c (begun about told) (end_text is_begun) first second)

@@ -1,0 +1,112 @@
+// What can be read of all parts.
+ghost use Rattle.std.specs.Prelude.{◌≡◌, ◌≤◌, ◌<◌, IfSome, length, slice_get};
+ghost use Rattle.std.specs.List.{AllByRecursion};
+ghost use Rattle.rules_lists.specs.Lists.{list_of};
+ghost use Rattle.rules_machine.specs.State as machine;
+ghost use Rattle.rules_machine.specs.Threads.{queue_at, thread_at, timer_at};
+
+use crate::parts::Parts;
+use kernel_queues::HeldMessage;
+use kernel_signals::SignalRecord;
+use kernel_threads::Thread;
+use words_numbers::{ObjId, Prio, Tick, Tid};
+
+impl Parts {
+    /// A thread as it stands.
+    pub fn thread(&self, t: Tid) -> &Thread
+        requires { t < length self.now.names }
+        ensures { result.now ≡ thread_at self.now.machine t }
+    {
+        self.table.thread(t)
+    }
+
+    /// The thread at a place of the list of this priority, from 0 on, the head first; `None` exactly where the list is not so long.
+    pub fn thread_on_list(&self, p: Prio, place: u32) -> Option<Tid>
+        ensures thread { result ≡ slice_get (list_of p self.now.machine.lists) place }
+        ensures few { IfSome result (λ _. place < 65536) }
+    {
+        self.ready.nth(p, place)
+    }
+
+    /// How many lists of runnable threads there are.
+    pub fn list_count(&self) -> u8
+        ensures count { result ≡ length self.now.machine.lists }
+        ensures all { result ≡ 255 }
+    {
+        self.know_lists();
+        255
+    }
+
+    /// How many mutexes there are.
+    pub fn mutex_count(&self) -> usize
+        ensures { result ≡ length self.now.machine.mutexes }
+    {
+        self.table.mutex_count()
+    }
+
+    /// How many semaphores there are.
+    pub fn semaphore_count(&self) -> usize
+        ensures { result ≡ length self.now.machine.semaphores }
+    {
+        self.semaphores.count()
+    }
+
+    /// How many message queues there are.
+    pub fn queue_count(&self) -> usize
+        ensures { result ≡ length self.now.machine.queues }
+    {
+        self.queues.count()
+    }
+
+    /// How many timers there are, at most 32.
+    pub fn timer_count(&self) -> usize
+        ensures value { result ≡ length self.now.machine.timers }
+        ensures few { result ≤ 32 }
+    {
+        self.table.timer_count()
+    }
+
+    /// How many signals there are.
+    pub fn signal_count(&self) -> usize
+        ensures value { result ≡ length self.now.machine.actions }
+        ensures all { result ≡ 32 }
+    {
+        self.actions.count()
+    }
+
+    /// When a timer expires next; `None` exactly where it is disarmed.
+    pub fn timer_due(&self, k: ObjId) -> Option<Tick>
+        requires { k < length self.now.machine.timers }
+        ensures { result ≡ (timer_at self.now.machine k).due }
+    {
+        self.table.timer_due(k)
+    }
+
+    /// The ticks from one expiry of a timer to the next; 0 where it expires once.
+    pub fn timer_interval(&self, k: ObjId) -> u64
+        requires { k < length self.now.machine.timers }
+        ensures { result ≡ (timer_at self.now.machine k).interval }
+    {
+        self.table.timer_interval(k)
+    }
+
+    /// The message of a queue at a place in the order of arrival, from 0 on; it stays. `None` exactly where the queue does not hold so
+    /// many.
+    pub fn message(&self, q: ObjId, place: u32) -> Option<HeldMessage>
+        requires { q < length self.now.machine.queues }
+        ensures message { result ≡ slice_get (queue_at self.now.machine q).messages place }
+        ensures few { IfSome result (λ _. place < 65536) }
+        ensures priorities { AllByRecursion (λ (m : machine.Message). m.priority < 32) (queue_at self.now.machine q).messages }
+    {
+        self.queues.nth(q, place)
+    }
+
+    /// The pending record at a place in the order in which they became pending, from 0 on; it stays. `None` exactly where not so many are
+    /// pending.
+    pub fn pending_record(&self, place: u32) -> Option<SignalRecord>
+        ensures value { result ≡ slice_get self.now.machine.pending place }
+        ensures few { IfSome result (λ _. place < 65536) }
+    {
+        self.pending.nth(place)
+    }
+}

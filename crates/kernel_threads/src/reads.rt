@@ -1,0 +1,80 @@
+// What of a thread can be told.
+ghost use Rattle.std.specs.Prelude.{◌≡◌};
+ghost use Rattle.kernel_threads.specs.Plain.{status_of};
+
+use crate::frame::Frame;
+use crate::status::Status;
+use crate::thread::Thread;
+use parts_server::Server;
+use words_numbers::ObjId;
+use words_script::Policy;
+
+impl Thread {
+    pub fn status(&self) -> Status
+        ensures { status_of result ≡ self.now.status }
+    {
+        self.status
+    }
+
+    pub fn policy(&self) -> Policy
+        ensures { result ≡ self.now.policy }
+    {
+        self.policy
+    }
+
+    /// Its server; `None` exactly where it has none.
+    pub fn server(&self) -> &Option<Server>
+        ensures { result.now ≡ self.now.server }
+    {
+        &self.server
+    }
+
+    /// The ticks of its round robin interval that it has run.
+    pub fn slice(&self) -> u64
+        ensures { result ≡ self.now.slice }
+    {
+        self.slice
+    }
+
+    /// All ticks that it has run.
+    pub fn ticks(&self) -> u64
+        ensures { result ≡ self.now.ticks }
+    {
+        self.ticks
+    }
+
+    /// Its frames, the top one first.
+    pub fn frames(&self) -> &[Frame]
+        ensures { result.now ≡ self.now.frames }
+    {
+        self.frames.as_slice()
+    }
+
+    /// Its cleanup handlers, the one that was pushed last first.
+    pub fn cleanups(&self) -> &[ObjId]
+        ensures { result.now ≡ self.now.cleanups }
+    {
+        self.cleanups.as_slice()
+    }
+
+    /// Whether it was asked to end.
+    pub fn is_requested(&self) -> bool
+        ensures { result ≡ self.now.is_requested }
+    {
+        self.is_requested
+    }
+
+    /// Whether a request may act in it.
+    pub fn is_enabled(&self) -> bool
+        ensures { result ≡ self.now.is_enabled }
+    {
+        self.is_enabled
+    }
+
+    /// Whether it is ending.
+    pub fn is_ending(&self) -> bool
+        ensures { result ≡ self.now.is_ending }
+    {
+        self.is_ending
+    }
+}

@@ -1,0 +1,29 @@
+-- The text of some words of a line, and of one more.
+use Rattle.std.proofs.Common.{◌≡◌, ◌<◌, ℕ, zero, suc, List, [], ◌∷◌, ◌++◌, append-nil, append_assoc, ap, arith, drop, get_or, length, map, refl, subst, sym, take, ◌∙◌, ◌-◌}
+use Rattle.std.proofs.Math.Seq.{take-length}
+use Rattle.script_lex.specs.Joined.{after_blanks, joined_words}
+use Rattle.script_writer.specs.Line.{AreShort, IsShort, line_text, spelled}
+use Rattle.script_writer.specs.declared.line.Word.{Word}
+
+pub blanks_more : (words : List Word) (i : ℕ) (w d : Word) → i < length words → w ≡ get_or words i d
+    → after_blanks (map spelled (take i words)) ++ (32 ∷ spelled w) ≡ after_blanks (map spelled (take (suc i) words))
+blanks_more [] i w d lt is = absurd (omega arith)
+blanks_more (x ∷ words) zero w d lt is = ap (λ (v : Word). 32 ∷ spelled v) is ∙ ap (λ (t : List ℕ). 32 ∷ t) (sym (append-nil (spelled x)))
+blanks_more (x ∷ words) (suc i) w d lt is =
+    ap (λ (t : List ℕ). 32 ∷ t) (append_assoc (spelled x) (after_blanks (map spelled (take i words))) (32 ∷ spelled w)
+    ∙ ap (λ (t : List ℕ). spelled x ++ t) (blanks_more words i w d (omega arith) is))
+
+pub short_here : (words : List Word) (i : ℕ) (w d : Word) → i < length words → w ≡ get_or words i d → AreShort (drop i words) → IsShort w × AreShort (drop (suc i) words)
+short_here [] i w d lt is short = absurd (omega arith)
+short_here (x ∷ words) zero w d lt is short = (subst (λ (v : Word). IsShort v) (sym is) short.0, short.1)
+short_here (x ∷ words) (suc i) w d lt is short = short_here words i w d (omega arith) is short
+
+-- the first word, and the others with a blank before each
+pub joined_first : (words : List Word) (w d : Word) → 0 < length words → w ≡ get_or words 0 d
+    → spelled w ++ after_blanks (map spelled (take (length words - 1) (drop 1 words))) ≡ joined_words (map spelled words)
+joined_first [] w d lt is = absurd (omega arith)
+joined_first (x ∷ words) w d lt is =
+    let rest : length (x ∷ words) - 1 ≡ length words = omega arith in
+    ap (λ (v : Word). spelled v ++ after_blanks (map spelled (take (length (x ∷ words) - 1) words))) is
+    ∙ ap (λ (n : ℕ). spelled x ++ after_blanks (map spelled (take n words))) rest
+    ∙ ap (λ (ws : List Word). spelled x ++ after_blanks (map spelled ws)) (take-length words)

@@ -1,0 +1,101 @@
+// A printer writes words, each by a write of its own.
+ghost use Rattle.std.specs.Prelude.{◌≡◌, ◌∷◌, ◌++◌, [], false, length, map};
+ghost use Rattle.parts_io.specs.Bytes.{WritesAll};
+ghost use Rattle.parts_io.specs.Causes.{HasCause};
+ghost use Rattle.script_lex.specs.Joined.{after_blanks, joined_words};
+ghost use Rattle.script_writer.specs.Line.{AreShort, IsShort, line_text, spelled};
+ghost use Rattle.script_printer.specs.Puts.{Put, Puts, answer_of};
+
+use parts_io::{Failed, Sink};
+use script_writer::{Word, word_text};
+
+/// Prints words to a sink until a write fails. No call takes memory.
+#[derive(Drop)]
+pub struct Printer<'a, K> {
+    sink: &'a mut K,
+    failed: bool,
+}
+
+impl<'a, K: Sink> Printer<'a, K> {
+    /// A printer that has printed nothing yet.
+    pub fn new(sink: &'a mut K) -> Printer<'a, K>
+        ensures same_reference { result.sink.ghost_name ≡ sink.entry.ghost_name }
+        ensures fresh { result.failed ≡ false }
+        ensures same_sink { result.sink.now ≡ sink.old }
+    {
+        Printer {
+            sink,
+            failed: false,
+        }
+    }
+
+    /// `Err` exactly where a write of this printer has failed. From then on it writes nothing more.
+    pub fn result(&self) -> Result<(), Failed>
+        ensures { result ≡ answer_of self.now.failed }
+    {
+        if self.failed {
+            return Err(Failed);
+        }
+        Ok(())
+    }
+
+    // Writes the bytes at once, unless a write has failed.
+    fn put(&mut self, bytes: &[u8])
+        ensures { Puts K.text K.faults self.old self.new bytes.now }
+    {
+        if self.failed {
+            return;
+        }
+        match self.sink.write(bytes) {
+            Ok(()) => {}
+            Err(_) => self.failed = true,
+        }
+    }
+
+    // Prints a word without a blank.
+    fn put_word(&mut self, word: &Word<'_>)
+        requires { IsShort word.now }
+        ensures { Puts K.text K.faults self.old self.new (spelled word.now) }
+    {
+        let text = word_text(word);
+        self.put(text.as_slice());
+    }
+
+    /// Prints more words of a line, with a blank before each.
+    pub fn words(&mut self, words: &[Word<'_>])
+        requires { AreShort words.now }
+        ensures { Puts K.text K.faults self.old self.new (after_blanks (map spelled words.now)) }
+    {
+        for word in words {
+            self.put(b" ");
+            self.put_word(word);
+        }
+    }
+
+    /// Prints the first words of a line, with one blank between them.
+    pub fn begin(&mut self, words: &[Word<'_>])
+        requires { AreShort words.now }
+        ensures { Puts K.text K.faults self.old self.new (joined_words (map spelled words.now)) }
+    {
+        if let [first, rest @ ..] = words {
+            self.put_word(first);
+            self.words(rest);
+        }
+    }
+
+    /// Prints the end of a line.
+    pub fn end(&mut self)
+        ensures { Puts K.text K.faults self.old self.new (10 ∷ []) }
+    {
+        self.put(b"\n");
+    }
+
+    /// Prints a line of these words, with one blank between them.
+    pub fn line(&mut self, words: &[Word<'_>])
+        requires { AreShort words.now }
+        ensures { Puts K.text K.faults self.old self.new (line_text (map spelled words.now)) }
+    {
+        self.begin(words);
+        self.end();
+    }
+}
