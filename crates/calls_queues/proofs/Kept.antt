@@ -17,8 +17,8 @@ use Rattle.rules_moves.proofs.Calls.Commuting.{wakes_telling_part, woken_runs}
 use Rattle.kernel_threads.specs.Unused.{IsUnused}
 use Rattle.kernel_state.specs.Caught.{HasRoomToPend}
 use Rattle.kernel_state.specs.Kernel.{Kernel, after, turn}
-use Rattle.calls_signals.specs.Sweeping.{AllRest}
-use Rattle.calls_queues.specs.Notifying.{CanNotify}
+use Rattle.kernel_state.specs.Callers.{AllRest}
+use Rattle.calls_queues.specs.Premises.{CanNotify}
 
 -- ---- a queue changes
 

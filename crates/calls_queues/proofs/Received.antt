@@ -23,7 +23,7 @@ use Rattle.kernel_state.specs.Pending.{SignalsFit}
 use Rattle.kernel_state.specs.Messages.{waiting_message}
 use Rattle.calls_signals.proofs.Same.{same_after, same_told}
 use Rattle.calls_signals.proofs.Sent.{returned_blocked}
-use Rattle.calls_queues.specs.Entering.{hands_out, takes_over_from}
+use Rattle.calls_queues.specs.Receives.{hands_out, takes_over_from}
 
 -- ---- the message of a sender
 

@@ -1,2 +1,2 @@
-pub mod Notifying
-pub mod Entering
+pub mod Receives
+pub mod Premises

@@ -1,11 +1,11 @@
 // A call that must wait for a queue.
-ghost use Rattle.std.specs.Prelude.{◌≡◌, ◌<◌, ◌^◌, None, length, true};
-ghost use Rattle.parts_tracer.specs.Tells.{Tells};
+ghost use Rattle.std.specs.Prelude.{◌≡◌, ◌<◌, None, length};
 ghost use Rattle.rules_machine.specs.Priorities.{mutex_waited};
 ghost use Rattle.rules_machine.specs.Queues.{blocks_unless_nonblock};
-ghost use Rattle.rules_machine.specs.Threads.{can_run};
 ghost use Rattle.kernel_threads.specs.Plain.{wait_of};
-ghost use Rattle.kernel_state.specs.Kernel.{after, by, told};
+ghost use Rattle.kernel_state.specs.Kernel.{by};
+ghost use Rattle.kernel_state.specs.Does.{Does};
+ghost use Rattle.kernel_state.specs.Callers.{CanBlock};
 
 use calls_sync::block_unless_late;
 use kernel_state::Parts;
@@ -25,13 +25,10 @@ pub(crate) fn block_unless_nonblock<K: Sink>(
     due: Option<Tick>,
     out: &mut Tracer<'_, K>,
 )
-    requires known { t < length p.old.names }
-    requires runs { can_run p.old.machine t ≡ true }
+    requires can { CanBlock p.old t }
     requires queue { q < length p.old.machine.queues }
     requires other { mutex_waited (wait_of wait) ≡ None }
-    requires serial { p.old.machine.next_serial < 2 ^ 63 }
-    ensures state { p.new ≡ after (blocks_unless_nonblock (by t call.now) q (wait_of wait) due) p.old }
-    ensures told { Tells K.text K.faults p.old.names out.old out.new (told (blocks_unless_nonblock (by t call.now) q (wait_of wait) due) p.old) }
+    ensures { Does K.text K.faults (blocks_unless_nonblock (by t call.now) q (wait_of wait) due) p.old p.new out.old out.new }
 {
     if p.is_nonblock(q) {
         p.returns(t, call, Res::Again, 0, out);

@@ -1,14 +1,14 @@
 // A message enters a queue.
 ghost use Rattle.std.specs.Prelude.{◌≡◌, ◌≤◌, ◌<◌, length, true};
 ghost use Rattle.words_numbers.specs.declared.res.Res.TheVariants as res;
-ghost use Rattle.parts_tracer.specs.Tells.{Tells};
 ghost use Rattle.rules_machine.specs.Queues.{enters, has_room};
 ghost use Rattle.rules_machine.specs.Threads.{is_blocked, queue_at, thread_at};
 ghost use Rattle.rules_machine.specs.Turns.{returns};
 ghost use Rattle.rules_machine.specs.Waking.{wakes};
 ghost use Rattle.kernel_threads.specs.Plain.{message_of};
-ghost use Rattle.kernel_state.specs.Kernel.{after, by, told};
-ghost use Rattle.calls_queues.specs.Notifying.{CanNotify};
+ghost use Rattle.kernel_state.specs.Kernel.{by};
+ghost use Rattle.kernel_state.specs.Does.{Does};
+ghost use Rattle.calls_queues.specs.Premises.{CanNotify};
 
 use crate::notification::{fired_by_message, notify};
 use kernel_state::Parts;
@@ -33,8 +33,7 @@ pub(crate) fn enter_and_return<K: Sink>(
     requires space { has_room (queue_at p.old.machine q) ≡ true }
     requires can { CanNotify p.old.machine q }
     requires room { length p.old.direct < 256 }
-    ensures state { p.new ≡ after (enters q (message_of message) (returns (by t call.now) res.Zero 0)) p.old }
-    ensures told { Tells K.text K.faults p.old.names out.old out.new (told (enters q (message_of message) (returns (by t call.now) res.Zero 0)) p.old) }
+    ensures { Does K.text K.faults (enters q (message_of message) (returns (by t call.now) res.Zero 0)) p.old p.new out.old out.new }
 {
     let fired = fired_by_message(p, q);
     p.put_message(q, message.priority, message.value);
@@ -57,8 +56,7 @@ pub(crate) fn enter_and_wake<K: Sink>(
     requires blocked { is_blocked (thread_at p.old.machine sender).status ≡ true }
     requires can { CanNotify p.old.machine q }
     requires room { length p.old.direct < 255 }
-    ensures state { p.new ≡ after (enters q (message_of message) (wakes sender res.Zero 0)) p.old }
-    ensures told { Tells K.text K.faults p.old.names out.old out.new (told (enters q (message_of message) (wakes sender res.Zero 0)) p.old) }
+    ensures { Does K.text K.faults (enters q (message_of message) (wakes sender res.Zero 0)) p.old p.new out.old out.new }
 {
     let fired = fired_by_message(p, q);
     p.put_message(q, message.priority, message.value);

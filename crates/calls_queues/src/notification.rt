@@ -1,14 +1,14 @@
 // The notification that is asked of a queue.
 ghost use Rattle.std.specs.Prelude.{◌≡◌, ◌≤◌, ◌<◌, ◌^◌, IfSome, None, Some, length};
 ghost use Rattle.words_numbers.specs.declared.res.Res.TheVariants as res;
-ghost use Rattle.parts_tracer.specs.Tells.{Tells};
 ghost use Rattle.rules_machine.specs.Queues.{asks_notification, fired_by_message, is_notifying, notifies, record_of_notification, registered, waits_to_receive};
 ghost use Rattle.rules_machine.specs.Signals.{generates};
 ghost use Rattle.rules_machine.specs.Threads.{queue_at};
 ghost use Rattle.rules_machine.specs.Turns.{changes_queue, returns, ◌▷◌};
 ghost use Rattle.rules_machine.specs.Waiters.{somebody_waits};
-ghost use Rattle.kernel_state.specs.Kernel.{after, by, told};
-ghost use Rattle.calls_queues.specs.Notifying.{CanNotify};
+ghost use Rattle.kernel_state.specs.Kernel.{by};
+ghost use Rattle.kernel_state.specs.Does.{Does};
+ghost use Rattle.calls_queues.specs.Premises.{CanNotify};
 
 use calls_signals::generate;
 use kernel_queues::Registration;
@@ -46,8 +46,7 @@ fn fire<K: Sink>(p: &mut Parts, r: &Registration, q: ObjId, out: &mut Tracer<'_,
     requires asked { (queue_at p.old.machine q).registration ≡ Some r.now }
     requires can { CanNotify p.old.machine q }
     requires room { length p.old.direct < 256 }
-    ensures state { p.new ≡ after (λ s. s ▷ changes_queue q (registered None) ▷ generates (record_of_notification q r.now)) p.old }
-    ensures told { Tells K.text K.faults p.old.names out.old out.new (told (λ s. s ▷ changes_queue q (registered None) ▷ generates (record_of_notification q r.now)) p.old) }
+    ensures { Does K.text K.faults (λ s. s ▷ changes_queue q (registered None) ▷ generates (record_of_notification q r.now)) p.old p.new out.old out.new }
 {
     p.register(q, None);
     let record = SignalRecord::of_queue(q, r.signal(), r.value());
@@ -65,8 +64,7 @@ pub(crate) fn notify<K: Sink>(
     requires asked { IfSome fired.now (λ r. (queue_at p.old.machine q).registration ≡ Some r) }
     requires can { CanNotify p.old.machine q }
     requires room { length p.old.direct < 256 }
-    ensures state { p.new ≡ after (notifies fired.now q) p.old }
-    ensures told { Tells K.text K.faults p.old.names out.old out.new (told (notifies fired.now q) p.old) }
+    ensures { Does K.text K.faults (notifies fired.now q) p.old p.new out.old out.new }
 {
     match fired {
         None => return,
@@ -93,8 +91,7 @@ fn register<K: Sink>(
 )
     requires known { t < length p.old.names }
     requires queue { q < length p.old.machine.queues }
-    ensures state { p.new ≡ after (λ s. s ▷ changes_queue q (registered (Some r)) ▷ returns (by t call.now) res.Zero 0) p.old }
-    ensures told { Tells K.text K.faults p.old.names out.old out.new (told (λ s. s ▷ changes_queue q (registered (Some r)) ▷ returns (by t call.now) res.Zero 0) p.old) }
+    ensures { Does K.text K.faults (λ s. s ▷ changes_queue q (registered (Some r)) ▷ returns (by t call.now) res.Zero 0) p.old p.new out.old out.new }
 {
     p.register(q, Some(r));
     p.returns(t, call, Res::Zero, 0, out);
@@ -112,8 +109,7 @@ pub fn mq_notify<K: Sink>(
 )
     requires known { t < length p.old.names }
     requires queue { q < length p.old.machine.queues }
-    ensures state { p.new ≡ after (asks_notification (by t call.now) q (record { signal = signal; value = value })) p.old }
-    ensures told { Tells K.text K.faults p.old.names out.old out.new (told (asks_notification (by t call.now) q (record { signal = signal; value = value })) p.old) }
+    ensures { Does K.text K.faults (asks_notification (by t call.now) q (record { signal = signal; value = value })) p.old p.new out.old out.new }
 {
     if is_notifying(p, q) {
         p.returns(t, call, Res::Busy, 0, out);

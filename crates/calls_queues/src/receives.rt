@@ -1,14 +1,12 @@
 // Receiving a message: `mq_receive` and `mq_timedreceive`.
-ghost use Rattle.std.specs.Prelude.{◌≡◌, ◌≤◌, ◌<◌, ◌^◌, IfSome, length, true};
-ghost use Rattle.parts_tracer.specs.Tells.{Tells};
+ghost use Rattle.std.specs.Prelude.{◌≡◌, ◌<◌, IfSome, length, true};
 ghost use Rattle.rules_machine.specs.Queues.{has_room, receives_message};
-ghost use Rattle.rules_machine.specs.Threads.{can_run, is_blocked, queue_at, thread_at};
-ghost use Rattle.kernel_state.specs.Kernel.{after, by, told};
-ghost use Rattle.kernel_state.specs.Pending.{PendingFits, SignalsFit};
+ghost use Rattle.rules_machine.specs.Threads.{is_blocked, queue_at, thread_at};
+ghost use Rattle.kernel_state.specs.Kernel.{by};
+ghost use Rattle.kernel_state.specs.Does.{Does};
 ghost use Rattle.kernel_state.specs.Messages.{waiting_message};
-ghost use Rattle.calls_sync.specs.Waits.{WaitsFit};
-ghost use Rattle.calls_queues.specs.Entering.{hands_out, takes_over_from};
-ghost use Rattle.calls_queues.specs.Notifying.{CanNotify};
+ghost use Rattle.calls_queues.specs.Receives.{hands_out, takes_over_from};
+ghost use Rattle.calls_queues.specs.Premises.{CanNotify, CanPass};
 
 use crate::blocking::block_unless_nonblock;
 use crate::entries::enter_and_wake;
@@ -28,8 +26,7 @@ fn take_over<K: Sink>(p: &mut Parts, sender: Option<Tid>, q: ObjId, out: &mut Tr
     requires space { has_room (queue_at p.old.machine q) ≡ true }
     requires can { CanNotify p.old.machine q }
     requires room { length p.old.direct < 255 }
-    ensures state { p.new ≡ after (takes_over_from sender q) p.old }
-    ensures told { Tells K.text K.faults p.old.names out.old out.new (told (takes_over_from sender q) p.old) }
+    ensures { Does K.text K.faults (takes_over_from sender q) p.old p.new out.old out.new }
 {
     if let Some(w) = sender {
         let message = p.waiting_message(w);
@@ -55,8 +52,7 @@ fn hand_out<K: Sink>(
     requires space { has_room (queue_at p.old.machine q) ≡ true }
     requires can { CanNotify p.old.machine q }
     requires room { length p.old.direct < 255 }
-    ensures state { p.new ≡ after (hands_out (by t call.now) value sender q) p.old }
-    ensures told { Tells K.text K.faults p.old.names out.old out.new (told (hands_out (by t call.now) value sender q) p.old) }
+    ensures { Does K.text K.faults (hands_out (by t call.now) value sender q) p.old p.new out.old out.new }
 {
     p.returns(t, call, Res::Zero, value, out);
     take_over(p, sender, q, out);
@@ -71,17 +67,9 @@ pub fn mq_receive<K: Sink>(
     due: Option<Tick>,
     out: &mut Tracer<'_, K>,
 )
-    requires known { t < length p.old.names }
+    requires caller { CanPass p.old t }
     requires queue { q < length p.old.machine.queues }
-    requires runs { can_run p.old.machine t ≡ true }
-    requires fits { WaitsFit p.old.machine }
-    requires pends { PendingFits p.old.machine }
-    requires signals { SignalsFit p.old.machine }
-    requires serial { p.old.machine.next_serial < 2 ^ 62 }
-    requires room { length p.old.direct < 128 }
-    requires early { p.old.machine.now ≤ 10 ^ 18 }
-    ensures state { p.new ≡ after (receives_message (by t call.now) q due) p.old }
-    ensures told { Tells K.text K.faults p.old.names out.old out.new (told (receives_message (by t call.now) q due) p.old) }
+    ensures { Does K.text K.faults (receives_message (by t call.now) q due) p.old p.new out.old out.new }
 {
     let sender = p.best_sender(q);
     match p.take_message(q) {

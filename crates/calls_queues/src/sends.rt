@@ -1,17 +1,15 @@
 // Sending a message: `mq_send` and `mq_timedsend`.
-ghost use Rattle.std.specs.Prelude.{◌≡◌, ◌≤◌, ◌<◌, ◌^◌, None, length, true};
+ghost use Rattle.std.specs.Prelude.{◌≡◌, ◌<◌, None, length, true};
 ghost use Rattle.words_numbers.specs.declared.res.Res.TheVariants as res;
-ghost use Rattle.parts_tracer.specs.Tells.{Tells};
 ghost use Rattle.rules_machine.specs.Queues.{sends_message, reaches_receiver_or_queue};
-ghost use Rattle.rules_machine.specs.Threads.{can_run, is_blocked, thread_at};
+ghost use Rattle.rules_machine.specs.Threads.{is_blocked, thread_at};
 ghost use Rattle.rules_machine.specs.Turns.{returns, ◌▷◌};
 ghost use Rattle.rules_machine.specs.Waking.{wakes};
 ghost use Rattle.kernel_threads.specs.Plain.{message_of};
-ghost use Rattle.kernel_state.specs.Kernel.{after, by, told};
-ghost use Rattle.kernel_state.specs.Pending.{PendingFits, SignalsFit};
-ghost use Rattle.calls_signals.specs.Sweeping.{AllRest};
-ghost use Rattle.calls_sync.specs.Waits.{WaitsFit};
-ghost use Rattle.calls_queues.specs.Notifying.{CanNotify};
+ghost use Rattle.kernel_state.specs.Kernel.{by};
+ghost use Rattle.kernel_state.specs.Does.{Does};
+ghost use Rattle.kernel_state.specs.Callers.{CanWake, IsRunning};
+ghost use Rattle.calls_queues.specs.Premises.{CanNotify, CanPass};
 
 use crate::blocking::block_unless_nonblock;
 use crate::entries::enter_and_return;
@@ -34,11 +32,8 @@ fn hand_to_receiver<K: Sink>(
     requires known { t < length p.old.names }
     requires receiver { receiver < length p.old.names }
     requires blocked { is_blocked (thread_at p.old.machine receiver).status ≡ true }
-    requires rests { AllRest p.old.machine }
-    requires room { length p.old.direct < 256 }
-    requires early { p.old.machine.now ≤ 10 ^ 18 }
-    ensures state { p.new ≡ after (λ s. s ▷ returns (by t call.now) res.Zero 0 ▷ wakes receiver res.Zero value) p.old }
-    ensures told { Tells K.text K.faults p.old.names out.old out.new (told (λ s. s ▷ returns (by t call.now) res.Zero 0 ▷ wakes receiver res.Zero value) p.old) }
+    requires can { CanWake p.old }
+    ensures { Does K.text K.faults (λ s. s ▷ returns (by t call.now) res.Zero 0 ▷ wakes receiver res.Zero value) p.old p.new out.old out.new }
 {
     p.returns(t, call, Res::Zero, 0, out);
     p.wake(receiver, Res::Zero, value, out);
@@ -54,14 +49,12 @@ fn send_to_queue<K: Sink>(
     due: Option<Tick>,
     out: &mut Tracer<'_, K>,
 )
-    requires known { t < length p.old.names }
+    requires caller { IsRunning p.old t }
     requires queue { q < length p.old.machine.queues }
-    requires runs { can_run p.old.machine t ≡ true }
     requires priority { message.priority < 32 }
     requires can { CanNotify p.old.machine q }
     requires room { length p.old.direct < 256 }
-    ensures state { p.new ≡ after (reaches_receiver_or_queue None (by t call.now) q (message_of message) due) p.old }
-    ensures told { Tells K.text K.faults p.old.names out.old out.new (told (reaches_receiver_or_queue None (by t call.now) q (message_of message) due) p.old) }
+    ensures { Does K.text K.faults (reaches_receiver_or_queue None (by t call.now) q (message_of message) due) p.old p.new out.old out.new }
 {
     if p.has_room(q) {
         enter_and_return(p, t, call, q, message, out);
@@ -82,18 +75,10 @@ pub fn mq_send<K: Sink>(
     due: Option<Tick>,
     out: &mut Tracer<'_, K>,
 )
-    requires known { t < length p.old.names }
+    requires caller { CanPass p.old t }
     requires queue { q < length p.old.machine.queues }
-    requires runs { can_run p.old.machine t ≡ true }
     requires priority { priority < 32 }
-    requires fits { WaitsFit p.old.machine }
-    requires pends { PendingFits p.old.machine }
-    requires signals { SignalsFit p.old.machine }
-    requires serial { p.old.machine.next_serial < 2 ^ 62 }
-    requires room { length p.old.direct < 128 }
-    requires early { p.old.machine.now ≤ 10 ^ 18 }
-    ensures state { p.new ≡ after (sends_message (by t call.now) q len (record { priority = priority; value = value }) due) p.old }
-    ensures told { Tells K.text K.faults p.old.names out.old out.new (told (sends_message (by t call.now) q len (record { priority = priority; value = value }) due) p.old) }
+    ensures { Does K.text K.faults (sends_message (by t call.now) q len (record { priority = priority; value = value }) due) p.old p.new out.old out.new }
 {
     if p.is_too_long(q, len) {
         p.returns(t, call, Res::Msgsize, 0, out);

@@ -11,9 +11,7 @@ use Rattle.rules_machine.specs.Signals.{delivers, may_go_to, selected, waits_sig
 use Rattle.rules_machine.specs.State.{Machine, SignalRecord, for_signal}
 use Rattle.rules_machine.specs.Turns.{Caller, Turn, changes_pending, returns, ◌▷◌}
 use Rattle.rules_machine.specs.Waking.{blocks}
-use Rattle.rules_machine.proofs.Behind.{returns_behind}
 use Rattle.kernel_state.specs.Kernel.{Kernel, after, told}
-use Rattle.kernel_state.proofs.Turns.{then_state, then_told}
 
 -- the pending record that a thread takes which asks for a set
 abbrev pub awaited : Machine Cursor → ℕ → ℕ → Option SignalRecord
@@ -44,17 +42,3 @@ waits_some_ticks (suc n) by set k l some e = e
 pub told_some_ticks : {K : Type 0} (text : K → Option (List ℕ)) (faults : K → ℕ) (n : ℕ) (by : Caller) (set : ℕ) (k : Kernel) (a : Tracer K) → n ≢ 0 → Tells text faults k.names a a (told (blocks_for_signal (Some n) by set) k)
 told_some_ticks text faults zero by set k a some = absurd (some refl)
 told_some_ticks text faults (suc n) by set k a some = tells_nothing text faults k.names a
-
--- a record is taken, then delivered, and then the call returns
-module _ (by : Caller) (r : SignalRecord) (k l m n : Kernel) (first : l ≡ after (changes_pending (without_record r)) k) (second : m ≡ after (delivers by.thread r) l) where
-  taken : m ≡ after (λ (s : Turn Cursor). s ▷ changes_pending (without_record r) ▷ delivers by.thread r) k
-  taken = second ∙ ap (after (delivers by.thread r)) first
-
-  pub taken_state : n ≡ after (returns by res.Zero r.signal) m → n ≡ after (λ (s : Turn Cursor). s ▷ changes_pending (without_record r) ▷ delivers by.thread r ▷ returns by res.Zero r.signal) k
-  taken_state third = then_state (λ s. s ▷ changes_pending (without_record r) ▷ delivers by.thread r) (returns by res.Zero r.signal) k m n (returns_behind by res.Zero r.signal) taken third
-
-  pub taken_told : {K : Type 0} (text : K → Option (List ℕ)) (faults : K → ℕ) (a b c : Tracer K) → Tells text faults l.names a b (told (delivers by.thread r) l) → Tells text faults m.names b c (told (returns by res.Zero r.signal) m) →
-      Tells text faults k.names a c (told (λ (s : Turn Cursor). s ▷ changes_pending (without_record r) ▷ delivers by.thread r ▷ returns by res.Zero r.signal) k)
-  taken_told text faults a b c one two =
-      then_told text faults (λ s. s ▷ changes_pending (without_record r) ▷ delivers by.thread r) (returns by res.Zero r.signal) k m a b c (returns_behind by res.Zero r.signal) taken
-      (subst (λ (x : Kernel). Tells text faults x.names a b (told (delivers by.thread r) x)) first one) two

@@ -13,10 +13,10 @@ use Rattle.rules_server.specs.Server.{ServerState, activate}
 use Rattle.rules_machine.specs.CallNames.{name_of}
 use Rattle.rules_machine.specs.Delivery.{interrupts, ticks_left}
 use Rattle.rules_machine.specs.Servers.{activates_server, at_once, high_server, with_server}
-use Rattle.rules_machine.specs.Signals.{delivers, tells_overrun, without_record}
+use Rattle.rules_machine.specs.Signals.{delivers, tells_overrun}
 use Rattle.rules_machine.specs.State.{Frame, SignalRecord, Status, Thread, Waiting}
 use Rattle.rules_machine.specs.Threads.{is_blocked, no_thread, thread_at, thread_in, waiting_in, waiting_of}
-use Rattle.rules_machine.specs.Turns.{Turn, changes, changes_pending, frames_answered, moves, tells}
+use Rattle.rules_machine.specs.Turns.{Turn, changes, frames_answered, moves, tells}
 use Rattle.rules_machine.specs.Waking.{call_in, wakes, woken}
 use Rattle.rules_machine.proofs.Reading.{changed-keeps}
 use Rattle.kernel_state.specs.Kernel.{Kernel, after, told, turn}
@@ -117,10 +117,3 @@ interrupts_long (Some w) t u s = wakes_long t u res.Intr (ticks_left w.call w.du
 pub interrupted_long : (w : Option Waiting) (t u : ℕ) (r : SignalRecord) (s : Turn Cursor) → depth_in (delivers t r (interrupts w t s)).machine.threads u ≡ depth_in s.machine.threads u
 interrupted_long w t u r s =
     ap (λ (ths : List (Thread Cursor)). depth_in ths u) (delivers_alike t r (interrupts w t s)).threads ∙ interrupts_long w t u s
-
--- ---- one step after another
-
--- a record is taken, and then the thread is interrupted
-pub taken_then : (t : ℕ) (r : SignalRecord) (k l n : Kernel) → l ≡ after (changes_pending (without_record r)) k → n ≡ after (λ (s : Turn Cursor). interrupts (waiting_of s.machine t) t s) l →
-    n ≡ after (λ (s : Turn Cursor). interrupts (waiting_of s.machine t) t (changes_pending (without_record r) s)) k
-taken_then t r k l n first second = second ∙ ap (after (λ (s : Turn Cursor). interrupts (waiting_of s.machine t) t s)) first

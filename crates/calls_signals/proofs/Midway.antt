@@ -19,7 +19,7 @@ use Rattle.kernel_state.specs.Caught.{AreCaught, CatchesBy}
 use Rattle.kernel_state.specs.Kernel.{Kernel, after, told, turn}
 use Rattle.kernel_state.proofs.StoodAgain.{HaveCome}
 use Rattle.kernel_state.proofs.Turns.{then_state_in, then_told_in}
-use Rattle.calls_signals.specs.Sweeping.{CanVisit}
+use Rattle.calls_signals.specs.Premises.{CanVisit}
 use Rattle.calls_signals.proofs.Swept.{thread_behind}
 use Rattle.calls_signals.proofs.Visited.{Rises, Visits, visits}
 

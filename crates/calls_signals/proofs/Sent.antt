@@ -17,7 +17,7 @@ use Rattle.rules_moves.proofs.Calls.Answers.{acceptor_kept}
 use Rattle.kernel_threads.specs.Unused.{IsUnused}
 use Rattle.kernel_state.specs.Caught.{HasRoomToPend}
 use Rattle.kernel_state.specs.Kernel.{Kernel, after, told, turn}
-use Rattle.calls_signals.specs.Sweeping.{AllRest}
+use Rattle.kernel_state.specs.Callers.{AllRest}
 use Rattle.calls_signals.proofs.Same.{same_after, same_told}
 use Rattle.calls_signals.proofs.Visited.{delivers_alike}
 
@@ -127,7 +127,7 @@ pub delivered_unused : (t u : ℕ) (r : SignalRecord) (k l : Kernel) → l ≡ a
 delivered_unused t u r k l e h =
     rw e (subst (λ (ths : List (Thread Cursor)). IsUnused (thread_in ths u).server) (sym (delivers_alike t r (turn k)).threads) h)
 
-pub delivered_room : (t : ℕ) (r : SignalRecord) (k l : Kernel) → l ≡ after (delivers t r) k → length k.direct < 256 → length l.direct < 256
+pub delivered_room : (t : ℕ) (r : SignalRecord) (k l : Kernel) → l ≡ after (delivers t r) k → length k.direct < 512 → length l.direct < 512
 delivered_room t r k l e h = rw (e, (delivers_alike t r (turn k)).direct) h
 
 pub delivered_now : (t : ℕ) (r : SignalRecord) (k l : Kernel) → l ≡ after (delivers t r) k → l.machine.now ≡ k.machine.now

@@ -25,6 +25,8 @@ use Rattle.kernel_state.specs.Kernel.{Kernel, after, told, turn}
 use Rattle.kernel_state.specs.Stood.{StoodRight}
 use Rattle.kernel_state.proofs.SweepNothing.{sweeps_nothing}
 use Rattle.calls_signals.proofs.Same.{nothing_after, nothing_told, same_after, same_told}
+use Rattle.kernel_state.specs.Does.{Does}
+use Rattle.kernel_state.proofs.Does.{nothing_does}
 
 module _ (bodies : Bodies Cursor) where
   acts_behind : (a : SigAction) (t : ℕ) (r : SignalRecord) → AddsBehind (acts bodies a t r)
@@ -109,9 +111,6 @@ module _ (bodies : Bodies Cursor) (t : ℕ) (k : Kernel) (b : Bool) (killed : b 
 
 -- ---- a sweep with nothing pending
 
-pub nothing_swept : (k : Kernel) → k.machine.pending ≡ [] → k.direct ≡ [] → StoodRight k.machine → k ≡ after (sweeps (flat_bodies k.code)) k
-nothing_swept k none quiet stood = nothing_after (sweeps (flat_bodies k.code)) k (sweeps_nothing (flat_bodies k.code) (turn k) none quiet stood)
-
-pub nothing_told_swept : {K : Type 0} (text : K → Option (List ℕ)) (faults : K → ℕ) (k : Kernel) (a : Tracer K) → k.machine.pending ≡ [] → k.direct ≡ [] → StoodRight k.machine →
-    Tells text faults k.names a a (told (sweeps (flat_bodies k.code)) k)
-nothing_told_swept text faults k a none quiet stood = nothing_told text faults (sweeps (flat_bodies k.code)) k a (sweeps_nothing (flat_bodies k.code) (turn k) none quiet stood)
+pub nothing_swept : {K : Type 0} {text : K → Option (List ℕ)} {faults : K → ℕ} (k : Kernel) (a : Tracer K) → k.machine.pending ≡ [] → k.direct ≡ [] → StoodRight k.machine →
+    Does text faults (sweeps (flat_bodies k.code)) k k a a
+nothing_swept k a none quiet stood = nothing_does (sweeps (flat_bodies k.code)) k a (sweeps_nothing (flat_bodies k.code) (turn k) none quiet stood)

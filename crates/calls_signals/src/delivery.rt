@@ -1,7 +1,6 @@
 // What a signal does to the thread that takes it.
-ghost use Rattle.std.specs.Prelude.{◌≡◌, ◌≤◌, ◌<◌, ◌^◌, Contains, length};
+ghost use Rattle.std.specs.Prelude.{◌≤◌, ◌<◌, Contains, length};
 ghost use Rattle.words_numbers.specs.declared.res.Res.TheVariants as res;
-ghost use Rattle.parts_tracer.specs.Tells.{Tells};
 ghost use Rattle.rules_machine.specs.Delivery.{acts, catches, interrupts};
 ghost use Rattle.rules_machine.specs.Signals.{delivers, without_record};
 ghost use Rattle.rules_machine.specs.Threads.{action_of, thread_at, waiting_of};
@@ -9,8 +8,8 @@ ghost use Rattle.rules_machine.specs.Turns.{changes_pending, ◌▷◌};
 ghost use Rattle.rules_machine.specs.Waking.{wakes};
 ghost use Rattle.rules_flat_code.specs.FlatBodies.{flat_bodies};
 ghost use Rattle.kernel_state.specs.Caught.{AreCaught, CatchesBy};
-ghost use Rattle.kernel_state.specs.Kernel.{after, told};
-ghost use Rattle.calls_signals.specs.Sweeping.{RestsBlocked};
+ghost use Rattle.kernel_state.specs.Does.{Does};
+ghost use Rattle.calls_signals.specs.Premises.{CanInterrupt};
 
 use kernel_signals::SignalRecord;
 use kernel_state::Parts;
@@ -23,8 +22,7 @@ use words_trace::Event;
 /// The thread takes the record, by a handler or by a wait.
 pub(crate) fn deliver<K: Sink>(p: &mut Parts, t: Tid, r: &SignalRecord, out: &mut Tracer<'_, K>)
     requires { t < length p.old.names }
-    ensures state { p.new ≡ after (delivers t r.now) p.old }
-    ensures told { Tells K.text K.faults p.old.names out.old out.new (told (delivers t r.now) p.old) }
+    ensures { Does K.text K.faults (delivers t r.now) p.old p.new out.old out.new }
 {
     p.tell(&Event::Deliver(t, r.signal(), r.code(), r.value()), out);
     p.tell_overrun(&r.timer());
@@ -33,12 +31,8 @@ pub(crate) fn deliver<K: Sink>(p: &mut Parts, t: Tid, r: &SignalRecord, out: &mu
 // A blocked thread wakes.
 #[tactic(auto, using(crate::proofs::Delivered::not_interrupted, crate::proofs::Delivered::as_interrupted, crate::proofs::Delivered::told_not_interrupted, crate::proofs::Delivered::told_interrupted, crate::proofs::Delivered::interrupted_blocked))]
 fn interrupt<K: Sink>(p: &mut Parts, t: Tid, out: &mut Tracer<'_, K>)
-    requires known { t < length p.old.names }
-    requires room { length p.old.direct < 256 }
-    requires rests { RestsBlocked (thread_at p.old.machine t) }
-    requires early { p.old.machine.now ≤ 10 ^ 18 }
-    ensures state { p.new ≡ after (λ s. interrupts (waiting_of s.machine t) t s) p.old }
-    ensures told { Tells K.text K.faults p.old.names out.old out.new (told (λ s. interrupts (waiting_of s.machine t) t s) p.old) }
+    requires { CanInterrupt p.old t }
+    ensures { Does K.text K.faults (λ s. interrupts (waiting_of s.machine t) t s) p.old p.new out.old out.new }
 {
     match p.interrupted(t) {
         None => return,
@@ -48,13 +42,9 @@ fn interrupt<K: Sink>(p: &mut Parts, t: Tid, out: &mut Tracer<'_, K>)
 
 // It wakes, and takes the record.
 fn interrupt_by<K: Sink>(p: &mut Parts, t: Tid, r: &SignalRecord, out: &mut Tracer<'_, K>)
-    requires known { t < length p.old.names }
+    requires can { CanInterrupt p.old t }
     requires pending { Contains p.old.machine.pending r.now }
-    requires room { length p.old.direct < 256 }
-    requires rests { RestsBlocked (thread_at p.old.machine t) }
-    requires early { p.old.machine.now ≤ 10 ^ 18 }
-    ensures state { p.new ≡ after (λ s. s ▷ changes_pending (without_record r.now) ▷ interrupts (waiting_of s.machine t) t ▷ delivers t r.now) p.old }
-    ensures told { Tells K.text K.faults p.old.names out.old out.new (told (λ s. s ▷ changes_pending (without_record r.now) ▷ interrupts (waiting_of s.machine t) t ▷ delivers t r.now) p.old) }
+    ensures { Does K.text K.faults (λ s. s ▷ changes_pending (without_record r.now) ▷ interrupts (waiting_of s.machine t) t ▷ delivers t r.now) p.old p.new out.old out.new }
 {
     p.take_record(r);
     interrupt(p, t, out);
@@ -63,15 +53,11 @@ fn interrupt_by<K: Sink>(p: &mut Parts, t: Tid, r: &SignalRecord, out: &mut Trac
 
 // The handler begins in a frame of its own.
 fn run_handler<K: Sink>(p: &mut Parts, h: ObjId, t: Tid, r: &SignalRecord, out: &mut Tracer<'_, K>)
-    requires known { t < length p.old.names }
+    requires can { CanInterrupt p.old t }
     requires handler { h < length p.old.code.handlers }
     requires pending { Contains p.old.machine.pending r.now }
-    requires room { length p.old.direct < 256 }
     requires frames { length (thread_at p.old.machine t).frames ≤ 2 }
-    requires rests { RestsBlocked (thread_at p.old.machine t) }
-    requires early { p.old.machine.now ≤ 10 ^ 18 }
-    ensures state { p.new ≡ after (catches (flat_bodies p.old.code) h t r.now) p.old }
-    ensures told { Tells K.text K.faults p.old.names out.old out.new (told (catches (flat_bodies p.old.code) h t r.now) p.old) }
+    ensures { Does K.text K.faults (catches (flat_bodies p.old.code) h t r.now) p.old p.new out.old out.new }
 {
     interrupt_by(p, t, r, out);
     p.catch_signal(t, h, r.value());
@@ -79,15 +65,11 @@ fn run_handler<K: Sink>(p: &mut Parts, h: ObjId, t: Tid, r: &SignalRecord, out: 
 
 // An action, for a pending record that a thread takes.
 fn act<K: Sink>(p: &mut Parts, action: SigAction, t: Tid, r: &SignalRecord, out: &mut Tracer<'_, K>)
-    requires known { t < length p.old.names }
+    requires can { CanInterrupt p.old t }
     requires handler { CatchesBy (length p.old.code.handlers) action }
     requires pending { Contains p.old.machine.pending r.now }
-    requires room { length p.old.direct < 256 }
     requires frames { length (thread_at p.old.machine t).frames ≤ 2 }
-    requires rests { RestsBlocked (thread_at p.old.machine t) }
-    requires early { p.old.machine.now ≤ 10 ^ 18 }
-    ensures state { p.new ≡ after (acts (flat_bodies p.old.code) action t r.now) p.old }
-    ensures told { Tells K.text K.faults p.old.names out.old out.new (told (acts (flat_bodies p.old.code) action t r.now) p.old) }
+    ensures { Does K.text K.faults (acts (flat_bodies p.old.code) action t r.now) p.old p.new out.old out.new }
 {
     match action {
         SigAction::Kill => p.kill(r.signal(), out),
@@ -98,16 +80,12 @@ fn act<K: Sink>(p: &mut Parts, action: SigAction, t: Tid, r: &SignalRecord, out:
 
 /// A thread takes a pending record.
 pub(crate) fn take_record<K: Sink>(p: &mut Parts, t: Tid, r: &SignalRecord, out: &mut Tracer<'_, K>)
-    requires known { t < length p.old.names }
+    requires can { CanInterrupt p.old t }
     requires pending { Contains p.old.machine.pending r.now }
     requires signal { r.now.signal < 32 }
     requires caught { AreCaught p.old }
-    requires room { length p.old.direct < 256 }
     requires frames { length (thread_at p.old.machine t).frames ≤ 2 }
-    requires rests { RestsBlocked (thread_at p.old.machine t) }
-    requires early { p.old.machine.now ≤ 10 ^ 18 }
-    ensures state { p.new ≡ after (acts (flat_bodies p.old.code) (action_of p.old.machine r.now.signal) t r.now) p.old }
-    ensures told { Tells K.text K.faults p.old.names out.old out.new (told (acts (flat_bodies p.old.code) (action_of p.old.machine r.now.signal) t r.now) p.old) }
+    ensures { Does K.text K.faults (acts (flat_bodies p.old.code) (action_of p.old.machine r.now.signal) t r.now) p.old p.new out.old out.new }
 {
     let action = p.action(r.signal());
     act(p, action, t, r, out);

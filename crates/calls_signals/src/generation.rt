@@ -1,10 +1,10 @@
 // Generating a signal that no call sends: the expiry of a timer, or the notification of a message queue.
-ghost use Rattle.std.specs.Prelude.{◌≡◌, ◌≤◌, ◌<◌, ◌^◌, IfSome, None, length};
-ghost use Rattle.parts_tracer.specs.Tells.{Tells};
+ghost use Rattle.std.specs.Prelude.{◌≡◌, ◌<◌, ◌^◌, IfSome, None, length};
 ghost use Rattle.rules_machine.specs.Signals.{acceptor, generates};
 ghost use Rattle.kernel_state.specs.Caught.{HasRoomToPend};
 ghost use Rattle.kernel_state.specs.Kernel.{after, told};
-ghost use Rattle.calls_signals.specs.Sweeping.{AllRest};
+ghost use Rattle.kernel_state.specs.Does.{Does};
+ghost use Rattle.calls_signals.specs.Premises.{CanGenerate};
 
 use crate::kills::{accept, is_ignored};
 use kernel_signals::SignalRecord;
@@ -32,13 +32,8 @@ fn generate_unaccepted(p: &mut Parts, r: &SignalRecord)
 pub fn generate<K: Sink>(p: &mut Parts, r: &SignalRecord, out: &mut Tracer<'_, K>)
     requires signal { r.now.signal < 32 }
     requires target { IfSome r.now.target (λ u. u < length p.old.names) }
-    requires room { length p.old.direct < 256 }
-    requires rests { AllRest p.old.machine }
-    requires pends { HasRoomToPend p.old.machine }
-    requires serial { p.old.machine.next_serial < 2 ^ 63 }
-    requires early { p.old.machine.now ≤ 10 ^ 18 }
-    ensures state { p.new ≡ after (generates r.now) p.old }
-    ensures told { Tells K.text K.faults p.old.names out.old out.new (told (generates r.now) p.old) }
+    requires can { CanGenerate p.old }
+    ensures { Does K.text K.faults (generates r.now) p.old p.new out.old out.new }
 {
     match p.acceptor(r) {
         Some(w) => accept(p, w, r, out),

@@ -1,7 +1,6 @@
 // Sending signals: `kill`, `pthread_kill` and `sigqueue`.
-ghost use Rattle.std.specs.Prelude.{◌≡◌, ◌≤◌, ◌<◌, ◌^◌, IfSome, None, Some, false, length, option_map, true};
+ghost use Rattle.std.specs.Prelude.{◌≡◌, ◌<◌, ◌^◌, IfSome, None, Some, false, length, option_map, true};
 ghost use Rattle.words_numbers.specs.declared.res.Res.TheVariants as res;
-ghost use Rattle.parts_tracer.specs.Tells.{Tells};
 ghost use Rattle.rules_machine.specs.Cancellation.{on_live};
 ghost use Rattle.rules_machine.specs.Signals.{acceptor, becomes_pending, delivers, is_full, is_ignore, record_of_kill, record_of_sigqueue, sends_signal};
 ghost use Rattle.rules_machine.specs.Threads.{action_of, is_blocked, thread_at};
@@ -9,8 +8,10 @@ ghost use Rattle.rules_machine.specs.Turns.{returns, ◌▷◌};
 ghost use Rattle.rules_machine.specs.Waiters.{Waiter};
 ghost use Rattle.rules_machine.specs.Waking.{wakes};
 ghost use Rattle.kernel_state.specs.Caught.{HasRoomToPend};
-ghost use Rattle.kernel_state.specs.Kernel.{after, by, told};
-ghost use Rattle.calls_signals.specs.Sweeping.{AllRest};
+ghost use Rattle.kernel_state.specs.Kernel.{by};
+ghost use Rattle.kernel_state.specs.Does.{Does};
+ghost use Rattle.kernel_state.specs.Callers.{CanWake};
+ghost use Rattle.calls_signals.specs.Premises.{CanSend};
 
 use crate::delivery::deliver;
 use kernel_signals::SignalRecord;
@@ -43,12 +44,9 @@ pub(crate) fn is_ignored(p: &Parts, r: &SignalRecord) -> bool
 #[tactic(auto, using(crate::proofs::Sent::delivered_unused, crate::proofs::Sent::delivered_room, crate::proofs::Sent::delivered_now))]
 pub(crate) fn accept<K: Sink>(p: &mut Parts, w: Tid, r: &SignalRecord, out: &mut Tracer<'_, K>)
     requires known { w < length p.old.names }
-    requires room { length p.old.direct < 256 }
+    requires can { CanWake p.old }
     requires blocked { is_blocked (thread_at p.old.machine w).status ≡ true }
-    requires rests { AllRest p.old.machine }
-    requires early { p.old.machine.now ≤ 10 ^ 18 }
-    ensures state { p.new ≡ after (λ s. s ▷ delivers w r.now ▷ wakes w res.Zero r.now.signal) p.old }
-    ensures told { Tells K.text K.faults p.old.names out.old out.new (told (λ s. s ▷ delivers w r.now ▷ wakes w res.Zero r.now.signal) p.old) }
+    ensures { Does K.text K.faults (λ s. s ▷ delivers w r.now ▷ wakes w res.Zero r.now.signal) p.old p.new out.old out.new }
 {
     deliver(p, w, r, out);
     p.wake(w, Res::Zero, r.signal() as u64, out);
@@ -66,12 +64,9 @@ fn send_to_acceptor<K: Sink>(
 )
     requires known { t < length p.old.names }
     requires waiter { w < length p.old.names }
-    requires room { length p.old.direct < 256 }
+    requires can { CanWake p.old }
     requires blocked { is_blocked (thread_at p.old.machine w).status ≡ true }
-    requires rests { AllRest p.old.machine }
-    requires early { p.old.machine.now ≤ 10 ^ 18 }
-    ensures state { p.new ≡ after (λ s. s ▷ returns (by t call.now) res.Zero 0 ▷ delivers w r.now ▷ wakes w res.Zero r.now.signal) p.old }
-    ensures told { Tells K.text K.faults p.old.names out.old out.new (told (λ s. s ▷ returns (by t call.now) res.Zero 0 ▷ delivers w r.now ▷ wakes w res.Zero r.now.signal) p.old) }
+    ensures { Does K.text K.faults (λ s. s ▷ returns (by t call.now) res.Zero 0 ▷ delivers w r.now ▷ wakes w res.Zero r.now.signal) p.old p.new out.old out.new }
 {
     p.returns(t, call, Res::Zero, 0, out);
     accept(p, w, r, out);
@@ -90,8 +85,7 @@ fn send_pending<K: Sink>(
     requires signal { r.now.signal < 32 }
     requires pends { HasRoomToPend p.old.machine }
     requires serial { p.old.machine.next_serial < 2 ^ 63 }
-    ensures state { p.new ≡ after (λ s. s ▷ returns (by t call.now) res.Zero 0 ▷ becomes_pending r.now) p.old }
-    ensures told { Tells K.text K.faults p.old.names out.old out.new (told (λ s. s ▷ returns (by t call.now) res.Zero 0 ▷ becomes_pending r.now) p.old) }
+    ensures { Does K.text K.faults (λ s. s ▷ returns (by t call.now) res.Zero 0 ▷ becomes_pending r.now) p.old p.new out.old out.new }
 {
     p.returns(t, call, Res::Zero, 0, out);
     p.pend(*r);
@@ -111,8 +105,7 @@ fn send_unaccepted<K: Sink>(
     requires nobody { acceptor p.old.machine r.now ≡ None }
     requires pends { is_full p.old.machine ≡ false → HasRoomToPend p.old.machine }
     requires serial { p.old.machine.next_serial < 2 ^ 63 }
-    ensures state { p.new ≡ after (sends_signal (by t call.now) r.now) p.old }
-    ensures told { Tells K.text K.faults p.old.names out.old out.new (told (sends_signal (by t call.now) r.now) p.old) }
+    ensures { Does K.text K.faults (sends_signal (by t call.now) r.now) p.old p.new out.old out.new }
 {
     if is_ignored(p, r) {
         p.returns(t, call, Res::Zero, 0, out);
@@ -130,13 +123,8 @@ fn send<K: Sink>(p: &mut Parts, t: Tid, call: &Call, r: &SignalRecord, out: &mut
     requires known { t < length p.old.names }
     requires signal { r.now.signal < 32 }
     requires target { IfSome r.now.target (λ u. u < length p.old.names) }
-    requires room { length p.old.direct < 256 }
-    requires rests { AllRest p.old.machine }
-    requires pends { is_full p.old.machine ≡ false → HasRoomToPend p.old.machine }
-    requires serial { p.old.machine.next_serial < 2 ^ 63 }
-    requires early { p.old.machine.now ≤ 10 ^ 18 }
-    ensures state { p.new ≡ after (sends_signal (by t call.now) r.now) p.old }
-    ensures told { Tells K.text K.faults p.old.names out.old out.new (told (sends_signal (by t call.now) r.now) p.old) }
+    requires can { CanSend p.old }
+    ensures { Does K.text K.faults (sends_signal (by t call.now) r.now) p.old p.new out.old out.new }
 {
     match p.acceptor(r) {
         Some(w) => send_to_acceptor(p, t, call, w, r, out),
@@ -148,13 +136,8 @@ fn send<K: Sink>(p: &mut Parts, t: Tid, call: &Call, r: &SignalRecord, out: &mut
 pub fn kill<K: Sink>(p: &mut Parts, t: Tid, call: &Call, signal: u8, out: &mut Tracer<'_, K>)
     requires known { t < length p.old.names }
     requires signal { signal < 32 }
-    requires room { length p.old.direct < 256 }
-    requires rests { AllRest p.old.machine }
-    requires pends { is_full p.old.machine ≡ false → HasRoomToPend p.old.machine }
-    requires serial { p.old.machine.next_serial < 2 ^ 63 }
-    requires early { p.old.machine.now ≤ 10 ^ 18 }
-    ensures state { p.new ≡ after (sends_signal (by t call.now) (record_of_kill signal None)) p.old }
-    ensures told { Tells K.text K.faults p.old.names out.old out.new (told (sends_signal (by t call.now) (record_of_kill signal None)) p.old) }
+    requires can { CanSend p.old }
+    ensures { Does K.text K.faults (sends_signal (by t call.now) (record_of_kill signal None)) p.old p.new out.old out.new }
 {
     let r = SignalRecord::of_kill(signal, None);
     send(p, t, call, &r, out);
@@ -172,13 +155,8 @@ fn kill_live<K: Sink>(
     requires known { t < length p.old.names }
     requires thread { u < length p.old.names }
     requires signal { signal < 32 }
-    requires room { length p.old.direct < 256 }
-    requires rests { AllRest p.old.machine }
-    requires pends { is_full p.old.machine ≡ false → HasRoomToPend p.old.machine }
-    requires serial { p.old.machine.next_serial < 2 ^ 63 }
-    requires early { p.old.machine.now ≤ 10 ^ 18 }
-    ensures state { p.new ≡ after (sends_signal (by t call.now) (record_of_kill signal (Some u))) p.old }
-    ensures told { Tells K.text K.faults p.old.names out.old out.new (told (sends_signal (by t call.now) (record_of_kill signal (Some u))) p.old) }
+    requires can { CanSend p.old }
+    ensures { Does K.text K.faults (sends_signal (by t call.now) (record_of_kill signal (Some u))) p.old p.new out.old out.new }
 {
     let r = SignalRecord::of_kill(signal, Some(u));
     send(p, t, call, &r, out);
@@ -196,13 +174,8 @@ pub fn tkill<K: Sink>(
     requires known { t < length p.old.names }
     requires thread { u < length p.old.names }
     requires signal { signal < 32 }
-    requires room { length p.old.direct < 256 }
-    requires rests { AllRest p.old.machine }
-    requires pends { is_full p.old.machine ≡ false → HasRoomToPend p.old.machine }
-    requires serial { p.old.machine.next_serial < 2 ^ 63 }
-    requires early { p.old.machine.now ≤ 10 ^ 18 }
-    ensures state { p.new ≡ after (on_live (by t call.now) u (sends_signal (by t call.now) (record_of_kill signal (Some u)))) p.old }
-    ensures told { Tells K.text K.faults p.old.names out.old out.new (told (on_live (by t call.now) u (sends_signal (by t call.now) (record_of_kill signal (Some u)))) p.old) }
+    requires can { CanSend p.old }
+    ensures { Does K.text K.faults (on_live (by t call.now) u (sends_signal (by t call.now) (record_of_kill signal (Some u)))) p.old p.new out.old out.new }
 {
     if p.is_live(u) {
         kill_live(p, t, call, u, signal, out);
@@ -222,13 +195,8 @@ pub fn sigqueue<K: Sink>(
 )
     requires known { t < length p.old.names }
     requires signal { signal < 32 }
-    requires room { length p.old.direct < 256 }
-    requires rests { AllRest p.old.machine }
-    requires pends { is_full p.old.machine ≡ false → HasRoomToPend p.old.machine }
-    requires serial { p.old.machine.next_serial < 2 ^ 63 }
-    requires early { p.old.machine.now ≤ 10 ^ 18 }
-    ensures state { p.new ≡ after (sends_signal (by t call.now) (record_of_sigqueue signal value)) p.old }
-    ensures told { Tells K.text K.faults p.old.names out.old out.new (told (sends_signal (by t call.now) (record_of_sigqueue signal value)) p.old) }
+    requires can { CanSend p.old }
+    ensures { Does K.text K.faults (sends_signal (by t call.now) (record_of_sigqueue signal value)) p.old p.new out.old out.new }
 {
     let r = SignalRecord::of_sigqueue(signal, value);
     send(p, t, call, &r, out);

@@ -1,8 +1,8 @@
 // Masks: `pthread_sigmask`.
-ghost use Rattle.std.specs.Prelude.{◌≡◌, ◌<◌, ℕ, length};
-ghost use Rattle.parts_tracer.specs.Tells.{Tells};
+ghost use Rattle.std.specs.Prelude.{◌<◌, ℕ, length};
 ghost use Rattle.rules_machine.specs.Signals.{sets_mask, with_signals, without_signals};
-ghost use Rattle.kernel_state.specs.Kernel.{after, by, told};
+ghost use Rattle.kernel_state.specs.Kernel.{by};
+ghost use Rattle.kernel_state.specs.Does.{Does};
 
 use kernel_state::Parts;
 use parts_io::Sink;
@@ -19,8 +19,7 @@ pub fn sigmask_set<K: Sink>(
     out: &mut Tracer<'_, K>,
 )
     requires { t < length p.old.names }
-    ensures state { p.new ≡ after (sets_mask (by t call.now) (λ (was : ℕ). mask)) p.old }
-    ensures told { Tells K.text K.faults p.old.names out.old out.new (told (sets_mask (by t call.now) (λ (was : ℕ). mask)) p.old) }
+    ensures { Does K.text K.faults (sets_mask (by t call.now) (λ (was : ℕ). mask)) p.old p.new out.old out.new }
 {
     p.set_mask(t, mask);
     p.returns(t, call, Res::Zero, 0, out);
@@ -35,8 +34,7 @@ pub fn sigmask_block<K: Sink>(
     out: &mut Tracer<'_, K>,
 )
     requires { t < length p.old.names }
-    ensures state { p.new ≡ after (sets_mask (by t call.now) (with_signals more)) p.old }
-    ensures told { Tells K.text K.faults p.old.names out.old out.new (told (sets_mask (by t call.now) (with_signals more)) p.old) }
+    ensures { Does K.text K.faults (sets_mask (by t call.now) (with_signals more)) p.old p.new out.old out.new }
 {
     let mask = p.mask_with(t, more);
     sigmask_set(p, t, call, mask, out);
@@ -51,8 +49,7 @@ pub fn sigmask_unblock<K: Sink>(
     out: &mut Tracer<'_, K>,
 )
     requires { t < length p.old.names }
-    ensures state { p.new ≡ after (sets_mask (by t call.now) (without_signals fewer)) p.old }
-    ensures told { Tells K.text K.faults p.old.names out.old out.new (told (sets_mask (by t call.now) (without_signals fewer)) p.old) }
+    ensures { Does K.text K.faults (sets_mask (by t call.now) (without_signals fewer)) p.old p.new out.old out.new }
 {
     let mask = p.mask_without(t, fewer);
     sigmask_set(p, t, call, mask, out);

@@ -1,12 +1,12 @@
 // Waiting for signals: `sigwaitinfo`, and with ticks `sigtimedwait`.
-ghost use Rattle.std.specs.Prelude.{◌≡◌, ◌≤◌, ◌<◌, ◌+◌, ◌^◌, Contains, IfSome, Some, length, true};
+ghost use Rattle.std.specs.Prelude.{◌≡◌, ◌≤◌, ◌<◌, ◌+◌, ◌^◌, Contains, IfSome, Some, length};
 ghost use Rattle.words_numbers.specs.declared.res.Res.TheVariants as res;
-ghost use Rattle.parts_tracer.specs.Tells.{Tells};
 ghost use Rattle.rules_machine.specs.Signals.{delivers, waits_signal, blocks_for_signal, without_record};
 ghost use Rattle.rules_machine.specs.State.{for_signal};
-ghost use Rattle.rules_machine.specs.Threads.{can_run};
 ghost use Rattle.rules_machine.specs.Turns.{changes_pending, returns, ◌▷◌};
-ghost use Rattle.kernel_state.specs.Kernel.{after, by, told};
+ghost use Rattle.kernel_state.specs.Kernel.{by};
+ghost use Rattle.kernel_state.specs.Does.{Does};
+ghost use Rattle.kernel_state.specs.Callers.{CanBlock};
 
 use crate::delivery::deliver;
 use kernel_signals::SignalRecord;
@@ -33,8 +33,7 @@ fn end_of_wait(now: Tick, n: u64) -> Tick
 fn take<K: Sink>(p: &mut Parts, t: Tid, call: &Call, r: &SignalRecord, out: &mut Tracer<'_, K>)
     requires known { t < length p.old.names }
     requires pending { Contains p.old.machine.pending r.now }
-    ensures state { p.new ≡ after (λ s. s ▷ changes_pending (without_record r.now) ▷ delivers t r.now ▷ returns (by t call.now) res.Zero r.now.signal) p.old }
-    ensures told { Tells K.text K.faults p.old.names out.old out.new (told (λ s. s ▷ changes_pending (without_record r.now) ▷ delivers t r.now ▷ returns (by t call.now) res.Zero r.now.signal) p.old) }
+    ensures { Does K.text K.faults (λ s. s ▷ changes_pending (without_record r.now) ▷ delivers t r.now ▷ returns (by t call.now) res.Zero r.now.signal) p.old p.new out.old out.new }
 {
     p.take_record(r);
     deliver(p, t, r, out);
@@ -51,13 +50,10 @@ fn wait_at_most<K: Sink>(
     n: u64,
     out: &mut Tracer<'_, K>,
 )
-    requires known { t < length p.old.names }
-    requires runs { can_run p.old.machine t ≡ true }
+    requires can { CanBlock p.old t }
     requires ticks { n ≤ 10 ^ 18 }
-    requires serial { p.old.machine.next_serial < 2 ^ 63 }
     requires early { p.old.machine.now ≤ 10 ^ 18 }
-    ensures state { p.new ≡ after (blocks_for_signal (Some n) (by t call.now) awaited) p.old }
-    ensures told { Tells K.text K.faults p.old.names out.old out.new (told (blocks_for_signal (Some n) (by t call.now) awaited) p.old) }
+    ensures { Does K.text K.faults (blocks_for_signal (Some n) (by t call.now) awaited) p.old p.new out.old out.new }
 {
     if n == 0 {
         p.returns(t, call, Res::Again, 0, out);
@@ -76,13 +72,10 @@ fn wait_ticks<K: Sink>(
     ticks: Option<u64>,
     out: &mut Tracer<'_, K>,
 )
-    requires known { t < length p.old.names }
-    requires runs { can_run p.old.machine t ≡ true }
+    requires can { CanBlock p.old t }
     requires ticks { IfSome ticks (λ n. n ≤ 10 ^ 18) }
-    requires serial { p.old.machine.next_serial < 2 ^ 63 }
     requires early { p.old.machine.now ≤ 10 ^ 18 }
-    ensures state { p.new ≡ after (blocks_for_signal ticks (by t call.now) awaited) p.old }
-    ensures told { Tells K.text K.faults p.old.names out.old out.new (told (blocks_for_signal ticks (by t call.now) awaited) p.old) }
+    ensures { Does K.text K.faults (blocks_for_signal ticks (by t call.now) awaited) p.old p.new out.old out.new }
 {
     match ticks {
         None => p.block(t, call, Wait::Signal(awaited), None),
@@ -100,13 +93,10 @@ pub fn sigtimedwait<K: Sink>(
     ticks: Option<u64>,
     out: &mut Tracer<'_, K>,
 )
-    requires known { t < length p.old.names }
-    requires runs { can_run p.old.machine t ≡ true }
+    requires can { CanBlock p.old t }
     requires ticks { IfSome ticks (λ n. n ≤ 10 ^ 18) }
-    requires serial { p.old.machine.next_serial < 2 ^ 63 }
     requires early { p.old.machine.now ≤ 10 ^ 18 }
-    ensures state { p.new ≡ after (waits_signal ticks (by t call.now) awaited) p.old }
-    ensures told { Tells K.text K.faults p.old.names out.old out.new (told (waits_signal ticks (by t call.now) awaited) p.old) }
+    ensures { Does K.text K.faults (waits_signal ticks (by t call.now) awaited) p.old p.new out.old out.new }
 {
     match p.next_awaited(t, awaited) {
         Some(r) => take(p, t, call, &r, out),

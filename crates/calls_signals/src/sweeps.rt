@@ -1,13 +1,12 @@
 // The sweep: the delivery of pending signals.
 ghost use Rattle.std.specs.Prelude.{◌≡◌, ◌≤◌, ◌<◌, ◌^◌, [], length};
-ghost use Rattle.parts_tracer.specs.Tells.{Tells};
 ghost use Rattle.rules_machine.specs.Delivery.{sweeps, sweeps_all, sweeps_thread};
 ghost use Rattle.rules_machine.specs.Threads.{thread_at, thread_numbers};
 ghost use Rattle.rules_flat_code.specs.FlatBodies.{flat_bodies};
 ghost use Rattle.kernel_state.specs.Caught.{AreCaught};
-ghost use Rattle.kernel_state.specs.Kernel.{Kernel, after, told};
+ghost use Rattle.kernel_state.specs.Does.{Does};
 ghost use Rattle.kernel_state.specs.Stood.{StoodRight};
-ghost use Rattle.calls_signals.specs.Sweeping.{CanSweep, CanVisit};
+ghost use Rattle.calls_signals.specs.Premises.{CanSweep, CanVisit};
 
 use crate::delivery::take_record;
 use kernel_state::Parts;
@@ -23,8 +22,7 @@ fn visit<K: Sink>(p: &mut Parts, t: Tid, out: &mut Tracer<'_, K>)
     requires room { length p.old.direct < 256 }
     requires thread { CanVisit (thread_at p.old.machine t) }
     requires early { p.old.machine.now ≤ 10 ^ 18 }
-    ensures state { p.new ≡ after (λ s. sweeps_thread (flat_bodies p.old.code) s.machine.killed t s) p.old }
-    ensures told { Tells K.text K.faults p.old.names out.old out.new (told (λ s. sweeps_thread (flat_bodies p.old.code) s.machine.killed t s) p.old) }
+    ensures { Does K.text K.faults (λ s. sweeps_thread (flat_bodies p.old.code) s.machine.killed t s) p.old p.new out.old out.new }
 {
     if p.is_killed() {
         return;
@@ -40,8 +38,7 @@ fn visit_all<K: Sink>(p: &mut Parts, out: &mut Tracer<'_, K>)
     requires quiet { p.old.direct ≡ [] }
     requires can { CanSweep p.old }
     requires early { p.old.machine.now ≤ 10 ^ 18 }
-    ensures state { p.new ≡ after (sweeps_all (flat_bodies p.old.code) (thread_numbers p.old.machine)) p.old }
-    ensures told { Tells K.text K.faults p.old.names out.old out.new (told (sweeps_all (flat_bodies p.old.code) (thread_numbers p.old.machine)) p.old) }
+    ensures { Does K.text K.faults (sweeps_all (flat_bodies p.old.code) (thread_numbers p.old.machine)) p.old p.new out.old out.new }
 {
     for number in 0..p.count() {
         let t = p.tid(number);
@@ -56,8 +53,7 @@ fn sweep_pending<K: Sink>(p: &mut Parts, out: &mut Tracer<'_, K>)
     requires stood { StoodRight p.old.machine }
     requires can { CanSweep p.old }
     requires early { p.old.machine.now ≤ 10 ^ 18 }
-    ensures state { p.new ≡ after (sweeps (flat_bodies p.old.code)) p.old }
-    ensures told { Tells K.text K.faults p.old.names out.old out.new (told (sweeps (flat_bodies p.old.code)) p.old) }
+    ensures does { Does K.text K.faults (sweeps (flat_bodies p.old.code)) p.old p.new out.old out.new }
     ensures stood { StoodRight p.new.machine }
     ensures quiet { p.new.direct ≡ [] }
 {
@@ -67,14 +63,12 @@ fn sweep_pending<K: Sink>(p: &mut Parts, out: &mut Tracer<'_, K>)
 
 /// The sweep. Where nothing is pending it is one comparison.
 #[inline(always)]
-#[tactic(auto, using(crate::proofs::Swept::nothing_swept, crate::proofs::Swept::nothing_told_swept))]
 pub fn sweep<K: Sink>(p: &mut Parts, out: &mut Tracer<'_, K>)
     requires quiet { p.old.direct ≡ [] }
     requires stood { StoodRight p.old.machine }
     requires can { CanSweep p.old }
     requires early { p.old.machine.now ≤ 10 ^ 18 }
-    ensures state { p.new ≡ after (sweeps (flat_bodies p.old.code)) p.old }
-    ensures told { Tells K.text K.faults p.old.names out.old out.new (told (sweeps (flat_bodies p.old.code)) p.old) }
+    ensures does { Does K.text K.faults (sweeps (flat_bodies p.old.code)) p.old p.new out.old out.new }
     ensures stood { StoodRight p.new.machine }
     ensures quiet { p.new.direct ≡ [] }
 {

@@ -1,13 +1,12 @@
 // Interval timers: setting and reading them, and their expiries.
 ghost use Rattle.std.specs.Prelude.{◌≡◌, ◌≤◌, ◌<◌, ◌+◌, ◌^◌, length};
-ghost use Rattle.parts_tracer.specs.Tells.{Tells};
 ghost use Rattle.rules_machine.specs.Signals.{generates};
 ghost use Rattle.rules_machine.specs.Threads.{timer_at};
 ghost use Rattle.rules_machine.specs.Timers.{expires, first_expiry, reads_overrun, reads_timer, record_of_timer, sets_timer, signals_expiry};
-ghost use Rattle.kernel_state.specs.Caught.{HasRoomToPend};
-ghost use Rattle.kernel_state.specs.Kernel.{after, by, told};
-ghost use Rattle.kernel_state.specs.Pending.{PendingFits, SignalsFit};
-ghost use Rattle.calls_signals.specs.Sweeping.{AllRest};
+ghost use Rattle.kernel_state.specs.Kernel.{after, by};
+ghost use Rattle.kernel_state.specs.Does.{Does};
+ghost use Rattle.kernel_state.specs.Pending.{SignalsFit};
+ghost use Rattle.calls_signals.specs.Premises.{CanExpire, CanGenerate};
 
 use crate::generation::generate;
 use kernel_state::Parts;
@@ -46,8 +45,7 @@ pub fn timer_settime<K: Sink>(
     requires known { t < length p.old.names }
     requires timer { k < length p.old.machine.timers }
     requires interval { interval ≤ 10 ^ 18 }
-    ensures state { p.new ≡ after (sets_timer (by t call.now) k due interval) p.old }
-    ensures told { Tells K.text K.faults p.old.names out.old out.new (told (sets_timer (by t call.now) k due interval) p.old) }
+    ensures { Does K.text K.faults (sets_timer (by t call.now) k due interval) p.old p.new out.old out.new }
 {
     p.set_timer(k, due, interval);
     p.returns(t, call, Res::Zero, 0, out);
@@ -57,8 +55,7 @@ pub fn timer_settime<K: Sink>(
 pub fn timer_gettime<K: Sink>(p: &mut Parts, t: Tid, call: &Call, k: ObjId, out: &mut Tracer<'_, K>)
     requires known { t < length p.old.names }
     requires timer { k < length p.old.machine.timers }
-    ensures state { p.new ≡ after (reads_timer (by t call.now) k) p.old }
-    ensures told { Tells K.text K.faults p.old.names out.old out.new (told (reads_timer (by t call.now) k) p.old) }
+    ensures { Does K.text K.faults (reads_timer (by t call.now) k) p.old p.new out.old out.new }
 {
     let left = p.ticks_to_expiry(k);
     p.returns(t, call, Res::Zero, left, out);
@@ -74,8 +71,7 @@ pub fn timer_getoverrun<K: Sink>(
 )
     requires known { t < length p.old.names }
     requires timer { k < length p.old.machine.timers }
-    ensures state { p.new ≡ after (reads_overrun (by t call.now) k) p.old }
-    ensures told { Tells K.text K.faults p.old.names out.old out.new (told (reads_overrun (by t call.now) k) p.old) }
+    ensures { Does K.text K.faults (reads_overrun (by t call.now) k) p.old p.new out.old out.new }
 {
     let overrun = p.overrun(k);
     p.returns(t, call, Res::Zero, overrun as u64, out);
@@ -85,14 +81,9 @@ pub fn timer_getoverrun<K: Sink>(
 #[tactic(auto, using(crate::proofs::Expired::has_signal))]
 fn generate_expiry<K: Sink>(p: &mut Parts, k: ObjId, out: &mut Tracer<'_, K>)
     requires timer { k < length p.old.machine.timers }
-    requires room { length p.old.direct < 256 }
-    requires rests { AllRest p.old.machine }
-    requires pends { HasRoomToPend p.old.machine }
+    requires can { CanGenerate p.old }
     requires signals { SignalsFit p.old.machine }
-    requires serial { p.old.machine.next_serial < 2 ^ 63 }
-    requires early { p.old.machine.now ≤ 10 ^ 18 }
-    ensures state { p.new ≡ after (generates (record_of_timer k (timer_at p.old.machine k))) p.old }
-    ensures told { Tells K.text K.faults p.old.names out.old out.new (told (generates (record_of_timer k (timer_at p.old.machine k))) p.old) }
+    ensures { Does K.text K.faults (generates (record_of_timer k (timer_at p.old.machine k))) p.old p.new out.old out.new }
 {
     let r = p.timer_record(k);
     generate(p, &r, out);
@@ -102,14 +93,8 @@ fn generate_expiry<K: Sink>(p: &mut Parts, k: ObjId, out: &mut Tracer<'_, K>)
 #[tactic(auto, using(crate::proofs::Expired::as_overrun, crate::proofs::Expired::as_generated, crate::proofs::Expired::told_overrun, crate::proofs::Expired::told_generated, crate::proofs::Expired::has_room))]
 fn signal_expiry<K: Sink>(p: &mut Parts, k: ObjId, out: &mut Tracer<'_, K>)
     requires timer { k < length p.old.machine.timers }
-    requires room { length p.old.direct < 256 }
-    requires rests { AllRest p.old.machine }
-    requires pends { PendingFits p.old.machine }
-    requires signals { SignalsFit p.old.machine }
-    requires serial { p.old.machine.next_serial < 2 ^ 63 }
-    requires early { p.old.machine.now ≤ 10 ^ 18 }
-    ensures state { p.new ≡ after (signals_expiry k) p.old }
-    ensures told { Tells K.text K.faults p.old.names out.old out.new (told (signals_expiry k) p.old) }
+    requires can { CanExpire p.old }
+    ensures { Does K.text K.faults (signals_expiry k) p.old p.new out.old out.new }
 {
     if p.is_timer_pending(k) {
         p.overrun_once_more(k);
@@ -123,14 +108,8 @@ fn signal_expiry<K: Sink>(p: &mut Parts, k: ObjId, out: &mut Tracer<'_, K>)
 #[tactic(auto, using(crate::proofs::Expired::signalled_now, crate::proofs::Expired::signalled_many, crate::proofs::Expired::armed_after))]
 pub fn expire<K: Sink>(p: &mut Parts, k: ObjId, out: &mut Tracer<'_, K>)
     requires timer { k < length p.old.machine.timers }
-    requires room { length p.old.direct < 256 }
-    requires rests { AllRest p.old.machine }
-    requires pends { PendingFits p.old.machine }
-    requires signals { SignalsFit p.old.machine }
-    requires serial { p.old.machine.next_serial < 2 ^ 63 }
-    requires early { p.old.machine.now ≤ 10 ^ 18 }
-    ensures state { p.new ≡ after (expires k) p.old }
-    ensures told { Tells K.text K.faults p.old.names out.old out.new (told (expires k) p.old) }
+    requires can { CanExpire p.old }
+    ensures { Does K.text K.faults (expires k) p.old p.new out.old out.new }
 {
     signal_expiry(p, k, out);
     p.arm_timer_again(k);

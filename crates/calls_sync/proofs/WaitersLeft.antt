@@ -9,12 +9,12 @@ use Rattle.parts_tracer.specs.declared.tracer.Tracer.{Tracer}
 use Rattle.parts_tracer.specs.Tells.{Tells}
 use Rattle.rules_bodies.specs.declared.cursor.Cursor.{Cursor}
 use Rattle.rules_machine.specs.declared.thread.CondEnd.TheVariants as cond_end
-use Rattle.rules_machine.specs.Conditions.{contends, reacquires_or_waits, released_mutex, signals_best, signals_best_times, signals_waiter, waits_on_condition}
+use Rattle.rules_machine.specs.Conditions.{contends, reacquires_or_waits, released_mutex, signals_best, signals_waiter, waits_on_condition}
 use Rattle.rules_machine.specs.Lists.{changed_at, first_by, numbers_from}
 use Rattle.rules_machine.specs.Mutexes.{is_free, returns_from_wait, taken_by}
 use Rattle.rules_machine.specs.Servers.{activates_server, with_server}
 use Rattle.rules_machine.specs.State.{Machine, Thread, Wait, Waiting, for_condition, for_end, for_message, for_mutex, for_mutex_again, for_room, for_semaphore, for_signal, for_time}
-use Rattle.rules_machine.specs.Threads.{no_thread, thread_in, waiting_in, waiting_of}
+use Rattle.rules_machine.specs.Threads.{no_thread, thread_in, waiting_of}
 use Rattle.rules_machine.specs.Turns.{Caller, Turn, answered, changes, changes_mutex, moves, returns, tells, ◌▷◌}
 use Rattle.rules_machine.specs.Waiters.{Waiter, best_waiter, is_served_before, waiters, waits_so}
 use Rattle.rules_machine.specs.Waking.{blocks, call_in, put_to_wait, wakes_telling, woken}

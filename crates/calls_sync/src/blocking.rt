@@ -1,11 +1,11 @@
 // A call that must wait.
-ghost use Rattle.std.specs.Prelude.{◌≡◌, ◌<◌, ◌^◌, None, length, true};
-ghost use Rattle.parts_tracer.specs.Tells.{Tells};
+ghost use Rattle.std.specs.Prelude.{◌≡◌, None};
 ghost use Rattle.rules_machine.specs.Priorities.{mutex_waited};
 ghost use Rattle.rules_machine.specs.Semaphores.{blocks_unless_late};
-ghost use Rattle.rules_machine.specs.Threads.{can_run};
 ghost use Rattle.kernel_threads.specs.Plain.{wait_of};
-ghost use Rattle.kernel_state.specs.Kernel.{after, by, told};
+ghost use Rattle.kernel_state.specs.Kernel.{by};
+ghost use Rattle.kernel_state.specs.Does.{Does};
+ghost use Rattle.kernel_state.specs.Callers.{CanBlock};
 
 use crate::answers::is_late;
 use kernel_state::Parts;
@@ -25,12 +25,9 @@ pub fn block_unless_late<K: Sink>(
     due: Option<Tick>,
     out: &mut Tracer<'_, K>,
 )
-    requires known { t < length p.old.names }
-    requires runs { can_run p.old.machine t ≡ true }
+    requires can { CanBlock p.old t }
     requires other { mutex_waited (wait_of wait) ≡ None }
-    requires serial { p.old.machine.next_serial < 2 ^ 63 }
-    ensures state { p.new ≡ after (blocks_unless_late (by t call.now) (wait_of wait) due) p.old }
-    ensures told { Tells K.text K.faults p.old.names out.old out.new (told (blocks_unless_late (by t call.now) (wait_of wait) due) p.old) }
+    ensures { Does K.text K.faults (blocks_unless_late (by t call.now) (wait_of wait) due) p.old p.new out.old out.new }
 {
     if is_late(p, &due) {
         p.returns(t, call, Res::Timedout, 0, out);

@@ -1,19 +1,20 @@
 // Conditions.
-ghost use Rattle.std.specs.Prelude.{◌≡◌, ◌≤◌, ◌<◌, ◌+◌, ◌^◌, None, Some, IfSome, length, true};
+ghost use Rattle.std.specs.Prelude.{◌≡◌, ◌<◌, ◌^◌, None, Some, IfSome, length};
 ghost use Rattle.words_numbers.specs.declared.res.Res.TheVariants as res;
-ghost use Rattle.parts_tracer.specs.Tells.{Tells};
 ghost use Rattle.rules_machine.specs.declared.thread.CondEnd.TheVariants as cond_end;
 ghost use Rattle.rules_machine.specs.Conditions.{broadcasts, contends, reacquires_or_waits, signals, signals_best, signals_best_times, waits, waits_on_condition};
 ghost use Rattle.rules_machine.specs.Mutexes.{releases, returns_from_wait, taken_by};
 ghost use Rattle.rules_machine.specs.Priorities.{mutex_awaited_by};
 ghost use Rattle.rules_machine.specs.State.{for_condition};
-ghost use Rattle.rules_machine.specs.Threads.{can_run, mutex_at, thread_at};
+ghost use Rattle.rules_machine.specs.Threads.{mutex_at, thread_at};
 ghost use Rattle.rules_machine.specs.Turns.{changes_mutex, returns, ◌▷◌};
 ghost use Rattle.rules_machine.specs.Waiters.{waiters};
 ghost use Rattle.rules_machine.specs.Waking.{blocks};
-ghost use Rattle.kernel_threads.specs.Unused.{IsUnused};
-ghost use Rattle.kernel_state.specs.Kernel.{after, by, told};
-ghost use Rattle.calls_sync.specs.Waits.{OwnsNone, WaitsFit};
+ghost use Rattle.kernel_state.specs.Kernel.{by};
+ghost use Rattle.kernel_state.specs.Does.{Does};
+ghost use Rattle.calls_sync.specs.Waits.{OwnsNone};
+ghost use Rattle.kernel_state.specs.Callers.{CanRise, IsRunning};
+ghost use Rattle.calls_sync.specs.Premises.{CanBroadcast, CanContend};
 
 use crate::mutexes::release;
 use kernel_state::Parts;
@@ -27,12 +28,8 @@ use words_script::Call;
 
 // A condition wait is over, with the mutex owned again.
 fn return_from_wait<K: Sink>(p: &mut Parts, t: Tid, how: CondEnd, out: &mut Tracer<'_, K>)
-    requires known { t < length p.old.names }
-    requires room { length p.old.direct < 512 }
-    requires unused { IsUnused (thread_at p.old.machine t).server }
-    requires early { p.old.machine.now ≤ 10 ^ 18 }
-    ensures state { p.new ≡ after (returns_from_wait how t) p.old }
-    ensures told { Tells K.text K.faults p.old.names out.old out.new (told (returns_from_wait how t) p.old) }
+    requires { CanRise p.old t }
+    ensures { Does K.text K.faults (returns_from_wait how t) p.old p.new out.old out.new }
 {
     match how {
         CondEnd::Signalled => p.wake(t, Res::Zero, 0, out),
@@ -43,15 +40,11 @@ fn return_from_wait<K: Sink>(p: &mut Parts, t: Tid, how: CondEnd, out: &mut Trac
 
 // The thread takes the mutex of its condition wait, which is free, and returns from the wait.
 fn take_again<K: Sink>(p: &mut Parts, t: Tid, k: ObjId, how: CondEnd, out: &mut Tracer<'_, K>)
-    requires known { t < length p.old.names }
+    requires can { CanRise p.old t }
     requires mutex { k < length p.old.machine.mutexes }
     requires free { (mutex_at p.old.machine k).owner ≡ None }
     requires waits_not { mutex_awaited_by (thread_at p.old.machine t) ≡ None }
-    requires room { length p.old.direct < 512 }
-    requires unused { IsUnused (thread_at p.old.machine t).server }
-    requires early { p.old.machine.now ≤ 10 ^ 18 }
-    ensures state { p.new ≡ after (λ s. s ▷ changes_mutex k (taken_by t) ▷ returns_from_wait how t) p.old }
-    ensures told { Tells K.text K.faults p.old.names out.old out.new (told (λ s. s ▷ changes_mutex k (taken_by t) ▷ returns_from_wait how t) p.old) }
+    ensures { Does K.text K.faults (λ s. s ▷ changes_mutex k (taken_by t) ▷ returns_from_wait how t) p.old p.new out.old out.new }
 {
     p.take_mutex(k, t);
     return_from_wait(p, t, how, out);
@@ -66,16 +59,12 @@ fn reacquire_or_wait<K: Sink>(
     how: CondEnd,
     out: &mut Tracer<'_, K>,
 )
-    requires known { t < length p.old.names }
+    requires can { CanRise p.old t }
     requires mutex { k < length p.old.machine.mutexes }
     requires waits_not { mutex_awaited_by (thread_at p.old.machine t) ≡ None }
     requires own_none { OwnsNone p.old.machine t }
-    requires room { length p.old.direct < 512 }
     requires serial { p.old.machine.next_serial < 2 ^ 63 }
-    requires unused { IsUnused (thread_at p.old.machine t).server }
-    requires early { p.old.machine.now ≤ 10 ^ 18 }
-    ensures state { p.new ≡ after (reacquires_or_waits (Some k) t how) p.old }
-    ensures told { Tells K.text K.faults p.old.names out.old out.new (told (reacquires_or_waits (Some k) t how) p.old) }
+    ensures { Does K.text K.faults (reacquires_or_waits (Some k) t how) p.old p.new out.old out.new }
 {
     if p.mutex(k).owner().is_none() {
         take_again(p, t, k, how, out);
@@ -87,12 +76,8 @@ fn reacquire_or_wait<K: Sink>(
 /// A thread leaves its condition, and owns its mutex again at once or waits for it.
 pub fn contend<K: Sink>(p: &mut Parts, t: Tid, how: CondEnd, out: &mut Tracer<'_, K>)
     requires known { t < length p.old.names }
-    requires fits { WaitsFit p.old.machine }
-    requires room { length p.old.direct < 512 }
-    requires serial { p.old.machine.next_serial < 2 ^ 63 }
-    requires early { p.old.machine.now ≤ 10 ^ 18 }
-    ensures state { p.new ≡ after (contends t how) p.old }
-    ensures told { Tells K.text K.faults p.old.names out.old out.new (told (contends t how) p.old) }
+    requires can { CanContend p.old }
+    ensures { Does K.text K.faults (contends t how) p.old p.new out.old out.new }
 {
     if let Some(k) = p.released_mutex(t) {
         reacquire_or_wait(p, t, k, how, out);
@@ -110,16 +95,11 @@ fn block_and_release<K: Sink>(
     due: Option<Tick>,
     out: &mut Tracer<'_, K>,
 )
-    requires known { t < length p.old.names }
-    requires runs { can_run p.old.machine t ≡ true }
+    requires caller { IsRunning p.old t }
     requires mutex { k < length p.old.machine.mutexes }
     requires owned { (mutex_at p.old.machine k).owner ≡ Some t }
-    requires fits { WaitsFit p.old.machine }
-    requires room { length p.old.direct < 256 }
-    requires serial { p.old.machine.next_serial < 2 ^ 63 }
-    requires early { p.old.machine.now ≤ 10 ^ 18 }
-    ensures state { p.new ≡ after (λ s. s ▷ blocks (by t call.now) (for_condition c k) due ▷ releases k) p.old }
-    ensures told { Tells K.text K.faults p.old.names out.old out.new (told (λ s. s ▷ blocks (by t call.now) (for_condition c k) due ▷ releases k) p.old) }
+    requires can { CanContend p.old }
+    ensures { Does K.text K.faults (λ s. s ▷ blocks (by t call.now) (for_condition c k) due ▷ releases k) p.old p.new out.old out.new }
 {
     p.block(t, call, Wait::Condition(c, k), due);
     release(p, t, k, out);
@@ -135,15 +115,10 @@ pub fn cond_wait<K: Sink>(
     due: Option<Tick>,
     out: &mut Tracer<'_, K>,
 )
-    requires known { t < length p.old.names }
-    requires runs { can_run p.old.machine t ≡ true }
+    requires caller { IsRunning p.old t }
     requires mutex { k < length p.old.machine.mutexes }
-    requires fits { WaitsFit p.old.machine }
-    requires room { length p.old.direct < 256 }
-    requires serial { p.old.machine.next_serial < 2 ^ 63 }
-    requires early { p.old.machine.now ≤ 10 ^ 18 }
-    ensures state { p.new ≡ after (waits (by t call.now) c k due) p.old }
-    ensures told { Tells K.text K.faults p.old.names out.old out.new (told (waits (by t call.now) c k due) p.old) }
+    requires can { CanContend p.old }
+    ensures { Does K.text K.faults (waits (by t call.now) c k due) p.old p.new out.old out.new }
 {
     if !p.mutex(k).is_owned_by(t) {
         p.returns(t, call, Res::Perm, 0, out);
@@ -158,12 +133,8 @@ pub fn cond_wait<K: Sink>(
 
 // The best waiter of the condition, if there is one, contends for its mutex.
 fn signal_best<K: Sink>(p: &mut Parts, c: ObjId, out: &mut Tracer<'_, K>)
-    requires fits { WaitsFit p.old.machine }
-    requires room { length p.old.direct < 512 }
-    requires serial { p.old.machine.next_serial < 2 ^ 63 }
-    requires early { p.old.machine.now ≤ 10 ^ 18 }
-    ensures state { p.new ≡ after (signals_best c) p.old }
-    ensures told { Tells K.text K.faults p.old.names out.old out.new (told (signals_best c) p.old) }
+    requires { CanContend p.old }
+    ensures { Does K.text K.faults (signals_best c) p.old p.new out.old out.new }
 {
     match p.best_waiter(WaitObj::Cond(c)) {
         None => return,
@@ -173,12 +144,8 @@ fn signal_best<K: Sink>(p: &mut Parts, c: ObjId, out: &mut Tracer<'_, K>)
 
 // The waiters of the condition, each the best of those that are left, contend for their mutexes.
 fn signal_all<K: Sink>(p: &mut Parts, c: ObjId, out: &mut Tracer<'_, K>)
-    requires fits { WaitsFit p.old.machine }
-    requires room { length p.old.direct < 128 }
-    requires serial { p.old.machine.next_serial < 2 ^ 62 }
-    requires early { p.old.machine.now ≤ 10 ^ 18 }
-    ensures state { p.new ≡ after (signals_best_times (length (waiters p.old.machine (waits_on_condition c))) c) p.old }
-    ensures told { Tells K.text K.faults p.old.names out.old out.new (told (signals_best_times (length (waiters p.old.machine (waits_on_condition c))) c) p.old) }
+    requires { CanBroadcast p.old }
+    ensures { Does K.text K.faults (signals_best_times (length (waiters p.old.machine (waits_on_condition c))) c) p.old p.new out.old out.new }
 {
     let _ = p.count();
     while let Some(w) = p.best_waiter(WaitObj::Cond(c)) {
@@ -196,12 +163,8 @@ pub fn cond_broadcast<K: Sink>(
     out: &mut Tracer<'_, K>,
 )
     requires known { t < length p.old.names }
-    requires fits { WaitsFit p.old.machine }
-    requires room { length p.old.direct < 128 }
-    requires serial { p.old.machine.next_serial < 2 ^ 62 }
-    requires early { p.old.machine.now ≤ 10 ^ 18 }
-    ensures state { p.new ≡ after (broadcasts (by t call.now) c) p.old }
-    ensures told { Tells K.text K.faults p.old.names out.old out.new (told (broadcasts (by t call.now) c) p.old) }
+    requires can { CanBroadcast p.old }
+    ensures { Does K.text K.faults (broadcasts (by t call.now) c) p.old p.new out.old out.new }
 {
     p.returns(t, call, Res::Zero, 0, out);
     signal_all(p, c, out);
@@ -211,12 +174,8 @@ pub fn cond_broadcast<K: Sink>(
 #[tactic(auto, using(crate::proofs::Returned::returned_fits))]
 pub fn cond_signal<K: Sink>(p: &mut Parts, t: Tid, call: &Call, c: ObjId, out: &mut Tracer<'_, K>)
     requires known { t < length p.old.names }
-    requires fits { WaitsFit p.old.machine }
-    requires room { length p.old.direct < 256 }
-    requires serial { p.old.machine.next_serial < 2 ^ 63 }
-    requires early { p.old.machine.now ≤ 10 ^ 18 }
-    ensures state { p.new ≡ after (signals (by t call.now) c) p.old }
-    ensures told { Tells K.text K.faults p.old.names out.old out.new (told (signals (by t call.now) c) p.old) }
+    requires can { CanContend p.old }
+    ensures { Does K.text K.faults (signals (by t call.now) c) p.old p.new out.old out.new }
 {
     p.returns(t, call, Res::Zero, 0, out);
     signal_best(p, c, out);

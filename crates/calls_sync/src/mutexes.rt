@@ -1,14 +1,15 @@
 // Locking and unlocking.
-ghost use Rattle.std.specs.Prelude.{◌≡◌, ◌≤◌, ◌<◌, ◌==◌, ◌^◌, None, Some, IfSome, false, length, option_map, true};
+ghost use Rattle.std.specs.Prelude.{◌≡◌, ◌<◌, ◌==◌, None, Some, IfSome, false, length, option_map};
 ghost use Rattle.words_numbers.specs.declared.res.Res.TheVariants as res;
-ghost use Rattle.parts_tracer.specs.Tells.{Tells};
 ghost use Rattle.rules_machine.specs.Mutexes.{counted_up, counted_down, locks, carries_out_lock, recursion_limit, releases, taken_by, tries_lock, unlocks, waits_for_mutex};
-ghost use Rattle.rules_machine.specs.Threads.{can_run, mutex_at};
+ghost use Rattle.rules_machine.specs.Threads.{mutex_at};
 ghost use Rattle.rules_machine.specs.Turns.{changes_mutex, returns, ◌▷◌};
 ghost use Rattle.rules_machine.specs.Waiters.{Waiter, best_waiter};
-ghost use Rattle.kernel_state.specs.Kernel.{after, by, told};
+ghost use Rattle.kernel_state.specs.Kernel.{by};
+ghost use Rattle.kernel_state.specs.Does.{Does};
 ghost use Rattle.calls_sync.specs.Answers.{CanAct, answer_of};
-ghost use Rattle.calls_sync.specs.Waits.{BlockedRest, MutexWaitersRest};
+ghost use Rattle.kernel_state.specs.Callers.{CanBlock, CanWake, IsRunning};
+ghost use Rattle.calls_sync.specs.Premises.{CanRelease};
 
 use crate::answers::{
     LockAnswer, answer_as_owner, is_cancelled_waiter, lock_answer, trylock_answer,
@@ -26,8 +27,7 @@ fn count_up<K: Sink>(p: &mut Parts, t: Tid, call: &Call, k: ObjId, out: &mut Tra
     requires known { t < length p.old.names }
     requires mutex { k < length p.old.machine.mutexes }
     requires below { ((mutex_at p.old.machine k).count == recursion_limit) ≡ false }
-    ensures state { p.new ≡ after (λ s. s ▷ changes_mutex k counted_up ▷ returns (by t call.now) res.Zero 0) p.old }
-    ensures told { Tells K.text K.faults p.old.names out.old out.new (told (λ s. s ▷ changes_mutex k counted_up ▷ returns (by t call.now) res.Zero 0) p.old) }
+    ensures { Does K.text K.faults (λ s. s ▷ changes_mutex k counted_up ▷ returns (by t call.now) res.Zero 0) p.old p.new out.old out.new }
 {
     let count = p.mutex(k).count();
     p.set_count(k, count + 1);
@@ -38,12 +38,10 @@ fn count_up<K: Sink>(p: &mut Parts, t: Tid, call: &Call, k: ObjId, out: &mut Tra
 #[inline(always)]
 #[tactic(auto, using(crate::proofs::Acts::awaits_none))]
 fn take<K: Sink>(p: &mut Parts, t: Tid, call: &Call, k: ObjId, out: &mut Tracer<'_, K>)
-    requires known { t < length p.old.names }
-    requires runs { can_run p.old.machine t ≡ true }
+    requires caller { IsRunning p.old t }
     requires mutex { k < length p.old.machine.mutexes }
     requires free { (mutex_at p.old.machine k).owner ≡ None }
-    ensures state { p.new ≡ after (λ s. s ▷ changes_mutex k (taken_by t) ▷ returns (by t call.now) res.Zero 0) p.old }
-    ensures told { Tells K.text K.faults p.old.names out.old out.new (told (λ s. s ▷ changes_mutex k (taken_by t) ▷ returns (by t call.now) res.Zero 0) p.old) }
+    ensures { Does K.text K.faults (λ s. s ▷ changes_mutex k (taken_by t) ▷ returns (by t call.now) res.Zero 0) p.old p.new out.old out.new }
 {
     p.take_mutex(k, t);
     p.returns(t, call, Res::Zero, 0, out);
@@ -60,13 +58,10 @@ fn act<K: Sink>(
     answer: LockAnswer,
     out: &mut Tracer<'_, K>,
 )
-    requires known { t < length p.old.names }
-    requires runs { can_run p.old.machine t ≡ true }
+    requires caller { CanBlock p.old t }
     requires mutex { k < length p.old.machine.mutexes }
     requires can { CanAct p.old.machine t k (answer_of answer) }
-    requires serial { p.old.machine.next_serial < 2 ^ 63 }
-    ensures state { p.new ≡ after (carries_out_lock (answer_of answer) (by t call.now) k due) p.old }
-    ensures told { Tells K.text K.faults p.old.names out.old out.new (told (carries_out_lock (answer_of answer) (by t call.now) k due) p.old) }
+    ensures { Does K.text K.faults (carries_out_lock (answer_of answer) (by t call.now) k due) p.old p.new out.old out.new }
 {
     match answer {
         LockAnswer::Refused(refusal) => p.returns(t, call, refusal, 0, out),
@@ -87,12 +82,9 @@ pub fn mutex_lock<K: Sink>(
     due: Option<Tick>,
     out: &mut Tracer<'_, K>,
 )
-    requires known { t < length p.old.names }
-    requires runs { can_run p.old.machine t ≡ true }
+    requires can { CanBlock p.old t }
     requires mutex { k < length p.old.machine.mutexes }
-    requires serial { p.old.machine.next_serial < 2 ^ 63 }
-    ensures state { p.new ≡ after (locks (by t call.now) k due) p.old }
-    ensures told { Tells K.text K.faults p.old.names out.old out.new (told (locks (by t call.now) k due) p.old) }
+    ensures { Does K.text K.faults (locks (by t call.now) k due) p.old p.new out.old out.new }
 {
     if p.take_at_once(k, t) {
         p.returns(t, call, Res::Zero, 0, out);
@@ -112,12 +104,9 @@ fn lock_any<K: Sink>(
     due: Option<Tick>,
     out: &mut Tracer<'_, K>,
 )
-    requires known { t < length p.old.names }
-    requires runs { can_run p.old.machine t ≡ true }
+    requires can { CanBlock p.old t }
     requires mutex { k < length p.old.machine.mutexes }
-    requires serial { p.old.machine.next_serial < 2 ^ 63 }
-    ensures state { p.new ≡ after (locks (by t call.now) k due) p.old }
-    ensures told { Tells K.text K.faults p.old.names out.old out.new (told (locks (by t call.now) k due) p.old) }
+    ensures { Does K.text K.faults (locks (by t call.now) k due) p.old p.new out.old out.new }
 {
     let answer = lock_answer(p, t, k, &due);
     act(p, t, call, k, due, answer, out);
@@ -126,12 +115,9 @@ fn lock_any<K: Sink>(
 /// `pthread_mutex_trylock`. It never waits.
 #[tactic(auto, using(crate::proofs::Acts::trylock_can))]
 pub fn mutex_trylock<K: Sink>(p: &mut Parts, t: Tid, call: &Call, k: ObjId, out: &mut Tracer<'_, K>)
-    requires known { t < length p.old.names }
-    requires runs { can_run p.old.machine t ≡ true }
+    requires can { CanBlock p.old t }
     requires mutex { k < length p.old.machine.mutexes }
-    requires serial { p.old.machine.next_serial < 2 ^ 63 }
-    ensures state { p.new ≡ after (tries_lock (by t call.now) k) p.old }
-    ensures told { Tells K.text K.faults p.old.names out.old out.new (told (tries_lock (by t call.now) k) p.old) }
+    ensures { Does K.text K.faults (tries_lock (by t call.now) k) p.old p.new out.old out.new }
 {
     let answer = trylock_answer(p, t, k);
     act(p, t, call, k, None, answer, out);
@@ -142,14 +128,9 @@ pub fn mutex_trylock<K: Sink>(p: &mut Parts, t: Tid, call: &Call, k: ObjId, out:
 #[tactic(auto, using(crate::proofs::Resting::best_rests))]
 fn hand_over<K: Sink>(p: &mut Parts, t: Tid, k: ObjId, w: Tid, out: &mut Tracer<'_, K>)
     requires known { w < length p.old.names }
-    requires mutex { k < length p.old.machine.mutexes }
-    requires owned { (mutex_at p.old.machine k).owner ≡ Some t }
+    requires can { CanRelease p.old t k }
     requires best { Some w ≡ option_map (λ (v : Waiter). v.thread) (best_waiter p.old.machine (waits_for_mutex k)) }
-    requires room { length p.old.direct < 256 }
-    requires rests { MutexWaitersRest p.old.machine k }
-    requires early { p.old.machine.now ≤ 10 ^ 18 }
-    ensures state { p.new ≡ after (releases k) p.old }
-    ensures told { Tells K.text K.faults p.old.names out.old out.new (told (releases k) p.old) }
+    ensures { Does K.text K.faults (releases k) p.old p.new out.old out.new }
 {
     if is_cancelled_waiter(p, w) {
         p.wake_cancelled_owner(k, t, w, out);
@@ -161,13 +142,8 @@ fn hand_over<K: Sink>(p: &mut Parts, t: Tid, k: ObjId, w: Tid, out: &mut Tracer<
 
 /// The owner's mutex goes to its best waiter, or is free.
 pub(crate) fn release<K: Sink>(p: &mut Parts, t: Tid, k: ObjId, out: &mut Tracer<'_, K>)
-    requires mutex { k < length p.old.machine.mutexes }
-    requires owned { (mutex_at p.old.machine k).owner ≡ Some t }
-    requires room { length p.old.direct < 256 }
-    requires rests { MutexWaitersRest p.old.machine k }
-    requires early { p.old.machine.now ≤ 10 ^ 18 }
-    ensures state { p.new ≡ after (releases k) p.old }
-    ensures told { Tells K.text K.faults p.old.names out.old out.new (told (releases k) p.old) }
+    requires { CanRelease p.old t k }
+    ensures { Does K.text K.faults (releases k) p.old p.new out.old out.new }
 {
     match p.best_waiter(WaitObj::Mutex(k)) {
         None => p.release_mutex(k, t),
@@ -180,8 +156,7 @@ fn count_down<K: Sink>(p: &mut Parts, t: Tid, call: &Call, k: ObjId, out: &mut T
     requires known { t < length p.old.names }
     requires mutex { k < length p.old.machine.mutexes }
     requires counted { 1 < (mutex_at p.old.machine k).count }
-    ensures state { p.new ≡ after (λ s. s ▷ returns (by t call.now) res.Zero 0 ▷ changes_mutex k counted_down) p.old }
-    ensures told { Tells K.text K.faults p.old.names out.old out.new (told (λ s. s ▷ returns (by t call.now) res.Zero 0 ▷ changes_mutex k counted_down) p.old) }
+    ensures { Does K.text K.faults (λ s. s ▷ returns (by t call.now) res.Zero 0 ▷ changes_mutex k counted_down) p.old p.new out.old out.new }
 {
     p.returns(t, call, Res::Zero, 0, out);
     let count = p.mutex(k).count();
@@ -191,15 +166,11 @@ fn count_down<K: Sink>(p: &mut Parts, t: Tid, call: &Call, k: ObjId, out: &mut T
 // The caller, which has locked the mutex once, gives it up.
 #[tactic(auto, using(crate::proofs::Returned::returned_waiters))]
 fn give_up<K: Sink>(p: &mut Parts, t: Tid, call: &Call, k: ObjId, out: &mut Tracer<'_, K>)
-    requires known { t < length p.old.names }
-    requires runs { can_run p.old.machine t ≡ true }
+    requires caller { IsRunning p.old t }
     requires mutex { k < length p.old.machine.mutexes }
     requires owned { (mutex_at p.old.machine k).owner ≡ Some t }
-    requires room { length p.old.direct < 256 }
-    requires rests { BlockedRest p.old.machine }
-    requires early { p.old.machine.now ≤ 10 ^ 18 }
-    ensures state { p.new ≡ after (λ s. s ▷ returns (by t call.now) res.Zero 0 ▷ releases k) p.old }
-    ensures told { Tells K.text K.faults p.old.names out.old out.new (told (λ s. s ▷ returns (by t call.now) res.Zero 0 ▷ releases k) p.old) }
+    requires can { CanWake p.old }
+    ensures { Does K.text K.faults (λ s. s ▷ returns (by t call.now) res.Zero 0 ▷ releases k) p.old p.new out.old out.new }
 {
     p.returns(t, call, Res::Zero, 0, out);
     release(p, t, k, out);
@@ -207,14 +178,10 @@ fn give_up<K: Sink>(p: &mut Parts, t: Tid, call: &Call, k: ObjId, out: &mut Trac
 
 /// `pthread_mutex_unlock`.
 pub fn mutex_unlock<K: Sink>(p: &mut Parts, t: Tid, call: &Call, k: ObjId, out: &mut Tracer<'_, K>)
-    requires known { t < length p.old.names }
-    requires runs { can_run p.old.machine t ≡ true }
+    requires caller { IsRunning p.old t }
     requires mutex { k < length p.old.machine.mutexes }
-    requires room { length p.old.direct < 256 }
-    requires rests { BlockedRest p.old.machine }
-    requires early { p.old.machine.now ≤ 10 ^ 18 }
-    ensures state { p.new ≡ after (unlocks (by t call.now) k) p.old }
-    ensures told { Tells K.text K.faults p.old.names out.old out.new (told (unlocks (by t call.now) k) p.old) }
+    requires can { CanWake p.old }
+    ensures { Does K.text K.faults (unlocks (by t call.now) k) p.old p.new out.old out.new }
 {
     if !p.mutex(k).is_owned_by(t) {
         p.returns(t, call, Res::Perm, 0, out);

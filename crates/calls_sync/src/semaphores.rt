@@ -1,13 +1,13 @@
 // Semaphores.
-ghost use Rattle.std.specs.Prelude.{◌≡◌, ◌≤◌, ◌<◌, ◌^◌, length, pred, suc, true};
+ghost use Rattle.std.specs.Prelude.{◌≡◌, ◌<◌, length, pred, suc, true};
 ghost use Rattle.words_numbers.specs.declared.res.Res.TheVariants as res;
-ghost use Rattle.parts_tracer.specs.Tells.{Tells};
 ghost use Rattle.rules_machine.specs.Semaphores.{posts, reads_semaphore, semaphore_limit, tries_semaphore, waits_semaphore};
-ghost use Rattle.rules_machine.specs.Threads.{can_run, is_blocked, semaphore_at, thread_at};
+ghost use Rattle.rules_machine.specs.Threads.{is_blocked, semaphore_at, thread_at};
 ghost use Rattle.rules_machine.specs.Turns.{changes_semaphore, returns, ◌▷◌};
 ghost use Rattle.rules_machine.specs.Waking.{wakes};
-ghost use Rattle.kernel_state.specs.Kernel.{after, by, told};
-ghost use Rattle.calls_sync.specs.Waits.{BlockedRest};
+ghost use Rattle.kernel_state.specs.Kernel.{by};
+ghost use Rattle.kernel_state.specs.Does.{Does};
+ghost use Rattle.kernel_state.specs.Callers.{CanBlock, CanWake};
 
 use crate::blocking::block_unless_late;
 use kernel_state::Parts;
@@ -26,8 +26,7 @@ fn take<K: Sink>(p: &mut Parts, t: Tid, call: &Call, k: ObjId, out: &mut Tracer<
     requires known { t < length p.old.names }
     requires semaphore { k < length p.old.machine.semaphores }
     requires above { 0 < semaphore_at p.old.machine k }
-    ensures state { p.new ≡ after (λ s. s ▷ changes_semaphore k pred ▷ returns (by t call.now) res.Zero 0) p.old }
-    ensures told { Tells K.text K.faults p.old.names out.old out.new (told (λ s. s ▷ changes_semaphore k pred ▷ returns (by t call.now) res.Zero 0) p.old) }
+    ensures { Does K.text K.faults (λ s. s ▷ changes_semaphore k pred ▷ returns (by t call.now) res.Zero 0) p.old p.new out.old out.new }
 {
     p.take_semaphore(k);
     p.returns(t, call, Res::Zero, 0, out);
@@ -42,12 +41,9 @@ pub fn sem_wait<K: Sink>(
     due: Option<Tick>,
     out: &mut Tracer<'_, K>,
 )
-    requires known { t < length p.old.names }
-    requires runs { can_run p.old.machine t ≡ true }
+    requires can { CanBlock p.old t }
     requires semaphore { k < length p.old.machine.semaphores }
-    requires serial { p.old.machine.next_serial < 2 ^ 63 }
-    ensures state { p.new ≡ after (waits_semaphore (by t call.now) k due) p.old }
-    ensures told { Tells K.text K.faults p.old.names out.old out.new (told (waits_semaphore (by t call.now) k due) p.old) }
+    ensures { Does K.text K.faults (waits_semaphore (by t call.now) k due) p.old p.new out.old out.new }
 {
     if p.semaphore(k) > 0 {
         take(p, t, call, k, out);
@@ -60,8 +56,7 @@ pub fn sem_wait<K: Sink>(
 pub fn sem_trywait<K: Sink>(p: &mut Parts, t: Tid, call: &Call, k: ObjId, out: &mut Tracer<'_, K>)
     requires known { t < length p.old.names }
     requires semaphore { k < length p.old.machine.semaphores }
-    ensures state { p.new ≡ after (tries_semaphore (by t call.now) k) p.old }
-    ensures told { Tells K.text K.faults p.old.names out.old out.new (told (tries_semaphore (by t call.now) k) p.old) }
+    ensures { Does K.text K.faults (tries_semaphore (by t call.now) k) p.old p.new out.old out.new }
 {
     if p.semaphore(k) == 0 {
         p.returns(t, call, Res::Again, 0, out);
@@ -74,8 +69,7 @@ pub fn sem_trywait<K: Sink>(p: &mut Parts, t: Tid, call: &Call, k: ObjId, out: &
 pub fn sem_getvalue<K: Sink>(p: &mut Parts, t: Tid, call: &Call, k: ObjId, out: &mut Tracer<'_, K>)
     requires known { t < length p.old.names }
     requires semaphore { k < length p.old.machine.semaphores }
-    ensures state { p.new ≡ after (reads_semaphore (by t call.now) k) p.old }
-    ensures told { Tells K.text K.faults p.old.names out.old out.new (told (reads_semaphore (by t call.now) k) p.old) }
+    ensures { Does K.text K.faults (reads_semaphore (by t call.now) k) p.old p.new out.old out.new }
 {
     let value = p.semaphore(k);
     p.returns(t, call, Res::Zero, value as u64, out);
@@ -86,8 +80,7 @@ fn raise<K: Sink>(p: &mut Parts, t: Tid, call: &Call, k: ObjId, out: &mut Tracer
     requires known { t < length p.old.names }
     requires semaphore { k < length p.old.machine.semaphores }
     requires below { semaphore_at p.old.machine k < semaphore_limit }
-    ensures state { p.new ≡ after (λ s. s ▷ changes_semaphore k suc ▷ returns (by t call.now) res.Zero 0) p.old }
-    ensures told { Tells K.text K.faults p.old.names out.old out.new (told (λ s. s ▷ changes_semaphore k suc ▷ returns (by t call.now) res.Zero 0) p.old) }
+    ensures { Does K.text K.faults (λ s. s ▷ changes_semaphore k suc ▷ returns (by t call.now) res.Zero 0) p.old p.new out.old out.new }
 {
     p.post_semaphore(k);
     p.returns(t, call, Res::Zero, 0, out);
@@ -97,12 +90,9 @@ fn raise<K: Sink>(p: &mut Parts, t: Tid, call: &Call, k: ObjId, out: &mut Tracer
 fn return_and_wake<K: Sink>(p: &mut Parts, t: Tid, call: &Call, w: Tid, out: &mut Tracer<'_, K>)
     requires known { t < length p.old.names }
     requires waiter { w < length p.old.names }
-    requires room { length p.old.direct < 256 }
-    requires rests { BlockedRest p.old.machine }
+    requires can { CanWake p.old }
     requires blocked { is_blocked (thread_at p.old.machine w).status ≡ true }
-    requires early { p.old.machine.now ≤ 10 ^ 18 }
-    ensures state { p.new ≡ after (λ s. s ▷ returns (by t call.now) res.Zero 0 ▷ wakes w res.Zero 0) p.old }
-    ensures told { Tells K.text K.faults p.old.names out.old out.new (told (λ s. s ▷ returns (by t call.now) res.Zero 0 ▷ wakes w res.Zero 0) p.old) }
+    ensures { Does K.text K.faults (λ s. s ▷ returns (by t call.now) res.Zero 0 ▷ wakes w res.Zero 0) p.old p.new out.old out.new }
 {
     p.returns(t, call, Res::Zero, 0, out);
     p.wake(w, Res::Zero, 0, out);
@@ -112,11 +102,8 @@ fn return_and_wake<K: Sink>(p: &mut Parts, t: Tid, call: &Call, w: Tid, out: &mu
 pub fn sem_post<K: Sink>(p: &mut Parts, t: Tid, call: &Call, k: ObjId, out: &mut Tracer<'_, K>)
     requires known { t < length p.old.names }
     requires semaphore { k < length p.old.machine.semaphores }
-    requires room { length p.old.direct < 256 }
-    requires rests { BlockedRest p.old.machine }
-    requires early { p.old.machine.now ≤ 10 ^ 18 }
-    ensures state { p.new ≡ after (posts (by t call.now) k) p.old }
-    ensures told { Tells K.text K.faults p.old.names out.old out.new (told (posts (by t call.now) k) p.old) }
+    requires can { CanWake p.old }
+    ensures { Does K.text K.faults (posts (by t call.now) k) p.old p.new out.old out.new }
 {
     if let Some(w) = p.best_waiter(WaitObj::Sem(k)) {
         return_and_wake(p, t, call, w, out);

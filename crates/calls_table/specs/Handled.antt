@@ -1,10 +1,11 @@
 -- What a due item asks of the machine.
-use Rattle.std.specs.Prelude.{◌≡◌, ℕ, false}
+use Rattle.std.specs.Prelude.{◌≡◌, ◌≤◌, ◌<◌, ◌^◌, ℕ, [], false}
 use Rattle.rules_bodies.specs.declared.cursor.Cursor.{Cursor}
 use Rattle.rules_machine.specs.State.{Machine}
 use Rattle.rules_machine.specs.Threads.{thread_at}
 use Rattle.rules_machine.specs.Servers.{has_high}
 use Rattle.kernel_threads.specs.Unused.{IsUnused}
+use Rattle.kernel_state.specs.Kernel.{Kernel}
 use Rattle.kernel_state.specs.Pending.{PendingFits, SignalsFit}
 use Rattle.calls_sync.specs.Waits.{WaitsFit}
 
@@ -14,3 +15,10 @@ pub record CanHandle (m : Machine Cursor) : Type 0 where
   pub pends : PendingFits m
   pub signals : SignalsFit m
   pub rests_low : (t : ℕ) → has_high (thread_at m t).server ≡ false → IsUnused (thread_at m t).server
+
+-- and of a kernel, in which nobody has moved since the last settling
+pub record CanHandleNext (k : Kernel) : Type 0 where
+  pub quiet : k.direct ≡ []
+  pub fits : CanHandle k.machine
+  pub serial : k.machine.next_serial < 2 ^ 62
+  pub early : k.machine.now ≤ 10 ^ 18

@@ -1,6 +1,5 @@
 // The due items.
-ghost use Rattle.std.specs.Prelude.{◌≡◌, ◌≤◌, ◌<◌, ◌+◌, ◌^◌, [], length, true, false};
-ghost use Rattle.parts_tracer.specs.Tells.{Tells};
+ghost use Rattle.std.specs.Prelude.{◌≡◌, ◌≤◌, ◌<◌, ◌^◌, [], length, true, false};
 ghost use Rattle.rules_machine.specs.Threads.{is_blocked, thread_at, waiting_of};
 ghost use Rattle.rules_machine.specs.Turns.{settles_since, ◌▷◌};
 ghost use Rattle.rules_machine.specs.Servers.{has_high, refills};
@@ -8,11 +7,12 @@ ghost use Rattle.rules_machine.specs.DueItems.{handles, item_done, times_out};
 ghost use Rattle.rules_flat_code.specs.FlatBodies.{flat_bodies};
 ghost use Rattle.kernel_threads.specs.Unused.{IsUnused};
 ghost use Rattle.kernel_state.specs.Due.{IsKnown};
-ghost use Rattle.calls_sync.specs.Waits.{WaitsFit};
-ghost use Rattle.calls_signals.specs.Sweeping.{CanSweep};
-ghost use Rattle.calls_table.specs.Handled.{CanHandle};
-ghost use Rattle.kernel_state.specs.Kernel.{Kernel, after, refilled_telling, told};
+ghost use Rattle.calls_signals.specs.Premises.{CanSweep};
+ghost use Rattle.calls_table.specs.Handled.{CanHandleNext};
+ghost use Rattle.kernel_state.specs.Kernel.{after, refilled_telling, told};
+ghost use Rattle.kernel_state.specs.Does.{Does};
 ghost use Rattle.kernel_state.specs.Stood.{StoodRight};
+ghost use Rattle.calls_sync.specs.Premises.{CanContend};
 
 use calls_signals::{expire, sweep};
 use calls_sync::contend;
@@ -29,8 +29,7 @@ fn tell_refill<K: Sink>(p: &mut Parts, t: Tid, r: &Refilled, runs: bool, out: &m
     requires known { t < length p.old.names }
     requires unused { r.now.regains_high ≡ true → IsUnused (thread_at p.old.machine t).server }
     requires early { p.old.machine.now ≤ 10 ^ 18 }
-    ensures state { p.new ≡ after (refilled_telling t r.now runs) p.old }
-    ensures told { Tells K.text K.faults p.old.names out.old out.new (told (refilled_telling t r.now runs) p.old) }
+    ensures { Does K.text K.faults (refilled_telling t r.now runs) p.old p.new out.old out.new }
 {
     p.tell(&Event::Refill(t, r.amount, r.capacity), out);
     if r.regains_high && runs {
@@ -43,8 +42,7 @@ fn refill<K: Sink>(p: &mut Parts, t: Tid, out: &mut Tracer<'_, K>)
     requires known { t < length p.old.names }
     requires rests { has_high (thread_at p.old.machine t).server ≡ false → IsUnused (thread_at p.old.machine t).server }
     requires early { p.old.machine.now ≤ 10 ^ 18 }
-    ensures state { p.new ≡ after (refills t) p.old }
-    ensures told { Tells K.text K.faults p.old.names out.old out.new (told (refills t) p.old) }
+    ensures { Does K.text K.faults (refills t) p.old p.new out.old out.new }
 {
     if !p.has_server(t) {
         return;
@@ -57,12 +55,8 @@ fn refill<K: Sink>(p: &mut Parts, t: Tid, out: &mut Tracer<'_, K>)
 // A wait ends at its time: a sleep is over, and what was waited for is given up.
 fn time_out<K: Sink>(p: &mut Parts, t: Tid, out: &mut Tracer<'_, K>)
     requires known { t < length p.old.names }
-    requires fits { WaitsFit p.old.machine }
-    requires serial { p.old.machine.next_serial < 2 ^ 62 }
-    requires quiet { p.old.direct ≡ [] }
-    requires early { p.old.machine.now ≤ 10 ^ 18 }
-    ensures state { p.new ≡ after (λ s. times_out (waiting_of s.machine t) t s) p.old }
-    ensures told { Tells K.text K.faults p.old.names out.old out.new (told (λ s. times_out (waiting_of s.machine t) t s) p.old) }
+    requires can { CanContend p.old }
+    ensures { Does K.text K.faults (λ s. times_out (waiting_of s.machine t) t s) p.old p.new out.old out.new }
 {
     match p.wait(t) {
         None => return,
@@ -81,12 +75,8 @@ fn time_out<K: Sink>(p: &mut Parts, t: Tid, out: &mut Tracer<'_, K>)
 // A due item, before its moves.
 fn handle<K: Sink>(p: &mut Parts, i: Item, out: &mut Tracer<'_, K>)
     requires known { IsKnown (length p.old.names) (length p.old.machine.timers) i }
-    requires quiet { p.old.direct ≡ [] }
-    requires fits { CanHandle p.old.machine }
-    requires serial { p.old.machine.next_serial < 2 ^ 62 }
-    requires early { p.old.machine.now ≤ 10 ^ 18 }
-    ensures state { p.new ≡ after (handles (flat_bodies p.old.code) i) p.old }
-    ensures told { Tells K.text K.faults p.old.names out.old out.new (told (handles (flat_bodies p.old.code) i) p.old) }
+    requires can { CanHandleNext p.old }
+    ensures { Does K.text K.faults (handles (flat_bodies p.old.code) i) p.old p.new out.old out.new }
 {
     match i {
         Item::Refill(t) => refill(p, t, out),
@@ -99,13 +89,9 @@ fn handle<K: Sink>(p: &mut Parts, i: Item, out: &mut Tracer<'_, K>)
 // A due item, with its moves.
 fn settle_item<K: Sink>(p: &mut Parts, i: Item, out: &mut Tracer<'_, K>)
     requires known { IsKnown (length p.old.names) (length p.old.machine.timers) i }
-    requires quiet { p.old.direct ≡ [] }
+    requires can { CanHandleNext p.old }
     requires stood { StoodRight p.old.machine }
-    requires fits { CanHandle p.old.machine }
-    requires serial { p.old.machine.next_serial < 2 ^ 62 }
-    requires early { p.old.machine.now ≤ 10 ^ 18 }
-    ensures state { p.new ≡ after (λ s. s ▷ handles (flat_bodies p.old.code) i ▷ settles_since s.machine) p.old }
-    ensures told { Tells K.text K.faults p.old.names out.old out.new (told (λ s. s ▷ handles (flat_bodies p.old.code) i ▷ settles_since s.machine) p.old) }
+    ensures does { Does K.text K.faults (λ s. s ▷ handles (flat_bodies p.old.code) i ▷ settles_since s.machine) p.old p.new out.old out.new }
     ensures stood { StoodRight p.new.machine }
 {
     handle(p, i, out);
@@ -115,14 +101,10 @@ fn settle_item<K: Sink>(p: &mut Parts, i: Item, out: &mut Tracer<'_, K>)
 /// A due item, with its moves and the sweep.
 pub fn do_item<K: Sink>(p: &mut Parts, i: Item, out: &mut Tracer<'_, K>)
     requires known { IsKnown (length p.old.names) (length p.old.machine.timers) i }
-    requires quiet { p.old.direct ≡ [] }
+    requires can { CanHandleNext p.old }
     requires stood { StoodRight p.old.machine }
-    requires fits { CanHandle p.old.machine }
-    requires serial { p.old.machine.next_serial < 2 ^ 62 }
     requires sweeps { CanSweep (after (λ s. s ▷ handles (flat_bodies p.old.code) i ▷ settles_since s.machine) p.old) }
-    requires early { p.old.machine.now ≤ 10 ^ 18 }
-    ensures state { p.new ≡ after (item_done (flat_bodies p.old.code) i) p.old }
-    ensures told { Tells K.text K.faults p.old.names out.old out.new (told (item_done (flat_bodies p.old.code) i) p.old) }
+    ensures does { Does K.text K.faults (item_done (flat_bodies p.old.code) i) p.old p.new out.old out.new }
     ensures stood { StoodRight p.new.machine }
     ensures quiet { p.new.direct ≡ [] }
     ensures time { p.new.machine.now ≡ p.old.machine.now }

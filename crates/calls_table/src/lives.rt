@@ -1,13 +1,13 @@
 // The creation of threads.
-ghost use Rattle.std.specs.Prelude.{◌≡◌, ◌≤◌, ◌<◌, ◌^◌, length};
+ghost use Rattle.std.specs.Prelude.{◌≤◌, ◌<◌, ◌^◌, length};
 ghost use Rattle.words_numbers.specs.declared.res.Res.TheVariants as res;
-ghost use Rattle.parts_tracer.specs.Tells.{Tells};
 ghost use Rattle.rules_machine.specs.Threads.{is_dormant, thread_at};
 ghost use Rattle.rules_machine.specs.Turns.{returns, ◌▷◌};
 ghost use Rattle.rules_machine.specs.Waking.{starts};
 ghost use Rattle.rules_machine.specs.Lives.{creates, inherited_mask};
 ghost use Rattle.rules_flat_code.specs.FlatBodies.{flat_bodies};
-ghost use Rattle.kernel_state.specs.Kernel.{after, by, told};
+ghost use Rattle.kernel_state.specs.Kernel.{by};
+ghost use Rattle.kernel_state.specs.Does.{Does};
 
 use kernel_state::Parts;
 use parts_io::Sink;
@@ -21,8 +21,7 @@ fn create_dormant<K: Sink>(p: &mut Parts, t: Tid, call: &Call, u: Tid, out: &mut
     requires thread { u < length p.old.names }
     requires room { length p.old.direct < 256 }
     requires early { p.old.machine.now ≤ 10 ^ 18 }
-    ensures state { p.new ≡ after (λ s. s ▷ returns (by t call.now) res.Zero 0 ▷ starts (flat_bodies p.old.code) u (inherited_mask (thread_at p.old.machine t))) p.old }
-    ensures told { Tells K.text K.faults p.old.names out.old out.new (told (λ s. s ▷ returns (by t call.now) res.Zero 0 ▷ starts (flat_bodies p.old.code) u (inherited_mask (thread_at p.old.machine t))) p.old) }
+    ensures { Does K.text K.faults (λ s. s ▷ returns (by t call.now) res.Zero 0 ▷ starts (flat_bodies p.old.code) u (inherited_mask (thread_at p.old.machine t))) p.old p.new out.old out.new }
 {
     let mask = p.inherited_mask(t);
     p.returns(t, call, Res::Zero, 0, out);
@@ -41,8 +40,7 @@ pub(crate) fn make_create<K: Sink>(
     requires thread { u < length p.old.names }
     requires room { length p.old.direct < 256 }
     requires early { p.old.machine.now ≤ 10 ^ 18 }
-    ensures state { p.new ≡ after (creates (flat_bodies p.old.code) (by t call.now) u) p.old }
-    ensures told { Tells K.text K.faults p.old.names out.old out.new (told (creates (flat_bodies p.old.code) (by t call.now) u) p.old) }
+    ensures { Does K.text K.faults (creates (flat_bodies p.old.code) (by t call.now) u) p.old p.new out.old out.new }
 {
     if p.is_dormant(u) {
         create_dormant(p, t, call, u, out);

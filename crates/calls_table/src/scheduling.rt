@@ -1,6 +1,5 @@
 // Yielding, and scheduling parameters that change.
-ghost use Rattle.std.specs.Prelude.{◌≡◌, ◌≤◌, ◌<◌, ◌^◌, length};
-ghost use Rattle.parts_tracer.specs.Tells.{Tells};
+ghost use Rattle.std.specs.Prelude.{◌≤◌, ◌<◌, ◌^◌, length};
 ghost use Rattle.rules_machine.specs.Threads.{thread_at};
 ghost use Rattle.rules_machine.specs.Turns.{returns, ◌▷◌};
 ghost use Rattle.rules_machine.specs.Threads.{can_run};
@@ -8,7 +7,8 @@ ghost use Rattle.rules_machine.specs.Servers.{activates_if};
 ghost use Rattle.rules_machine.specs.Mutexes.{moves_unless_boosted};
 ghost use Rattle.rules_machine.specs.Scheduling.{sets_policy, sets_priority, takes_priority, yields};
 ghost use Rattle.kernel_threads.specs.Unused.{IsUnused};
-ghost use Rattle.kernel_state.specs.Kernel.{after, by, changes_policy, told};
+ghost use Rattle.kernel_state.specs.Kernel.{by, changes_policy};
+ghost use Rattle.kernel_state.specs.Does.{Does};
 
 use kernel_state::Parts;
 use parts_io::Sink;
@@ -20,8 +20,7 @@ use words_script::{Call, Policy};
 pub(crate) fn make_yield<K: Sink>(p: &mut Parts, t: Tid, call: &Call, out: &mut Tracer<'_, K>)
     requires known { t < length p.old.names }
     requires room { length p.old.direct < 256 }
-    ensures state { p.new ≡ after (yields (by t call.now)) p.old }
-    ensures told { Tells K.text K.faults p.old.names out.old out.new (told (yields (by t call.now)) p.old) }
+    ensures { Does K.text K.faults (yields (by t call.now)) p.old p.new out.old out.new }
 {
     p.move_later(t);
     p.returns(t, call, Res::Zero, 0, out);
@@ -38,8 +37,7 @@ pub(crate) fn make_setprio<K: Sink>(
 )
     requires known { t < length p.old.names }
     requires thread { u < length p.old.names }
-    ensures state { p.new ≡ after (sets_priority (by t call.now) u prio) p.old }
-    ensures told { Tells K.text K.faults p.old.names out.old out.new (told (sets_priority (by t call.now) u prio) p.old) }
+    ensures { Does K.text K.faults (sets_priority (by t call.now) u prio) p.old p.new out.old out.new }
 {
     if !p.is_live(u) {
         p.returns(t, call, Res::Srch, 0, out);
@@ -65,8 +63,7 @@ fn change_policy<K: Sink>(
     requires known { t < length p.old.names }
     requires thread { u < length p.old.names }
     requires early { p.old.machine.now ≤ 10 ^ 18 }
-    ensures state { p.new ≡ after (changes_policy (by t call.now) u policy p.old.machine.now) p.old }
-    ensures told { Tells K.text K.faults p.old.names out.old out.new (told (changes_policy (by t call.now) u policy p.old.machine.now) p.old) }
+    ensures does { Does K.text K.faults (changes_policy (by t call.now) u policy p.old.machine.now) p.old p.new out.old out.new }
     ensures unused { IsUnused (thread_at p.new.machine u).server }
 {
     p.returns(t, call, Res::Zero, 0, out);
@@ -78,8 +75,7 @@ fn activate_if<K: Sink>(p: &mut Parts, runs: bool, u: Tid, out: &mut Tracer<'_, 
     requires known { u < length p.old.names }
     requires unused { IsUnused (thread_at p.old.machine u).server }
     requires early { p.old.machine.now ≤ 10 ^ 18 }
-    ensures state { p.new ≡ after (activates_if runs u) p.old }
-    ensures told { Tells K.text K.faults p.old.names out.old out.new (told (activates_if runs u) p.old) }
+    ensures { Does K.text K.faults (activates_if runs u) p.old p.new out.old out.new }
 {
     if runs {
         p.activate(u, out);
@@ -99,8 +95,7 @@ fn set_policy<K: Sink>(
     requires thread { u < length p.old.names }
     requires room { length p.old.direct < 256 }
     requires early { p.old.machine.now ≤ 10 ^ 18 }
-    ensures state { p.new ≡ after (λ s. s ▷ changes_policy (by t call.now) u policy s.machine.now ▷ activates_if (can_run s.machine u) u ▷ moves_unless_boosted u) p.old }
-    ensures told { Tells K.text K.faults p.old.names out.old out.new (told (λ s. s ▷ changes_policy (by t call.now) u policy s.machine.now ▷ activates_if (can_run s.machine u) u ▷ moves_unless_boosted u) p.old) }
+    ensures { Does K.text K.faults (λ s. s ▷ changes_policy (by t call.now) u policy s.machine.now ▷ activates_if (can_run s.machine u) u ▷ moves_unless_boosted u) p.old p.new out.old out.new }
 {
     let runs = p.is_runnable(u);
     change_policy(p, t, call, u, policy, out);
@@ -121,8 +116,7 @@ pub(crate) fn make_setsched<K: Sink>(
     requires thread { u < length p.old.names }
     requires room { length p.old.direct < 256 }
     requires early { p.old.machine.now ≤ 10 ^ 18 }
-    ensures state { p.new ≡ after (sets_policy (by t call.now) u policy) p.old }
-    ensures told { Tells K.text K.faults p.old.names out.old out.new (told (sets_policy (by t call.now) u policy) p.old) }
+    ensures { Does K.text K.faults (sets_policy (by t call.now) u policy) p.old p.new out.old out.new }
 {
     if !p.is_live(u) {
         p.returns(t, call, Res::Srch, 0, out);

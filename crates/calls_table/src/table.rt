@@ -1,16 +1,13 @@
 // The table of calls: the effect of each.
-ghost use Rattle.std.specs.Prelude.{◌≡◌, ◌≤◌, ◌<◌, ◌^◌, length, true};
-ghost use Rattle.parts_tracer.specs.Tells.{Tells};
-ghost use Rattle.rules_machine.specs.Threads.{can_run, thread_at};
+ghost use Rattle.std.specs.Prelude.{length};
+ghost use Rattle.rules_machine.specs.Threads.{thread_at};
 ghost use Rattle.rules_machine.specs.Turns.{returns};
 ghost use Rattle.rules_machine.specs.Calls.{call_effect, makes_call};
-ghost use Rattle.calls_table.specs.Calls.{HasRoomFor, objects_in};
+ghost use Rattle.calls_table.specs.Calls.{CanCall, HasRoomFor, objects_in};
 ghost use Rattle.rules_flat_code.specs.FlatBodies.{flat_bodies};
 ghost use Rattle.rules_flat_code.specs.Runnable.{CallIsRunnable};
-ghost use Rattle.calls_threads.specs.Joins.{JoinsFit};
-ghost use Rattle.calls_sync.specs.Waits.{WaitsFit};
-ghost use Rattle.kernel_state.specs.Kernel.{after, by, told};
-ghost use Rattle.kernel_state.specs.Pending.{PendingFits, SignalsFit};
+ghost use Rattle.kernel_state.specs.Kernel.{by};
+ghost use Rattle.kernel_state.specs.Does.{Does};
 
 use crate::lives::make_create;
 use crate::scheduling::{make_setprio, make_setsched, make_yield};
@@ -36,20 +33,10 @@ use words_script::Call;
 /// The effect of a call.
 #[inline(always)]
 fn do_call<K: Sink>(p: &mut Parts, t: Tid, call: &Call, out: &mut Tracer<'_, K>)
-    requires known { t < length p.old.names }
+    requires caller { CanCall p.old t }
     requires runnable { CallIsRunnable (objects_in p.old) call.now }
     requires guards { HasRoomFor (length p.old.code.cleanups) (thread_at p.old.machine t) call.now }
-    requires threads { length p.old.machine.threads ≡ length p.old.names }
-    requires runs { can_run p.old.machine t ≡ true }
-    requires fits { WaitsFit p.old.machine }
-    requires joins { JoinsFit p.old.machine }
-    requires pends { PendingFits p.old.machine }
-    requires signals { SignalsFit p.old.machine }
-    requires serial { p.old.machine.next_serial < 2 ^ 62 }
-    requires room { length p.old.direct < 128 }
-    requires early { p.old.machine.now ≤ 10 ^ 18 }
-    ensures state { p.new ≡ after (call_effect (flat_bodies p.old.code) (by t call.now) call.now) p.old }
-    ensures told { Tells K.text K.faults p.old.names out.old out.new (told (call_effect (flat_bodies p.old.code) (by t call.now) call.now) p.old) }
+    ensures { Does K.text K.faults (call_effect (flat_bodies p.old.code) (by t call.now) call.now) p.old p.new out.old out.new }
 {
     match call {
         Call::Yield => make_yield(p, t, call, out),
@@ -141,20 +128,10 @@ fn do_call<K: Sink>(p: &mut Parts, t: Tid, call: &Call, out: &mut Tracer<'_, K>)
 /// A call is made, or a request acts in its place.
 #[inline(always)]
 pub fn make_call<K: Sink>(p: &mut Parts, t: Tid, call: &Call, out: &mut Tracer<'_, K>)
-    requires known { t < length p.old.names }
+    requires caller { CanCall p.old t }
     requires runnable { CallIsRunnable (objects_in p.old) call.now }
     requires guards { HasRoomFor (length p.old.code.cleanups) (thread_at p.old.machine t) call.now }
-    requires threads { length p.old.machine.threads ≡ length p.old.names }
-    requires runs { can_run p.old.machine t ≡ true }
-    requires fits { WaitsFit p.old.machine }
-    requires joins { JoinsFit p.old.machine }
-    requires pends { PendingFits p.old.machine }
-    requires signals { SignalsFit p.old.machine }
-    requires serial { p.old.machine.next_serial < 2 ^ 62 }
-    requires room { length p.old.direct < 128 }
-    requires early { p.old.machine.now ≤ 10 ^ 18 }
-    ensures state { p.new ≡ after (makes_call (flat_bodies p.old.code) (by t call.now)) p.old }
-    ensures told { Tells K.text K.faults p.old.names out.old out.new (told (makes_call (flat_bodies p.old.code) (by t call.now)) p.old) }
+    ensures { Does K.text K.faults (makes_call (flat_bodies p.old.code) (by t call.now)) p.old p.new out.old out.new }
 {
     if acts_in_place(p, t, call) {
         p.cancel_now(t, out);

@@ -1,10 +1,10 @@
 // Sleeping.
 ghost use Rattle.std.specs.Prelude.{◌≡◌, ◌≤◌, ◌<◌, ◌+◌, ◌*◌, ◌^◌, length, true};
-ghost use Rattle.parts_tracer.specs.Tells.{Tells};
 ghost use Rattle.rules_machine.specs.Threads.{can_run};
 ghost use Rattle.rules_machine.specs.Turns.{returns};
 ghost use Rattle.rules_machine.specs.Timers.{sleeps_until};
-ghost use Rattle.kernel_state.specs.Kernel.{after, by, told};
+ghost use Rattle.kernel_state.specs.Kernel.{by};
+ghost use Rattle.kernel_state.specs.Does.{Does};
 
 use kernel_state::Parts;
 use kernel_threads::Wait;
@@ -24,8 +24,7 @@ pub(crate) fn sleep_until<K: Sink>(
 )
     requires known { t < length p.old.names }
     requires runs { can_run p.old.machine t ≡ true }
-    ensures state { p.new ≡ after (sleeps_until (by t call.now) at) p.old }
-    ensures told { Tells K.text K.faults p.old.names out.old out.new (told (sleeps_until (by t call.now) at) p.old) }
+    ensures { Does K.text K.faults (sleeps_until (by t call.now) at) p.old p.new out.old out.new }
 {
     if at <= p.instant() {
         p.returns(t, call, Res::Zero, 0, out);

@@ -1,7 +1,6 @@
 // Cancellation: requests to end, and where they act.
-ghost use Rattle.std.specs.Prelude.{◌≡◌, ◌≤◌, ◌<◌, ◌&&◌, ◌^◌, Bool, length};
+ghost use Rattle.std.specs.Prelude.{◌≡◌, ◌<◌, ◌&&◌, Bool, length};
 ghost use Rattle.words_numbers.specs.declared.res.Res.TheVariants as res;
-ghost use Rattle.parts_tracer.specs.Tells.{Tells};
 ghost use Rattle.rules_machine.specs.Cancellation.{acts_if_blocked, cancels, is_cancellation_point, leaves, leaves_wait, request_acts, requested, sets_cancelability};
 ghost use Rattle.rules_machine.specs.Lives.{with_joiner};
 ghost use Rattle.rules_machine.specs.State.{nobody};
@@ -10,9 +9,12 @@ ghost use Rattle.rules_machine.specs.Turns.{changes, returns, ◌▷◌};
 ghost use Rattle.rules_machine.specs.Waking.{wakes_cancelled};
 ghost use Rattle.kernel_threads.specs.Plain.{wait_of};
 ghost use Rattle.kernel_threads.specs.Unused.{IsUnused};
-ghost use Rattle.kernel_state.specs.Kernel.{after, by, told};
-ghost use Rattle.calls_sync.specs.Waits.{WaitsFit};
-ghost use Rattle.calls_threads.specs.Joins.{EndIsKnown, JoinsFit};
+ghost use Rattle.kernel_state.specs.Kernel.{by};
+ghost use Rattle.kernel_state.specs.Does.{Does};
+ghost use Rattle.calls_threads.specs.Joins.{EndIsKnown};
+ghost use Rattle.kernel_state.specs.Callers.{CanRise};
+ghost use Rattle.calls_sync.specs.Premises.{CanContend};
+ghost use Rattle.calls_threads.specs.Premises.{CanCancel};
 
 use calls_sync::contend;
 use kernel_state::Parts;
@@ -40,8 +42,7 @@ pub fn set_cancelability<K: Sink>(
     out: &mut Tracer<'_, K>,
 )
     requires known { t < length p.old.names }
-    ensures state { p.new ≡ after (sets_cancelability (by t call.now) on) p.old }
-    ensures told { Tells K.text K.faults p.old.names out.old out.new (told (sets_cancelability (by t call.now) on) p.old) }
+    ensures { Does K.text K.faults (sets_cancelability (by t call.now) on) p.old p.new out.old out.new }
 {
     p.set_enabled(t, on);
     p.returns(t, call, Res::Zero, 0, out);
@@ -51,12 +52,8 @@ pub fn set_cancelability<K: Sink>(
 #[tactic(auto, using(crate::proofs::Joined::joined_unused))]
 fn leave_end<K: Sink>(p: &mut Parts, t: Tid, u: Tid, out: &mut Tracer<'_, K>)
     requires thread { t < length p.old.names }
-    requires known { u < length p.old.names }
-    requires room { length p.old.direct < 256 }
-    requires unused { IsUnused (thread_at p.old.machine u).server }
-    requires early { p.old.machine.now ≤ 10 ^ 18 }
-    ensures state { p.new ≡ after (λ s. s ▷ changes t (with_joiner nobody) ▷ wakes_cancelled u) p.old }
-    ensures told { Tells K.text K.faults p.old.names out.old out.new (told (λ s. s ▷ changes t (with_joiner nobody) ▷ wakes_cancelled u) p.old) }
+    requires can { CanRise p.old u }
+    ensures { Does K.text K.faults (λ s. s ▷ changes t (with_joiner nobody) ▷ wakes_cancelled u) p.old p.new out.old out.new }
 {
     p.set_joiner(t, Joiner::Nobody);
     p.wake_cancelled(u, out);
@@ -66,13 +63,9 @@ fn leave_end<K: Sink>(p: &mut Parts, t: Tid, u: Tid, out: &mut Tracer<'_, K>)
 fn leave<K: Sink>(p: &mut Parts, wait: &Wait, u: Tid, out: &mut Tracer<'_, K>)
     requires known { u < length p.old.names }
     requires end { EndIsKnown (length p.old.names) (wait_of wait.now) }
-    requires fits { WaitsFit p.old.machine }
+    requires can { CanContend p.old }
     requires unused { IsUnused (thread_at p.old.machine u).server }
-    requires room { length p.old.direct < 256 }
-    requires serial { p.old.machine.next_serial < 2 ^ 63 }
-    requires early { p.old.machine.now ≤ 10 ^ 18 }
-    ensures state { p.new ≡ after (leaves (wait_of wait.now) u) p.old }
-    ensures told { Tells K.text K.faults p.old.names out.old out.new (told (leaves (wait_of wait.now) u) p.old) }
+    ensures { Does K.text K.faults (leaves (wait_of wait.now) u) p.old p.new out.old out.new }
 {
     match wait {
         Wait::Mutex(_) => return,
@@ -91,14 +84,8 @@ fn leave<K: Sink>(p: &mut Parts, wait: &Wait, u: Tid, out: &mut Tracer<'_, K>)
 #[tactic(auto, using(crate::proofs::Left::none_left, crate::proofs::Left::some_left, crate::proofs::Left::end_known, crate::proofs::Left::left_unused))]
 fn leave_wait<K: Sink>(p: &mut Parts, u: Tid, out: &mut Tracer<'_, K>)
     requires known { u < length p.old.names }
-    requires threads { length p.old.machine.threads ≡ length p.old.names }
-    requires fits { WaitsFit p.old.machine }
-    requires joins { JoinsFit p.old.machine }
-    requires room { length p.old.direct < 256 }
-    requires serial { p.old.machine.next_serial < 2 ^ 63 }
-    requires early { p.old.machine.now ≤ 10 ^ 18 }
-    ensures state { p.new ≡ after (λ s. leaves_wait (waiting_of s.machine u) u s) p.old }
-    ensures told { Tells K.text K.faults p.old.names out.old out.new (told (λ s. leaves_wait (waiting_of s.machine u) u s) p.old) }
+    requires can { CanCancel p.old }
+    ensures { Does K.text K.faults (λ s. leaves_wait (waiting_of s.machine u) u s) p.old p.new out.old out.new }
 {
     match p.wait(u) {
         None => return,
@@ -109,14 +96,8 @@ fn leave_wait<K: Sink>(p: &mut Parts, u: Tid, out: &mut Tracer<'_, K>)
 // A request acts at once in a thread that waits.
 fn act_if_blocked<K: Sink>(p: &mut Parts, u: Tid, out: &mut Tracer<'_, K>)
     requires known { u < length p.old.names }
-    requires threads { length p.old.machine.threads ≡ length p.old.names }
-    requires fits { WaitsFit p.old.machine }
-    requires joins { JoinsFit p.old.machine }
-    requires room { length p.old.direct < 256 }
-    requires serial { p.old.machine.next_serial < 2 ^ 63 }
-    requires early { p.old.machine.now ≤ 10 ^ 18 }
-    ensures state { p.new ≡ after (acts_if_blocked u) p.old }
-    ensures told { Tells K.text K.faults p.old.names out.old out.new (told (acts_if_blocked u) p.old) }
+    requires can { CanCancel p.old }
+    ensures { Does K.text K.faults (acts_if_blocked u) p.old p.new out.old out.new }
 {
     if p.request_acts(u) {
         leave_wait(p, u, out);
@@ -127,8 +108,7 @@ fn act_if_blocked<K: Sink>(p: &mut Parts, u: Tid, out: &mut Tracer<'_, K>)
 fn ask_to_end<K: Sink>(p: &mut Parts, t: Tid, call: &Call, u: Tid, out: &mut Tracer<'_, K>)
     requires known { t < length p.old.names }
     requires thread { u < length p.old.names }
-    ensures state { p.new ≡ after (λ s. s ▷ returns (by t call.now) res.Zero 0 ▷ changes u requested) p.old }
-    ensures told { Tells K.text K.faults p.old.names out.old out.new (told (λ s. s ▷ returns (by t call.now) res.Zero 0 ▷ changes u requested) p.old) }
+    ensures { Does K.text K.faults (λ s. s ▷ returns (by t call.now) res.Zero 0 ▷ changes u requested) p.old p.new out.old out.new }
 {
     p.returns(t, call, Res::Zero, 0, out);
     p.request_end(u);
@@ -138,14 +118,8 @@ fn ask_to_end<K: Sink>(p: &mut Parts, t: Tid, call: &Call, u: Tid, out: &mut Tra
 fn cancel_live<K: Sink>(p: &mut Parts, t: Tid, call: &Call, u: Tid, out: &mut Tracer<'_, K>)
     requires known { t < length p.old.names }
     requires thread { u < length p.old.names }
-    requires threads { length p.old.machine.threads ≡ length p.old.names }
-    requires fits { WaitsFit p.old.machine }
-    requires joins { JoinsFit p.old.machine }
-    requires room { length p.old.direct < 256 }
-    requires serial { p.old.machine.next_serial < 2 ^ 63 }
-    requires early { p.old.machine.now ≤ 10 ^ 18 }
-    ensures state { p.new ≡ after (λ s. s ▷ returns (by t call.now) res.Zero 0 ▷ changes u requested ▷ acts_if_blocked u) p.old }
-    ensures told { Tells K.text K.faults p.old.names out.old out.new (told (λ s. s ▷ returns (by t call.now) res.Zero 0 ▷ changes u requested ▷ acts_if_blocked u) p.old) }
+    requires can { CanCancel p.old }
+    ensures { Does K.text K.faults (λ s. s ▷ returns (by t call.now) res.Zero 0 ▷ changes u requested ▷ acts_if_blocked u) p.old p.new out.old out.new }
 {
     ask_to_end(p, t, call, u, out);
     act_if_blocked(p, u, out);
@@ -155,14 +129,8 @@ fn cancel_live<K: Sink>(p: &mut Parts, t: Tid, call: &Call, u: Tid, out: &mut Tr
 pub fn cancel<K: Sink>(p: &mut Parts, t: Tid, call: &Call, u: Tid, out: &mut Tracer<'_, K>)
     requires known { t < length p.old.names }
     requires thread { u < length p.old.names }
-    requires threads { length p.old.machine.threads ≡ length p.old.names }
-    requires fits { WaitsFit p.old.machine }
-    requires joins { JoinsFit p.old.machine }
-    requires room { length p.old.direct < 256 }
-    requires serial { p.old.machine.next_serial < 2 ^ 63 }
-    requires early { p.old.machine.now ≤ 10 ^ 18 }
-    ensures state { p.new ≡ after (cancels (by t call.now) u) p.old }
-    ensures told { Tells K.text K.faults p.old.names out.old out.new (told (cancels (by t call.now) u) p.old) }
+    requires can { CanCancel p.old }
+    ensures { Does K.text K.faults (cancels (by t call.now) u) p.old p.new out.old out.new }
 {
     if p.is_live(u) {
         cancel_live(p, t, call, u, out);

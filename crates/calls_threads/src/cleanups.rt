@@ -1,12 +1,12 @@
 // Cleanup handlers.
 ghost use Rattle.std.specs.Prelude.{◌≡◌, ℕ, ◌≤◌, ◌<◌, IfSome, List, length, slice_get};
-ghost use Rattle.parts_tracer.specs.Tells.{Tells};
 ghost use Rattle.rules_machine.specs.Cancellation.{pops_cleanup, pushes_cleanup, runs_cleanup_if};
 ghost use Rattle.rules_machine.specs.Threads.{thread_at};
 ghost use Rattle.rules_machine.specs.Turns.{changes};
 ghost use Rattle.rules_flat_code.specs.FlatBodies.{flat_bodies};
 ghost use Rattle.kernel_threads.specs.Handlers.{AreHandlers};
-ghost use Rattle.kernel_state.specs.Kernel.{after, by, told};
+ghost use Rattle.kernel_state.specs.Kernel.{after, by};
+ghost use Rattle.kernel_state.specs.Does.{Does};
 
 use kernel_state::Parts;
 use parts_io::Sink;
@@ -18,8 +18,7 @@ use words_script::Call;
 pub fn push_cleanup<K: Sink>(p: &mut Parts, t: Tid, call: &Call, u: ObjId, out: &mut Tracer<'_, K>)
     requires known { t < length p.old.names }
     requires room { length (thread_at p.old.machine t).cleanups < 8 }
-    ensures state { p.new ≡ after (pushes_cleanup (by t call.now) u) p.old }
-    ensures told { Tells K.text K.faults p.old.names out.old out.new (told (pushes_cleanup (by t call.now) u) p.old) }
+    ensures { Does K.text K.faults (pushes_cleanup (by t call.now) u) p.old p.new out.old out.new }
 {
     p.put_cleanup(t, u);
     p.returns(t, call, Res::Zero, 0, out);
@@ -48,8 +47,7 @@ pub fn pop_cleanup<K: Sink>(p: &mut Parts, t: Tid, call: &Call, runs: bool, out:
     requires known { t < length p.old.names }
     requires handlers { AreHandlers (length p.old.code.cleanups) (thread_at p.old.machine t).cleanups }
     requires room { length (thread_at p.old.machine t).frames ≤ 2 }
-    ensures state { p.new ≡ after (pops_cleanup (flat_bodies p.old.code) (by t call.now) runs) p.old }
-    ensures told { Tells K.text K.faults p.old.names out.old out.new (told (pops_cleanup (flat_bodies p.old.code) (by t call.now) runs) p.old) }
+    ensures { Does K.text K.faults (pops_cleanup (flat_bodies p.old.code) (by t call.now) runs) p.old p.new out.old out.new }
 {
     let last = p.last_cleanup(t);
     p.drop_cleanup(t);

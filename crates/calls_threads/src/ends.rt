@@ -2,17 +2,17 @@
 ghost use Rattle.std.specs.Prelude.{◌≡◌, ◌≤◌, ◌<◌, ◌^◌, length};
 ghost use Rattle.words_numbers.specs.declared.res.Res.TheVariants as res;
 ghost use Rattle.words_trace.specs.declared.event.Event.TheVariants as event;
-ghost use Rattle.parts_tracer.specs.Tells.{Tells};
 ghost use Rattle.rules_machine.specs.Lives.{ends, exits, finishes, wakes_joiner, with_joiner, without_life, without_target};
 ghost use Rattle.rules_machine.specs.State.{has_joined};
 ghost use Rattle.rules_machine.specs.Threads.{thread_at};
 ghost use Rattle.rules_machine.specs.Turns.{changes, changes_pending, tells, ◌▷◌};
 ghost use Rattle.rules_machine.specs.Waking.{wakes};
 ghost use Rattle.kernel_threads.specs.Plain.{joiner_of};
-ghost use Rattle.kernel_threads.specs.Unused.{IsUnused};
-ghost use Rattle.kernel_state.specs.Kernel.{after, by, told};
-ghost use Rattle.calls_sync.specs.Waits.{BlockedRest};
-ghost use Rattle.calls_threads.specs.Joins.{JoinerFits, JoinsFit};
+ghost use Rattle.kernel_state.specs.Kernel.{after, by};
+ghost use Rattle.kernel_state.specs.Does.{Does};
+ghost use Rattle.calls_threads.specs.Joins.{JoinerFits};
+ghost use Rattle.kernel_state.specs.Callers.{CanRise};
+ghost use Rattle.calls_threads.specs.Premises.{CanFinish};
 
 use kernel_state::Parts;
 use kernel_threads::Joiner;
@@ -27,12 +27,8 @@ use words_trace::Event;
 #[tactic(auto, using(crate::proofs::Joined::joined_unused))]
 fn wake_waiting<K: Sink>(p: &mut Parts, t: Tid, u: Tid, out: &mut Tracer<'_, K>)
     requires known { t < length p.old.names }
-    requires joiner { u < length p.old.names }
-    requires room { length p.old.direct < 256 }
-    requires unused { IsUnused (thread_at p.old.machine u).server }
-    requires early { p.old.machine.now ≤ 10 ^ 18 }
-    ensures state { p.new ≡ after (λ s. s ▷ changes t (with_joiner has_joined) ▷ wakes u res.Zero (thread_at p.old.machine t).exit_value) p.old }
-    ensures told { Tells K.text K.faults p.old.names out.old out.new (told (λ s. s ▷ changes t (with_joiner has_joined) ▷ wakes u res.Zero (thread_at p.old.machine t).exit_value) p.old) }
+    requires can { CanRise p.old u }
+    ensures { Does K.text K.faults (λ s. s ▷ changes t (with_joiner has_joined) ▷ wakes u res.Zero (thread_at p.old.machine t).exit_value) p.old p.new out.old out.new }
 {
     let value = p.exit_value(t);
     p.set_joiner(t, Joiner::HasJoined);
@@ -44,10 +40,9 @@ fn wake_joiner<K: Sink>(p: &mut Parts, joiner: Joiner, t: Tid, out: &mut Tracer<
     requires known { t < length p.old.names }
     requires threads { length p.old.machine.threads ≡ length p.old.names }
     requires joiner { JoinerFits p.old.machine (joiner_of joiner) }
-    requires room { length p.old.direct < 256 }
+    requires room { length p.old.direct < 512 }
     requires early { p.old.machine.now ≤ 10 ^ 18 }
-    ensures state { p.new ≡ after (wakes_joiner (joiner_of joiner) t) p.old }
-    ensures told { Tells K.text K.faults p.old.names out.old out.new (told (wakes_joiner (joiner_of joiner) t) p.old) }
+    ensures { Does K.text K.faults (wakes_joiner (joiner_of joiner) t) p.old p.new out.old out.new }
 {
     match joiner {
         Joiner::Nobody => return,
@@ -59,8 +54,7 @@ fn wake_joiner<K: Sink>(p: &mut Parts, joiner: Joiner, t: Tid, out: &mut Tracer<
 // The thread ends, and the signals directed to it.
 fn end_life<K: Sink>(p: &mut Parts, t: Tid, out: &mut Tracer<'_, K>)
     requires known { t < length p.old.names }
-    ensures state { p.new ≡ after (λ s. s ▷ changes t without_life ▷ tells (event.Exit t) ▷ changes_pending (without_target t)) p.old }
-    ensures told { Tells K.text K.faults p.old.names out.old out.new (told (λ s. s ▷ changes t without_life ▷ tells (event.Exit t) ▷ changes_pending (without_target t)) p.old) }
+    ensures { Does K.text K.faults (λ s. s ▷ changes t without_life ▷ tells (event.Exit t) ▷ changes_pending (without_target t)) p.old p.new out.old out.new }
 {
     p.end_thread(t);
     p.tell(&Event::Exit(t), out);
@@ -71,13 +65,8 @@ fn end_life<K: Sink>(p: &mut Parts, t: Tid, out: &mut Tracer<'_, K>)
 #[tactic(auto, using(crate::proofs::Ended::joiner_fits))]
 fn end<K: Sink>(p: &mut Parts, t: Tid, out: &mut Tracer<'_, K>)
     requires known { t < length p.old.names }
-    requires threads { length p.old.machine.threads ≡ length p.old.names }
-    requires rests { BlockedRest p.old.machine }
-    requires joins { JoinsFit p.old.machine }
-    requires room { length p.old.direct < 256 }
-    requires early { p.old.machine.now ≤ 10 ^ 18 }
-    ensures state { p.new ≡ after (ends t) p.old }
-    ensures told { Tells K.text K.faults p.old.names out.old out.new (told (ends t) p.old) }
+    requires can { CanFinish p.old }
+    ensures { Does K.text K.faults (ends t) p.old p.new out.old out.new }
 {
     let joiner = p.joiner(t);
     end_life(p, t, out);
@@ -87,13 +76,8 @@ fn end<K: Sink>(p: &mut Parts, t: Tid, out: &mut Tracer<'_, K>)
 /// A body ends: a handler returns to what it interrupted, and the end of the main body is that of the thread.
 pub fn finish<K: Sink>(p: &mut Parts, t: Tid, out: &mut Tracer<'_, K>)
     requires known { t < length p.old.names }
-    requires threads { length p.old.machine.threads ≡ length p.old.names }
-    requires rests { BlockedRest p.old.machine }
-    requires joins { JoinsFit p.old.machine }
-    requires room { length p.old.direct < 256 }
-    requires early { p.old.machine.now ≤ 10 ^ 18 }
-    ensures state { p.new ≡ after (finishes t) p.old }
-    ensures told { Tells K.text K.faults p.old.names out.old out.new (told (finishes t) p.old) }
+    requires can { CanFinish p.old }
+    ensures { Does K.text K.faults (finishes t) p.old p.new out.old out.new }
 {
     match p.top_kind(t) {
         FrameKind::Main => end(p, t, out),

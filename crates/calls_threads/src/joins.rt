@@ -1,14 +1,15 @@
 // Joining.
 ghost use Rattle.std.specs.Prelude.{◌≡◌, ◌<◌, None, length, true};
 ghost use Rattle.words_numbers.specs.declared.res.Res.TheVariants as res;
-ghost use Rattle.parts_tracer.specs.Tells.{Tells};
 ghost use Rattle.rules_machine.specs.Lives.{is_nobody, joins, with_joiner};
 ghost use Rattle.rules_machine.specs.State.{for_end, has_joined, waits_to_join};
-ghost use Rattle.rules_machine.specs.Threads.{can_run, thread_at};
+ghost use Rattle.rules_machine.specs.Threads.{thread_at};
 ghost use Rattle.rules_machine.specs.Turns.{changes, returns, ◌▷◌};
 ghost use Rattle.rules_machine.specs.Waking.{blocks_unordered};
 ghost use Rattle.kernel_threads.specs.Plain.{joiner_of};
 ghost use Rattle.kernel_state.specs.Kernel.{after, by, told};
+ghost use Rattle.kernel_state.specs.Does.{Does};
+ghost use Rattle.kernel_state.specs.Callers.{IsRunning};
 
 use kernel_state::Parts;
 use kernel_threads::{Joiner, Wait};
@@ -29,9 +30,8 @@ fn is_nobody(joiner: Joiner) -> bool
 // The caller waits for the end of a thread.
 #[tactic(auto, using(crate::proofs::Joined::joined_runs))]
 fn wait_for_end(p: &mut Parts, t: Tid, call: &Call, u: Tid)
-    requires known { t < length p.old.names }
+    requires caller { IsRunning p.old t }
     requires thread { u < length p.old.names }
-    requires runs { can_run p.old.machine t ≡ true }
     ensures { p.new ≡ after (λ s. s ▷ changes u (with_joiner (waits_to_join t)) ▷ blocks_unordered (by t call.now) (for_end u) None) p.old }
 {
     p.set_joiner(u, Joiner::WaitsToJoin(t));
@@ -42,8 +42,7 @@ fn wait_for_end(p: &mut Parts, t: Tid, call: &Call, u: Tid)
 fn take_value<K: Sink>(p: &mut Parts, t: Tid, call: &Call, u: Tid, out: &mut Tracer<'_, K>)
     requires known { t < length p.old.names }
     requires thread { u < length p.old.names }
-    ensures state { p.new ≡ after (λ s. s ▷ changes u (with_joiner has_joined) ▷ returns (by t call.now) res.Zero (thread_at p.old.machine u).exit_value) p.old }
-    ensures told { Tells K.text K.faults p.old.names out.old out.new (told (λ s. s ▷ changes u (with_joiner has_joined) ▷ returns (by t call.now) res.Zero (thread_at p.old.machine u).exit_value) p.old) }
+    ensures { Does K.text K.faults (λ s. s ▷ changes u (with_joiner has_joined) ▷ returns (by t call.now) res.Zero (thread_at p.old.machine u).exit_value) p.old p.new out.old out.new }
 {
     let value = p.exit_value(u);
     p.set_joiner(u, Joiner::HasJoined);
@@ -52,11 +51,9 @@ fn take_value<K: Sink>(p: &mut Parts, t: Tid, call: &Call, u: Tid, out: &mut Tra
 
 /// `pthread_join`.
 pub fn join<K: Sink>(p: &mut Parts, t: Tid, call: &Call, u: Tid, out: &mut Tracer<'_, K>)
-    requires known { t < length p.old.names }
+    requires caller { IsRunning p.old t }
     requires thread { u < length p.old.names }
-    requires runs { can_run p.old.machine t ≡ true }
-    ensures state { p.new ≡ after (joins (by t call.now) u) p.old }
-    ensures told { Tells K.text K.faults p.old.names out.old out.new (told (joins (by t call.now) u) p.old) }
+    ensures { Does K.text K.faults (joins (by t call.now) u) p.old p.new out.old out.new }
 {
     if u.get() == t.get() {
         p.returns(t, call, Res::Deadlk, 0, out);

@@ -31,7 +31,7 @@ use Rattle.kernel_threads.specs.declared.ran.Ran.{Ran}
 use Rattle.kernel_threads.specs.Running.{all_of}
 use Rattle.calls_table.specs.Calls.{objects_in}
 use Rattle.calls_table.proofs.Coming.Steps.{come_later}
-use Rattle.calls_signals.specs.Sweeping.{CanSweep}
+use Rattle.calls_signals.specs.Premises.{CanSweep}
 use Rattle.kernel_state.specs.Kernel.{Kernel, after, told, turn}
 use Rattle.kernel_state.specs.Settled.{HavePriorities, Settles}
 use Rattle.kernel_state.specs.Stood.{StoodRight}

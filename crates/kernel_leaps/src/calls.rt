@@ -1,14 +1,13 @@
 // Calls that have a function of their own, so that the loop of leaps needs no room for what they use.
-ghost use Rattle.std.specs.Prelude.{◌≡◌, ◌≤◌, ◌<◌, ◌^◌, length};
-ghost use Rattle.parts_tracer.specs.Tells.{Tells};
 ghost use Rattle.script_code.specs.Fetched.{call_of};
 ghost use Rattle.words_script.specs.declared.call.Call.TheVariants as call;
 ghost use Rattle.rules_machine.specs.Calls.{makes_call};
 ghost use Rattle.rules_machine.specs.Threads.{thread_at};
 ghost use Rattle.rules_flat_code.specs.FlatBodies.{flat_bodies};
-ghost use Rattle.calls_table.specs.Calls.{objects_in};
-ghost use Rattle.kernel_leaps.specs.Completes.{CanAct, CanMake};
-ghost use Rattle.kernel_state.specs.Kernel.{after, by, told};
+ghost use Rattle.calls_table.specs.Calls.{CanCall, objects_in};
+ghost use Rattle.kernel_leaps.specs.Completes.{CanMake};
+ghost use Rattle.kernel_state.specs.Kernel.{by};
+ghost use Rattle.kernel_state.specs.Does.{Does};
 
 use calls_table::make_call;
 use kernel_state::Parts;
@@ -21,13 +20,9 @@ use words_script::Call;
 /// The call that stands at a place.
 #[inline(never)]
 pub(crate) fn make_any<K: Sink>(p: &mut Parts, t: Tid, place: CallPlace, out: &mut Tracer<'_, K>)
-    requires known { t < length p.old.names }
+    requires caller { CanCall p.old t }
     requires can { CanMake (objects_in p.old) (thread_at p.old.machine t) (call_of p.old.code place) }
-    requires acts { CanAct p.old t }
-    requires room { length p.old.direct < 128 }
-    requires early { p.old.machine.now ≤ 10 ^ 18 }
-    ensures state { p.new ≡ after (makes_call (flat_bodies p.old.code) (by t (call_of p.old.code place))) p.old }
-    ensures told { Tells K.text K.faults p.old.names out.old out.new (told (makes_call (flat_bodies p.old.code) (by t (call_of p.old.code place))) p.old) }
+    ensures { Does K.text K.faults (makes_call (flat_bodies p.old.code) (by t (call_of p.old.code place))) p.old p.new out.old out.new }
 {
     let call = p.call(&place);
     make_call(p, t, &call, out);
@@ -36,13 +31,9 @@ pub(crate) fn make_any<K: Sink>(p: &mut Parts, t: Tid, place: CallPlace, out: &m
 /// `pthread_mutex_lock`.
 #[inline(never)]
 pub(crate) fn make_lock<K: Sink>(p: &mut Parts, t: Tid, k: ObjId, out: &mut Tracer<'_, K>)
-    requires known { t < length p.old.names }
+    requires caller { CanCall p.old t }
     requires can { CanMake (objects_in p.old) (thread_at p.old.machine t) (call.Lock k) }
-    requires acts { CanAct p.old t }
-    requires room { length p.old.direct < 128 }
-    requires early { p.old.machine.now ≤ 10 ^ 18 }
-    ensures state { p.new ≡ after (makes_call (flat_bodies p.old.code) (by t (call.Lock k))) p.old }
-    ensures told { Tells K.text K.faults p.old.names out.old out.new (told (makes_call (flat_bodies p.old.code) (by t (call.Lock k))) p.old) }
+    ensures { Does K.text K.faults (makes_call (flat_bodies p.old.code) (by t (call.Lock k))) p.old p.new out.old out.new }
 {
     make_call(p, t, &Call::Lock(k), out);
 }
@@ -50,13 +41,9 @@ pub(crate) fn make_lock<K: Sink>(p: &mut Parts, t: Tid, k: ObjId, out: &mut Trac
 /// `nanosleep`.
 #[inline(never)]
 pub(crate) fn make_sleep<K: Sink>(p: &mut Parts, t: Tid, n: u64, out: &mut Tracer<'_, K>)
-    requires known { t < length p.old.names }
+    requires caller { CanCall p.old t }
     requires can { CanMake (objects_in p.old) (thread_at p.old.machine t) (call.Nanosleep n) }
-    requires acts { CanAct p.old t }
-    requires room { length p.old.direct < 128 }
-    requires early { p.old.machine.now ≤ 10 ^ 18 }
-    ensures state { p.new ≡ after (makes_call (flat_bodies p.old.code) (by t (call.Nanosleep n))) p.old }
-    ensures told { Tells K.text K.faults p.old.names out.old out.new (told (makes_call (flat_bodies p.old.code) (by t (call.Nanosleep n))) p.old) }
+    ensures { Does K.text K.faults (makes_call (flat_bodies p.old.code) (by t (call.Nanosleep n))) p.old p.new out.old out.new }
 {
     make_call(p, t, &Call::Nanosleep(n), out);
 }

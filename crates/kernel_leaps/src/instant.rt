@@ -1,11 +1,10 @@
 // The items of an instant.
 ghost use Rattle.std.specs.Prelude.{◌≡◌, ◌≤◌, ◌^◌, []};
-ghost use Rattle.parts_tracer.specs.Tells.{Tells};
 ghost use Rattle.rules_machine.specs.DueItems.{instant};
 ghost use Rattle.rules_flat_code.specs.FlatBodies.{flat_bodies};
 ghost use Rattle.calls_table.specs.Calls.{objects_in};
 ghost use Rattle.kernel_leaps.specs.Fits.{ItemsFit};
-ghost use Rattle.kernel_state.specs.Kernel.{Kernel, after, told};
+ghost use Rattle.kernel_state.specs.Does.{Does};
 ghost use Rattle.kernel_state.specs.Stood.{StoodRight};
 
 use calls_table::do_item;
@@ -20,8 +19,7 @@ pub(crate) fn do_instant<K: Sink>(p: &mut Parts, out: &mut Tracer<'_, K>)
     requires stood { StoodRight p.old.machine }
     requires fits { ItemsFit p.old (objects_in p.old) }
     requires early { p.old.machine.now ≤ 10 ^ 18 }
-    ensures state { p.new ≡ after (instant (flat_bodies p.old.code)) p.old }
-    ensures told { Tells K.text K.faults p.old.names out.old out.new (told (instant (flat_bodies p.old.code)) p.old) }
+    ensures does { Does K.text K.faults (instant (flat_bodies p.old.code)) p.old p.new out.old out.new }
     ensures stood { StoodRight p.new.machine }
     ensures quiet { p.new.direct ≡ [] }
     ensures time { p.new.machine.now ≡ p.old.machine.now }

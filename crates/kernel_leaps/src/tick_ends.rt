@@ -1,11 +1,11 @@
 // The rule of the tick's end.
-ghost use Rattle.std.specs.Prelude.{◌≡◌, ◌≤◌, ◌<◌, ◌+◌, [], false, length};
-ghost use Rattle.parts_tracer.specs.Tells.{Tells};
+ghost use Rattle.std.specs.Prelude.{◌≡◌, ◌≤◌, ◌<◌, [], false, length};
 ghost use Rattle.rules_machine.specs.Servers.{plans};
 ghost use Rattle.rules_machine.specs.Threads.{can_run, thread_at};
 ghost use Rattle.rules_machine.specs.Ticks.{consumed_in, ends_tick, exhausting, nothing, slicing, tick_end, tick_ends};
 ghost use Rattle.kernel_threads.specs.Ends.{end_of};
-ghost use Rattle.kernel_state.specs.Kernel.{Kernel, after, told};
+ghost use Rattle.kernel_state.specs.Kernel.{after};
+ghost use Rattle.kernel_state.specs.Does.{Does};
 ghost use Rattle.kernel_state.specs.Stood.{StoodRight};
 
 use kernel_state::Parts;
@@ -35,8 +35,7 @@ fn exhaust<K: Sink>(p: &mut Parts, t: Tid, out: &mut Tracer<'_, K>)
     requires known { t < length p.old.names }
     requires quiet { p.old.direct ≡ [] }
     requires used { 1 ≤ consumed_in (thread_at p.old.machine t).server }
-    ensures state { p.new ≡ after (ends_tick exhausting t) p.old }
-    ensures told { Tells K.text K.faults p.old.names out.old out.new (told (ends_tick exhausting t) p.old) }
+    ensures { Does K.text K.faults (ends_tick exhausting t) p.old p.new out.old out.new }
 {
     p.tell(&Event::Exhaust(t), out);
     p.plan(t, out);
@@ -49,8 +48,7 @@ fn end_by_rule<K: Sink>(p: &mut Parts, was_high: bool, t: Tid, out: &mut Tracer<
     requires known { t < length p.old.names }
     requires quiet { p.old.direct ≡ [] }
     ensures none { result ≡ false → tick_end was_high p.old.machine.quantum (thread_at p.old.machine t) ≡ nothing }
-    ensures state { p.new ≡ after (ends_tick (tick_end was_high p.old.machine.quantum (thread_at p.old.machine t)) t) p.old }
-    ensures told { Tells K.text K.faults p.old.names out.old out.new (told (ends_tick (tick_end was_high p.old.machine.quantum (thread_at p.old.machine t)) t) p.old) }
+    ensures does { Does K.text K.faults (ends_tick (tick_end was_high p.old.machine.quantum (thread_at p.old.machine t)) t) p.old p.new out.old out.new }
 {
     match p.tick_end(t, was_high) {
         TickEnd::Planning => p.plan(t, out),
@@ -67,8 +65,7 @@ pub(crate) fn end_tick<K: Sink>(p: &mut Parts, was_high: bool, t: Tid, out: &mut
     requires known { t < length p.old.names }
     requires quiet { p.old.direct ≡ [] }
     requires stood { StoodRight p.old.machine }
-    ensures state { p.new ≡ after (tick_ends was_high t) p.old }
-    ensures told { Tells K.text K.faults p.old.names out.old out.new (told (tick_ends was_high t) p.old) }
+    ensures does { Does K.text K.faults (tick_ends was_high t) p.old p.new out.old out.new }
     ensures stood { StoodRight p.new.machine }
 {
     if end_by_rule(p, was_high, t, out) {

@@ -1,6 +1,5 @@
 // A thread's units: its running, and what a unit does at its end.
 ghost use Rattle.std.specs.Prelude.{◌≡◌, ◌≤◌, ◌<◌, ◌+◌, ◌^◌, ◌==◌, length, max, true};
-ghost use Rattle.parts_tracer.specs.Tells.{Tells};
 ghost use Rattle.script_code.specs.Fetched.{unit_of};
 ghost use Rattle.rules_machine.specs.Calls.{unit_effect};
 ghost use Rattle.rules_machine.specs.Threads.{thread_at, top_left};
@@ -12,9 +11,10 @@ ghost use Rattle.rules_flat_code.specs.Placed.{ArePlaced};
 ghost use Rattle.kernel_threads.specs.Handlers.{CanEnd};
 ghost use Rattle.kernel_threads.specs.Running.{HasRun};
 ghost use Rattle.laws_threads.specs.Within.{IsWithin};
-ghost use Rattle.calls_table.specs.Calls.{objects_in};
-ghost use Rattle.kernel_leaps.specs.Completes.{CanAct, CanComplete};
-ghost use Rattle.kernel_state.specs.Kernel.{Kernel, after, told};
+ghost use Rattle.calls_table.specs.Calls.{CanCall, objects_in};
+ghost use Rattle.kernel_leaps.specs.Completes.{CanComplete};
+ghost use Rattle.kernel_state.specs.Kernel.{after, told};
+ghost use Rattle.kernel_state.specs.Does.{Does};
 
 use crate::calls::{make_any, make_lock, make_sleep};
 use calls_table::make_call;
@@ -50,13 +50,9 @@ pub(crate) fn run_thread<L: Ledger>(p: &mut Parts, t: Tid, near: u64, steps: &mu
 // What a unit does once it is complete. The calls that are made most often are told by the unit itself, so that nothing is looked up.
 #[inline(always)]
 fn complete<K: Sink>(p: &mut Parts, t: Tid, unit: &Fetched, out: &mut Tracer<'_, K>)
-    requires known { t < length p.old.names }
+    requires caller { CanCall p.old t }
     requires can { CanComplete (objects_in p.old) (thread_at p.old.machine t) (unit_of p.old.code unit.now) }
-    requires acts { CanAct p.old t }
-    requires room { length p.old.direct < 128 }
-    requires early { p.old.machine.now ≤ 10 ^ 18 }
-    ensures state { p.new ≡ after (unit_effect (flat_bodies p.old.code) t (unit_of p.old.code unit.now)) p.old }
-    ensures told { Tells K.text K.faults p.old.names out.old out.new (told (unit_effect (flat_bodies p.old.code) t (unit_of p.old.code unit.now)) p.old) }
+    ensures { Does K.text K.faults (unit_effect (flat_bodies p.old.code) t (unit_of p.old.code unit.now)) p.old p.new out.old out.new }
 {
     match unit {
         Fetched::Run(_) | Fetched::Jump => (),
@@ -76,14 +72,10 @@ fn complete<K: Sink>(p: &mut Parts, t: Tid, unit: &Fetched, out: &mut Tracer<'_,
 /// The effect of the unit, where no tick of it is left.
 #[inline(always)]
 pub(crate) fn complete_at_end<K: Sink>(p: &mut Parts, t: Tid, ran: &Ran, out: &mut Tracer<'_, K>)
-    requires known { t < length p.old.names }
+    requires caller { CanCall p.old t }
     requires complete { ran.now.is_complete ≡ (top_left (thread_at p.old.machine t).frames == 0) }
     requires can { CanComplete (objects_in p.old) (thread_at p.old.machine t) (unit_of p.old.code ran.now.unit) }
-    requires acts { CanAct p.old t }
-    requires room { length p.old.direct < 128 }
-    requires early { p.old.machine.now ≤ 10 ^ 18 }
-    ensures state { p.new ≡ after (completes (flat_bodies p.old.code) t (unit_of p.old.code ran.now.unit)) p.old }
-    ensures told { Tells K.text K.faults p.old.names out.old out.new (told (completes (flat_bodies p.old.code) t (unit_of p.old.code ran.now.unit)) p.old) }
+    ensures { Does K.text K.faults (completes (flat_bodies p.old.code) t (unit_of p.old.code ran.now.unit)) p.old p.new out.old out.new }
 {
     if ran.is_complete {
         complete(p, t, &ran.unit, out);

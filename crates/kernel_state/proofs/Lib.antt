@@ -1,4 +1,5 @@
 pub mod Turns
+pub mod Does
 pub mod InRange
 pub mod SettlingSteps
 pub mod OneSettles

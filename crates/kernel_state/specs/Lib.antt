@@ -1,4 +1,6 @@
 pub mod Kernel
+pub mod Does
+pub mod Callers
 pub mod Members
 pub mod Standing
 pub mod Tied

@@ -8,7 +8,8 @@ ghost use Rattle.rules_machine.specs.Servers.{closes, has_run};
 ghost use Rattle.rules_machine.specs.Threads.{thread_at};
 ghost use Rattle.rules_machine.specs.Ticks.{prepares};
 ghost use Rattle.rules_machine.specs.Turns.{tells, ◌▷◌};
-ghost use Rattle.kernel_state.specs.Kernel.{Kernel, after, told};
+ghost use Rattle.kernel_state.specs.Kernel.{told};
+ghost use Rattle.kernel_state.specs.Does.{Does};
 
 use crate::parts::Parts;
 use parts_io::Sink;
@@ -34,8 +35,7 @@ impl Parts {
         requires change { is_same self.old.machine.last to.now ≡ false }
         requires known { IfSome to.now (λ t. t < length self.old.names) }
         requires latest { (u : ℕ) → has_run (thread_at self.old.machine u).server ≡ true → self.old.machine.last ≡ last.Ran u }
-        ensures state { self.new ≡ after (λ s. s ▷ closes to.now ▷ dispatches to.now) self.old }
-        ensures told { Tells K.text K.faults self.old.names out.old out.new (told (λ s. s ▷ closes to.now ▷ dispatches to.now) self.old) }
+        ensures { Does K.text K.faults (λ s. s ▷ closes to.now ▷ dispatches to.now) self.old self.new out.old out.new }
     {
         self.close_last(to, out);
         self.tell_dispatch(to, out);
@@ -47,8 +47,7 @@ impl Parts {
     fn dispatch<K: Sink>(&mut self, to: &Option<Tid>, out: &mut Tracer<'_, K>)
         requires known { IfSome to.now (λ t. t < length self.old.names) }
         requires latest { (u : ℕ) → has_run (thread_at self.old.machine u).server ≡ true → self.old.machine.last ≡ last.Ran u }
-        ensures state { self.new ≡ after (λ s. s ▷ closes to.now ▷ dispatches to.now) self.old }
-        ensures told { Tells K.text K.faults self.old.names out.old out.new (told (λ s. s ▷ closes to.now ▷ dispatches to.now) self.old) }
+        ensures { Does K.text K.faults (λ s. s ▷ closes to.now ▷ dispatches to.now) self.old self.new out.old out.new }
     {
         if !self.is_last(to) {
             self.change_head(to, out);
@@ -64,8 +63,7 @@ impl Parts {
         requires early { self.old.machine.now ≤ 10 ^ 18 }
         ensures top { result ≡ head self.old.machine }
         ensures known { IfSome result (λ t. t < length self.old.names) }
-        ensures state { self.new ≡ after (prepares (head self.old.machine)) self.old }
-        ensures told { Tells K.text K.faults self.old.names out.old out.new (told (prepares (head self.old.machine)) self.old) }
+        ensures does { Does K.text K.faults (prepares (head self.old.machine)) self.old self.new out.old out.new }
     {
         let to = self.head();
         self.dispatch(&to, out);

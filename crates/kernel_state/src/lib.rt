@@ -25,6 +25,6 @@ mod settling;
 mod signals;
 mod threads;
 mod timers;
-mod waking;
+mod wakes;
 
 pub use parts::Parts;

@@ -1,6 +1,5 @@
 // Joiners, requests and cleanup handlers.
-ghost use Rattle.std.specs.Prelude.{◌≡◌, ◌≤◌, ◌<◌, ◌^◌, ◌∷◌, Some, length, slice_get};
-ghost use Rattle.parts_tracer.specs.Tells.{Tells};
+ghost use Rattle.std.specs.Prelude.{◌≡◌, ◌≤◌, ◌<◌, ◌∷◌, Some, length, slice_get};
 ghost use Rattle.rules_machine.specs.declared.frame.BodyOf.{BodyOf};
 ghost use Rattle.rules_machine.specs.declared.frame.FrameKind.{FrameKind};
 ghost use Rattle.rules_machine.specs.Cancellation.{is_cancelled, request_acts, requested, without_cleanup};
@@ -11,8 +10,9 @@ ghost use Rattle.rules_machine.specs.Turns.{changes, changes_mutex, ◌▷◌};
 ghost use Rattle.rules_machine.specs.Waking.{ending_with, new_frame, on_top, wakes_cancelled};
 ghost use Rattle.rules_flat_code.specs.FlatBodies.{flat_bodies};
 ghost use Rattle.kernel_threads.specs.Plain.{joiner_of};
-ghost use Rattle.kernel_threads.specs.Unused.{IsUnused};
-ghost use Rattle.kernel_state.specs.Kernel.{after, told};
+ghost use Rattle.kernel_state.specs.Kernel.{after};
+ghost use Rattle.kernel_state.specs.Does.{Does};
+ghost use Rattle.kernel_state.specs.Callers.{CanRise};
 
 use crate::parts::Parts;
 use kernel_threads::Joiner;
@@ -134,12 +134,8 @@ impl Parts {
 
     /// A request acts in a thread that waits; it wakes, and its call does not return.
     pub fn wake_cancelled<K: Sink>(&mut self, t: Tid, out: &mut Tracer<'_, K>)
-        requires known { t < length self.old.names }
-        requires room { length self.old.direct < 512 }
-        requires unused { IsUnused (thread_at self.old.machine t).server }
-        requires early { self.old.machine.now ≤ 10 ^ 18 }
-        ensures state { self.new ≡ after (wakes_cancelled t) self.old }
-        ensures told { Tells K.text K.faults self.old.names out.old out.new (told (wakes_cancelled t) self.old) }
+        requires { CanRise self.old t }
+        ensures { Does K.text K.faults (wakes_cancelled t) self.old self.new out.old out.new }
     {
         self.wake_telling(&Event::Cancel(t), t, Res::Zero, 0, out);
         self.begin_end(t, CANCELLED_VALUE);
@@ -153,14 +149,10 @@ impl Parts {
         t: Tid,
         out: &mut Tracer<'_, K>,
     )
-        requires known { t < length self.old.names }
+        requires can { CanRise self.old t }
         requires mutex { k < length self.old.machine.mutexes }
         requires owned { (mutex_at self.old.machine k).owner ≡ Some owner }
-        requires room { length self.old.direct < 512 }
-        requires unused { IsUnused (thread_at self.old.machine t).server }
-        requires early { self.old.machine.now ≤ 10 ^ 18 }
-        ensures state { self.new ≡ after (λ s. s ▷ changes_mutex k (taken_by t) ▷ wakes_cancelled t) self.old }
-        ensures told { Tells K.text K.faults self.old.names out.old out.new (told (λ s. s ▷ changes_mutex k (taken_by t) ▷ wakes_cancelled t) self.old) }
+        ensures { Does K.text K.faults (λ s. s ▷ changes_mutex k (taken_by t) ▷ wakes_cancelled t) self.old self.new out.old out.new }
     {
         self.hand_over(k, owner, t, Res::Zero);
         self.rise(&Event::Cancel(t), t, out);
@@ -170,8 +162,7 @@ impl Parts {
     /// A request acts in place of a call.
     pub fn cancel_now<K: Sink>(&mut self, t: Tid, out: &mut Tracer<'_, K>)
         requires { t < length self.old.names }
-        ensures state { self.new ≡ after (is_cancelled t) self.old }
-        ensures told { Tells K.text K.faults self.old.names out.old out.new (told (is_cancelled t) self.old) }
+        ensures { Does K.text K.faults (is_cancelled t) self.old self.new out.old out.new }
     {
         self.tell(&Event::Cancel(t), out);
         self.begin_end(t, CANCELLED_VALUE);

@@ -1,6 +1,5 @@
 // Owners and counts of mutexes, and who waits for them.
-ghost use Rattle.std.specs.Prelude.{◌≡◌, ◌≤◌, ◌<◌, ◌^◌, Bool, IfSome, None, Some, length, option_map, true};
-ghost use Rattle.parts_tracer.specs.Tells.{Tells};
+ghost use Rattle.std.specs.Prelude.{◌≡◌, ◌<◌, Bool, IfSome, None, Some, length, option_map, true};
 ghost use Rattle.rules_machine.specs.Mutexes.{closes_cycle, freed, is_above_ceiling, taken_by};
 ghost use Rattle.rules_machine.specs.Priorities.{mutex_awaited_by};
 ghost use Rattle.rules_machine.specs.State.{Wait};
@@ -11,8 +10,9 @@ ghost use Rattle.rules_machine.specs.Turns.{changes, changes_mutex, ◌▷◌};
 ghost use Rattle.rules_machine.specs.Waiters.{Waiter, best_waiter};
 ghost use Rattle.rules_machine.specs.Waking.{wakes, woken};
 ghost use Rattle.parts_owners.specs.Chains.{counted, freed_if, is_plainly_free, taken_if};
-ghost use Rattle.kernel_threads.specs.Unused.{IsUnused};
-ghost use Rattle.kernel_state.specs.Kernel.{after, told};
+ghost use Rattle.kernel_state.specs.Kernel.{after};
+ghost use Rattle.kernel_state.specs.Does.{Does};
+ghost use Rattle.kernel_state.specs.Callers.{CanRise};
 
 use crate::parts::Parts;
 use parts_io::Sink;
@@ -144,14 +144,10 @@ impl Parts {
         res: Res,
         out: &mut Tracer<'_, K>,
     )
-        requires known { t < length self.old.names }
+        requires can { CanRise self.old t }
         requires mutex { k < length self.old.machine.mutexes }
         requires owned { (mutex_at self.old.machine k).owner ≡ Some owner }
-        requires room { length self.old.direct < 512 }
-        requires unused { IsUnused (thread_at self.old.machine t).server }
-        requires early { self.old.machine.now ≤ 10 ^ 18 }
-        ensures state { self.new ≡ after (λ s. s ▷ changes_mutex k (taken_by t) ▷ wakes t res 0) self.old }
-        ensures told { Tells K.text K.faults self.old.names out.old out.new (told (λ s. s ▷ changes_mutex k (taken_by t) ▷ wakes t res 0) self.old) }
+        ensures { Does K.text K.faults (λ s. s ▷ changes_mutex k (taken_by t) ▷ wakes t res 0) self.old self.new out.old out.new }
     {
         let call = self.waiting_call(t);
         self.hand_over(k, owner, t, res);

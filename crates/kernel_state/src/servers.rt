@@ -1,7 +1,6 @@
 // What is told of a server beside its changes: activations, plans, and the runs of a strict one (the rules are those of SCHED_SPORADIC,
 // IEEE 1003.1-2017, XSH 2.8.4; runs are this project's own).
 ghost use Rattle.std.specs.Prelude.{◌≡◌, ◌≤◌, ◌<◌, ◌^◌, ℕ, IfSome, false, length, true};
-ghost use Rattle.parts_tracer.specs.Tells.{Tells};
 ghost use Rattle.rules_server.specs.Server.{activate};
 ghost use Rattle.rules_machine.specs.declared.dispatch.LastDispatch.TheVariants as last;
 ghost use Rattle.rules_machine.specs.Dispatch.{is_same};
@@ -10,7 +9,8 @@ ghost use Rattle.rules_machine.specs.Threads.{thread_at};
 ghost use Rattle.rules_machine.specs.Ticks.{consumed_in};
 ghost use Rattle.rules_machine.specs.Turns.{changes};
 ghost use Rattle.kernel_threads.specs.Unused.{IsUnused};
-ghost use Rattle.kernel_state.specs.Kernel.{Kernel, activates_now, after, told};
+ghost use Rattle.kernel_state.specs.Kernel.{activates_now, told};
+ghost use Rattle.kernel_state.specs.Does.{Does};
 
 use crate::parts::Parts;
 use parts_io::Sink;
@@ -24,8 +24,7 @@ impl Parts {
         requires known { t < length self.old.names }
         requires unused { consumed_in (thread_at self.old.machine t).server ≡ 0 }
         requires early { self.old.machine.now ≤ 10 ^ 18 }
-        ensures state { self.new ≡ after (activates_now t capacity) self.old }
-        ensures told { Tells K.text K.faults self.old.names out.old out.new (told (activates_now t capacity) self.old) }
+        ensures { Does K.text K.faults (activates_now t capacity) self.old self.new out.old out.new }
     {
         self.activate_thread(t);
         self.tell(&Event::Activate(t, capacity), out);
@@ -37,8 +36,7 @@ impl Parts {
         requires known { t < length self.old.names }
         requires unused { IsUnused (thread_at self.old.machine t).server }
         requires early { self.old.machine.now ≤ 10 ^ 18 }
-        ensures state { self.new ≡ after (activates_if_high t) self.old }
-        ensures told { Tells K.text K.faults self.old.names out.old out.new (told (activates_if_high t) self.old) }
+        ensures { Does K.text K.faults (activates_if_high t) self.old self.new out.old out.new }
     {
         match self.high_capacity(t) {
             None => return,
@@ -52,8 +50,7 @@ impl Parts {
         requires known { t < length self.old.names }
         requires unused { IsUnused (thread_at self.old.machine t).server }
         requires early { self.old.machine.now ≤ 10 ^ 18 }
-        ensures state { self.new ≡ after (activates t) self.old }
-        ensures told { Tells K.text K.faults self.old.names out.old out.new (told (activates t) self.old) }
+        ensures { Does K.text K.faults (activates t) self.old self.new out.old out.new }
     {
         match self.capacity(t) {
             None => return,
@@ -66,8 +63,7 @@ impl Parts {
     pub fn plan<K: Sink>(&mut self, t: Tid, out: &mut Tracer<'_, K>)
         requires known { t < length self.old.names }
         requires used { 1 ≤ consumed_in (thread_at self.old.machine t).server }
-        ensures state { self.new ≡ after (plans t) self.old }
-        ensures told { Tells K.text K.faults self.old.names out.old out.new (told (plans t) self.old) }
+        ensures { Does K.text K.faults (plans t) self.old self.new out.old out.new }
     {
         let r = self.plan_thread(t);
         self.tell(&Event::Plan(t, r.amount, r.due), out);
@@ -78,8 +74,7 @@ impl Parts {
     pub(crate) fn close_last<K: Sink>(&mut self, to: &Option<Tid>, out: &mut Tracer<'_, K>)
         requires change { is_same self.old.machine.last to.now ≡ false }
         requires latest { (u : ℕ) → has_run (thread_at self.old.machine u).server ≡ true → self.old.machine.last ≡ last.Ran u }
-        ensures state { self.new ≡ after (closes to.now) self.old }
-        ensures told { Tells K.text K.faults self.old.names out.old out.new (told (closes to.now) self.old) }
+        ensures { Does K.text K.faults (closes to.now) self.old self.new out.old out.new }
     {
         let Some(u) = self.last_dispatch() else {
             return;
@@ -95,8 +90,7 @@ impl Parts {
     pub(crate) fn open_run<K: Sink>(&mut self, to: &Option<Tid>, out: &mut Tracer<'_, K>)
         requires known { IfSome to.now (λ t. t < length self.old.names) }
         requires early { self.old.machine.now ≤ 10 ^ 18 }
-        ensures state { self.new ≡ after (opens to.now) self.old }
-        ensures told { Tells K.text K.faults self.old.names out.old out.new (told (opens to.now) self.old) }
+        ensures { Does K.text K.faults (opens to.now) self.old self.new out.old out.new }
     {
         let Some(t) = to else {
             return;

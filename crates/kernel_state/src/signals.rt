@@ -1,7 +1,6 @@
 // Signals: what they do, and the pending ones.
 ghost use Rattle.std.specs.Prelude.{◌≡◌, ◌≤◌, ◌<◌, ◌^◌, ◌↔◌, ◌&&◌, [], Contains, IfSome, IsTrue, None, Some, length, option_map, true, if◌then◌else◌};
 ghost use Rattle.words_numbers.specs.Signals.{has_signal};
-ghost use Rattle.parts_tracer.specs.Tells.{Tells};
 ghost use Rattle.rules_bodies.specs.Next.{capped};
 ghost use Rattle.rules_machine.specs.declared.frame.BodyOf.{BodyOf};
 ghost use Rattle.rules_machine.specs.declared.frame.FrameKind.{FrameKind};
@@ -16,6 +15,7 @@ ghost use Rattle.rules_machine.specs.Waking.{new_frame, on_top};
 ghost use Rattle.rules_flat_code.specs.FlatBodies.{flat_bodies};
 ghost use Rattle.kernel_state.specs.Caught.{HasRoomToPend};
 ghost use Rattle.kernel_state.specs.Kernel.{after, told};
+ghost use Rattle.kernel_state.specs.Does.{Does};
 
 use crate::parts::Parts;
 use kernel_signals::SignalRecord;
@@ -112,8 +112,7 @@ impl Parts {
 
     /// The process ends by a signal.
     pub fn kill<K: Sink>(&mut self, signal: u8, out: &mut Tracer<'_, K>)
-        ensures state { self.new ≡ after (kills signal) self.old }
-        ensures told { Tells K.text K.faults self.old.names out.old out.new (told (kills signal) self.old) }
+        ensures { Does K.text K.faults (kills signal) self.old self.new out.old out.new }
     {
         self.tell(&Event::Killed(signal), out);
         self.killed = Some(signal);

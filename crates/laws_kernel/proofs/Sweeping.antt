@@ -35,7 +35,7 @@ use Rattle.laws_threads.specs.Frames.{AreInOrder}
 use Rattle.laws_threads.proofs.Frames.{at_most_two}
 use Rattle.kernel_threads.specs.Unused.{IsUnused, IsUnusedAs}
 use Rattle.kernel_state.specs.Caught.{CatchesBy}
-use Rattle.calls_signals.specs.Sweeping.{CanVisit}
+use Rattle.calls_signals.specs.Premises.{CanVisit}
 use Rattle.laws_kernel.specs.Visitable.{CanBeSwept, ConsumesHigh, IsVisitable}
 
 -- ---- one thread

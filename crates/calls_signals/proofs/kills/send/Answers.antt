@@ -6,12 +6,10 @@ use Rattle.kernel_state.specs.Kernel.{by}
 use Rattle.calls_signals.proofs.Sent.{as_sent_to, told_sent_to}
 use Rattle.calls_signals.proofs.kills.send.Goals as goal
 
-pub returns-in-Some-clause-state : goal.returns-in-Some-clause-state
-returns-in-Some-clause-state g c =
-    let is : Some c.in-Some.w ≡ option_map (λ (w : Waiter). w.thread) (acceptor c.args.p.now.machine c.args.r.now) = cc (c.in-Some.is, c.acceptor.ensures.value) in
-    as_sent_to (by c.args.t c.args.call.now) c.args.r.now c.args.p.now c.send_to_acceptor.new.p c.in-Some.w is c.send_to_acceptor.ensures.state
-
-pub returns-in-Some-clause-told : goal.returns-in-Some-clause-told
-returns-in-Some-clause-told g c =
-    let is : Some c.in-Some.w ≡ option_map (λ (w : Waiter). w.thread) (acceptor c.args.p.now.machine c.args.r.now) = cc (c.in-Some.is, c.acceptor.ensures.value) in
-    told_sent_to g.K.Sink.text g.K.Sink.faults (by c.args.t c.args.call.now) c.args.r.now c.args.p.now c.args.out.now c.send_to_acceptor.new.out c.in-Some.w is c.send_to_acceptor.ensures.told
+pub returns-in-Some : goal.returns-in-Some
+returns-in-Some g c = record {
+  state = (let is : Some c.in-Some.w ≡ option_map (λ (w : Waiter). w.thread) (acceptor c.args.p.now.machine c.args.r.now) = cc (c.in-Some.is, c.acceptor.ensures.value) in
+      as_sent_to (by c.args.t c.args.call.now) c.args.r.now c.args.p.now c.send_to_acceptor.new.p c.in-Some.w is c.send_to_acceptor.ensures.state);
+  told = (let is : Some c.in-Some.w ≡ option_map (λ (w : Waiter). w.thread) (acceptor c.args.p.now.machine c.args.r.now) = cc (c.in-Some.is, c.acceptor.ensures.value) in
+      told_sent_to g.K.Sink.text g.K.Sink.faults (by c.args.t c.args.call.now) c.args.r.now c.args.p.now c.args.out.now c.send_to_acceptor.new.out c.in-Some.w is c.send_to_acceptor.ensures.told);
+}

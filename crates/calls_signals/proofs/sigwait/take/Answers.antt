@@ -1,18 +1,16 @@
-use Rattle.std.proofs.Common.{◌≡◌, subst}
-use Rattle.parts_tracer.specs.Tells.{Tells}
+use Rattle.std.proofs.Common.{refl, subst, ℕ}
 use Rattle.words_numbers.specs.declared.res.Res.TheVariants as res
-use Rattle.rules_machine.specs.Turns.{returns}
-use Rattle.kernel_state.specs.Kernel.{after, by, told}
-use Rattle.calls_signals.proofs.Awaited.{taken_state, taken_told}
+use Rattle.rules_machine.specs.Turns.{changes_pending, returns as returning}
+use Rattle.kernel_state.specs.Kernel.{by}
+use Rattle.kernel_state.specs.Does.{Does}
+use Rattle.kernel_state.proofs.Does.{quiet_does, then_does}
+use Rattle.rules_machine.specs.Signals.{without_record}
+use Rattle.rules_machine.proofs.Behind.{returns_behind}
 use Rattle.calls_signals.proofs.sigwait.take.Goals as goal
 
-pub returns-clause-state : goal.returns-clause-state
-returns-clause-state g c =
-    let last = subst (λ v. c.returns.new.self ≡ after (returns (by c.args.t c.args.call.now) res.Zero v) c.deliver.new.p) c.signal.ensures c.returns.ensures.state in
-    taken_state (by c.args.t c.args.call.now) c.args.r.now c.args.p.now _ _ _ c.take_record.ensures c.deliver.ensures.state last
-
-pub returns-clause-told : goal.returns-clause-told
-returns-clause-told g c =
-    let last = subst (λ v. Tells g.K.Sink.text g.K.Sink.faults c.deliver.new.p.names c.deliver.new.out c.returns.new.out (told (returns (by c.args.t c.args.call.now) res.Zero v) c.deliver.new.p)) c.signal.ensures c.returns.ensures.told in
-    taken_told (by c.args.t c.args.call.now) c.args.r.now c.args.p.now c.take_record.new.self c.deliver.new.p c.returns.new.self c.take_record.ensures c.deliver.ensures.state g.K.Sink.text g.K.Sink.faults
-    c.args.out.now c.deliver.new.out c.returns.new.out c.deliver.ensures.told last
+pub returns : goal.returns
+returns g c =
+    let caller = by c.args.t c.args.call.now in
+    let r = c.args.r.now in
+    let last = subst (λ (v : ℕ). Does g.K.Sink.text g.K.Sink.faults (returning caller res.Zero v) c.deliver.new.p c.returns.new.self c.deliver.new.out c.returns.new.out) c.signal.ensures c.returns.ensures in
+    quiet_does (changes_pending (without_record r)) refl c.take_record.ensures (then_does {g = returning caller res.Zero r.signal} (returns_behind caller res.Zero r.signal) c.deliver.ensures last)

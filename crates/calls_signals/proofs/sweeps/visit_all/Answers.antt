@@ -3,8 +3,9 @@ use Rattle.parts_tracer.specs.Tells.{Tells}
 use Rattle.rules_machine.specs.Threads.{thread_at}
 use Rattle.rules_flat_code.specs.FlatBodies.{flat_bodies}
 use Rattle.kernel_state.specs.Kernel.{after, told}
-use Rattle.calls_signals.specs.Sweeping.{CanVisit}
+use Rattle.calls_signals.specs.Premises.{CanVisit}
 use Rattle.calls_signals.proofs.Midway.{caught_midway, early_midway, first_visits, one_visit, one_visited, room_midway, thread_midway}
+use Rattle.kernel_state.specs.Does.{Does}
 use Rattle.calls_signals.proofs.sweeps.visit_all.Goals as goal
 
 pub loop-number-preserved : goal.loop-number-preserved
@@ -31,19 +32,11 @@ visit-requires-clause-thread g c =
 pub visit-requires-clause-early : goal.visit-requires-clause-early
 visit-requires-clause-early g c = early_midway c.args.p.now c.loop-number.p c.loop-number.number c.loop-number.invariant.state c.requires.early
 
-pub returns-clause-state : goal.returns-clause-state
-returns-clause-state g c =
+pub returns : goal.returns
+returns g c =
     let end = c.count-number-end.ensures.threads in
     let past = c.loop-number-test.false in
     let most = c.loop-number.auto.number-end in
     let all : c.loop-number.number ≡ length c.args.p.now.machine.threads = omega (arith, end, past, most) in
-    subst (λ (n : ℕ). c.loop-number.p ≡ after (first_visits n (flat_bodies c.args.p.now.code)) c.args.p.now) all c.loop-number.invariant.state
-
-pub returns-clause-told : goal.returns-clause-told
-returns-clause-told g c =
-    let p = c.args.p.now in
-    let end = c.count-number-end.ensures.threads in
-    let past = c.loop-number-test.false in
-    let most = c.loop-number.auto.number-end in
-    let all : c.loop-number.number ≡ length c.args.p.now.machine.threads = omega (arith, end, past, most) in
-    subst (λ (n : ℕ). Tells g.K.Sink.text g.K.Sink.faults p.names c.args.out.now c.loop-number.out (told (first_visits n (flat_bodies p.code)) p)) all c.loop-number.invariant.told
+    subst (λ (n : ℕ). Does g.K.Sink.text g.K.Sink.faults (first_visits n (flat_bodies c.args.p.now.code)) c.args.p.now c.loop-number.p c.args.out.now c.loop-number.out) all
+    (record { state = c.loop-number.invariant.state; told = c.loop-number.invariant.told })

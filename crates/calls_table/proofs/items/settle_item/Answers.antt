@@ -1,4 +1,4 @@
-use Rattle.std.proofs.Common.{ap, subst, sym}
+use Rattle.std.proofs.Common.{ap, rules, subst, sym}
 use Rattle.rules_machine.specs.DueItems.{handles}
 use Rattle.rules_machine.proofs.Kept.{Kept}
 use Rattle.rules_machine.proofs.Counting.{handles_kept}
@@ -11,11 +11,13 @@ use Rattle.kernel_state.proofs.SettleIs.{settles_after}
 use Rattle.kernel_state.proofs.StoodAgain.{stood_again}
 use Rattle.calls_table.proofs.items.settle_item.Goals as goal
 
-pub returns-clause-state : goal.returns-clause-state
-returns-clause-state g c =
-    let p = c.args.p.now in
-    let bodies = flat_bodies p.code in
-    settles_after p.machine (handles bodies c.args.i) p _ _ c.requires.stood (ap (λ (x : Kept). x.lists) (handles_kept bodies c.args.i (turn p))) c.handle.ensures.state c.settle.ensures.moves
+pub returns-clause-does : goal.returns-clause-does
+returns-clause-does g c = record {
+  state = (let p = c.args.p.now in
+      let bodies = flat_bodies p.code in
+      settles_after p.machine (handles bodies c.args.i) p _ _ c.requires.stood (ap (λ (x : Kept). x.lists) (handles_kept bodies c.args.i (turn p))) c.handle.ensures.state c.settle.ensures.moves);
+  told = (search rules);
+}
 
 pub returns-clause-stood : goal.returns-clause-stood
 returns-clause-stood g c =
@@ -24,4 +26,4 @@ returns-clause-stood g c =
     let s = handles bodies c.args.i (turn p) in
     let fits = subst (λ (k : Kernel). HavePriorities k.machine) c.handle.ensures.state c.settle.ensures.fits in
     let again = stood_again p.machine s.machine s.direct c.requires.stood (ap (λ (x : Kept). x.lists) (handles_kept bodies c.args.i (turn p))) fits (handles_come bodies c.args.i (turn p)) in
-    subst (λ (k : Kernel). StoodRight k.machine) (sym (returns-clause-state g c)) again
+    subst (λ (k : Kernel). StoodRight k.machine) (sym (returns-clause-does g c).state) again

@@ -1,21 +1,22 @@
-use Rattle.std.proofs.Common.{ap}
-use Rattle.words_numbers.specs.declared.res.Res.TheVariants as res
+use Rattle.std.proofs.Common.{List, ap, subst, ℕ}
 use Rattle.rules_machine.specs.Lives.{inherited_mask}
 use Rattle.rules_machine.specs.Threads.{thread_at}
-use Rattle.rules_machine.specs.Turns.{returns}
 use Rattle.rules_machine.specs.Waking.{starts}
 use Rattle.rules_machine.proofs.BehindCalls.{starts_behind}
 use Rattle.rules_flat_code.specs.FlatBodies.{flat_bodies}
-use Rattle.kernel_state.specs.Kernel.{Kernel, by}
-use Rattle.kernel_state.proofs.Turns.{then_told}
+use Rattle.kernel_state.specs.Kernel.{Kernel}
+use Rattle.kernel_state.specs.Does.{Does}
+use Rattle.kernel_state.proofs.Does.{then_does}
+use Rattle.rules_bodies.specs.declared.op.Op.{Op}
+use Rattle.rules_bodies.specs.Flat as flat
 use Rattle.calls_table.proofs.lives.create_dormant.Goals as goal
 
-pub returns-clause-told : goal.returns-clause-told
-returns-clause-told g c =
+pub returns : goal.returns
+returns g c =
     let p = c.args.p.now in
-    let bodies = flat_bodies p.code in
+    let u = c.args.u in
     let mask = inherited_mask (thread_at p.machine c.args.t) in
     let code = ap (λ (k : Kernel). k.code) c.returns.ensures.state in
-    let second = rw (code, c.inherited_mask-mask.ensures) at c.start.ensures.told in
-    then_told _ _ (returns (by c.args.t c.args.call.now) res.Zero 0) (starts bodies c.args.u mask) _ _ _ _ _
-    (starts_behind bodies c.args.u mask) c.returns.ensures.state c.returns.ensures.told second
+    let here = subst (λ (x : flat.NumberedBodies (List Op)). Does g.K.Sink.text g.K.Sink.faults (starts (flat_bodies x) u c.inherited_mask-mask.result) c.returns.new.self c.start.new.self c.returns.new.out c.start.new.out) code c.start.ensures in
+    let second = subst (λ (n : ℕ). Does g.K.Sink.text g.K.Sink.faults (starts (flat_bodies p.code) u n) c.returns.new.self c.start.new.self c.returns.new.out c.start.new.out) c.inherited_mask-mask.ensures here in
+    then_does {g = starts (flat_bodies p.code) u mask} (starts_behind (flat_bodies p.code) u mask) c.returns.ensures second

@@ -1,7 +1,8 @@
-use Rattle.std.proofs.Common.{◌-◌}
+use Rattle.std.proofs.Common.{List, arith, length, subst, sym, ℕ, ◌-◌, ◌<◌, ◌^◌, ◌≤◌}
 use Rattle.kernel_threads.specs.Running.{all_of}
 use Rattle.kernel_leaps.proofs.Passing.{begun_at, may_here}
 use Rattle.kernel_leaps.proofs.ThreadLeap.{acts, can_complete, has_leapt, in_time, leapt_state, leapt_told, may_be_swept, settled_stood}
+use Rattle.kernel_state.specs.Kernel.{Kernel}
 use Rattle.kernel_leaps.proofs.leaps.leap_thread.Goals as goal
 
 -- ---- the running
@@ -25,10 +26,25 @@ complete_at_end-requires-clause-can g c =
     let b = begun_at c.args.near c.args.t c.run_thread-ran.result c.args.p.now c.run_thread-ran.new.p c.requires.may c.run_thread-ran.ensures.ran c.run_thread-ran.ensures.state in
     can_complete (c.args.near - all_of b.units) c.args.t c.run_thread-ran.result.ticks c.run_thread-ran.result.unit c.run_thread-ran.result.was_high b.behind c.run_thread-ran.new.p b.may b.long b.state b.unit b.high
 
-pub complete_at_end-requires-clause-acts : goal.complete_at_end-requires-clause-acts
-complete_at_end-requires-clause-acts g c =
+pub complete_at_end-requires-clause-caller : goal.complete_at_end-requires-clause-caller
+complete_at_end-requires-clause-caller g c =
     let b = begun_at c.args.near c.args.t c.run_thread-ran.result c.args.p.now c.run_thread-ran.new.p c.requires.may c.run_thread-ran.ensures.ran c.run_thread-ran.ensures.state in
-    acts (c.args.near - all_of b.units) c.args.t c.run_thread-ran.result.ticks c.run_thread-ran.result.unit c.run_thread-ran.result.was_high b.behind c.run_thread-ran.new.p b.may b.long b.state b.unit b.high
+    let may = acts (c.args.near - all_of b.units) c.args.t c.run_thread-ran.result.ticks c.run_thread-ran.result.unit c.run_thread-ran.result.was_high b.behind c.run_thread-ran.new.p b.may b.long b.state b.unit b.high in
+    let ran = sym c.run_thread-ran.ensures.state in
+    let few = c.run_thread-ran.ensures.few in
+    let early = (may_here c.args.near c.args.t c.args.p.now c.requires.may).early in
+    record {
+      known = subst (λ (k : Kernel). c.args.t < length k.names) ran c.requires.known;
+      runs = may.runs;
+      threads = may.threads;
+      fits = may.waits;
+      joins = may.joins;
+      pends = may.pends;
+      signals = may.signals;
+      serial = may.serial;
+      room = subst (λ (k : Kernel). length k.direct < 128) ran (subst (λ (moved : List ℕ). length moved < 128) (sym c.requires.quiet) (omega arith));
+      early = subst (λ (k : Kernel). k.machine.now ≤ 10 ^ 18) ran (omega (arith, few, early));
+    }
 
 pub end_tick-requires-clause-stood : goal.end_tick-requires-clause-stood
 end_tick-requires-clause-stood g c =
@@ -40,13 +56,13 @@ pub sweep-requires-clause-can : goal.sweep-requires-clause-can
 sweep-requires-clause-can g c =
     let b = begun_at c.args.near c.args.t c.run_thread-ran.result c.args.p.now c.run_thread-ran.new.p c.requires.may c.run_thread-ran.ensures.ran c.run_thread-ran.ensures.state in
     may_be_swept (c.args.near - all_of b.units) c.args.t c.run_thread-ran.result.ticks c.run_thread-ran.result.unit c.run_thread-ran.result.was_high b.behind c.run_thread-ran.new.p b.may b.long b.state b.unit b.high
-    c.complete_at_end.new.p c.complete_at_end.ensures.state c.settle.new.self c.settle.ensures.moves c.settle.ensures.fits c.end_tick.new.p c.end_tick.ensures.state
+    c.complete_at_end.new.p c.complete_at_end.ensures.state c.settle.new.self c.settle.ensures.moves c.settle.ensures.fits c.end_tick.new.p c.end_tick.ensures.does.state
 
 pub sweep-requires-clause-early : goal.sweep-requires-clause-early
 sweep-requires-clause-early g c =
     let b = begun_at c.args.near c.args.t c.run_thread-ran.result c.args.p.now c.run_thread-ran.new.p c.requires.may c.run_thread-ran.ensures.ran c.run_thread-ran.ensures.state in
     in_time (c.args.near - all_of b.units) c.args.t c.run_thread-ran.result.ticks c.run_thread-ran.result.unit c.run_thread-ran.result.was_high b.behind c.run_thread-ran.new.p b.may b.long b.state b.unit b.high
-    c.complete_at_end.new.p c.complete_at_end.ensures.state c.settle.new.self c.settle.ensures.moves c.settle.ensures.fits c.end_tick.new.p c.end_tick.ensures.state
+    c.complete_at_end.new.p c.complete_at_end.ensures.state c.settle.new.self c.settle.ensures.moves c.settle.ensures.fits c.end_tick.new.p c.end_tick.ensures.does.state
 
 -- ---- the leap
 
@@ -54,8 +70,8 @@ pub returns-clause-leapt : goal.returns-clause-leapt
 returns-clause-leapt g c =
     let b = begun_at c.args.near c.args.t c.run_thread-ran.result c.args.p.now c.run_thread-ran.new.p c.requires.may c.run_thread-ran.ensures.ran c.run_thread-ran.ensures.state in
     let state = leapt_state (c.args.near - all_of b.units) c.args.t c.run_thread-ran.result.ticks c.run_thread-ran.result.unit c.run_thread-ran.result.was_high b.behind c.run_thread-ran.new.p b.may b.long b.state b.unit b.high
-    c.complete_at_end.new.p c.complete_at_end.ensures.state c.settle.new.self c.settle.ensures.moves c.settle.ensures.fits c.end_tick.new.p c.end_tick.ensures.state c.sweep.new.p c.sweep.ensures.state in
+    c.complete_at_end.new.p c.complete_at_end.ensures.state c.settle.new.self c.settle.ensures.moves c.settle.ensures.fits c.end_tick.new.p c.end_tick.ensures.does.state c.sweep.new.p c.sweep.ensures.does.state in
     let tells = leapt_told (c.args.near - all_of b.units) c.args.t c.run_thread-ran.result.ticks c.run_thread-ran.result.unit c.run_thread-ran.result.was_high b.behind c.run_thread-ran.new.p b.may b.long b.state b.unit b.high
-    c.complete_at_end.new.p c.complete_at_end.ensures.state c.settle.new.self c.settle.ensures.moves c.settle.ensures.fits c.end_tick.new.p c.end_tick.ensures.state c.sweep.new.p c.sweep.ensures.state
-    g.K.Sink.text g.K.Sink.faults c.args.out.now c.complete_at_end.new.out c.end_tick.new.out c.sweep.new.out c.complete_at_end.ensures.told c.end_tick.ensures.told c.sweep.ensures.told in
+    c.complete_at_end.new.p c.complete_at_end.ensures.state c.settle.new.self c.settle.ensures.moves c.settle.ensures.fits c.end_tick.new.p c.end_tick.ensures.does.state c.sweep.new.p c.sweep.ensures.does.state
+    g.K.Sink.text g.K.Sink.faults c.args.out.now c.complete_at_end.new.out c.end_tick.new.out c.sweep.new.out c.complete_at_end.ensures.told c.end_tick.ensures.does.told c.sweep.ensures.does.told in
     has_leapt g.K.Sink.text g.K.Sink.faults c.args.near c.args.t c.run_thread-ran.result c.args.p.now c.run_thread-ran.new.p c.sweep.new.p c.args.out.now c.sweep.new.out b state tells

@@ -1,8 +1,7 @@
 // Answers, waits and wakes.
-ghost use Rattle.std.specs.Prelude.{◌≡◌, ◌≤◌, ◌<◌, ◌+◌, ◌^◌, ◌∷◌, [], length};
+ghost use Rattle.std.specs.Prelude.{◌≡◌, ◌≤◌, ◌<◌, ◌^◌, ◌∷◌, [], length};
 ghost use Rattle.words_trace.specs.declared.event.Event.TheVariants as event;
 ghost use Rattle.words_trace.specs.Text.{IsNamed};
-ghost use Rattle.parts_tracer.specs.Tells.{Tells};
 ghost use Rattle.rules_machine.specs.Threads.{can_run, thread_at};
 ghost use Rattle.rules_machine.specs.Turns.{answered, changes, moves, returns, takes_serial, tells, ◌▷◌};
 ghost use Rattle.rules_machine.specs.Servers.{activates_if_high};
@@ -13,7 +12,9 @@ ghost use Rattle.kernel_threads.specs.Plain.{wait_of, waiting_of};
 ghost use Rattle.kernel_state.specs.Waits.{CanWait};
 ghost use Rattle.kernel_threads.specs.Unused.{IsUnused};
 ghost use Rattle.rules_flat_code.specs.FlatBodies.{flat_bodies};
-ghost use Rattle.kernel_state.specs.Kernel.{Kernel, after, by, told, starts_telling};
+ghost use Rattle.kernel_state.specs.Kernel.{after, by, starts_telling};
+ghost use Rattle.kernel_state.specs.Does.{Does};
+ghost use Rattle.kernel_state.specs.Callers.{CanRise};
 
 use crate::parts::Parts;
 use kernel_threads::{Wait, Waiting};
@@ -35,8 +36,7 @@ impl Parts {
         out: &mut Tracer<'_, K>,
     )
         requires { t < length self.old.names }
-        ensures state { self.new ≡ after (returns (by t call.now) res value) self.old }
-        ensures told { Tells K.text K.faults self.old.names out.old out.new (told (returns (by t call.now) res value) self.old) }
+        ensures { Does K.text K.faults (returns (by t call.now) res value) self.old self.new out.old out.new }
     {
         self.answer_thread(t, res, value);
         self.tell(&Event::Return(t, call_name(call), res, value), out);
@@ -86,13 +86,9 @@ impl Parts {
 
     /// A thread that is runnable again becomes the tail of its list, with that line, and is activated where it has the high priority.
     pub(crate) fn rise<K: Sink>(&mut self, e: &Event, t: Tid, out: &mut Tracer<'_, K>)
-        requires known { t < length self.old.names }
+        requires can { CanRise self.old t }
         requires named { IsNamed self.old.names e.now }
-        requires room { length self.old.direct < 512 }
-        requires unused { IsUnused (thread_at self.old.machine t).server }
-        requires early { self.old.machine.now ≤ 10 ^ 18 }
-        ensures state { self.new ≡ after (λ s. s ▷ moves t ▷ tells e.now ▷ activates_if_high t) self.old }
-        ensures told { Tells K.text K.faults self.old.names out.old out.new (told (λ s. s ▷ moves t ▷ tells e.now ▷ activates_if_high t) self.old) }
+        ensures { Does K.text K.faults (λ s. s ▷ moves t ▷ tells e.now ▷ activates_if_high t) self.old self.new out.old out.new }
     {
         self.move_later(t);
         self.tell(e, out);
@@ -108,13 +104,9 @@ impl Parts {
         value: u64,
         out: &mut Tracer<'_, K>,
     )
-        requires known { t < length self.old.names }
+        requires can { CanRise self.old t }
         requires named { IsNamed self.old.names e.now }
-        requires room { length self.old.direct < 512 }
-        requires unused { IsUnused (thread_at self.old.machine t).server }
-        requires early { self.old.machine.now ≤ 10 ^ 18 }
-        ensures state { self.new ≡ after (wakes_telling e.now t res value) self.old }
-        ensures told { Tells K.text K.faults self.old.names out.old out.new (told (wakes_telling e.now t res value) self.old) }
+        ensures { Does K.text K.faults (wakes_telling e.now t res value) self.old self.new out.old out.new }
     {
         self.wake_thread(t, res, value);
         self.rise(e, t, out);
@@ -122,12 +114,8 @@ impl Parts {
 
     /// A blocked thread wakes, and its call returns.
     pub fn wake<K: Sink>(&mut self, t: Tid, res: Res, value: u64, out: &mut Tracer<'_, K>)
-        requires known { t < length self.old.names }
-        requires room { length self.old.direct < 512 }
-        requires unused { IsUnused (thread_at self.old.machine t).server }
-        requires early { self.old.machine.now ≤ 10 ^ 18 }
-        ensures state { self.new ≡ after (wakes t res value) self.old }
-        ensures told { Tells K.text K.faults self.old.names out.old out.new (told (wakes t res value) self.old) }
+        requires { CanRise self.old t }
+        ensures { Does K.text K.faults (wakes t res value) self.old self.new out.old out.new }
     {
         let call = self.waiting_call(t);
         self.wake_telling(
@@ -144,8 +132,7 @@ impl Parts {
         requires known { t < length self.old.names }
         requires room { length self.old.direct < 512 }
         requires early { self.old.machine.now ≤ 10 ^ 18 }
-        ensures state { self.new ≡ after (starts_telling (flat_bodies self.old.code) t mask) self.old }
-        ensures told { Tells K.text K.faults self.old.names out.old out.new (told (starts_telling (flat_bodies self.old.code) t mask) self.old) }
+        ensures does { Does K.text K.faults (starts_telling (flat_bodies self.old.code) t mask) self.old self.new out.old out.new }
         ensures unused { IsUnused (thread_at self.new.machine t).server }
     {
         self.start_thread(t, mask);
@@ -158,8 +145,7 @@ impl Parts {
         requires known { t < length self.old.names }
         requires room { length self.old.direct < 512 }
         requires early { self.old.machine.now ≤ 10 ^ 18 }
-        ensures state { self.new ≡ after (starts (flat_bodies self.old.code) t mask) self.old }
-        ensures told { Tells K.text K.faults self.old.names out.old out.new (told (starts (flat_bodies self.old.code) t mask) self.old) }
+        ensures { Does K.text K.faults (starts (flat_bodies self.old.code) t mask) self.old self.new out.old out.new }
     {
         self.start_telling(t, mask, out);
         self.activate(t, out);
