@@ -1,4 +1,5 @@
 pub mod Lines
 pub mod Living
 pub mod Ticks
+pub mod Picked
 pub mod Puts

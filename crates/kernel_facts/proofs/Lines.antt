@@ -1,6 +1,6 @@
 -- The lines of facts, piece by piece.
 use Rattle.std.proofs.Common.{◌≡◌, ◌<◌, ◌≤◌, ℕ, zero, suc, Bool, List, None, Option, Some, [], ◌∷◌, ◌++◌, append-nil, append_assoc, ap, arith, false, flat_map, length, map, not, refl, slice_get, sym, take, true, unwrap_or, ◌∙◌}
-use Rattle.std.specs.Prelude.{if◌then◌else◌}
+use Rattle.std.specs.Prelude.{if◌then◌else◌, ◌||◌}
 use Rattle.words_script.specs.declared.decl.Decl.{Decl}
 use Rattle.rules_machine.specs.State.{Frame}
 use Rattle.rules_machine.specs.Threads.{is_main}
@@ -10,7 +10,7 @@ use Rattle.script_lex.specs.Joined.{after_blanks, joined_words}
 use Rattle.script_writer.specs.Canon.{Words, flag_words}
 use Rattle.script_writer.specs.Line.{line_text}
 use Rattle.script_writer.specs.Words.{is_nil}
-use Rattle.kernel_facts.specs.Lines.{begun, end_text, frame_words, more_text, told_text}
+use Rattle.kernel_facts.specs.Lines.{begun, end_text, frame_words, more_if_any, more_text, told_text}
 
 -- ---- words behind words
 
@@ -94,6 +94,42 @@ some_third u v w true b d e = refl
 some_third u v w false true d e = refl
 some_third u v w false false true e = refl
 some_third u v w false false false e = cc
+
+-- ---- more words, of which there may be none
+
+or_false : (b : Bool) → (b || false) ≡ b
+or_false true = refl
+or_false false = refl
+
+or_true : (b : Bool) → (b || true) ≡ true
+or_true true = refl
+or_true false = refl
+
+text_more : (about told more : Words) (was_begun : Bool) → 0 < length about → more_text was_begun about told ++ after_blanks more ≡ more_text was_begun about (told ++ more)
+text_more [] told more was_begun some = absurd (omega arith)
+text_more (s ∷ ss) told more true some = sym (blanks-append told more)
+text_more (s ∷ ss) told more false some = joined-append s (ss ++ told) more ∙ ap joined_words (append_assoc (s ∷ ss) told more)
+
+pub if_more : (about told more : Words) (was_begun is_begun : Bool) → 0 < length about → 0 < length more → is_begun ≡ (was_begun || not (is_nil told))
+    → more_if_any was_begun about told ++ more_text is_begun about more ≡ more_if_any was_begun about (told ++ more)
+if_more about told [] was_begun is_begun some any flag = absurd (omega arith)
+if_more about [] (m ∷ ms) was_begun is_begun some any flag = ap (λ (b : Bool). more_text b about (m ∷ ms)) (flag ∙ or_false was_begun)
+if_more about (t ∷ ts) (m ∷ ms) was_begun is_begun some any flag =
+    ap (λ (b : Bool). more_text was_begun about (t ∷ ts) ++ more_text b about (m ∷ ms)) (flag ∙ or_true was_begun)
+    ∙ text_more about (t ∷ ts) (m ∷ ms) was_begun some
+
+pub either_begun : (was_begun : Bool) (told more : Words) → 0 < length more → true ≡ (was_begun || not (is_nil (told ++ more)))
+either_begun true told more any = refl
+either_begun false told more any = told_some told more any
+
+pub either_some : (told more : Words) → (not (is_nil told) || not (is_nil more)) ≡ not (is_nil (told ++ more))
+either_some [] more = refl
+either_some (t ∷ ts) more = refl
+
+pub begun_if_more : (about told more : Words) (is_begun : Bool) → 0 < length about → is_begun ≡ not (is_nil told)
+    → begun about told ++ more_if_any is_begun about more ≡ begun about (told ++ more)
+begun_if_more about told [] is_begun some flag = append-nil (begun about told) ∙ ap (begun about) (sym (append-nil told))
+begun_if_more about told (m ∷ ms) is_begun some flag = begun_more about told (m ∷ ms) is_begun some (omega arith) flag
 
 -- ---- the words of the first members of a list
 

@@ -1,12 +1,13 @@
 -- The lines of facts as a printer prints them.
 use Rattle.std.proofs.Common.{◌≡◌, ◌<◌, ℕ, Bool, List, Option, ◌++◌, length, not, subst}
+use Rattle.std.specs.Prelude.{◌||◌}
 use Rattle.script_writer.specs.Canon.{Words}
 use Rattle.script_writer.specs.Words.{is_nil}
 use Rattle.script_printer.specs.declared.printer.Printer.{Printer}
 use Rattle.script_printer.specs.Puts.{Puts}
 use Rattle.script_printer.proofs.Puts.{puts_both}
-use Rattle.kernel_facts.specs.Lines.{begun, end_text, more_text, told_text}
-use Rattle.kernel_facts.proofs.Lines.{begun_end, begun_more}
+use Rattle.kernel_facts.specs.Lines.{begun, end_text, more_if_any, more_text, told_text}
+use Rattle.kernel_facts.proofs.Lines.{begun_end, begun_if_more, begun_more, if_more}
 
 -- the same text in another form
 pub puts_as : {K : Type 0} (text : K → Option (List ℕ)) (faults : K → ℕ) (a b : Printer K) (xs ys : List ℕ) → xs ≡ ys → Puts text faults a b xs → Puts text faults a b ys
@@ -24,3 +25,15 @@ module _ {K : Type 0} (text : K → Option (List ℕ)) (faults : K → ℕ) (a b
   puts_end about told is_begun flag first second =
       subst (λ (t : List ℕ). Puts text faults a c t) (begun_end about told is_begun flag)
       (puts_both text faults a b c (begun about told) (end_text is_begun) first second)
+
+  pub puts_if_more : (about told more : Words) (was_begun is_begun : Bool) → 0 < length about → 0 < length more → is_begun ≡ (was_begun || not (is_nil told))
+      → Puts text faults a b (more_if_any was_begun about told) → Puts text faults b c (more_text is_begun about more) → Puts text faults a c (more_if_any was_begun about (told ++ more))
+  puts_if_more about told more was_begun is_begun some any flag first second =
+      subst (λ (t : List ℕ). Puts text faults a c t) (if_more about told more was_begun is_begun some any flag)
+      (puts_both text faults a b c (more_if_any was_begun about told) (more_text is_begun about more) first second)
+
+  pub puts_begun_more : (about told more : Words) (is_begun : Bool) → 0 < length about → is_begun ≡ not (is_nil told)
+      → Puts text faults a b (begun about told) → Puts text faults b c (more_if_any is_begun about more) → Puts text faults a c (begun about (told ++ more))
+  puts_begun_more about told more is_begun some flag first second =
+      subst (λ (t : List ℕ). Puts text faults a c t) (begun_if_more about told more is_begun some flag)
+      (puts_both text faults a b c (begun about told) (more_if_any is_begun about more) first second)

@@ -40,6 +40,10 @@ end_text is_begun = if is_begun then 10 ∷ [] else []
 abbrev pub frame_words : {P : Type 0} → List Decl → Frame P → Words
 frame_words decls f = if is_main f.kind then [] else body_name decls f.body ∷ []
 
+-- more words, of which there may be none
+abbrev pub more_if_any : Bool → Words → Words → List ℕ
+more_if_any is_begun about more = if is_nil more then [] else more_text is_begun about more
+
 -- ---- one text for each number below a limit
 
 abbrev pub texts_below : (ℕ → List ℕ) → ℕ → List ℕ

@@ -1,1 +1,73 @@
 // The pending signals.
+ghost use Rattle.std.specs.Prelude.{◌≡◌, ◌≤◌, ◌<◌, length};
+ghost use Rattle.rules_facts.specs.Signals.{signal_fact};
+ghost use Rattle.rules_facts.specs.Spelled.{target_word};
+ghost use Rattle.script_printer.specs.Puts.{Puts};
+ghost use Rattle.kernel_facts.specs.Lines.{fact_text};
+ghost use Rattle.kernel_facts.specs.Picked.{is_left_out, is_told, left_in};
+
+use crate::line::{put_end, put_more};
+use crate::names::thread_name;
+use kernel_signals::SignalRecord;
+use kernel_state::Parts;
+use parts_io::Sink;
+use script_printer::Printer;
+use script_writer::Word::{Keyword, Name, Number, Signal};
+use words_numbers::Tid;
+use words_script::Decl;
+
+// Whether it is the serial of the record that is left out.
+fn is_left_out(out: Option<u64>, serial: u64) -> bool
+    ensures { result ≡ is_left_out out serial }
+{
+    match out {
+        Some(left_out) => serial == left_out,
+        None => false,
+    }
+}
+
+// Whether a record is told of the signal.
+fn is_told(out: Option<u64>, signal: u8, r: &SignalRecord) -> bool
+    ensures { result ≡ is_told out signal r.now }
+{
+    !is_left_out(out, r.serial()) && r.signal() == signal
+}
+
+// The thread that a signal is for, or a star where it is for the process.
+fn target_word(decls: &[Decl], target: Option<Tid>) -> &[u8]
+    ensures word { result.now ≡ target_word decls.now target }
+    ensures short { length result.now ≤ 32 }
+{
+    match target {
+        Some(t) => thread_name(decls, t),
+        None => b"*",
+    }
+}
+
+/// Prints the pending records of a signal in the order in which they became pending, without that of the serial `out`.
+pub(crate) fn put_signal<K: Sink>(
+    out: &mut Printer<'_, K>,
+    parts: &Parts,
+    decls: &[Decl],
+    signal: u8,
+    left_out: Option<u64>,
+)
+    ensures { Puts K.text K.faults out.old out.new (fact_text decls.now (signal_fact (left_in left_out parts.now.machine) signal)) }
+{
+    let subject = [Keyword(b"signal"), Signal(signal)];
+    let mut is_begun = false;
+    let mut place = 0;
+    while let Some(r) = parts.pending_record(place) {
+        if is_told(left_out, signal, &r) {
+            let words = [
+                Keyword(r.code().text().as_bytes()),
+                Number(r.value()),
+                Name(target_word(decls, r.target())),
+            ];
+            put_more(out, is_begun, &subject, &words);
+            is_begun = true;
+        }
+        place += 1;
+    }
+    put_end(out, is_begun);
+}
