@@ -30,7 +30,7 @@ use Rattle.rules_moves.proofs.Runs.Preparing.{PreparingKeeps, prepares_keep}
 use Rattle.rules_moves.proofs.Runs.Ticks.{dispatched}
 use Rattle.rules_moves.proofs.Waiters.OfThreads.{changed_is}
 use Rattle.laws_machine.proofs.Lists.Kept.{claim_at, claims_at, strict_high}
-use Rattle.laws_machine.proofs.Servers.Right.{run_parts}
+use Rattle.laws_machine.proofs.Servers.OfThreads.{run_parts}
 use Rattle.kernel_threads.specs.Unused.{IsUnused, IsUnusedAs}
 use Rattle.laws_threads.specs.Within.{HighWithin, IsWithin}
 use Rattle.calls_table.specs.Calls.{HasRoomFor}

@@ -9,4 +9,5 @@ pub mod Calm
 pub mod Runs
 pub mod TextLines
 pub mod Order
+pub mod EventLines
 pub mod Traces

@@ -27,7 +27,8 @@ use Rattle.rules_machine.proofs.Reading.{changed-length, thread-other, thread-sa
 use Rattle.rules_moves.specs.Moves.{Core, MayAwake, Move, alters, begins, blocks_for, blocks_plainly, core_of, does, drops, ends_with, enters_frame, is_quiet, leaves_frame, lives_no_more, prices, pushed, pushes, recasts, refills_one, rejoins, renews_with, tells_of, wakes_with}
 use Rattle.rules_moves.proofs.Waiters.Best.{blocked_within, running_within}
 use Rattle.rules_moves.proofs.Waiters.OfThreads.{changed_is}
-use Rattle.laws_machine.proofs.Servers.Right.{ServerIn, ThreadRight, none_consumed, only}
+use Rattle.laws_machine.proofs.Servers.OfThreads.{ThreadRight, none_consumed, only}
+use Rattle.laws_machine.proofs.Servers.Right.{ServerIn}
 use Rattle.laws_machine.proofs.Servers.Moves.{Awake, Threads, here, in_wait, sleeper}
 use Rattle.laws_machine.proofs.Servers.Ends.{has_server}
 use Rattle.tool_audit.specs.declared.server.Limits.{Limits}

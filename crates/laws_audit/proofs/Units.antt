@@ -27,7 +27,8 @@ use Rattle.rules_moves.proofs.Runs.Preparing.{Alike, alike, alike_runs, closes_k
 use Rattle.rules_moves.proofs.Runs.Ticks.{charged_turn, dispatched}
 use Rattle.rules_moves.proofs.Waiters.Best.{running_within}
 use Rattle.laws_machine.proofs.Budgets.Units.{NotDue}
-use Rattle.laws_machine.proofs.Servers.Right.{Consumed, ThreadRight, only}
+use Rattle.laws_machine.proofs.Servers.OfThreads.{ThreadRight, only}
+use Rattle.laws_machine.proofs.Servers.Right.{Consumed}
 use Rattle.laws_machine.proofs.Servers.Moves.{Threads}
 use Rattle.laws_machine.proofs.Servers.Ends.{end_by, has_server}
 use Rattle.laws_machine.proofs.Servers.Units.{kept_in_unit}

@@ -1,5 +1,7 @@
 -- Sporadic servers.
 pub mod Right
+pub mod Changed
+pub mod OfThreads
 pub mod Moves
 pub mod Alert
 pub mod Units

@@ -1,6 +1,6 @@
 -- Servers that rest: a thread that is blocked, or runs at its low priority, has consumed nothing that is not planned, and what is
 -- consumed can be planned; and only the thread of the last tick has an open run. All of it is this project's own.
-use Rattle.std.specs.Prelude.{Some, false, length, true, ℕ, ◌<◌, ◌≡◌, ◌≤◌}
+use Rattle.std.specs.Prelude.{Some, false, true, ℕ, ◌≡◌, ◌≤◌}
 use Rattle.rules_server.specs.Calls.{MayPlan}
 use Rattle.rules_server.specs.Server.{ServerState, is_high}
 use Rattle.rules_machine.specs.declared.dispatch.LastDispatch.TheVariants as last

@@ -9,7 +9,7 @@ use Rattle.rules_server.specs.declared.Replenish.{Replenish}
 use Rattle.rules_server.specs.declared.ServerKind.{ServerKind}
 use Rattle.rules_server.specs.Server.{ServerState, activate, charge, is_high, joined_after, joins_as, new_server_as, oldest_pending, pending_total, plan, planned_in, refill, refill_from, replenishment, set_high}
 use Rattle.rules_machine.specs.Servers.{amount_of, charged}
-use Rattle.laws_machine.proofs.Servers.Right.{high_parts}
+use Rattle.laws_machine.proofs.Servers.Changed.{high_parts}
 use Rattle.laws_numbers.specs.Numbers.{Each, IsNumber, IsSmall, ServerSmall}
 use Rattle.laws_numbers.proofs.Lists.{each_last}
 

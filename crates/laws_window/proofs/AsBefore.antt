@@ -1,21 +1,19 @@
 -- A run without strict threads is what it was before there were any.
-use Rattle.std.proofs.Common.{Bool, List, None, Option, Some, [], ap, arith, false, inl, inr, refl, suc, sym, true, zero, ℕ, ◌+◌, ◌∷◌, ◌++◌, ◌≡◌, ◌⊎◌}
-use Rattle.std.specs.Prelude.{not, ◌==◌, ◌&&◌, if◌then◌else◌}
+use Rattle.std.proofs.Common.{Bool, List, None, Option, Some, [], ap, arith, false, inl, inr, refl, suc, sym, true, zero, ℕ, ◌∷◌, ◌++◌, ◌≡◌, ◌⊎◌}
+use Rattle.std.specs.Prelude.{not, ◌&&◌, if◌then◌else◌}
 use mathlib.Core.Path.{subst, ◌∙◌}
 use Rattle.words_numbers.specs.declared.res.Res.{Res}
 use Rattle.words_numbers.specs.declared.res.Res.TheVariants as res
-use Rattle.words_script.specs.declared.call.Call.{Call}
 use Rattle.words_script.specs.declared.call.Call.TheVariants as call
 use Rattle.words_script.specs.declared.policy.Policy.{Policy}
 use Rattle.words_script.specs.declared.policy.Policy.TheVariants as policy
 use Rattle.rules_bodies.specs.declared.unit.Unit.{Unit}
 use Rattle.rules_bodies.specs.declared.unit.Unit.TheVariants as unit
 use Rattle.words_trace.specs.declared.event.Event.TheVariants as event
-use Rattle.rules_server.specs.declared.ServerKind.TheVariants as kind
 use Rattle.rules_server.specs.Server.{ServerState, activate, oldest_pending, plan, refill}
 use Rattle.rules_machine.specs.Lists.{changed_at}
 use Rattle.rules_machine.specs.Bodies.{Bodies}
-use Rattle.rules_machine.specs.State.{Frame, Joiner, Machine, Thread, Wait, Waiting, for_end, waits_to_join}
+use Rattle.rules_machine.specs.State.{Frame, Machine, Thread, for_end, waits_to_join}
 use Rattle.rules_machine.specs.Threads.{can_run, lives, no_thread, thread_at, thread_in, thread_numbers, top_left}
 use Rattle.rules_machine.specs.Turns.{Caller, Turn, answered, changes, moves, moves_if, returns, settles_since, tells, turn_of}
 use Rattle.rules_machine.specs.Servers.{activates_if, activates_server, amount_of, at_once, high_server, is_strict, plans_server, refills_server, regains_high, with_server, has_high}
@@ -31,10 +29,10 @@ use Rattle.rules_machine.specs.Dispatch.{head}
 use Rattle.rules_machine.specs.GoodState.{HasParameters}
 use Rattle.rules_machine.specs.Ticks.{runs_head, unless_killed, TickEnd, completes_at, ends_tick, exhausting, nothing, planning, prepares, runs, slicing, tick_charged, tick_end, without_slice}
 use Rattle.rules_machine.specs.Runs.{Ran, follow, ran, tick_of, ticks}
-use Rattle.rules_moves.specs.Moves.{Core, KeepsAwake, Stops, alters, begins, blocks_for, blocks_plainly, core_of, does, drops, ends_with, enters_frame, leaves_frame, lives_no_more, prices, pushed, pushes, recasts, refills_one, rejoins, renews_with, wakes_with}
+use Rattle.rules_moves.specs.Moves.{Core, KeepsAwake, Stops, alters, begins, blocks_for, blocks_plainly, drops, ends_with, enters_frame, leaves_frame, lives_no_more, prices, pushed, pushes, recasts, refills_one, rejoins, renews_with, wakes_with}
 use Rattle.rules_moves.specs.UnitRanges.{BodiesFit, UnitFits}
 use Rattle.rules_moves.proofs.Waiters.OfThreads.{changed_is}
-use Rattle.rules_moves.proofs.Runs.Ticks.{Rests, RoundKeeps, instant_keep, run_keep, charged_runs, charged_turn, completes_keep, dispatched}
+use Rattle.rules_moves.proofs.Runs.Ticks.{Rests, RoundKeeps, instant_keep, charged_runs, charged_turn, completes_keep, dispatched}
 use Rattle.rules_moves.proofs.Runs.Listed.{AllRun, head_can_run}
 use Rattle.laws_machine.proofs.Servers.Ticks.{ServedDone, ServedMid, ServedRight, served_tick}
 use Rattle.laws_window.specs.Before.{AreBodiesPlain, AreThreadsPlain, IsPlainUnit, RunsAsBefore, is_strict_policy, runs_head_before, tick_before, ticks_before}

@@ -1,14 +1,12 @@
 -- The window of a strict thread, over the ticks of a run.
-use Rattle.std.proofs.Common.{Bool, List, None, Option, Some, [], ap, arith, false, refl, suc, sym, true, zero, ℕ, ◌+◌, ◌-◌, ◌<◌, ◌≤◌, ◌∷◌, ◌≡◌}
+use Rattle.std.proofs.Common.{Bool, None, Option, Some, [], ap, arith, false, refl, suc, sym, true, zero, ℕ, ◌+◌, ◌-◌, ◌<◌, ◌≤◌, ◌≡◌}
 use Rattle.std.specs.Prelude.{is_some, nat_lt, ◌==◌, ◌&&◌, if◌then◌else◌}
 use mathlib.Core.Path.{subst, ◌∙◌}
 use Rattle.words_numbers.specs.Parameters.{Parameters}
-use Rattle.words_script.specs.declared.call.Call.TheVariants as call
 use Rattle.words_script.specs.declared.decl.Script.{Script}
 use Rattle.words_script.specs.declared.policy.Policy.{Policy}
 use Rattle.words_script.specs.declared.policy.Policy.TheVariants as policy
 use Rattle.rules_bodies.specs.declared.unit.Unit.{Unit}
-use Rattle.rules_bodies.specs.declared.unit.Unit.TheVariants as unit
 use Rattle.rules_server.specs.declared.ServerKind.TheVariants as kind
 use Rattle.rules_server.specs.Server.{ServerState}
 use Rattle.rules_machine.specs.Bodies.{Bodies}
@@ -18,11 +16,11 @@ use Rattle.rules_machine.specs.Turns.{Turn, settles_since, turn_of}
 use Rattle.rules_machine.specs.Servers.{has_high}
 use Rattle.rules_machine.specs.Calls.{unit_effect}
 use Rattle.rules_machine.specs.DueItems.{due_items, first_item, instant, item_bound, item_then, items_done, next_item}
-use Rattle.rules_machine.specs.Dispatch.{head, runner}
+use Rattle.rules_machine.specs.Dispatch.{head}
 use Rattle.rules_machine.specs.Units.{in_unit}
 use Rattle.rules_machine.specs.Budget.{renews}
-use Rattle.rules_machine.specs.Ticks.{completes_at, ends_tick, goes_on, prepares, runs, runs_head, tick_charged, tick_end, tick_ends, unit_ticked, unless_killed}
-use Rattle.rules_machine.specs.Runs.{Ran, follow, opening, tick_begun, tick_of, tick_prepared, tick_run, ticks}
+use Rattle.rules_machine.specs.Ticks.{completes_at, ends_tick, prepares, runs, runs_head, tick_charged, tick_end, unless_killed}
+use Rattle.rules_machine.specs.Runs.{Ran, opening, tick_begun, tick_of, tick_prepared, tick_run, ticks}
 use Rattle.rules_machine.specs.GoodState.{HasParameters, is_sporadic}
 use Rattle.rules_machine.specs.WellFormed.{IsWellFormed}
 use Rattle.rules_machine.proofs.Counting.{tick_now}
@@ -33,16 +31,16 @@ use Rattle.rules_moves.proofs.Runs.Listed.{AllRun, head_can_run}
 use Rattle.rules_moves.proofs.Runs.Units.{in_unit_fits}
 use Rattle.rules_moves.proofs.Runs.Preparing.{Alike, IsReady, alike_runs, prepared, prepares_keep}
 use Rattle.rules_moves.proofs.Runs.Ticks.{Rests, charged_runs, charged_turn, completes_keep, instant_keep, run_keep}
-use Rattle.laws_machine.proofs.Parts.Kept.{PartsRight, ends_keep, parts_tick}
+use Rattle.laws_machine.proofs.Parts.Kept.{PartsRight, ends_keep}
 use Rattle.laws_machine.proofs.Parts.Opening.{opening_listed}
-use Rattle.laws_machine.proofs.Servers.Right.{ServerIn, ThreadIn, in_time}
+use Rattle.laws_machine.proofs.Servers.OfThreads.{ThreadIn}
 use Rattle.laws_machine.proofs.Servers.Kept.{opening_served}
 use Rattle.laws_machine.proofs.Servers.Ticks.{ServedDone, ServedMid, ServedRight, served_tick}
 use Rattle.laws_machine.proofs.Budgets.Units.{renewing_unit}
 use Rattle.laws_strict_server.specs.Instants.{one_if}
 use Rattle.laws_strict_server.proofs.Sums.{early, early_le_total}
 use Rattle.laws_window.specs.Window.{KeepsWindows, high_count, is_high_of, is_high_tick, is_renewed, renewed_by, ticks_next}
-use Rattle.laws_window.proofs.Room.{At, Has, Room}
+use Rattle.laws_window.proofs.Room.{At, Room}
 use Rattle.laws_window.proofs.OneTick.{Under, Waiting_for, charged_at, dead_setsched, ended_at, one_used, plain_unit, settles, swept, waiting_prepared, waiting_round}
 
 contra : {b : Bool} → b ≡ true → b ≡ false → ⊥

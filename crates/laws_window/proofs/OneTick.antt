@@ -1,56 +1,46 @@
 -- One tick of the machine: what a strict thread uses in it, and what it may still use.
-use Rattle.std.proofs.Common.{Bool, List, None, Option, Some, [], ap, arith, false, inl, inr, length, refl, suc, sym, true, zero, ℕ, ◌+◌, ◌-◌, ◌<◌, ◌≤◌, ◌∷◌, ◌≡◌, ◌⊎◌}
+use Rattle.std.proofs.Common.{Bool, None, Option, Some, ap, arith, false, refl, suc, sym, true, zero, ℕ, ◌+◌, ◌<◌, ◌≤◌, ◌≡◌}
 use Rattle.std.specs.Prelude.{is_some, nat_lt, not, option_map, ◌==◌, ◌&&◌, if◌then◌else◌}
 use mathlib.Core.Path.{subst, ◌∙◌}
 use Rattle.words_numbers.specs.Parameters.{Parameters}
-use Rattle.words_numbers.specs.declared.res.Res.{Res}
 use Rattle.words_numbers.specs.declared.res.Res.TheVariants as res
-use Rattle.words_script.specs.declared.call.Call.{Call}
 use Rattle.words_script.specs.declared.call.Call.TheVariants as call
 use Rattle.words_script.specs.declared.policy.Policy.{Policy}
 use Rattle.rules_bodies.specs.declared.unit.Unit.{Unit}
 use Rattle.rules_bodies.specs.declared.unit.Unit.TheVariants as unit
-use Rattle.words_trace.specs.declared.event.Event.{Event}
 use Rattle.words_trace.specs.declared.event.Event.TheVariants as event
-use Rattle.rules_server.specs.declared.ServerKind.{ServerKind}
-use Rattle.rules_server.specs.declared.ServerKind.TheVariants as kind
-use Rattle.rules_server.specs.Server.{ServerState, activate, charge, is_high, plan}
-use Rattle.rules_machine.specs.Lists.{changed_at, is}
+use Rattle.rules_server.specs.Server.{ServerState, activate, charge, is_high}
+use Rattle.rules_machine.specs.Lists.{is}
 use Rattle.rules_machine.specs.Bodies.{Bodies}
-use Rattle.rules_machine.specs.State.{Machine, Status, Thread, Wait, Waiting, blocked, dormant, ended, for_end, runnable, waits_to_join}
-use Rattle.rules_machine.specs.Threads.{can_run, is_blocked, is_dormant, is_live, is_runnable, lives, no_thread, thread_at, thread_in, thread_numbers, top_left}
-use Rattle.rules_machine.specs.Turns.{Caller, Turn, answered, becomes, changes, moves_if, returns, settles_since, tells, turn_of}
-use Rattle.rules_machine.specs.CallNames.{name_of}
-use Rattle.rules_machine.specs.Servers.{activates_if, activates_server, charged, has_high, has_run, is_strict, may_open, plans, plans_server, with_server}
+use Rattle.rules_machine.specs.State.{Machine, Status, Thread, blocked, dormant, ended, for_end, runnable, waits_to_join}
+use Rattle.rules_machine.specs.Threads.{can_run, is_blocked, is_dormant, is_runnable, lives, thread_at, thread_numbers}
+use Rattle.rules_machine.specs.Turns.{Turn, answered, changes, moves_if, returns, settles_since, tells}
+use Rattle.rules_machine.specs.Servers.{activates_if, activates_server, charged, has_high, has_run, is_strict, may_open, plans_server, with_server}
 use Rattle.rules_machine.specs.Mutexes.{owns_boosting}
 use Rattle.rules_machine.specs.Settling.{settled}
 use Rattle.rules_machine.specs.Lives.{with_joiner}
 use Rattle.rules_machine.specs.Scheduling.{with_policy}
 use Rattle.rules_machine.specs.Calls.{unit_effect}
 use Rattle.rules_machine.specs.Delivery.{sweeps, sweeps_all}
-use Rattle.rules_machine.specs.DueItems.{instant}
-use Rattle.rules_machine.specs.Dispatch.{dispatch_event, dispatch_of, dispatches, head, is_same, runner, tells_unless}
+use Rattle.rules_machine.specs.Dispatch.{dispatches}
 use Rattle.rules_machine.specs.Units.{in_unit}
 use Rattle.rules_machine.specs.Budget.{renews}
-use Rattle.rules_machine.specs.Ticks.{TickEnd, capacity_in, completes_at, consumed_in, ends_tick, exhausting, later, nothing, planning, prepares, runs, slice_is_used, slicing, tick_charged, tick_end, tick_ends, unit_ticked, without_slice}
+use Rattle.rules_machine.specs.Ticks.{TickEnd, capacity_in, consumed_in, ends_tick, exhausting, nothing, planning, slice_is_used, slicing, tick_charged, tick_end, without_slice}
 use Rattle.rules_machine.proofs.Reading.{thread-other, thread-same}
 use Rattle.rules_moves.specs.Moves.{KeepsAwake, Stops}
 use Rattle.rules_moves.specs.UnitRanges.{BodiesFit, UnitFits}
 use Rattle.rules_moves.proofs.Waiters.Best.{running_within}
-use Rattle.rules_moves.proofs.Waiters.OfThreads.{changed_is}
-use Rattle.rules_moves.proofs.Calls.Table.{JoinersWait, sweeps_all_keep, unit_keep}
-use Rattle.rules_moves.proofs.Runs.Units.{in_unit_fits}
-use Rattle.rules_moves.proofs.Runs.Listed.{AllRun}
+use Rattle.rules_moves.proofs.Calls.Table.{sweeps_all_keep, unit_keep}
 use Rattle.rules_moves.proofs.Runs.Preparing.{IsReady, PreparingKeeps}
-use Rattle.rules_moves.proofs.Runs.Ticks.{RoundKeeps, charged_runs, charged_turn, dispatched}
-use Rattle.laws_machine.proofs.Parts.Kept.{PartsRight, elsewhere, ends_keep, parts_keep, parts_renew, parts_stop, parts_tick}
-use Rattle.laws_machine.proofs.Servers.Right.{high_parts, opening_none, run_parts}
+use Rattle.rules_moves.proofs.Runs.Ticks.{RoundKeeps, charged_turn, dispatched}
+use Rattle.laws_machine.proofs.Parts.Kept.{PartsRight, elsewhere, parts_keep, parts_renew, parts_stop}
+use Rattle.laws_machine.proofs.Servers.Changed.{high_parts}
+use Rattle.laws_machine.proofs.Servers.OfThreads.{opening_none, run_parts}
 use Rattle.laws_machine.proofs.Servers.Units.{kept_in_unit}
 use Rattle.laws_machine.proofs.Servers.Ticks.{ServedRight, served_tick}
 use Rattle.laws_strict_server.specs.Instants.{one_if}
-use Rattle.laws_strict_server.proofs.Sums.{early}
-use Rattle.laws_window.specs.Window.{is_high_of, renewed_by}
-use Rattle.laws_window.proofs.Room.{At, Has, Room, activated_if, activated_room, joined, moves_keep, one, only, planned, slept}
+use Rattle.laws_window.specs.Window.{is_high_of}
+use Rattle.laws_window.proofs.Room.{At, Has, Room, activated_room, joined, moves_keep, one, only, planned, slept}
 
 contra : {b : Bool} → b ≡ true → b ≡ false → ⊥
 contra a b = grind arith

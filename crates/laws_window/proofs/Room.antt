@@ -1,6 +1,6 @@
 -- What a strict thread may still use before an instant d, and that every move leaves it no more.
 use Rattle.std.proofs.Common.{Bool, List, None, Option, Some, [], ap, arith, false, inl, inr, length, refl, sym, true, ℕ, ◌+◌, ◌<◌, ◌≤◌, ◌∷◌, ◌≡◌, ◌⊎◌}
-use Rattle.std.specs.Prelude.{min, nat_le, nat_lt, option_and_then, option_map, slice_get, ◌==◌, ◌&&◌, if◌then◌else◌}
+use Rattle.std.specs.Prelude.{min, nat_lt, option_and_then, option_map, slice_get, ◌&&◌, if◌then◌else◌}
 use mathlib.Core.Path.{subst, ◌∙◌}
 use Rattle.words_numbers.specs.Parameters.{Parameters}
 use Rattle.words_script.specs.declared.policy.Policy.{Policy}
@@ -12,16 +12,16 @@ use Rattle.rules_server.specs.declared.ServerKind.TheVariants as kind
 use Rattle.rules_server.specs.Server.{ServerState, activate, is_high, joins_as, new_server_as, next_due, oldest_pending, plan, refill, refill_from, replenishment, set_high}
 use Rattle.rules_machine.specs.Lists.{changed_at}
 use Rattle.rules_machine.specs.Bodies.{Bodies}
-use Rattle.rules_machine.specs.State.{Joiner, Status, Thread, Wait, Waiting, blocked, dormant, ended, for_mutex_again, runnable}
-use Rattle.rules_machine.specs.Threads.{can_run, is_blocked, is_dormant, is_live, no_thread, thread_at, thread_in}
+use Rattle.rules_machine.specs.State.{Joiner, Status, Thread, Waiting, blocked, dormant, ended, runnable}
+use Rattle.rules_machine.specs.Threads.{can_run, is_dormant, is_live, no_thread, thread_at, thread_in}
 use Rattle.rules_machine.specs.Turns.{Turn, changes, moves, tells}
 use Rattle.rules_machine.specs.Servers.{activates_if, activates_server, amount_of, at_once, at_once_as, high_server, plans_server, refills_server, regains_high, server_of, with_server}
 use Rattle.rules_machine.specs.Waking.{ending_with, on_top, put_to_wait, started, woken}
 use Rattle.rules_machine.specs.Lives.{with_joiner, without_life, without_top}
 use Rattle.rules_machine.specs.Cancellation.{without_cleanup}
-use Rattle.rules_machine.specs.Scheduling.{at_priority, with_policy, with_priority}
-use Rattle.rules_machine.specs.DueItems.{has_come, refill_due}
-use Rattle.rules_moves.specs.Moves.{Core, KeepsAwake, MayAwake, Move, alters, begins, blocks_for, blocks_plainly, core_of, does, drops, ends_with, enters_frame, leaves_frame, lives_no_more, prices, pushed, pushes, recasts, refills_one, rejoins, renews_with, wakes_with}
+use Rattle.rules_machine.specs.Scheduling.{with_priority}
+use Rattle.rules_machine.specs.DueItems.{has_come}
+use Rattle.rules_moves.specs.Moves.{Core, KeepsAwake, alters, begins, blocks_for, blocks_plainly, core_of, drops, ends_with, enters_frame, leaves_frame, lives_no_more, prices, pushed, pushes, recasts, refills_one, rejoins, renews_with, wakes_with}
 use Rattle.rules_moves.proofs.Waiters.OfThreads.{changed_is}
 use Rattle.laws_strict_server.proofs.Sums.{amount_if, early, planned_early}
 

@@ -1,5 +1,5 @@
 -- The machine as it was before there were strict servers: the dispatch, and the tick of the head. All of it is this project's own.
-use Rattle.std.specs.Prelude.{Bool, List, [], false, suc, true, zero, ℕ, ◌≡◌}
+use Rattle.std.specs.Prelude.{Bool, [], false, suc, true, zero, ℕ, ◌≡◌}
 use Rattle.words_script.specs.declared.call.Call.TheVariants as call
 use Rattle.words_script.specs.declared.policy.Policy.{Policy}
 use Rattle.words_script.specs.declared.policy.Policy.TheVariants as policy

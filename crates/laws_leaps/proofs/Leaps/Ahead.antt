@@ -1,6 +1,6 @@
 -- What is ahead of a machine after so many ticks of a thread and nothing else: what falls due stays the same, and is nearer by as many.
 use Rattle.std.proofs.Common.{List, None, Option, Some, [], ap, arith, false, refl, ℕ, ◌+◌, ◌++◌, ◌∷◌, ◌≡◌, ◌≤◌}
-use Rattle.std.specs.Prelude.{Bool, filter, length, map, min, nat_le, option_and_then, ◌-◌}
+use Rattle.std.specs.Prelude.{filter, map, nat_le, option_and_then, ◌-◌}
 use Rattle.std.specs.List.{range_with_len}
 use mathlib.Core.Path.{◌∙◌}
 use Rattle.words_numbers.specs.declared.item.Item.{Item}

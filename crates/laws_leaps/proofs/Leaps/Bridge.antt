@@ -1,10 +1,10 @@
 -- Charges of a machine are charges alone of it as its head begins its tick.
-use Rattle.std.proofs.Common.{Bool, None, Option, Some, ap, arith, false, refl, suc, sym, true, zero, ℕ, ◌<◌, ◌≡◌}
+use Rattle.std.proofs.Common.{None, Option, ap, arith, false, suc, sym, true, zero, ℕ, ◌<◌, ◌≡◌}
 use mathlib.Core.Path.{subst, ◌∙◌}
 use Rattle.rules_lists.specs.Lists.{highest}
 use Rattle.rules_machine.specs.Bodies.{Bodies}
 use Rattle.rules_machine.specs.State.{Machine}
-use Rattle.rules_machine.specs.Turns.{Turn, turn_of}
+use Rattle.rules_machine.specs.Turns.{turn_of}
 use Rattle.rules_machine.specs.DueItems.{next_item}
 use Rattle.rules_machine.specs.Dispatch.{head}
 use Rattle.rules_machine.specs.Eventful.{has_item, head_matters, unless_ended}

@@ -1,24 +1,22 @@
 -- A leap of a head whose unit only takes time, and that uses up neither its interval nor its capacity, is its charge alone.
 use Rattle.std.proofs.Common.{Bool, List, None, Option, Some, [], ap, arith, false, inl, inr, refl, suc, sym, true, zero, ℕ, ◌+◌, ◌∷◌, ◌≡◌, ◌⊎◌}
-use Rattle.std.specs.Prelude.{length, nat_lt, option_and_then, option_map, ◌-◌, ◌==◌, ◌&&◌, if◌then◌else◌}
+use Rattle.std.specs.Prelude.{nat_lt, option_and_then, option_map, ◌-◌, ◌==◌, ◌&&◌, if◌then◌else◌}
 use mathlib.Core.Path.{ap₂, subst, ◌∙◌}
 use Rattle.words_script.specs.declared.policy.Policy.{Policy}
 use Rattle.words_script.specs.declared.policy.Policy.TheVariants as policy
 use Rattle.rules_server.specs.Server.{ServerState, assigned, charge_ticks, is_high}
 use Rattle.rules_server.proofs.Laws.{charge_ticks_is}
 use Rattle.rules_machine.specs.declared.frame.FrameKind.{FrameKind}
-use Rattle.rules_machine.specs.declared.dispatch.LastDispatch.TheVariants as last
 use Rattle.rules_machine.specs.Bodies.{Bodies}
 use Rattle.rules_machine.specs.Calls.{unit_effect}
 use Rattle.rules_machine.specs.Delivery.{sweeps}
-use Rattle.rules_machine.specs.Dispatch.{dispatches, head}
 use Rattle.rules_machine.specs.Lists.{changed_at}
 use Rattle.rules_machine.specs.Priorities.{Claim, assigned_under, claim_of, exec, exec_in, mutex_awaited_by, mutex_waited}
 use Rattle.rules_machine.specs.Servers.{has_high}
 use Rattle.rules_machine.specs.Settling.{settled}
 use Rattle.rules_machine.specs.State.{Frame, Machine, Status, Thread, Waiting, blocked, dormant, ended, runnable}
 use Rattle.rules_machine.specs.Threads.{can_run, is_blocked, is_runnable, is_signal, no_thread, thread_at, thread_in, thread_numbers, top_kind, top_left, waiting_in}
-use Rattle.rules_machine.specs.Ticks.{TickEnd, capacity_in, completes, completes_at, consumed_in, ends_tick, frames_charged, nothing, slice_is_used, tick_end, tick_ends, unless_killed}
+use Rattle.rules_machine.specs.Ticks.{TickEnd, capacity_in, completes, completes_at, consumed_in, ends_tick, frames_charged, nothing, slice_is_used, tick_end, tick_ends}
 use Rattle.rules_machine.specs.Turns.{Turn, settles_since, turn_of, with_thread}
 use Rattle.rules_machine.specs.Units.{in_unit}
 use Rattle.rules_machine.proofs.Reading.{thread-same}
@@ -32,11 +30,10 @@ use Rattle.laws_machine.proofs.Signals.Ignored.{sent}
 use Rattle.laws_machine.proofs.Signals.Takers.{Taker, charged_taker, taken_by, taker_of}
 use Rattle.laws_machine.proofs.Sweeps.Visits.{Quiet, sweeps_nothing}
 use Rattle.rules_leaps.specs.Quiet.{after_ticks, frames_after, server_after}
-use Rattle.rules_leaps.specs.Leap.{leap, leap_goes_on, leap_head, leap_runs, unit_leapt}
+use Rattle.rules_leaps.specs.Leap.{leap_runs, unit_leapt}
 use Rattle.laws_leaps.proofs.Quiet.Charges.{claims_same}
-use Rattle.laws_leaps.proofs.Quiet.Ticks.{idle_items, no_end}
+use Rattle.laws_leaps.proofs.Quiet.Ticks.{no_end}
 use Rattle.laws_leaps.proofs.Leaps.Bounds.{charged_capacity}
-use Rattle.laws_leaps.proofs.Leaps.LastTick.{dispatched_again}
 use Rattle.laws_leaps.proofs.Quiet.Once.{less_high}
 
 -- ---- what a charge leaves of a thread whose capacity is not used up

@@ -1,5 +1,5 @@
 -- The law of a leap: where none of the ticks but the last matters, and nothing falls due before it ends, a leap of k ticks is k ticks.
-use Rattle.std.proofs.Common.{Bool, List, None, Option, Some, [], ap, arith, refl, suc, sym, true, zero, ℕ, ◌+◌, ◌++◌, ◌≡◌}
+use Rattle.std.proofs.Common.{List, None, Option, Some, [], ap, arith, refl, suc, sym, true, zero, ℕ, ◌+◌, ◌++◌, ◌≡◌}
 use mathlib.Core.Path.{subst, ◌∙◌}
 use Rattle.words_trace.specs.Text.{Entry}
 use Rattle.rules_server.specs.Server.{ServerState, charge_ticks, is_high}
@@ -12,7 +12,7 @@ use Rattle.rules_machine.specs.Turns.{Turn, becomes, changes, settles_since, tur
 use Rattle.rules_machine.specs.Servers.{has_high}
 use Rattle.rules_machine.specs.Delivery.{sweeps}
 use Rattle.rules_machine.specs.DueItems.{instant}
-use Rattle.rules_machine.specs.Dispatch.{dispatch_event, dispatch_of, dispatches, head, is_same, tells_unless}
+use Rattle.rules_machine.specs.Dispatch.{head}
 use Rattle.rules_machine.specs.Units.{in_unit}
 use Rattle.rules_machine.specs.Ticks.{completes, later, runs, runs_head, tick_ends, unless_killed, prepares}
 use Rattle.rules_machine.specs.Runs.{Ran, ran, tick_of, ticks}
@@ -22,8 +22,6 @@ use Rattle.rules_leaps.specs.Quiet.{after_ticks}
 use Rattle.rules_leaps.specs.Leap.{later_by, leap, leap_goes_on, leap_head, leap_runs, unit_leapt}
 use Rattle.rules_moves.proofs.Waiters.Best.{running_within}
 use Rattle.rules_moves.proofs.Runs.Listed.{head_can_run}
-use Rattle.rules_moves.proofs.Runs.Ticks.{dispatched}
-use Rattle.rules_moves.proofs.Runs.Since.{dispatched_direct}
 use Rattle.rules_leaps.specs.Quiet.{told_with_dispatch}
 use Rattle.laws_leaps.proofs.Quiet.Runs.{charges}
 use Rattle.laws_leaps.proofs.Quiet.Once.{StaysHigh, charged_is, idle_once, Begins}

@@ -1,6 +1,6 @@
 -- A quiet tick is the charge of its head: nothing is delivered, and the lists stay.
 use Rattle.std.proofs.Common.{Bool, List, None, Option, Some, [], ap, arith, false, inl, inr, length, refl, suc, sym, true, zero, ℕ, ◌∷◌, ◌≡◌, ◌⊎◌, ◌+◌, ◌++◌}
-use Rattle.std.specs.Prelude.{nat_lt, option_and_then, option_map, ◌-◌, ◌==◌, ◌&&◌, ◌||◌, if◌then◌else◌, is_some}
+use Rattle.std.specs.Prelude.{option_and_then, option_map, ◌-◌, ◌==◌, ◌&&◌, ◌||◌, if◌then◌else◌, is_some}
 use mathlib.Core.Path.{ap₂, subst, ◌∙◌}
 use Rattle.words_script.specs.declared.policy.Policy.{Policy}
 use Rattle.words_script.specs.declared.policy.Policy.TheVariants as policy
@@ -18,7 +18,7 @@ use Rattle.rules_machine.specs.Servers.{charged, has_high, closes, has_run, may_
 use Rattle.rules_machine.specs.Delivery.{sweeps}
 use Rattle.rules_machine.specs.Dispatch.{dispatches, head, dispatch_of}
 use Rattle.rules_machine.specs.Units.{in_unit, Following, advances, advancing, begins_finish, cleaning_up, continuing, finishing, following, in_cleanup, takes_unit}
-use Rattle.rules_machine.specs.Ticks.{TickEnd, capacity_in, completes_at, ends_tick, goes_on, later, nothing, runs, runs_head, slice_is_used, tick_charged, tick_end, tick_ends, unit_ticked, unless_killed, prepares}
+use Rattle.rules_machine.specs.Ticks.{TickEnd, capacity_in, completes_at, ends_tick, goes_on, nothing, runs, runs_head, slice_is_used, tick_charged, tick_end, tick_ends, unit_ticked, unless_killed, prepares}
 use Rattle.rules_machine.specs.Eventful.{head_matters, tick_matters, unless_ended}
 use Rattle.rules_machine.proofs.Reading.{thread-same}
 use Rattle.rules_machine.proofs.Standing.{stands}
@@ -27,7 +27,6 @@ use Rattle.rules_moves.proofs.Waiters.OfThreads.{changed_is}
 use Rattle.rules_moves.proofs.Runs.Listed.{AllRun, head_can_run}
 use Rattle.laws_machine.proofs.Lists.Places.{Stand, settled_stays}
 use Rattle.rules_moves.proofs.Runs.Ticks.{charged_turn, dispatched, in_unit_status}
-use Rattle.rules_moves.proofs.Runs.Since.{dispatched_direct}
 use Rattle.laws_machine.proofs.Lists.Kept.{Plans, in_unit_plans, stand_prepared, strict_high}
 use Rattle.laws_machine.proofs.Signals.Ignored.{sent}
 use Rattle.laws_machine.proofs.Sweeps.Visits.{Quiet, sweeps_nothing}
@@ -36,7 +35,7 @@ use Rattle.rules_leaps.specs.Quiet.{charged_head, charged_unless_killed, one_cha
 use Rattle.laws_machine.proofs.Signals.Takers.{Taker, charge_of, charged_taker, taken_by, taker_of}
 use Rattle.rules_machine.proofs.BehindTicks.{prepares_behind}
 use Rattle.rules_moves.proofs.Runs.Preparing.{Alike, PreparingKeeps, alike_runs, prepares_keep}
-use Rattle.laws_machine.proofs.Servers.Right.{run_parts}
+use Rattle.laws_machine.proofs.Servers.OfThreads.{run_parts}
 use Rattle.laws_machine.proofs.Sweeps.Kept.{Swept, swept_dispatched, swept_planned, swept_served}
 use Rattle.laws_leaps.proofs.Quiet.Once.{less_high}
 

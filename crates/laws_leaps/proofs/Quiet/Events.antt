@@ -1,5 +1,5 @@
 -- What quiet ticks tell: the items of the instant before them, and the dispatch that follows where it is a change.
-use Rattle.std.proofs.Common.{Bool, List, None, Option, Some, [], ap, arith, false, refl, suc, sym, true, zero, ℕ, ◌+◌, ◌<◌, ◌≤◌, ◌∷◌, ◌++◌, ◌≡◌}
+use Rattle.std.proofs.Common.{List, None, Option, Some, [], ap, arith, false, refl, suc, sym, zero, ℕ, ◌+◌, ◌<◌, ◌≤◌, ◌∷◌, ◌++◌, ◌≡◌}
 use mathlib.Core.Path.{◌∙◌}
 use Rattle.words_script.specs.declared.decl.Script.{Script}
 use Rattle.rules_bodies.specs.Next.{Place}
@@ -7,7 +7,7 @@ use Rattle.words_trace.specs.Text.{Entry}
 use Rattle.rules_machine.specs.Bodies.{Bodies}
 use Rattle.rules_machine.specs.State.{Machine}
 use Rattle.rules_machine.specs.Turns.{Turn, turn_of}
-use Rattle.rules_machine.specs.Dispatch.{dispatch_event, dispatch_of, dispatches, head, is_same, tells_unless}
+use Rattle.rules_machine.specs.Dispatch.{head}
 use Rattle.rules_machine.specs.Runs.{opening}
 use Rattle.rules_machine.specs.Machine.{bodies_of, events, machine}
 use Rattle.rules_machine.specs.Eventful.{has_item, is_eventful, next_tick_matters}

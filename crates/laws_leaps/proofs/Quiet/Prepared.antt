@@ -1,24 +1,20 @@
 -- A machine whose head has begun its tick: Close and Open have nothing more to do, and a charge leaves it so.
 use Rattle.std.proofs.Common.{Bool, List, None, Option, Some, [], ap, arith, false, inl, inr, refl, suc, sym, true, zero, ℕ, ◌+◌, ◌∷◌, ◌≡◌, ◌⊎◌}
-use Rattle.std.specs.Prelude.{is_some, nat_lt, not, option_map, ◌==◌, ◌&&◌, ◌||◌, if◌then◌else◌}
+use Rattle.std.specs.Prelude.{not, option_map, ◌==◌, ◌&&◌, if◌then◌else◌}
 use mathlib.Core.Path.{subst, ◌∙◌}
 use Rattle.words_trace.specs.declared.event.Event.{Event}
-use Rattle.rules_server.specs.Server.{ServerState, activate, charge, is_high, plan}
+use Rattle.rules_server.specs.Server.{ServerState, charge, is_high}
 use Rattle.rules_machine.specs.declared.dispatch.LastDispatch.{LastDispatch}
-use Rattle.rules_machine.specs.declared.dispatch.LastDispatch.TheVariants as last
 use Rattle.rules_machine.specs.Lists.{changed_at, is}
 use Rattle.rules_machine.specs.Bodies.{Bodies}
 use Rattle.rules_machine.specs.State.{Machine, Thread}
-use Rattle.rules_machine.specs.Threads.{can_run, no_thread, thread_at, thread_in, thread_numbers}
-use Rattle.rules_machine.specs.Turns.{Turn, changes, turn_of, with_thread}
-use Rattle.rules_machine.specs.Servers.{activates_server, charged, closes, closes_of, has_run, is_strict, may_open, opens, opens_for, opens_if, plans_if, with_server, plans_server}
+use Rattle.rules_machine.specs.Threads.{no_thread, thread_at, thread_in, thread_numbers}
+use Rattle.rules_machine.specs.Turns.{Turn, turn_of}
+use Rattle.rules_machine.specs.Servers.{charged, closes, closes_of, has_run, is_strict, may_open, opens, opens_for, opens_if, plans_if, plans_server}
 use Rattle.rules_machine.specs.Dispatch.{dispatch_event, dispatch_of, dispatches, head, is_same, tells_unless}
 use Rattle.rules_machine.specs.Units.{in_unit}
 use Rattle.rules_machine.specs.Ticks.{prepares, tick_charged}
-use Rattle.rules_machine.proofs.Reading.{thread-same}
 use Rattle.rules_moves.proofs.Waiters.OfThreads.{changed_is}
-use Rattle.rules_moves.proofs.Runs.Preparing.{IsReady}
-use Rattle.laws_machine.proofs.Lists.Kept.{Plans, in_unit_plans}
 use Rattle.rules_leaps.specs.Quiet.{after_quiet, at_head, charged_head}
 
 -- ---- a charge alone, of a machine whose head has begun its tick

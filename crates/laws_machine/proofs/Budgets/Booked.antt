@@ -6,15 +6,17 @@ use Rattle.words_numbers.specs.Parameters.{Parameters}
 use Rattle.rules_server.specs.declared.Replenish.{Replenish}
 use Rattle.rules_server.specs.declared.ServerKind.{ServerKind}
 use Rattle.rules_server.specs.declared.ServerKind.TheVariants as kind
-use Rattle.rules_server.specs.Server.{ServerState, activate, is_high, new_server, next_due, oldest_pending, refill, refill_from, set_high, new_server_as}
+use Rattle.rules_server.specs.Server.{ServerState, activate, is_high, next_due, oldest_pending, refill, refill_from, set_high, new_server_as}
 use Rattle.rules_machine.specs.Budget.{ServerEvent, activated, refilled}
 use Rattle.rules_machine.specs.State.{Status}
 use Rattle.rules_machine.specs.Threads.{is_runnable}
 use Rattle.rules_machine.specs.Servers.{amount_of, regains_high}
 use Rattle.rules_machine.specs.DueItems.{has_come}
-use Rattle.rules_moves.specs.Moves.{does}
-use Rattle.laws_machine.proofs.Budgets.Accounts.{Books, InStep, activated_books, activated_in_step, count_last, new_books, priced_books, refilled_books, since_last, stays_active}
-use Rattle.laws_machine.proofs.Servers.Right.{not_strict, refill_kind}
+use Rattle.laws_machine.proofs.Budgets.Accounts.{Books, InStep, activated_books, activated_in_step, new_books, priced_books}
+use Rattle.laws_machine.proofs.Budgets.Entries.{count_last, since_last, stays_active}
+use Rattle.laws_machine.proofs.Budgets.Replenishments.{refilled_books}
+use Rattle.laws_machine.proofs.Servers.Changed.{refill_kind}
+use Rattle.laws_machine.proofs.Servers.Right.{not_strict}
 
 -- Where something is consumed, or a tick may be charged, what was consumed is what was used since the activation.
 pub record Booked (now : ℕ) (status : Status) (x : ServerState) (acc : List ServerEvent) : Type 0 where

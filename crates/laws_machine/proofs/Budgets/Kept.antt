@@ -24,7 +24,7 @@ use Rattle.rules_machine.specs.Calls.{unit_effect}
 use Rattle.rules_machine.specs.DueItems.{instant, items_done, next_item}
 use Rattle.rules_machine.specs.Dispatch.{dispatch_event, dispatches, head, is_same, tells_unless, dispatch_of, runner}
 use Rattle.rules_machine.specs.Units.{in_unit}
-use Rattle.rules_machine.specs.Ticks.{completes_at, ends_tick, runs, runs_head, tick_charged, tick_end, unless_killed, consumed_in, prepares}
+use Rattle.rules_machine.specs.Ticks.{completes_at, ends_tick, runs, tick_charged, tick_end, unless_killed, consumed_in, prepares}
 use Rattle.rules_machine.specs.Runs.{Ran, opening, tick_of, ticks, follow, tick_begun, tick_prepared, tick_run}
 use Rattle.rules_machine.specs.Declarations.{threads_of}
 use Rattle.rules_machine.specs.GoodState.{is_sporadic}
@@ -38,7 +38,7 @@ use Rattle.rules_moves.proofs.Runs.Listed.{AllRun, head_can_run}
 use Rattle.rules_moves.proofs.Runs.Units.{in_unit_fits}
 use Rattle.rules_moves.proofs.Runs.Ticks.{Rests, charged_runs, charged_turn, completes_keep, dispatched, in_unit_status, instant_keep, items_keep, run_keep, sweeps_keep}
 use Rattle.laws_machine.proofs.Servers.Moves.{Threads}
-use Rattle.laws_machine.proofs.Servers.Ticks.{ServedDone, ServedMid, ServedRight, dispatched_threads, served_stop, served_tick}
+use Rattle.laws_machine.proofs.Servers.Ticks.{ServedDone, ServedMid, ServedRight, served_stop, served_tick}
 use Rattle.laws_machine.proofs.Servers.Units.{kept_in_unit}
 use Rattle.laws_machine.proofs.Parts.Opening.{opening_listed}
 use Rattle.laws_machine.proofs.Servers.Kept.{opened_server, opening_served}
@@ -50,7 +50,8 @@ use Rattle.rules_machine.specs.Lists.{changed_at, is}
 use Rattle.rules_machine.specs.Priorities.{exec}
 use Rattle.rules_moves.proofs.Waiters.OfThreads.{changed_is}
 use Rattle.rules_moves.proofs.Runs.Preparing.{Alike, PreparingKeeps, alike_runs, closed_all, closes_keep, prepared, prepares_keep}
-use Rattle.laws_machine.proofs.Servers.Right.{in_time, in_time_later, not_strict, only, opening_none, planned_due, run_parts}
+use Rattle.laws_machine.proofs.Servers.OfThreads.{in_time, in_time_later, only, opening_none, planned_due, run_parts}
+use Rattle.laws_machine.proofs.Servers.Right.{not_strict}
 use Rattle.laws_machine.proofs.Servers.Ends.{has_server}
 
 -- ---- a tick

@@ -11,7 +11,7 @@ use Rattle.words_trace.specs.declared.event.Event.TheVariants as event
 use Rattle.words_trace.specs.Text.{Entry}
 use Rattle.rules_server.specs.declared.ServerKind.{ServerKind}
 use Rattle.rules_server.specs.declared.ServerKind.TheVariants as kind
-use Rattle.rules_server.specs.Server.{ServerState, activate, is_high, new_server, next_due, oldest_pending, refill, set_high, new_server_as}
+use Rattle.rules_server.specs.Server.{ServerState, activate, is_high, next_due, oldest_pending, refill, set_high, new_server_as}
 use Rattle.rules_machine.specs.Budget.{ServerEvent, activated, all_recorded, recorded, recorded_if, refilled}
 use Rattle.rules_machine.specs.Lists.{changed_at}
 use Rattle.rules_machine.specs.Bodies.{Bodies}
@@ -28,7 +28,8 @@ use Rattle.rules_machine.proofs.Reading.{changed-length, thread-other, thread-sa
 use Rattle.rules_moves.specs.Moves.{Core, MayAwake, Move, alters, begins, blocks_for, blocks_plainly, does, drops, ends_with, enters_frame, is_plain, is_quiet, leaves_frame, lives_no_more, prices, pushed, pushes, recasts, refills_one, rejoins, renews_with, tells_of, wakes_with}
 use Rattle.rules_moves.proofs.Waiters.Best.{blocked_within}
 use Rattle.rules_moves.proofs.Waiters.OfThreads.{changed_is}
-use Rattle.laws_machine.proofs.Servers.Right.{ServerIn, ThreadRight, none_consumed, only, not_strict}
+use Rattle.laws_machine.proofs.Servers.OfThreads.{ThreadRight, none_consumed, only}
+use Rattle.laws_machine.proofs.Servers.Right.{ServerIn, not_strict}
 use Rattle.laws_machine.proofs.Servers.Moves.{Awake, Threads, here, sleeper}
 use Rattle.laws_machine.proofs.Servers.Ends.{has_server}
 use Rattle.laws_machine.proofs.Budgets.Booked.{Booked, Still, IsNew, IsActive, contra, active_booked, low_booked, priced_booked, new_still, other_status, refill_same, refill_booked, refill_stays, strict_booked}

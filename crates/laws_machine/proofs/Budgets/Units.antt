@@ -40,12 +40,15 @@ use Rattle.rules_moves.proofs.Waiters.Best.{Each}
 use Rattle.rules_moves.proofs.Calls.Objects.{answered_status}
 use Rattle.rules_moves.proofs.Calls.Table.{unit_keep}
 use Rattle.rules_moves.proofs.Runs.Ticks.{RoundKeeps}
-use Rattle.laws_machine.proofs.Servers.Right.{Rising, only, high_parts, InTime}
+use Rattle.laws_machine.proofs.Servers.Changed.{high_parts}
+use Rattle.laws_machine.proofs.Servers.OfThreads.{only, InTime}
+use Rattle.laws_machine.proofs.Servers.Right.{Rising}
 use Rattle.laws_machine.proofs.Servers.Moves.{here}
 use Rattle.laws_machine.proofs.Servers.Alert.{awake_of}
 use Rattle.laws_machine.proofs.Servers.Ends.{end_by, has_server}
 use Rattle.laws_machine.proofs.Servers.Ticks.{ServedDone, ServedMid, ServedRight, nobody_awake, served_renew, served_stop, served_tick}
-use Rattle.laws_machine.proofs.Budgets.Accounts.{later_books, planned_books, used_books, used_in_step, InStep}
+use Rattle.laws_machine.proofs.Budgets.Accounts.{used_books, used_in_step, InStep}
+use Rattle.laws_machine.proofs.Budgets.Replenishments.{later_books, planned_books}
 use Rattle.laws_machine.proofs.Budgets.Booked.{Booked}
 use Rattle.laws_machine.proofs.Budgets.Moves.{Recorded, joined_posted, other, own, posted_keep, posted_not, posted_so, renewed_other, renewed_posted, same_server, sleeps_posted, told, told_plainly}
 

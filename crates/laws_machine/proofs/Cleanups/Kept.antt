@@ -1,7 +1,7 @@
 -- Every run keeps the cleanup handlers of each thread right.
-use Rattle.std.proofs.Common.{Bool, List, None, Option, Some, [], ap, arith, false, length, refl, suc, sym, true, zero, ℕ, ◌≤◌, ◌∷◌, ◌≡◌}
+use Rattle.std.proofs.Common.{Bool, List, None, Option, Some, [], arith, false, length, refl, suc, sym, true, zero, ℕ, ◌≤◌, ◌∷◌, ◌≡◌}
 use Rattle.std.specs.Prelude.{map, ◌==◌, if◌then◌else◌}
-use mathlib.Core.Path.{subst, ◌∙◌}
+use mathlib.Core.Path.{subst}
 use Rattle.words_numbers.specs.declared.item.Item.{Item}
 use Rattle.words_script.specs.declared.decl.Script.{Script}
 use Rattle.rules_machine.specs.declared.frame.BodyOf.{BodyOf}

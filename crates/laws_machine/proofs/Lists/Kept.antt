@@ -37,13 +37,14 @@ use Rattle.laws_machine.proofs.Lists.Priorities.{AllFit, MutexFits, ThreadFits, 
 use Rattle.laws_machine.proofs.Lists.Arrivals.{Come, changed_come, come_keep, come_stop, ended_come}
 use Rattle.rules_moves.proofs.Runs.Units.{threads_fit}
 use Rattle.rules_moves.proofs.Runs.Ticks.{charged_turn, dispatched}
-use Rattle.rules_moves.proofs.Runs.Since.{TickSince, dispatched_direct}
+use Rattle.rules_moves.proofs.Runs.Since.{TickSince}
 use Rattle.laws_machine.proofs.Parts.Kept.{PartsRight, elsewhere, parts_renewing, parts_stop, parts_tick, recast}
 use Rattle.laws_machine.proofs.Parts.Opening.{opening_right}
 use Rattle.rules_moves.proofs.Runs.Units as units_fit
 use Rattle.rules_machine.specs.Priorities.{Claim, assigned_under, claim_of, exec_in, mutex_awaited_by}
 use Rattle.rules_machine.proofs.Reading.{changed-keeps}
-use Rattle.laws_machine.proofs.Servers.Right.{not_strict, run_parts}
+use Rattle.laws_machine.proofs.Servers.OfThreads.{run_parts}
+use Rattle.laws_machine.proofs.Servers.Right.{not_strict}
 use Rattle.rules_moves.proofs.Runs.Preparing.{PreparingKeeps}
 
 -- between settlings' effects

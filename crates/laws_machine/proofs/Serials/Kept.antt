@@ -1,7 +1,7 @@
 -- Each serial is paid for by a tick, at every instant of every run.
 use Rattle.std.proofs.Common.{Bool, List, None, Option, Some, [], ap, arith, refl, suc, sym, true, zero, ℕ, ◌+◌, ◌≤◌, ◌∷◌, ◌≡◌}
 use Rattle.std.specs.Prelude.{map, nat_lt, ◌&&◌}
-use mathlib.Core.Path.{subst, ◌∙◌}
+use mathlib.Core.Path.{subst}
 use Rattle.words_numbers.specs.declared.item.Item.{Item}
 use Rattle.words_script.specs.declared.decl.Script.{Script}
 use Rattle.rules_bodies.specs.declared.unit.Unit.{Unit}
@@ -17,7 +17,7 @@ use Rattle.rules_machine.specs.Dispatch.{dispatches, head}
 use Rattle.rules_machine.specs.Units.{in_unit}
 use Rattle.rules_machine.specs.Ticks.{completes_at, runs, runs_head, tick, tick_end, tick_ends, unit_ticked, unless_killed, planning, prepares}
 use Rattle.rules_machine.specs.Runs.{opening, thread_opened, ticks}
-use Rattle.rules_machine.proofs.ItemsEnd.{instant_ends, next_is_due}
+use Rattle.rules_machine.proofs.ItemsEnd.{next_is_due}
 use Rattle.rules_machine.specs.WellFormed.{IsWellFormed}
 use Rattle.rules_moves.specs.UnitRanges.{BodiesFit}
 use Rattle.rules_moves.proofs.Calls.Table.{sweeps_all_keep}

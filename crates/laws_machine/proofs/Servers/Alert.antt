@@ -8,7 +8,7 @@ use Rattle.words_script.specs.declared.policy.Policy.TheVariants as policy
 use Rattle.words_trace.specs.declared.event.Event.TheVariants as event
 use Rattle.rules_server.specs.declared.ServerKind.TheVariants as kind
 use Rattle.rules_server.specs.Server.{ServerState, activate, new_server, new_server_as, set_high}
-use Rattle.rules_machine.specs.Lists.{changed_at, is}
+use Rattle.rules_machine.specs.Lists.{changed_at}
 use Rattle.rules_machine.specs.Bodies.{Bodies}
 use Rattle.rules_machine.specs.State.{Status, Thread, Waiting, blocked, dormant, ended, for_mutex_again, runnable}
 use Rattle.rules_machine.specs.Threads.{is_blocked, no_thread, thread_at, thread_in, waiting_in}
@@ -18,12 +18,11 @@ use Rattle.rules_machine.specs.Waking.{ending_with, on_top, put_to_wait, started
 use Rattle.rules_machine.specs.Lives.{with_joiner, without_life, without_top}
 use Rattle.rules_machine.specs.Cancellation.{without_cleanup}
 use Rattle.rules_machine.specs.Scheduling.{with_policy, with_priority}
-use Rattle.rules_machine.specs.Ticks.{nothing}
 use Rattle.rules_machine.specs.GoodState.{is_in_condition_wait}
 use Rattle.rules_moves.specs.Moves.{Core, KeepsAwake, alters, begins, blocks_for, blocks_plainly, drops, ends_with, enters_frame, leaves_frame, lives_no_more, prices, pushed, pushes, recasts, refills_one, rejoins, renews_with, wakes_with}
 use Rattle.rules_moves.proofs.Waiters.OfThreads.{changed_is}
-use Rattle.laws_machine.proofs.Servers.Right.{only}
-use Rattle.laws_machine.proofs.Servers.Moves.{Awake, one}
+use Rattle.laws_machine.proofs.Servers.OfThreads.{only}
+use Rattle.laws_machine.proofs.Servers.Moves.{Awake}
 
 -- nothing of it is consumed
 abbrev pub NoneOf : Option ServerState → Type 0

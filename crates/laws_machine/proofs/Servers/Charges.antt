@@ -9,10 +9,11 @@ use Rattle.rules_server.specs.Server.{ServerState, charge, is_high}
 use Rattle.rules_machine.specs.State.{Status, Waiting, blocked, dormant, ended, runnable}
 use Rattle.rules_machine.specs.Threads.{is_live, is_runnable}
 use Rattle.rules_machine.specs.Servers.{charged, has_high, has_run, is_strict, may_open}
-use Rattle.rules_machine.specs.Ticks.{nothing}
 use Rattle.rules_machine.specs.GoodState.{is_sporadic}
 use Rattle.rules_moves.proofs.Waiters.Best.{Each}
-use Rattle.laws_machine.proofs.Servers.Right.{ServerIn, Sound, ThreadIn, charged_in, only, with_other}
+use Rattle.laws_machine.proofs.Servers.Changed.{charged_in}
+use Rattle.laws_machine.proofs.Servers.OfThreads.{ThreadIn, only, with_other}
+use Rattle.laws_machine.proofs.Servers.Right.{ServerIn, Sound}
 use Rattle.laws_machine.proofs.Servers.Alert.{NoneOf, contra}
 
 each_weaker : {X : Type 0} (A B : X → Type 0) → ((x : X) → A x → B x) → (xs : List X) → Each A xs → Each B xs

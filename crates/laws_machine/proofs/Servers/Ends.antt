@@ -5,7 +5,7 @@ use mathlib.Core.Path.{subst, ◌∙◌}
 use Rattle.words_script.specs.declared.policy.Policy.{Policy}
 use Rattle.words_script.specs.declared.policy.Policy.TheVariants as policy
 use Rattle.words_trace.specs.declared.event.Event.TheVariants as event
-use Rattle.rules_server.specs.Server.{ServerState, is_high, plan}
+use Rattle.rules_server.specs.Server.{ServerState, plan}
 use Rattle.rules_machine.specs.Lists.{is}
 use Rattle.rules_machine.specs.Bodies.{Bodies}
 use Rattle.rules_machine.specs.State.{Status, Thread, Waiting, blocked, dormant, ended, runnable}
@@ -17,7 +17,9 @@ use Rattle.rules_machine.specs.Ticks.{TickEnd, capacity_in, consumed_in, ends_ti
 use Rattle.rules_machine.specs.GoodState.{HasParameters, is_sporadic}
 use Rattle.rules_machine.proofs.Reading.{changed-keeps, thread-other, thread-same}
 use Rattle.rules_moves.specs.Moves.{Runs}
-use Rattle.laws_machine.proofs.Servers.Right.{ServerIn, ThreadIn, ThreadRight, high_again, only, planned_in}
+use Rattle.laws_machine.proofs.Servers.Changed.{high_again, planned_in}
+use Rattle.laws_machine.proofs.Servers.OfThreads.{ThreadIn, ThreadRight, only}
+use Rattle.laws_machine.proofs.Servers.Right.{ServerIn}
 use Rattle.laws_machine.proofs.Servers.Moves.{Threads, one}
 use Rattle.laws_machine.proofs.Servers.Alert.{NoneOf, contra}
 use Rattle.laws_machine.proofs.Servers.Charges.{thread_sleeps}

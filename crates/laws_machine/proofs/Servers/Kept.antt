@@ -19,7 +19,8 @@ use Rattle.rules_machine.specs.WellFormed.{IsWellFormed}
 use Rattle.rules_moves.proofs.Waiters.Best.{Each}
 use Rattle.rules_moves.proofs.Runs.Units as units_fit
 use Rattle.rules_moves.proofs.Runs.Units.{threads_fit}
-use Rattle.laws_machine.proofs.Servers.Right.{MayServe, Rising, ServerIn, ThreadRight, fits_serve}
+use Rattle.laws_machine.proofs.Servers.OfThreads.{MayServe, ThreadRight, fits_serve}
+use Rattle.laws_machine.proofs.Servers.Right.{Rising, ServerIn}
 use Rattle.laws_machine.proofs.Servers.Moves.{Threads}
 use Rattle.laws_machine.proofs.Servers.Ticks.{ServedRight}
 use Rattle.laws_machine.proofs.Parts.Opening.{opening_right}

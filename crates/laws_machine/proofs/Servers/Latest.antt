@@ -1,6 +1,6 @@
 -- Only the thread of the last tick has an open run: every move keeps it, and what precedes the tick of the head closes all others.
-use Rattle.std.proofs.Common.{Bool, List, None, Option, Some, [], ap, arith, false, inl, inr, refl, suc, sym, true, zero, ℕ, ◌+◌, ◌∷◌, ◌≡◌, ◌⊎◌}
-use Rattle.std.specs.Prelude.{map, nat_lt, option_map, ◌&&◌, ◌==◌, if◌then◌else◌}
+use Rattle.std.proofs.Common.{Bool, List, None, Option, Some, [], ap, arith, false, inl, inr, refl, suc, sym, true, zero, ℕ, ◌∷◌, ◌≡◌, ◌⊎◌}
+use Rattle.std.specs.Prelude.{map, nat_lt, option_map, ◌&&◌, ◌==◌}
 use mathlib.Core.Path.{subst, ◌∙◌}
 use Rattle.words_script.specs.declared.decl.Script.{Script}
 use Rattle.words_script.specs.declared.policy.Policy.{Policy}
@@ -10,7 +10,6 @@ use Rattle.rules_server.specs.declared.Replenish.{Replenish}
 use Rattle.rules_server.specs.declared.ServerKind.{ServerKind}
 use Rattle.rules_server.specs.declared.ServerKind.TheVariants as kind
 use Rattle.rules_server.specs.Server.{ServerState, activate, oldest_pending, plan, refill, refill_from, set_high}
-use Rattle.rules_machine.specs.declared.dispatch.LastDispatch.{LastDispatch}
 use Rattle.rules_machine.specs.declared.dispatch.LastDispatch.TheVariants as last
 use Rattle.rules_machine.specs.Lists.{changed_at, is}
 use Rattle.rules_machine.specs.Bodies.{Bodies}
@@ -29,7 +28,7 @@ use Rattle.rules_machine.specs.Ticks.{TickEnd, ends_tick, exhausting, nothing, p
 use Rattle.rules_machine.specs.Runs.{opening, thread_opened, ticks}
 use Rattle.rules_machine.specs.Throughout.{HoldsThroughout}
 use Rattle.rules_machine.specs.WellFormed.{IsWellFormed}
-use Rattle.rules_moves.specs.Moves.{Core, MayRenewing, Move, alters, begins, blocks_for, blocks_plainly, core_of, does, drops, ends_with, enters_frame, leaves_frame, lives_no_more, prices, pushed, pushes, recasts, refills_one, rejoins, renews_with, wakes_with}
+use Rattle.rules_moves.specs.Moves.{Core, MayRenewing, Move, alters, begins, blocks_for, blocks_plainly, does, drops, ends_with, enters_frame, leaves_frame, lives_no_more, prices, pushed, pushes, recasts, refills_one, rejoins, renews_with, wakes_with}
 use Rattle.rules_moves.specs.UnitRanges.{BodiesFit}
 use Rattle.rules_moves.proofs.Waiters.OfThreads.{changed_is}
 use Rattle.rules_moves.proofs.Runs.Preparing.{Closed, IsReady}

@@ -26,7 +26,9 @@ use Rattle.rules_machine.proofs.Reading.{changed-length, changed-twice, thread-o
 use Rattle.rules_moves.specs.Moves.{Core, MayAwake, Move, alters, begins, blocks_for, blocks_plainly, core_of, does, drops, ends_with, enters_frame, leaves_frame, lives_no_more, prices, pushed, pushes, recasts, refills_one, rejoins, renews_with, wakes_with}
 use Rattle.rules_moves.proofs.Waiters.Best.{blocked_within}
 use Rattle.rules_moves.proofs.Waiters.OfThreads.{changed_is}
-use Rattle.laws_machine.proofs.Servers.Right.{MayServe, ServerIn, ThreadIn, ThreadRight, activated_as, activated_in, new_thread_in, none_consumed, only, priced_in, refill_kind, refill_params, refilled_in, refilled_of, with_other, woken_if, woken_in, woken_server}
+use Rattle.laws_machine.proofs.Servers.Changed.{activated_as, activated_in, refill_kind, refill_params, refilled_in, refilled_of}
+use Rattle.laws_machine.proofs.Servers.OfThreads.{MayServe, ThreadIn, ThreadRight, new_thread_in, none_consumed, only, priced_in, with_other, woken_if, woken_in, woken_server}
+use Rattle.laws_machine.proofs.Servers.Right.{ServerIn}
 
 module _ {P : Type 0} (bodies : Bodies P) (who : Option ℕ) where
   -- the servers of all threads are right, that of the thread whose unit is under way as its tick left it

@@ -1,8 +1,6 @@
 -- Servers rest where they are right.
-use Rattle.std.proofs.Common.{Bool, arith, false, length, suc, true, zero, ℕ, ◌<◌, ◌≡◌, ◌≤◌}
-use Rattle.std.specs.Prelude.{nat_lt, ◌&&◌}
+use Rattle.std.proofs.Common.{Bool, arith, false, suc, true, zero, ℕ, ◌≡◌, ◌≤◌}
 use Rattle.words_script.specs.declared.decl.Script.{Script}
-use Rattle.rules_server.specs.Server.{ServerState, is_high}
 use Rattle.rules_machine.specs.Bodies.{Bodies}
 use Rattle.rules_machine.specs.State.{Machine}
 use Rattle.rules_machine.specs.GoodState.{ServersAreRight}
@@ -12,7 +10,7 @@ use Rattle.rules_machine.specs.WellFormed.{IsWellFormed}
 use Rattle.rules_moves.specs.UnitRanges.{BodiesFit}
 use Rattle.laws_machine.specs.Rest.{ServersRest}
 use Rattle.laws_machine.proofs.Items.{servers_throughout}
-use Rattle.laws_machine.proofs.Servers.Right.{high_parts}
+use Rattle.laws_machine.proofs.Servers.Changed.{high_parts}
 
 none_where : (n : ℕ) → (1 ≤ n → ⊥) → n ≡ 0
 none_where zero h = omega arith

@@ -3,12 +3,11 @@ use Rattle.std.proofs.Common.{Bool, None, Option, Some, ap, arith, false, refl, 
 use Rattle.std.specs.Prelude.{option_map, ◌==◌}
 use mathlib.Core.Path.{subst, ◌∙◌}
 use Rattle.words_script.specs.declared.policy.Policy.{Policy}
-use Rattle.rules_server.specs.Server.{ServerState, charge, plan}
-use Rattle.rules_machine.specs.Lists.{is}
+use Rattle.rules_server.specs.Server.{ServerState, plan}
 use Rattle.rules_machine.specs.Bodies.{Bodies}
 use Rattle.rules_machine.specs.State.{Machine, Status, Thread, Waiting, blocked, dormant, ended, for_end, runnable, waits_to_join}
 use Rattle.rules_machine.specs.Threads.{can_run, is_blocked, is_runnable, no_thread, thread_at}
-use Rattle.rules_machine.specs.Turns.{Turn, changes, moves}
+use Rattle.rules_machine.specs.Turns.{Turn, changes}
 use Rattle.rules_machine.specs.Servers.{charged, has_high, has_run, plans_server, with_server}
 use Rattle.rules_machine.specs.Waking.{put_to_wait}
 use Rattle.rules_machine.specs.Lives.{with_joiner}
@@ -19,7 +18,7 @@ use Rattle.rules_machine.proofs.Reading.{changed-keeps, thread-other, thread-sam
 use Rattle.rules_moves.specs.Moves.{Stops}
 use Rattle.rules_moves.proofs.Waiters.Best.{running_within}
 use Rattle.rules_moves.proofs.Calls.Commuting.{status_kept}
-use Rattle.laws_machine.proofs.Servers.Right.{ThreadIn, ThreadRight, closed_in, fits_serve, only, opening_none, with_other}
+use Rattle.laws_machine.proofs.Servers.OfThreads.{ThreadIn, ThreadRight, closed_in, fits_serve, only, opening_none, with_other}
 use Rattle.laws_machine.proofs.Servers.Moves.{Awake, Threads, activates_right, one, threads_keep, threads_renewed}
 use Rattle.rules_moves.proofs.Runs.Preparing.{IsReady}
 use Rattle.rules_moves.proofs.Runs.Ticks.{TickKeeps, charged_turn, dispatched}

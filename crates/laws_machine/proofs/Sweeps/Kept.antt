@@ -1,5 +1,5 @@
 -- What holds after each sweep, every run keeps: that no signal can be taken, beside lists, intervals and pending records.
-use Rattle.std.proofs.Common.{Bool, None, Option, Some, ap, false, refl, suc, sym, true, zero, ℕ, ◌≡◌}
+use Rattle.std.proofs.Common.{Bool, None, Option, Some, false, refl, suc, sym, true, zero, ℕ, ◌≡◌}
 use mathlib.Core.Path.{subst, ◌∙◌}
 use Rattle.words_numbers.specs.declared.item.Item.{Item}
 use Rattle.words_script.specs.declared.decl.Script.{Script}
@@ -14,7 +14,7 @@ use Rattle.rules_machine.specs.Dispatch.{dispatches, head}
 use Rattle.rules_machine.specs.Units.{in_unit}
 use Rattle.rules_machine.specs.Ticks.{completes_at, later, runs, runs_head, tick, tick_ends, unit_ticked, unless_killed, prepares}
 use Rattle.rules_machine.specs.Runs.{opening, ticks}
-use Rattle.rules_machine.proofs.ItemsEnd.{instant_ends, next_is_due}
+use Rattle.rules_machine.proofs.ItemsEnd.{next_is_due}
 use Rattle.rules_machine.specs.WellFormed.{IsWellFormed}
 use Rattle.rules_moves.specs.UnitRanges.{BodiesFit}
 use Rattle.rules_moves.proofs.Runs.Listed.{AllRun, head_can_run}
