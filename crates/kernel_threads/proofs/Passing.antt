@@ -76,11 +76,11 @@ pub record HasGone (code : NumberedBodies (List Op)) (most rest : ℕ) (old now 
   pub whole : now.left ≡ 0
   pub steps : steps_now ≡ steps_before + length units
 
-goes_past : (code : NumberedBodies (List Op)) (most rest k steps_before steps_now : ℕ) (old now : Frame Cursor) (at : Cursor) (u : unit_type.Unit) → HasGone code most rest old now steps_before steps_now →
+goes_past : (code : NumberedBodies (List Op)) (most rest k steps_before steps_now later : ℕ) (old now : Frame Cursor) (at : Cursor) (u : unit_type.Unit) → HasGone code most rest old now steps_before steps_now →
     fetched code (cursor_of now) ≡ (at, u) →
     ((tree : Block) (place : Place) → IsBody code (cursor_of now).body tree → Stands tree place (cursor_of now) → Fetches tree place (cursor_of now) at u) →
-    IsPlaced code at → only_takes_time u ≡ true → k ≡ ticks_of u → 1 ≤ k → k < rest → HasGone code most (rest - k) old (frame_at now at) steps_before (steps_now + 1)
-goes_past code most rest k steps_before steps_now old now at u gone is next placed idle long some within =
+    IsPlaced code at → only_takes_time u ≡ true → k ≡ ticks_of u → 1 ≤ k → k < rest → later ≡ steps_now + 1 → HasGone code most (rest - k) old (frame_at now at) steps_before later
+goes_past code most rest k steps_before steps_now later old now at u gone is next placed idle long some within step =
     let kept = next gone.placed.body gone.placed.place gone.placed.is_body gone.placed.stands in
     let over : IsOver rest k (ticks_of u) u = record { idle = idle; long = long; some = some; within = within } in
     let more = longer (flat_bodies code) most rest k gone.units old now gone.each gone.frame gone.passed
@@ -93,14 +93,14 @@ goes_past code most rest k steps_before steps_now old now at u gone is next plac
       body = kept.body_same ∙ gone.body;
       placed = placed;
       whole = gone.whole;
-      steps = omega (arith, more.count, gone.steps);
+      steps = omega (arith, more.count, gone.steps, step);
     }
 
 -- the same where the units of the body gave it
-pub goes_on : (code : NumberedBodies (List Op)) (units : OneBody) (most rest k steps_before steps_now : ℕ) (old now : Frame Cursor) (at : Cursor) (u : unit_type.Unit) → units.code ≡ code →
+pub goes_on : (code : NumberedBodies (List Op)) (units : OneBody) (most rest k steps_before steps_now later : ℕ) (old now : Frame Cursor) (at : Cursor) (u : unit_type.Unit) → units.code ≡ code →
     HasGone code most rest old now steps_before steps_now → fetched units.code (cursor_of now) ≡ (at, u) →
     ((tree : Block) (place : Place) → IsBody units.code (cursor_of now).body tree → Stands tree place (cursor_of now) → Fetches tree place (cursor_of now) at u) →
-    IsPlaced units.code at → only_takes_time u ≡ true → k ≡ ticks_of u → 1 ≤ k → k < rest → HasGone code most (rest - k) old (frame_at now at) steps_before (steps_now + 1)
-goes_on code units most rest k steps_before steps_now old now at u same gone is next placed idle long some within =
-    subst (λ one. HasGone one most (rest - k) old (frame_at now at) steps_before (steps_now + 1)) same
-    (goes_past units.code most rest k steps_before steps_now old now at u (subst (λ one. HasGone one most rest old now steps_before steps_now) (sym same) gone) is next placed idle long some within)
+    IsPlaced units.code at → only_takes_time u ≡ true → k ≡ ticks_of u → 1 ≤ k → k < rest → later ≡ steps_now + 1 → HasGone code most (rest - k) old (frame_at now at) steps_before later
+goes_on code units most rest k steps_before steps_now later old now at u same gone is next placed idle long some within step =
+    subst (λ one. HasGone one most (rest - k) old (frame_at now at) steps_before later) same
+    (goes_past units.code most rest k steps_before steps_now later old now at u (subst (λ one. HasGone one most rest old now steps_before steps_now) (sym same) gone) is next placed idle long some within step)

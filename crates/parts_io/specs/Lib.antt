@@ -2,5 +2,4 @@ pub mod Causes
 pub mod Bytes
 pub mod Memory
 pub mod Whole
-pub mod Placed
 pub mod Held

@@ -1,7 +1,7 @@
 // Bytes that are held back, to be sent on together.
 ghost use Rattle.std.specs.Prelude.{◌≡◌, ◌≤◌, ◌++◌, [], drop, false, length, take, IfOk, IsTrue};
 
-use crate::place::{place_bytes, place_few};
+use parts_bytes::{place_bytes, place_few};
 use std::alloc::{AllocError, Global};
 use std::marker::Model;
 

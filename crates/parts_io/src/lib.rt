@@ -15,7 +15,6 @@ mod mem_sink;
 mod mem_source;
 mod null_sink;
 mod outside;
-mod place;
 mod std_edge;
 mod whole;
 
@@ -23,6 +22,5 @@ pub use mem_sink::MemSink;
 pub use mem_source::{MemSource, SureSource};
 pub use null_sink::NullSink;
 pub use outside::{Failed, Sink, Source};
-pub use place::{place_bytes, place_front, place_within, place_word};
 pub use std_edge::{StdSink, StdSource};
 pub use whole::{ReadEnd, read_whole};

@@ -3,8 +3,8 @@ use Rattle.std.proofs.Common.{◌<◌, ◌/◌, ◌%◌, ◌^◌, decimal, ◌�
 use Rattle.itoa.proofs.Decimal.{pair, decimal_pair, length_pair}
 use Rattle.std.proofs.lemmas.Slice.{between_is}
 use Rattle.std.specs.List.{join_with_byte, slice_range}
-use Rattle.parts_io.specs.Placed.{Placed}
-use Rattle.parts_io.proofs.Placed.{range_grows}
+use Rattle.parts_bytes.specs.Placed.{Placed}
+use Rattle.parts_bytes.proofs.Placed.{range_grows}
 use Rattle.parts_tracer.specs.Placed.{SharesDigits, words_behind}
 use Rattle.words_trace.specs.Text.{line_of_words}
 use Rattle.parts_tracer.specs.ShortLines.{AreWhole}

@@ -1,9 +1,9 @@
 // The words of calls.
 ghost use Rattle.std.specs.Prelude.{◌≡◌, ◌≤◌, ◌+◌, length};
-ghost use Rattle.parts_io.specs.Placed.{Placed};
+ghost use Rattle.parts_bytes.specs.Placed.{Placed};
 ghost use Rattle.words_trace.specs.Calls.{call_word};
 
-use parts_io::place_within;
+use parts_bytes::place_within;
 use words_trace::CallName;
 
 // The word of each call, with blanks behind it, and how long it is.

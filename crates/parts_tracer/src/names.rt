@@ -1,9 +1,9 @@
 // The names of the threads.
 ghost use Rattle.std.specs.Prelude.{◌≡◌, ◌≤◌, ◌<◌, ◌+◌, List, ℕ, [], length, replicate, slice_set, IfOk};
-ghost use Rattle.parts_io.specs.Placed.{Placed};
+ghost use Rattle.parts_bytes.specs.Placed.{Placed};
 ghost use Rattle.words_trace.specs.Text.{name_at};
 
-use parts_io::place_within;
+use parts_bytes::place_within;
 use std::alloc::{AllocError, Global};
 use std::marker::Model;
 use words_numbers::Tid;

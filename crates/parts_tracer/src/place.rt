@@ -1,9 +1,9 @@
 // Bytes put at a place of a buffer. Each function answers the place behind them.
 ghost use Rattle.std.specs.Prelude.{◌≡◌, ◌+◌, ◌<◌, ◌≤◌, [], ◌∷◌, ◌/◌, ◌%◌, length, decimal};
-ghost use Rattle.parts_io.specs.Placed.{Placed};
+ghost use Rattle.parts_bytes.specs.Placed.{Placed};
 
 use itoa::Buffer;
-use parts_io::{place_front, place_word};
+use parts_bytes::{place_front, place_word};
 
 // The two digits of each number below 100.
 static PAIRS: [[u8; 2]; 100] = [

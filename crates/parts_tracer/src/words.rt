@@ -1,7 +1,7 @@
 // The words of events and reports, which stand behind the head of a line.
 ghost use Rattle.std.specs.Prelude.{◌≡◌, ◌≤◌, ◌<◌, ◌+◌, ◌++◌, ◌∷◌, [], length, codes, decimal, IfSome, None, Some};
 ghost use Rattle.words_trace.specs.Text.{IsNamed, budget_words, event_words, name_at, report_line, signal_name};
-ghost use Rattle.parts_io.specs.Placed.{Placed};
+ghost use Rattle.parts_bytes.specs.Placed.{Placed};
 ghost use Rattle.parts_tracer.specs.Placed.{blanks_before, words_behind};
 ghost use Rattle.words_trace.specs.Calls.{call_word};
 
@@ -10,7 +10,7 @@ use crate::call_name::place_call_text;
 use crate::head::HEAD;
 use crate::place::{place_byte, place_number};
 use itoa::Buffer;
-use parts_io::place_word;
+use parts_bytes::place_word;
 use words_numbers::{Res, Tid};
 use words_trace::{BudgetView, CallName, Event, Report};
 

@@ -168,9 +168,9 @@ pub fn run_tool<S: Source, K: Sink, L: Ledger>(
     ensures told { IfSome (S.rest source.old) (λ bytes.
         Told result (answer (map string_bytes words.now) bytes) (K.text sink.old) (K.text sink.new)) }
 
-    // Whatever it tells, they are those of the answer to some bytes, as many as were taken.
+    // Whatever it tells, they are those of the answer to some bytes, as many as were taken; to these too steps and rounds are few, as below.
     ensures answered { Answered (map string_bytes words.now) result (S.rest source.old) (S.rest source.new)
-        (S.taken source.old) (S.taken source.new) (K.text sink.old) (K.text sink.new) }
+        (S.taken source.old) (S.taken source.new) (K.text sink.old) (K.text sink.new) steps.old steps.new }
 
     // In the run of any script, each tick counts for the head of the highest list that is not empty, and for no other thread.
     ensures head_runs { (script : Script) → (k : ℕ) → HeadRuns script k }

@@ -1,6 +1,6 @@
 use Rattle.std.proofs.Common.{◌≡◌, ◌≤◌, ◌+◌, ◌-◌, ◌%◌, ◌^◌, ℕ, arith, subst}
 use Rattle.itoa.proofs.Decimal.{pair}
-use Rattle.parts_io.specs.Placed.{Placed}
+use Rattle.parts_bytes.specs.Placed.{Placed}
 use Rattle.parts_tracer.proofs.Placed.{digits_stay, time_by_pair}
 use Rattle.parts_tracer.proofs.head.place_near.Goals as goal
 

@@ -1,7 +1,7 @@
 use Rattle.std.proofs.Common.{arith}
 use Rattle.std.proofs.lemmas.Fmt.{decimal_digit}
 use Rattle.itoa.proofs.Decimal.{decimal_two}
-use Rattle.parts_io.proofs.Placed.{placed_then}
+use Rattle.parts_bytes.proofs.Placed.{placed_then}
 use Rattle.parts_tracer.proofs.place.place_number.Goals as goal
 
 pub returns-then-n-lt10-clause-placed : goal.returns-then-n-lt10-clause-placed

@@ -1,11 +1,12 @@
-use Rattle.std.proofs.Common.{rules, ◌≡◌, ◌≤◌, ℕ, List, [], Option, None, Some, IfSome, length, map, string_bytes, arith, false, subst, sym, ◌∙◌}
+use Rattle.std.proofs.Common.{rules, ◌≡◌, ◌≤◌, ℕ, List, [], Option, None, Some, IfSome, length, map, string_bytes, arith, false, subst, sym, ◌∙◌, ap}
 use Rattle.parts_io.proofs.Known.{consumes_none}
 use Rattle.tool_commands.specs.declared.command.Command.{Command}
 use Rattle.tool_commands.specs.Answer.{Told, answer}
-use Rattle.tool_commands.specs.Command.{command, limit_of, reads}
+use Rattle.tool_commands.specs.Command.{command, limit_of, reads, words_limit, words_limit_of}
 use Rattle.tool_commands.proofs.Audits.{holds_where_told}
 use Rattle.tool_commands.proofs.Promises.{reads_upgraded}
-use Rattle.tool_commands.proofs.Whole.{answer_unread, told_whole}
+use Rattle.tool_commands.proofs.Taken.{no_rounds, no_run, no_steps, no_times}
+use Rattle.tool_commands.proofs.Whole.{answer_to, answer_unread, told_whole}
 use Rattle.tool_commands.proofs.tool.run_tool.Goals as goal
 
 same_command : {a b : Command} → Some a ≡ Some b → a ≡ b
@@ -24,6 +25,8 @@ returns-in_default-clause-answered g c =
       moved = consumes_none _;
       count = record { at_least = omega arith; at_most = omega arith };
       told = rw none c.put_text.ensures.told;
+      busy = λ n run. no_steps n [] c.args.steps.now;
+      rounds = λ n run. no_rounds n [] c.args.steps.now;
     }
 
 -- a text that was read whole is the one that the source told
@@ -32,6 +35,25 @@ returns-in-Ok-clause-told g c =
     let is : command (map string_bytes c.args.words.now) ≡ Some c.in-Some.command = sym c.command_of_words.ensures.command ∙ c.in-Some.is in
     let small : length c.in-Ok.bytes.items ≤ limit_of c.in-Some.command = rw (sym c.limit.ensures.limit) c.in-Ok.ensures.short in
     told_whole (map string_bytes c.args.words.now) c.in-Some.command _ _ c.in-Ok.bytes.items _ _ _ is small c.in-Ok.ensures.whole c.in-Ok.ensures.end (rw c.as_slice.ensures.value at c.answer_text-in-Ok.ensures.told)
+
+-- it is what was taken, whatever the source tells
+pub returns-in-Ok-clause-answered : goal.returns-in-Ok-clause-answered
+returns-in-Ok-clause-answered g c =
+    let words = map string_bytes c.args.words.now in
+    let bytes = c.in-Ok.bytes.items in
+    let is : command words ≡ Some c.in-Some.command = sym c.command_of_words.ensures.command ∙ c.in-Some.is in
+    let small : length bytes ≤ limit_of c.in-Some.command = rw (sym c.limit.ensures.limit) c.in-Ok.ensures.short in
+    let limit : words_limit words ≡ limit_of c.in-Some.command = ap words_limit_of is in
+    record {
+      bytes = bytes;
+      bound = omega (arith, small, limit);
+      moved = c.in-Ok.ensures.whole;
+      count = c.in-Ok.ensures.count;
+      told = subst (λ a. Told c.answer_text-in-Ok.result a (g.K.Sink.text c.args.sink.now) (g.K.Sink.text c.answer_text-in-Ok.new.sink))
+          (sym (answer_to words c.in-Some.command bytes is small)) (rw c.as_slice.ensures.value at c.answer_text-in-Ok.ensures.told);
+      busy = λ n run. rw c.as_slice.ensures.value at (c.answer_text-in-Ok.ensures.busy n (same_command (sym is ∙ run)));
+      rounds = λ n run. rw c.as_slice.ensures.value at (c.answer_text-in-Ok.ensures.rounds n (same_command (sym is ∙ run)));
+    }
 
 -- so an audit of it that is done tells that the budgets hold
 pub returns-in-Ok-clause-holds : goal.returns-in-Ok-clause-holds
@@ -63,6 +85,8 @@ returns-then-not-reads-clause-answered g c =
       count = record { at_least = omega arith; at_most = omega arith };
       told = subst (λ a. Told c.answer_text.result a (g.K.Sink.text c.args.sink.now) (g.K.Sink.text c.answer_text.new.sink))
           (sym (answer_unread (map string_bytes c.args.words.now) c.in-Some.command [] is none)) c.answer_text.ensures.told;
+      busy = λ n run. absurd (no_run c.in-Some.command n none (same_command (sym is ∙ run)));
+      rounds = λ n run. absurd (no_times c.in-Some.command n none (same_command (sym is ∙ run)));
     }
 
 pub returns-then-not-reads-clause-soaks : goal.returns-then-not-reads-clause-soaks

@@ -1,5 +1,5 @@
 use Rattle.std.proofs.Common.{drop, List, ℕ, ◌∙◌, ap}
-use Rattle.parts_io.proofs.Placed.{range_shrinks}
+use Rattle.parts_bytes.proofs.Placed.{range_shrinks}
 use Rattle.parts_io.proofs.held.Held.let_go.Goals as goal
 
 pub returns-then-count-self : goal.returns-then-count-self

@@ -1,6 +1,6 @@
 use Rattle.std.proofs.Common.{arith}
 use Rattle.std.proofs.lemmas.List.{with_items_is}
-use Rattle.parts_io.proofs.Placed.{held_grows}
+use Rattle.parts_bytes.proofs.Placed.{held_grows}
 use Rattle.parts_io.proofs.held.Held.put_front.Goals as goal
 
 pub returns-clause-taken : goal.returns-clause-taken

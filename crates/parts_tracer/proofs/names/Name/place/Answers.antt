@@ -1,5 +1,5 @@
 use Rattle.std.proofs.Common.{List, ℕ, subst}
-use Rattle.parts_io.specs.Placed.{Placed}
+use Rattle.parts_bytes.specs.Placed.{Placed}
 use Rattle.parts_tracer.proofs.names.Name.place.Goals as goal
 
 pub returns-clause-placed : goal.returns-clause-placed

@@ -1,7 +1,7 @@
 use Rattle.std.proofs.Common.{◌≡◌, ◌+◌, List, ℕ, length, take, subst, arith, length-take-le, take-take}
-use Rattle.parts_io.specs.Placed.{Placed}
-use Rattle.parts_io.proofs.Placed.{placed_less}
-use Rattle.parts_io.proofs.place.place_within.Goals as goal
+use Rattle.parts_bytes.specs.Placed.{Placed}
+use Rattle.parts_bytes.proofs.Placed.{placed_less}
+use Rattle.parts_bytes.proofs.place.place_within.Goals as goal
 
 pub returns : goal.returns
 returns g c =

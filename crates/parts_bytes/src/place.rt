@@ -1,6 +1,6 @@
 // Bytes put at a place of a buffer. Each function answers the place behind them.
 ghost use Rattle.std.specs.Prelude.{◌≡◌, ◌+◌, ◌≤◌, length, take};
-ghost use Rattle.parts_io.specs.Placed.{Placed};
+ghost use Rattle.parts_bytes.specs.Placed.{Placed};
 
 use std::simd::Simd;
 
@@ -60,9 +60,9 @@ pub fn place_word(buf: &mut [u8], at: usize, word: &[u8]) -> usize
     }
 }
 
-// The first `len` bytes of a text, where 64 bytes can be read and written at once: by 32 or by 64.
+/// The first `len` bytes of a text, where 64 bytes can be read and written at once: by 32 or by 64.
 #[inline(always)]
-pub(crate) fn place_few(buf: &mut [u8], at: usize, text: &[u8], len: usize) -> usize
+pub fn place_few(buf: &mut [u8], at: usize, text: &[u8], len: usize) -> usize
     requires room { (64 ≤ length text.now) × (at + 64 ≤ length buf.old) }
     requires few { len ≤ 64 }
     ensures { Placed buf.old buf.new at (take len text.now) result }

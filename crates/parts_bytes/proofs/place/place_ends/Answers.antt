@@ -1,7 +1,7 @@
 use Rattle.std.proofs.Common.{◌-◌, rules, length}
 use Rattle.std.proofs.lemmas.List.{take_rest}
-use Rattle.parts_io.proofs.Placed.{placed_ends}
-use Rattle.parts_io.proofs.place.place_ends.Goals as goal
+use Rattle.parts_bytes.proofs.Placed.{placed_ends}
+use Rattle.parts_bytes.proofs.place.place_ends.Goals as goal
 
 pub returns : goal.returns
 returns g c =
