@@ -149,6 +149,11 @@ words_all words [] (suc i) is = refl
 words_all words (y ∷ xs) zero is = cc
 words_all words (y ∷ xs) (suc i) is = ap (λ (t : Words). words y ++ t) (words_all words xs i is)
 
+pub none_next : {X : Type 0} (xs : List X) (i : ℕ) → None ≡ slice_get xs i → None ≡ slice_get xs (suc i)
+none_next [] i is = refl
+none_next (x ∷ xs) zero is = cc
+none_next (x ∷ xs) (suc i) is = none_next xs i is
+
 pub one_each : {X : Type 0} (word : X → List ℕ) (xs : List X) → flat_map (λ (x : X). word x ∷ []) xs ≡ map word xs
 one_each word [] = refl
 one_each word (x ∷ xs) = ap (λ (t : Words). word x ∷ t) (one_each word xs)

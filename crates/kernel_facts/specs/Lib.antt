@@ -1,3 +1,4 @@
 pub mod Numbered
 pub mod Lines
 pub mod Picked
+pub mod InLine

@@ -5,6 +5,7 @@
 //! The state is read and not changed. Lists are written word by word, so that no room limits their length.
 #![tactic(auto)]
 
+mod in_line;
 mod line;
 mod lists;
 mod names;
@@ -14,5 +15,6 @@ mod queues;
 mod signals;
 mod state;
 mod threads;
+mod waiters;
 
 pub use state::write_state;

@@ -1,7 +1,7 @@
 mod Best
 pub mod Firsts
 mod Objects
-mod Precedence
+pub mod Precedence
 pub mod Served
 mod Serving
 pub mod Stands
