@@ -5,3 +5,5 @@ pub mod Picked
 pub mod Puts
 pub mod Served
 pub mod Standing
+pub mod Ending
+pub mod Whole

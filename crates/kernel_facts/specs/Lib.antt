@@ -1,4 +1,5 @@
 pub mod Numbered
 pub mod Lines
+pub mod Rows
 pub mod Picked
 pub mod InLine

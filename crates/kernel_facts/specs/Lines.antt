@@ -18,6 +18,9 @@ told_text about words = if is_nil words then [] else line_text (about ++ words)
 abbrev pub fact_text : List Decl → Fact → List ℕ
 fact_text decls f = told_text (subject decls f) (told decls f)
 
+abbrev pub facts_text : List Decl → List Fact → List ℕ
+facts_text decls facts = flat_map (fact_text decls) facts
+
 -- the text of a number
 abbrev pub number_text : List Decl → Number → List ℕ
 number_text decls n = line_text (number_words decls n)

@@ -12,6 +12,7 @@ mod names;
 mod numbers;
 mod objects;
 mod queues;
+mod rows;
 mod signals;
 mod state;
 mod threads;

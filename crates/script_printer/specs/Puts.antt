@@ -1,7 +1,6 @@
 -- What a call that prints does to its printer. This project's own.
-use Rattle.std.specs.Prelude.{◌≡◌, ◌≤◌, ℕ, Bool, Err, List, Ok, Option, Result, false, true, if◌then◌else◌}
+use Rattle.std.specs.Prelude.{◌≡◌, ◌≤◌, ℕ, Bool, List, Option, false, true}
 use Rattle.std.specs.Io.KnownBytes.{Appends}
-use Rattle.parts_io.specs.declared.outside.Failed.{Failed}
 use Rattle.parts_io.specs.Bytes.{AppendsPart}
 use Rattle.parts_io.specs.Causes.{Rose}
 use Rattle.script_printer.specs.declared.printer.Printer.{Printer}
@@ -28,8 +27,3 @@ pub record Put (old new : Outlet) (due : List ℕ) : Type 0 where
 pub record Puts {K : Type 0} (text : K → Option (List ℕ)) (faults : K → ℕ) (old new : Printer K) (due : List ℕ) : Type 0 where
   pub same_sink : new.sink.ghost_name ≡ old.sink.ghost_name
   pub put : Put (outlet text faults old.failed old.sink.now) (outlet text faults new.failed new.sink.now) due
-
--- what a call answers that printed
-abbrev pub answer_of : Bool → Result (Unit {0}) Failed
-answer_of true = Err (record {})
-answer_of false = Ok tt

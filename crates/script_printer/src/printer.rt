@@ -1,12 +1,10 @@
 // A printer writes words, each by a write of its own.
 ghost use Rattle.std.specs.Prelude.{◌≡◌, ◌∷◌, ◌++◌, [], false, length, map};
-ghost use Rattle.parts_io.specs.Bytes.{WritesAll};
-ghost use Rattle.parts_io.specs.Causes.{HasCause};
 ghost use Rattle.script_lex.specs.Joined.{after_blanks, joined_words};
 ghost use Rattle.script_writer.specs.Line.{AreShort, IsShort, line_text, spelled};
-ghost use Rattle.script_printer.specs.Puts.{Put, Puts, answer_of};
+ghost use Rattle.script_printer.specs.Puts.{Puts};
 
-use parts_io::{Failed, Sink};
+use parts_io::Sink;
 use script_writer::{Word, word_text};
 
 /// Prints words to a sink until a write fails. No call takes memory.
@@ -29,14 +27,11 @@ impl<'a, K: Sink> Printer<'a, K> {
         }
     }
 
-    /// `Err` exactly where a write of this printer has failed. From then on it writes nothing more.
-    pub fn result(&self) -> Result<(), Failed>
-        ensures { result ≡ answer_of self.now.failed }
+    /// Whether a write of this printer has failed. From then on it writes nothing more.
+    pub fn failed(&self) -> bool
+        ensures { result ≡ self.now.failed }
     {
-        if self.failed {
-            return Err(Failed);
-        }
-        Ok(())
+        self.failed
     }
 
     // Writes the bytes at once, unless a write has failed.

@@ -17,5 +17,5 @@ mod write;
 
 pub use length::canon_len;
 pub use line::{LineText, Word, word_text};
-pub use names::name_of;
+pub use names::{name_count, name_of};
 pub use write::write_script;

@@ -1,6 +1,6 @@
 // The names of threads and objects.
 ghost use Rattle.std.specs.Prelude.{◌≡◌, ◌≤◌, length};
-ghost use Rattle.script_writer.specs.Names.{name_of};
+ghost use Rattle.script_writer.specs.Names.{name_of, names_of};
 ghost use Rattle.words_script.specs.declared.name_kind.NameKind.TheVariants as name_kind;
 
 use words_numbers::{ObjId, Tid};
@@ -23,6 +23,21 @@ pub fn name_of(decls: &[Decl], of: NameKind, k: u16) -> &[u8]
         }
     }
     b"".as_slice()
+}
+
+/// How many names of a kind are declared.
+pub fn name_count(decls: &[Decl], of: NameKind) -> usize
+    ensures { result ≡ length (names_of of decls.now) }
+{
+    let mut count = 0;
+    for decl in decls {
+        if let Decl::Named(_, kind) = decl {
+            if kind.name_kind().is_same(of) {
+                count += 1;
+            }
+        }
+    }
+    count
 }
 
 /// The name of a thread.
