@@ -5,3 +5,4 @@ pub mod Worked
 pub mod Audits
 pub mod Serials
 pub mod Taken
+pub mod FewObjects
