@@ -46,7 +46,11 @@ fn put_slice<K: Sink>(out: &mut Printer<'_, K>, decls: &[Decl], t: Tid, slice: u
     ensures { Puts K.text K.faults out.old out.new (flat_map (number_text decls.now) (slice_numbers t slice policy)) }
 {
     match policy {
-        Policy::Rr(_) => out.line(&[Keyword(b"slice"), Name(thread_name(decls, t)), Number(slice)]),
+        Policy::Rr(_) => out.line(&[
+            Keyword(b"slice"),
+            Name(thread_name(decls, t)),
+            Number(slice),
+        ]),
         _ => {}
     }
 }

@@ -70,12 +70,7 @@ fn put_thread_fact<K: Sink>(
 }
 
 // Prints a row of threads, by number.
-fn put_thread_row<K: Sink>(
-    out: &mut Printer<'_, K>,
-    parts: &Parts,
-    decls: &[Decl],
-    row: ThreadRow,
-)
+fn put_thread_row<K: Sink>(out: &mut Printer<'_, K>, parts: &Parts, decls: &[Decl], row: ThreadRow)
     ensures { Puts K.text K.faults out.old out.new (thread_row_text decls.now row parts.now.machine) }
 {
     for number in 0..parts.count() {
@@ -100,31 +95,30 @@ pub(crate) fn put_threads<K: Sink>(out: &mut Printer<'_, K>, parts: &Parts, decl
 fn put_mutex_waiters<K: Sink>(out: &mut Printer<'_, K>, parts: &Parts, decls: &[Decl], k: ObjId)
     ensures { Puts K.text K.faults out.old out.new (fact_text decls.now (mutex_waiters parts.now.machine k)) }
 {
-    let subject = [Keyword(b"waiters"), Name(object_name(decls, NameKind::Mutex, k))];
+    let subject = [
+        Keyword(b"waiters"),
+        Name(object_name(decls, NameKind::Mutex, k)),
+    ];
     put_line(out, parts, decls, &subject, &Line::Mutex(k));
 }
 
-fn put_condition_waiters<K: Sink>(
-    out: &mut Printer<'_, K>,
-    parts: &Parts,
-    decls: &[Decl],
-    c: ObjId,
-)
+fn put_condition_waiters<K: Sink>(out: &mut Printer<'_, K>, parts: &Parts, decls: &[Decl], c: ObjId)
     ensures { Puts K.text K.faults out.old out.new (fact_text decls.now (condition_waiters parts.now.machine c)) }
 {
-    let subject = [Keyword(b"waiters"), Name(object_name(decls, NameKind::Cond, c))];
+    let subject = [
+        Keyword(b"waiters"),
+        Name(object_name(decls, NameKind::Cond, c)),
+    ];
     put_line(out, parts, decls, &subject, &Line::Condition(c));
 }
 
-fn put_semaphore_waiters<K: Sink>(
-    out: &mut Printer<'_, K>,
-    parts: &Parts,
-    decls: &[Decl],
-    k: ObjId,
-)
+fn put_semaphore_waiters<K: Sink>(out: &mut Printer<'_, K>, parts: &Parts, decls: &[Decl], k: ObjId)
     ensures { Puts K.text K.faults out.old out.new (fact_text decls.now (semaphore_waiters parts.now.machine k)) }
 {
-    let subject = [Keyword(b"waiters"), Name(object_name(decls, NameKind::Sem, k))];
+    let subject = [
+        Keyword(b"waiters"),
+        Name(object_name(decls, NameKind::Sem, k)),
+    ];
     put_line(out, parts, decls, &subject, &Line::Semaphore(k));
 }
 
@@ -202,12 +196,7 @@ fn object_of(number: usize) -> ObjId
 }
 
 // Prints a row of objects, by number.
-fn put_object_row<K: Sink>(
-    out: &mut Printer<'_, K>,
-    parts: &Parts,
-    decls: &[Decl],
-    row: ObjectRow,
-)
+fn put_object_row<K: Sink>(out: &mut Printer<'_, K>, parts: &Parts, decls: &[Decl], row: ObjectRow)
     requires { object_count row decls.now parts.now.machine ≤ 256 }
     ensures { Puts K.text K.faults out.old out.new (object_row_text decls.now row parts.now.machine) }
 {

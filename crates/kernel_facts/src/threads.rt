@@ -121,7 +121,12 @@ fn put_inner_frames<K: Sink>(out: &mut Printer<'_, K>, decls: &[Decl], t: Tid, f
     let mut is_begun = false;
     for frame in frames {
         if !is_main(frame.kind()) {
-            put_more(out, is_begun, &subject, &[Name(body_name(decls, frame.body()))]);
+            put_more(
+                out,
+                is_begun,
+                &subject,
+                &[Name(body_name(decls, frame.body()))],
+            );
             is_begun = true;
         }
     }
@@ -246,7 +251,12 @@ fn put_planned<K: Sink>(out: &mut Printer<'_, K>, decls: &[Decl], t: Tid, planne
     let subject = [Keyword(b"pending"), Name(thread_name(decls, t))];
     let mut is_begun = false;
     for r in planned {
-        put_more(out, is_begun, &subject, &[Number(r.amount), Number(r.due.get())]);
+        put_more(
+            out,
+            is_begun,
+            &subject,
+            &[Number(r.amount), Number(r.due.get())],
+        );
         is_begun = true;
     }
     put_end(out, is_begun);

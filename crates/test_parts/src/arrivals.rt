@@ -19,6 +19,8 @@ fn nodes_come_and_leave(rt: HostRuntime) -> Result<(), Fail> {
     assert_eq!(rt; arrivals.next(first), Some(third));
     assert_eq!(rt; arrivals.oldest(), Some(first));
     assert_eq!(rt; arrivals.after(first), Some(second));
+    assert_eq!(rt; arrivals.nth(1), Some((second, 31)));
+    assert_eq!(rt; arrivals.nth(3), None);
 
     arrivals.leave(second);
     assert_eq!(rt; arrivals.highest(), Some(5));

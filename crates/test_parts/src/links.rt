@@ -11,6 +11,8 @@ fn nodes_come_and_go(rt: HostRuntime) {
     assert_eq!(rt; links.front(0), Some(0));
     assert_eq!(rt; links.next(0), Some(1));
     assert_eq!(rt; links.next(1), Some(3));
+    assert_eq!(rt; links.nth(0, 2), Some(3));
+    assert_eq!(rt; links.nth(0, 4), None);
     links.unlink(1);
     assert_eq!(rt; links.next(0), Some(3));
     assert_eq!(rt; links.list_of(1), None);

@@ -40,6 +40,13 @@ fn messages_of_a_higher_priority_come_first(rt: HostRuntime) -> Result<(), Fail>
     queues.put(q, 7, 70);
     assert!(rt; !queues.has_room(q));
     assert_eq!(rt; queues.len(q), 2);
+    let Some(second) = queues.nth(q, 1) else {
+        assert!(rt; false);
+        return Ok(());
+    };
+    assert_eq!(rt; second.priority(), 7);
+    assert_eq!(rt; second.value(), 70);
+    assert!(rt; queues.nth(q, 2).is_none());
     assert_eq!(rt; queues.take(q), Some(70));
     assert_eq!(rt; queues.take(q), Some(30));
     assert_eq!(rt; queues.take(q), None);

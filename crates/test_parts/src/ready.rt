@@ -12,6 +12,9 @@ fn threads_of_several_priorities(rt: HostRuntime) -> Result<(), Fail> {
     ready.to_tail(thread(1), prio(5));
     ready.to_head(thread(2), prio(5));
     assert_eq!(rt; ready.highest(), Some(thread(2)));
+    assert_eq!(rt; ready.nth(prio(5), 0), Some(thread(2)));
+    assert_eq!(rt; ready.nth(prio(5), 2), Some(thread(1)));
+    assert_eq!(rt; ready.nth(prio(5), 3), None);
 
     ready.to_tail(thread(3), prio(255));
     assert_eq!(rt; ready.highest(), Some(thread(3)));

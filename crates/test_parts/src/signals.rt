@@ -15,6 +15,12 @@ fn the_lowest_signal_and_of_it_the_oldest(rt: HostRuntime) -> Result<(), Fail> {
     pending.add(SignalRecord::of_kill(4, Some(thread(1))), 2);
     pending.add(SignalRecord::of_timer(object(3), 9, 91), 3);
     assert!(rt; !pending.is_full());
+    let Some(youngest) = pending.nth(2) else {
+        assert!(rt; false);
+        return Ok(());
+    };
+    assert_eq!(rt; youngest.value(), 91);
+    assert!(rt; pending.nth(3).is_none());
 
     let Some(next) = pending.next_for(thread(0), none, none, true) else {
         assert!(rt; false);

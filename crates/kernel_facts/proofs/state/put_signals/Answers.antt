@@ -15,4 +15,4 @@ returns g c =
     let all : c.loop-signal.signal ≡ length m.actions = omega (arith, c.signal_count.ensures.value, c.signal_count.ensures.all) in
     let put = rw all at c.loop-signal.invariant in
     subst (λ (o : Option ℕ). Puts g.K.Sink.text g.K.Sink.faults c.args.out.now c.loop-signal.out
-        (texts_below (λ (s : ℕ). fact_text c.args.decls.now (signal_fact (left_in o m) s)) (length m.actions))) c.left_out-out_of_it.ensures put
+    (texts_below (λ (s : ℕ). fact_text c.args.decls.now (signal_fact (left_in o m) s)) (length m.actions))) c.left_out-out_of_it.ensures put

@@ -15,7 +15,7 @@ pub returns : goal.returns
 returns g c =
     let put = puts_both _ _ _ _ _ _ _ c.begin.ensures (puts_both _ _ _ _ _ _ _ c.put_awaited.ensures (puts_both _ _ _ _ _ _ _ c.put_due.ensures c.end.ensures)) in
     let line = line_in_three (codes "thread") (c.thread_name.result.now ∷ codes "blocked" ∷ decimal c.from.result ∷ decimal c.from-2.result ∷ c.call_text.result.now ∷ [])
-        (awaited_words c.args.decls.now (awaited (wait_of c.args.waiting.now.wait))) (words_if_any until_words c.args.waiting.now.due) in
+    (awaited_words c.args.decls.now (awaited (wait_of c.args.waiting.now.wait))) (words_if_any until_words c.args.waiting.now.due) in
     let assigned : c.from.result ≡ assigned_of (thread_at c.args.parts.now.machine c.args.t) =
     c.from.ensures ∙ c.get.ensures.value ∙ c.assigned.ensures ∙ ap assigned_of c.thread.ensures in
     let higher : c.from-2.result ≡ exec c.args.parts.now.machine c.args.t = c.from-2.ensures ∙ c.get-2.ensures.value ∙ c.exec.ensures in
