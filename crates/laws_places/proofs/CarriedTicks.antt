@@ -117,7 +117,7 @@ module _ {P Q : Type 0} (carry : BodyOf → P → Q) (p : Bodies P) (q : Bodies 
   interrupted_carried : (th : Thread P) → may_be_interrupted (C carry th) ≡ may_be_interrupted th
   interrupted_carried th = ap (λ (k : FrameKind). is_live th.status && not (is_signal k)) (kind_carried carry th.frames)
 
-  taken_by_sweep_carries : (m : Machine P) (t : ℕ) → taken_by_sweep (M carry m) t ≡ taken_by_sweep m t
+  pub taken_by_sweep_carries : (m : Machine P) (t : ℕ) → taken_by_sweep (M carry m) t ≡ taken_by_sweep m t
   taken_by_sweep_carries m t =
       let functions : can_take (M carry m) t ≡ can_take m t = same_function (can_take (M carry m) t) (can_take m t) (can_take_carries m t) in
       ap₂ (λ (b : Bool) (f : SignalRecord → Bool). if b then first_by is_selected_before (filter f m.pending) else None)

@@ -1,0 +1,3 @@
+pub mod CarriedThreads
+pub mod CarriedFacts
+pub mod Shows
