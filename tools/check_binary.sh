@@ -29,6 +29,9 @@ try() {
 
 usage='usage: pse52 COMMAND NUMBERS'
 try 'a script' 0 '0 start a' run 10 <examples/one_thread.task
+try 'an instant of a script' 0 '2 state' show 2 <examples/one_thread.task
+try 'an instant of an empty input' 2 'refused 1 14 NoThread' show 2 </dev/null
+try 'an instant without a number' 1 "$usage" show <examples/one_thread.task
 try 'an empty input' 2 'refused 1 14 NoThread' run 10 </dev/null
 try 'a text that is too long' 3 'too long' run 1 < <(head -c 1048577 /dev/zero | tr '\0' '\n')
 try 'a folder as standard input' 4 '' run 10 <examples
@@ -87,6 +90,8 @@ try 'an audit with a number' 1 "$usage" audit 10
 
 "$program" run 10 <examples/one_thread.task >&-
 expect 'a closed standard output' $? 5 '' ''
+"$program" show 2 <examples/one_thread.task >&-
+expect 'a closed standard output, for an instant' $? 5 '' ''
 if [ -e /dev/full ]; then
     "$program" run 10 <examples/one_thread.task >/dev/full
     expect 'a full device' $? 5 '' ''

@@ -4,8 +4,8 @@
                                        [--refused | --load] [--jobs N] [--keep FOLDER]
 
 PROGRAM is a command line that takes `run N`, or the WORD `show`, `detail` or `upgrade`
-in its place, and a script on standard input; `show` is asked for one instant up
-to the horizon.
+in its place, and a script on standard input; `show` is asked for an instant at
+which the trace has a line, and for those before and behind it.
 Prints each difference and a last line 'N compared, M differ'. Exit status 1
 where something differs. With --keep the scripts that differ are kept. With
 --load the commands `gen S` and `soak S N` are compared instead, for each S.
@@ -37,22 +37,36 @@ class Task:
     refused: bool
     command: str
 
-    def script(self, seed: int) -> tuple[bytes, int]:
-        """A script, and the number of the command."""
+    def script(self, seed: int) -> tuple[bytes, list[int]]:
+        """A script, and the numbers that the command is tried with."""
         if self.refused:
-            return generate.refused(seed, self.stage), 1
+            return generate.refused(seed, self.stage), [1]
         text, horizon = generate.accepted(seed, self.stage)
-        return text, seed % (horizon + 1) if self.command == "show" else horizon
+        return text, self.instants(seed, text, horizon) if self.command == "show" else [horizon]
 
-    def answer(self, text: bytes, horizon: int) -> tuple[int, bytes]:
-        return answer(text, horizon, self.stage, command=self.command)
+    def instants(self, seed: int, text: bytes, horizon: int) -> list[int]:
+        """An instant at which something happens in a run, its end included, with the instants before and behind it."""
+        lines = answer(text, horizon, self.stage)[1].decode().splitlines()
+        times = sorted({int(line.split(" ")[0]) for line in lines if line[0].isdigit()})
+        at = times[seed % len(times)]
+        return list(range(max(at - 1, 0), at + 2))
+
+    def answer(self, text: bytes, number: int) -> tuple[int, bytes]:
+        return answer(text, number, self.stage, command=self.command)
+
+    def first_that_differs(self, seed: int) -> tuple[int, str] | None:
+        """The first number at which the program differs from the reference, and how, or None."""
+        text, numbers = self.script(seed)
+        for number in numbers:
+            words = [self.command] if self.command == "upgrade" else [self.command, str(number)]
+            if found := answer_differs(self.program, words, text, self.answer(text, number)):
+                return number, found
+        return None
 
     def difference(self, seed: int) -> str | None:
         """One line on how the program differs from the reference, or None."""
-        text, horizon = self.script(seed)
-        words = [self.command] if self.command == "upgrade" else [self.command, str(horizon)]
-        found = answer_differs(self.program, words, text, self.answer(text, horizon))
-        return None if found is None else f"seed {seed} horizon {horizon} {found}"
+        found = self.first_that_differs(seed)
+        return None if found is None else f"seed {seed} horizon {found[0]} {found[1]}"
 
 
 @dataclass(frozen=True)
@@ -96,11 +110,13 @@ def keep(folder: str, task: Task, seed: int) -> None:
     """Writes the script and what the reference gives, as the files of an example."""
     path = pathlib.Path(folder)
     path.mkdir(parents=True, exist_ok=True)
-    text, horizon = task.script(seed)
+    text, numbers = task.script(seed)
+    found = task.first_that_differs(seed)
+    number = numbers[0] if found is None else found[0]
     (path / f"{seed}.task").write_bytes(text)
-    (path / f"{seed}.horizon").write_text(f"{horizon}\n")
+    (path / f"{seed}.horizon").write_text(f"{number}\n")
     form = "refused" if task.refused else "trace" if task.command == "run" else task.command
-    (path / f"{seed}.{form}").write_bytes(task.answer(text, horizon)[1])
+    (path / f"{seed}.{form}").write_bytes(task.answer(text, number)[1])
 
 
 def main() -> int:

@@ -37,7 +37,7 @@ explain_refusal() {
         say "the text is refused: standard output has its line and the kind of its fault, which $page explains"
         return
     fi
-    if [ "$1" = run ] || [ "$1" = upgrade ]; then
+    if [ "$1" = run ] || [ "$1" = show ] || [ "$1" = upgrade ]; then
         python3 "$top/tools/explain/main.py" "$kept_script" 2>/dev/null
         [ $? -ne 2 ] || return 0
     fi

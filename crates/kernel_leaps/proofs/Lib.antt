@@ -9,6 +9,7 @@ pub mod Running
 pub mod WholeTrace
 pub mod Opened
 pub mod ScriptRun
+pub mod Shown
 pub mod Charged
 pub mod Begins
 pub mod Onward

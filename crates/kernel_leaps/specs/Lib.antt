@@ -6,3 +6,4 @@ pub mod Ready
 pub mod Ran
 pub mod Reach
 pub mod Passing
+pub mod Shown

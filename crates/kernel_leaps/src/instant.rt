@@ -10,7 +10,7 @@ ghost use Rattle.kernel_state.specs.Stood.{StoodRight};
 
 use calls_table::do_item;
 use kernel_state::Parts;
-use parts_io::Sink;
+use parts_io::{NullSink, Sink};
 use parts_tracer::Tracer;
 
 /// All items of the instant.
@@ -29,4 +29,17 @@ pub(crate) fn do_instant<K: Sink>(p: &mut Parts, out: &mut Tracer<'_, K>)
     'items: while let Some(i) = p.next_item() {
         do_item(p, i, out);
     }
+}
+
+/// All items of the instant, which are told nowhere.
+pub(crate) fn handle_items(p: &mut Parts)
+    requires quiet { p.old.direct ≡ [] }
+    requires stood { StoodRight p.old.machine }
+    requires fits { ItemsFit p.old (objects_in p.old) }
+    requires early { p.old.machine.now ≤ 10 ^ 18 }
+    ensures state { p.new ≡ after (instant (flat_bodies p.old.code)) p.old }
+{
+    let mut nothing = NullSink::new();
+    let mut out = Tracer::new(&mut nothing);
+    do_instant(p, &mut out);
 }

@@ -25,6 +25,8 @@ mod parts;
 #[cfg(test)]
 mod responses;
 #[cfg(test)]
+mod shows;
+#[cfg(test)]
 mod upgrades;
 #[cfg(test)]
 mod waiters;

@@ -4,3 +4,4 @@ pub mod Whole
 pub mod Worked
 pub mod Audits
 pub mod Serials
+pub mod FewObjects

@@ -4,7 +4,7 @@ use Rattle.std.specs.Prelude.{◌&&◌, if◌then◌else◌, nat_lt}
 use Rattle.std.specs.Io.KnownBytes.{Consumes, IsAtEnd}
 use Rattle.tool_commands.specs.declared.status.Status.{Status}
 use Rattle.tool_commands.specs.declared.command.Command.{Command}
-use Rattle.tool_commands.specs.declared.command.Command.TheVariants.{Run, Check, Audit, Upgrade, ResponseTimes, Gen, Soak}
+use Rattle.tool_commands.specs.declared.command.Command.TheVariants.{Run, Show, Check, Audit, Upgrade, ResponseTimes, Gen, Soak}
 use Rattle.tool_commands.specs.Command.{command, limit_of, reads}
 use Rattle.tool_commands.specs.Answer.{Answer, Told, answer, command_answer, text_answer}
 
@@ -38,6 +38,7 @@ pub answer_unread : (words : List (List ℕ)) (c : Command) (bytes : List ℕ) �
 answer_unread words c bytes is none = ap (λ o. command_answer o bytes) is ∙ (rw none (same_text c bytes none)) where
   same_text : (c : Command) (bytes : List ℕ) → reads c ≡ false → text_answer c bytes ≡ text_answer c []
   same_text (Run n) bytes e = absurd (let f : true ≡ false = e in cc)
+  same_text (Show n) bytes e = absurd (let f : true ≡ false = e in cc)
   same_text (Check n) bytes e = absurd (let f : true ≡ false = e in cc)
   same_text Audit bytes e = absurd (let f : true ≡ false = e in cc)
   same_text Upgrade bytes e = absurd (let f : true ≡ false = e in cc)

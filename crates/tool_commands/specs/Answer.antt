@@ -11,10 +11,11 @@ use Rattle.script_table.specs.Faults.{Fault, number_of, name_of}
 use Rattle.script_table.specs.Table.{patterns}
 use Rattle.script_table.specs.Read.{read}
 use Rattle.rules_machine.specs.Machine.{closing, machine, names_of, trace}
+use Rattle.rules_facts.specs.Shown.{shown}
 use Rattle.tool_commands.specs.declared.status.Status.{Status}
 use Rattle.tool_commands.specs.declared.status.Status.TheVariants.{Done, Usage, Refused, TooLong, ReadFault, WriteFault, OutOfMemory, Differs, NoTrace, Breach}
 use Rattle.tool_commands.specs.declared.command.Command.{Command}
-use Rattle.tool_commands.specs.declared.command.Command.TheVariants.{Run, Check, Audit, Upgrade, ResponseTimes, Gen, Soak}
+use Rattle.tool_commands.specs.declared.command.Command.TheVariants.{Run, Show, Check, Audit, Upgrade, ResponseTimes, Gen, Soak}
 use Rattle.tool_commands.specs.Command.{command, limit_of, reads}
 use Rattle.tool_commands.specs.Message.{refused_line}
 use Rattle.tool_check.specs.Divided.{Divided, divided}
@@ -51,6 +52,11 @@ fault_line f = refused_line f.line (number_of f.kind) (name_of f.kind)
 abbrev pub run_answer : ℕ → Result Script Fault → Answer
 run_answer n (Err fault) = record { status = Refused; text = fault_line fault }
 run_answer n (Ok script) = record { status = Done; text = trace script n }
+
+-- what is shown of an instant of a script's run
+abbrev pub show_answer : ℕ → Result Script Fault → Answer
+show_answer n (Err fault) = record { status = Refused; text = fault_line fault }
+show_answer n (Ok script) = record { status = Done; text = shown script n }
 
 -- the trace is the one that is due, or lines tell what differs
 abbrev pub trace_answer : Option (List ℕ) → Answer
@@ -117,6 +123,7 @@ soak_answer seed n = record { status = Done; text = closing_lines (script_of see
 -- what a command answers to a text that its limit allows
 abbrev pub text_answer : Command → List ℕ → Answer
 text_answer (Run n) bytes = run_answer n (read patterns bytes)
+text_answer (Show n) bytes = show_answer n (read patterns bytes)
 text_answer (Check n) bytes = divided_answer n (divided bytes)
 text_answer Audit bytes = audit_answer (divided bytes)
 text_answer Upgrade bytes = upgrade_answer (read patterns bytes)

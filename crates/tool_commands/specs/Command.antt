@@ -1,12 +1,12 @@
--- The commands of the tool: `run N`, `check N`, `audit`, `upgrade`, `rta N`, `gen S` and `soak S N`, where N and S are one or more decimal digits with a value up to a
--- limit of the command's own.
+-- The commands of the tool: `run N`, `show N`, `check N`, `audit`, `upgrade`, `rta N`, `gen S` and `soak S N`, where N and S are one or more
+-- decimal digits with a value up to a limit of the command's own.
 use Rattle.std.specs.Prelude.{Bool, IsTrue, true, false, not, ℕ, ◌^◌, ◌≤◌, ◌&&◌, nat_le, if◌then◌else◌, List, [], ◌∷◌, codes, Option, None, Some}
 use Rattle.std.specs.Option.{option_map}
 use Rattle.std.specs.Str.{bytes_eq}
 use Rattle.script_table.specs.Words.{is_number, value_of}
 use Rattle.script_table.specs.Operands.{map_two}
 use Rattle.tool_commands.specs.declared.command.Command.{Command}
-use Rattle.tool_commands.specs.declared.command.Command.TheVariants.{Run, Check, Audit, Upgrade, ResponseTimes, Gen, Soak}
+use Rattle.tool_commands.specs.declared.command.Command.TheVariants.{Run, Show, Check, Audit, Upgrade, ResponseTimes, Gen, Soak}
 
 -- the number that a word names, where it is at most so great
 abbrev pub number_up_to : ℕ → List ℕ → Option ℕ
@@ -15,6 +15,7 @@ number_up_to most word = if is_number word && nat_le (value_of word) most then S
 abbrev pub command_of : List ℕ → List ℕ → Option Command
 command_of word number =
     if bytes_eq word (codes "run") then option_map Run (number_up_to (10 ^ 18) number)
+    else if bytes_eq word (codes "show") then option_map Show (number_up_to (10 ^ 18) number)
     else if bytes_eq word (codes "check") then option_map Check (number_up_to (10 ^ 18) number)
     else if bytes_eq word (codes "rta") then option_map ResponseTimes (number_up_to (10 ^ 8) number)
     else if bytes_eq word (codes "gen") then option_map Gen (number_up_to (10 ^ 18) number)
@@ -43,6 +44,7 @@ command words = None
 -- its numbers are within its limits
 abbrev pub IsWithinLimit : Command → Type 0
 IsWithinLimit (Run n) = n ≤ 10 ^ 18
+IsWithinLimit (Show n) = n ≤ 10 ^ 18
 IsWithinLimit (Check n) = n ≤ 10 ^ 18
 IsWithinLimit Audit = Unit {0}
 IsWithinLimit Upgrade = Unit {0}
@@ -53,6 +55,7 @@ IsWithinLimit (Soak seed n) = (seed ≤ 10 ^ 18) × (n ≤ 10 ^ 18)
 -- whether it reads the source; what does not is about a script that it generates
 abbrev pub reads : Command → Bool
 reads (Run n) = true
+reads (Show n) = true
 reads (Check n) = true
 reads Audit = true
 reads Upgrade = true
@@ -63,6 +66,7 @@ reads (Soak seed n) = false
 -- how many bytes the source of a command may have
 abbrev pub limit_of : Command → ℕ
 limit_of (Run n) = 1_048_576
+limit_of (Show n) = 1_048_576
 limit_of (Check n) = 67_108_864
 limit_of Audit = 67_108_864
 limit_of Upgrade = 1_048_576
@@ -82,6 +86,7 @@ words_limit words = words_limit_of (command words)
 abbrev pub Compares : Option Command → Type 0
 Compares None = ⊥
 Compares (Some (Run n)) = ⊥
+Compares (Some (Show n)) = ⊥
 Compares (Some (Check n)) = Unit {0}
 Compares (Some Audit) = ⊥
 Compares (Some Upgrade) = ⊥
@@ -93,6 +98,7 @@ Compares (Some (Soak seed n)) = ⊥
 abbrev pub Audits : Option Command → Type 0
 Audits None = ⊥
 Audits (Some (Run n)) = ⊥
+Audits (Some (Show n)) = ⊥
 Audits (Some (Check n)) = ⊥
 Audits (Some Audit) = Unit {0}
 Audits (Some Upgrade) = ⊥
@@ -104,6 +110,7 @@ Audits (Some (Soak seed n)) = ⊥
 abbrev pub Divides : Option Command → Type 0
 Divides None = ⊥
 Divides (Some (Run n)) = ⊥
+Divides (Some (Show n)) = ⊥
 Divides (Some (Check n)) = Unit {0}
 Divides (Some Audit) = Unit {0}
 Divides (Some Upgrade) = ⊥
@@ -115,6 +122,7 @@ Divides (Some (Soak seed n)) = ⊥
 abbrev pub HasSecondLimit : Option Command → Type 0
 HasSecondLimit None = ⊥
 HasSecondLimit (Some (Run n)) = ⊥
+HasSecondLimit (Some (Show n)) = ⊥
 HasSecondLimit (Some (Check n)) = Unit {0}
 HasSecondLimit (Some Audit) = ⊥
 HasSecondLimit (Some Upgrade) = Unit {0}

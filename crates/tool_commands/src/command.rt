@@ -13,6 +13,8 @@ const GREATEST_BOUND: u64 = 100_000_000;
 pub enum Command {
     /// `run N`: the trace of a script's run to tick N, at most 10^18.
     Run(Tick),
+    /// `show N`: what the lists and objects of a script are at tick N of its run, at most 10^18.
+    Show(Tick),
     /// `check N`: whether a trace is that of a script's run to tick N, at most 10^18.
     Check(Tick),
     /// `audit`: whether a trace keeps the budgets of its sporadic servers.
@@ -35,6 +37,7 @@ impl Command {
     {
         match *self {
             Command::Run(_) => 1_048_576,
+            Command::Show(_) => 1_048_576,
             Command::Check(_) => 67_108_864,
             Command::Audit => 67_108_864,
             Command::Upgrade => 1_048_576,
@@ -50,6 +53,7 @@ impl Command {
     {
         match *self {
             Command::Run(_) => true,
+            Command::Show(_) => true,
             Command::Check(_) => true,
             Command::Audit => true,
             Command::Upgrade => true,
@@ -94,6 +98,11 @@ fn command_of(word: &[u8], number: &[u8]) -> Option<Command>
         match tick_of(number) {
             None => None,
             Some(horizon) => Some(Command::Run(horizon)),
+        }
+    } else if word == b"show".as_slice() {
+        match tick_of(number) {
+            None => None,
+            Some(horizon) => Some(Command::Show(horizon)),
         }
     } else if word == b"check".as_slice() {
         match tick_of(number) {

@@ -10,6 +10,7 @@ mod generated;
 mod message;
 mod responses;
 mod runs;
+mod show;
 mod status;
 mod tool;
 mod upgrade;

@@ -83,11 +83,12 @@ pub(crate) fn print_run<K: Sink, L: Ledger>(
     Ok(out.failed())
 }
 
-// Runs a kernel from its first instant to the horizon, and keeps nothing of what happens.
-fn soak_kernel<L: Ledger>(kernel: &mut Kernel, horizon: Tick, steps: &mut Steps<L>)
+/// Runs a kernel from its first instant to the horizon, and keeps nothing of what happens.
+pub(crate) fn soak_kernel<L: Ledger>(kernel: &mut Kernel, horizon: Tick, steps: &mut Steps<L>)
     requires fresh { kernel.old.machine.now ≡ 0 }
     requires limit { horizon ≤ 10 ^ 18 }
     ensures state { kernel.new ≡ ticked_by horizon kernel.old }
+    ensures not_beyond { kernel.new.machine.now ≤ horizon }
     ensures busy { steps.new ≤ steps.old + busy (flat_bodies kernel.old.code) kernel.old.machine 0 horizon + 1 }
 {
     let mut nothing = NullSink::new();

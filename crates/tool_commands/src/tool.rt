@@ -35,6 +35,7 @@ use crate::generated::{soak, tell_generated};
 use crate::message::refused_line;
 use crate::responses::tell_responses;
 use crate::runs::print_run;
+use crate::show::show_text;
 use crate::upgrade::upgrade_text;
 use parts_io::{ReadEnd, Sink, Source, read_whole};
 use parts_steps::Steps;
@@ -125,11 +126,13 @@ fn answer_text<K: Sink, L: Ledger>(
     ensures unchanged { result ≡ Status.OutOfMemory → sink.new ≡ sink.old }
     ensures kind { reads command.now ≡ false → IsWithoutSource result }
     ensures busy { (n : ℕ) → command.now ≡ Command.Run n → StepsAreFew n text.now steps.old steps.new }
+    ensures shows { (n : ℕ) → command.now ≡ Command.Show n → StepsAreFew n text.now steps.old steps.new }
     ensures rounds { (n : ℕ) → command.now ≡ Command.ResponseTimes n → RoundsAreFew n text.now steps.old steps.new }
     ensures soaks { (seed n : ℕ) → command.now ≡ Command.Soak seed n → steps.new ≤ steps.old + busy_between (script_of seed) 0 n + 1 }
 {
     match *command {
         Command::Run(horizon) => answer_run(alloc, text, horizon, sink, steps),
+        Command::Show(horizon) => show_text(alloc, text, horizon, sink, steps),
         Command::Check(horizon) => check_text(alloc, text, horizon, sink, steps),
         Command::Audit => audit_text(alloc, text, sink),
         Command::Upgrade => upgrade_text(alloc, text, sink),
@@ -142,7 +145,8 @@ fn answer_text<K: Sink, L: Ledger>(
 /// Carries out the command of the words: reads the source, and writes to the sink.
 ///
 /// `run N` reads the source whole, at most 1,048,576 bytes, and runs its script to tick N; the text is the trace of the
-/// list machine. `check N` reads it whole, at most 67,108,864 bytes, splits it at its first line `%%` into a script and a
+/// list machine. `show N` reads it so, and the text is what the lists and objects of that run are at tick N, with what is due then
+/// handled. `check N` reads it whole, at most 67,108,864 bytes, splits it at its first line `%%` into a script and a
 /// trace, and tells whether the trace is the script's; `Differs` comes with the first line that differs. `audit` reads it whole, at
 /// most 67,108,864 bytes, splits it so into a head of servers and a trace, and tells whether the trace keeps their budgets;
 /// `Breach` comes with the first line that breaks a rule, and the least rule that it breaks. `upgrade` reads it whole, at most
@@ -208,6 +212,8 @@ pub fn run_tool<S: Source, K: Sink, L: Ledger>(
     // A run has at most one step more than there are eventful instants before its horizon, and the response times of tasks at most one more
     // than the bound for each task.
     ensures busy { (n : ℕ) (bytes : List ℕ) → command (map string_bytes words.now) ≡ Some (Command.Run n) → S.rest source.old ≡ Some bytes
+        → StepsAreFew n bytes steps.old steps.new }
+    ensures shows { (n : ℕ) (bytes : List ℕ) → command (map string_bytes words.now) ≡ Some (Command.Show n) → S.rest source.old ≡ Some bytes
         → StepsAreFew n bytes steps.old steps.new }
     ensures rounds { (n : ℕ) (bytes : List ℕ) → command (map string_bytes words.now) ≡ Some (Command.ResponseTimes n) → S.rest source.old ≡ Some bytes
         → RoundsAreFew n bytes steps.old steps.new }

@@ -45,6 +45,11 @@ returns-in-Ok-clause-busy g c n bytes run rest =
     let is : command (map string_bytes c.args.words.now) ≡ Some c.in-Some.command = sym c.command_of_words.ensures.command ∙ c.in-Some.is in
     search rules
 
+pub returns-in-Ok-clause-shows : goal.returns-in-Ok-clause-shows
+returns-in-Ok-clause-shows g c n bytes run rest =
+    let is : command (map string_bytes c.args.words.now) ≡ Some c.in-Some.command = sym c.command_of_words.ensures.command ∙ c.in-Some.is in
+    search rules
+
 -- and so are those of its response times
 pub returns-in-Ok-clause-rounds : goal.returns-in-Ok-clause-rounds
 returns-in-Ok-clause-rounds g c n bytes run rest =
