@@ -20,12 +20,18 @@ ghost use Rattle.calls_table.specs.Calls.{objects_in};
 ghost use Rattle.kernel_leaps.specs.Fits.{StaysFit};
 ghost use Rattle.kernel_leaps.specs.Good.{IsGood};
 ghost use Rattle.kernel_leaps.specs.Ran.{ticked_by};
+ghost use Rattle.kernel_leaps.specs.Shown.{HasFewObjects, IsInRun};
+ghost use Rattle.rules_facts.specs.Shown.{shown};
+ghost use Rattle.parts_io.specs.Bytes.{WritesAll};
+ghost use Rattle.parts_io.specs.Causes.{HasCause};
 ghost use Rattle.laws_flat_code.specs.Places.{carry};
 ghost use Rattle.laws_places.specs.Carried.{ran_carried};
 
+use crate::instant::handle_items;
 use crate::run::{RunEnd, run_leaps};
+use kernel_facts::write_state;
 use kernel_state::Parts;
-use parts_io::Sink;
+use parts_io::{Failed, Sink};
 use parts_server::BudgetLine;
 use parts_steps::Steps;
 use parts_tracer::Tracer;
@@ -132,6 +138,24 @@ impl Kernel {
         ensures { Prints K.text K.faults out.old out.new (closing self.now.names self.now.machine) }
     {
         self.parts.report(out)
+    }
+
+    /// Writes what `show` tells of the instant: who stands on which list, who waits for what, and more. What is due at the instant is handled
+    /// first, and told nowhere, so the kernel is done with. It takes no memory.
+    ///
+    /// `Err` comes only where the sink's count of faults rose in this call, and then a part from the front of the text was appended.
+    pub fn show<K: Sink>(self, script: &Script, sink: &mut K) -> Result<(), Failed>
+        requires runnable { IsRunnable script.now }
+        requires well_formed { IsWellFormed script.now }
+        requires few { HasFewObjects script.now }
+        requires in_run { IsInRun script.now self }
+        requires early { self.machine.now ≤ 10 ^ 18 }
+        ensures written { (n : ℕ) → self ≡ ticked_by n (opened script.now) → WritesAll (K.text sink.old) (K.text sink.new) result (shown script.now n) }
+        ensures cause { HasCause (K.faults sink.old) (K.faults sink.new) result }
+    {
+        let mut parts = self.parts;
+        handle_items(&mut parts);
+        write_state(&parts, script, sink)
     }
 }
 

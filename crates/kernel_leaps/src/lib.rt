@@ -5,7 +5,8 @@
 //! the horizon (`busy`); it answers `Killed` exactly where a signal has ended the process by then (`killed`, `ended`); the state
 //! that it leaves has its lists, owners, servers and waits right (`good`), and in a run from the beginning each server keeps its
 //! budget at every instant (`budgets`); of a kernel that was opened for a script and has not run yet, state, events and eventful
-//! instants are the script's (`machine`, `events`, `eventful`); `report` prints the closing lines; `running`, `now`, `totals`.
+//! instants are the script's (`machine`, `events`, `eventful`); `report` prints the closing lines; `show` writes what is shown of the
+//! script at the instant to which its kernel ran; `running`, `now`, `totals`.
 #![tactic(auto)]
 
 mod calls;

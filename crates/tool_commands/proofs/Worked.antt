@@ -30,6 +30,11 @@ no_tick_at_all : answer (codes "run" ∷ codes "0" ∷ []) (text (codes "thread 
 unfolding read heading read_in patterns declaration_patterns step_patterns call_patterns said_from phase_one lines_of words_of digits exec_in
 no_tick_at_all = refl
 
+one_thread_is_shown : answer (codes "show" ∷ codes "2" ∷ []) (text (codes "thread a fifo 5 at 0" ∷ codes "run 3" ∷ codes "end" ∷ [])) ≡
+    done (codes "2 state" ∷ codes "list 5 a" ∷ codes "thread a ready 5 5" ∷ codes "now a 2 0 0 0" ∷ codes "left a 1" ∷ [])
+unfolding read heading read_in patterns declaration_patterns step_patterns call_patterns said_from phase_one lines_of words_of digits exec_in
+one_thread_is_shown = refl
+
 preempted_thread_resumes_at_the_head : answer (codes "run" ∷ codes "12" ∷ [])
     (text (codes "thread a fifo 5 at 0" ∷ codes "run 4" ∷ codes "end" ∷ codes "thread b fifo 5 at 0" ∷ codes "run 1" ∷ codes "end" ∷
     codes "thread c fifo 9 at 2" ∷ codes "run 1" ∷ codes "end" ∷ [])) ≡
@@ -42,6 +47,10 @@ preempted_thread_resumes_at_the_head = refl
 no_thread_is_refused : answer (codes "run" ∷ codes "10" ∷ []) [] ≡ record { status = Refused; text = codes "refused 1 14 NoThread\n" }
 unfolding read heading read_in patterns declaration_patterns step_patterns call_patterns said_from phase_one lines_of words_of digits
 no_thread_is_refused = refl
+
+no_thread_is_not_shown : answer (codes "show" ∷ codes "10" ∷ []) [] ≡ record { status = Refused; text = codes "refused 1 14 NoThread\n" }
+unfolding read heading read_in patterns declaration_patterns step_patterns call_patterns said_from phase_one lines_of words_of digits
+no_thread_is_not_shown = refl
 
 one_word_is_no_command : answer (codes "run" ∷ []) [] ≡ record { status = Usage; text = usage_line }
 one_word_is_no_command = refl
