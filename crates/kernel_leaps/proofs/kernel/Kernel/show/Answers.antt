@@ -1,4 +1,4 @@
-use Rattle.std.proofs.Common.{subst, ◌∙◌}
+use Rattle.std.proofs.Common.{List, subst, sym, ℕ, ◌∙◌}
 use Rattle.parts_io.specs.Bytes.{WritesAll}
 use Rattle.kernel_leaps.proofs.Running.{items_fit}
 use Rattle.kernel_leaps.proofs.Shown.{numbered, text_is}
@@ -7,6 +7,7 @@ use Rattle.kernel_leaps.proofs.kernel.Kernel.show.Goals as goal
 pub handle_items-requires-clause-fits : goal.handle_items-requires-clause-fits
 handle_items-requires-clause-fits g c = items_fit c.self.inside.parts c.self.invariant.quiet c.self.invariant.fits
 
+-- each object that is told has a number
 pub write_state-requires : goal.write_state-requires
 write_state-requires g c = record {
   numbered = numbered c.args.script.now c.requires.in_run.ticks c.self.inside.parts c.handle_items.new.p (c.self.view_is ∙ c.requires.in_run.is) c.handle_items.ensures.state
@@ -15,5 +16,5 @@ write_state-requires g c = record {
 
 pub returns-clause-written : goal.returns-clause-written
 returns-clause-written g c n is =
-    subst (WritesAll (g.K.Sink.text c.args.sink.old) (g.K.Sink.text c.write_state.new.sink) c.write_state.result)
+    subst (λ (text : List ℕ). WritesAll (g.K.Sink.text c.args.sink.now) (g.K.Sink.text c.write_state.new.sink) c.write_state.result text)
     (text_is c.args.script.now n c.self.inside.parts c.handle_items.new.p (c.self.view_is ∙ is) c.handle_items.ensures.state) c.write_state.ensures.written
