@@ -5,6 +5,7 @@ ghost use Rattle.rules_flat_code.specs.FlatBodies.{flat_bodies};
 ghost use Rattle.calls_table.specs.Calls.{objects_in};
 ghost use Rattle.kernel_leaps.specs.Fits.{ItemsFit};
 ghost use Rattle.kernel_state.specs.Does.{Does};
+ghost use Rattle.kernel_state.specs.Kernel.{after};
 ghost use Rattle.kernel_state.specs.Stood.{StoodRight};
 
 use calls_table::do_item;
