@@ -1,7 +1,7 @@
 -- The record that ended the process.
 use Rattle.std.specs.List.{cons_option, range_with_len}
 use Rattle.std.specs.Prelude.{filter_map, is_some, option_map}
-use Rattle.std.proofs.Common.{◌≡◌, ◌<◌, ◌+◌, ◌-◌, ℕ, suc, Bool, List, None, Option, Some, add-one, ap, arith, false, length, refl, slice_get, sym, true, ◌∙◌}
+use Rattle.std.proofs.Common.{◌≡◌, ◌<◌, ◌+◌, ◌-◌, ℕ, suc, List, None, Option, Some, ap, arith, length, refl, slice_get, sym, true, ◌∙◌}
 use Rattle.rules_machine.specs.Delivery.{taken_by_sweep}
 use Rattle.rules_machine.specs.State.{Machine, SignalRecord}
 use Rattle.rules_facts.specs.Shown.{ending_record}

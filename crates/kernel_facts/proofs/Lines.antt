@@ -1,5 +1,5 @@
 -- The lines of facts, piece by piece.
-use Rattle.std.proofs.Common.{◌≡◌, ◌<◌, ◌≤◌, ℕ, zero, suc, Bool, List, None, Option, Some, [], ◌∷◌, ◌++◌, append-nil, append_assoc, ap, arith, false, flat_map, length, map, not, refl, slice_get, sym, take, true, unwrap_or, ◌∙◌}
+use Rattle.std.proofs.Common.{◌≡◌, ◌<◌, ℕ, zero, suc, Bool, List, None, Some, [], ◌∷◌, ◌++◌, append-nil, append_assoc, ap, arith, false, flat_map, length, map, not, refl, slice_get, sym, take, true, unwrap_or, ◌∙◌}
 use Rattle.std.specs.Prelude.{if◌then◌else◌, ◌||◌}
 use Rattle.words_script.specs.declared.decl.Decl.{Decl}
 use Rattle.rules_machine.specs.State.{Frame}

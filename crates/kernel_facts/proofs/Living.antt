@@ -1,9 +1,8 @@
 -- A thread that lives is told as it is.
-use Rattle.std.proofs.Common.{◌≡◌, ℕ, Bool, ap, false, not, refl, true, ◌∙◌}
-use Rattle.rules_facts.specs.Fact.{Cancelability}
+use Rattle.std.proofs.Common.{◌≡◌, Bool, ap, false, not, refl, true}
 use Rattle.std.specs.Prelude.{if◌then◌else◌}
-use Rattle.rules_machine.specs.State.{Machine, Thread}
-use Rattle.rules_machine.specs.Threads.{is_live, no_thread, thread_at}
+use Rattle.rules_machine.specs.State.{Thread}
+use Rattle.rules_machine.specs.Threads.{is_live, no_thread}
 use Rattle.rules_facts.specs.Threads.{cancelability_of, living}
 
 pub living_is : {P : Type 0} (th : Thread P) → is_live th.status ≡ true → living th ≡ th

@@ -1,5 +1,5 @@
 -- The lines of the numbers of one thread.
-use Rattle.std.proofs.Common.{◌≡◌, ◌<◌, ℕ, Bool, List, Option, [], ◌∷◌, ◌++◌, ap, append_assoc, arith, false, flat_map, get_or, length, refl, sym, true, ◌∙◌}
+use Rattle.std.proofs.Common.{◌≡◌, ◌<◌, ℕ, Bool, List, Option, [], ◌∷◌, ◌++◌, ap, append_assoc, arith, flat_map, get_or, length, refl, sym, true, ◌∙◌}
 use Rattle.std.specs.Prelude.{if◌then◌else◌}
 use Rattle.words_script.specs.declared.decl.Decl.{Decl}
 use Rattle.words_script.specs.declared.policy.Policy.{Policy}

@@ -1,16 +1,14 @@
 -- The text of a state is that of its rows.
 use Rattle.std.specs.List.{join_with_byte, range_with_len}
 use Rattle.std.specs.Prelude.{if◌then◌else◌, option_map, slice_index_or}
-use Rattle.std.proofs.Common.{◌≡◌, ◌<◌, ◌≤◌, ◌+◌, ◌-◌, ◌⊎◌, ⊎_elim, ℕ, zero, suc, Bool, List, None, Option, Some, [], ◌∷◌, ◌++◌, add-one, ap, append-nil, append_assoc, arith, false, filter, flat_map, length, map, not, refl, reverse, sym, true, ◌∙◌}
+use Rattle.std.proofs.Common.{◌≡◌, ◌<◌, ◌+◌, ◌-◌, ℕ, zero, suc, Bool, List, None, Option, Some, [], ◌∷◌, ◌++◌, ap, append-nil, arith, false, filter, flat_map, length, map, not, refl, reverse, sym, true, ◌∙◌}
 use Rattle.std.proofs.lemmas.Grind.{reverse_onto}
-use Rattle.parts_links.proofs.Chains.{decide}
 use Rattle.words_script.specs.declared.decl.Decl.{Decl}
 use Rattle.words_script.specs.declared.decl.Script.{Script}
 use Rattle.words_script.specs.declared.name_kind.NameKind.TheVariants as kind
 use Rattle.script_writer.specs.Names.{names_of}
 use Rattle.words_trace.specs.Text.{line_of_words}
-use Rattle.rules_lists.specs.Lists.{list_of}
-use Rattle.script_lex.specs.Joined.{after_blanks, joined_words}
+use Rattle.script_lex.specs.Joined.{joined_words}
 use Rattle.script_writer.specs.Canon.{Words}
 use Rattle.script_writer.specs.Line.{line_text}
 use Rattle.rules_machine.specs.State.{Machine, SignalRecord}

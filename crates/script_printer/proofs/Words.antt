@@ -1,8 +1,8 @@
 -- The text of some words of a line, and of one more.
-use Rattle.std.proofs.Common.{◌≡◌, ◌<◌, ℕ, zero, suc, List, [], ◌∷◌, ◌++◌, append-nil, append_assoc, ap, arith, drop, get_or, length, map, refl, subst, sym, take, ◌∙◌, ◌-◌}
+use Rattle.std.proofs.Common.{◌≡◌, ◌<◌, ℕ, zero, suc, List, [], ◌∷◌, ◌++◌, append-nil, append_assoc, ap, arith, drop, get_or, length, map, subst, sym, take, ◌∙◌, ◌-◌}
 use Rattle.std.proofs.Math.Seq.{take-length}
 use Rattle.script_lex.specs.Joined.{after_blanks, joined_words}
-use Rattle.script_writer.specs.Line.{AreShort, IsShort, line_text, spelled}
+use Rattle.script_writer.specs.Line.{AreShort, IsShort, spelled}
 use Rattle.script_writer.specs.declared.line.Word.{Word}
 
 pub blanks_more : (words : List Word) (i : ℕ) (w d : Word) → i < length words → w ≡ get_or words i d

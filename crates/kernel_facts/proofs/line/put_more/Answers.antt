@@ -1,4 +1,4 @@
-use Rattle.std.proofs.Common.{◌<◌, arith, length, map}
+use Rattle.std.proofs.Common.{◌<◌, length, map}
 use Rattle.script_writer.specs.Line.{spelled}
 use Rattle.script_printer.proofs.Puts.{puts_both}
 use Rattle.kernel_facts.proofs.Lines.{more_begun, more_later, some_spelled}

@@ -1,4 +1,4 @@
-use Rattle.std.proofs.Common.{◌≡◌, ◌<◌, ℕ, List, [], ◌∷◌, add-one, arith, codes, decimal, flat_map, length, refl, sym, take, ◌∙◌}
+use Rattle.std.proofs.Common.{◌≡◌, ◌<◌, ℕ, [], ◌∷◌, add-one, arith, codes, decimal, flat_map, length, refl, sym, take, ◌∙◌}
 use Rattle.std.proofs.lemmas.Option.{slice_get_within}
 use Rattle.rules_lists.specs.Lists.{list_of}
 use Rattle.rules_facts.specs.Spelled.{thread_name}

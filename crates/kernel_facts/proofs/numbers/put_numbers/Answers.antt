@@ -1,11 +1,8 @@
-use Rattle.std.proofs.Common.{◌≡◌, ap, subst, sym, true, ◌∙◌, ◌++◌, flat_map, not, false}
+use Rattle.std.proofs.Common.{◌≡◌, ap, subst, sym, true, ◌∙◌}
 use Rattle.rules_bodies.specs.declared.cursor.Cursor.{Cursor}
 use Rattle.rules_machine.specs.State.{Thread}
 use Rattle.rules_machine.specs.Threads.{is_live, thread_at}
-use Rattle.rules_facts.specs.Numbers.{budget_numbers, frame_numbers, slice_numbers}
-use Rattle.script_printer.specs.Puts.{Puts}
 use Rattle.script_printer.proofs.Puts.{puts_both}
-use Rattle.kernel_facts.specs.Lines.{number_text}
 use Rattle.kernel_facts.proofs.Ticks.{live_text}
 use Rattle.kernel_facts.proofs.Puts.{puts_as}
 use Rattle.kernel_facts.proofs.numbers.put_numbers.Goals as goal

@@ -1,4 +1,4 @@
-use Rattle.std.proofs.Common.{◌≡◌, ap, arith, sym, ◌∙◌}
+use Rattle.std.proofs.Common.{◌≡◌, ap, arith, ◌∙◌}
 use Rattle.words_numbers.specs.Words.{res_text}
 use Rattle.script_printer.proofs.Puts.{puts_both}
 use Rattle.kernel_facts.proofs.Ticks.{top_text}

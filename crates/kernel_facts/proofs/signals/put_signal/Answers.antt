@@ -1,9 +1,8 @@
-use Rattle.std.proofs.Common.{◌≡◌, ◌∷◌, [], add-one, ap, append-nil, arith, codes, flat_map, refl, sym, take, ◌∙◌}
+use Rattle.std.proofs.Common.{◌≡◌, ◌∷◌, [], add-one, ap, append-nil, arith, codes, flat_map, sym, take, ◌∙◌}
 use Rattle.words_numbers.specs.Words.{sig_code_text}
 use Rattle.script_writer.specs.Words.{signal_word}
 use Rattle.rules_facts.specs.Signals.{pending_of}
 use Rattle.rules_facts.specs.Spelled.{pending_words, target_word}
-use Rattle.script_printer.proofs.Puts.{puts_nothing}
 use Rattle.kernel_facts.specs.Picked.{words_of}
 use Rattle.kernel_facts.proofs.Lines.{told_some, words_all, words_more}
 use Rattle.kernel_facts.proofs.Picked.{no_words, records_told, told_words}

@@ -1,4 +1,4 @@
-use Rattle.std.proofs.Common.{◌≡◌, add-one, arith, length, sym, ◌∙◌}
+use Rattle.std.proofs.Common.{◌≡◌, add-one, arith, length}
 use Rattle.script_printer.proofs.Puts.{puts_both}
 use Rattle.kernel_facts.proofs.state.put_all_numbers.Goals as goal
 

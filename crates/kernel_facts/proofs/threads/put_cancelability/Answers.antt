@@ -1,9 +1,9 @@
-use Rattle.std.proofs.Common.{◌≡◌, Bool, ap, not, subst, sym, true, ◌∙◌}
+use Rattle.std.proofs.Common.{◌≡◌, ap, subst, sym, true, ◌∙◌}
 use Rattle.rules_bodies.specs.declared.cursor.Cursor.{Cursor}
 use Rattle.rules_machine.specs.State.{Thread}
 use Rattle.rules_machine.specs.Threads.{is_live, thread_at}
 use Rattle.rules_facts.specs.Fact.{Cancelability, cancelability}
-use Rattle.rules_facts.specs.Threads.{cancelability_of, living}
+use Rattle.rules_facts.specs.Threads.{cancelability_of}
 use Rattle.script_printer.specs.Puts.{Puts}
 use Rattle.kernel_facts.specs.Lines.{fact_text}
 use Rattle.kernel_facts.proofs.Living.{flags_same, living_is}

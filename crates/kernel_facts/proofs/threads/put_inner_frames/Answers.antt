@@ -1,4 +1,4 @@
-use Rattle.std.proofs.Common.{◌≡◌, ◌++◌, [], ◌∷◌, add-one, append-nil, ap, arith, codes, false, flat_map, length, refl, sym, take, true, ◌∙◌}
+use Rattle.std.proofs.Common.{◌≡◌, [], ◌∷◌, add-one, append-nil, ap, arith, codes, false, flat_map, length, refl, sym, take, true, ◌∙◌}
 use Rattle.std.proofs.Math.Seq.{take-length}
 use Rattle.std.proofs.lemmas.Option.{slice_get_read}
 use Rattle.rules_machine.specs.Threads.{is_main}

@@ -1,10 +1,9 @@
-use Rattle.std.proofs.Common.{◌≡◌, ◌<◌, ℕ, List, Some, [], ◌∷◌, add-one, arith, codes, flat_map, length, refl, slice_get, sym, take, ◌∙◌}
+use Rattle.std.proofs.Common.{◌≡◌, [], ◌∷◌, add-one, arith, codes, flat_map, length, refl, sym, take}
 use Rattle.std.proofs.Math.Seq.{take-length}
 use Rattle.std.proofs.lemmas.Option.{slice_get_read}
 use Rattle.rules_facts.specs.Spelled.{replenishment_words}
-use Rattle.script_writer.specs.Canon.{Words}
 use Rattle.script_printer.proofs.Puts.{puts_nothing}
-use Rattle.kernel_facts.proofs.Lines.{one_each, told_some, words_more}
+use Rattle.kernel_facts.proofs.Lines.{told_some, words_more}
 use Rattle.kernel_facts.proofs.Puts.{puts_end, puts_more}
 use Rattle.kernel_facts.proofs.threads.put_planned.Goals as goal
 

@@ -1,4 +1,4 @@
-use Rattle.std.proofs.Common.{◌≡◌, ℕ, [], ◌∷◌, flat_map, map, not, take}
+use Rattle.std.proofs.Common.{◌≡◌, flat_map, map, not, take}
 use Rattle.rules_facts.specs.Spelled.{replenishment_words}
 use Rattle.script_writer.specs.Line.{spelled}
 use Rattle.script_writer.specs.Words.{is_nil}

@@ -1,8 +1,5 @@
-use Rattle.std.proofs.Common.{add-one, arith, ◌≡◌, length, subst, map, take}
+use Rattle.std.proofs.Common.{add-one, arith, ◌≡◌, length}
 use Rattle.std.proofs.Math.Seq.{take-length}
-use Rattle.script_lex.specs.Joined.{after_blanks}
-use Rattle.script_writer.specs.Line.{spelled}
-use Rattle.script_printer.specs.Puts.{Puts}
 use Rattle.script_printer.proofs.Puts.{puts_both}
 use Rattle.script_printer.proofs.Words.{blanks_more, short_here}
 use Rattle.script_printer.proofs.printer.Printer.words.Goals as goal
