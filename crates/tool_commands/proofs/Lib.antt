@@ -6,3 +6,4 @@ pub mod Audits
 pub mod Serials
 pub mod Taken
 pub mod FewObjects
+pub mod SameScript

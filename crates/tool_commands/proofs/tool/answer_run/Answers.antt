@@ -1,10 +1,11 @@
-use Rattle.std.proofs.Common.{◌≡◌, ◌≤◌, ◌+◌, ◌∙◌, Ok, Result, subst, sym}
+use Rattle.std.proofs.Common.{◌≤◌, ◌+◌, subst}
 use Rattle.words_script.specs.declared.decl.Script.{Script}
 use Rattle.script_table.specs.Table.{patterns}
 use Rattle.script_table.specs.Read.{read}
 use Rattle.rules_machine.specs.Promises.{busy_between}
 use Rattle.laws_bounds.proofs.Runnable.{accepted_can_be_run}
 use Rattle.laws_accepted.proofs.Reading.{accepted_is_well_formed}
+use Rattle.tool_commands.proofs.SameScript.{same_script}
 use Rattle.tool_commands.proofs.tool.answer_run.Goals as goal
 
 pub tell_trace-requires-clause-runnable : goal.tell_trace-requires-clause-runnable
@@ -12,9 +13,6 @@ tell_trace-requires-clause-runnable g c = accepted_can_be_run c.args.text.now c.
 
 pub tell_trace-requires-clause-well_formed : goal.tell_trace-requires-clause-well_formed
 tell_trace-requires-clause-well_formed g c = accepted_is_well_formed c.args.text.now c.in-Ok.script c.in-Ok.ensures.script
-
-same_script : {E : Type 0} (a b : Script) (e : Result Script E) → e ≡ Ok a → e ≡ Ok b → a ≡ b
-same_script a b e is also = cc (sym is ∙ also)
 
 pub returns-in-Ok-clause-busy : goal.returns-in-Ok-clause-busy
 returns-in-Ok-clause-busy g c script is =
