@@ -1,7 +1,7 @@
 #!/usr/bin/env python3
 """How the time of a run grows with what the run has: threads, waiters, owners, records, timers, messages, lines.
 
-    python3 tools/bench/growth.py PROGRAM [OTHER] [--folder FOLDER] [--only PART] [--times N]
+    python3 tools/bench/growth.py PROGRAM [OTHER] [--folder FOLDER] [--only PART] [--times N] [--instructions] [--names A,B]
 
 Each kind of growth is one load at several sizes. A row tells the size, the nanoseconds for each line of the trace (or, for the
 reader, each line of the script) and, with OTHER, those of another program. With --folder a picture of each, by gnuplot.
@@ -19,7 +19,7 @@ from pathlib import Path
 
 import loads
 from loads import Load
-from timing import least
+from timing import counted, least
 
 HORIZON = 300_000
 
@@ -63,19 +63,21 @@ def lines_told(program: str, load: Load) -> int:
     return done.stdout.count(b"\n") if done.returncode == 0 else 0
 
 
-def row(programs: list[str], growth: Growth, size: int, times: int) -> list[float | None]:
-    """The nanoseconds of each program for each line; `None` where it refuses the load."""
+def row(programs: list[str], growth: Growth, size: int, times: int, by_instructions: bool) -> list[float | None]:
+    """What each line costs each program, nanoseconds or instructions; `None` where it refuses the load."""
     script = with_version(growth.script(size), size)
-    load = Load(growth.name, ("run", "1" if growth.counts_script else str(HORIZON)), script)
+    horizon = HORIZON // 10 if by_instructions else HORIZON
+    load = Load(growth.name, ("run", "1" if growth.counts_script else str(horizon)), script)
     count = script.count("\n") if growth.counts_script else lines_told(programs[0], load)
-    return [None if took is None or count == 0 else took * 1e6 / count for took in least(programs, load, times)]
+    whole: list[float | None] = list(counted(programs, load)) if by_instructions else [None if took is None else took * 1e6 for took in least(programs, load, times)]
+    return [None if cost is None or count == 0 else cost / count for cost in whole]
 
 
-def draw(growth: Growth, rows: list[tuple[int, list[float | None]]], names: list[str], to: Path) -> None:
+def draw(growth: Growth, rows: list[tuple[int, list[float | None]]], names: list[str], what: str, to: Path) -> None:
     """A picture of the rows: the size on a logarithmic axis, a line for each program."""
     blocks = ["\n".join(f"{size} {figures[n]}" for size, figures in rows if figures[n] is not None) for n in range(len(names))]
     plots = ", ".join(f"$data{n} using 1:2 with linespoints pt 7 title '{name}'" for n, name in enumerate(names))
-    unit = "nanoseconds a line of the " + ("script" if growth.counts_script else "trace")
+    unit = f"{what} a line of the " + ("script" if growth.counts_script else "trace")
     commands = "".join(f"$data{n} << EOD\n{block}\nEOD\n" for n, block in enumerate(blocks))
     commands += f"""set terminal svg size 560,320 dynamic font 'DejaVu Sans,12' background rgb 'white'
 set output '{to}'
@@ -97,21 +99,24 @@ def main() -> int:
     words.add_argument("--folder", type=Path)
     words.add_argument("--only", default="")
     words.add_argument("--times", type=int, default=5)
+    words.add_argument("--instructions", action="store_true")
+    words.add_argument("--names", default="pse52,other", help="the names of the programs in the pictures")
     said = words.parse_args()
     programs = [said.program] + ([said.other] if said.other else [])
     if said.folder and not shutil.which("gnuplot"):
         print("growth: there is no gnuplot, so no picture is made", file=sys.stderr)
         said.folder = None
+    what = "instructions" if said.instructions else "nanoseconds"
     for growth in GROWTHS:
         if said.only not in growth.name:
             continue
-        rows = [(size, row(programs, growth, size, said.times)) for size in growth.sizes]
-        print(f"{growth.name}: {growth.size_is}")
+        rows = [(size, row(programs, growth, size, said.times, said.instructions)) for size in growth.sizes]
+        print(f"{growth.name}: {growth.size_is}; {what} a line")
         for size, figures in rows:
-            print(f"  {size:6}" + "".join(f"{'refused' if figure is None else f'{figure:.0f} ns':>12}" for figure in figures), flush=True)
+            print(f"  {size:6}" + "".join(f"{'refused' if figure is None else f'{figure:.0f}':>12}" for figure in figures), flush=True)
         if said.folder:
             said.folder.mkdir(parents=True, exist_ok=True)
-            draw(growth, rows, ["pse52", "other"][: len(programs)], said.folder / f"{growth.name}.svg")
+            draw(growth, rows, said.names.split(",")[: len(programs)], what, said.folder / f"{growth.name}.svg")
     return 0
 
 

@@ -5,6 +5,9 @@
     python3 tools/bench/runs.py PROGRAM OTHER             and that of another built program, with the ratio of ours to it
     python3 tools/bench/runs.py PROGRAM OTHER --markdown  the same as a table for docs/SPEED.md, with the machine's line
 
+With --instructions not the time but millions of instructions, as valgrind counts them, of each load to a twentieth of its horizon: these
+do not depend on what else the machine does.
+
 A load that the other program refuses has no ratio.
 """
 from __future__ import annotations
@@ -14,8 +17,8 @@ import os
 import platform
 import sys
 
-from loads import LOADS
-from timing import least
+from loads import LOADS, Load
+from timing import counted, least, shortened
 
 
 def machine() -> str:
@@ -33,6 +36,13 @@ def shown(time: float | None) -> str:
     return "refused" if time is None else f"{time:.1f}"
 
 
+def costs(programs: list[str], load: Load, times: int, by_instructions: bool) -> list[float | None]:
+    """What the load costs each program: milliseconds, or millions of instructions."""
+    if not by_instructions:
+        return least(programs, load, times)
+    return [None if count is None else count / 1e6 for count in counted(programs, shortened(load))]
+
+
 def main() -> int:
     words = argparse.ArgumentParser(description=__doc__, formatter_class=argparse.RawDescriptionHelpFormatter)
     words.add_argument("program")
@@ -40,16 +50,19 @@ def main() -> int:
     words.add_argument("--times", type=int, default=9, help="runs of each load, of which the least counts (9)")
     words.add_argument("--only", default="", help="loads with this in their name")
     words.add_argument("--markdown", action="store_true")
+    words.add_argument("--instructions", action="store_true")
     said = words.parse_args()
     programs = [said.program] + ([said.other] if said.other else [])
+    unit = "millions of instructions" if said.instructions else "ms"
     if said.markdown:
-        print(f"{machine()}; the least of {said.times} runs in turn, processor time.\n")
-        print("| load | ms |" if len(programs) == 1 else "| load | ms | other, ms | ratio |")
+        if not said.instructions:
+            print(f"{machine()}; the least of {said.times} runs in turn, processor time.\n")
+        print(f"| load | {unit} |" if len(programs) == 1 else f"| load | {unit} | other | ratio |")
         print("|---|---|" if len(programs) == 1 else "|---|---|---|---|")
     for load in LOADS:
         if said.only not in load.name:
             continue
-        took = least(programs, load, said.times)
+        took = costs(programs, load, said.times, said.instructions)
         cells = [load.name, *map(shown, took)]
         if len(took) == 2:
             cells.append("" if took[0] is None or took[1] is None else f"{took[0] / max(took[1], 0.1):.2f}")

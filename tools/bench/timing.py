@@ -1,7 +1,8 @@
-"""The processor time of one run of a built program."""
+"""What one run of a built program costs: its processor time, or the instructions that it does."""
 from __future__ import annotations
 
 import os
+import re
 import subprocess
 import tempfile
 from dataclasses import dataclass
@@ -47,3 +48,34 @@ def least(programs: list[str], load: Load, times: int) -> list[float | None]:
             if earlier is None or took < earlier:
                 best[number] = took
     return best
+
+
+def instructions(program: str, load: Load) -> int:
+    """The instructions of the whole process, as valgrind counts them. Other work on the machine does not matter."""
+    with tempfile.TemporaryFile() as script:
+        script.write(load.script.encode())
+        script.seek(0)
+        words = ["valgrind", "--tool=callgrind", "--callgrind-out-file=/dev/null", program, *load.words]
+        done = subprocess.run(words, stdin=script, stdout=subprocess.DEVNULL, stderr=subprocess.PIPE, text=True, check=False)
+    counted = re.search(r"Collected : (\d+)", done.stderr)
+    if done.returncode != 0 or counted is None:
+        raise Refused(program, load.name, done.returncode)
+    return int(counted[1])
+
+
+def counted(programs: list[str], load: Load) -> list[int | None]:
+    """The instructions of each program; `None` of one that refuses the load."""
+    counts: list[int | None] = []
+    for program in programs:
+        try:
+            counts.append(instructions(program, load))
+        except Refused:
+            counts.append(None)
+    return counts
+
+
+def shortened(load: Load, parts: int = 20) -> Load:
+    """The load to a part of its horizon, where that is a long one."""
+    *first, horizon = load.words
+    ticks = int(horizon)
+    return Load(load.name, (*first, str(ticks // parts if 10_000 <= ticks <= 100_000_000 else ticks)), load.script)
