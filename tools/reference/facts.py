@@ -93,7 +93,7 @@ class Facts:
         """The call in which a thread is blocked, what it waits for now, and until when where there is an end."""
         wait = thread.wait
         words = [wait.call.word, *self.awaited(thread)]
-        return " ".join(words if wait.due is None else [*words, "until", str(wait.due)])
+        return " ".join(words if wait.due is None else [*words, "until", str(self.kernel.due_tick(wait.due))])
 
     def awaited(self, thread: Thread) -> list[str]:
         wait = thread.wait
@@ -167,7 +167,7 @@ class Facts:
 
     def timer(self, number: int) -> str:
         timer = self.kernel.timers[number]
-        return "" if timer.due is None else f"{timer.due} {timer.interval}"
+        return "" if timer.due is None else f"{self.kernel.due_tick(timer.due)} {timer.interval}"
 
     def signals(self) -> list[str]:
         """Of each signal code, value and target of each pending record; a record for the process has the target `*`."""

@@ -32,7 +32,8 @@ EXPECTED: dict[str, tuple[str, ...]] = {
     "timer_settime": (), "timer_gettime": (), "timer_getoverrun": (), "kill": ("EAGAIN",), "tkill": ("ESRCH", "EAGAIN"),
     "sigqueue": ("EAGAIN",), "sigmask": (), "sigwaitinfo": SLEEPS, "sigtimedwait": ("EAGAIN", *SLEEPS),
     "mq_send": ("EMSGSIZE", "EAGAIN", *SLEEPS), "mq_timedsend": ("EMSGSIZE", "EAGAIN", "ETIMEDOUT", *SLEEPS),
-    "mq_receive": ("EAGAIN", *SLEEPS), "mq_timedreceive": ("EAGAIN", "ETIMEDOUT", *SLEEPS), "mq_notify": ("EBUSY",)}
+    "mq_receive": ("EAGAIN", *SLEEPS), "mq_timedreceive": ("EAGAIN", "ETIMEDOUT", *SLEEPS), "mq_notify": ("EBUSY",),
+    "clock_settime": ("EINVAL",), "real_gettime": ()}
 """The errors that each call can answer; 65,535 locks of one mutex are more than a generated script has."""
 LINES: dict[Stage, tuple[str, ...]] = {
     Stage.FIRST: ("dispatch", "idle", "start", "exit", "end"), Stage.SERVERS: ("activate", "exhaust", "plan", "refill"),

@@ -3,8 +3,10 @@ from __future__ import annotations
 
 from typing import TYPE_CHECKING
 
+from forms import GREATEST_NUMBER
 from script import Guard, Rr, Sporadic
-from state import FrameKind, Plain, Replenishment, Server, SigCode, Thread, ThreadState, WaitKind
+from state import (
+    CANCELED, GREATEST_REGISTER, FrameKind, Plain, Reading, Replenishment, Server, SigCode, Thread, ThreadState, WaitKind)
 
 if TYPE_CHECKING:
     from kernel import Kernel
@@ -12,6 +14,7 @@ if TYPE_CHECKING:
 
 def check(kernel: "Kernel") -> None:
     """Raises AssertionError where something that always holds does not."""
+    check_clock(kernel)
     check_lists(kernel)
     check_mutexes(kernel)
     for thread in kernel.threads:
@@ -19,6 +22,18 @@ def check(kernel: "Kernel") -> None:
         check_thread(kernel, thread)
     check_waits(kernel)
     check_records(kernel)
+
+
+def check_clock(kernel: "Kernel") -> None:
+    """CLOCK_REALTIME reads at least 0 and at most 10^18 more than the ticks; readings stand where the word `real` does."""
+    assert 0 <= kernel.real() <= kernel.time + GREATEST_NUMBER, kernel.time
+    held = [(wait.due, wait.call.is_real) for wait in (thread.wait for thread in kernel.threads) if wait is not None]
+    held += [(timer.due, timer.kind.real) for timer in kernel.timers]
+    for due, is_real in held:
+        if due is not None:
+            assert kernel.due_tick(due) <= CANCELED, kernel.time
+        if isinstance(due, Reading):
+            assert is_real and due.value <= GREATEST_REGISTER, kernel.time
 
 
 def check_lists(kernel: "Kernel") -> None:

@@ -6,7 +6,7 @@ from dataclasses import replace
 from forms import ObjectKind
 from script import Call, Fifo, Operand, Res, Rr, Script, Sporadic
 from state import (
-    CANCELED, CondEnd, Event, FrameKind, Mutex, Queue, Record, Server, Thread, ThreadState, Timer, Wait, WaitKind)
+    CANCELED, CondEnd, Due, Event, FrameKind, Mutex, Queue, Reading, Record, Server, Thread, ThreadState, Timer, Wait, WaitKind)
 from units import new_frame
 
 Snapshot = list[tuple[bool, int]]
@@ -16,12 +16,13 @@ class Kernel:
     """The state: plain lists of threads, objects and pending signals, and what happened so far.
 
     `now` is the instant; `time` is the time of what happens, which within a
-    tick is the instant that ends it.
+    tick is the instant that ends it. CLOCK_REALTIME reads `shift` more than that.
     """
 
     def __init__(self, script: Script) -> None:
         self.now = 0
         self.time = 0
+        self.shift = 0
         self.last_dispatch: int | str | None = None
         self.next_serial = 0
         self.killed: int | None = None
@@ -49,6 +50,27 @@ class Kernel:
     def take_serial(self) -> int:
         self.next_serial += 1
         return self.next_serial - 1
+
+    # Clocks
+
+    def real(self) -> int:
+        """What CLOCK_REALTIME reads."""
+        return self.time + self.shift
+
+    def due_tick(self, due: Due) -> int:
+        """When something is due as the clocks stand; what is due at a reading that has come is due now."""
+        if not isinstance(due, Reading):
+            return due
+        return self.time if self.real() >= due.value else self.time + due.value - self.real()
+
+    def absolute_time(self, thread: Thread, call: Call, operand: Operand) -> Due:
+        """A time of the call on its clock."""
+        value = self.value_of(thread, operand)
+        return Reading(value) if call.is_real else value
+
+    def has_passed(self, due: Due) -> bool:
+        """Whether the clock of a time reads at least that time."""
+        return self.due_tick(due) <= self.time
 
     # Priorities
 

@@ -82,10 +82,10 @@ class Machine(Kernel):
             if thread.start is not None:
                 found.append((thread.start, 256 + number, lambda t=thread: self.start(t, 0)))
             if thread.wait is not None and thread.wait.due is not None:
-                found.append((thread.wait.due, 512 + number, lambda t=thread: self.time_out(t)))
+                found.append((self.due_tick(thread.wait.due), 512 + number, lambda t=thread: self.time_out(t)))
         for number, timer in enumerate(self.timers):
             if timer.due is not None:
-                found.append((timer.due, 768 + number, lambda k=number: self.expire(k)))
+                found.append((self.due_tick(timer.due), 768 + number, lambda k=number: self.expire(k)))
         return [(number, handle) for due, number, handle in found if due <= self.now]
 
     def refill(self, thread: Thread) -> None:

@@ -11,7 +11,7 @@ def mq_send(kernel: Kernel, thread: Thread, call: Call) -> None:
     """Also with a timeout, an absolute time."""
     number, length, urgency, value = call.operands[:4]
     queue = kernel.queues[number]
-    due = kernel.value_of(thread, call.operands[4]) if call.word == "mq_timedsend" else None
+    due = kernel.absolute_time(thread, call, call.operands[4]) if call.word == "mq_timedsend" else None
     message = Message(length, urgency, kernel.value_of(thread, value))
     if length > queue.kind.greatest:
         return kernel.returns(thread, call, Res.MSGSIZE)
@@ -24,7 +24,7 @@ def mq_send(kernel: Kernel, thread: Thread, call: Call) -> None:
         return put(kernel, number, message)
     if queue.kind.nonblock:
         return kernel.returns(thread, call, Res.AGAIN)
-    if due is not None and due <= kernel.time:
+    if due is not None and kernel.has_passed(due):
         return kernel.returns(thread, call, Res.TIMEDOUT)
     kernel.block(thread, Wait(WaitKind.SEND, call, target=number, due=due, message=message))
 
@@ -50,7 +50,7 @@ def mq_receive(kernel: Kernel, thread: Thread, call: Call) -> None:
     """Also with a timeout, an absolute time."""
     number = call.operands[0]
     queue = kernel.queues[number]
-    due = kernel.value_of(thread, call.operands[1]) if call.word == "mq_timedreceive" else None
+    due = kernel.absolute_time(thread, call, call.operands[1]) if call.word == "mq_timedreceive" else None
     if queue.messages:
         message = max(queue.messages, key=lambda held: held.urgency)
         queue.messages = [held for held in queue.messages if held is not message]
@@ -58,7 +58,7 @@ def mq_receive(kernel: Kernel, thread: Thread, call: Call) -> None:
         return take_over(kernel, number)
     if queue.kind.nonblock:
         return kernel.returns(thread, call, Res.AGAIN)
-    if due is not None and due <= kernel.time:
+    if due is not None and kernel.has_passed(due):
         return kernel.returns(thread, call, Res.TIMEDOUT)
     kernel.block(thread, Wait(WaitKind.RECEIVE, call, target=number, due=due))
 

@@ -10,7 +10,7 @@ from dataclasses import dataclass
 from enum import IntEnum
 
 from forms import (
-    BARRED_FROM_HANDLERS, BARRED_FROM_HANDLERS_AND_CLEANUPS, DECLARED, OPERAND, RANGES,
+    BARRED_FROM_HANDLERS, BARRED_FROM_HANDLERS_AND_CLEANUPS, DECLARED, OPERAND, RANGES, REAL,
     SERVER_WORDS, SIGNAL, SIGNAL_SET, USES, Form, ObjectKind, Role, Stage, built_forms, is_place)
 from script import (
     Action, AddRegister, Block, Call, CleanupKind, CondKind, Fifo, Guard, HandlerKind, Kind, Loop,
@@ -343,7 +343,7 @@ class ScriptBuilder:
             case "queue":
                 return QueueKind(values[1], values[2], words[-1] == "nonblock")
             case "timer":
-                return TimerKind(values[1], values[2])
+                return TimerKind(values[1], values[2], words[-1] == REAL)
         raise AssertionError(entry)
 
     def step(self, entry: Entry, body: Block) -> Step:

@@ -5,7 +5,7 @@ from dataclasses import dataclass, field
 from enum import Enum
 from typing import Union
 
-from forms import OPERAND, SIGNAL, SIGNAL_SET, USES, Form, ObjectKind, is_place
+from forms import OPERAND, REAL, SIGNAL, SIGNAL_SET, USES, Form, ObjectKind, is_place
 
 ALL_SIGNALS = 2**32 - 1
 DEFAULT_QUANTUM = 10
@@ -78,6 +78,11 @@ class Call:
     def choice(self) -> str:
         """The keyword that follows the first word or the first operand."""
         return next(word for word in self.form.words[1:] if not is_place(word))
+
+    @property
+    def is_real(self) -> bool:
+        """Whether the call's absolute time is one of CLOCK_REALTIME."""
+        return self.form.words[-1] == REAL
 
 
 @dataclass(frozen=True)
@@ -180,8 +185,11 @@ class QueueKind:
 
 @dataclass
 class TimerKind:
+    """`real` puts the timer's absolute times on CLOCK_REALTIME."""
+
     signal: int
     value: int
+    real: bool = False
 
 
 Kind = Union[ThreadKind, HandlerKind, CleanupKind, MutexKind, CondKind, SemKind, QueueKind, TimerKind]
@@ -284,8 +292,8 @@ class CanonicalText:
                 return [f"sem {name} {value}"]
             case QueueKind(depth, greatest, nonblock):
                 return [f"queue {name} {depth} {greatest}{' nonblock' if nonblock else ''}"]
-            case TimerKind(signal, value):
-                return [f"timer {name} {signal_text(signal)} {value}"]
+            case TimerKind(signal, value, real):
+                return [f"timer {name} {signal_text(signal)} {value}{f' {REAL}' if real else ''}"]
         raise AssertionError(declaration)
 
     def block(self, body: Block) -> list[str]:

@@ -8,8 +8,10 @@ of its fault; NAME.show and NAME.detail, the whole text of that command;
 NAME.canonical, its canonical text; NAME.upgrade, that of the script of version 2. NAME.horizon is the number of the command.
 Examples whose horizon is too far for a machine that ticks are passed over. Where
 the horizon is at most 10,000 each state of the run is checked too.
+The scripts of tests/worked/clock set CLOCK_REALTIME; they are read at the stage `clock` alone.
 Each example of AUDITS.txt is an input of `audit`, NAME.audit, and its answer, NAME.verdict.
-The facts of some generated scripts are held against their traces (check_facts.py).
+The facts of some generated scripts are held against their traces (check_facts.py). Generated scripts of the stage `clock` from
+which the settings are taken out run as they do without the words of that stage.
 With --generated, N generated scripts of each stage run with all checks on, and
 their canonical texts are read again. Exit status 1 where something differs.
 """
@@ -17,6 +19,7 @@ from __future__ import annotations
 
 import argparse
 import pathlib
+import re
 import sys
 
 import check_facts
@@ -31,13 +34,17 @@ WORKED = pathlib.Path(__file__).resolve().parents[2] / "tests" / "worked"
 FARTHEST = 1_000_000
 CHECKED = 10_000
 FACTS_OF = 40
+UNSET_OF = 20
 
 
 def examples() -> list[tuple[str, Stage]]:
-    """The examples of the index with their stages."""
-    lines = (WORKED / "INDEX.txt").read_text().splitlines()
-    words = [line.split() for line in lines if not line.startswith("#")]
-    return [(name, Stage.named(stage)) for name, stage, *_ in words]
+    """The examples of both indexes with their stages."""
+    found: list[tuple[str, Stage]] = []
+    for folder in ("", "clock/"):
+        lines = (WORKED / folder / "INDEX.txt").read_text().splitlines()
+        words = [line.split() for line in lines if not line.startswith("#")]
+        found += [(folder + name, Stage.named(stage)) for name, stage, *_ in words]
+    return found
 
 
 def difference(name: str, stage: Stage) -> str | None:
@@ -77,6 +84,47 @@ def large_texts() -> list[tuple[str, bytes, Status, bytes]]:
          b"0 start a\n0 dispatch a 5\n1 return a yield 0 0\n1 end\nthread a ticks 1\n")]
 
 
+LINES_OF_THE_CLOCK: tuple[tuple[str, str, str], ...] = (
+    ("clock_settime 5", "UnknownWord", ""), ("clock_settime reg", "UnknownWord", ""), ("real_gettime", "UnknownWord", ""),
+    ("clock_settime 1000000000000000000", "UnknownWord", ""), ("clock_settime 1000000000000000001", "UnknownWord", "NumberRange"),
+    ("clock_settime", "UnknownWord", "WordCount"), ("clock_settime 5 real", "UnknownWord", "WordCount"),
+    ("clock_settime now", "UnknownWord", "BadNumber"), ("real_gettime 5", "UnknownWord", "WordCount"),
+    ("timedlock m 5 real", "WordCount", ""), ("timedwait c m 5 real", "WordCount", ""), ("sem_timedwait s 5 real", "WordCount", ""),
+    ("clock_nanosleep 5 real", "WordCount", ""), ("mq_timedsend q 1 2 3 4 real", "WordCount", ""),
+    ("mq_timedreceive q 5 real", "WordCount", ""), ("timedlock m reg real", "WordCount", ""),
+    ("timedlock m 5 really", "WordCount", "WordCount"), ("timedlock m 5 real real", "WordCount", "WordCount"),
+    ("timedlock m real", "BadNumber", "BadNumber"), ("clock_nanosleep real", "BadNumber", "BadNumber"),
+    ("timedlock m 1000000000000000001 real", "WordCount", "NumberRange"), ("timedlock s 5 real", "WordCount", "WrongKind"),
+    ("nanosleep 5 real", "WordCount", "WordCount"), ("sigtimedwait rt1 5 real", "WordCount", "WordCount"),
+    ("timer_settime k abs 5 0 real", "WordCount", "WordCount"), ("timer_settime k real 5 0", "UnknownWord", "UnknownWord"),
+    ("lock m real", "WordCount", "WordCount"), ("timer t rt1 5 real", "WordCount", "NotHere"), ("real", "UnknownWord", "UnknownWord"))
+"""Lines of a thread's body: the fault of each without the clock that can be set, and with it, if any."""
+
+
+def lines_wrong() -> list[str]:
+    """The lines of the clock that have another fault, without it or with it."""
+    objects = b"mutex m none\ncond c\nsem s 1\nqueue q 1 8\ntimer k rt1 0\n"
+    wrong: list[str] = []
+    for line, *wanted in LINES_OF_THE_CLOCK:
+        text = objects + f"thread a fifo 5 at 0\n{line}\nend\n".encode()
+        faults = [read(text, stage)[1] for stage in (Stage.WHOLE, Stage.CLOCK)]
+        have = ["" if fault is None else fault.kind.name for fault in faults]
+        wrong += [] if have == wanted else [f"{line}: the reference gives {have}"]
+    return wrong
+
+
+def words_wrong(count: int) -> list[str]:
+    """The generated scripts without a setting that run otherwise without the words of the clock: until it is set it reads the ticks."""
+    wrong: list[str] = []
+    for seed in range(count):
+        text, horizon = generate.accepted(seed, Stage.CLOCK)
+        unset = re.sub(rb"clock_settime[^\n#]*", b"yield", text)
+        plain = re.sub(rb"(?m)[ \t]+real(?=[ \t]*(#|$))", b"", unset.replace(b"real_gettime", b"gettime"))
+        have = answer(unset, horizon, Stage.CLOCK, checked=True)[1].replace(b"real_gettime", b"gettime")
+        wrong += [] if have == answer(plain, horizon)[1] else [f"generated script {seed} without a setting: the words change its run"]
+    return wrong
+
+
 def no_commands() -> list[list[str]]:
     return [[], ["run"], ["run", "1x"], ["run", "1000000000000000001"], ["run", "1", "2"], ["walk", "1"], ["--help"],
             ["show"], ["detail", "1", "2"], ["upgrade", "1"], ["show", "1000000000000000001"], ["detail", "-1"]]
@@ -108,10 +156,10 @@ def audits_wrong() -> list[str]:
 def facts_wrong(count: int) -> list[str]:
     """What is wrong with the facts of generated scripts; `show` is asked at each fifth instant."""
     found = []
-    for seed in range(count):
-        text, horizon = generate.accepted(seed)
-        fault = check_facts.fault_of(text, horizon, Stage.WHOLE, range(0, horizon, 5))
-        found += [] if fault is None else [f"the facts of generated script {seed}: {fault}"]
+    for seed, stage in [*((seed, Stage.WHOLE) for seed in range(count)), *((seed, Stage.CLOCK) for seed in range(count // 2))]:
+        text, horizon = generate.accepted(seed, stage)
+        fault = check_facts.fault_of(text, horizon, stage, range(0, horizon, 5))
+        found += [] if fault is None else [f"the facts of generated script {seed} of {stage.name}: {fault}"]
     return found
 
 
@@ -131,8 +179,10 @@ def main() -> int:
     for words in no_commands():
         compared += 1
         wrong += [f"{words} is taken for a command"] if command_of(words) is not None else []
-    compared += FACTS_OF + len(list(WORKED.glob("*.audit")))
+    compared += FACTS_OF + FACTS_OF // 2 + len(list(WORKED.glob("*.audit"))) + len(LINES_OF_THE_CLOCK) + UNSET_OF
     wrong += audits_wrong()
+    wrong += lines_wrong()
+    wrong += words_wrong(UNSET_OF)
     wrong += facts_wrong(FACTS_OF)
     wrong += ["a canonical text is not read as itself"] * generated_differ(arguments.generated)
     print(*wrong, f"{compared} compared, {len(wrong)} differ", sep="\n")

@@ -67,6 +67,17 @@ class Plain(Enum):
 Unit = Union[Run, Call, Plain]
 
 
+@dataclass(frozen=True)
+class Reading:
+    """A time of CLOCK_REALTIME: what is due at it is due at each instant at which that clock reads at least this."""
+
+    value: int
+
+
+Due = Union[int, Reading]
+"""When a timeout or a timer is due: a tick, which no setting moves, or a reading."""
+
+
 @dataclass
 class Level:
     """A place in one block: the next step, and the passes left where a loop opened the block."""
@@ -176,7 +187,7 @@ class Wait:
     call: Call
     target: int | None = None
     serial: int | None = None
-    due: int | None = None
+    due: Due | None = None
     mutex: int | None = None
     end: CondEnd | None = None
     message: Message | None = None
@@ -249,7 +260,7 @@ class Queue:
 @dataclass
 class Timer:
     kind: TimerKind
-    due: int | None = None
+    due: Due | None = None
     interval: int = 0
     extra: int = 0
     overrun: int = 0

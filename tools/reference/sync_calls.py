@@ -41,11 +41,11 @@ def lock(kernel: Kernel, thread: Thread, call: Call) -> None:
     """Also with a timeout, an absolute time."""
     number = call.operands[0]
     mutex = kernel.mutexes[number]
-    due = kernel.value_of(thread, call.operands[1]) if call.word == "timedlock" else None
+    due = kernel.absolute_time(thread, call, call.operands[1]) if call.word == "timedlock" else None
     answer = acquired(kernel, thread, mutex, Res.DEADLK)
     if answer is None and closes_cycle(kernel, thread, mutex):
         answer = Res.DEADLK
-    if answer is None and due is not None and due <= kernel.time:
+    if answer is None and due is not None and kernel.has_passed(due):
         answer = Res.TIMEDOUT
     if answer is not None:
         return kernel.returns(thread, call, answer)
@@ -80,7 +80,7 @@ def wait(kernel: Kernel, thread: Thread, call: Call) -> None:
         return kernel.returns(thread, call, Res.INVAL)
     if any(other.owner == thread.number for other in kernel.mutexes if other is not mutex):
         return kernel.returns(thread, call, Res.DEADLK)
-    due = kernel.value_of(thread, call.operands[2]) if call.word == "timedwait" else None
+    due = kernel.absolute_time(thread, call, call.operands[2]) if call.word == "timedwait" else None
     kernel.block(thread, Wait(WaitKind.COND, call, target=cond, mutex=number, due=due))
     kernel.release(number)
 
@@ -102,11 +102,11 @@ def broadcast(kernel: Kernel, thread: Thread, call: Call) -> None:
 def sem_wait(kernel: Kernel, thread: Thread, call: Call) -> None:
     """Also with a timeout, an absolute time."""
     number = call.operands[0]
-    due = kernel.value_of(thread, call.operands[1]) if call.word == "sem_timedwait" else None
+    due = kernel.absolute_time(thread, call, call.operands[1]) if call.word == "sem_timedwait" else None
     if kernel.sems[number] > 0:
         kernel.sems[number] -= 1
         return kernel.returns(thread, call)
-    if due is not None and due <= kernel.time:
+    if due is not None and kernel.has_passed(due):
         return kernel.returns(thread, call, Res.TIMEDOUT)
     kernel.block(thread, Wait(WaitKind.SEM, call, target=number, due=due))
 

@@ -1,10 +1,11 @@
 """The calls on time, timers and signals."""
 from __future__ import annotations
 
+from forms import GREATEST_NUMBER
 from kernel import Kernel
 from script import Call, Res
 from signals import Outcome, emit_delivery, generate, outcome_of, take_pending
-from state import Record, SigCode, Thread, Wait, WaitKind
+from state import Due, Reading, Record, SigCode, Thread, Wait, WaitKind
 
 
 def nanosleep(kernel: Kernel, thread: Thread, call: Call) -> None:
@@ -15,8 +16,8 @@ def nanosleep(kernel: Kernel, thread: Thread, call: Call) -> None:
 
 
 def clock_nanosleep(kernel: Kernel, thread: Thread, call: Call) -> None:
-    due = kernel.value_of(thread, call.operands[0])
-    if due <= kernel.time:
+    due = kernel.absolute_time(thread, call, call.operands[0])
+    if kernel.has_passed(due):
         return kernel.returns(thread, call)
     kernel.block(thread, Wait(WaitKind.SLEEP, call, due=due))
 
@@ -25,13 +26,28 @@ def gettime(kernel: Kernel, thread: Thread, call: Call) -> None:
     kernel.returns(thread, call, Res.ZERO, kernel.time)
 
 
+def clock_settime(kernel: Kernel, thread: Thread, call: Call) -> None:
+    """CLOCK_REALTIME reads the value now, and goes on from there; nothing that is due at a tick moves."""
+    value = kernel.value_of(thread, call.operands[0])
+    if value > GREATEST_NUMBER:
+        return kernel.returns(thread, call, Res.INVAL)
+    kernel.shift = value - kernel.time
+    kernel.returns(thread, call)
+
+
+def real_gettime(kernel: Kernel, thread: Thread, call: Call) -> None:
+    kernel.returns(thread, call, Res.ZERO, kernel.real())
+
+
 def timer_settime(kernel: Kernel, thread: Thread, call: Call) -> None:
-    """A first number of 0 disarms; an absolute time that has passed is due now."""
+    """A first number of 0 disarms; an absolute time, which is one of the timer's clock, is due now where it has passed, and told as it was set."""
     number, first, interval = call.operands
     timer = kernel.timers[number]
     is_absolute = call.choice == "abs"
     value = kernel.value_of(thread, first) if is_absolute else first
-    due = max(value, kernel.time) if is_absolute else kernel.time + value
+    due: Due = value if is_absolute else kernel.time + value
+    if is_absolute and timer.kind.real:
+        due = Reading(value)
     timer.due = None if value == 0 else due
     timer.interval = interval
     kernel.returns(thread, call)
@@ -39,7 +55,7 @@ def timer_settime(kernel: Kernel, thread: Thread, call: Call) -> None:
 
 def timer_gettime(kernel: Kernel, thread: Thread, call: Call) -> None:
     timer = kernel.timers[call.operands[0]]
-    left = 0 if timer.due is None else max(timer.due - kernel.time, 0)
+    left = 0 if timer.due is None else max(kernel.due_tick(timer.due) - kernel.time, 0)
     kernel.returns(thread, call, Res.ZERO, left)
 
 
@@ -92,6 +108,7 @@ def sigwait(kernel: Kernel, thread: Thread, call: Call) -> None:
 
 CALLS = {
     "nanosleep": nanosleep, "clock_nanosleep": clock_nanosleep, "gettime": gettime,
+    "clock_settime": clock_settime, "real_gettime": real_gettime,
     "timer_settime": timer_settime, "timer_gettime": timer_gettime, "timer_getoverrun": timer_getoverrun,
     "kill": send, "tkill": send, "sigqueue": send, "sigmask": sigmask,
     "sigwaitinfo": sigwait, "sigtimedwait": sigwait}

@@ -3,14 +3,17 @@ from __future__ import annotations
 
 from random import Random
 
-from forms import RESULTS, Stage
+from clock_scenes import CLOCK_SCENES
+from forms import ABSOLUTE_WAITS, REAL, RESULTS, Stage
 from scenes import CAST, PEER, SCENES, SELF, Part
 
 _GREATEST = 10**18
 _SHARES: dict[Stage, float] = {
     Stage.THREADS: 0.5, Stage.SERVERS: 0.4, Stage.MUTEXES: 0.7, Stage.SEMAPHORES: 0.6, Stage.WAITING: 0.6,
-    Stage.SIGNALS: 0.6, Stage.TIMERS: 0.5, Stage.QUEUES: 0.6, Stage.LIVES: 0.6}
+    Stage.SIGNALS: 0.6, Stage.TIMERS: 0.5, Stage.QUEUES: 0.6, Stage.LIVES: 0.6, Stage.CLOCK: 1}
 """How often a topic occurs in the steps of a script."""
+_SCENES = SCENES | {Stage.CLOCK: CLOCK_SCENES}
+_ON_A_CLOCK = frozenset(("timer", *(wait.split()[0] for wait in ABSOLUTE_WAITS)))
 
 
 class ScriptWriter:
@@ -21,7 +24,9 @@ class ScriptWriter:
         self.stage = stage
         self.lines: list[str] = []
         draw = self.draw
-        self.threads = [f"t{k}" for k in range(draw.choice((1, 2, 2, 3, 3, 3, 4, 4, 5)))]
+        self.version = draw.choice((1, 1, 2)) if stage is Stage.CLOCK else 1 + (stage is Stage.VERSION2)
+        counts = (3, 4, 4, 4, 5) if stage is Stage.CLOCK else (1, 2, 2, 3, 3, 3, 4, 4, 5)
+        self.threads = [f"t{k}" for k in range(draw.choice(counts))]
         self.mutexes = self.some_names("m", 3, Stage.MUTEXES)
         self.conds = self.some_names("c", 2, Stage.WAITING)
         self.sems = self.some_names("s", 2, Stage.SEMAPHORES)
@@ -34,7 +39,7 @@ class ScriptWriter:
         self.topics |= {stage} & set(_SHARES)
         self.handled = draw.choice(self.signals)
         self.steps_left = draw.choice((12, 25, 40, 60))
-        self.least_horizon = 0
+        self.least_horizon = 40 if stage is Stage.CLOCK else 0
         self.parts = self.played()
 
     def some_names(self, letter: str, most: int, since: Stage) -> list[str]:
@@ -44,11 +49,15 @@ class ScriptWriter:
     def played(self) -> dict[str, list[Part]]:
         """The parts of some scenes, given out to the threads."""
         draw = self.draw
-        scenes = [scene for stage, some in SCENES.items() if stage <= self.stage for scene in some]
-        newest = SCENES.get(self.stage, ())
-        chosen = draw.sample(scenes, min(len(scenes), draw.choice((0, 1, 1, 2, 2, 3))))
-        if newest and draw.random() < 0.5:
-            chosen.append(draw.choice(newest))
+        stages = [stage for stage in _SCENES if stage <= self.stage and (stage is not Stage.VERSION2 or self.version == 2)]
+        scenes = [scene for stage in stages for scene in _SCENES[stage]]
+        newest = _SCENES.get(self.stage, ())
+        if self.stage is Stage.CLOCK:
+            chosen = [draw.choice(newest) for _ in range(draw.choice((1, 1, 1, 2)))] + draw.sample(scenes, draw.choice((0, 0, 1)))
+        else:
+            chosen = draw.sample(scenes, min(len(scenes), draw.choice((0, 1, 1, 2, 2, 3))))
+            if newest and draw.random() < 0.5:
+                chosen.append(draw.choice(newest))
         found: dict[str, list[Part]] = {name: [] for name in self.threads}
         for scene in chosen:
             players = draw.sample(self.threads, len(self.threads))
@@ -63,13 +72,16 @@ class ScriptWriter:
         parts += [[f"sem {name} {draw.choice((0, 0, 1, 2, 32_767))}"] for name in self.sems]
         parts += [self.queue(name) for name in self.queues]
         parts += [[f"timer {name} {self.signal()} {draw.choice((0, 7, 40, _GREATEST))}"] for name in self.timers]
-        parts += [[f"handler {name}", *self.block("handler", 1, draw.randint(0, 3)), "end"] for name in self.handlers]
+        parts += [[f"handler {name}", *self.setting_of_a_handler(), *self.block("handler", 1, draw.randint(0, 3)), "end"]
+                  for name in self.handlers]
         parts += [[f"cleanup {name}", *self.block("cleanup", 1, draw.randint(0, 3)), "end"] for name in self.cleanups]
         parts += self.actions()
         if self.stage >= Stage.LANGUAGE and draw.random() < 0.6:
             parts.append([f"quantum {draw.randint(1, 5)}"])
         draw.shuffle(parts)
-        if self.stage >= Stage.VERSION2:
+        if self.stage >= Stage.CLOCK:
+            parts = [[self.on_a_clock(line) for line in part] for part in parts]
+        if self.version == 2:
             parts = [["version 2"], *parts, *self.crowd()]
         return "".join(self.spelled(line) for part in parts for line in part)
 
@@ -84,7 +96,12 @@ class ScriptWriter:
 
     def served_by(self) -> str:
         """The word of a policy with a server; version 2 has two."""
-        return self.draw.choice(("sporadic", "strict", "strict")) if self.stage >= Stage.VERSION2 else "sporadic"
+        return self.draw.choice(("sporadic", "strict", "strict")) if self.version == 2 else "sporadic"
+
+    def on_a_clock(self, line: str) -> str:
+        """A line with an absolute time or a timer, at times put on the clock that can be set; other lines stay."""
+        has_choice = line.split()[0] in _ON_A_CLOCK and not line.endswith(REAL)
+        return f"{line} {REAL}" if has_choice and self.draw.random() < 0.5 else line
 
     def spelled(self, line: str) -> str:
         """The line in one of its spellings: mostly as it is."""
@@ -97,13 +114,15 @@ class ScriptWriter:
 
     def thread(self, name: str) -> list[str]:
         draw = self.draw
-        dormant = self.stage >= Stage.LANGUAGE and self.threads[0] != name and draw.random() < 0.25
+        share = 0.1 if self.stage is Stage.CLOCK else 0.25
+        dormant = self.stage >= Stage.LANGUAGE and self.threads[0] != name and draw.random() < share
         begin = "dormant" if dormant else f"at {draw.choice((0, 0, 0, 1, 2, 3, 5, 8))}"
         parts = [[line.replace(SELF, name) for line in part] for part in self.parts[name]]
         casts = [line[len(CAST):] for part in parts for line in part if line.startswith(CAST)]
         policy = casts[0] if casts else self.policy()
         parts = [[line for line in part if not line.startswith(CAST)] for part in parts]
-        body = self.block("thread", 1, draw.randint(0, 2) if parts else draw.randint(1, 7))
+        prompt = parts and self.stage is Stage.CLOCK and draw.random() < 0.8
+        body = self.block("thread", 1, 0 if prompt else draw.randint(0, 2) if parts else draw.randint(1, 7))
         for part in parts:
             body += [*part, *self.block("thread", 1, draw.choice((0, 0, 1, 2)))]
         if dormant and self.stage >= Stage.THREADS and draw.random() < 0.7:
@@ -134,7 +153,8 @@ class ScriptWriter:
     def actions(self) -> list[list[str]]:
         if self.stage < Stage.SIGNALS:
             return []
-        ways = [f"run {name}" for name in self.handlers] * 3 + ["ignore"] + ["kill"] * (self.draw.random() < 0.4)
+        kills = 0.1 if self.stage is Stage.CLOCK else 0.4
+        ways = [f"run {name}" for name in self.handlers] * 3 + ["ignore"] + ["kill"] * (self.draw.random() < kills)
         found = [(signal, self.draw.choice(ways)) for signal in self.signals if signal != self.handled]
         found.append((self.handled, f"run {self.draw.choice(self.handlers)}"))
         return [[f"action rt{signal} {way}"] for signal, way in found if way != "kill"]
@@ -164,7 +184,7 @@ class ScriptWriter:
             Stage.THREADS: [self.scheduling, self.scheduling],
             Stage.MUTEXES: [self.trylock], Stage.SEMAPHORES: [self.sem_plain], Stage.WAITING: [self.waking],
             Stage.SIGNALS: [self.sending, self.sending], Stage.TIMERS: [self.timing, self.timing],
-            Stage.QUEUES: [self.notifying], Stage.LIVES: [self.cancelling]}
+            Stage.QUEUES: [self.notifying], Stage.LIVES: [self.cancelling], Stage.CLOCK: [self.setting, self.reading]}
         blocking = {
             Stage.SERVERS: [self.napping],
             Stage.MUTEXES: [self.locking, self.locking, self.locking],
@@ -286,6 +306,21 @@ class ScriptWriter:
         ways = ("testcancel", f"join {thread}", f"join {thread}", f"exit {self.operand()}")
         return [self.draw.choice(ways)]
 
+    def setting(self) -> list[str]:
+        """The clock is set: near the run, to the tick number, a little forward or back, to its limit or past it."""
+        draw = self.draw
+        by_register = draw.choice((["gettime", "take", "add 1"], *[["real_gettime", "take", f"add {draw.randint(0, 12)}"]] * 3, [],
+                                   [f"set {_GREATEST}", f"add {draw.choice((0, 0, 1, 1, _GREATEST))}"]))
+        near = [f"clock_settime {draw.choice((0, draw.randint(0, 12), draw.randint(0, 45), draw.randint(20, 60)))}"]
+        far = [f"clock_settime {_GREATEST}"]
+        return draw.choice((near, near, near, *[[*by_register, "clock_settime reg"]] * 2, draw.choice((far, near))))
+
+    def setting_of_a_handler(self) -> list[str]:
+        return self.setting() if self.stage >= Stage.CLOCK and self.draw.random() < 0.5 else []
+
+    def reading(self) -> list[str]:
+        return self.draw.choice((["real_gettime"], ["real_gettime"], ["real_gettime", "take", f"add {self.draw.randint(0, 20)}"]))
+
     def guarded(self) -> list[str]:
         draw = self.draw
         inner = self.block("thread", 9, draw.randint(0, 3))
@@ -300,6 +335,6 @@ def named(line: str, players: list[str]) -> str:
 
 
 def accepted(seed: int, stage: Stage = Stage.WHOLE) -> tuple[bytes, int]:
-    """A script of the stage, and a horizon between 10 and 60 ticks, or more where a scene asks for it."""
+    """A script of the stage, and a horizon between 10 and 60 ticks, or more where a scene or the stage asks for it."""
     writer = ScriptWriter(seed, stage)
     return writer.script().encode(), writer.least_horizon + writer.draw.randint(10, 60)

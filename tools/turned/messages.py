@@ -17,39 +17,39 @@ RULES = [
            "full_queue_takes_from_the_sender"),
     Turned("a send to a full queue without blocking blocks", "message_calls.py",
            "    if queue.kind.nonblock:\n        return kernel.returns(thread, call, Res.AGAIN)\n"
-           "    if due is not None and due <= kernel.time:\n        return kernel.returns(thread, call, Res.TIMEDOUT)\n"
+           "    if due is not None and kernel.has_passed(due):\n        return kernel.returns(thread, call, Res.TIMEDOUT)\n"
            "    kernel.block(thread, Wait(WaitKind.SEND",
-           "    if due is not None and due <= kernel.time:\n        return kernel.returns(thread, call, Res.TIMEDOUT)\n"
+           "    if due is not None and kernel.has_passed(due):\n        return kernel.returns(thread, call, Res.TIMEDOUT)\n"
            "    kernel.block(thread, Wait(WaitKind.SEND", "queue_that_does_not_block"),
     Turned("a receive from an empty queue without blocking blocks", "message_calls.py",
            "    if queue.kind.nonblock:\n        return kernel.returns(thread, call, Res.AGAIN)\n"
-           "    if due is not None and due <= kernel.time:\n        return kernel.returns(thread, call, Res.TIMEDOUT)\n"
+           "    if due is not None and kernel.has_passed(due):\n        return kernel.returns(thread, call, Res.TIMEDOUT)\n"
            "    kernel.block(thread, Wait(WaitKind.RECEIVE",
-           "    if due is not None and due <= kernel.time:\n        return kernel.returns(thread, call, Res.TIMEDOUT)\n"
+           "    if due is not None and kernel.has_passed(due):\n        return kernel.returns(thread, call, Res.TIMEDOUT)\n"
            "    kernel.block(thread, Wait(WaitKind.RECEIVE", "queue_that_does_not_block"),
     Turned("a send asks for its time before it asks whether the queue blocks", "message_calls.py",
            "    if queue.kind.nonblock:\n        return kernel.returns(thread, call, Res.AGAIN)\n"
-           "    if due is not None and due <= kernel.time:\n        return kernel.returns(thread, call, Res.TIMEDOUT)\n"
+           "    if due is not None and kernel.has_passed(due):\n        return kernel.returns(thread, call, Res.TIMEDOUT)\n"
            "    kernel.block(thread, Wait(WaitKind.SEND",
-           "    if due is not None and due <= kernel.time:\n        return kernel.returns(thread, call, Res.TIMEDOUT)\n"
+           "    if due is not None and kernel.has_passed(due):\n        return kernel.returns(thread, call, Res.TIMEDOUT)\n"
            "    if queue.kind.nonblock:\n        return kernel.returns(thread, call, Res.AGAIN)\n"
            "    kernel.block(thread, Wait(WaitKind.SEND", "queue_that_does_not_block_and_time"),
     Turned("a receive asks for its time before it asks whether the queue blocks", "message_calls.py",
            "    if queue.kind.nonblock:\n        return kernel.returns(thread, call, Res.AGAIN)\n"
-           "    if due is not None and due <= kernel.time:\n        return kernel.returns(thread, call, Res.TIMEDOUT)\n"
+           "    if due is not None and kernel.has_passed(due):\n        return kernel.returns(thread, call, Res.TIMEDOUT)\n"
            "    kernel.block(thread, Wait(WaitKind.RECEIVE",
-           "    if due is not None and due <= kernel.time:\n        return kernel.returns(thread, call, Res.TIMEDOUT)\n"
+           "    if due is not None and kernel.has_passed(due):\n        return kernel.returns(thread, call, Res.TIMEDOUT)\n"
            "    if queue.kind.nonblock:\n        return kernel.returns(thread, call, Res.AGAIN)\n"
            "    kernel.block(thread, Wait(WaitKind.RECEIVE", "queue_that_does_not_block_and_time"),
     Turned("a timed send with a time of now blocks", "message_calls.py",
-           "    if due is not None and due <= kernel.time:\n        return kernel.returns(thread, call, Res.TIMEDOUT)\n"
+           "    if due is not None and kernel.has_passed(due):\n        return kernel.returns(thread, call, Res.TIMEDOUT)\n"
            "    kernel.block(thread, Wait(WaitKind.SEND",
-           "    if due is not None and due < kernel.time:\n        return kernel.returns(thread, call, Res.TIMEDOUT)\n"
+           "    if due is not None and kernel.due_tick(due) < kernel.time:\n        return kernel.returns(thread, call, Res.TIMEDOUT)\n"
            "    kernel.block(thread, Wait(WaitKind.SEND", "times_of_now"),
     Turned("a timed receive with a time of now blocks", "message_calls.py",
-           "    if due is not None and due <= kernel.time:\n        return kernel.returns(thread, call, Res.TIMEDOUT)\n"
+           "    if due is not None and kernel.has_passed(due):\n        return kernel.returns(thread, call, Res.TIMEDOUT)\n"
            "    kernel.block(thread, Wait(WaitKind.RECEIVE",
-           "    if due is not None and due < kernel.time:\n        return kernel.returns(thread, call, Res.TIMEDOUT)\n"
+           "    if due is not None and kernel.due_tick(due) < kernel.time:\n        return kernel.returns(thread, call, Res.TIMEDOUT)\n"
            "    kernel.block(thread, Wait(WaitKind.RECEIVE", "times_of_now"),
     Turned("a receive takes the oldest message, whatever its priority", "message_calls.py",
            "message = max(queue.messages, key=lambda held: held.urgency)", "message = queue.messages[0]",

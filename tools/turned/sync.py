@@ -30,12 +30,12 @@ RULES = [
            "if answer is None and closes_cycle(kernel, thread, mutex):", "if False:", "deadlock_through_two_threads"),
     Turned("a time that has passed is asked before a cycle", "sync_calls.py",
            "    if answer is None and closes_cycle(kernel, thread, mutex):\n",
-           "    if answer is None and due is not None and due <= kernel.time:\n"
+           "    if answer is None and due is not None and kernel.has_passed(due):\n"
            "        answer = Res.TIMEDOUT\n"
            "    if answer is None and closes_cycle(kernel, thread, mutex):\n", "timed_lock_that_closes_a_cycle"),
     Turned("a timed lock with a time of now blocks", "sync_calls.py",
-           "if answer is None and due is not None and due <= kernel.time:\n        answer = Res.TIMEDOUT",
-           "if answer is None and due is not None and due < kernel.time:\n        answer = Res.TIMEDOUT",
+           "if answer is None and due is not None and kernel.has_passed(due):\n        answer = Res.TIMEDOUT",
+           "if answer is None and due is not None and kernel.due_tick(due) < kernel.time:\n        answer = Res.TIMEDOUT",
            "times_of_now"),
     Turned("unlock is for everybody", "sync_calls.py",
            "    if mutex.owner != thread.number:\n        return kernel.returns(thread, call, Res.PERM)\n"
@@ -103,7 +103,7 @@ RULES = [
            "        kernel.sems[number] -= 1\n        return kernel.returns(thread, call)\n    if due",
            "        return kernel.returns(thread, call)\n    if due", "semaphore_is_taken_and_timed"),
     Turned("a timed semaphore wait ends at once", "sync_calls.py",
-           "    if due is not None and due <= kernel.time:\n        return kernel.returns(thread, call, Res.TIMEDOUT)\n"
+           "    if due is not None and kernel.has_passed(due):\n        return kernel.returns(thread, call, Res.TIMEDOUT)\n"
            "    kernel.block(thread, Wait(WaitKind.SEM",
            "    if due is not None:\n        return kernel.returns(thread, call, Res.TIMEDOUT)\n"
            "    kernel.block(thread, Wait(WaitKind.SEM", "semaphore_is_taken_and_timed"),
@@ -111,8 +111,8 @@ RULES = [
            "    if kernel.sems[number] == 0:\n        return kernel.returns(thread, call, Res.AGAIN)",
            "    if kernel.sems[number] == 0:\n        return kernel.returns(thread, call, Res.BUSY)", "semaphore_edges"),
     Turned("a timed semaphore wait with a time of now blocks", "sync_calls.py",
-           "    if due is not None and due <= kernel.time:\n        return kernel.returns(thread, call, Res.TIMEDOUT)\n"
+           "    if due is not None and kernel.has_passed(due):\n        return kernel.returns(thread, call, Res.TIMEDOUT)\n"
            "    kernel.block(thread, Wait(WaitKind.SEM",
-           "    if due is not None and due < kernel.time:\n        return kernel.returns(thread, call, Res.TIMEDOUT)\n"
+           "    if due is not None and kernel.due_tick(due) < kernel.time:\n        return kernel.returns(thread, call, Res.TIMEDOUT)\n"
            "    kernel.block(thread, Wait(WaitKind.SEM", "times_of_now"),
 ]
