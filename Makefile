@@ -7,6 +7,7 @@ DESTDIR =
 
 check:
 	bash tools/check_tools.sh
+	bash tools/check_tools.sh lab
 	python3 tools/documents.py
 	bash tools/check_commands.sh
 

@@ -4,7 +4,8 @@
 # was built here, or else the reference. Nothing is built but the runner of real threads, where those may run. What a missing tool would
 # have read is skipped, with a line that says so, and so are real threads where they may not run.
 #
-#   tools/check_tools.sh [FOLDER ..]     only the tests of these folders of tools/, and no manual page
+#   tools/check_tools.sh                 all but the page to work in, which takes longest
+#   tools/check_tools.sh FOLDER ..       only the tests of these folders of tools/, and no manual page; the page to work in is `lab`
 set -u
 cd "$(dirname "$0")/.." || exit 1
 
@@ -42,10 +43,10 @@ tell() {
     fi
 }
 
-# Side by side, but for those that look at a clock: these come last, one after another.
+# Side by side, but for real threads, which look at a clock: these come last.
 together=("$@")
 alone=()
-[ $# -gt 0 ] || together=(view sweep pages measure wrapper explain ftrace) alone=(live lab)
+[ $# -gt 0 ] || together=(view sweep pages measure wrapper explain ftrace) alone=(live)
 declare -A tries
 for folder in "${together[@]}"; do
     try "$folder" &

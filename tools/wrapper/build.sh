@@ -71,7 +71,7 @@ not_proved() {
 # it stands on until it ends, so that in one checkout nothing would be proved side by side. The program's own crate comes last, when no
 # other is under way; its run has no words and no input.
 prove() {
-    local name=$1 jobs=$2 room=$work/$1.room status
+    local name=$1 jobs=$2 behind=$3 room=$work/$1.room status
     if [ "$name" = pse52 ]; then
         cd "$top/crates/pse52" || return 70
         rt run --jobs "$jobs"
@@ -79,7 +79,7 @@ prove() {
         return
     fi
     copy_crates "$room" "$name" || return 70
-    (cd "$room/crates/$name" && rt lib --jobs "$jobs")
+    (cd "$room/crates/$name" && nice -n "$behind" rt lib --jobs "$jobs")
     status=$?
     if [ "$status" -eq 0 ]; then
         rm -rf "$top/crates/$name/out/rlib" "$top/crates/$name/out/incremental"
@@ -104,26 +104,26 @@ copy_crates() {
     done <"$work/crates" >"$room/crates.txt"
 }
 
-# Starts the proof of a crate: its name, and how many jobs it gets.
+# Starts the proof of a crate: its name, how many jobs it gets, and how far it stands back behind the others.
 start() {
     mkdir -p "$top/crates/$1/out" || exit 70
     number=$((number + 1))
     running=$((running + 1))
     say "crate $number of $total, after $(elapsed): $1"
     {
-        prove "$1" "$2" </dev/null >"$top/crates/$1/out/build.log" 2>&1
+        prove "$1" "$2" "$3" </dev/null >"$top/crates/$1/out/build.log" 2>&1
         echo $? >"$work/$1.ended"
         mv "$work/$1.ended" "$work/$1.status"
     } &
     echo "$SECONDS" >"$work/$1.started"
 }
 
-# The crates, as they are told, with those first that have most above them in their longest chain, by the size of their files: what takes
-# longest is never kept waiting.
+# The crates, as they are told, with those first that have most above them in their longest chain, by what proving takes: some three
+# seconds for a kilobyte of code, and ten for what a crate of definitions and lemmas takes. What takes longest is never kept waiting.
 longest_first() {
     local name deps
     while read -r name deps; do
-        echo "$(du -sb --exclude=out "$top/crates/$name" | cut -f 1) $name $deps"
+        echo "$(($(du -sb "$top/crates/$name/src" | cut -f 1) + 3500)) $name $deps"
     done | tac | awk '
         {
             height = $1 + above[$2]
@@ -133,8 +133,9 @@ longest_first() {
         }' | sort -rn | cut -d ' ' -f 2-
 }
 
-# Goes over the crates once: takes what has ended, and starts what may start, the processors shared among them, two for the one that has
-# most above it. Sets `left` to how many are not proved yet, and `under_way` to those that are being proved.
+# Goes over the crates once: takes what has ended, and starts what may start, the processors shared among them. The one that has most
+# above it may have them all, and the others what it leaves. Sets `left` to how many are not proved yet, and `under_way` to those that are
+# being proved.
 turn() {
     local name deps dep ready='' is_ready first='' jobs
     left=0
@@ -162,8 +163,11 @@ turn() {
     for name in $ready; do
         [ "$running" -lt "$processors" ] || break
         jobs=$((sharing < processors ? processors / sharing : 1))
-        [ "$name" != "$first" ] || [ "$jobs" -ge 2 ] || jobs=2
-        start "$name" "$jobs"
+        if [ "$name" = "$first" ]; then
+            start "$name" "$processors" 0
+        else
+            start "$name" "$jobs" 10
+        fi
     done
 }
 
