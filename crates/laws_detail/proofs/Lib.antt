@@ -1,0 +1,10 @@
+pub mod Alike
+pub mod Charge
+pub mod Ticks
+pub mod Rest
+pub mod Looks
+pub mod Times
+pub mod Events
+pub mod LeapsTold
+pub mod Subjects
+pub mod Flat

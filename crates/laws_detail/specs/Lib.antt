@@ -1,0 +1,5 @@
+pub mod Rests
+pub mod Looks
+pub mod Leaps
+pub mod Subjects
+pub mod Flat
