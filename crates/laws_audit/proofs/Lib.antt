@@ -2,7 +2,9 @@ pub mod Standing
 pub mod Accounts
 pub mod Refills
 pub mod Charges
+pub mod AccountFits
 pub mod Moves
+pub mod ChargedTicks
 pub mod Units
 pub mod Kept
 pub mod Calm

@@ -32,7 +32,7 @@ use Rattle.laws_machine.proofs.Servers.Kept.{opening_served}
 use Rattle.laws_machine.proofs.Servers.Ticks.{ServedDone, ServedMid, ServedRight, served_renew, served_stop, served_tick}
 use Rattle.laws_audit.specs.Events.{is_end_event}
 use Rattle.laws_audit.proofs.Standing.{any_both, has_end}
-use Rattle.laws_audit.proofs.Moves.{quiet_plain}
+use Rattle.laws_audit.proofs.AccountFits.{quiet_plain}
 
 -- each time is no earlier than all before
 abbrev pub Climbs : List ℕ → List ℕ → Type 0

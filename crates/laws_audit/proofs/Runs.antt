@@ -38,7 +38,7 @@ use Rattle.laws_audit.specs.Events.{is_end_event, marks_by}
 use Rattle.laws_audit.specs.Calm.{BodiesCalm, CallCalm, HasNoSetsched, UnitCalm}
 use Rattle.laws_audit.proofs.Standing.{any_both, has_end, keeps_more, replayed_more, rising_both, rising_more}
 use Rattle.laws_audit.proofs.Accounts.{IsLimit, plain_kept}
-use Rattle.laws_audit.proofs.Moves.{is_ended}
+use Rattle.laws_audit.proofs.AccountFits.{is_ended}
 use Rattle.laws_audit.proofs.Units.{Rested}
 use Rattle.laws_audit.proofs.Calm.{bodies_calm}
 use Rattle.laws_audit.proofs.Kept.{AreCalm, IsCalm, tick_rested}

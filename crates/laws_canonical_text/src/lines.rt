@@ -1,4 +1,4 @@
-// What is written as lines is read back.
+//! What is written as lines is read back.
 ghost use Rattle.std.specs.Prelude.{◌≡◌, ℕ, List, [], Ok};
 ghost use Rattle.words_script.specs.declared.decl.Script.{Script};
 ghost use Rattle.script_table.specs.declared.version.Version.{Version};

@@ -1,4 +1,4 @@
-// What is written of a script is read back.
+//! What is written of a script is read back.
 ghost use Rattle.script_table.specs.Table.{patterns};
 ghost use Rattle.laws_canonical_text.specs.Tables.{ReadsBack, ReadsUpgraded};
 ghost use Rattle.laws_canonical_text.specs.Statements.{KeepsOrder};

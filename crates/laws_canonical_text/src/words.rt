@@ -1,4 +1,4 @@
-// What is written as one word is read back.
+//! What is written as one word is read back.
 ghost use Rattle.std.specs.Prelude.{◌≡◌, ◌≤◌, ◌^◌, ◌∷◌, [], true, Some, decimal};
 ghost use Rattle.words_numbers.specs.Words.{res_text};
 ghost use Rattle.script_table.specs.Words.{is_number, value_of, signal_of, set_of, answer_of};

@@ -1,6 +1,6 @@
 -- What calls keep small.
 use Rattle.std.proofs.Common.{Bool, List, None, Option, Some, [], arith, false, refl, suc, true, zero, ℕ, ◌+◌, ◌^◌, ◌-◌, ◌<◌, ◌≤◌, ◌∷◌, ◌++◌, ◌≡◌}
-use Rattle.std.specs.Prelude.{drop, filter, min, nat_lt, not, option_map, pred, take, ◌==◌, ◌&&◌, if◌then◌else◌}
+use Rattle.std.specs.Prelude.{filter, nat_lt, not, pred, ◌==◌, ◌&&◌, if◌then◌else◌}
 use mathlib.Core.Path.{subst}
 use Rattle.words_numbers.specs.Signals.{has_signal}
 use Rattle.words_numbers.specs.declared.res.Res.{Res}
@@ -8,15 +8,12 @@ use Rattle.words_numbers.specs.declared.res.Res.TheVariants as res
 use Rattle.words_script.specs.declared.call.Call.{Call}
 use Rattle.words_script.specs.declared.call.Call.TheVariants as call
 use Rattle.words_script.specs.declared.policy.Policy.{Policy}
-use Rattle.words_script.specs.declared.policy.Policy.TheVariants as policy
 use Rattle.rules_bodies.specs.declared.unit.Unit.{Unit}
 use Rattle.rules_bodies.specs.declared.unit.Unit.TheVariants as unit
 use Rattle.words_trace.specs.declared.event.Event.TheVariants as event
-use Rattle.rules_server.specs.Server.{ServerState, set_high}
 use Rattle.rules_machine.specs.declared.frame.FrameKind.{FrameKind}
 use Rattle.rules_machine.specs.declared.frame.FrameKind.TheVariants as frame
 use Rattle.rules_machine.specs.declared.thread.CondEnd.TheVariants as cond_end
-use Rattle.rules_machine.specs.Lists.{without_at}
 use Rattle.rules_machine.specs.Bodies.{Bodies}
 use Rattle.rules_machine.specs.State.{Joiner, Message, Registration, SignalRecord, Thread, Wait, Waiting, for_condition, for_end, for_message, for_mutex, for_mutex_again, for_room, for_semaphore, for_signal, for_time, has_joined, nobody, waits_to_join}
 use Rattle.rules_machine.specs.Threads.{action_of, can_run, is_dormant, lives, number_of, queue_at, semaphore_at, thread_at, timer_at, top_kind, waiting_of}
@@ -27,89 +24,21 @@ use Rattle.rules_machine.specs.Waking.{cancelled_value, wakes}
 use Rattle.rules_machine.specs.Mutexes.{trylock_answer}
 use Rattle.rules_machine.specs.Semaphores.{posts, semaphore_limit, tries_semaphore, waits_on_semaphore, waits_semaphore, wakes_waiter_or_raises_value}
 use Rattle.rules_machine.specs.Signals.{acceptor, accepts, becomes_pending, blocks_for_signal, delivers, generates, has_no_room, is_accepted_or_pends, is_ignore, is_selected_before, may_go_to, record_of_kill, record_of_sigqueue, selected, sends_signal, sets_mask, takes_signal_or_waits, tells_overrun, waits_signal, with_overrun_told, with_signals, without_record, without_signals}
-use Rattle.rules_machine.specs.Timers.{armed, armed_again, expires, first_expiry, is_pending_from, next_expiry, overrun_limit, overrun_once_more, record_of_timer, signals_expiry, sleeps_until, ticks_to}
+use Rattle.rules_machine.specs.Timers.{armed, armed_again, expires, first_expiry, is_pending_from, overrun_once_more, record_of_timer, signals_expiry, sleeps_until, ticks_to}
 use Rattle.rules_machine.specs.Queues.{asks_notification, blocks_unless_nonblock, enters, fired_by_message, has_room, is_notifying, message_of, next_message, notifies, reaches_receiver_or_queue, record_of_notification, registered, sends_message, takes_message_or_blocks, takes_over, value_at, waits_to_receive, waits_to_send, with_message, without_message}
 use Rattle.rules_machine.specs.Lives.{creates, ends, ends_frame, inherited_mask, is_nobody, joins, wakes_joiner, with_joiner, without_life, without_target, without_top}
 use Rattle.rules_machine.specs.Cancellation.{cancels, is_cancellation_point, is_cancelled, leaves, leaves_wait, pops_cleanup, pushes_cleanup, request_acts, requested, runs_cleanup_if, sets_cancelability, without_cleanup}
-use Rattle.rules_machine.specs.Scheduling.{at_priority, sets_policy, sets_priority, takes_priority, with_policy, with_priority}
+use Rattle.rules_machine.specs.Scheduling.{sets_policy, sets_priority, takes_priority, with_policy, with_priority}
 use Rattle.rules_machine.specs.Calls.{call_effect, makes_call, unit_effect}
 use Rattle.rules_flat_code.specs.KnownCalls.{Objects}
-use Rattle.laws_numbers.specs.Numbers.{DueSmall, Each, FrameSmall, HasSmall, IsNumber, IsSmall, JoinerWithin, MessageSmall, PolicySmall, RecordSmall, RegistrationSmall, ThreadSmall, TurnSmall, WaitSmall}
+use Rattle.laws_numbers.specs.Numbers.{DueSmall, FrameSmall, IsNumber, IsSmall, JoinerWithin, MessageSmall, PolicySmall, RecordSmall, RegistrationSmall, ThreadSmall, TurnSmall, WaitSmall}
 use Rattle.laws_numbers.specs.Scripts.{CallSmall, UnitMade}
-use Rattle.laws_numbers.proofs.Lists.{Waits, best_within, each_at, each_both, each_kept, each_last, first_small, waiters_within}
-use Rattle.laws_numbers.proofs.Servers.{priced_small}
+use Rattle.laws_numbers.proofs.Lists.{Waits, best_within, each_at, each_kept, each_last, first_small, waiters_within}
 use Rattle.laws_numbers.proofs.Turns.{blocks_small, blocks_unordered_small, changes_small, if_small, moves_unless_boosted_small, now_low, number_of_small, number_small, pending_small, queue_small, returns_small, semaphore_small, sum_small, tells_small, timer_small, wait_of_small, within}
 use Rattle.laws_numbers.proofs.Waking.{trylock_may, activates_if_small, best_there, blocks_unless_late_small, broadcasts_small, contends_small, ending_small, locks_on_small, locks_small, server_of_has, signals_small, starts_small, unlocks_small, waits_small, wakes_cancelled_small, wakes_small, zero_small, cancelled_small}
+use Rattle.laws_numbers.proofs.Limits.{each_dropped, each_taken, expiry_small, next_small, no_message, once_more, one_less, one_more, overrun_value, priced_has, priced_policy, semaphore_value, signal_value, ticks_to_small, wait_message}
 
 -- ---- numbers
-
-pub signal_value : (n : ℕ) → n < 32 → IsSmall n
-signal_value n h = omega arith
-
-semaphore_value : (n : ℕ) → n ≤ semaphore_limit → IsSmall n
-semaphore_value n h = omega arith
-
-overrun_value : (n : ℕ) → n ≤ overrun_limit → IsSmall n
-overrun_value n h = omega arith
-
-once_more : (n : ℕ) → min (n + 1) overrun_limit ≤ overrun_limit
-once_more n = omega arith
-
-one_more : (n : ℕ) (e : (n == semaphore_limit) ≡ false) → n ≤ semaphore_limit → suc n ≤ semaphore_limit
-one_more n e h = grind arith
-
-one_less : (n : ℕ) → n ≤ semaphore_limit → pred n ≤ semaphore_limit
-one_less n h = omega arith
-
-no_more : (n now : ℕ) → IsSmall n → IsSmall (n - now)
-no_more n now h = omega arith
-
-pub ticks_to_small : (o : Option ℕ) (now : ℕ) → DueSmall o → IsSmall (ticks_to o now)
-ticks_to_small None now h = zero_small
-ticks_to_small (Some n) now h = no_more n now h
-
-expiry_small : (n at : ℕ) → IsSmall at → DueSmall (first_expiry n at)
-expiry_small zero at h = tt
-expiry_small (suc n) at h = h
-
-next_small : (now n : ℕ) → now ≤ 10 ^ 18 → IsNumber n → DueSmall (next_expiry now n)
-next_small now zero low h = tt
-next_small now (suc n) low h = sum_small now (suc n) low h
-
-each_dropped_from : {X : Type 0} (Law : X → Type 0) (n : ℕ) (xs : List X) → Each Law xs → Each Law (drop n xs)
-each_dropped_from Law zero xs h = h
-each_dropped_from Law (suc n) [] h = tt
-each_dropped_from Law (suc n) (x ∷ xs) h = each_dropped_from Law n xs h.1
-
-each_first : {X : Type 0} (Law : X → Type 0) (n : ℕ) (xs : List X) → Each Law xs → Each Law (take n xs)
-each_first Law zero xs h = tt
-each_first Law (suc n) [] h = tt
-each_first Law (suc n) (x ∷ xs) h = (h.0, each_first Law n xs h.1)
-
-each_taken : {X : Type 0} (Law : X → Type 0) (n : ℕ) (xs : List X) → Each Law xs → Each Law (without_at n xs)
-each_taken Law n xs h = each_both Law (take n xs) (drop (n + 1) xs) (each_first Law n xs h) (each_dropped_from Law (n + 1) xs h)
-
-no_message : MessageSmall (record { priority = 0; value = 0 })
-no_message = record { priority = omega arith; value = zero_small }
-
-wait_message : (w : Wait) → WaitSmall w → MessageSmall (message_of w)
-wait_message (for_room q x) h = h
-wait_message _ h = no_message
-
-priced_has : (p ticks : ℕ) (o : Option ServerState) → HasSmall ticks o → HasSmall ticks (option_map (set_high p) o)
-priced_has p ticks None h = tt
-priced_has p ticks (Some s) h = priced_small ticks p s h
-
-priced_policy : (p : ℕ) (x : Policy) → PolicySmall x → PolicySmall (at_priority p x)
-priced_policy p (policy.Fifo old) h = tt
-priced_policy p (policy.Rr old) h = tt
-priced_policy p (policy.Sporadic params) h = h
-priced_policy p (policy.Strict params) h = h
-
-pub each_dropped : {X : Type 0} (Law : X → Type 0) (xs : List X) → Each Law xs → Each Law (drop 1 xs)
-each_dropped Law [] h = tt
-each_dropped Law (x ∷ xs) h = h.1
-
 module _ {P : Type 0} (count top : ℕ) (low : top ≤ 10 ^ 18) where
   abbrev Small : Turn P → Type 0
   Small s = TurnSmall count top s

@@ -26,7 +26,8 @@ use Rattle.laws_numbers.specs.Numbers.{DueSmall, IsSmall, RecordSmall, TurnSmall
 use Rattle.laws_numbers.proofs.Lists.{live_within, starting_within, waiting_within}
 use Rattle.laws_numbers.proofs.Turns.{capped_small, tells_small, wait_of_small, within}
 use Rattle.laws_numbers.proofs.Waking.{contends_small, refills_small, starts_small, wakes_small, zero_small}
-use Rattle.laws_numbers.proofs.Calls.{delivers_small, expires_small, out_small, plain_small, selected_small, ticks_to_small}
+use Rattle.laws_numbers.proofs.Calls.{delivers_small, expires_small, out_small, plain_small, selected_small}
+use Rattle.laws_numbers.proofs.Limits.{ticks_to_small}
 
 left_small : (c : Call) (due : Option ℕ) (now : ℕ) → DueSmall due → IsSmall (ticks_left c due now)
 left_small (call.Nanosleep n) (Some due) now h = ticks_to_small (Some due) now h

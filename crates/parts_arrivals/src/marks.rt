@@ -1,4 +1,4 @@
-// A set of ranks, a bit for each.
+//! A set of ranks, a bit for each.
 ghost use Rattle.std.specs.Prelude.{◌≡◌, ◌≢◌, ℕ, ◌<◌, if◌then◌else◌, Bool, false, true, MatchOption};
 ghost use Rattle.parts_arrivals.specs.Held.{is_marked};
 ghost use Rattle.parts_arrivals.specs.Marks.{IsHighest, NoneIsMarked, ChangesMark};

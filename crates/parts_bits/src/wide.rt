@@ -1,4 +1,4 @@
-// The numbers of a set from 64 on, each less 64: a bit of three words for each.
+//! The numbers of a set from 64 on, each less 64: a bit of three words for each.
 ghost use Rattle.std.specs.Prelude.{◌≡◌, ◌<◌, ◌↔◌, IfSome, MatchOption, false, true};
 ghost use Rattle.parts_bits.specs.Sets.{HasNoneFrom, HasNoOther, IsFirstFrom, Turns};
 ghost use Rattle.parts_bits.specs.Wide.{TellsAny};

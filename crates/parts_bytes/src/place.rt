@@ -1,4 +1,4 @@
-// Bytes put at a place of a buffer. Each function answers the place behind them.
+//! Bytes put at a place of a buffer. Each function answers the place behind them.
 ghost use Rattle.std.specs.Prelude.{◌≡◌, ◌+◌, ◌≤◌, length, take};
 ghost use Rattle.parts_bytes.specs.Placed.{Placed};
 

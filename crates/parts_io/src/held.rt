@@ -1,4 +1,4 @@
-// Bytes that are held back, to be sent on together.
+//! Bytes that are held back, to be sent on together.
 ghost use Rattle.std.specs.Prelude.{◌≡◌, ◌≤◌, ◌++◌, [], drop, false, length, take, IfOk, IsTrue};
 
 use parts_bytes::{place_bytes, place_few};

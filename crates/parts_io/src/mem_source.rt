@@ -1,4 +1,4 @@
-// Sources in memory.
+//! Sources in memory.
 ghost use Rattle.std.specs.Prelude.{◌≡◌, ◌≤◌, ◌<◌, ◌-◌, ◌^◌, ◌+◌, [], length, drop, take, min, IfOk, IsOk, Some, is_err, MatchResult};
 
 use crate::{Failed, Source};

@@ -1,4 +1,4 @@
-// A sink that keeps nothing.
+//! A sink that keeps nothing.
 ghost use Rattle.std.specs.Prelude.{None, IsOk};
 
 use crate::{Failed, Sink};

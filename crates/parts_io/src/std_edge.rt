@@ -1,4 +1,4 @@
-// The trusted edge: the readers and writers of std, with their faults counted.
+//! The trusted edge: the readers and writers of std, with their faults counted.
 ghost use Rattle.std.specs.Prelude.{◌≡◌, ◌≤◌, [], length, take, IfOk, IsErr, OnOk};
 ghost use Rattle.std.specs.Io.KnownBytes.{Appends, Keeps};
 ghost use Rattle.parts_io.specs.Bytes.{WritesAll};

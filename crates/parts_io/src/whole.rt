@@ -1,4 +1,4 @@
-// A source read to its end.
+//! A source read to its end.
 ghost use Rattle.std.specs.Prelude.{◌≡◌, ◌+◌, ◌^◌, ◌<◌, ◌≤◌, ◌++◌, ℕ, List, take, length, vec_len, IfOk, IfErr, OnOk, OnErr, MatchResult};
 ghost use Rattle.std.specs.Io.KnownBytes.{Consumes, IsAtEnd};
 ghost use Rattle.parts_io.specs.Causes.{GrewBy, Rose};

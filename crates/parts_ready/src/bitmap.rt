@@ -1,4 +1,4 @@
-// A set of small numbers, a bit for each.
+//! A set of small numbers, a bit for each.
 ghost use Rattle.std.specs.Prelude.{◌≡◌, ◌≢◌, ℕ, suc, ◌<◌, false, true, slice_index};
 ghost use Rattle.std.specs.Int.{bit_at};
 ghost use Rattle.parts_ready.specs.Bits.{AreClear, ChangesBit, is_set, NoneIsSet};

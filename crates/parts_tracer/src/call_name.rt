@@ -1,4 +1,4 @@
-// The words of calls.
+//! The words of calls.
 ghost use Rattle.std.specs.Prelude.{◌≡◌, ◌≤◌, ◌+◌, length};
 ghost use Rattle.parts_bytes.specs.Placed.{Placed};
 ghost use Rattle.words_trace.specs.Calls.{call_word};

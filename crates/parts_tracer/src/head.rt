@@ -1,4 +1,4 @@
-// The time of an event, whose digits stand before the head of its line.
+//! The time of an event, whose digits stand before the head of its line.
 ghost use Rattle.std.specs.Prelude.{◌≡◌, ◌≤◌, ◌<◌, ◌/◌, ◌%◌, ◌^◌, decimal, length, slice_range, IsTrue, false, ℕ};
 ghost use Rattle.parts_tracer.specs.Placed.{SharesDigits};
 

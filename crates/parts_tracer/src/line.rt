@@ -1,4 +1,4 @@
-// The buffer of a line: words with one blank between them, and a line end.
+//! The buffer of a line: words with one blank between them, and a line end.
 ghost use Rattle.std.specs.Prelude.{◌≡◌, ◌≤◌, ◌<◌, [], length, take, IsTrue};
 ghost use Rattle.words_trace.specs.Text.{IsNamed, line, report_line};
 ghost use Rattle.parts_tracer.specs.ShortLines.{AreWhole};

@@ -1,4 +1,4 @@
-// The names of the threads.
+//! The names of the threads.
 ghost use Rattle.std.specs.Prelude.{◌≡◌, ◌≤◌, ◌<◌, ◌+◌, List, ℕ, [], length, replicate, slice_set, IfOk};
 ghost use Rattle.parts_bytes.specs.Placed.{Placed};
 ghost use Rattle.words_trace.specs.Text.{name_at};

@@ -1,4 +1,4 @@
-// A tracer prints the lines of a run, one write a line.
+//! A tracer prints the lines of a run, one write a line.
 ghost use Rattle.std.specs.Prelude.{◌≡◌, ◌<◌, ◌∷◌, [], None, IsTrue, false, length};
 ghost use Rattle.words_trace.specs.Text.{IsNamed, line, report_line};
 ghost use Rattle.parts_tracer.specs.Prints.{Prints};

@@ -1,4 +1,4 @@
-// The words of events and reports, which stand behind the head of a line.
+//! The words of events and reports, which stand behind the head of a line.
 ghost use Rattle.std.specs.Prelude.{◌≡◌, ◌≤◌, ◌<◌, ◌+◌, ◌++◌, ◌∷◌, [], length, codes, decimal, IfSome, None, Some};
 ghost use Rattle.words_trace.specs.Text.{IsNamed, budget_words, event_words, name_at, report_line, signal_name};
 ghost use Rattle.parts_bytes.specs.Placed.{Placed};

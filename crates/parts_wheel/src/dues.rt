@@ -1,4 +1,4 @@
-// Due ticks as they stand, one for each item.
+//! Due ticks as they stand, one for each item.
 ghost use Rattle.std.specs.Prelude.{◌≡◌, ◌≤◌, ◌<◌, ℕ, Some, true, false, length, MatchOption};
 ghost use Rattle.parts_wheel.specs.Dues.{due_of, NoneIsArmed, IsLeastDue, NoneIsDue, IsFirstDue, earlier};
 

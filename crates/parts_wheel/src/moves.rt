@@ -1,4 +1,4 @@
-// Nodes that leave the lists of a wheel, or come to stand on them.
+//! Nodes that leave the lists of a wheel, or come to stand on them.
 ghost use Rattle.std.specs.Prelude.{◌≡◌, ◌<◌, ◌≤◌, ◌*◌, ◌^◌, [], ℕ, true, false, length, MatchOption};
 ghost use Rattle.parts_links.specs.Links.{list_at, on_a_list, stands_at};
 ghost use Rattle.parts_wheel.specs.Bits.{ChangesBit};

@@ -1,4 +1,4 @@
-// The slots of a wheel.
+//! The slots of a wheel.
 ghost use Rattle.std.specs.Prelude.{◌≡◌, ◌<◌, ◌≤◌, ◌*◌, ◌/◌, ◌^◌, ℕ, true, None, Some, length, replicate, slice_set, IfOk, MatchOption};
 ghost use Rattle.parts_links.specs.Links.{list_at, stands_in, stands_at};
 ghost use Rattle.parts_wheel.specs.Dues.{due_of, NoneIsArmed, IsLeastDue, NoneIsDue, IsFirstDue};

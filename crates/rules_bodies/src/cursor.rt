@@ -1,4 +1,4 @@
-// Places in the flat code.
+//! Places in the flat code.
 use arrayvec::ArrayVec;
 use words_numbers::Res;
 

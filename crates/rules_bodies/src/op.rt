@@ -1,4 +1,4 @@
-// Operations of the flat code.
+//! Operations of the flat code.
 use words_numbers::Res;
 use words_script::Call;
 

@@ -1,4 +1,4 @@
-// Units of work.
+//! Units of work.
 use words_script::Call;
 
 /// What a thread does next: a unit of work. A call, a jump and a finish take one tick.

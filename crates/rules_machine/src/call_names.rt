@@ -1,4 +1,4 @@
-// What the trace calls a call.
+//! What the trace calls a call.
 ghost use Rattle.std.specs.Prelude.{◌≡◌};
 ghost use Rattle.rules_machine.specs.CallNames.{name_of};
 

@@ -1,4 +1,4 @@
-// Which calls are cancellation points.
+//! Which calls are cancellation points.
 ghost use Rattle.std.specs.Prelude.{◌≡◌};
 ghost use Rattle.rules_machine.specs.Cancellation.{is_cancellation_point};
 

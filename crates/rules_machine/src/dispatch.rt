@@ -1,4 +1,4 @@
-// To what a tick was given.
+//! To what a tick was given.
 use words_numbers::Tid;
 
 /// To what the last tick was given.

@@ -1,4 +1,4 @@
-// The frames of a thread.
+//! The frames of a thread.
 use words_numbers::{ObjId, Tid};
 
 /// What a frame is for. A thread has a main frame, above it at most one cleanup frame, and on top at most one signal frame.

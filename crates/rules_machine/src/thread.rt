@@ -1,4 +1,4 @@
-// How a wait ended.
+//! How a wait ended.
 
 /// How a condition wait ended, while its thread waits to own the mutex again.
 #[derive(Clone, Copy)]

@@ -1,4 +1,4 @@
-// Numbers that are drawn one after another.
+//! Numbers that are drawn one after another.
 ghost use Rattle.std.specs.Prelude.{◌≡◌, ◌<◌, ◌%◌};
 ghost use Rattle.script_generator.specs.Draws.{next, draw};
 

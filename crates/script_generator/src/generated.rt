@@ -1,4 +1,4 @@
-// The script of a number: its threads, and what they share.
+//! The script of a number: its threads, and what they share.
 ghost use Rattle.std.specs.Prelude.{◌≡◌, ◌≤◌, ◌<◌, ◌+◌, ◌++◌, ◌∷◌, ◌^◌, IfOk, Some, None, true, codes, decimal};
 ghost use Rattle.words_script.specs.Names.{is_name};
 ghost use Rattle.words_script.specs.Tree.{block_of};

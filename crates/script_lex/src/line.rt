@@ -1,4 +1,4 @@
-// A line of a text.
+//! A line of a text.
 ghost use Rattle.std.specs.Prelude.{◌≡◌, ◌≤◌, ◌==◌, not, length, take};
 ghost use Rattle.std.specs.List.{prefix_len};
 ghost use Rattle.script_lex.specs.Words.{has_bad_byte};

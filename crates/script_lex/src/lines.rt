@@ -1,4 +1,4 @@
-// The lines of a text, each with its number.
+//! The lines of a text, each with its number.
 ghost use Rattle.std.specs.Prelude.{◌≡◌, ◌≤◌, ◌<◌, ◌+◌, ◌∷◌, [], ◌==◌, not, length, take, MatchOption};
 ghost use Rattle.std.specs.List.{prefix_len};
 ghost use Rattle.script_lex.specs.Lines.{lines_of};

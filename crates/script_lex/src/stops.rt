@@ -1,4 +1,4 @@
-// Runs of bytes up to one that ends them, 16 bytes at a time.
+//! Runs of bytes up to one that ends them, 16 bytes at a time.
 ghost use Rattle.std.specs.Prelude.{◌≡◌, ◌≤◌, not, map, length, take};
 ghost use Rattle.std.specs.List.{prefix_len};
 ghost use Rattle.std.specs.Simd.Lanes.{mask_l};

@@ -1,4 +1,4 @@
-// The words of a line, each with its place.
+//! The words of a line, each with its place.
 ghost use Rattle.std.specs.Prelude.{◌≡◌, ◌≤◌, ◌+◌, ◌-◌, ◌==◌, ◌∷◌, [], length, take, drop, MatchOption, IfSome};
 ghost use Rattle.std.specs.List.{prefix_len};
 ghost use Rattle.script_lex.specs.Words.{words_of, places_of, is_blank};

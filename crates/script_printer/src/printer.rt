@@ -1,4 +1,4 @@
-// A printer writes words, each by a write of its own.
+//! A printer writes words, each by a write of its own.
 ghost use Rattle.std.specs.Prelude.{◌≡◌, ◌∷◌, ◌++◌, [], false, length, map};
 ghost use Rattle.script_lex.specs.Joined.{after_blanks, joined_words};
 ghost use Rattle.script_writer.specs.Line.{AreShort, IsShort, line_text, spelled};

@@ -1,4 +1,4 @@
-// The script that statements say, where no phase has a fault.
+//! The script that statements say, where no phase has a fault.
 mod calls;
 mod meaning;
 

@@ -1,4 +1,4 @@
-// Why a text gave no script.
+//! Why a text gave no script.
 use script_table::FaultKind;
 use std::alloc::{AllocError, AllocFailed};
 use std::error::Error;

@@ -1,4 +1,4 @@
-// Phase 2: names in order of declaration.
+//! Phase 2: names in order of declaration.
 pub(crate) mod counts;
 pub(crate) mod declarations;
 

@@ -1,4 +1,4 @@
-// What the word at a place says.
+//! What the word at a place says.
 ghost use Rattle.std.specs.Prelude.{◌≡◌, ◌≤◌, ◌^◌, IfSome};
 ghost use Rattle.script_table.specs.Ranges.{capped_number_at};
 ghost use Rattle.script_table.specs.Operands.{number_in, amount_at, priority_at, operand_at, signal_at, signals_at, answer_at, name_at, named_at, server_of, server_at, fifo_at, rr_at, sporadic_at, strict_at};

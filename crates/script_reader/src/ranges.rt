@@ -1,4 +1,4 @@
-// Phase 3: ranges and limits, and the least fault of them.
+//! Phase 3: ranges and limits, and the least fault of them.
 mod tally;
 
 ghost use Rattle.std.specs.Prelude.{◌≡◌, ◌≤◌, ◌<◌, ◌^◌, ◌∷◌, ◌++◌, ◌&&◌, not, [], None, Some, MatchResult, length};

@@ -1,4 +1,4 @@
-// The script of a text.
+//! The script of a text.
 ghost use Rattle.std.specs.Prelude.{◌≡◌, ◌≤◌, Ok, length, IfOk, IfErr, MatchResult};
 ghost use Rattle.script_table.specs.Patterns.{rows_of};
 ghost use Rattle.script_table.specs.Table.{patterns};

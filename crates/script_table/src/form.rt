@@ -1,4 +1,4 @@
-// The forms of lines: one for each pattern.
+//! The forms of lines: one for each pattern.
 
 /// What a line of a script is.
 #[derive(Clone, Copy)]

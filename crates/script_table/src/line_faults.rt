@@ -1,4 +1,4 @@
-// The pattern of a line.
+//! The pattern of a line.
 ghost use Rattle.std.specs.Prelude.{◌≡◌, ◌∷◌, [], map, None, true, false, length, IfSome, MatchOption};
 ghost use Rattle.std.specs.Str.{bytes_eq};
 ghost use Rattle.std.specs.Option.{option_map};

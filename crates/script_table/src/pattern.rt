@@ -1,4 +1,4 @@
-// Patterns of lines.
+//! Patterns of lines.
 use crate::Form;
 use words_script::NameKind;
 

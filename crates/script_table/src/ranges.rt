@@ -1,4 +1,4 @@
-// The ranges of numbers.
+//! The ranges of numbers.
 ghost use Rattle.std.specs.Prelude.{◌≡◌};
 ghost use Rattle.script_table.specs.Patterns.{spot_of};
 ghost use Rattle.script_table.specs.Ranges.{is_within, range_fault};

@@ -1,4 +1,4 @@
-// The table of patterns: one line for each.
+//! The table of patterns: one line for each.
 ghost use Rattle.std.specs.Prelude.{◌≡◌, ◌++◌, map};
 ghost use Rattle.script_table.specs.Patterns.{row_of, rows_of};
 ghost use Rattle.script_table.specs.Table.{declaration_patterns, step_patterns, call_patterns, strict_declarations, strict_calls, patterns};

@@ -1,4 +1,4 @@
-// The versions of the language.
+//! The versions of the language.
 ghost use Rattle.std.specs.Prelude.{◌≡◌};
 ghost use Rattle.script_table.specs.Versions.{version_number, most_of};
 

@@ -1,4 +1,4 @@
-// What is wrong with the words of a line, by the places of its pattern.
+//! What is wrong with the words of a line, by the places of its pattern.
 ghost use Rattle.std.specs.Prelude.{◌≡◌, None, true};
 ghost use Rattle.script_table.specs.Faults.{lesser_first};
 ghost use Rattle.script_table.specs.Patterns.{spot_of};

@@ -1,4 +1,4 @@
-// The lines of bodies.
+//! The lines of bodies.
 ghost use Rattle.std.specs.Prelude.{◌≡◌, ◌∷◌, ◌++◌, [], codes};
 ghost use Rattle.words_numbers.specs.Words.{res_text};
 ghost use Rattle.words_script.specs.Tree.{block_of};

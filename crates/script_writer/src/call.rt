@@ -1,4 +1,4 @@
-// The line of a call.
+//! The line of a call.
 mod conditions;
 mod operands;
 mod queues;

@@ -1,4 +1,4 @@
-// How long the canonical text of a script is: the lines are made one after another, and none is kept.
+//! How long the canonical text of a script is: the lines are made one after another, and none is kept.
 ghost use Rattle.std.specs.Prelude.{◌≡◌, ◌≤◌, ◌+◌, ◌-◌, ◌^◌, ◌∷◌, ◌++◌, [], length, min};
 ghost use Rattle.words_script.specs.Tree.{block_of};
 ghost use Rattle.script_writer.specs.Firsts.{capped_len};

@@ -1,4 +1,4 @@
-// The text of a line, made of words.
+//! The text of a line, made of words.
 ghost use Rattle.std.specs.Prelude.{◌≡◌, ◌≤◌, ◌+◌, ◌++◌, ◌∷◌, [], length, decimal, map};
 ghost use Rattle.script_lex.specs.Joined.{joined_words, after_blanks};
 ghost use Rattle.script_writer.specs.Words.{operand_word, signal_word, set_word, signals_of, joined_by_commas, listed};

@@ -1,4 +1,4 @@
-// The names of threads and objects.
+//! The names of threads and objects.
 ghost use Rattle.std.specs.Prelude.{◌≡◌, ◌≤◌, length};
 ghost use Rattle.script_writer.specs.Names.{name_of, names_of};
 ghost use Rattle.words_script.specs.declared.name_kind.NameKind.TheVariants as name_kind;

@@ -1,4 +1,4 @@
-// The text of a script.
+//! The text of a script.
 ghost use Rattle.std.specs.Prelude.{◌≡◌};
 ghost use Rattle.parts_io.specs.Bytes.{WritesAll};
 ghost use Rattle.parts_io.specs.Causes.{HasCause};

@@ -1,4 +1,4 @@
-// The audit of a trace.
+//! The audit of a trace.
 ghost use Rattle.std.specs.Prelude.{◌≡◌, ◌≤◌, ◌∷◌, ◌++◌, [], List, ℕ, length, map, IfOk, IfErr, IfNone};
 ghost use Rattle.std.specs.List.{list_all};
 ghost use Rattle.script_lex.specs.Lines.{lines_of};

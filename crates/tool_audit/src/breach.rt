@@ -1,4 +1,4 @@
-// A broken rule.
+//! A broken rule.
 
 /// The first line of a trace that breaks a rule, from 1, and the least rule that it breaks, 1 to 6. Where a line never comes that is due, the
 /// line is the one behind the last.

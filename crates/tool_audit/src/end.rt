@@ -1,4 +1,4 @@
-// Why a head gave no audit.
+//! Why a head gave no audit.
 use crate::HeadFault;
 use std::alloc::{AllocError, AllocFailed};
 use std::error::Error;

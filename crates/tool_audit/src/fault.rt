@@ -1,4 +1,4 @@
-// Kinds of faults.
+//! Kinds of faults.
 ghost use Rattle.std.specs.Prelude.{◌≡◌};
 ghost use Rattle.tool_audit.specs.Faults.{number_of, name_of};
 

@@ -1,4 +1,4 @@
-// The servers of a head.
+//! The servers of a head.
 ghost use Rattle.std.specs.Prelude.{◌≡◌, ◌≤◌, ◌+◌, [], length, map, MatchResult};
 ghost use Rattle.script_lex.specs.Lines.{lines_of};
 ghost use Rattle.tool_audit.specs.Head.{in_ranges, phase_one, said_from, phase_two, phase_three, servers_of};

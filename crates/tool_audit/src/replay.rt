@@ -1,4 +1,4 @@
-// What the lines so far say of one server, replayed from instant to instant.
+//! What the lines so far say of one server, replayed from instant to instant.
 ghost use Rattle.std.specs.Prelude.{◌≡◌, ◌+◌, ◌≤◌, ◌*◌, ◌^◌, nat_lt, slice_get, true, length, ◌<◌, IsTrue, IfNone, IfSome};
 ghost use Rattle.std.specs.List.{list_any};
 ghost use Rattle.tool_audit.specs.Leap.{can, left};

@@ -1,4 +1,4 @@
-// What a line says of one thread.
+//! What a line says of one thread.
 ghost use Rattle.std.specs.Prelude.{◌≡◌, slice_index_or};
 ghost use Rattle.tool_check.specs.Lines.{seen};
 ghost use Rattle.tool_audit.specs.Marks.{if_mine, saying_of};

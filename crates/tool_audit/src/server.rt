@@ -1,4 +1,4 @@
-// A sporadic server that an audit is about.
+//! A sporadic server that an audit is about.
 use words_script::Name;
 
 /// The numbers of a server. In an audit that was opened the budget is at least 1 and at most the period, which is at most 10^18.

@@ -1,4 +1,4 @@
-// What a line of a head names.
+//! What a line of a head names.
 ghost use Rattle.std.specs.Prelude.{◌≡◌, ◌∷◌, [], ◌==◌, length, true, false, Some, slice_get, option_to_list, codes, MatchOption, MatchResult};
 ghost use Rattle.script_lex.specs.Words.{line_words};
 ghost use Rattle.tool_audit.specs.Head.{operand_faults, word_faults, line_faults, said_line, in_numbers};

@@ -1,4 +1,4 @@
-// What is kept of a server while the lines of a trace come.
+//! What is kept of a server while the lines of a trace come.
 ghost use Rattle.std.specs.Prelude.{◌≡◌, ◌≤◌, ◌||◌, true, None, IfNone};
 ghost use Rattle.tool_check.specs.Lines.{seen};
 ghost use Rattle.tool_audit.specs.Breach.{is_closing, is_closing_of};

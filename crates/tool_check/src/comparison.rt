@@ -1,4 +1,4 @@
-// What is told of a trace that is not the one that is due.
+//! What is told of a trace that is not the one that is due.
 ghost use Rattle.std.specs.Prelude.{◌≡◌, ◌≤◌, ◌+◌, ◌++◌, [], Some, codes, decimal, length, is_some, slice_get, true, IfSome};
 ghost use Rattle.std.specs.Option.{option_map};
 ghost use Rattle.script_lex.specs.Lines.{lines_of};

@@ -1,4 +1,4 @@
-// Where two texts differ.
+//! Where two texts differ.
 ghost use Rattle.std.specs.Prelude.{◌≡◌, ◌≤◌, length};
 ghost use Rattle.tool_check.specs.Difference.{common_len, line_ends, difference};
 

@@ -1,4 +1,4 @@
-// Lines of a text of any length.
+//! Lines of a text of any length.
 ghost use Rattle.std.specs.Prelude.{◌≡◌, ◌≤◌, ◌==◌, not, length, slice_get, IfSome};
 ghost use Rattle.std.specs.List.{prefix_len};
 ghost use Rattle.std.specs.Option.{option_map};

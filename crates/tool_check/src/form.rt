@@ -1,4 +1,4 @@
-// The forms of a trace's lines.
+//! The forms of a trace's lines.
 ghost use Rattle.std.specs.Prelude.{◌≡◌, ◌≤◌};
 ghost use Rattle.tool_check.specs.Form.{form_word, parts, numbers_in};
 

@@ -1,4 +1,4 @@
-// A sink of a room that stays known.
+//! A sink of a room that stays known.
 ghost use Rattle.std.specs.Prelude.{◌≡◌, ◌<◌, ◌^◌, ◌⊎◌, ℕ, [], length, IfOk, Some};
 
 use crate::Limited;

@@ -1,4 +1,4 @@
-// A sink that holds what fits.
+//! A sink that holds what fits.
 ghost use Rattle.std.specs.Prelude.{◌≡◌, ◌≤◌, ◌<◌, ◌^◌, ◌+◌, ◌-◌, ◌++◌, ◌⊎◌, [], length, IfOk, Some, is_ok};
 ghost use Rattle.parts_io.specs.Causes.{raised};
 

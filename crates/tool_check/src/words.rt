@@ -1,4 +1,4 @@
-// The words of a trace line.
+//! The words of a trace line.
 ghost use Rattle.std.specs.Prelude.{◌≡◌, ◌≤◌, ◌<◌, ◌==◌, ◌∷◌, [], not, length, MatchOption, IfSome, is_some};
 ghost use Rattle.std.specs.List.{prefix_len, list_any};
 ghost use Rattle.std.specs.Option.{option_map};

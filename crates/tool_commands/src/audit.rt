@@ -1,4 +1,4 @@
-// Whether a trace keeps the budgets of its servers.
+//! Whether a trace keeps the budgets of its servers.
 ghost use Rattle.std.specs.Prelude.{◌≡◌, ◌≤◌, List, ℕ, length};
 ghost use Rattle.tool_audit.specs.Breach.{first_breach};
 ghost use Rattle.tool_audit.specs.Head.{read_head};

@@ -1,4 +1,4 @@
-// The words of the command line.
+//! The words of the command line.
 ghost use Rattle.std.specs.Prelude.{◌≡◌, ◌≤◌, ◌^◌, Option, map, string_bytes, IfSome};
 ghost use Rattle.script_table.specs.Operands.{map_two};
 ghost use Rattle.tool_commands.specs.Command.{command, command_of, long_command_of, short_command_of, number_up_to, limit_of, reads, IsWithinLimit};

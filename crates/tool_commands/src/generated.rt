@@ -1,4 +1,4 @@
-// Scripts that are generated.
+//! Scripts that are generated.
 ghost use Rattle.std.specs.Prelude.{◌≡◌, ◌≤◌, ◌+◌, ◌^◌};
 ghost use Rattle.script_generator.specs.Generated.{script_of};
 ghost use Rattle.script_writer.specs.Canon.{canon};

@@ -1,4 +1,4 @@
-// The line of a refused text.
+//! The line of a refused text.
 ghost use Rattle.std.specs.Prelude.{◌≡◌, ◌≤◌, ◌+◌, ◌++◌, [], Some, length, decimal, codes};
 ghost use Rattle.script_table.specs.Faults as faults;
 ghost use Rattle.tool_audit.specs.Answer.{breach_text};

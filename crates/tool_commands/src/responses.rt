@@ -1,4 +1,4 @@
-// The response times of tasks.
+//! The response times of tasks.
 ghost use Rattle.std.specs.Prelude.{◌≡◌, ◌≤◌, ◌+◌, ◌*◌, ◌^◌, length};
 ghost use Rattle.tool_times.specs.Answer.{response_lines};
 ghost use Rattle.tool_times.specs.Read.{read};

@@ -1,4 +1,4 @@
-// Runs of scripts.
+//! Runs of scripts.
 ghost use Rattle.std.specs.Prelude.{◌≡◌, ◌≤◌, ◌+◌, ◌^◌, false, IfOk, OnOk, OnErr};
 ghost use Rattle.parts_tracer.specs.Prints.{Prints};
 ghost use Rattle.parts_tracer.specs.Printed.{Printed, outlet};

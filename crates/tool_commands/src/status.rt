@@ -1,4 +1,4 @@
-// What became of a command.
+//! What became of a command.
 ghost use Rattle.std.specs.Prelude.{◌≡◌, ◌≤◌};
 ghost use Rattle.tool_commands.specs.Statuses.{status_number};
 

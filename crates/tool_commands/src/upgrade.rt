@@ -1,4 +1,4 @@
-// Scripts as scripts of version 2.
+//! Scripts as scripts of version 2.
 ghost use Rattle.std.specs.Prelude.{◌≡◌, ◌≤◌, length};
 ghost use Rattle.script_table.specs.Read.{read};
 ghost use Rattle.script_table.specs.Table.{patterns};

@@ -1,4 +1,4 @@
-// The line of a task.
+//! The line of a task.
 ghost use Rattle.std.specs.Prelude.{◌≡◌, ◌≤◌, length};
 ghost use Rattle.tool_times.specs.Answer.{task_line};
 

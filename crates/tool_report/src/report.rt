@@ -1,4 +1,4 @@
-// The lines of all tasks.
+//! The lines of all tasks.
 ghost use Rattle.std.specs.Prelude.{◌≡◌, ◌≤◌, ◌<◌, ◌+◌, ◌*◌, ◌^◌, length};
 ghost use Rattle.parts_io.specs.Bytes.{WritesAll};
 ghost use Rattle.parts_io.specs.Causes.{HasCause};

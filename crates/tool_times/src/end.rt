@@ -1,4 +1,4 @@
-// Why a text gave no tasks.
+//! Why a text gave no tasks.
 use crate::TaskFault;
 use std::alloc::{AllocError, AllocFailed};
 use std::error::Error;

@@ -1,4 +1,4 @@
-// The equation of response times, and its least solution.
+//! The equation of response times, and its least solution.
 ghost use Rattle.std.specs.Prelude.{◌≡◌, ◌+◌, ◌*◌, ◌^◌, ◌<◌, ◌≤◌, ℕ, length, MatchOption};
 ghost use Rattle.tool_times.specs.Tasks.{IsTask, AreTasks};
 ghost use Rattle.tool_times.specs.Schedule.{finish_by};

@@ -1,4 +1,4 @@
-// The tasks of a text.
+//! The tasks of a text.
 ghost use Rattle.std.specs.Prelude.{◌≡◌, ◌≤◌, ◌+◌, [], Ok, length, IfOk, IfErr, MatchResult};
 ghost use Rattle.script_lex.specs.Lines.{lines_of};
 ghost use Rattle.tool_times.specs.Read.{phase_one, said_from, phase_two, phase_three, tasks_of, read};

@@ -1,4 +1,4 @@
-// What a line declares.
+//! What a line declares.
 ghost use Rattle.std.specs.Prelude.{◌≡◌, ◌∷◌, [], ◌==◌, length, not, true, false, Some, slice_get, option_to_list, codes, MatchOption, MatchResult};
 ghost use Rattle.std.specs.List.{list_all};
 ghost use Rattle.script_lex.specs.Words.{line_words};

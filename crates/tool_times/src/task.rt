@@ -1,4 +1,4 @@
-// A periodic task.
+//! A periodic task.
 use words_numbers::Prio;
 use words_script::Name;
 

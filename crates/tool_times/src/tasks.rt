@@ -1,4 +1,4 @@
-// Tasks, and their response times.
+//! Tasks, and their response times.
 ghost use Rattle.std.specs.Prelude.{◌≡◌, ◌+◌, ◌^◌, ◌<◌, ◌≤◌, ℕ, false, [], ◌∷◌, ◌++◌, length, IfOk, OnErr, MatchOption};
 ghost use Rattle.tool_times.specs.Tasks.{IsTask, is_taken, task_at};
 ghost use Rattle.tool_times.specs.Schedule.{finish_by};

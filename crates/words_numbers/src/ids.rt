@@ -1,4 +1,4 @@
-// Numbers of threads and of objects.
+//! Numbers of threads and of objects.
 ghost use Rattle.std.specs.Prelude.{◌≡◌, ◌≤◌, ◌<◌, MatchOption};
 
 use std::marker::Model;

@@ -1,4 +1,4 @@
-// What falls due.
+//! What falls due.
 ghost use Rattle.std.specs.Prelude.{◌≡◌, ◌≤◌, ◌<◌, Some, MatchOption};
 ghost use Rattle.words_numbers.specs.Items.{item_number, item_of};
 

@@ -1,4 +1,4 @@
-// The parameters of a sporadic server.
+//! The parameters of a sporadic server.
 ghost use Rattle.std.specs.Prelude.{◌≡◌, ◌≤◌, ◌<◌, ◌^◌, Some, None, MatchOption};
 ghost use Rattle.words_numbers.specs.Parameters.{Parameters, AreParameters};
 

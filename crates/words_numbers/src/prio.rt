@@ -1,4 +1,4 @@
-// Priorities.
+//! Priorities.
 ghost use Rattle.std.specs.Prelude.{◌≡◌, ◌≤◌, MatchOption};
 
 use std::marker::Model;

@@ -1,4 +1,4 @@
-// What a call answers.
+//! What a call answers.
 ghost use Rattle.std.specs.Prelude.{◌≡◌};
 ghost use Rattle.words_numbers.specs.Words.{res_text};
 

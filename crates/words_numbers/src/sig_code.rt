@@ -1,4 +1,4 @@
-// Why a signal was generated.
+//! Why a signal was generated.
 ghost use Rattle.std.specs.Prelude.{◌≡◌};
 ghost use Rattle.words_numbers.specs.Words.{sig_code_text};
 

@@ -1,4 +1,4 @@
-// Sets of signals.
+//! Sets of signals.
 ghost use Rattle.std.specs.Prelude.{◌≡◌, ◌≤◌, ◌<◌, ◌^◌, IfSome};
 ghost use Rattle.words_numbers.specs.Signals.{has_signal, with_signal, without_signal, lowest_signal};
 

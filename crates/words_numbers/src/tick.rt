@@ -1,4 +1,4 @@
-// Moments of the machine.
+//! Moments of the machine.
 ghost use Rattle.std.specs.Prelude.{◌≡◌, ◌≤◌, ◌<◌, ◌+◌, ◌*◌, ◌^◌, MatchOption};
 
 use std::marker::Model;

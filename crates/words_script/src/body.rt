@@ -1,4 +1,4 @@
-// Steps and bodies.
+//! Steps and bodies.
 ghost use Rattle.std.specs.Prelude.{◌≡◌};
 ghost use Rattle.words_script.specs.Tree.{block_of};
 

@@ -1,4 +1,4 @@
-// The calls of a task.
+//! The calls of a task.
 use crate::Policy;
 use words_numbers::{ObjId, Prio, SigSet, Tid};
 

@@ -1,4 +1,4 @@
-// Declarations, and the script.
+//! Declarations, and the script.
 ghost use Rattle.std.specs.Prelude.{◌≡◌};
 
 use crate::{Body, Name, NameKind, Policy, Protocol};

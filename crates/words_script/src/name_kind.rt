@@ -1,4 +1,4 @@
-// The kinds of things that names stand for.
+//! The kinds of things that names stand for.
 ghost use Rattle.std.specs.Prelude.{◌≡◌};
 ghost use Rattle.words_script.specs.Kinds.{kind_number, same_kind};
 

@@ -1,4 +1,4 @@
-// Names of threads and objects.
+//! Names of threads and objects.
 ghost use Rattle.std.specs.Prelude.{◌≡◌, ◌≤◌, true, false, length, MatchOption};
 ghost use Rattle.std.specs.List.{list_all};
 ghost use Rattle.words_script.specs.Names.{is_name, begins_with_letter, is_name_byte};

@@ -1,4 +1,4 @@
-// How threads are scheduled, and how mutexes treat their owners.
+//! How threads are scheduled, and how mutexes treat their owners.
 use words_numbers::{Params, Prio};
 
 /// A scheduling policy with its parameters, IEEE 1003.1-2017, XSH 2.8.4.

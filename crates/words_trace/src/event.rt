@@ -1,4 +1,4 @@
-// What happens in a run.
+//! What happens in a run.
 use words_numbers::{Prio, Res, SigCode, Tick, Tid};
 
 /// What happens at an instant of a run. Each event is a line of the trace.

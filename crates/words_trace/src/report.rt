@@ -1,4 +1,4 @@
-// What the closing line of a thread tells.
+//! What the closing line of a thread tells.
 
 /// The totals of a thread at the end of a run.
 #[derive(Clone, Copy, Debug, PartialEq, Eq)]

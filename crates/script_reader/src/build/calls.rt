@@ -1,4 +1,4 @@
-// The call that a line makes.
+//! The call that a line makes.
 ghost use Rattle.std.specs.Prelude.{◌≡◌};
 ghost use Rattle.script_table.specs.Calls.{thread_call, mutex_call, sem_call, time_call, signal_call, message_call, call_of};
 

@@ -1,4 +1,4 @@
-// What a line declares, and which step it is.
+//! What a line declares, and which step it is.
 ghost use Rattle.std.specs.Prelude.{◌≡◌};
 ghost use Rattle.script_table.specs.Meaning.{kind_of_object, object_decl, action_decl, kind_of_body, body_decl, plain_step, runs_cleanup, block_step};
 

@@ -1,4 +1,4 @@
-// How many things of each kind are declared.
+//! How many things of each kind are declared.
 ghost use Rattle.std.specs.Prelude.{◌≡◌, ◌≤◌, ◌<◌, ◌^◌, ◌==◌};
 ghost use Rattle.script_table.specs.Names.{no_counts, counted, count_of};
 ghost use Rattle.script_table.specs.Ranges.{is_over};

@@ -1,4 +1,4 @@
-// How many lines of each kind there are so far, and how deep the blocks are.
+//! How many lines of each kind there are so far, and how deep the blocks are.
 ghost use Rattle.std.specs.Prelude.{◌≡◌, ◌≤◌, ◌<◌, ◌^◌, ◌==◌};
 ghost use Rattle.script_table.specs.Ranges.{object_kind, entered, left, tallied, is_too_many, no_tally};
 ghost use Rattle.script_table.specs.Versions.{most_of};

@@ -1,4 +1,4 @@
-// The bodies and blocks that are open.
+//! The bodies and blocks that are open.
 ghost use Rattle.std.specs.Prelude.{◌≡◌, ◌∷◌, [], IfOk, not, MatchOption};
 ghost use Rattle.words_script.specs.Kinds.{same_kind};
 ghost use Rattle.script_table.specs.Patterns.{same_closer, is_barred};

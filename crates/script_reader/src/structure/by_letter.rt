@@ -1,4 +1,4 @@
-// The patterns of a table by the first byte of a line's first word.
+//! The patterns of a table by the first byte of a line's first word.
 ghost use Rattle.std.specs.Prelude.{ℕ, ◌≡◌, ◌∷◌, List, map, IfOk, IfSome};
 ghost use Rattle.std.specs.Option.{option_map};
 ghost use Rattle.script_table.specs.Patterns.{row_of, rows_of};

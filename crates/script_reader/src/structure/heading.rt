@@ -1,4 +1,4 @@
-// Where what a text says begins, and its version.
+//! Where what a text says begins, and its version.
 ghost use Rattle.std.specs.Prelude.{◌≡◌, ◌≤◌, ◌+◌, ◌∷◌, Ok, IfOk, MatchResult, length, map, true};
 ghost use Rattle.script_lex.specs.Lines.{lines_of};
 ghost use Rattle.script_lex.specs.Words.{before_comment, has_bad_byte};

@@ -1,4 +1,4 @@
-// The least fault of phase 1 of a line.
+//! The least fault of phase 1 of a line.
 ghost use Rattle.std.specs.Prelude.{◌≡◌, None, Some, IfSome};
 ghost use Rattle.std.specs.Option.{option_map};
 ghost use Rattle.script_lex.specs.Words.{line_words};

@@ -1,4 +1,4 @@
-// What a line says.
+//! What a line says.
 ghost use Rattle.std.specs.Prelude.{◌≡◌, ◌∷◌, map, IfSome};
 ghost use Rattle.script_table.specs.Faults.{least_kind};
 ghost use Rattle.script_table.specs.Patterns.{Keyword, spot_of};

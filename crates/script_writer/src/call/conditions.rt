@@ -1,4 +1,4 @@
-// Lines of waits for a condition.
+//! Lines of waits for a condition.
 ghost use Rattle.std.specs.Prelude.{◌≡◌, ◌∷◌, [], codes};
 ghost use Rattle.script_writer.specs.Line.{line_text};
 ghost use Rattle.script_writer.specs.Names.{name_of};

@@ -1,4 +1,4 @@
-// Lines of calls by the number and kind of their operands, at most two.
+//! Lines of calls by the number and kind of their operands, at most two.
 ghost use Rattle.std.specs.Prelude.{◌≡◌, ◌≤◌, ◌∷◌, [], length, decimal};
 ghost use Rattle.script_writer.specs.Line.{line_text};
 ghost use Rattle.script_writer.specs.Names.{name_of};

@@ -1,4 +1,4 @@
-// Lines of calls on a thread's priority and policy.
+//! Lines of calls on a thread's priority and policy.
 ghost use Rattle.std.specs.Prelude.{◌≡◌, ◌∷◌, [], codes, decimal};
 ghost use Rattle.script_writer.specs.Line.{line_text};
 ghost use Rattle.script_writer.specs.Names.{name_of};

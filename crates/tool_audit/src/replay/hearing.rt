@@ -1,4 +1,4 @@
-// What becomes of an account where something is said of its thread.
+//! What becomes of an account where something is said of its thread.
 ghost use Rattle.std.specs.Prelude.{◌≡◌, ◌+◌, ◌≤◌, ◌*◌, ◌^◌, ◌∷◌, [], IfNone};
 ghost use Rattle.tool_check.specs.declared.form.Form.TheVariants as form;
 ghost use Rattle.tool_audit.specs.Replay.{breaks, broken_now};

@@ -1,4 +1,4 @@
-// Which rule a line breaks, of those before it.
+//! Which rule a line breaks, of those before it.
 ghost use Rattle.std.specs.Prelude.{◌≡◌, ◌+◌, ◌≤◌, ◌<◌, ◌*◌, ◌^◌, slice_get, true, length, IsTrue, IfNone};
 ghost use Rattle.tool_audit.specs.Marks.{begins, exhausts, exits, is_activated, is_given, is_planned, is_refilled, is_taken, nothing};
 ghost use Rattle.tool_audit.specs.Replay.{broken_now, fits_active, fits_oldest};
