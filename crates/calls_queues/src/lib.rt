@@ -13,4 +13,4 @@ mod sends;
 
 pub use notification::mq_notify;
 pub use receives::mq_receive;
-pub use sends::mq_send;
+pub use sends::{Outgoing, mq_send};

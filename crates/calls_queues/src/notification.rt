@@ -1,4 +1,4 @@
-// The notification that is asked of a queue.
+//! The notification that is asked of a queue.
 ghost use Rattle.std.specs.Prelude.{◌≡◌, ◌≤◌, ◌<◌, ◌^◌, IfSome, None, Some, length};
 ghost use Rattle.words_numbers.specs.declared.res.Res.TheVariants as res;
 ghost use Rattle.rules_machine.specs.Queues.{asks_notification, fired_by_message, is_notifying, notifies, record_of_notification, registered, waits_to_receive};
@@ -6,18 +6,17 @@ ghost use Rattle.rules_machine.specs.Signals.{generates};
 ghost use Rattle.rules_machine.specs.Threads.{queue_at};
 ghost use Rattle.rules_machine.specs.Turns.{changes_queue, returns, ◌▷◌};
 ghost use Rattle.rules_machine.specs.Waiters.{somebody_waits};
-ghost use Rattle.kernel_state.specs.Kernel.{by};
 ghost use Rattle.kernel_state.specs.Does.{Does};
+ghost use Rattle.kernel_state.specs.Caller.{caller};
 ghost use Rattle.calls_queues.specs.Premises.{CanNotify};
 
 use calls_signals::generate;
 use kernel_queues::Registration;
 use kernel_signals::SignalRecord;
-use kernel_state::Parts;
+use kernel_state::{Caller, Parts};
 use parts_io::Sink;
 use parts_tracer::Tracer;
-use words_numbers::{ObjId, Res, Tid};
-use words_script::Call;
+use words_numbers::{ObjId, Res};
 
 // Whether a thread waits to receive from the queue.
 #[tactic(auto, using(crate::proofs::Receivers::somebody_is))]
@@ -33,8 +32,8 @@ pub(crate) fn fired_by_message(p: &Parts, q: ObjId) -> Option<Registration>
     ensures value { result ≡ fired_by_message p.now.machine q }
     ensures asked { IfSome result (λ r. (queue_at p.now.machine q).registration ≡ Some r) }
 {
-    if p.is_queue_empty(q) && !is_awaited(p, q) {
-        p.registration(q)
+    if p.queue(q).is_empty() && !is_awaited(p, q) {
+        p.queue(q).registration()
     } else {
         None
     }
@@ -77,43 +76,41 @@ fn is_notifying(p: &Parts, q: ObjId) -> bool
     requires { q < length p.now.machine.queues }
     ensures { result ≡ is_notifying p.now.machine q }
 {
-    p.registration(q).is_some() || p.is_notification_pending(q)
+    p.queue(q).registration().is_some() || p.is_notification_pending(q)
 }
 
 // The notification is asked for, and the call returns.
 fn register<K: Sink>(
     p: &mut Parts,
-    t: Tid,
-    call: &Call,
+    by: &Caller<'_>,
     q: ObjId,
     r: Registration,
     out: &mut Tracer<'_, K>,
 )
-    requires known { t < length p.old.names }
+    requires known { by.now.thread < length p.old.names }
     requires queue { q < length p.old.machine.queues }
-    ensures { Does K.text K.faults (λ s. s ▷ changes_queue q (registered (Some r)) ▷ returns (by t call.now) res.Zero 0) p.old p.new out.old out.new }
+    ensures { Does K.text K.faults (λ s. s ▷ changes_queue q (registered (Some r)) ▷ returns (caller by.now) res.Zero 0) p.old p.new out.old out.new }
 {
     p.register(q, Some(r));
-    p.returns(t, call, Res::Zero, 0, out);
+    p.returns(by, Res::Zero, 0, out);
 }
 
 /// `mq_notify`.
 pub fn mq_notify<K: Sink>(
     p: &mut Parts,
-    t: Tid,
-    call: &Call,
+    by: &Caller<'_>,
     q: ObjId,
     signal: u8,
     value: u64,
     out: &mut Tracer<'_, K>,
 )
-    requires known { t < length p.old.names }
+    requires known { by.now.thread < length p.old.names }
     requires queue { q < length p.old.machine.queues }
-    ensures { Does K.text K.faults (asks_notification (by t call.now) q (record { signal = signal; value = value })) p.old p.new out.old out.new }
+    ensures { Does K.text K.faults (asks_notification (caller by.now) q (record { signal = signal; value = value })) p.old p.new out.old out.new }
 {
     if is_notifying(p, q) {
-        p.returns(t, call, Res::Busy, 0, out);
+        p.returns(by, Res::Busy, 0, out);
     } else {
-        register(p, t, call, q, Registration::new(signal, value), out);
+        register(p, by, q, Registration::new(signal, value), out);
     }
 }

@@ -1,4 +1,4 @@
-// What a signal does to the thread that takes it.
+//! What a signal does to the thread that takes it.
 ghost use Rattle.std.specs.Prelude.{◌≤◌, ◌<◌, Contains, length};
 ghost use Rattle.words_numbers.specs.declared.res.Res.TheVariants as res;
 ghost use Rattle.rules_machine.specs.Delivery.{acts, catches, interrupts};
@@ -34,7 +34,7 @@ fn interrupt<K: Sink>(p: &mut Parts, t: Tid, out: &mut Tracer<'_, K>)
     requires { CanInterrupt p.old t }
     ensures { Does K.text K.faults (λ s. interrupts (waiting_of s.machine t) t s) p.old p.new out.old out.new }
 {
-    match p.interrupted(t) {
+    match p.thread(t).interrupted(p.instant()) {
         None => return,
         Some(left) => p.wake(t, Res::Intr, left, out),
     }

@@ -1,4 +1,4 @@
-// Generating a signal that no call sends: the expiry of a timer, or the notification of a message queue.
+//! Generating a signal that no call sends: the expiry of a timer, or the notification of a message queue.
 ghost use Rattle.std.specs.Prelude.{◌≡◌, ◌<◌, ◌^◌, IfSome, None, length};
 ghost use Rattle.rules_machine.specs.Signals.{acceptor, generates};
 ghost use Rattle.kernel_state.specs.Caught.{HasRoomToPend};

@@ -1,4 +1,4 @@
-// The sweep: the delivery of pending signals.
+//! The sweep: the delivery of pending signals.
 ghost use Rattle.std.specs.Prelude.{◌≡◌, ◌≤◌, ◌<◌, ◌^◌, [], length};
 ghost use Rattle.rules_machine.specs.Delivery.{sweeps, sweeps_all, sweeps_thread};
 ghost use Rattle.rules_machine.specs.Threads.{thread_at, thread_numbers};

@@ -1,19 +1,19 @@
-// Interval timers: setting and reading them, and their expiries.
+//! Interval timers: setting and reading them, and their expiries.
 ghost use Rattle.std.specs.Prelude.{◌≡◌, ◌≤◌, ◌<◌, ◌+◌, ◌^◌, length};
 ghost use Rattle.rules_machine.specs.Signals.{generates};
 ghost use Rattle.rules_machine.specs.Threads.{timer_at};
 ghost use Rattle.rules_machine.specs.Timers.{expires, first_expiry, reads_overrun, reads_timer, record_of_timer, sets_timer, signals_expiry};
-ghost use Rattle.kernel_state.specs.Kernel.{after, by};
+ghost use Rattle.kernel_state.specs.Kernel.{after};
 ghost use Rattle.kernel_state.specs.Does.{Does};
+ghost use Rattle.kernel_state.specs.Caller.{caller};
 ghost use Rattle.kernel_state.specs.Pending.{SignalsFit};
 ghost use Rattle.calls_signals.specs.Premises.{CanExpire, CanGenerate};
 
 use crate::generation::generate;
-use kernel_state::Parts;
+use kernel_state::{Caller, Parts};
 use parts_io::Sink;
 use parts_tracer::Tracer;
-use words_numbers::{ObjId, Res, Tick, Tid};
-use words_script::Call;
+use words_numbers::{ObjId, Res, Tick};
 
 /// When a timer that is set for so many ticks from now first expires. `None` exactly where that is 0: it is disarmed.
 pub fn expiry_after(now: Tick, n: u64) -> Option<Tick>
@@ -35,46 +35,39 @@ pub fn expiry_at(at: Tick) -> Option<Tick>
 /// `None` it is disarmed.
 pub fn timer_settime<K: Sink>(
     p: &mut Parts,
-    t: Tid,
-    call: &Call,
+    by: &Caller<'_>,
     k: ObjId,
     due: Option<Tick>,
     interval: u64,
     out: &mut Tracer<'_, K>,
 )
-    requires known { t < length p.old.names }
+    requires known { by.now.thread < length p.old.names }
     requires timer { k < length p.old.machine.timers }
     requires interval { interval ≤ 10 ^ 18 }
-    ensures { Does K.text K.faults (sets_timer (by t call.now) k due interval) p.old p.new out.old out.new }
+    ensures { Does K.text K.faults (sets_timer (caller by.now) k due interval) p.old p.new out.old out.new }
 {
     p.set_timer(k, due, interval);
-    p.returns(t, call, Res::Zero, 0, out);
+    p.returns(by, Res::Zero, 0, out);
 }
 
 /// `timer_gettime`: the answer is the ticks from now until the timer expires; 0 where it is disarmed, or due by now.
-pub fn timer_gettime<K: Sink>(p: &mut Parts, t: Tid, call: &Call, k: ObjId, out: &mut Tracer<'_, K>)
-    requires known { t < length p.old.names }
+pub fn timer_gettime<K: Sink>(p: &mut Parts, by: &Caller<'_>, k: ObjId, out: &mut Tracer<'_, K>)
+    requires known { by.now.thread < length p.old.names }
     requires timer { k < length p.old.machine.timers }
-    ensures { Does K.text K.faults (reads_timer (by t call.now) k) p.old p.new out.old out.new }
+    ensures { Does K.text K.faults (reads_timer (caller by.now) k) p.old p.new out.old out.new }
 {
-    let left = p.ticks_to_expiry(k);
-    p.returns(t, call, Res::Zero, left, out);
+    let left = p.timer(k).ticks_left(p.instant());
+    p.returns(by, Res::Zero, left, out);
 }
 
 /// `timer_getoverrun`: the answer is the overrun of the timer's last signal, at most 2,147,483,647.
-pub fn timer_getoverrun<K: Sink>(
-    p: &mut Parts,
-    t: Tid,
-    call: &Call,
-    k: ObjId,
-    out: &mut Tracer<'_, K>,
-)
-    requires known { t < length p.old.names }
+pub fn timer_getoverrun<K: Sink>(p: &mut Parts, by: &Caller<'_>, k: ObjId, out: &mut Tracer<'_, K>)
+    requires known { by.now.thread < length p.old.names }
     requires timer { k < length p.old.machine.timers }
-    ensures { Does K.text K.faults (reads_overrun (by t call.now) k) p.old p.new out.old out.new }
+    ensures { Does K.text K.faults (reads_overrun (caller by.now) k) p.old p.new out.old out.new }
 {
-    let overrun = p.overrun(k);
-    p.returns(t, call, Res::Zero, overrun as u64, out);
+    let overrun = p.timer(k).overrun();
+    p.returns(by, Res::Zero, overrun as u64, out);
 }
 
 // The signal of an expiry is generated.

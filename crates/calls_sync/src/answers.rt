@@ -1,4 +1,4 @@
-// How a lock comes out.
+//! How a lock comes out.
 ghost use Rattle.std.specs.Prelude.{◌≡◌, ◌<◌, Some, length};
 ghost use Rattle.rules_machine.specs.Mutexes.{lock_answer, locked_again, trylock_answer};
 ghost use Rattle.rules_machine.specs.State.{Waiting};
@@ -107,7 +107,7 @@ pub(crate) fn answer_as_owner(p: &Parts, w: Tid) -> Res
     requires { w < length p.now.names }
     ensures { (v : Waiting) → waiting_of p.now.machine w ≡ Some v → result ≡ owner_answer v.wait }
 {
-    match p.wait(w) {
+    match p.thread(w).wait() {
         None => Res::Zero,
         Some(wait) => owner_answer(&wait),
     }
@@ -129,7 +129,7 @@ pub(crate) fn is_cancelled_waiter(p: &Parts, w: Tid) -> bool
     requires { w < length p.now.names }
     ensures { (v : Waiting) → waiting_of p.now.machine w ≡ Some v → result ≡ is_cancelled_wait v.wait }
 {
-    match p.wait(w) {
+    match p.thread(w).wait() {
         None => false,
         Some(wait) => is_cancelled_wait(&wait),
     }

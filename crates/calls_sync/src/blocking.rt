@@ -1,37 +1,35 @@
-// A call that must wait.
+//! A call that must wait.
 ghost use Rattle.std.specs.Prelude.{◌≡◌, None};
 ghost use Rattle.rules_machine.specs.Priorities.{mutex_waited};
 ghost use Rattle.rules_machine.specs.Semaphores.{blocks_unless_late};
 ghost use Rattle.kernel_threads.specs.Plain.{wait_of};
-ghost use Rattle.kernel_state.specs.Kernel.{by};
 ghost use Rattle.kernel_state.specs.Does.{Does};
+ghost use Rattle.kernel_state.specs.Caller.{caller};
 ghost use Rattle.kernel_state.specs.Callers.{CanBlock};
 
 use crate::answers::is_late;
-use kernel_state::Parts;
+use kernel_state::{Caller, Parts};
 use kernel_threads::Wait;
 use parts_io::Sink;
 use parts_tracer::Tracer;
-use words_numbers::{Res, Tick, Tid};
-use words_script::Call;
+use words_numbers::{Res, Tick};
 
 /// The caller waits for something that is no mutex, until that tick where there is one; where the tick is not in the future, its call
 /// returns at once.
 pub fn block_unless_late<K: Sink>(
     p: &mut Parts,
-    t: Tid,
-    call: &Call,
+    by: &Caller<'_>,
     wait: Wait,
     due: Option<Tick>,
     out: &mut Tracer<'_, K>,
 )
-    requires can { CanBlock p.old t }
+    requires can { CanBlock p.old by.now.thread }
     requires other { mutex_waited (wait_of wait) ≡ None }
-    ensures { Does K.text K.faults (blocks_unless_late (by t call.now) (wait_of wait) due) p.old p.new out.old out.new }
+    ensures { Does K.text K.faults (blocks_unless_late (caller by.now) (wait_of wait) due) p.old p.new out.old out.new }
 {
     if is_late(p, &due) {
-        p.returns(t, call, Res::Timedout, 0, out);
+        p.returns(by, Res::Timedout, 0, out);
     } else {
-        p.block(t, call, wait, due);
+        p.block(by, wait, due);
     }
 }

@@ -1,4 +1,4 @@
-// Conditions.
+//! Conditions.
 ghost use Rattle.std.specs.Prelude.{◌≡◌, ◌<◌, ◌^◌, None, Some, IfSome, length};
 ghost use Rattle.words_numbers.specs.declared.res.Res.TheVariants as res;
 ghost use Rattle.rules_machine.specs.declared.thread.CondEnd.TheVariants as cond_end;
@@ -10,21 +10,20 @@ ghost use Rattle.rules_machine.specs.Threads.{mutex_at, thread_at};
 ghost use Rattle.rules_machine.specs.Turns.{changes_mutex, returns, ◌▷◌};
 ghost use Rattle.rules_machine.specs.Waiters.{waiters};
 ghost use Rattle.rules_machine.specs.Waking.{blocks};
-ghost use Rattle.kernel_state.specs.Kernel.{by};
 ghost use Rattle.kernel_state.specs.Does.{Does};
+ghost use Rattle.kernel_state.specs.Caller.{caller};
 ghost use Rattle.calls_sync.specs.Waits.{OwnsNone};
 ghost use Rattle.kernel_state.specs.Callers.{CanRise, IsRunning};
 ghost use Rattle.calls_sync.specs.Premises.{CanBroadcast, CanContend};
 
 use crate::mutexes::release;
-use kernel_state::Parts;
+use kernel_state::{Caller, Parts};
 use kernel_threads::Wait;
 use parts_io::Sink;
 use parts_tracer::Tracer;
 use parts_waiters::WaitObj;
 use rules_machine::CondEnd;
 use words_numbers::{ObjId, Res, Tick, Tid};
-use words_script::Call;
 
 // A condition wait is over, with the mutex owned again.
 fn return_from_wait<K: Sink>(p: &mut Parts, t: Tid, how: CondEnd, out: &mut Tracer<'_, K>)
@@ -88,46 +87,44 @@ pub fn contend<K: Sink>(p: &mut Parts, t: Tid, how: CondEnd, out: &mut Tracer<'_
 #[tactic(auto, using(crate::proofs::Resting::blocked_on_condition, crate::proofs::Resting::only_blocked))]
 fn block_and_release<K: Sink>(
     p: &mut Parts,
-    t: Tid,
-    call: &Call,
+    by: &Caller<'_>,
     c: ObjId,
     k: ObjId,
     due: Option<Tick>,
     out: &mut Tracer<'_, K>,
 )
-    requires caller { IsRunning p.old t }
+    requires caller { IsRunning p.old by.now.thread }
     requires mutex { k < length p.old.machine.mutexes }
-    requires owned { (mutex_at p.old.machine k).owner ≡ Some t }
+    requires owned { (mutex_at p.old.machine k).owner ≡ Some by.now.thread }
     requires can { CanContend p.old }
-    ensures { Does K.text K.faults (λ s. s ▷ blocks (by t call.now) (for_condition c k) due ▷ releases k) p.old p.new out.old out.new }
+    ensures { Does K.text K.faults (λ s. s ▷ blocks (caller by.now) (for_condition c k) due ▷ releases k) p.old p.new out.old out.new }
 {
-    p.block(t, call, Wait::Condition(c, k), due);
-    release(p, t, k, out);
+    p.block(by, Wait::Condition(c, k), due);
+    release(p, by.thread, k, out);
 }
 
 /// `pthread_cond_wait`, and with a time `pthread_cond_timedwait`.
 pub fn cond_wait<K: Sink>(
     p: &mut Parts,
-    t: Tid,
-    call: &Call,
+    by: &Caller<'_>,
     c: ObjId,
     k: ObjId,
     due: Option<Tick>,
     out: &mut Tracer<'_, K>,
 )
-    requires caller { IsRunning p.old t }
+    requires caller { IsRunning p.old by.now.thread }
     requires mutex { k < length p.old.machine.mutexes }
     requires can { CanContend p.old }
-    ensures { Does K.text K.faults (waits (by t call.now) c k due) p.old p.new out.old out.new }
+    ensures { Does K.text K.faults (waits (caller by.now) c k due) p.old p.new out.old out.new }
 {
-    if !p.mutex(k).is_owned_by(t) {
-        p.returns(t, call, Res::Perm, 0, out);
+    if !p.mutex(k).is_owned_by(by.thread) {
+        p.returns(by, Res::Perm, 0, out);
     } else if p.mutex(k).count() > 1 || p.is_bound_elsewhere(c, k) {
-        p.returns(t, call, Res::Inval, 0, out);
-    } else if p.owned_count(t) > 1 {
-        p.returns(t, call, Res::Deadlk, 0, out);
+        p.returns(by, Res::Inval, 0, out);
+    } else if p.owned_count(by.thread) > 1 {
+        p.returns(by, Res::Deadlk, 0, out);
     } else {
-        block_and_release(p, t, call, c, k, due, out);
+        block_and_release(p, by, c, k, due, out);
     }
 }
 
@@ -155,28 +152,22 @@ fn signal_all<K: Sink>(p: &mut Parts, c: ObjId, out: &mut Tracer<'_, K>)
 
 /// `pthread_cond_broadcast`.
 #[tactic(auto, using(crate::proofs::Returned::returned_fits))]
-pub fn cond_broadcast<K: Sink>(
-    p: &mut Parts,
-    t: Tid,
-    call: &Call,
-    c: ObjId,
-    out: &mut Tracer<'_, K>,
-)
-    requires known { t < length p.old.names }
+pub fn cond_broadcast<K: Sink>(p: &mut Parts, by: &Caller<'_>, c: ObjId, out: &mut Tracer<'_, K>)
+    requires known { by.now.thread < length p.old.names }
     requires can { CanBroadcast p.old }
-    ensures { Does K.text K.faults (broadcasts (by t call.now) c) p.old p.new out.old out.new }
+    ensures { Does K.text K.faults (broadcasts (caller by.now) c) p.old p.new out.old out.new }
 {
-    p.returns(t, call, Res::Zero, 0, out);
+    p.returns(by, Res::Zero, 0, out);
     signal_all(p, c, out);
 }
 
 /// `pthread_cond_signal`.
 #[tactic(auto, using(crate::proofs::Returned::returned_fits))]
-pub fn cond_signal<K: Sink>(p: &mut Parts, t: Tid, call: &Call, c: ObjId, out: &mut Tracer<'_, K>)
-    requires known { t < length p.old.names }
+pub fn cond_signal<K: Sink>(p: &mut Parts, by: &Caller<'_>, c: ObjId, out: &mut Tracer<'_, K>)
+    requires known { by.now.thread < length p.old.names }
     requires can { CanContend p.old }
-    ensures { Does K.text K.faults (signals (by t call.now) c) p.old p.new out.old out.new }
+    ensures { Does K.text K.faults (signals (caller by.now) c) p.old p.new out.old out.new }
 {
-    p.returns(t, call, Res::Zero, 0, out);
+    p.returns(by, Res::Zero, 0, out);
     signal_best(p, c, out);
 }

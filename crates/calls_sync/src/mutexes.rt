@@ -1,12 +1,12 @@
-// Locking and unlocking.
+//! Locking and unlocking.
 ghost use Rattle.std.specs.Prelude.{◌≡◌, ◌<◌, ◌==◌, None, Some, IfSome, false, length, option_map};
 ghost use Rattle.words_numbers.specs.declared.res.Res.TheVariants as res;
 ghost use Rattle.rules_machine.specs.Mutexes.{counted_up, counted_down, locks, carries_out_lock, recursion_limit, releases, taken_by, tries_lock, unlocks, waits_for_mutex};
 ghost use Rattle.rules_machine.specs.Threads.{mutex_at};
 ghost use Rattle.rules_machine.specs.Turns.{changes_mutex, returns, ◌▷◌};
 ghost use Rattle.rules_machine.specs.Waiters.{Waiter, best_waiter};
-ghost use Rattle.kernel_state.specs.Kernel.{by};
 ghost use Rattle.kernel_state.specs.Does.{Does};
+ghost use Rattle.kernel_state.specs.Caller.{caller};
 ghost use Rattle.calls_sync.specs.Answers.{CanAct, answer_of};
 ghost use Rattle.kernel_state.specs.Callers.{CanBlock, CanWake, IsRunning};
 ghost use Rattle.calls_sync.specs.Premises.{CanRelease};
@@ -14,60 +14,58 @@ ghost use Rattle.calls_sync.specs.Premises.{CanRelease};
 use crate::answers::{
     LockAnswer, answer_as_owner, is_cancelled_waiter, lock_answer, trylock_answer,
 };
-use kernel_state::Parts;
+use kernel_state::{Caller, Parts};
 use kernel_threads::Wait;
 use parts_io::Sink;
 use parts_tracer::Tracer;
 use parts_waiters::WaitObj;
 use words_numbers::{ObjId, Res, Tick, Tid};
-use words_script::Call;
 
 // The caller's mutex is counted once more.
-fn count_up<K: Sink>(p: &mut Parts, t: Tid, call: &Call, k: ObjId, out: &mut Tracer<'_, K>)
-    requires known { t < length p.old.names }
+fn count_up<K: Sink>(p: &mut Parts, by: &Caller<'_>, k: ObjId, out: &mut Tracer<'_, K>)
+    requires known { by.now.thread < length p.old.names }
     requires mutex { k < length p.old.machine.mutexes }
     requires below { ((mutex_at p.old.machine k).count == recursion_limit) ≡ false }
-    ensures { Does K.text K.faults (λ s. s ▷ changes_mutex k counted_up ▷ returns (by t call.now) res.Zero 0) p.old p.new out.old out.new }
+    ensures { Does K.text K.faults (λ s. s ▷ changes_mutex k counted_up ▷ returns (caller by.now) res.Zero 0) p.old p.new out.old out.new }
 {
     let count = p.mutex(k).count();
     p.set_count(k, count + 1);
-    p.returns(t, call, Res::Zero, 0, out);
+    p.returns(by, Res::Zero, 0, out);
 }
 
 // The caller takes the mutex, which was free.
 #[inline(always)]
 #[tactic(auto, using(crate::proofs::Acts::awaits_none))]
-fn take<K: Sink>(p: &mut Parts, t: Tid, call: &Call, k: ObjId, out: &mut Tracer<'_, K>)
-    requires caller { IsRunning p.old t }
+fn take<K: Sink>(p: &mut Parts, by: &Caller<'_>, k: ObjId, out: &mut Tracer<'_, K>)
+    requires caller { IsRunning p.old by.now.thread }
     requires mutex { k < length p.old.machine.mutexes }
     requires free { (mutex_at p.old.machine k).owner ≡ None }
-    ensures { Does K.text K.faults (λ s. s ▷ changes_mutex k (taken_by t) ▷ returns (by t call.now) res.Zero 0) p.old p.new out.old out.new }
+    ensures { Does K.text K.faults (λ s. s ▷ changes_mutex k (taken_by by.now.thread) ▷ returns (caller by.now) res.Zero 0) p.old p.new out.old out.new }
 {
-    p.take_mutex(k, t);
-    p.returns(t, call, Res::Zero, 0, out);
+    p.take_mutex(k, by.thread);
+    p.returns(by, Res::Zero, 0, out);
 }
 
 // What an answer does.
 #[inline(always)]
 fn act<K: Sink>(
     p: &mut Parts,
-    t: Tid,
-    call: &Call,
+    by: &Caller<'_>,
     k: ObjId,
     due: Option<Tick>,
     answer: LockAnswer,
     out: &mut Tracer<'_, K>,
 )
-    requires caller { CanBlock p.old t }
+    requires caller { CanBlock p.old by.now.thread }
     requires mutex { k < length p.old.machine.mutexes }
-    requires can { CanAct p.old.machine t k (answer_of answer) }
-    ensures { Does K.text K.faults (carries_out_lock (answer_of answer) (by t call.now) k due) p.old p.new out.old out.new }
+    requires can { CanAct p.old.machine by.now.thread k (answer_of answer) }
+    ensures { Does K.text K.faults (carries_out_lock (answer_of answer) (caller by.now) k due) p.old p.new out.old out.new }
 {
     match answer {
-        LockAnswer::Refused(refusal) => p.returns(t, call, refusal, 0, out),
-        LockAnswer::Counts => count_up(p, t, call, k, out),
-        LockAnswer::Takes => take(p, t, call, k, out),
-        LockAnswer::MustWait => p.block(t, call, Wait::Mutex(k), due),
+        LockAnswer::Refused(refusal) => p.returns(by, refusal, 0, out),
+        LockAnswer::Counts => count_up(p, by, k, out),
+        LockAnswer::Takes => take(p, by, k, out),
+        LockAnswer::MustWait => p.block(by, Wait::Mutex(k), due),
     }
 }
 
@@ -76,20 +74,19 @@ fn act<K: Sink>(
 #[tactic(auto, using(crate::proofs::Acts::awaits_none))]
 pub fn mutex_lock<K: Sink>(
     p: &mut Parts,
-    t: Tid,
-    call: &Call,
+    by: &Caller<'_>,
     k: ObjId,
     due: Option<Tick>,
     out: &mut Tracer<'_, K>,
 )
-    requires can { CanBlock p.old t }
+    requires can { CanBlock p.old by.now.thread }
     requires mutex { k < length p.old.machine.mutexes }
-    ensures { Does K.text K.faults (locks (by t call.now) k due) p.old p.new out.old out.new }
+    ensures { Does K.text K.faults (locks (caller by.now) k due) p.old p.new out.old out.new }
 {
-    if p.take_at_once(k, t) {
-        p.returns(t, call, Res::Zero, 0, out);
+    if p.take_at_once(k, by.thread) {
+        p.returns(by, Res::Zero, 0, out);
     } else {
-        lock_any(p, t, call, k, due, out);
+        lock_any(p, by, k, due, out);
     }
 }
 
@@ -98,29 +95,28 @@ pub fn mutex_lock<K: Sink>(
 #[tactic(auto, using(crate::proofs::Acts::lock_acts))]
 fn lock_any<K: Sink>(
     p: &mut Parts,
-    t: Tid,
-    call: &Call,
+    by: &Caller<'_>,
     k: ObjId,
     due: Option<Tick>,
     out: &mut Tracer<'_, K>,
 )
-    requires can { CanBlock p.old t }
+    requires can { CanBlock p.old by.now.thread }
     requires mutex { k < length p.old.machine.mutexes }
-    ensures { Does K.text K.faults (locks (by t call.now) k due) p.old p.new out.old out.new }
+    ensures { Does K.text K.faults (locks (caller by.now) k due) p.old p.new out.old out.new }
 {
-    let answer = lock_answer(p, t, k, &due);
-    act(p, t, call, k, due, answer, out);
+    let answer = lock_answer(p, by.thread, k, &due);
+    act(p, by, k, due, answer, out);
 }
 
 /// `pthread_mutex_trylock`. It never waits.
 #[tactic(auto, using(crate::proofs::Acts::trylock_can))]
-pub fn mutex_trylock<K: Sink>(p: &mut Parts, t: Tid, call: &Call, k: ObjId, out: &mut Tracer<'_, K>)
-    requires can { CanBlock p.old t }
+pub fn mutex_trylock<K: Sink>(p: &mut Parts, by: &Caller<'_>, k: ObjId, out: &mut Tracer<'_, K>)
+    requires can { CanBlock p.old by.now.thread }
     requires mutex { k < length p.old.machine.mutexes }
-    ensures { Does K.text K.faults (tries_lock (by t call.now) k) p.old p.new out.old out.new }
+    ensures { Does K.text K.faults (tries_lock (caller by.now) k) p.old p.new out.old out.new }
 {
-    let answer = trylock_answer(p, t, k);
-    act(p, t, call, k, None, answer, out);
+    let answer = trylock_answer(p, by.thread, k);
+    act(p, by, k, None, answer, out);
 }
 
 // The owner's mutex goes to its best waiter.
@@ -152,42 +148,42 @@ pub(crate) fn release<K: Sink>(p: &mut Parts, t: Tid, k: ObjId, out: &mut Tracer
 }
 
 // The caller's mutex is counted once less.
-fn count_down<K: Sink>(p: &mut Parts, t: Tid, call: &Call, k: ObjId, out: &mut Tracer<'_, K>)
-    requires known { t < length p.old.names }
+fn count_down<K: Sink>(p: &mut Parts, by: &Caller<'_>, k: ObjId, out: &mut Tracer<'_, K>)
+    requires known { by.now.thread < length p.old.names }
     requires mutex { k < length p.old.machine.mutexes }
     requires counted { 1 < (mutex_at p.old.machine k).count }
-    ensures { Does K.text K.faults (λ s. s ▷ returns (by t call.now) res.Zero 0 ▷ changes_mutex k counted_down) p.old p.new out.old out.new }
+    ensures { Does K.text K.faults (λ s. s ▷ returns (caller by.now) res.Zero 0 ▷ changes_mutex k counted_down) p.old p.new out.old out.new }
 {
-    p.returns(t, call, Res::Zero, 0, out);
+    p.returns(by, Res::Zero, 0, out);
     let count = p.mutex(k).count();
     p.set_count(k, count - 1);
 }
 
 // The caller, which has locked the mutex once, gives it up.
 #[tactic(auto, using(crate::proofs::Returned::returned_waiters))]
-fn give_up<K: Sink>(p: &mut Parts, t: Tid, call: &Call, k: ObjId, out: &mut Tracer<'_, K>)
-    requires caller { IsRunning p.old t }
+fn give_up<K: Sink>(p: &mut Parts, by: &Caller<'_>, k: ObjId, out: &mut Tracer<'_, K>)
+    requires caller { IsRunning p.old by.now.thread }
     requires mutex { k < length p.old.machine.mutexes }
-    requires owned { (mutex_at p.old.machine k).owner ≡ Some t }
+    requires owned { (mutex_at p.old.machine k).owner ≡ Some by.now.thread }
     requires can { CanWake p.old }
-    ensures { Does K.text K.faults (λ s. s ▷ returns (by t call.now) res.Zero 0 ▷ releases k) p.old p.new out.old out.new }
+    ensures { Does K.text K.faults (λ s. s ▷ returns (caller by.now) res.Zero 0 ▷ releases k) p.old p.new out.old out.new }
 {
-    p.returns(t, call, Res::Zero, 0, out);
-    release(p, t, k, out);
+    p.returns(by, Res::Zero, 0, out);
+    release(p, by.thread, k, out);
 }
 
 /// `pthread_mutex_unlock`.
-pub fn mutex_unlock<K: Sink>(p: &mut Parts, t: Tid, call: &Call, k: ObjId, out: &mut Tracer<'_, K>)
-    requires caller { IsRunning p.old t }
+pub fn mutex_unlock<K: Sink>(p: &mut Parts, by: &Caller<'_>, k: ObjId, out: &mut Tracer<'_, K>)
+    requires caller { IsRunning p.old by.now.thread }
     requires mutex { k < length p.old.machine.mutexes }
     requires can { CanWake p.old }
-    ensures { Does K.text K.faults (unlocks (by t call.now) k) p.old p.new out.old out.new }
+    ensures { Does K.text K.faults (unlocks (caller by.now) k) p.old p.new out.old out.new }
 {
-    if !p.mutex(k).is_owned_by(t) {
-        p.returns(t, call, Res::Perm, 0, out);
+    if !p.mutex(k).is_owned_by(by.thread) {
+        p.returns(by, Res::Perm, 0, out);
     } else if p.mutex(k).count() > 1 {
-        count_down(p, t, call, k, out);
+        count_down(p, by, k, out);
     } else {
-        give_up(p, t, call, k, out);
+        give_up(p, by, k, out);
     }
 }

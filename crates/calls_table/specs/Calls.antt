@@ -42,3 +42,10 @@ pub record CanCall (k : Kernel) (t : ℕ) : Type 0 where
   pub serial : k.machine.next_serial < 2 ^ 62
   pub room : length k.direct < 128
   pub early : k.machine.now ≤ 10 ^ 18
+
+-- a thread can start another, or give it a policy: there is room for its move, and its server can be activated
+pub record CanStart (k : Kernel) (t u : ℕ) : Type 0 where
+  pub known : t < length k.names
+  pub thread : u < length k.names
+  pub room : length k.direct < 256
+  pub early : k.machine.now ≤ 10 ^ 18

@@ -1,4 +1,4 @@
-// The due items.
+//! The due items.
 ghost use Rattle.std.specs.Prelude.{◌≡◌, ◌≤◌, ◌<◌, ◌^◌, [], length, true, false};
 ghost use Rattle.rules_machine.specs.Threads.{is_blocked, thread_at, waiting_of};
 ghost use Rattle.rules_machine.specs.Turns.{settles_since, ◌▷◌};
@@ -44,10 +44,10 @@ fn refill<K: Sink>(p: &mut Parts, t: Tid, out: &mut Tracer<'_, K>)
     requires early { p.old.machine.now ≤ 10 ^ 18 }
     ensures { Does K.text K.faults (refills t) p.old p.new out.old out.new }
 {
-    if !p.has_server(t) {
+    if !p.thread(t).has_server() {
         return;
     }
-    let runs = p.is_runnable(t);
+    let runs = p.thread(t).is_runnable();
     let r = p.refill_thread(t);
     tell_refill(p, t, &r, runs, out);
 }
@@ -58,7 +58,7 @@ fn time_out<K: Sink>(p: &mut Parts, t: Tid, out: &mut Tracer<'_, K>)
     requires can { CanContend p.old }
     ensures { Does K.text K.faults (λ s. times_out (waiting_of s.machine t) t s) p.old p.new out.old out.new }
 {
-    match p.wait(t) {
+    match p.thread(t).wait() {
         None => return,
         Some(Wait::Time) => p.wake(t, Res::Zero, 0, out),
         Some(Wait::Mutex(_)) => p.wake(t, Res::Timedout, 0, out),

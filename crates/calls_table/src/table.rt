@@ -1,4 +1,4 @@
-// The table of calls: the effect of each.
+//! The table of calls: the effect of each.
 ghost use Rattle.std.specs.Prelude.{length};
 ghost use Rattle.rules_machine.specs.Threads.{thread_at};
 ghost use Rattle.rules_machine.specs.Turns.{returns};
@@ -6,13 +6,14 @@ ghost use Rattle.rules_machine.specs.Calls.{call_effect, makes_call};
 ghost use Rattle.calls_table.specs.Calls.{CanCall, HasRoomFor, objects_in};
 ghost use Rattle.rules_flat_code.specs.FlatBodies.{flat_bodies};
 ghost use Rattle.rules_flat_code.specs.Runnable.{CallIsRunnable};
-ghost use Rattle.kernel_state.specs.Kernel.{by};
 ghost use Rattle.kernel_state.specs.Does.{Does};
+ghost use Rattle.kernel_state.specs.Caller.{caller};
+ghost use Rattle.kernel_state.specs.Kernel.{by};
 
 use crate::lives::make_create;
 use crate::scheduling::{make_setprio, make_setsched, make_yield};
 use crate::time::{end_of_sleep, sleep_until};
-use calls_queues::{mq_notify, mq_receive, mq_send};
+use calls_queues::{Outgoing, mq_notify, mq_receive, mq_send};
 use calls_signals::{
     expiry_after, expiry_at, kill, sigmask_block, sigmask_set, sigmask_unblock, sigqueue,
     sigtimedwait, timer_getoverrun, timer_gettime, timer_settime, tkill,
@@ -24,7 +25,7 @@ use calls_sync::{
 use calls_threads::{
     acts_in_place, cancel, exit, join, pop_cleanup, push_cleanup, set_cancelability,
 };
-use kernel_state::Parts;
+use kernel_state::{Caller, Parts};
 use parts_io::Sink;
 use parts_tracer::Tracer;
 use words_numbers::{Res, Tid};
@@ -32,68 +33,74 @@ use words_script::Call;
 
 /// The effect of a call.
 #[inline(always)]
-fn do_call<K: Sink>(p: &mut Parts, t: Tid, call: &Call, out: &mut Tracer<'_, K>)
-    requires caller { CanCall p.old t }
-    requires runnable { CallIsRunnable (objects_in p.old) call.now }
-    requires guards { HasRoomFor (length p.old.code.cleanups) (thread_at p.old.machine t) call.now }
-    ensures { Does K.text K.faults (call_effect (flat_bodies p.old.code) (by t call.now) call.now) p.old p.new out.old out.new }
+fn do_call<K: Sink>(p: &mut Parts, by: &Caller<'_>, out: &mut Tracer<'_, K>)
+    requires caller { CanCall p.old by.now.thread }
+    requires runnable { CallIsRunnable (objects_in p.old) by.now.call.now }
+    requires guards { HasRoomFor (length p.old.code.cleanups) (thread_at p.old.machine by.now.thread) by.now.call.now }
+    ensures { Does K.text K.faults (call_effect (flat_bodies p.old.code) (caller by.now) by.now.call.now) p.old p.new out.old out.new }
 {
-    match call {
-        Call::Yield => make_yield(p, t, call, out),
-        Call::Create(u) => make_create(p, t, call, *u, out),
-        Call::Join(u) => join(p, t, call, *u, out),
-        Call::Cancel(u) => cancel(p, t, call, *u, out),
-        Call::Testcancel => p.returns(t, call, Res::Zero, 0, out),
-        Call::Setcancel(on) => set_cancelability(p, t, call, *on, out),
-        Call::Push(u) => push_cleanup(p, t, call, *u, out),
-        Call::Pop(runs) => pop_cleanup(p, t, call, *runs, out),
-        Call::Exit(v) => exit(p, t, call, p.number(t, v)),
-        Call::Setprio(u, prio) => make_setprio(p, t, call, *u, *prio, out),
-        Call::Setsched(u, policy) => make_setsched(p, t, call, *u, *policy, out),
-        Call::Lock(k) => mutex_lock(p, t, call, *k, None, out),
-        Call::Timedlock { mutex, at } => mutex_lock(p, t, call, *mutex, Some(p.moment(t, at)), out),
-        Call::Trylock(k) => mutex_trylock(p, t, call, *k, out),
-        Call::Unlock(k) => mutex_unlock(p, t, call, *k, out),
-        Call::Wait(c, k) => cond_wait(p, t, call, *c, *k, None, out),
+    match by.call {
+        Call::Yield => make_yield(p, by, out),
+        Call::Create(u) => make_create(p, by, *u, out),
+        Call::Join(u) => join(p, by, *u, out),
+        Call::Cancel(u) => cancel(p, by, *u, out),
+        Call::Testcancel => p.returns(by, Res::Zero, 0, out),
+        Call::Setcancel(on) => set_cancelability(p, by, *on, out),
+        Call::Push(u) => push_cleanup(p, by, *u, out),
+        Call::Pop(runs) => pop_cleanup(p, by, *runs, out),
+        Call::Exit(v) => exit(p, by, p.number(by.thread, v)),
+        Call::Setprio(u, prio) => make_setprio(p, by, *u, *prio, out),
+        Call::Setsched(u, policy) => make_setsched(p, by, *u, *policy, out),
+        Call::Lock(k) => mutex_lock(p, by, *k, None, out),
+        Call::Timedlock { mutex, at } => mutex_lock(
+            p,
+            by,
+            *mutex,
+            Some(p.moment(by.thread, at)),
+            out,
+        ),
+        Call::Trylock(k) => mutex_trylock(p, by, *k, out),
+        Call::Unlock(k) => mutex_unlock(p, by, *k, out),
+        Call::Wait(c, k) => cond_wait(p, by, *c, *k, None, out),
         Call::Timedwait { cond, mutex, at } => {
-            cond_wait(p, t, call, *cond, *mutex, Some(p.moment(t, at)), out)
+            cond_wait(p, by, *cond, *mutex, Some(p.moment(by.thread, at)), out)
         }
-        Call::Signal(c) => cond_signal(p, t, call, *c, out),
-        Call::Broadcast(c) => cond_broadcast(p, t, call, *c, out),
-        Call::SemWait(k) => sem_wait(p, t, call, *k, None, out),
-        Call::SemTimedwait { sem, at } => sem_wait(p, t, call, *sem, Some(p.moment(t, at)), out),
-        Call::SemTrywait(k) => sem_trywait(p, t, call, *k, out),
-        Call::SemGetvalue(k) => sem_getvalue(p, t, call, *k, out),
-        Call::SemPost(k) => sem_post(p, t, call, *k, out),
-        Call::Nanosleep(n) => sleep_until(p, t, call, end_of_sleep(p.instant(), *n), out),
-        Call::ClockNanosleep { at } => sleep_until(p, t, call, p.moment(t, at), out),
-        Call::Gettime => p.returns(t, call, Res::Zero, p.instant().get(), out),
+        Call::Signal(c) => cond_signal(p, by, *c, out),
+        Call::Broadcast(c) => cond_broadcast(p, by, *c, out),
+        Call::SemWait(k) => sem_wait(p, by, *k, None, out),
+        Call::SemTimedwait { sem, at } => sem_wait(p, by, *sem, Some(p.moment(by.thread, at)), out),
+        Call::SemTrywait(k) => sem_trywait(p, by, *k, out),
+        Call::SemGetvalue(k) => sem_getvalue(p, by, *k, out),
+        Call::SemPost(k) => sem_post(p, by, *k, out),
+        Call::Nanosleep(n) => sleep_until(p, by, end_of_sleep(p.instant(), *n), out),
+        Call::ClockNanosleep { at } => sleep_until(p, by, p.moment(by.thread, at), out),
+        Call::Gettime => p.returns(by, Res::Zero, p.instant().get(), out),
         Call::TimerSettimeRel(k, n, interval) => {
+            timer_settime(p, by, *k, expiry_after(p.instant(), *n), *interval, out)
+        }
+        Call::TimerSettimeAbs(k, at, interval) => {
             timer_settime(
                 p,
-                t,
-                call,
+                by,
                 *k,
-                expiry_after(p.instant(), *n),
+                expiry_at(p.moment(by.thread, at)),
                 *interval,
                 out,
             )
         }
-        Call::TimerSettimeAbs(k, at, interval) => {
-            timer_settime(p, t, call, *k, expiry_at(p.moment(t, at)), *interval, out)
-        }
-        Call::TimerGettime(k) => timer_gettime(p, t, call, *k, out),
-        Call::TimerGetoverrun(k) => timer_getoverrun(p, t, call, *k, out),
-        Call::Kill(signal) => kill(p, t, call, *signal, out),
-        Call::Tkill(u, signal) => tkill(p, t, call, *u, *signal, out),
-        Call::Sigqueue(signal, v) => sigqueue(p, t, call, *signal, p.number(t, v), out),
-        Call::SigmaskBlock(set) => sigmask_block(p, t, call, *set, out),
-        Call::SigmaskUnblock(set) => sigmask_unblock(p, t, call, *set, out),
-        Call::SigmaskSet(set) => sigmask_set(p, t, call, *set, out),
-        Call::Sigwaitinfo(set) => sigtimedwait(p, t, call, *set, None, out),
-        Call::Sigtimedwait(set, n) => sigtimedwait(p, t, call, *set, Some(*n), out),
-        Call::MqSend(q, len, priority, v) => {
-            mq_send(p, t, call, *q, *len, *priority, p.number(t, v), None, out)
+        Call::TimerGettime(k) => timer_gettime(p, by, *k, out),
+        Call::TimerGetoverrun(k) => timer_getoverrun(p, by, *k, out),
+        Call::Kill(signal) => kill(p, by, *signal, out),
+        Call::Tkill(u, signal) => tkill(p, by, *u, *signal, out),
+        Call::Sigqueue(signal, v) => sigqueue(p, by, *signal, p.number(by.thread, v), out),
+        Call::SigmaskBlock(set) => sigmask_block(p, by, *set, out),
+        Call::SigmaskUnblock(set) => sigmask_unblock(p, by, *set, out),
+        Call::SigmaskSet(set) => sigmask_set(p, by, *set, out),
+        Call::Sigwaitinfo(set) => sigtimedwait(p, by, *set, None, out),
+        Call::Sigtimedwait(set, n) => sigtimedwait(p, by, *set, Some(*n), out),
+        Call::MqSend(q, len, prio, v) => {
+            let outgoing = Outgoing::new(*len, *prio, p.number(by.thread, v));
+            mq_send(p, by, *q, outgoing, None, out)
         }
         Call::MqTimedsend {
             queue,
@@ -101,41 +108,34 @@ fn do_call<K: Sink>(p: &mut Parts, t: Tid, call: &Call, out: &mut Tracer<'_, K>)
             prio,
             value,
             at,
-        } => mq_send(
-            p,
-            t,
-            call,
-            *queue,
-            *len,
-            *prio,
-            p.number(t, value),
-            Some(p.moment(t, at)),
-            out,
-        ),
-        Call::MqReceive(q) => mq_receive(p, t, call, *q, None, out),
+        } => {
+            let outgoing = Outgoing::new(*len, *prio, p.number(by.thread, value));
+            mq_send(p, by, *queue, outgoing, Some(p.moment(by.thread, at)), out)
+        }
+        Call::MqReceive(q) => mq_receive(p, by, *q, None, out),
         Call::MqTimedreceive { queue, at } => mq_receive(
             p,
-            t,
-            call,
+            by,
             *queue,
-            Some(p.moment(t, at)),
+            Some(p.moment(by.thread, at)),
             out,
         ),
-        Call::MqNotify(q, signal, v) => mq_notify(p, t, call, *q, *signal, p.number(t, v), out),
+        Call::MqNotify(q, signal, v) => mq_notify(p, by, *q, *signal, p.number(by.thread, v), out),
     }
 }
 
-/// A call is made, or a request acts in its place.
+/// The thread makes the call, or a request acts in its place.
 #[inline(always)]
-pub fn make_call<K: Sink>(p: &mut Parts, t: Tid, call: &Call, out: &mut Tracer<'_, K>)
-    requires caller { CanCall p.old t }
+pub fn make_call<K: Sink>(p: &mut Parts, thread: Tid, call: &Call, out: &mut Tracer<'_, K>)
+    requires caller { CanCall p.old thread }
     requires runnable { CallIsRunnable (objects_in p.old) call.now }
-    requires guards { HasRoomFor (length p.old.code.cleanups) (thread_at p.old.machine t) call.now }
-    ensures { Does K.text K.faults (makes_call (flat_bodies p.old.code) (by t call.now)) p.old p.new out.old out.new }
+    requires guards { HasRoomFor (length p.old.code.cleanups) (thread_at p.old.machine thread) call.now }
+    ensures { Does K.text K.faults (makes_call (flat_bodies p.old.code) (by thread call.now)) p.old p.new out.old out.new }
 {
-    if acts_in_place(p, t, call) {
-        p.cancel_now(t, out);
+    let by = Caller { thread, call };
+    if acts_in_place(p, &by) {
+        p.cancel_now(thread, out);
     } else {
-        do_call(p, t, call, out);
+        do_call(p, &by, out);
     }
 }

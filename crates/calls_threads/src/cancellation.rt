@@ -1,4 +1,4 @@
-// Cancellation: requests to end, and where they act.
+//! Cancellation: requests to end, and where they act.
 ghost use Rattle.std.specs.Prelude.{◌≡◌, ◌<◌, ◌&&◌, Bool, length};
 ghost use Rattle.words_numbers.specs.declared.res.Res.TheVariants as res;
 ghost use Rattle.rules_machine.specs.Cancellation.{acts_if_blocked, cancels, is_cancellation_point, leaves, leaves_wait, request_acts, requested, sets_cancelability};
@@ -9,43 +9,36 @@ ghost use Rattle.rules_machine.specs.Turns.{changes, returns, ◌▷◌};
 ghost use Rattle.rules_machine.specs.Waking.{wakes_cancelled};
 ghost use Rattle.kernel_threads.specs.Plain.{wait_of};
 ghost use Rattle.kernel_threads.specs.Unused.{IsUnused};
-ghost use Rattle.kernel_state.specs.Kernel.{by};
 ghost use Rattle.kernel_state.specs.Does.{Does};
+ghost use Rattle.kernel_state.specs.Caller.{caller};
 ghost use Rattle.calls_threads.specs.Joins.{EndIsKnown};
 ghost use Rattle.kernel_state.specs.Callers.{CanRise};
 ghost use Rattle.calls_sync.specs.Premises.{CanContend};
 ghost use Rattle.calls_threads.specs.Premises.{CanCancel};
 
 use calls_sync::contend;
-use kernel_state::Parts;
+use kernel_state::{Caller, Parts};
 use kernel_threads::{Joiner, Wait};
 use parts_io::Sink;
 use parts_tracer::Tracer;
 use rules_machine::{CondEnd, is_cancellation_point};
 use words_numbers::{Res, Tid};
-use words_script::Call;
 
 /// Whether a request acts in place of the call.
-pub fn acts_in_place(p: &Parts, t: Tid, call: &Call) -> bool
-    requires { t < length p.now.names }
-    ensures { result ≡ (is_cancellation_point call.now && request_acts (thread_at p.now.machine t)) }
+pub fn acts_in_place(p: &Parts, by: &Caller<'_>) -> bool
+    requires { by.now.thread < length p.now.names }
+    ensures { result ≡ (is_cancellation_point by.now.call.now && request_acts (thread_at p.now.machine by.now.thread)) }
 {
-    is_cancellation_point(call) && p.request_acts(t)
+    is_cancellation_point(by.call) && p.thread(by.thread).request_acts()
 }
 
 /// `pthread_setcancelstate`.
-pub fn set_cancelability<K: Sink>(
-    p: &mut Parts,
-    t: Tid,
-    call: &Call,
-    on: bool,
-    out: &mut Tracer<'_, K>,
-)
-    requires known { t < length p.old.names }
-    ensures { Does K.text K.faults (sets_cancelability (by t call.now) on) p.old p.new out.old out.new }
+pub fn set_cancelability<K: Sink>(p: &mut Parts, by: &Caller<'_>, on: bool, out: &mut Tracer<'_, K>)
+    requires known { by.now.thread < length p.old.names }
+    ensures { Does K.text K.faults (sets_cancelability (caller by.now) on) p.old p.new out.old out.new }
 {
-    p.set_enabled(t, on);
-    p.returns(t, call, Res::Zero, 0, out);
+    p.set_enabled(by.thread, on);
+    p.returns(by, Res::Zero, 0, out);
 }
 
 // A joiner leaves its thread to be joined by another.
@@ -87,7 +80,7 @@ fn leave_wait<K: Sink>(p: &mut Parts, u: Tid, out: &mut Tracer<'_, K>)
     requires can { CanCancel p.old }
     ensures { Does K.text K.faults (λ s. leaves_wait (waiting_of s.machine u) u s) p.old p.new out.old out.new }
 {
-    match p.wait(u) {
+    match p.thread(u).wait() {
         None => return,
         Some(wait) => leave(p, &wait, u, out),
     }
@@ -99,42 +92,42 @@ fn act_if_blocked<K: Sink>(p: &mut Parts, u: Tid, out: &mut Tracer<'_, K>)
     requires can { CanCancel p.old }
     ensures { Does K.text K.faults (acts_if_blocked u) p.old p.new out.old out.new }
 {
-    if p.request_acts(u) {
+    if p.thread(u).request_acts() {
         leave_wait(p, u, out);
     }
 }
 
 // A thread is asked to end, once the call has returned.
-fn ask_to_end<K: Sink>(p: &mut Parts, t: Tid, call: &Call, u: Tid, out: &mut Tracer<'_, K>)
-    requires known { t < length p.old.names }
+fn ask_to_end<K: Sink>(p: &mut Parts, by: &Caller<'_>, u: Tid, out: &mut Tracer<'_, K>)
+    requires known { by.now.thread < length p.old.names }
     requires thread { u < length p.old.names }
-    ensures { Does K.text K.faults (λ s. s ▷ returns (by t call.now) res.Zero 0 ▷ changes u requested) p.old p.new out.old out.new }
+    ensures { Does K.text K.faults (λ s. s ▷ returns (caller by.now) res.Zero 0 ▷ changes u requested) p.old p.new out.old out.new }
 {
-    p.returns(t, call, Res::Zero, 0, out);
+    p.returns(by, Res::Zero, 0, out);
     p.request_end(u);
 }
 
 // A live thread is asked to end, and the request acts where it waits.
-fn cancel_live<K: Sink>(p: &mut Parts, t: Tid, call: &Call, u: Tid, out: &mut Tracer<'_, K>)
-    requires known { t < length p.old.names }
+fn cancel_live<K: Sink>(p: &mut Parts, by: &Caller<'_>, u: Tid, out: &mut Tracer<'_, K>)
+    requires known { by.now.thread < length p.old.names }
     requires thread { u < length p.old.names }
     requires can { CanCancel p.old }
-    ensures { Does K.text K.faults (λ s. s ▷ returns (by t call.now) res.Zero 0 ▷ changes u requested ▷ acts_if_blocked u) p.old p.new out.old out.new }
+    ensures { Does K.text K.faults (λ s. s ▷ returns (caller by.now) res.Zero 0 ▷ changes u requested ▷ acts_if_blocked u) p.old p.new out.old out.new }
 {
-    ask_to_end(p, t, call, u, out);
+    ask_to_end(p, by, u, out);
     act_if_blocked(p, u, out);
 }
 
 /// `pthread_cancel`.
-pub fn cancel<K: Sink>(p: &mut Parts, t: Tid, call: &Call, u: Tid, out: &mut Tracer<'_, K>)
-    requires known { t < length p.old.names }
+pub fn cancel<K: Sink>(p: &mut Parts, by: &Caller<'_>, u: Tid, out: &mut Tracer<'_, K>)
+    requires known { by.now.thread < length p.old.names }
     requires thread { u < length p.old.names }
     requires can { CanCancel p.old }
-    ensures { Does K.text K.faults (cancels (by t call.now) u) p.old p.new out.old out.new }
+    ensures { Does K.text K.faults (cancels (caller by.now) u) p.old p.new out.old out.new }
 {
-    if p.is_live(u) {
-        cancel_live(p, t, call, u, out);
+    if p.thread(u).is_live() {
+        cancel_live(p, by, u, out);
     } else {
-        p.returns(t, call, Res::Srch, 0, out);
+        p.returns(by, Res::Srch, 0, out);
     }
 }

@@ -1,4 +1,4 @@
-// The ends of threads and of handlers.
+//! The ends of threads and of handlers.
 ghost use Rattle.std.specs.Prelude.{◌≡◌, ◌≤◌, ◌<◌, ◌^◌, length};
 ghost use Rattle.words_numbers.specs.declared.res.Res.TheVariants as res;
 ghost use Rattle.words_trace.specs.declared.event.Event.TheVariants as event;
@@ -8,19 +8,19 @@ ghost use Rattle.rules_machine.specs.Threads.{thread_at};
 ghost use Rattle.rules_machine.specs.Turns.{changes, changes_pending, tells, ◌▷◌};
 ghost use Rattle.rules_machine.specs.Waking.{wakes};
 ghost use Rattle.kernel_threads.specs.Plain.{joiner_of};
-ghost use Rattle.kernel_state.specs.Kernel.{after, by};
+ghost use Rattle.kernel_state.specs.Kernel.{after};
 ghost use Rattle.kernel_state.specs.Does.{Does};
+ghost use Rattle.kernel_state.specs.Caller.{caller};
 ghost use Rattle.calls_threads.specs.Joins.{JoinerFits};
 ghost use Rattle.kernel_state.specs.Callers.{CanRise};
 ghost use Rattle.calls_threads.specs.Premises.{CanFinish};
 
-use kernel_state::Parts;
+use kernel_state::{Caller, Parts};
 use kernel_threads::Joiner;
 use parts_io::Sink;
 use parts_tracer::Tracer;
 use rules_machine::FrameKind;
 use words_numbers::{Res, Tid};
-use words_script::Call;
 use words_trace::Event;
 
 // The thread that waits to join one that has ended wakes with its value.
@@ -30,7 +30,7 @@ fn wake_waiting<K: Sink>(p: &mut Parts, t: Tid, u: Tid, out: &mut Tracer<'_, K>)
     requires can { CanRise p.old u }
     ensures { Does K.text K.faults (λ s. s ▷ changes t (with_joiner has_joined) ▷ wakes u res.Zero (thread_at p.old.machine t).exit_value) p.old p.new out.old out.new }
 {
-    let value = p.exit_value(t);
+    let value = p.thread(t).exit_value();
     p.set_joiner(t, Joiner::HasJoined);
     p.wake(u, Res::Zero, value, out);
 }
@@ -68,7 +68,7 @@ fn end<K: Sink>(p: &mut Parts, t: Tid, out: &mut Tracer<'_, K>)
     requires can { CanFinish p.old }
     ensures { Does K.text K.faults (ends t) p.old p.new out.old out.new }
 {
-    let joiner = p.joiner(t);
+    let joiner = p.thread(t).joiner();
     end_life(p, t, out);
     wake_joiner(p, joiner, t, out);
 }
@@ -79,7 +79,7 @@ pub fn finish<K: Sink>(p: &mut Parts, t: Tid, out: &mut Tracer<'_, K>)
     requires can { CanFinish p.old }
     ensures { Does K.text K.faults (finishes t) p.old p.new out.old out.new }
 {
-    match p.top_kind(t) {
+    match p.thread(t).kind() {
         FrameKind::Main => end(p, t, out),
         FrameKind::Cleanup => p.drop_frame(t),
         FrameKind::Signal => p.drop_frame(t),
@@ -87,9 +87,9 @@ pub fn finish<K: Sink>(p: &mut Parts, t: Tid, out: &mut Tracer<'_, K>)
 }
 
 /// `pthread_exit`: the thread is ending, and its cleanup handlers come first.
-pub fn exit(p: &mut Parts, t: Tid, _call: &Call, value: u64)
-    requires { t < length p.old.names }
-    ensures { p.new ≡ after (exits (by t _call.now) value) p.old }
+pub fn exit(p: &mut Parts, by: &Caller<'_>, value: u64)
+    requires { by.now.thread < length p.old.names }
+    ensures { p.new ≡ after (exits (caller by.now) value) p.old }
 {
-    p.begin_end(t, value);
+    p.begin_end(by.thread, value);
 }

@@ -1,4 +1,4 @@
-// The line of a fact, which is begun with the first word that is told.
+//! The line of a fact, which is begun with the first word that is told.
 ghost use Rattle.std.specs.Prelude.{◌≡◌, ◌<◌, length, map};
 ghost use Rattle.script_writer.specs.Line.{AreShort, spelled};
 ghost use Rattle.script_printer.specs.Puts.{Puts};

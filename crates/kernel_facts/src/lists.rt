@@ -1,4 +1,4 @@
-// The lists of runnable threads.
+//! The lists of runnable threads.
 ghost use Rattle.std.specs.Prelude.{◌≡◌};
 ghost use Rattle.rules_lists.specs.Lists.{list_of};
 ghost use Rattle.rules_facts.specs.Fact.{on_list};

@@ -1,4 +1,4 @@
-// The names of threads and bodies, as words.
+//! The names of threads and bodies, as words.
 ghost use Rattle.std.specs.Prelude.{◌≡◌, ◌≤◌, length};
 ghost use Rattle.words_script.specs.declared.name_kind.NameKind.TheVariants as kind;
 ghost use Rattle.script_writer.specs.Names.{name_of};

@@ -1,4 +1,4 @@
-// The numbers of threads that change at each tick.
+//! The numbers of threads that change at each tick.
 ghost use Rattle.std.specs.Prelude.{◌≡◌, ◌<◌, List, flat_map, length};
 ghost use Rattle.rules_machine.specs.Threads.{thread_at};
 ghost use Rattle.rules_facts.specs.Numbers.{budget_numbers, frame_numbers, left_numbers, slice_numbers, thread_numbers_told};

@@ -1,4 +1,4 @@
-// What is told of mutexes, semaphores and timers.
+//! What is told of mutexes, semaphores and timers.
 ghost use Rattle.std.specs.Prelude.{◌≡◌, ◌<◌, length};
 ghost use Rattle.rules_facts.specs.Objects.{owner_fact, semaphore_fact, timer_fact};
 ghost use Rattle.script_printer.specs.Puts.{Puts};
@@ -50,12 +50,12 @@ pub(crate) fn put_timer<K: Sink>(out: &mut Printer<'_, K>, parts: &Parts, decls:
     requires { k < length parts.now.machine.timers }
     ensures { Puts K.text K.faults out.old out.new (fact_text decls.now (timer_fact parts.now.machine k)) }
 {
-    if let Some(due) = parts.timer_due(k) {
+    if let Some(due) = parts.timer(k).due() {
         out.line(&[
             Keyword(b"timer"),
             Name(object_name(decls, NameKind::Timer, k)),
             Number(due.get()),
-            Number(parts.timer_interval(k)),
+            Number(parts.timer(k).interval()),
         ]);
     }
 }

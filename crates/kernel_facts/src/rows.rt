@@ -1,4 +1,4 @@
-// The rows of facts, each with a fact for each thread or for each object of a kind.
+//! The rows of facts, each with a fact for each thread or for each object of a kind.
 ghost use Rattle.std.specs.Prelude.{◌≡◌, ◌≤◌, ◌<◌, ◌++◌, length};
 ghost use Rattle.rules_facts.specs.Objects.{condition_waiters, mutex_waiters, semaphore_waiters};
 ghost use Rattle.rules_facts.specs.Queues.{senders_and_receivers};

@@ -1,4 +1,4 @@
-// The pending signals.
+//! The pending signals.
 ghost use Rattle.std.specs.Prelude.{◌≡◌, ◌≤◌, ◌<◌, length};
 ghost use Rattle.rules_facts.specs.Signals.{signal_fact};
 ghost use Rattle.rules_facts.specs.Spelled.{target_word};

@@ -1,4 +1,4 @@
-// The text of a state.
+//! The text of a state.
 ghost use Rattle.std.specs.Prelude.{◌≡◌, ◌-◌, ◌≤◌, ◌<◌, false, length};
 ghost use Rattle.parts_io.specs.Bytes.{WritesAll};
 ghost use Rattle.parts_io.specs.Causes.{HasCause};

@@ -1,4 +1,4 @@
-// What is told of threads.
+//! What is told of threads.
 ghost use Rattle.std.specs.Prelude.{◌≡◌, ◌≤◌, ◌<◌, Option, decimal, length, not};
 ghost use Rattle.std.specs.List.{list_any};
 ghost use Rattle.rules_bodies.specs.declared.cursor.Cursor.{Cursor};

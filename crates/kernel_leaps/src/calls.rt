@@ -1,4 +1,4 @@
-// Calls that have a function of their own, so that the loop of leaps needs no room for what they use.
+//! Calls that have a function of their own, so that the loop of leaps needs no room for what they use.
 ghost use Rattle.script_code.specs.Fetched.{call_of};
 ghost use Rattle.words_script.specs.declared.call.Call.TheVariants as call;
 ghost use Rattle.rules_machine.specs.Calls.{makes_call};
@@ -17,9 +17,23 @@ use script_code::CallPlace;
 use words_numbers::{ObjId, Tid};
 use words_script::Call;
 
-/// The call that stands at a place.
+/// The call that stands at a place. Where it stands in the table of its body it is copied once, as it is.
 #[inline(never)]
 pub(crate) fn make_any<K: Sink>(p: &mut Parts, t: Tid, place: CallPlace, out: &mut Tracer<'_, K>)
+    requires caller { CanCall p.old t }
+    requires can { CanMake (objects_in p.old) (thread_at p.old.machine t) (call_of p.old.code place) }
+    ensures { Does K.text K.faults (makes_call (flat_bodies p.old.code) (by t (call_of p.old.code place))) p.old p.new out.old out.new }
+{
+    let Some(kept) = p.call_in_table(&place) else {
+        return make_any_in_full(p, t, place, out);
+    };
+    let call = *kept;
+    make_call(p, t, &call, out);
+}
+
+// The same, wherever it is kept.
+#[inline(never)]
+fn make_any_in_full<K: Sink>(p: &mut Parts, t: Tid, place: CallPlace, out: &mut Tracer<'_, K>)
     requires caller { CanCall p.old t }
     requires can { CanMake (objects_in p.old) (thread_at p.old.machine t) (call_of p.old.code place) }
     ensures { Does K.text K.faults (makes_call (flat_bodies p.old.code) (by t (call_of p.old.code place))) p.old p.new out.old out.new }

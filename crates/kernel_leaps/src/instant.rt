@@ -1,4 +1,4 @@
-// The items of an instant.
+//! The items of an instant.
 ghost use Rattle.std.specs.Prelude.{◌≡◌, ◌≤◌, ◌^◌, []};
 ghost use Rattle.rules_machine.specs.DueItems.{instant};
 ghost use Rattle.rules_flat_code.specs.FlatBodies.{flat_bodies};

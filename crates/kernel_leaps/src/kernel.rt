@@ -1,4 +1,4 @@
-// The kernel of a script.
+//! The kernel of a script.
 ghost use Rattle.std.specs.Prelude.{ℕ, ◌≡◌, ◌≤◌, ◌<◌, ◌+◌, ◌-◌, ◌^◌, [], None, Some, length, false, true, option_map, IfOk};
 ghost use Rattle.parts_tracer.specs.Prints.{Prints};
 ghost use Rattle.parts_tracer.specs.Tells.{Tells};
@@ -89,7 +89,7 @@ impl Kernel {
         requires { t < length self.now.names }
         ensures { result ≡ option_map totals (thread_at self.now.machine t).server }
     {
-        self.parts.totals(t)
+        self.parts.thread(t).totals()
     }
 
     /// Runs to the horizon, at most 10^18, until a signal ends the process, or until a write fails. It takes no memory, and is one step a

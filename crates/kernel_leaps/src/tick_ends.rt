@@ -1,4 +1,4 @@
-// The rule of the tick's end.
+//! The rule of the tick's end.
 ghost use Rattle.std.specs.Prelude.{◌≡◌, ◌≤◌, ◌<◌, [], false, length};
 ghost use Rattle.rules_machine.specs.Servers.{plans};
 ghost use Rattle.rules_machine.specs.Threads.{can_run, thread_at};
@@ -22,7 +22,7 @@ fn use_slice(p: &mut Parts, t: Tid)
     requires quiet { p.old.direct ≡ [] }
     ensures { p.new ≡ after (ends_tick slicing t) p.old }
 {
-    let runs = p.is_runnable(t);
+    let runs = p.thread(t).is_runnable();
     p.clear_slice(t);
     if runs {
         p.move_later(t);

@@ -1,4 +1,4 @@
-// A thread's units: its running, and what a unit does at its end.
+//! A thread's units: its running, and what a unit does at its end.
 ghost use Rattle.std.specs.Prelude.{◌≡◌, ◌≤◌, ◌<◌, ◌+◌, ◌^◌, ◌==◌, length, max, true};
 ghost use Rattle.script_code.specs.Fetched.{unit_of};
 ghost use Rattle.rules_machine.specs.Calls.{unit_effect};

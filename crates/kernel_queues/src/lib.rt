@@ -15,5 +15,6 @@ mod queues;
 mod registration;
 
 pub use message::HeldMessage;
+pub use queue::MessageQueue;
 pub use queues::Queues;
 pub use registration::Registration;

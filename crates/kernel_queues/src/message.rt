@@ -1,4 +1,4 @@
-// A message that a queue holds.
+//! A message that a queue holds.
 ghost use Rattle.std.specs.Prelude.{◌≡◌};
 
 use std::marker::Model;

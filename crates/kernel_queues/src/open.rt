@@ -1,4 +1,4 @@
-// The queues of a script, empty.
+//! The queues of a script, empty.
 ghost use Rattle.std.specs.Prelude.{◌≡◌, ◌++◌, option_to_list, IfOk};
 ghost use Rattle.rules_machine.specs.Declarations.{named, queue_kind, queues_of};
 

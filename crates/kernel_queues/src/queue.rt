@@ -1,4 +1,4 @@
-// One message queue.
+//! One message queue.
 ghost use Rattle.std.specs.Prelude.{◌≡◌, ◌≤◌, ◌<◌, ◌==◌, [], None, true, not, nat_lt, length, replicate, slice_get, IfOk, IfSome};
 ghost use Rattle.std.specs.List.{AllByRecursion};
 ghost use Rattle.rules_machine.specs.State.{Message};
@@ -11,9 +11,9 @@ use parts_arrivals::Arrivals;
 use std::alloc::{AllocError, Global};
 use std::marker::Model;
 
-// The room of a queue is in its nodes; the value of the message at node n is `values[n]`.
+/// One message queue. Its room is in its nodes; the value of the message at node n is `values[n]`.
 #[derive(Drop)]
-pub(crate) struct MessageQueue {
+pub struct MessageQueue {
     depth: u32,
     longest: u32,
     is_nonblock: bool,
@@ -90,8 +90,8 @@ impl MessageQueue {
         Some(self.values[node as usize])
     }
 
-    // The message at a place in the order of arrival, from 0 on. None exactly where there are not so many.
-    pub(crate) fn nth(&self, place: u32) -> Option<HeldMessage>
+    /// The message at a place in the order of arrival, from 0 on; it stays. `None` exactly where there are not so many.
+    pub fn nth(&self, place: u32) -> Option<HeldMessage>
         ensures message { result ≡ slice_get self.now.messages place }
         ensures few { IfSome result (λ _. place < 65536) }
     {
@@ -99,8 +99,8 @@ impl MessageQueue {
         Some(HeldMessage::new(priority, self.values[node as usize]))
     }
 
-    // Costs nothing when it runs: each priority is one from 0 to 31.
-    pub(crate) fn know_priorities(&self)
+    /// Costs nothing when it runs: the priority of each message is one from 0 to 31.
+    pub fn know_priorities(&self)
         ensures { AllByRecursion (λ (m : Message). m.priority < 32) self.now.messages }
     {
         let _ = self.arrivals.len();
@@ -112,31 +112,43 @@ impl MessageQueue {
         self.registration = registration;
     }
 
-    pub(crate) fn registration(&self) -> Option<Registration>
+    /// The notification that is asked of it; `None` exactly where there is none.
+    pub fn registration(&self) -> Option<Registration>
         ensures { result ≡ self.now.registration }
     {
         self.registration
     }
 
-    pub(crate) fn is_nonblock(&self) -> bool
+    /// Whether calls on it do not block.
+    pub fn is_nonblock(&self) -> bool
         ensures { result ≡ self.now.is_nonblock }
     {
         self.is_nonblock
     }
 
-    pub(crate) fn has_room(&self) -> bool
+    /// Whether one message more has room.
+    pub fn has_room(&self) -> bool
         ensures { result ≡ has_room self.now }
     {
         self.arrivals.len() < self.depth
     }
 
-    pub(crate) fn len(&self) -> u32
+    /// How many messages it holds.
+    pub fn len(&self) -> u32
         ensures { result ≡ length self.now.messages }
     {
         self.arrivals.len()
     }
 
-    pub(crate) fn is_too_long(&self, len: u32) -> bool
+    /// Whether it has no message.
+    pub fn is_empty(&self) -> bool
+        ensures { result ≡ (length self.now.messages == 0) }
+    {
+        self.arrivals.len() == 0
+    }
+
+    /// Whether a message of this length is longer than those that it takes.
+    pub fn is_too_long(&self, len: u32) -> bool
         ensures { result ≡ nat_lt self.now.longest len }
     {
         self.longest < len

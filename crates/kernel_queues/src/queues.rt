@@ -1,12 +1,9 @@
-// The queues by their numbers.
-ghost use Rattle.std.specs.Prelude.{◌≡◌, ◌<◌, ◌==◌, true, not, nat_lt, length, slice_get, IfOk, IfSome};
-ghost use Rattle.std.specs.List.{AllByRecursion};
-ghost use Rattle.rules_machine.specs.State.{Message};
+//! The queues by their numbers.
+ghost use Rattle.std.specs.Prelude.{◌≡◌, ◌<◌, true, length, IfOk, IfSome};
 ghost use Rattle.rules_machine.specs.Declarations.{queues_of};
 ghost use Rattle.rules_machine.specs.Queues.{has_room, registered, with_message};
 ghost use Rattle.kernel_queues.specs.Queues.{next_value, queue_in, with_queue, without_next};
 
-use crate::message::HeldMessage;
 use crate::open::open_queues;
 use crate::queue::MessageQueue;
 use crate::registration::Registration;
@@ -46,6 +43,14 @@ impl Queues {
         self.items.len()
     }
 
+    /// A queue as it stands.
+    pub fn get(&self, q: ObjId) -> &MessageQueue
+        requires { q < length self.now }
+        ensures { result.now ≡ queue_in self.now q }
+    {
+        &self.items[q.get() as usize]
+    }
+
     /// A message of this priority, 0 to 31, enters the queue as its youngest.
     pub fn put(&mut self, q: ObjId, priority: u8, value: u64)
         requires known { q < length self.old }
@@ -67,70 +72,11 @@ impl Queues {
         self.items[q.get() as usize].take()
     }
 
-    /// The message at a place in the order of arrival, from 0 on; it stays. None exactly where the queue does not hold so many.
-    pub fn nth(&self, q: ObjId, place: u32) -> Option<HeldMessage>
-        requires { q < length self.now }
-        ensures message { result ≡ slice_get (queue_in self.now q).messages place }
-        ensures few { IfSome result (λ _. place < 65536) }
-        ensures priorities { AllByRecursion (λ (m : Message). m.priority < 32) (queue_in self.now q).messages }
-    {
-        let queue = &self.items[q.get() as usize];
-        queue.know_priorities();
-        queue.nth(place)
-    }
-
     /// The registration becomes this one, or with None there is none.
     pub fn register(&mut self, q: ObjId, registration: Option<Registration>)
         requires { q < length self.old }
         ensures { self.new ≡ with_queue q (registered registration) self.old }
     {
         self.items[q.get() as usize].register(registration);
-    }
-
-    /// The registration of the queue. None exactly where there is none.
-    pub fn registration(&self, q: ObjId) -> Option<Registration>
-        requires { q < length self.now }
-        ensures { result ≡ (queue_in self.now q).registration }
-    {
-        self.items[q.get() as usize].registration()
-    }
-
-    /// Whether calls on the queue do not block.
-    pub fn is_nonblock(&self, q: ObjId) -> bool
-        requires { q < length self.now }
-        ensures { result ≡ (queue_in self.now q).is_nonblock }
-    {
-        self.items[q.get() as usize].is_nonblock()
-    }
-
-    /// Whether one message more has room.
-    pub fn has_room(&self, q: ObjId) -> bool
-        requires { q < length self.now }
-        ensures { result ≡ has_room (queue_in self.now q) }
-    {
-        self.items[q.get() as usize].has_room()
-    }
-
-    /// How many messages the queue holds.
-    pub fn len(&self, q: ObjId) -> u32
-        requires { q < length self.now }
-        ensures { result ≡ length (queue_in self.now q).messages }
-    {
-        self.items[q.get() as usize].len()
-    }
-
-    pub fn is_empty(&self, q: ObjId) -> bool
-        requires { q < length self.now }
-        ensures { result ≡ (length (queue_in self.now q).messages == 0) }
-    {
-        self.items[q.get() as usize].len() == 0
-    }
-
-    /// Whether a message of this length is longer than those that the queue takes.
-    pub fn is_too_long(&self, q: ObjId, len: u32) -> bool
-        requires { q < length self.now }
-        ensures { result ≡ nat_lt (queue_in self.now q).longest len }
-    {
-        self.items[q.get() as usize].is_too_long(len)
     }
 }

@@ -1,4 +1,4 @@
-// A notification that is asked for.
+//! A notification that is asked for.
 ghost use Rattle.std.specs.Prelude.{◌≡◌, ◌≤◌};
 
 use std::marker::Model;

@@ -1,4 +1,4 @@
-// The value of one semaphore.
+//! The value of one semaphore.
 ghost use Rattle.std.specs.Prelude.{◌≡◌, ◌≤◌, ◌<◌, pred, suc};
 ghost use Rattle.rules_machine.specs.Semaphores.{semaphore_limit};
 

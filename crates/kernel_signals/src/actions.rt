@@ -1,4 +1,4 @@
-// What each signal does.
+//! What each signal does.
 ghost use Rattle.std.specs.Prelude.{◌≡◌, ◌<◌, length, slice_index_or, if◌then◌else◌};
 ghost use Rattle.words_numbers.specs.Signals.{with_signal};
 ghost use Rattle.rules_machine.specs.declared.signal.SigAction.{SigAction};

@@ -1,4 +1,4 @@
-// Walks along all records, by age.
+//! Walks along all records, by age.
 ghost use Rattle.std.specs.Prelude.{◌≡◌, ◌≤◌, length};
 ghost use Rattle.std.specs.List.{list_any};
 ghost use Rattle.rules_machine.specs.Lists.{is};

@@ -1,4 +1,4 @@
-// The search for a record, along the lists of the signals.
+//! The search for a record, along the lists of the signals.
 ghost use Rattle.std.specs.Prelude.{◌≡◌, ◌≤◌, ◌<◌, true, length, IfSome, MatchOption};
 ghost use Rattle.rules_machine.specs.Signals.{may_go_to};
 ghost use Rattle.parts_arrivals.specs.Arrivals.{AreArrivals, has_come};
@@ -59,6 +59,7 @@ pub(crate) fn first_wanted(
 
 /// The node of the record that is selected among those of the set that may go to the thread. None exactly where there is none. It looks
 /// only at signals of the set that have records.
+#[inline(always)]
 pub(crate) fn lowest(
     arrivals: &Arrivals,
     records: &[SignalRecord],

@@ -1,4 +1,4 @@
-// The pending records.
+//! The pending records.
 ghost use Rattle.std.specs.Prelude.{◌≡◌, ◌↔◌, IsTrue, ◌≤◌, ◌<◌, ◌&&◌, ◌||◌, not, ℕ, ◌++◌, ◌∷◌, [], All, Contains, nat_le, length, replicate, slice_get, IfOk, IfSome};
 ghost use Rattle.words_numbers.specs.Signals.{has_signal};
 ghost use Rattle.std.specs.List.{list_any};
@@ -126,6 +126,7 @@ impl Pending {
 
     /// The record that is selected among those of the set that are for the thread or for the process; it stays. None exactly where there
     /// is none.
+    #[inline(always)]
     pub fn next_in(&self, t: Tid, set: SigSet) -> Option<SignalRecord>
         ensures value { result ≡ selected_in self.now (is_in_set t set) }
         ensures pending { IfSome result (λ r. Contains self.now r) }
@@ -138,6 +139,7 @@ impl Pending {
     /// The record that the sweep takes for the thread; it stays. It is selected among those for the thread or for the process that the
     /// thread's mask lets through, and that have a signal of `kills`, which ends the process, or find that the thread runs handlers.
     /// None exactly where there is none.
+    #[inline(always)]
     pub fn next_for(
         &self,
         t: Tid,

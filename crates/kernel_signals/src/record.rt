@@ -1,4 +1,4 @@
-// A generated signal.
+//! A generated signal.
 ghost use Rattle.std.specs.Prelude.{◌≡◌, ◌∷◌};
 ghost use Rattle.rules_machine.specs.Queues.{record_of_notification};
 ghost use Rattle.rules_machine.specs.Signals.{record_of_kill, record_of_sigqueue};

@@ -1,4 +1,4 @@
-// How many of the pending records each timer generated.
+//! How many of the pending records each timer generated.
 ghost use Rattle.std.specs.Prelude.{◌≡◌, ◌<◌, nat_lt, replicate};
 ghost use Rattle.kernel_signals.specs.Timed.{HasRoom, count_at, with_one, with_one_fewer};
 

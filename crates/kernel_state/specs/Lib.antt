@@ -1,6 +1,7 @@
 pub mod Kernel
 pub mod Does
 pub mod Callers
+pub mod Caller
 pub mod Members
 pub mod Standing
 pub mod Tied

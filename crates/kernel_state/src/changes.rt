@@ -1,10 +1,9 @@
-// The smallest changes of a thread. Each names those that may no longer stand where they are to stand.
+//! The smallest changes of a thread. Each names those that may no longer stand where they are to stand.
 ghost use Rattle.std.specs.Prelude.{◌≡◌, ◌≤◌, ◌<◌, ◌^◌, length, option_map, true};
 ghost use Rattle.rules_server.specs.Server.{activate};
 ghost use Rattle.rules_machine.specs.Servers.{with_server};
-ghost use Rattle.kernel_threads.specs.Sleeping.{waits_for_time};
 ghost use Rattle.kernel_threads.specs.Unused.{IsUnused};
-ghost use Rattle.rules_machine.specs.Threads.{can_run, thread_at, waiting_in};
+ghost use Rattle.rules_machine.specs.Threads.{thread_at};
 ghost use Rattle.rules_machine.specs.Lives.{without_life};
 ghost use Rattle.rules_machine.specs.Scheduling.{takes_priority, with_policy, with_priority};
 ghost use Rattle.rules_machine.specs.Waking.{new_frame, started};
@@ -17,10 +16,11 @@ ghost use Rattle.rules_machine.specs.Priorities.{mutex_awaited_by, mutex_waited}
 ghost use Rattle.kernel_threads.specs.Plain.{wait_of, waiting_of};
 ghost use Rattle.kernel_state.specs.Waits.{CanWait};
 ghost use Rattle.kernel_state.specs.Kernel.{after};
-ghost use Rattle.std.specs.Prelude.{None, Some, is_some};
+ghost use Rattle.std.specs.Prelude.{IfSome, None, Some, is_some};
 ghost use Rattle.rules_server.specs.Server.{plan, refill, replenishment};
 ghost use Rattle.rules_machine.specs.Ticks.{consumed_in};
 ghost use Rattle.kernel_threads.specs.Ends.{refilled_of};
+ghost use Rattle.kernel_state.specs.Callers.{IsRunning};
 
 use crate::parts::Parts;
 use kernel_threads::{Frame, Refilled, Waiting};
@@ -39,29 +39,6 @@ impl Parts {
     }
 
     pub fn wake_thread(&mut self, t: Tid, res: Res, value: u64)
-        requires { t < length self.old.names }
-        ensures { self.new ≡ after (changes t (woken res value)) self.old }
-    {
-        if self.table.thread(t).waits_for_time() {
-            self.wake_sleeper(t, res, value);
-        } else {
-            self.wake_waiter(t, res, value);
-        }
-    }
-
-    // The same of a thread that waits for nothing but an instant.
-    #[inline(always)]
-    fn wake_sleeper(&mut self, t: Tid, res: Res, value: u64)
-        requires known { t < length self.old.names }
-        requires sleeps { waits_for_time (waiting_in (thread_at self.old.machine t).status) ≡ true }
-        ensures { self.new ≡ after (changes t (woken res value)) self.old }
-    {
-        self.table.wake_sleeper(t, res, value);
-    }
-
-    // The same, whatever it waits for.
-    #[inline(never)]
-    fn wake_waiter(&mut self, t: Tid, res: Res, value: u64)
         requires { t < length self.old.names }
         ensures { self.new ≡ after (changes t (woken res value)) self.old }
     {
@@ -86,8 +63,7 @@ impl Parts {
     #[inline(always)]
     #[tactic(auto, using(crate::proofs::Waits::can_await))]
     pub(crate) fn block_runner(&mut self, t: Tid, waiting: Waiting)
-        requires known { t < length self.old.names }
-        requires runs { can_run self.old.machine t ≡ true }
+        requires caller { IsRunning self.old t }
         requires may { CanWait self.old.machine t (mutex_waited (wait_of waiting.wait)) }
         ensures { self.new ≡ after (changes t (put_to_wait (waiting_of waiting))) self.old }
     {
@@ -153,6 +129,14 @@ impl Parts {
         ensures { result ≡ call_of self.now.code place.now }
     {
         self.code.call(place)
+    }
+
+    /// The same, where it stands in the table of its body, as all calls do but the shortest.
+    #[inline(always)]
+    pub fn call_in_table(&self, place: &CallPlace) -> Option<&Call>
+        ensures { IfSome result (λ call. call.now ≡ call_of self.now.code place.now) }
+    {
+        self.code.call_in_table(place)
     }
 
     pub fn clear_slice(&mut self, t: Tid)

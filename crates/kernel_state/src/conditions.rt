@@ -1,4 +1,4 @@
-// Who waits for a condition, and what its end asks for.
+//! Who waits for a condition, and what its end asks for.
 ghost use Rattle.std.specs.Prelude.{◌≡◌, ◌<◌, ◌^◌, None, Some, length, option_and_then};
 ghost use Rattle.rules_machine.specs.Conditions.{released_mutex, waits_with_other_mutex};
 ghost use Rattle.rules_machine.specs.Mutexes.{owned_by};
@@ -23,7 +23,7 @@ impl Parts {
         requires { t < length self.now.names }
         ensures { result ≡ waits_so (waits_with_other_mutex c k) (thread_at self.now.machine t) }
     {
-        match self.wait(t) {
+        match self.thread(t).wait() {
             None => false,
             Some(w) => w.is_with_other_mutex(c, k),
         }
@@ -49,7 +49,7 @@ impl Parts {
         requires { t < length self.now.names }
         ensures { result ≡ option_and_then (λ (w : machine.Waiting). released_mutex w.wait) (waiting_at self.now.machine t) }
     {
-        match self.wait(t) {
+        match self.thread(t).wait() {
             None => None,
             Some(w) => w.released_mutex(),
         }
@@ -70,7 +70,7 @@ impl Parts {
         requires may { CanWait self.old.machine t (Some k) }
         ensures { self.new ≡ after (blocks (by t (call_in (waiting_at self.old.machine t))) (for_mutex_again k how) None) self.old }
     {
-        let call = self.waiting_call(t);
+        let call = self.thread(t).waiting_call();
         let serial = self.take_serial();
         self.block_thread(
             t,

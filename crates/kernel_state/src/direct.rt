@@ -1,4 +1,4 @@
-// The threads that become the tail of their lists at the next settling.
+//! The threads that become the tail of their lists at the next settling.
 ghost use Rattle.std.specs.Prelude.{◌≡◌, ◌<◌, ◌++◌, ◌∷◌, [], length, slice_index};
 
 use std::marker::Model;

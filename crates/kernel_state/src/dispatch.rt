@@ -1,5 +1,5 @@
-// What precedes a tick: the dispatch, by which the head of the highest list that is not empty runs (IEEE 1003.1-2017, XSH 2.8.4), and the
-// runs of strict servers, which are this project's own.
+//! What precedes a tick: the dispatch, by which the head of the highest list that is not empty runs (IEEE 1003.1-2017, XSH 2.8.4), and the
+//! runs of strict servers, which are this project's own.
 ghost use Rattle.std.specs.Prelude.{◌≡◌, ◌<◌, ◌≤◌, ◌^◌, ℕ, false, length, true, IfSome};
 ghost use Rattle.parts_tracer.specs.Tells.{Tells};
 ghost use Rattle.rules_machine.specs.declared.dispatch.LastDispatch.TheVariants as last;

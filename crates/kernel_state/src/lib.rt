@@ -4,6 +4,7 @@
 //! settling, the dispatch, the next due item, the opening state, the closing lines.
 #![tactic(auto)]
 
+mod caller;
 mod changes;
 mod conditions;
 mod direct;
@@ -27,4 +28,5 @@ mod threads;
 mod timers;
 mod wakes;
 
+pub use caller::Caller;
 pub use parts::Parts;

@@ -1,12 +1,12 @@
-// The ready lists, and the priorities that threads stand at.
+//! The ready lists, and the priorities that threads stand at.
 ghost use Rattle.std.specs.Prelude.{◌≡◌, ◌<◌, ◌+◌, IfSome, MatchOption, length, true};
 ghost use Rattle.rules_lists.specs.Lists.{AreReadyLists, highest, prio_of, to_head, to_tail, without};
 ghost use Rattle.rules_machine.specs.Priorities.{exec};
-ghost use Rattle.rules_machine.specs.Threads.{can_run};
 ghost use Rattle.kernel_state.specs.Settled.{with_lists};
 ghost use Rattle.kernel_state.specs.Standing.{IsNext, MachineStands, StandFrom};
 ghost use Rattle.kernel_state.specs.Kernel.{after};
 ghost use Rattle.rules_machine.specs.Mutexes.{moves_unless_boosted};
+ghost use Rattle.kernel_state.specs.Callers.{IsRunning};
 
 use crate::parts::Parts;
 use words_numbers::{Prio, Tid};
@@ -29,8 +29,7 @@ impl Parts {
 
     /// It becomes the tail of the list of its execution priority.
     pub(crate) fn put_last(&mut self, t: Tid)
-        requires known { t < length self.old.names }
-        requires runs { can_run self.old.machine t ≡ true }
+        requires { IsRunning self.old t }
         ensures { self.new ≡ with_lists (to_tail t (exec self.old.machine t)) self.old }
     {
         let p = self.table.exec(t);
@@ -41,8 +40,7 @@ impl Parts {
 
     /// The same, and it stays named where it is.
     pub(crate) fn put_last_as_named(&mut self, t: Tid)
-        requires known { t < length self.old.names }
-        requires runs { can_run self.old.machine t ≡ true }
+        requires { IsRunning self.old t }
         ensures { self.new ≡ with_lists (to_tail t (exec self.old.machine t)) self.old }
     {
         let p = self.table.exec(t);
@@ -52,8 +50,7 @@ impl Parts {
 
     /// It becomes the head of the list of its execution priority.
     pub(crate) fn put_first(&mut self, t: Tid)
-        requires known { t < length self.old.names }
-        requires runs { can_run self.old.machine t ≡ true }
+        requires { IsRunning self.old t }
         ensures { self.new ≡ with_lists (to_head t (exec self.old.machine t)) self.old }
     {
         let p = self.table.exec(t);
@@ -79,6 +76,7 @@ impl Parts {
         let _ = &self.named;
     }
 
+    #[inline(always)]
     pub(crate) fn take_off(&mut self, t: Tid)
         requires { t < length self.old.names }
         ensures { self.new ≡ with_lists (without t) self.old }

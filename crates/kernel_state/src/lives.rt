@@ -1,18 +1,18 @@
-// Joiners, requests and cleanup handlers.
-ghost use Rattle.std.specs.Prelude.{◌≡◌, ◌≤◌, ◌<◌, ◌∷◌, Some, length, slice_get};
+//! Joiners, requests and cleanup handlers.
+ghost use Rattle.std.specs.Prelude.{◌≡◌, ◌≤◌, ◌<◌, ◌∷◌, length};
 ghost use Rattle.rules_machine.specs.declared.frame.BodyOf.{BodyOf};
 ghost use Rattle.rules_machine.specs.declared.frame.FrameKind.{FrameKind};
-ghost use Rattle.rules_machine.specs.Cancellation.{is_cancelled, request_acts, requested, without_cleanup};
+ghost use Rattle.rules_machine.specs.Cancellation.{is_cancelled, requested, without_cleanup};
 ghost use Rattle.rules_machine.specs.Lives.{with_joiner, without_top};
 ghost use Rattle.rules_machine.specs.Mutexes.{taken_by};
-ghost use Rattle.rules_machine.specs.Threads.{mutex_at, thread_at, top_kind};
+ghost use Rattle.rules_machine.specs.Threads.{thread_at};
 ghost use Rattle.rules_machine.specs.Turns.{changes, changes_mutex, ◌▷◌};
 ghost use Rattle.rules_machine.specs.Waking.{ending_with, new_frame, on_top, wakes_cancelled};
 ghost use Rattle.rules_flat_code.specs.FlatBodies.{flat_bodies};
 ghost use Rattle.kernel_threads.specs.Plain.{joiner_of};
 ghost use Rattle.kernel_state.specs.Kernel.{after};
 ghost use Rattle.kernel_state.specs.Does.{Does};
-ghost use Rattle.kernel_state.specs.Callers.{CanRise};
+ghost use Rattle.kernel_state.specs.Callers.{CanRise, IsOwner};
 
 use crate::parts::Parts;
 use kernel_threads::Joiner;
@@ -26,46 +26,6 @@ use words_trace::Event;
 const CANCELLED_VALUE: u64 = 3_000_000_000_000_000_000;
 
 impl Parts {
-    /// Who joins a thread.
-    pub fn joiner(&self, t: Tid) -> Joiner
-        requires { t < length self.now.names }
-        ensures { joiner_of result ≡ (thread_at self.now.machine t).joiner }
-    {
-        self.table.thread(t).joiner()
-    }
-
-    /// The value that a thread ends with.
-    pub fn exit_value(&self, t: Tid) -> u64
-        requires { t < length self.now.names }
-        ensures { result ≡ (thread_at self.now.machine t).exit_value }
-    {
-        self.table.thread(t).exit_value()
-    }
-
-    /// Whether a request acts in a thread as soon as it may.
-    pub fn request_acts(&self, t: Tid) -> bool
-        requires { t < length self.now.names }
-        ensures { result ≡ request_acts (thread_at self.now.machine t) }
-    {
-        self.table.thread(t).request_acts()
-    }
-
-    /// What a thread's present body is for.
-    pub fn top_kind(&self, t: Tid) -> FrameKind
-        requires { t < length self.now.names }
-        ensures { result ≡ top_kind (thread_at self.now.machine t).frames }
-    {
-        self.table.thread(t).kind()
-    }
-
-    /// The cleanup handler that a thread pushed last; `None` exactly where there is none.
-    pub fn last_cleanup(&self, t: Tid) -> Option<ObjId>
-        requires { t < length self.now.names }
-        ensures { result ≡ slice_get (thread_at self.now.machine t).cleanups 0 }
-    {
-        self.table.thread(t).last_cleanup()
-    }
-
     pub fn set_joiner(&mut self, t: Tid, joiner: Joiner)
         requires { t < length self.old.names }
         ensures { self.new ≡ after (changes t (with_joiner (joiner_of joiner))) self.old }
@@ -150,8 +110,7 @@ impl Parts {
         out: &mut Tracer<'_, K>,
     )
         requires can { CanRise self.old t }
-        requires mutex { k < length self.old.machine.mutexes }
-        requires owned { (mutex_at self.old.machine k).owner ≡ Some owner }
+        requires owner { IsOwner self.old.machine k owner }
         ensures { Does K.text K.faults (λ s. s ▷ changes_mutex k (taken_by t) ▷ wakes_cancelled t) self.old self.new out.old out.new }
     {
         self.hand_over(k, owner, t, Res::Zero);

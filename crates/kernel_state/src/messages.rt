@@ -1,5 +1,5 @@
-// Message queues: what they hold, who waits for them, and the notification that is asked of each.
-ghost use Rattle.std.specs.Prelude.{◌≡◌, ◌<◌, ◌==◌, IfSome, length, nat_lt, option_map, true};
+//! Message queues: what they hold, who waits for them, and the notification that is asked of each.
+ghost use Rattle.std.specs.Prelude.{◌≡◌, ◌<◌, IfSome, length, option_map, true};
 ghost use Rattle.std.specs.List.{list_any};
 ghost use Rattle.rules_machine.specs.Lists.{is};
 ghost use Rattle.rules_machine.specs.Queues.{has_room, message_of as message_in_wait, registered, waits_to_receive, waits_to_send, with_message};
@@ -61,46 +61,6 @@ impl Parts {
         self.queues.register(q, registration);
     }
 
-    /// The notification that is asked of the queue; `None` exactly where there is none.
-    pub fn registration(&self, q: ObjId) -> Option<Registration>
-        requires { q < length self.now.machine.queues }
-        ensures { result ≡ (queue_at self.now.machine q).registration }
-    {
-        self.queues.registration(q)
-    }
-
-    /// Whether calls on the queue do not block.
-    pub fn is_nonblock(&self, q: ObjId) -> bool
-        requires { q < length self.now.machine.queues }
-        ensures { result ≡ (queue_at self.now.machine q).is_nonblock }
-    {
-        self.queues.is_nonblock(q)
-    }
-
-    /// Whether one message more has room in the queue.
-    pub fn has_room(&self, q: ObjId) -> bool
-        requires { q < length self.now.machine.queues }
-        ensures { result ≡ has_room (queue_at self.now.machine q) }
-    {
-        self.queues.has_room(q)
-    }
-
-    /// Whether the queue has no message.
-    pub fn is_queue_empty(&self, q: ObjId) -> bool
-        requires { q < length self.now.machine.queues }
-        ensures { result ≡ (length (queue_at self.now.machine q).messages == 0) }
-    {
-        self.queues.is_empty(q)
-    }
-
-    /// Whether a message of this length is longer than those that the queue takes.
-    pub fn is_too_long(&self, q: ObjId, len: u32) -> bool
-        requires { q < length self.now.machine.queues }
-        ensures { result ≡ nat_lt (queue_at self.now.machine q).longest len }
-    {
-        self.queues.is_too_long(q, len)
-    }
-
     /// Whether the last notification of the queue is still pending.
     pub fn is_notification_pending(&self, q: ObjId) -> bool
         ensures { result ≡ list_any (λ (r : machine.SignalRecord). is r.queue q) self.now.machine.pending }
@@ -132,7 +92,7 @@ impl Parts {
         requires { t < length self.now.names }
         ensures { message_of result ≡ waiting_message self.now.machine t }
     {
-        match self.wait(t) {
+        match self.thread(t).wait() {
             Some(wait) => message_in(&wait),
             None => message_in(&Wait::Time),
         }

@@ -1,5 +1,5 @@
-// Owners and counts of mutexes, and who waits for them.
-ghost use Rattle.std.specs.Prelude.{◌≡◌, ◌<◌, Bool, IfSome, None, Some, length, option_map, true};
+//! Owners and counts of mutexes, and who waits for them.
+ghost use Rattle.std.specs.Prelude.{◌≡◌, ◌<◌, Bool, IfSome, None, length, option_map, true};
 ghost use Rattle.rules_machine.specs.Mutexes.{closes_cycle, freed, is_above_ceiling, taken_by};
 ghost use Rattle.rules_machine.specs.Priorities.{mutex_awaited_by};
 ghost use Rattle.rules_machine.specs.State.{Wait};
@@ -9,10 +9,10 @@ ghost use Rattle.rules_machine.specs.Threads.{is_blocked, mutex_at, thread_at};
 ghost use Rattle.rules_machine.specs.Turns.{changes, changes_mutex, ◌▷◌};
 ghost use Rattle.rules_machine.specs.Waiters.{Waiter, best_waiter};
 ghost use Rattle.rules_machine.specs.Waking.{wakes, woken};
-ghost use Rattle.parts_owners.specs.Chains.{counted, freed_if, is_plainly_free, taken_if};
+ghost use Rattle.parts_owners.specs.Chains.{counted, is_plainly_free, taken_if};
 ghost use Rattle.kernel_state.specs.Kernel.{after};
 ghost use Rattle.kernel_state.specs.Does.{Does};
-ghost use Rattle.kernel_state.specs.Callers.{CanRise};
+ghost use Rattle.kernel_state.specs.Callers.{CanRise, IsOwner};
 
 use crate::parts::Parts;
 use parts_io::Sink;
@@ -88,34 +88,10 @@ impl Parts {
         self.table.take_at_once(k, t)
     }
 
-    /// The mutex, which the thread owned, is free. Mostly that lowers nobody.
+    /// The mutex, which the thread owned, is free.
     #[inline(always)]
-    #[tactic(auto, using(crate::proofs::LeftAlone::left_alone))]
     pub fn release_mutex(&mut self, k: ObjId, t: Tid)
-        requires mutex { k < length self.old.machine.mutexes }
-        requires owned { (mutex_at self.old.machine k).owner ≡ Some t }
-        ensures { self.new ≡ after (changes_mutex k freed) self.old }
-    {
-        if !self.release_at_once(k, t) {
-            self.release_raised(k, t);
-        }
-    }
-
-    // It is free where the thread has its assigned priority. The answer is whether it has.
-    #[inline(always)]
-    fn release_at_once(&mut self, k: ObjId, t: Tid) -> bool
-        requires mutex { k < length self.old.machine.mutexes }
-        requires owned { (mutex_at self.old.machine k).owner ≡ Some t }
-        ensures { self.new ≡ after (changes_mutex k (freed_if result)) self.old }
-    {
-        self.table.release_at_once(k, t)
-    }
-
-    // It is free, and the priority of the thread follows.
-    #[inline(never)]
-    fn release_raised(&mut self, k: ObjId, t: Tid)
-        requires mutex { k < length self.old.machine.mutexes }
-        requires owned { (mutex_at self.old.machine k).owner ≡ Some t }
+        requires { IsOwner self.old.machine k t }
         ensures { self.new ≡ after (changes_mutex k freed) self.old }
     {
         let moved = self.table.release(k, t);
@@ -125,8 +101,7 @@ impl Parts {
     // The mutex goes from its owner to a thread that is runnable again.
     pub(crate) fn hand_over(&mut self, k: ObjId, owner: Tid, t: Tid, res: Res)
         requires known { t < length self.old.names }
-        requires mutex { k < length self.old.machine.mutexes }
-        requires owned { (mutex_at self.old.machine k).owner ≡ Some owner }
+        requires owner { IsOwner self.old.machine k owner }
         ensures { self.new ≡ after (λ s. s ▷ changes_mutex k (taken_by t) ▷ changes t (woken res 0)) self.old }
     {
         let (released, woken) = self.table.hand_over(k, owner, t, res, 0);
@@ -145,11 +120,10 @@ impl Parts {
         out: &mut Tracer<'_, K>,
     )
         requires can { CanRise self.old t }
-        requires mutex { k < length self.old.machine.mutexes }
-        requires owned { (mutex_at self.old.machine k).owner ≡ Some owner }
+        requires owner { IsOwner self.old.machine k owner }
         ensures { Does K.text K.faults (λ s. s ▷ changes_mutex k (taken_by t) ▷ wakes t res 0) self.old self.new out.old out.new }
     {
-        let call = self.waiting_call(t);
+        let call = self.thread(t).waiting_call();
         self.hand_over(k, owner, t, res);
         self.rise(&Event::Return(t, call_name(&call), res, 0), t, out);
     }

@@ -1,4 +1,4 @@
-// The threads that a settling looks at.
+//! The threads that a settling looks at.
 ghost use Rattle.std.specs.Prelude.{◌≡◌, ◌<◌, ◌↔◌, ℕ, IfSome, MatchOption, false, true};
 ghost use Rattle.parts_bits.specs.Sets.{HasNoneFrom, HasNoOther, IsFirstFrom, Turns, has};
 ghost use Rattle.kernel_state.specs.Members.{TakesIn};

@@ -1,4 +1,4 @@
-// The kernel of a script.
+//! The kernel of a script.
 ghost use Rattle.std.specs.Prelude.{◌≡◌, ◌≤◌, ◌<◌, ◌+◌, ◌++◌, map, length, option_to_list, IfOk};
 ghost use Rattle.rules_machine.specs.Declarations.{declared_thread, threads_of};
 ghost use Rattle.rules_machine.specs.Machine.{names_of};

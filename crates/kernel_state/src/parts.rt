@@ -1,4 +1,4 @@
-// All parts of the kernel, and the smallest changes of them.
+//! All parts of the kernel, and the smallest changes of them.
 ghost use Rattle.std.specs.Prelude.{◌≡◌, ◌≤◌, ◌<◌, ◌^◌, [], length, slice_index, false};
 ghost use Rattle.words_trace.specs.Text.{IsNamed};
 ghost use Rattle.parts_tracer.specs.Tells.{Tells};

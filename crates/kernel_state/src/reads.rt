@@ -1,4 +1,4 @@
-// What can be read of all parts.
+//! What can be read of all parts.
 ghost use Rattle.std.specs.Prelude.{◌≡◌, ◌≤◌, ◌<◌, IfSome, length, slice_get};
 ghost use Rattle.std.specs.List.{AllByRecursion};
 ghost use Rattle.rules_lists.specs.Lists.{list_of};
@@ -6,10 +6,11 @@ ghost use Rattle.rules_machine.specs.State as machine;
 ghost use Rattle.rules_machine.specs.Threads.{queue_at, thread_at, timer_at};
 
 use crate::parts::Parts;
-use kernel_queues::HeldMessage;
+use kernel_queues::{HeldMessage, MessageQueue};
 use kernel_signals::SignalRecord;
 use kernel_threads::Thread;
-use words_numbers::{ObjId, Prio, Tick, Tid};
+use kernel_timers::Timer;
+use words_numbers::{ObjId, Prio, Tid};
 
 impl Parts {
     /// A thread as it stands.
@@ -18,6 +19,22 @@ impl Parts {
         ensures { result.now ≡ thread_at self.now.machine t }
     {
         self.table.thread(t)
+    }
+
+    /// A timer as it stands.
+    pub fn timer(&self, k: ObjId) -> &Timer
+        requires { k < length self.now.machine.timers }
+        ensures { result.now ≡ timer_at self.now.machine k }
+    {
+        self.table.timer(k)
+    }
+
+    /// A message queue as it stands.
+    pub fn queue(&self, q: ObjId) -> &MessageQueue
+        requires { q < length self.now.machine.queues }
+        ensures { result.now ≡ queue_at self.now.machine q }
+    {
+        self.queues.get(q)
     }
 
     /// The thread at a place of the list of this priority, from 0 on, the head first; `None` exactly where the list is not so long.
@@ -74,22 +91,6 @@ impl Parts {
         self.actions.count()
     }
 
-    /// When a timer expires next; `None` exactly where it is disarmed.
-    pub fn timer_due(&self, k: ObjId) -> Option<Tick>
-        requires { k < length self.now.machine.timers }
-        ensures { result ≡ (timer_at self.now.machine k).due }
-    {
-        self.table.timer_due(k)
-    }
-
-    /// The ticks from one expiry of a timer to the next; 0 where it expires once.
-    pub fn timer_interval(&self, k: ObjId) -> u64
-        requires { k < length self.now.machine.timers }
-        ensures { result ≡ (timer_at self.now.machine k).interval }
-    {
-        self.table.timer_interval(k)
-    }
-
     /// The message of a queue at a place in the order of arrival, from 0 on; it stays. `None` exactly where the queue does not hold so
     /// many.
     pub fn message(&self, q: ObjId, place: u32) -> Option<HeldMessage>
@@ -98,7 +99,9 @@ impl Parts {
         ensures few { IfSome result (λ _. place < 65536) }
         ensures priorities { AllByRecursion (λ (m : machine.Message). m.priority < 32) (queue_at self.now.machine q).messages }
     {
-        self.queues.nth(q, place)
+        let queue = self.queues.get(q);
+        queue.know_priorities();
+        queue.nth(place)
     }
 
     /// The pending record at a place in the order in which they became pending, from 0 on; it stays. `None` exactly where not so many are

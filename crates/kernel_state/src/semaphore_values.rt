@@ -1,4 +1,4 @@
-// The values of semaphores.
+//! The values of semaphores.
 ghost use Rattle.std.specs.Prelude.{◌≡◌, ◌≤◌, ◌<◌, length, pred, suc};
 ghost use Rattle.rules_machine.specs.Semaphores.{semaphore_limit};
 ghost use Rattle.rules_machine.specs.Threads.{semaphore_at};

@@ -1,16 +1,16 @@
-// What is told of a server beside its changes: activations, plans, and the runs of a strict one (the rules are those of SCHED_SPORADIC,
-// IEEE 1003.1-2017, XSH 2.8.4; runs are this project's own).
+//! What is told of a server beside its changes: activations, plans, and the runs of a strict one (the rules are those of SCHED_SPORADIC,
+//! IEEE 1003.1-2017, XSH 2.8.4; runs are this project's own).
 ghost use Rattle.std.specs.Prelude.{◌≡◌, ◌≤◌, ◌<◌, ◌^◌, ℕ, IfSome, false, length, true};
 ghost use Rattle.rules_server.specs.Server.{activate};
 ghost use Rattle.rules_machine.specs.declared.dispatch.LastDispatch.TheVariants as last;
 ghost use Rattle.rules_machine.specs.Dispatch.{is_same};
-ghost use Rattle.rules_machine.specs.Servers.{activates, activates_if_high, closes, has_run, opens, plans, with_server};
+ghost use Rattle.rules_machine.specs.Servers.{activates, activates_if_high, closes, has_run, opens, plans};
 ghost use Rattle.rules_machine.specs.Threads.{thread_at};
 ghost use Rattle.rules_machine.specs.Ticks.{consumed_in};
 ghost use Rattle.rules_machine.specs.Turns.{changes};
-ghost use Rattle.kernel_threads.specs.Unused.{IsUnused};
 ghost use Rattle.kernel_state.specs.Kernel.{activates_now, told};
 ghost use Rattle.kernel_state.specs.Does.{Does};
+ghost use Rattle.kernel_state.specs.Callers.{CanActivate};
 
 use crate::parts::Parts;
 use parts_io::Sink;
@@ -33,12 +33,10 @@ impl Parts {
     /// A thread whose assigned priority is the high one is activated.
     #[tactic(auto, using(crate::proofs::Activations::high_unused))]
     pub fn activate_if_high<K: Sink>(&mut self, t: Tid, out: &mut Tracer<'_, K>)
-        requires known { t < length self.old.names }
-        requires unused { IsUnused (thread_at self.old.machine t).server }
-        requires early { self.old.machine.now ≤ 10 ^ 18 }
+        requires { CanActivate self.old t }
         ensures { Does K.text K.faults (activates_if_high t) self.old self.new out.old out.new }
     {
-        match self.high_capacity(t) {
+        match self.thread(t).high_capacity() {
             None => return,
             Some(capacity) => self.activate_now(t, capacity, out),
         }
@@ -47,12 +45,10 @@ impl Parts {
     /// A thread that has a server is activated, where that is made at once.
     #[tactic(auto, using(crate::proofs::Activations::some_unused))]
     pub fn activate<K: Sink>(&mut self, t: Tid, out: &mut Tracer<'_, K>)
-        requires known { t < length self.old.names }
-        requires unused { IsUnused (thread_at self.old.machine t).server }
-        requires early { self.old.machine.now ≤ 10 ^ 18 }
+        requires { CanActivate self.old t }
         ensures { Does K.text K.faults (activates t) self.old self.new out.old out.new }
     {
-        match self.capacity(t) {
+        match self.thread(t).capacity() {
             None => return,
             Some(capacity) => self.activate_now(t, capacity, out),
         }
@@ -95,7 +91,7 @@ impl Parts {
         let Some(t) = to else {
             return;
         };
-        match self.opening_capacity(*t) {
+        match self.thread(*t).opening_capacity() {
             None => return,
             Some(capacity) => self.activate_now(*t, capacity, out),
         }

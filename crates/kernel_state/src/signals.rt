@@ -1,14 +1,14 @@
-// Signals: what they do, and the pending ones.
+//! Signals: what they do, and the pending ones.
 ghost use Rattle.std.specs.Prelude.{◌≡◌, ◌≤◌, ◌<◌, ◌^◌, ◌↔◌, ◌&&◌, [], Contains, IfSome, IsTrue, None, Some, length, option_map, true, if◌then◌else◌};
 ghost use Rattle.words_numbers.specs.Signals.{has_signal};
 ghost use Rattle.rules_bodies.specs.Next.{capped};
 ghost use Rattle.rules_machine.specs.declared.frame.BodyOf.{BodyOf};
 ghost use Rattle.rules_machine.specs.declared.frame.FrameKind.{FrameKind};
-ghost use Rattle.rules_machine.specs.Delivery.{kills, taken_by_sweep, ticks_left};
+ghost use Rattle.rules_machine.specs.Delivery.{kills, taken_by_sweep};
 ghost use Rattle.rules_machine.specs.Lives.{without_target};
-ghost use Rattle.rules_machine.specs.Signals.{accepts, acceptor, becomes_pending, may_go_to, is_full, selected, tells_overrun, with_signals, without_record, without_signals};
+ghost use Rattle.rules_machine.specs.Signals.{accepts, acceptor, becomes_pending, may_go_to, is_full, selected, tells_overrun, without_record};
 ghost use Rattle.rules_machine.specs.State as machine;
-ghost use Rattle.rules_machine.specs.Threads.{action_of, is_blocked, thread_at, waiting_of as waiting_at};
+ghost use Rattle.rules_machine.specs.Threads.{action_of, is_blocked, thread_at};
 ghost use Rattle.rules_machine.specs.Turns.{changes, changes_pending};
 ghost use Rattle.rules_machine.specs.Waiters.{Waiter, waits_so};
 ghost use Rattle.rules_machine.specs.Waking.{new_frame, on_top};
@@ -49,6 +49,7 @@ impl Parts {
     }
 
     /// The pending record that the sweep takes for a thread; it stays. `None` exactly where there is none.
+    #[inline(always)]
     pub fn next_signal(&self, t: Tid) -> Option<SignalRecord>
         requires { t < length self.now.names }
         ensures value { result ≡ taken_by_sweep self.now.machine t }
@@ -118,36 +119,12 @@ impl Parts {
         self.killed = Some(signal);
     }
 
-    /// The mask of a thread with more signals.
-    pub fn mask_with(&self, t: Tid, more: SigSet) -> SigSet
-        requires { t < length self.now.names }
-        ensures { result ≡ with_signals more (thread_at self.now.machine t).mask }
-    {
-        self.table.thread(t).mask_with(more)
-    }
-
-    /// The mask of a thread with fewer signals.
-    pub fn mask_without(&self, t: Tid, fewer: SigSet) -> SigSet
-        requires { t < length self.now.names }
-        ensures { result ≡ without_signals fewer (thread_at self.now.machine t).mask }
-    {
-        self.table.thread(t).mask_without(fewer)
-    }
-
     /// The signals that a thread blocks.
     pub fn set_mask(&mut self, t: Tid, mask: SigSet)
         requires { t < length self.old.names }
         ensures { self.new ≡ after (changes t (λ th. record th { mask = mask })) self.old }
     {
         self.table.set_mask(t, mask);
-    }
-
-    /// What the call of a thread answers where a handler interrupts its wait. `None` exactly where it does not wait.
-    pub fn interrupted(&self, t: Tid) -> Option<u64>
-        requires { t < length self.now.names }
-        ensures { result ≡ option_map (λ (w : machine.Waiting). ticks_left w.call w.due self.now.machine.now) (waiting_at self.now.machine t) }
-    {
-        self.table.thread(t).interrupted(self.instant)
     }
 
     /// A handler of a signal runs in a frame of its own.

@@ -1,8 +1,8 @@
-// The interval timers.
+//! The interval timers.
 ghost use Rattle.std.specs.Prelude.{◌≡◌, ◌≤◌, ◌<◌, ◌^◌, length};
 ghost use Rattle.rules_machine.specs.Signals.{with_overrun_told};
 ghost use Rattle.rules_machine.specs.Threads.{timer_at};
-ghost use Rattle.rules_machine.specs.Timers.{armed, armed_again, is_pending_from, overrun_once_more, record_of_timer, ticks_to};
+ghost use Rattle.rules_machine.specs.Timers.{armed, armed_again, is_pending_from, overrun_once_more, record_of_timer};
 ghost use Rattle.rules_machine.specs.Turns.{changes_timer};
 ghost use Rattle.kernel_state.specs.Kernel.{after};
 
@@ -48,28 +48,13 @@ impl Parts {
         }
     }
 
-    /// The ticks from now until the timer expires; 0 where it is disarmed, or due by now.
-    pub fn ticks_to_expiry(&self, k: ObjId) -> u64
-        requires { k < length self.now.machine.timers }
-        ensures { result ≡ ticks_to (timer_at self.now.machine k).due self.now.machine.now }
-    {
-        self.table.ticks_to_expiry(k, self.instant)
-    }
-
-    /// The overrun of the timer's last signal, at most 2,147,483,647.
-    pub fn overrun(&self, k: ObjId) -> u32
-        requires { k < length self.now.machine.timers }
-        ensures { result ≡ (timer_at self.now.machine k).overrun }
-    {
-        self.table.overrun(k)
-    }
-
     /// The record of an expiry of the timer.
     pub fn timer_record(&self, k: ObjId) -> SignalRecord
         requires { k < length self.now.machine.timers }
         ensures { result ≡ record_of_timer k (timer_at self.now.machine k) }
     {
-        SignalRecord::of_timer(k, self.table.timer_signal(k), self.table.timer_value(k))
+        let timer = self.timer(k);
+        SignalRecord::of_timer(k, timer.signal(), timer.value())
     }
 
     /// Whether a record of the timer is pending.

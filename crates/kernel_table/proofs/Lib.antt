@@ -13,3 +13,4 @@ pub mod Accepting
 pub mod Charges
 pub mod Planning
 pub mod Runs
+pub mod LeftAlone

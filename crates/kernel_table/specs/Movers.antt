@@ -49,6 +49,25 @@ beside t (Some u) = if u == t then None else Some u
 abbrev pub KeepsExec : Table → Table → Type 0
 KeepsExec old new = (u : ℕ) → u < length old.threads → exec new u ≡ exec old u
 
+-- ---- a change, and whose execution priority it changed
+
+-- nobody's
+pub record KeepsPriorities (change : Table → Table) (old new : Table) : Type 0 where
+  pub table : new ≡ change old
+  pub same : KeepsExec old new
+
+-- that of one thread that stands among no waiters, or of none
+pub record MovesPriority (change : Table → Table) (old new : Table) (m : Option ℕ) : Type 0 where
+  pub table : new ≡ change old
+  pub moved : TellsMoved old new m
+
+-- that of one such thread beside t, or of none
+pub record MovesPriorityBeside (t : ℕ) (change : Table → Table) (old new : Table) (m : Option ℕ) : Type 0 where
+  pub table : new ≡ change old
+  pub moved : TellsMovedBeside t old new m
+
+-- ---- two threads at once
+
 -- each thread that stands among no waiters has the execution priority that it had, but for t and for those that are told
 abbrev pub KeepsOthers : ℕ → Option ℕ → Option ℕ → Table → Table → Type 0
 KeepsOthers t a b old new = (u : ℕ) → IsFree new u → u ≢ t → is a u ≡ false → is b u ≡ false → exec new u ≡ exec old u

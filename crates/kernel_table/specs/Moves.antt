@@ -4,12 +4,26 @@ use Rattle.rules_machine.specs.State.{Waiting}
 use Rattle.parts_waiters.specs.Ties.{object_of, place_at}
 use Rattle.parts_waiters.specs.declared.Place.{Place}
 use Rattle.parts_owners.specs.Chains.{Links, closes_cycle_in, exec_of, mutex_at}
-use Rattle.parts_owners.specs.Moves.{SamePlaces, StandsAt}
+use Rattle.parts_owners.specs.declared.walk.Moved.{Moved}
+use Rattle.parts_owners.specs.Moves.{IsPlaced, SamePlaces, StandsAt, TellsMoved}
 
 -- each thread stands where it stood, at its new priority
 pub record ArePriced (new : Links) (before after : List (Option Place)) : Type 0 where
   pub same : SamePlaces before after
   pub stand : StandsAt (exec_of new) after
+
+-- a thread of the links, whose waiters stand in those places
+pub record CanRelink (links : Links) (places : List (Option Place)) (t : ℕ) : Type 0 where
+  pub known : t < length links.claims
+  pub placed : IsPlaced links places
+
+-- the links become these, the waiters stand as in those places, each at its new priority, and the one thread that stands nowhere and whose
+-- priority changed is told
+pub record Relinks (links : Links) (places : List (Option Place)) (old new : Links) (after : List (Option Place)) (result : Option Moved) : Type 0 where
+  pub chain : new ≡ links
+  pub waits : ArePriced new places after
+  pub placed : IsPlaced new after
+  pub moved : TellsMoved (length old.claims) (exec_of old) (exec_of new) after result
 
 -- the place of a thread that begins to wait at its execution priority
 abbrev pub beginning : Links → ℕ → Waiting → Option Place

@@ -1,4 +1,4 @@
-// The changes of one thread that leave its wait as it is, or end it.
+//! The changes of one thread that leave its wait as it is, or end it.
 ghost use Rattle.std.specs.Prelude.{◌≡◌, ◌<◌, ◌≤◌, ◌^◌, None, Some, is_some, length, max, option_map, true};
 ghost use Rattle.rules_server.specs.Server.{activate, plan, refill, replenishment};
 ghost use Rattle.rules_machine.specs.Scheduling.{takes_priority, with_policy, with_priority};
@@ -7,14 +7,13 @@ ghost use Rattle.rules_machine.specs.Threads.{thread_in, waiting_in};
 ghost use Rattle.rules_machine.specs.Ticks.{consumed_in, without_slice};
 ghost use Rattle.rules_machine.specs.Turns.{answered};
 ghost use Rattle.rules_machine.specs.Waking.{woken};
-ghost use Rattle.rules_flat_code.specs.Placed.{ArePlaced};
 ghost use Rattle.kernel_threads.specs.Ends.{refilled_of};
-ghost use Rattle.kernel_threads.specs.Handlers.{CanEnd, HandlersBegin};
+ghost use Rattle.kernel_threads.specs.Handlers.{CanTake};
 ghost use Rattle.kernel_threads.specs.Running.{HasRun, HasTime};
 ghost use Rattle.kernel_threads.specs.Sleeping.{waits_for_time};
 ghost use Rattle.kernel_table.specs.Table as table;
 ghost use Rattle.kernel_table.specs.Table.{with_thread};
-ghost use Rattle.kernel_table.specs.Movers.{KeepsExec, TellsMoved};
+ghost use Rattle.kernel_table.specs.Movers.{KeepsPriorities, MovesPriority, TellsMoved};
 
 use crate::links::{reassign, reassign_changed, stands_nowhere, stop_waiting};
 use crate::movers::thread_of;
@@ -33,19 +32,31 @@ impl Table {
     /// The last call of its body has that answer. No execution priority changes.
     pub fn answer(&mut self, t: Tid, res: Res, value: u64)
         requires { t < length self.old.threads }
-        ensures table { self.new ≡ with_thread t (answered res value) self.old }
-        ensures same { KeepsExec self.old self.new }
+        ensures { KeepsPriorities (with_thread t (answered res value)) self.old self.new }
     {
         self.threads.get_mut(t).answer(res, value);
     }
 
     /// It is runnable, with that answer and a new round robin interval, and waits for nothing. The answer is the one thread that stands
-    /// among no waiters and whose execution priority changed; `None` exactly where there is none.
-    #[tactic(auto, using(crate::proofs::Ties::placed))]
+    /// among no waiters and whose execution priority changed; `None` exactly where there is none. Mostly it waited for an instant alone.
+    #[inline(always)]
     pub fn wake(&mut self, t: Tid, res: Res, value: u64) -> Option<Tid>
         requires { t < length self.old.threads }
-        ensures table { self.new ≡ with_thread t (woken res value) self.old }
-        ensures moved { TellsMoved self.old self.new result }
+        ensures { MovesPriority (with_thread t (woken res value)) self.old self.new result }
+    {
+        if self.threads.get(t).waits_for_time() {
+            self.wake_sleeper(t, res, value);
+            return None;
+        }
+        self.wake_in_full(t, res, value)
+    }
+
+    // Whatever it waits for.
+    #[inline(never)]
+    #[tactic(auto, using(crate::proofs::Ties::placed))]
+    fn wake_in_full(&mut self, t: Tid, res: Res, value: u64) -> Option<Tid>
+        requires { t < length self.old.threads }
+        ensures { MovesPriority (with_thread t (woken res value)) self.old self.new result }
     {
         let moved = stop_waiting(&mut self.chain, &mut self.waits, t);
         self.threads.get_mut(t).wake(res, value);
@@ -53,14 +64,13 @@ impl Table {
         thread_of(moved)
     }
 
-    /// The same of a thread that waits for nothing but an instant. No execution priority changes of a thread that stands among no waiters.
+    // Where it waits for nothing but an instant. No execution priority changes of a thread that stands among no waiters.
     #[inline(always)]
     #[tactic(auto, using(crate::proofs::Ties::placed))]
-    pub fn wake_sleeper(&mut self, t: Tid, res: Res, value: u64)
+    fn wake_sleeper(&mut self, t: Tid, res: Res, value: u64)
         requires known { t < length self.old.threads }
         requires sleeps { waits_for_time (waiting_in (thread_in self.old.threads t).status) ≡ true }
-        ensures table { self.new ≡ with_thread t (woken res value) self.old }
-        ensures same { TellsMoved self.old self.new None }
+        ensures { MovesPriority (with_thread t (woken res value)) self.old self.new None }
     {
         stands_nowhere(&self.chain, &self.waits, t);
         self.threads.get_mut(t).wake(res, value);
@@ -73,8 +83,7 @@ impl Table {
     pub fn set_priority(&mut self, t: Tid, p: Prio) -> Option<Tid>
         requires known { t < length self.old.threads }
         requires takes { takes_priority (thread_in self.old.threads t).policy p ≡ true }
-        ensures table { self.new ≡ with_thread t (with_priority p) self.old }
-        ensures moved { TellsMoved self.old self.new result }
+        ensures { MovesPriority (with_thread t (with_priority p)) self.old self.new result }
     {
         self.threads.get_mut(t).set_priority(p);
         thread_of(reassign(&self.threads, &mut self.chain, &mut self.waits, t))
@@ -85,8 +94,7 @@ impl Table {
         requires known { t < length self.old.threads }
         requires unused { consumed_in (thread_in self.old.threads t).server ≡ 0 }
         requires early { now ≤ 10 ^ 18 }
-        ensures table { self.new ≡ with_thread t (with_server (activate now)) self.old }
-        ensures same { KeepsExec self.old self.new }
+        ensures { KeepsPriorities (with_thread t (with_server (activate now))) self.old self.new }
     {
         self.threads.get_mut(t).activate(now);
     }
@@ -94,8 +102,7 @@ impl Table {
     /// Its round robin interval begins anew. No execution priority changes.
     pub fn clear_slice(&mut self, t: Tid)
         requires { t < length self.old.threads }
-        ensures table { self.new ≡ with_thread t without_slice self.old }
-        ensures same { KeepsExec self.old self.new }
+        ensures { KeepsPriorities (with_thread t without_slice) self.old self.new }
     {
         self.threads.get_mut(t).clear_slice();
     }
@@ -106,8 +113,7 @@ impl Table {
     pub fn set_policy(&mut self, t: Tid, new: Policy, now: Tick) -> Option<Tid>
         requires known { t < length self.old.threads }
         requires early { now ≤ 10 ^ 18 }
-        ensures table { self.new ≡ with_thread t (with_policy new now) self.old }
-        ensures moved { TellsMoved self.old self.new result }
+        ensures { MovesPriority (with_thread t (with_policy new now)) self.old self.new result }
     {
         self.threads.get_mut(t).set_policy(new, now);
         retime_refill(&self.threads, &mut self.wheel, t);
@@ -121,8 +127,7 @@ impl Table {
         requires known { t < length self.old.threads }
         requires used { 1 ≤ consumed_in (thread_in self.old.threads t).server }
         ensures value { Some result.0 ≡ option_map replenishment (thread_in self.old.threads t).server }
-        ensures table { self.new ≡ with_thread t (with_server plan) self.old }
-        ensures moved { TellsMoved self.old self.new result.1 }
+        ensures change { MovesPriority (with_thread t (with_server plan)) self.old self.new result.1 }
     {
         let planned = self.threads.get_mut(t).plan_next();
         let moved = take_plan(
@@ -144,8 +149,7 @@ impl Table {
         requires known { t < length self.old.threads }
         requires server { is_some (thread_in self.old.threads t).server ≡ true }
         ensures value { Some result.0 ≡ option_map refilled_of (thread_in self.old.threads t).server }
-        ensures table { self.new ≡ with_thread t (with_server refill) self.old }
-        ensures moved { TellsMoved self.old self.new result.1 }
+        ensures change { MovesPriority (with_thread t (with_server refill)) self.old self.new result.1 }
     {
         let (refilled, next) = self.threads.get_mut(t).refill_oldest();
         time_refill(&mut self.wheel, t, next);
@@ -172,13 +176,10 @@ impl Table {
         steps: &mut Steps<L>,
     ) -> (Ran, Option<Tid>)
         requires known { t < length self.old.threads }
-        requires placed { ArePlaced code.now (thread_in self.old.threads t).frames }
-        requires begins { HandlersBegin code.now }
-        requires ends { (thread_in self.old.threads t).is_ending ≡ true → CanEnd (length code.now.cleanups) (thread_in self.old.threads t) }
+        requires can { CanTake code.now (thread_in self.old.threads t) }
         requires room { HasTime (max 1 most) (thread_in self.old.threads t) }
-        ensures table { self.new ≡ with_thread t (λ th. thread_in self.new.threads t) self.old }
+        ensures change { MovesPriority (with_thread t (λ th. thread_in self.new.threads t)) self.old self.new result.1 }
         ensures ran { HasRun code.now most quantum result.0 (thread_in self.old.threads t) (thread_in self.new.threads t) steps.old steps.new }
-        ensures moved { TellsMoved self.old self.new result.1 }
     {
         let ran = self.threads.get_mut(t).run(code, most, quantum, steps);
         let moved = reassign_changed(

@@ -1,4 +1,4 @@
-// Joining, requests and cleanup handlers: no claim, wait or due item changes.
+//! Joining, requests and cleanup handlers: no claim, wait or due item changes.
 ghost use Rattle.std.specs.Prelude.{◌≡◌, ◌≤◌, ◌<◌, ◌∷◌, length, true};
 ghost use Rattle.rules_bodies.specs.declared.cursor.Cursor.{Cursor};
 ghost use Rattle.rules_machine.specs.declared.frame.BodyOf.{BodyOf};
@@ -9,11 +9,11 @@ ghost use Rattle.rules_machine.specs.State.{Thread};
 ghost use Rattle.rules_machine.specs.Threads.{thread_in};
 ghost use Rattle.rules_machine.specs.Waking.{ending_with, new_frame, on_top};
 ghost use Rattle.rules_flat_code.specs.FlatBodies.{flat_bodies};
-ghost use Rattle.kernel_threads.specs.Handlers.{HandlersBegin};
+ghost use Rattle.kernel_threads.specs.Handlers.{HasCleanup};
 ghost use Rattle.kernel_threads.specs.Plain.{joiner_of};
 ghost use Rattle.kernel_table.specs.Table as table;
 ghost use Rattle.kernel_table.specs.Table.{with_thread};
-ghost use Rattle.kernel_table.specs.Movers.{KeepsExec};
+ghost use Rattle.kernel_table.specs.Movers.{KeepsPriorities};
 
 use crate::table::Table;
 use kernel_threads::Joiner;
@@ -25,8 +25,7 @@ impl Table {
     /// Who joins it. No execution priority changes.
     pub fn set_joiner(&mut self, t: Tid, joiner: Joiner)
         requires { t < length self.old.threads }
-        ensures table { self.new ≡ with_thread t (with_joiner (joiner_of joiner)) self.old }
-        ensures same { KeepsExec self.old self.new }
+        ensures { KeepsPriorities (with_thread t (with_joiner (joiner_of joiner))) self.old self.new }
     {
         self.threads.get_mut(t).set_joiner(joiner);
     }
@@ -34,8 +33,7 @@ impl Table {
     /// It is asked to end. No execution priority changes.
     pub fn request(&mut self, t: Tid)
         requires { t < length self.old.threads }
-        ensures table { self.new ≡ with_thread t requested self.old }
-        ensures same { KeepsExec self.old self.new }
+        ensures { KeepsPriorities (with_thread t requested) self.old self.new }
     {
         self.threads.get_mut(t).request();
     }
@@ -43,8 +41,7 @@ impl Table {
     /// Whether a request may act in it. No execution priority changes.
     pub fn set_enabled(&mut self, t: Tid, on: bool)
         requires { t < length self.old.threads }
-        ensures table { self.new ≡ with_thread t (λ th. record th { is_enabled = on }) self.old }
-        ensures same { KeepsExec self.old self.new }
+        ensures { KeepsPriorities (with_thread t (λ th. record th { is_enabled = on })) self.old self.new }
     {
         self.threads.get_mut(t).set_enabled(on);
     }
@@ -52,8 +49,7 @@ impl Table {
     /// It is ending, with that value. No execution priority changes.
     pub fn end_with(&mut self, t: Tid, value: u64)
         requires { t < length self.old.threads }
-        ensures table { self.new ≡ with_thread t (ending_with value) self.old }
-        ensures same { KeepsExec self.old self.new }
+        ensures { KeepsPriorities (with_thread t (ending_with value)) self.old self.new }
     {
         self.threads.get_mut(t).end_with(value);
     }
@@ -61,8 +57,7 @@ impl Table {
     /// Its present body ends, and the one below goes on. No execution priority changes.
     pub fn drop_frame(&mut self, t: Tid)
         requires { t < length self.old.threads }
-        ensures table { self.new ≡ with_thread t without_top self.old }
-        ensures same { KeepsExec self.old self.new }
+        ensures { KeepsPriorities (with_thread t without_top) self.old self.new }
     {
         self.threads.get_mut(t).drop_frame();
     }
@@ -71,8 +66,7 @@ impl Table {
     pub fn push_cleanup(&mut self, t: Tid, u: ObjId)
         requires known { t < length self.old.threads }
         requires room { length (thread_in self.old.threads t).cleanups < 8 }
-        ensures table { self.new ≡ with_thread t (λ th. record th { cleanups = u ∷ th.cleanups }) self.old }
-        ensures same { KeepsExec self.old self.new }
+        ensures { KeepsPriorities (with_thread t (λ th. record th { cleanups = u ∷ th.cleanups })) self.old self.new }
     {
         self.threads.get_mut(t).push_cleanup(u);
     }
@@ -80,8 +74,7 @@ impl Table {
     /// The cleanup handler that was pushed last is gone. No execution priority changes.
     pub fn drop_cleanup(&mut self, t: Tid)
         requires { t < length self.old.threads }
-        ensures table { self.new ≡ with_thread t without_cleanup self.old }
-        ensures same { KeepsExec self.old self.new }
+        ensures { KeepsPriorities (with_thread t without_cleanup) self.old self.new }
     {
         self.threads.get_mut(t).drop_cleanup();
     }
@@ -89,11 +82,9 @@ impl Table {
     /// A cleanup handler runs in a frame of its own. No execution priority changes.
     pub fn run_cleanup(&mut self, t: Tid, code: &Code, u: ObjId)
         requires known { t < length self.old.threads }
-        requires handler { u < length code.now.cleanups }
-        requires begins { HandlersBegin code.now }
+        requires cleanup { HasCleanup code.now u }
         requires room { length (thread_in self.old.threads t).frames ≤ 2 }
-        ensures table { self.new ≡ with_thread t (on_top (new_frame (flat_bodies code.now) FrameKind.Cleanup (BodyOf.Cleanup u) 0)) self.old }
-        ensures same { KeepsExec self.old self.new }
+        ensures { KeepsPriorities (with_thread t (on_top (new_frame (flat_bodies code.now) FrameKind.Cleanup (BodyOf.Cleanup u) 0))) self.old self.new }
     {
         self.threads.get_mut(t).run_cleanup(code, u);
     }

@@ -1,12 +1,12 @@
-// The chain and the waiters, together.
+//! The chain and the waiters, together.
 ghost use Rattle.std.specs.Prelude.{◌≡◌, ◌<◌, IfSome, IsSome, None, Some, false, length, slice_set};
 ghost use Rattle.rules_machine.specs.Priorities.{assigned_of, mutex_waited};
 ghost use Rattle.rules_machine.specs.Threads.{thread_in};
 ghost use Rattle.parts_waiters.specs.Places.{place_in};
 ghost use Rattle.kernel_threads.specs.Plain.{wait_of, waiting_of};
 ghost use Rattle.parts_owners.specs.Chains.{assigned_at, assigned_to, awaited_in, exec_of, waiting_for, with_claim};
-ghost use Rattle.parts_owners.specs.Moves.{IsPlaced, TellsMoved, entered, left, mutex_named};
-ghost use Rattle.kernel_table.specs.Moves.{ArePriced, MayAwait, begun};
+ghost use Rattle.parts_owners.specs.Moves.{TellsMoved, entered, left, mutex_named};
+ghost use Rattle.kernel_table.specs.Moves.{ArePriced, CanRelink, MayAwait, Relinks, begun};
 
 use kernel_threads::{Threads, Wait, Waiting};
 use parts_owners::{Chain, Moved};
@@ -22,12 +22,8 @@ pub(crate) fn reassign(
     t: Tid,
 ) -> Option<Moved>
     requires thread { t < length threads.now }
-    requires known { t < length chain.old.claims }
-    requires placed { IsPlaced chain.old waits.old }
-    ensures chain { chain.new ≡ with_claim t (assigned_to (assigned_of (thread_in threads.now t))) chain.old }
-    ensures waits { ArePriced chain.new waits.old waits.new }
-    ensures placed { IsPlaced chain.new waits.new }
-    ensures moved { TellsMoved (length chain.old.claims) (exec_of chain.old) (exec_of chain.new) waits.new result }
+    requires can { CanRelink chain.old waits.old t }
+    ensures links { Relinks (with_claim t (assigned_to (assigned_of (thread_in threads.now t))) chain.old) waits.old chain.old chain.new waits.new result }
     ensures alone { awaited_in chain.old.claims t ≡ None → IfSome result (λ m. m.thread ≡ t) }
 {
     let p = threads.get(t).assigned();
@@ -47,13 +43,9 @@ pub(crate) fn reassign_changed(
     may_be_another: bool,
 ) -> Option<Moved>
     requires thread { t < length threads.now }
-    requires known { t < length chain.old.claims }
-    requires placed { IsPlaced chain.old waits.old }
+    requires can { CanRelink chain.old waits.old t }
     requires same { may_be_another ≡ false → assigned_of (thread_in threads.now t) ≡ assigned_at chain.old t }
-    ensures chain { chain.new ≡ with_claim t (assigned_to (assigned_of (thread_in threads.now t))) chain.old }
-    ensures waits { ArePriced chain.new waits.old waits.new }
-    ensures placed { IsPlaced chain.new waits.new }
-    ensures moved { TellsMoved (length chain.old.claims) (exec_of chain.old) (exec_of chain.new) waits.new result }
+    ensures links { Relinks (with_claim t (assigned_to (assigned_of (thread_in threads.now t))) chain.old) waits.old chain.old chain.new waits.new result }
     ensures alone { awaited_in chain.old.claims t ≡ None → IfSome result (λ m. m.thread ≡ t) }
 {
     if !may_be_another {
@@ -66,13 +58,9 @@ pub(crate) fn reassign_changed(
 #[inline(always)]
 #[tactic(auto, using(crate::proofs::Places::left_placed, crate::proofs::Places::left_nowhere))]
 pub(crate) fn stop_waiting(chain: &mut Chain, waits: &mut Waits, t: Tid) -> Option<Moved>
-    requires known { t < length chain.old.claims }
-    requires placed { IsPlaced chain.old waits.old }
-    ensures chain { chain.new ≡ with_claim t (waiting_for None) chain.old }
-    ensures waits { ArePriced chain.new (left t waits.old) waits.new }
-    ensures placed { IsPlaced chain.new waits.new }
+    requires can { CanRelink chain.old waits.old t }
+    ensures links { Relinks (with_claim t (waiting_for None) chain.old) (left t waits.old) chain.old chain.new waits.new result }
     ensures nowhere { place_in waits.new t ≡ None }
-    ensures moved { TellsMoved (length chain.old.claims) (exec_of chain.old) (exec_of chain.new) waits.new result }
 {
     if waits.place_of(t).is_none() {
         return None;
@@ -84,8 +72,7 @@ pub(crate) fn stop_waiting(chain: &mut Chain, waits: &mut Waits, t: Tid) -> Opti
 #[inline(always)]
 #[tactic(auto, using(crate::proofs::Places::left_placed, crate::proofs::Places::left_nowhere))]
 pub(crate) fn stands_nowhere(chain: &Chain, waits: &Waits, t: Tid)
-    requires known { t < length chain.now.claims }
-    requires placed { IsPlaced chain.now waits.now }
+    requires can { CanRelink chain.now waits.now t }
     requires nowhere { place_in waits.now t ≡ None }
     ensures chain { chain.now ≡ with_claim t (waiting_for None) chain.now }
     ensures waits { ArePriced chain.now (left t waits.now) waits.now }
@@ -96,23 +83,32 @@ pub(crate) fn stands_nowhere(chain: &Chain, waits: &Waits, t: Tid)
 }
 
 // The thread leaves its place among the waiters.
-#[inline(never)]
+#[inline(always)]
 #[tactic(auto, using(crate::proofs::Places::left_placed, crate::proofs::Places::left_nowhere))]
 fn leave_place(chain: &mut Chain, waits: &mut Waits, t: Tid) -> Option<Moved>
-    requires known { t < length chain.old.claims }
-    requires placed { IsPlaced chain.old waits.old }
+    requires can { CanRelink chain.old waits.old t }
     requires stands { IsSome (place_in waits.old t) }
-    ensures chain { chain.new ≡ with_claim t (waiting_for None) chain.old }
-    ensures waits { ArePriced chain.new (left t waits.old) waits.new }
-    ensures placed { IsPlaced chain.new waits.new }
+    ensures links { Relinks (with_claim t (waiting_for None) chain.old) (left t waits.old) chain.old chain.new waits.new result }
     ensures nowhere { place_in waits.new t ≡ None }
-    ensures moved { TellsMoved (length chain.old.claims) (exec_of chain.old) (exec_of chain.new) waits.new result }
 {
     if chain.awaits(t) {
-        return chain.stop_wait(waits, t);
+        return leave_mutex(chain, waits, t);
     }
     waits.leave(t);
     None
+}
+
+// The thread, which awaits a mutex, leaves its place among the waiters.
+#[inline(never)]
+#[tactic(auto, using(crate::proofs::Places::left_placed, crate::proofs::Places::left_nowhere))]
+fn leave_mutex(chain: &mut Chain, waits: &mut Waits, t: Tid) -> Option<Moved>
+    requires can { CanRelink chain.old waits.old t }
+    requires awaits { IsSome (awaited_in chain.old.claims t) }
+    requires stands { IsSome (place_in waits.old t) }
+    ensures links { Relinks (with_claim t (waiting_for None) chain.old) (left t waits.old) chain.old chain.new waits.new result }
+    ensures nowhere { place_in waits.new t ≡ None }
+{
+    chain.stop_wait(waits, t)
 }
 
 /// The thread, which waits for nothing in an order, begins to wait at its execution priority.
@@ -123,8 +119,7 @@ pub(crate) fn begin_waiting(
     t: Tid,
     w: &Waiting,
 ) -> Option<Moved>
-    requires known { t < length chain.old.claims }
-    requires placed { IsPlaced chain.old waits.old }
+    requires can { CanRelink chain.old waits.old t }
     requires nowhere { place_in waits.old t ≡ None }
     requires may { MayAwait chain.old t (mutex_waited (wait_of w.now.wait)) }
     ensures chain { chain.new ≡ with_claim t (waiting_for (mutex_waited (wait_of w.now.wait))) chain.old }
@@ -146,8 +141,7 @@ pub(crate) fn begin_waiting(
 
 // It awaits a mutex.
 fn await_mutex(chain: &mut Chain, waits: &mut Waits, t: Tid, k: ObjId, serial: u64) -> Option<Moved>
-    requires known { t < length chain.old.claims }
-    requires placed { IsPlaced chain.old waits.old }
+    requires can { CanRelink chain.old waits.old t }
     requires nowhere { place_in waits.old t ≡ None }
     requires may { MayAwait chain.old t (Some k) }
     ensures chain { chain.new ≡ with_claim t (waiting_for (Some k)) chain.old }
@@ -162,8 +156,7 @@ fn await_mutex(chain: &mut Chain, waits: &mut Waits, t: Tid, k: ObjId, serial: u
 
 // It stands among the waiters of an object that is no mutex, and no priority changes.
 fn stand_at(chain: &Chain, waits: &mut Waits, t: Tid, object: WaitObj, serial: u64) -> Option<Moved>
-    requires known { t < length chain.now.claims }
-    requires placed { IsPlaced chain.now waits.old }
+    requires can { CanRelink chain.now waits.old t }
     requires nowhere { place_in waits.old t ≡ None }
     requires other { mutex_named object ≡ None }
     ensures chain { chain.now ≡ with_claim t (waiting_for None) chain.now }

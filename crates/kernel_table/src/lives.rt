@@ -1,4 +1,4 @@
-// A thread starts, waits and ends.
+//! A thread starts, waits and ends.
 ghost use Rattle.std.specs.Prelude.{◌≡◌, ◌<◌, ◌≤◌, ◌^◌, ◌∷◌, [], None, length, true};
 ghost use Rattle.rules_machine.specs.Lives.{without_life};
 ghost use Rattle.rules_machine.specs.Priorities.{mutex_awaited_by, mutex_waited};
@@ -8,7 +8,7 @@ ghost use Rattle.rules_machine.specs.Waking.{put_to_wait};
 ghost use Rattle.kernel_threads.specs.Plain.{status_of, wait_of, waiting_of};
 ghost use Rattle.kernel_table.specs.Table as table;
 ghost use Rattle.kernel_table.specs.Table.{CanAwait, with_thread};
-ghost use Rattle.kernel_table.specs.Movers.{TellsMoved, TellsMovedBeside};
+ghost use Rattle.kernel_table.specs.Movers.{MovesPriority, MovesPriorityBeside};
 
 use crate::links::{begin_waiting, reassign, stands_nowhere, stop_waiting};
 use crate::movers::{beside, thread_of};
@@ -24,8 +24,7 @@ impl Table {
     pub fn start(&mut self, t: Tid, mask: SigSet, now: Tick, main: Frame) -> Option<Tid>
         requires known { t < length self.old.threads }
         requires early { now ≤ 10 ^ 18 }
-        ensures table { self.new ≡ with_thread t (λ th. record th { status = status_of Status.Runnable; slice = 0; mask = mask; frames = main ∷ []; server = server_of th.policy now }) self.old }
-        ensures moved { TellsMovedBeside t self.old self.new result }
+        ensures { MovesPriorityBeside t (with_thread t (λ th. record th { status = status_of Status.Runnable; slice = 0; mask = mask; frames = main ∷ []; server = server_of th.policy now })) self.old self.new result }
     {
         let moved = stop_waiting(&mut self.chain, &mut self.waits, t);
         self.threads.get_mut(t).start(mask, now, main);
@@ -39,8 +38,7 @@ impl Table {
     #[tactic(auto, using(crate::proofs::Ties::placed))]
     pub fn end(&mut self, t: Tid) -> Option<Tid>
         requires { t < length self.old.threads }
-        ensures table { self.new ≡ with_thread t without_life self.old }
-        ensures moved { TellsMovedBeside t self.old self.new result }
+        ensures { MovesPriorityBeside t (with_thread t without_life) self.old self.new result }
     {
         let moved = stop_waiting(&mut self.chain, &mut self.waits, t);
         self.threads.get_mut(t).end();
@@ -57,8 +55,7 @@ impl Table {
         requires known { t < length self.old.threads }
         requires waits_not { mutex_awaited_by (thread_in self.old.threads t) ≡ None }
         requires may { CanAwait self.old t (mutex_waited (wait_of waiting.wait)) }
-        ensures table { self.new ≡ with_thread t (put_to_wait (waiting_of waiting)) self.old }
-        ensures moved { TellsMoved self.old self.new result }
+        ensures { MovesPriority (with_thread t (put_to_wait (waiting_of waiting))) self.old self.new result }
     {
         stop_waiting(&mut self.chain, &mut self.waits, t);
         let moved = begin_waiting(&mut self.chain, &mut self.waits, t, &waiting);
@@ -74,12 +71,11 @@ impl Table {
         requires known { t < length self.old.threads }
         requires runs { is_runnable (thread_in self.old.threads t).status ≡ true }
         requires may { CanAwait self.old t (mutex_waited (wait_of waiting.wait)) }
-        ensures table { self.new ≡ with_thread t (put_to_wait (waiting_of waiting)) self.old }
-        ensures moved { TellsMoved self.old self.new result }
+        ensures { MovesPriority (with_thread t (put_to_wait (waiting_of waiting))) self.old self.new result }
     {
         stands_nowhere(&self.chain, &self.waits, t);
-        let moved = begin_waiting(&mut self.chain, &mut self.waits, t, &waiting);
         self.threads.get_mut(t).block(waiting);
+        let moved = begin_waiting(&mut self.chain, &mut self.waits, t, &waiting);
         time_runner(&mut self.wheel, t, waiting.due);
         thread_of(moved)
     }

@@ -1,4 +1,4 @@
-// Whose execution priority a call changed.
+//! Whose execution priority a call changed.
 ghost use Rattle.std.specs.Prelude.{◌≡◌, option_map};
 ghost use Rattle.parts_owners.specs.declared.walk.Moved.{Moved};
 ghost use Rattle.kernel_table.specs.Movers.{beside};

@@ -1,4 +1,4 @@
-// Owners and counts of mutexes, and who is served first.
+//! Owners and counts of mutexes, and who is served first.
 ghost use Rattle.std.specs.Prelude.{◌≡◌, ◌==◌, ◌<◌, Bool, IfSome, Option, None, Some, length, option_map};
 ghost use Rattle.rules_machine.specs.Mutexes.{freed, taken_by};
 ghost use Rattle.rules_machine.specs.Priorities.{assigned_of, mutex_awaited_by};
@@ -10,7 +10,7 @@ ghost use Rattle.parts_waiters.specs.Ties.{is_object, object_of};
 ghost use Rattle.parts_owners.specs.Chains.{counted, freed_if, is_plainly_free, taken_if};
 ghost use Rattle.kernel_table.specs.Table as table;
 ghost use Rattle.kernel_table.specs.Table.{best_in, exec, with_mutex, with_thread};
-ghost use Rattle.kernel_table.specs.Movers.{KeepsExec, KeepsOthers, TellsMoved};
+ghost use Rattle.kernel_table.specs.Movers.{KeepsExec, KeepsOthers, KeepsPriorities, MovesPriority, TellsMoved};
 
 use crate::links::stop_waiting;
 use crate::movers::thread_of;
@@ -23,8 +23,7 @@ impl Table {
     /// The mutex is counted so often, with the same owner. No execution priority changes.
     pub fn set_count(&mut self, k: ObjId, n: u16)
         requires { k < length self.old.mutexes }
-        ensures table { self.new ≡ with_mutex k (counted n) self.old }
-        ensures same { KeepsExec self.old self.new }
+        ensures { KeepsPriorities (with_mutex k (counted n)) self.old self.new }
     {
         self.chain.set_count(k, n);
     }
@@ -37,8 +36,7 @@ impl Table {
         requires mutex { k < length self.old.mutexes }
         requires free { (mutex_in self.old.mutexes k).owner ≡ None }
         requires waits_not { mutex_awaited_by (thread_in self.old.threads t) ≡ None }
-        ensures table { self.new ≡ with_mutex k (taken_by t) self.old }
-        ensures moved { TellsMoved self.old self.new result }
+        ensures change { MovesPriority (with_mutex k (taken_by t)) self.old self.new result }
         ensures alone { IfSome result (λ u. u ≡ t) }
     {
         thread_of(self.chain.take(&mut self.waits, k, t))
@@ -52,36 +50,47 @@ impl Table {
         requires mutex { k < length self.old.mutexes }
         requires waits_not { mutex_awaited_by (thread_in self.old.threads t) ≡ None }
         ensures value { (passes : Wait → Bool) → ((w : Wait) → passes w ≡ is_object (wait_obj.Mutex k) (object_of w)) → result ≡ is_plainly_free (mutex_in self.old.mutexes k) (best_in self.old passes) }
-        ensures table { self.new ≡ with_mutex k (taken_if result t) self.old }
-        ensures same { KeepsExec self.old self.new }
+        ensures change { KeepsPriorities (with_mutex k (taken_if result t)) self.old self.new }
     {
         self.waits.serve_by_the_rules();
         self.chain.take_at_once(&self.waits, k, t)
     }
 
-    /// The mutex, which the thread owned, is free where the thread has its assigned priority. The answer is whether it has. No execution
-    /// priority changes.
+    // It is free where the thread has its assigned priority. The answer is whether it has. No execution priority changes.
     #[inline(always)]
     #[tactic(auto, using(crate::proofs::Ties::placed))]
-    pub fn release_at_once(&mut self, k: ObjId, t: Tid) -> bool
+    fn release_at_once(&mut self, k: ObjId, t: Tid) -> bool
         requires mutex { k < length self.old.mutexes }
         requires owned { (mutex_in self.old.mutexes k).owner ≡ Some t }
         ensures value { result ≡ (exec self.old t == assigned_of (thread_in self.old.threads t)) }
-        ensures table { self.new ≡ with_mutex k (freed_if result) self.old }
-        ensures same { KeepsExec self.old self.new }
+        ensures change { KeepsPriorities (with_mutex k (freed_if result)) self.old self.new }
     {
         self.chain.owners_are_threads();
         self.chain.release_at_once(&self.waits, k, t)
     }
 
     /// The mutex, which the thread owned, is free. The answer is the one thread that stands among no waiters and whose execution priority
-    /// changed; `None` exactly where there is none.
-    #[tactic(auto, using(crate::proofs::Ties::placed))]
+    /// changed; `None` exactly where there is none. Mostly that lowers nobody.
+    #[inline(always)]
+    #[tactic(auto, using(crate::proofs::LeftAlone::left_alone))]
     pub fn release(&mut self, k: ObjId, t: Tid) -> Option<Tid>
         requires mutex { k < length self.old.mutexes }
         requires owned { (mutex_in self.old.mutexes k).owner ≡ Some t }
-        ensures table { self.new ≡ with_mutex k freed self.old }
-        ensures moved { TellsMoved self.old self.new result }
+        ensures { MovesPriority (with_mutex k freed) self.old self.new result }
+    {
+        if self.release_at_once(k, t) {
+            return None;
+        }
+        self.release_in_full(k, t)
+    }
+
+    // It is free, and the priority of the thread follows.
+    #[inline(never)]
+    #[tactic(auto, using(crate::proofs::Ties::placed))]
+    fn release_in_full(&mut self, k: ObjId, t: Tid) -> Option<Tid>
+        requires mutex { k < length self.old.mutexes }
+        requires owned { (mutex_in self.old.mutexes k).owner ≡ Some t }
+        ensures { MovesPriority (with_mutex k freed) self.old self.new result }
     {
         thread_of(self.chain.release(&mut self.waits, k, t))
     }

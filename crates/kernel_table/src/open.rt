@@ -1,4 +1,4 @@
-// The threads, mutexes and timers of a script, before anything has happened.
+//! The threads, mutexes and timers of a script, before anything has happened.
 ghost use Rattle.std.specs.Prelude.{◌≡◌, ◌≤◌, ◌<◌, ◌+◌, ◌++◌, None, IfOk, length, map, option_to_list, replicate};
 ghost use Rattle.rules_machine.specs.Declarations.{mutex_kind, mutexes_of, named, threads_of, timers_of};
 ghost use Rattle.rules_machine.specs.Runs.{thread_opened};

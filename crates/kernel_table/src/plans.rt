@@ -1,11 +1,10 @@
-// What a plan changes beside the thread.
+//! What a plan changes beside the thread.
 ghost use Rattle.std.specs.Prelude.{◌≡◌, ◌<◌, None, Some, false, length, true};
 ghost use Rattle.rules_machine.specs.Priorities.{assigned_of};
 ghost use Rattle.rules_machine.specs.Threads.{thread_in};
-ghost use Rattle.parts_owners.specs.Chains.{assigned_at, assigned_to, exec_of, with_claim};
-ghost use Rattle.parts_owners.specs.Moves.{IsPlaced, TellsMoved};
+ghost use Rattle.parts_owners.specs.Chains.{assigned_at, assigned_to, with_claim};
 ghost use Rattle.parts_wheel.specs.Dues.{due_of};
-ghost use Rattle.kernel_table.specs.Moves.{ArePriced};
+ghost use Rattle.kernel_table.specs.Moves.{CanRelink, Relinks};
 ghost use Rattle.kernel_table.specs.Plans.{IsPlanned};
 ghost use Rattle.kernel_table.specs.Tied.{refilling};
 ghost use Rattle.kernel_table.specs.Times.{refill_of};
@@ -30,21 +29,17 @@ pub(crate) fn take_plan(
     planned: &Planned,
 ) -> Option<Moved>
     requires thread { t < length threads.now }
-    requires known { t < length chain.old.claims }
-    requires placed { IsPlaced chain.old waits.old }
+    requires can { CanRelink chain.old waits.old t }
     requires numbers { length wheel.old.dues ≡ 1024 }
     requires planned { IsPlanned (thread_in threads.now t) (due_of t wheel.old.dues) (assigned_at chain.old t) planned.now }
     ensures dues { wheel.new.dues ≡ refilling t (thread_in threads.now t) wheel.old.dues }
-    ensures chain { chain.new ≡ with_claim t (assigned_to (assigned_of (thread_in threads.now t))) chain.old }
-    ensures waits { ArePriced chain.new waits.old waits.new }
-    ensures placed { IsPlaced chain.new waits.new }
-    ensures moved { TellsMoved (length chain.old.claims) (exec_of chain.old) (exec_of chain.new) waits.new result }
+    ensures links { Relinks (with_claim t (assigned_to (assigned_of (thread_in threads.now t))) chain.old) waits.old chain.old chain.new waits.new result }
 {
     if planned.has_room {
         arm_planned(threads, wheel, t, planned);
         return reassign_changed(threads, chain, waits, t, false);
     }
-    take_last(threads, chain, waits, wheel, t)
+    take_plan_in_full(threads, chain, waits, wheel, t)
 }
 
 // The refill of the thread is armed where what was planned alone is pending.
@@ -62,9 +57,9 @@ fn arm_planned(threads: &Threads, wheel: &mut Wheel, t: Tid, planned: &Planned)
     }
 }
 
-// The same, whatever is pending and whichever the priority.
+// Whatever is pending, and whichever the priority.
 #[inline(never)]
-fn take_last(
+fn take_plan_in_full(
     threads: &Threads,
     chain: &mut Chain,
     waits: &mut Waits,
@@ -72,14 +67,10 @@ fn take_last(
     t: Tid,
 ) -> Option<Moved>
     requires thread { t < length threads.now }
-    requires known { t < length chain.old.claims }
-    requires placed { IsPlaced chain.old waits.old }
+    requires can { CanRelink chain.old waits.old t }
     requires numbers { length wheel.old.dues ≡ 1024 }
     ensures dues { wheel.new.dues ≡ refilling t (thread_in threads.now t) wheel.old.dues }
-    ensures chain { chain.new ≡ with_claim t (assigned_to (assigned_of (thread_in threads.now t))) chain.old }
-    ensures waits { ArePriced chain.new waits.old waits.new }
-    ensures placed { IsPlaced chain.new waits.new }
-    ensures moved { TellsMoved (length chain.old.claims) (exec_of chain.old) (exec_of chain.new) waits.new result }
+    ensures links { Relinks (with_claim t (assigned_to (assigned_of (thread_in threads.now t))) chain.old) waits.old chain.old chain.new waits.new result }
 {
     retime_refill(threads, wheel, t);
     reassign(threads, chain, waits, t)

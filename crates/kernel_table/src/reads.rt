@@ -1,4 +1,4 @@
-// What can be asked of the threads and mutexes.
+//! What can be asked of the threads and mutexes.
 ghost use Rattle.std.specs.Prelude.{◌≡◌, ◌<◌, ◌≤◌, filter, length, ℕ};
 ghost use Rattle.std.specs.List.{list_any};
 ghost use Rattle.rules_machine.specs.Lists.{is};

@@ -1,4 +1,4 @@
-// Masks, handlers of signals, and who accepts a signal.
+//! Masks, handlers of signals, and who accepts a signal.
 ghost use Rattle.std.specs.Prelude.{◌≡◌, ◌≤◌, ◌<◌, length, map, None};
 ghost use Rattle.rules_bodies.specs.Next.{capped};
 ghost use Rattle.rules_bodies.specs.declared.cursor.Cursor.{Cursor};
@@ -8,11 +8,11 @@ ghost use Rattle.rules_machine.specs.State.{SignalRecord, Thread};
 ghost use Rattle.rules_machine.specs.Threads.{thread_in};
 ghost use Rattle.rules_machine.specs.Waking.{new_frame, on_top};
 ghost use Rattle.rules_flat_code.specs.FlatBodies.{flat_bodies};
-ghost use Rattle.kernel_threads.specs.Handlers.{CatchersBegin};
+ghost use Rattle.kernel_threads.specs.Handlers.{HasHandler};
 ghost use Rattle.kernel_table.specs.Acceptors.{acceptor_in, set_awaited};
 ghost use Rattle.kernel_table.specs.Table as table;
 ghost use Rattle.kernel_table.specs.Table.{with_thread};
-ghost use Rattle.kernel_table.specs.Movers.{KeepsExec};
+ghost use Rattle.kernel_table.specs.Movers.{KeepsPriorities};
 
 use crate::table::Table;
 use parts_waiters::{SignalSets, WaitObj};
@@ -33,8 +33,7 @@ impl Table {
     /// The signals that it blocks. No execution priority changes.
     pub fn set_mask(&mut self, t: Tid, mask: SigSet)
         requires { t < length self.old.threads }
-        ensures table { self.new ≡ with_thread t (λ th. record th { mask = mask }) self.old }
-        ensures same { KeepsExec self.old self.new }
+        ensures { KeepsPriorities (with_thread t (λ th. record th { mask = mask })) self.old self.new }
     {
         self.threads.get_mut(t).set_mask(mask);
     }
@@ -42,11 +41,9 @@ impl Table {
     /// A handler of a signal runs in a frame of its own. No execution priority changes.
     pub fn catch_signal(&mut self, t: Tid, code: &Code, h: ObjId, value: u64)
         requires known { t < length self.old.threads }
-        requires handler { h < length code.now.handlers }
-        requires begins { CatchersBegin code.now }
+        requires handler { HasHandler code.now h }
         requires room { length (thread_in self.old.threads t).frames ≤ 2 }
-        ensures table { self.new ≡ with_thread t (on_top (new_frame (flat_bodies code.now) FrameKind.Signal (BodyOf.Handler h) (capped value))) self.old }
-        ensures same { KeepsExec self.old self.new }
+        ensures { KeepsPriorities (with_thread t (on_top (new_frame (flat_bodies code.now) FrameKind.Signal (BodyOf.Handler h) (capped value)))) self.old self.new }
     {
         self.threads.get_mut(t).catch_signal(code, h, value);
     }
@@ -62,13 +59,13 @@ impl Table {
         if self.waits.best(WaitObj::SigWait).is_none() {
             return None;
         }
-        self.acceptor_among(signal)
+        self.acceptor_in_full(signal)
     }
 
     // The same, where some thread waits for a signal.
     #[inline(never)]
     #[tactic(auto, using(crate::proofs::Accepting::sets_many))]
-    fn acceptor_among(&self, signal: u8) -> Option<Tid>
+    fn acceptor_in_full(&self, signal: u8) -> Option<Tid>
         requires { signal < 32 }
         ensures { (r : SignalRecord) → r.signal ≡ signal → r.target ≡ None → result ≡ acceptor_in self.now r }
     {

@@ -1,4 +1,4 @@
-// The threads, the chain of their claims, their places as waiters, the timers, and the wheel of what falls due of threads and timers.
+//! The threads, the chain of their claims, their places as waiters, the timers, and the wheel of what falls due of threads and timers.
 ghost use Rattle.std.specs.Prelude.{◌≡◌, ◌<◌, ◌≤◌, length};
 
 use kernel_threads::Threads;

@@ -1,14 +1,14 @@
-// The interval timers, and when they are due.
+//! The interval timers, and when they are due.
 ghost use Rattle.std.specs.Prelude.{◌≡◌, ◌<◌, ◌≤◌, ◌^◌, length};
 ghost use Rattle.rules_machine.specs.Signals.{with_overrun_told};
-ghost use Rattle.rules_machine.specs.Timers.{armed, armed_again, overrun_once_more, ticks_to};
+ghost use Rattle.rules_machine.specs.Timers.{armed, armed_again, overrun_once_more};
 ghost use Rattle.kernel_timers.specs.Timers.{timer_in};
 ghost use Rattle.kernel_table.specs.Table as table;
 ghost use Rattle.kernel_table.specs.Table.{with_timer};
 ghost use Rattle.kernel_table.specs.Tied.{expiring};
 
 use crate::table::Table;
-use kernel_timers::Timers;
+use kernel_timers::{Timer, Timers};
 use parts_wheel::Wheel;
 use words_numbers::{Item, ObjId, Tick};
 
@@ -18,7 +18,7 @@ fn reset(timers: &Timers, wheel: &mut Wheel, k: ObjId)
     requires numbers { length wheel.old.dues ≡ 1024 }
     ensures { wheel.new.dues ≡ expiring k (timer_in timers.now k) wheel.old.dues }
 {
-    wheel.set_due(Item::Timer(k).number(), timers.due(k));
+    wheel.set_due(Item::Timer(k).number(), timers.get(k).due());
 }
 
 impl Table {
@@ -28,6 +28,14 @@ impl Table {
         ensures few { result ≤ 32 }
     {
         self.timers.count()
+    }
+
+    /// A timer as it stands.
+    pub fn timer(&self, k: ObjId) -> &Timer
+        requires { k < length self.now.timers }
+        ensures { result.now ≡ timer_in self.now.timers k }
+    {
+        self.timers.get(k)
     }
 
     /// The timer is due at that tick, and then again after each interval of so many ticks, at most 10^18; with an interval of 0 once.
@@ -65,53 +73,5 @@ impl Table {
         ensures { self.new ≡ with_timer k with_overrun_told self.old }
     {
         self.timers.accepted(k);
-    }
-
-    /// The ticks from now until the timer expires; 0 where it is disarmed, or due by now.
-    pub fn ticks_to_expiry(&self, k: ObjId, now: Tick) -> u64
-        requires { k < length self.now.timers }
-        ensures { result ≡ ticks_to (timer_in self.now.timers k).due now }
-    {
-        self.timers.gettime(k, now)
-    }
-
-    /// The overrun of the timer's last signal, at most 2,147,483,647.
-    pub fn overrun(&self, k: ObjId) -> u32
-        requires { k < length self.now.timers }
-        ensures { result ≡ (timer_in self.now.timers k).overrun }
-    {
-        self.timers.overrun(k)
-    }
-
-    /// When the timer expires next; `None` exactly where it is disarmed.
-    pub fn timer_due(&self, k: ObjId) -> Option<Tick>
-        requires { k < length self.now.timers }
-        ensures { result ≡ (timer_in self.now.timers k).due }
-    {
-        self.timers.due(k)
-    }
-
-    /// The ticks from one expiry to the next; 0 where it expires once.
-    pub fn timer_interval(&self, k: ObjId) -> u64
-        requires { k < length self.now.timers }
-        ensures { result ≡ (timer_in self.now.timers k).interval }
-    {
-        self.timers.interval(k)
-    }
-
-    /// The signal of an expiry, as it was declared.
-    pub fn timer_signal(&self, k: ObjId) -> u8
-        requires { k < length self.now.timers }
-        ensures { result ≡ (timer_in self.now.timers k).signal }
-    {
-        self.timers.signal(k)
-    }
-
-    /// The value of that signal.
-    pub fn timer_value(&self, k: ObjId) -> u64
-        requires { k < length self.now.timers }
-        ensures { result ≡ (timer_in self.now.timers k).value }
-    {
-        self.timers.value(k)
     }
 }

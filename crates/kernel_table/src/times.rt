@@ -1,4 +1,4 @@
-// The wheel, and when the items of the threads are due.
+//! The wheel, and when the items of the threads are due.
 ghost use Rattle.std.specs.Prelude.{◌≡◌, ◌<◌, ◌≤◌, ◌+◌, [], None, length, slice_set};
 ghost use Rattle.rules_machine.specs.Agenda.{agenda};
 ghost use Rattle.rules_machine.specs.DueItems.{next_item};

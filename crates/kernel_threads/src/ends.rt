@@ -1,4 +1,4 @@
-// The rules of a tick's end, and what a plan and a refill did.
+//! The rules of a tick's end, and what a plan and a refill did.
 use parts_server::Replenish;
 
 /// The rule of a tick's end.

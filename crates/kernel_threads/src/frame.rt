@@ -1,4 +1,4 @@
-// The frames of a thread.
+//! The frames of a thread.
 ghost use Rattle.std.specs.Prelude.{◌≡◌, ◌≤◌};
 ghost use Rattle.rules_machine.specs.Threads.{is_signal};
 ghost use Rattle.script_code.specs.Fetched.{unit_of};

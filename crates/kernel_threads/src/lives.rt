@@ -1,4 +1,4 @@
-// Joining, cancellation and the end of a thread.
+//! Joining, cancellation and the end of a thread.
 ghost use Rattle.std.specs.Prelude.{◌≡◌, ◌≤◌, ◌<◌, ◌==◌, ◌&&◌, ◌∷◌, List, false, length, slice_get, true};
 ghost use Rattle.rules_bodies.specs.declared.op.Op.{Op};
 ghost use Rattle.script_code.specs.Fetched.{unit_of};
@@ -12,11 +12,12 @@ ghost use Rattle.rules_machine.specs.Units.{begins_cleanup, begins_finish, choic
 ghost use Rattle.rules_machine.specs.Waking.{ending_with, new_frame, on_top};
 ghost use Rattle.rules_flat_code.specs.FlatBodies.{flat_bodies};
 ghost use Rattle.rules_flat_code.specs.Placed.{ArePlaced};
-ghost use Rattle.kernel_threads.specs.Handlers.{AreHandlers, CanEnd, HandlersBegin};
+ghost use Rattle.kernel_threads.specs.Handlers.{AreHandlers, CanTake, HandlersBegin, HasCleanup};
 ghost use Rattle.kernel_threads.specs.Passing.{HasTaken};
 ghost use Rattle.kernel_threads.specs.Plain.{joiner_of};
 
 use crate::frame::Frame;
+use crate::frames::{drop_top, put_on_top};
 use crate::ran::Taken;
 use crate::status::{Joiner, Status};
 use crate::thread::Thread;
@@ -29,8 +30,7 @@ use words_numbers::ObjId;
 // The frame of a cleanup handler, at its beginning.
 #[tactic(auto, using(crate::proofs::Endings::number_known))]
 fn handler_frame(code: &Code, u: ObjId) -> Frame
-    requires known { u < length code.now.cleanups }
-    requires begins { HandlersBegin code.now }
+    requires cleanup { HasCleanup code.now u }
     ensures { result ≡ new_frame (flat_bodies code.now) FrameKind.Cleanup (BodyOf.Cleanup u) 0 }
 {
     Frame::new(
@@ -54,7 +54,7 @@ impl Thread {
     pub fn drop_frame(&mut self)
         ensures { self.new ≡ without_top self.old }
     {
-        self.frames.pop_at(0);
+        drop_top(&mut self.frames);
     }
 
     /// Whether a request acts in it as soon as it may.
@@ -140,12 +140,11 @@ impl Thread {
 
     /// A cleanup handler runs in a frame of its own.
     pub fn run_cleanup(&mut self, code: &Code, u: ObjId)
-        requires known { u < length code.now.cleanups }
-        requires begins { HandlersBegin code.now }
+        requires cleanup { HasCleanup code.now u }
         requires room { length self.old.frames ≤ 2 }
         ensures { self.new ≡ on_top (new_frame (flat_bodies code.now) FrameKind.Cleanup (BodyOf.Cleanup u) 0) self.old }
     {
-        self.frames.insert(0, handler_frame(code, u));
+        put_on_top(&mut self.frames, handler_frame(code, u));
     }
 
     // The next unit of its present body, past those that only take time and are over before so many ticks are. Each of these is a step.
@@ -179,8 +178,7 @@ impl Thread {
 
     // The cleanup handler that was pushed last begins its first unit in a frame of its own.
     fn begin_cleanup(&mut self, code: &Code, u: ObjId) -> Fetched
-        requires known { u < length code.now.cleanups }
-        requires begins { HandlersBegin code.now }
+        requires cleanup { HasCleanup code.now u }
         requires room { length self.old.frames ≤ 2 }
         ensures unit { unit_of code.now result ≡ (begins_cleanup (flat_bodies code.now) u self.old).unit }
         ensures thread { self.new ≡ (begins_cleanup (flat_bodies code.now) u self.old).thread }
@@ -188,7 +186,7 @@ impl Thread {
         self.drop_cleanup();
         let mut frame = handler_frame(code, u);
         let unit = frame.begin_next(code);
-        self.frames.insert(0, frame);
+        put_on_top(&mut self.frames, frame);
         unit
     }
 
@@ -212,9 +210,7 @@ impl Thread {
     // No tick is charged.
     #[inline(always)]
     pub(crate) fn take<L: Ledger>(&mut self, code: &Code, most: u64, steps: &mut Steps<L>) -> Taken
-        requires placed { ArePlaced code.now self.old.frames }
-        requires begins { HandlersBegin code.now }
-        requires ends { self.old.is_ending ≡ true → CanEnd (length code.now.cleanups) self.old }
+        requires can { CanTake code.now self.old }
         ensures { HasTaken code.now most result self.old self.new steps.old steps.new }
     {
         let left = self.left();

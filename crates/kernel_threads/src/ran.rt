@@ -1,4 +1,4 @@
-// What a thread came to that ran by itself.
+//! What a thread came to that ran by itself.
 use script_code::Fetched;
 
 /// What a thread came to that ran by itself for some ticks.

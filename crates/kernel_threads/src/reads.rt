@@ -1,4 +1,4 @@
-// What of a thread can be told.
+//! What of a thread can be told.
 ghost use Rattle.std.specs.Prelude.{◌≡◌};
 ghost use Rattle.kernel_threads.specs.Plain.{status_of};
 

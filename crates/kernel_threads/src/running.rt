@@ -1,10 +1,9 @@
-// How a thread runs by itself, and the charge of these ticks.
-ghost use Rattle.std.specs.Prelude.{◌≡◌, ◌≤◌, ◌+◌, ◌-◌, ◌^◌, false, length, max, min, option_map, true};
+//! How a thread runs by itself, and the charge of these ticks.
+ghost use Rattle.std.specs.Prelude.{◌≡◌, ◌≤◌, ◌+◌, ◌-◌, ◌^◌, false, max, min, option_map};
 ghost use Rattle.rules_machine.specs.Servers.{has_high};
-ghost use Rattle.rules_flat_code.specs.Placed.{ArePlaced};
 ghost use Rattle.rules_leaps.specs.Leap.{capacity_left};
 ghost use Rattle.rules_leaps.specs.Quiet.{server_after};
-ghost use Rattle.kernel_threads.specs.Handlers.{CanEnd, HandlersBegin};
+ghost use Rattle.kernel_threads.specs.Handlers.{CanTake};
 ghost use Rattle.kernel_threads.specs.Passing.{HasSpent};
 ghost use Rattle.kernel_threads.specs.Running.{HasRun, HasTime};
 
@@ -28,9 +27,7 @@ impl Thread {
         quantum: u64,
         steps: &mut Steps<L>,
     ) -> Ran
-        requires placed { ArePlaced code.now self.old.frames }
-        requires begins { HandlersBegin code.now }
-        requires ends { self.old.is_ending ≡ true → CanEnd (length code.now.cleanups) self.old }
+        requires can { CanTake code.now self.old }
         requires room { HasTime (max 1 most) self.old }
         ensures { HasRun code.now most quantum result self.old self.new steps.old steps.new }
     {
@@ -51,9 +48,7 @@ impl Thread {
         was_high: bool,
         steps: &mut Steps<L>,
     ) -> Ran
-        requires placed { ArePlaced code.now self.old.frames }
-        requires begins { HandlersBegin code.now }
-        requires ends { self.old.is_ending ≡ true → CanEnd (length code.now.cleanups) self.old }
+        requires can { CanTake code.now self.old }
         requires room { self.old.ticks + max 1 most ≤ 2 ^ 63 }
         ensures spent { HasSpent code.now most result self.old.slice self.old.server self.old self.new steps.old steps.new }
         ensures high { result.was_high ≡ was_high }
@@ -80,9 +75,7 @@ impl Thread {
         quantum: u64,
         steps: &mut Steps<L>,
     ) -> Ran
-        requires placed { ArePlaced code.now self.old.frames }
-        requires begins { HandlersBegin code.now }
-        requires ends { self.old.is_ending ≡ true → CanEnd (length code.now.cleanups) self.old }
+        requires can { CanTake code.now self.old }
         requires room { HasTime (max 1 most) self.old }
         ensures spent { HasSpent code.now (min most (quantum - self.old.slice)) result (self.old.slice + (result.passed + result.ticks)) self.old.server self.old self.new steps.old steps.new }
         ensures high { result.was_high ≡ false }
@@ -96,9 +89,7 @@ impl Thread {
     // The same, to the end of its capacity where it has its high priority, from which they are taken then.
     #[inline(always)]
     fn run_capacity<L: Ledger>(&mut self, code: &Code, most: u64, steps: &mut Steps<L>) -> Ran
-        requires placed { ArePlaced code.now self.old.frames }
-        requires begins { HandlersBegin code.now }
-        requires ends { self.old.is_ending ≡ true → CanEnd (length code.now.cleanups) self.old }
+        requires can { CanTake code.now self.old }
         requires room { HasTime (max 1 most) self.old }
         ensures spent { HasSpent code.now (min most (capacity_left most self.old.server)) result self.old.slice (option_map (server_after (result.passed + result.ticks)) self.old.server) self.old self.new steps.old steps.new }
         ensures high { result.was_high ≡ has_high self.old.server }

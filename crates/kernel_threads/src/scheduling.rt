@@ -1,4 +1,4 @@
-// How a thread is scheduled: its policy, its priority, its slice and its ticks.
+//! How a thread is scheduled: its policy, its priority, its slice and its ticks.
 ghost use Rattle.std.specs.Prelude.{◌≡◌, ◌≤◌, ◌<◌, ◌+◌, ◌^◌, None, true, false, Some};
 ghost use Rattle.rules_machine.specs.Threads.{is_runnable, is_blocked, top_left};
 ghost use Rattle.rules_machine.specs.Priorities.{assigned_of};

@@ -1,4 +1,4 @@
-// The sporadic server of a thread.
+//! The sporadic server of a thread.
 ghost use Rattle.std.specs.Prelude.{◌≡◌, ◌≤◌, ◌<◌, ◌^◌, length, None, option_map, option_and_then, true, false, is_some, Some};
 ghost use Rattle.rules_server.specs.Server.{ServerState, activate, is_high, next_due, plan, refill, totals};
 ghost use Rattle.rules_machine.specs.Priorities.{assigned_of};

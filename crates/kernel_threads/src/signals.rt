@@ -1,4 +1,4 @@
-// Signals: what a thread blocks, what it waits for, and its handlers.
+//! Signals: what a thread blocks, what it waits for, and its handlers.
 ghost use Rattle.std.specs.Prelude.{◌≡◌, ◌≤◌, ◌<◌, length, option_map};
 ghost use Rattle.rules_bodies.specs.Next.{capped};
 ghost use Rattle.rules_machine.specs.declared.frame.BodyOf.{BodyOf};
@@ -9,11 +9,12 @@ ghost use Rattle.rules_machine.specs.State as machine;
 ghost use Rattle.rules_machine.specs.Threads.{waiting_in};
 ghost use Rattle.rules_machine.specs.Waking.{new_frame, on_top};
 ghost use Rattle.rules_flat_code.specs.FlatBodies.{flat_bodies};
-ghost use Rattle.kernel_threads.specs.Handlers.{CatchersBegin};
+ghost use Rattle.kernel_threads.specs.Handlers.{HasHandler};
 ghost use Rattle.kernel_threads.specs.Plain.{wait_of};
 ghost use Rattle.kernel_threads.specs.Signals.{runs_handlers, signals_awaited, signals_in};
 
 use crate::frame::Frame;
+use crate::frames::put_on_top;
 use crate::status::{Status, Wait};
 use crate::thread::Thread;
 use rules_machine::{BodyOf, FrameKind};
@@ -56,8 +57,7 @@ impl Wait {
 // The frame of a signal's handler, at its beginning.
 #[tactic(auto, using(crate::proofs::Endings::number_known))]
 fn catcher_frame(code: &Code, h: ObjId, value: u64) -> Frame
-    requires known { h < length code.now.handlers }
-    requires begins { CatchersBegin code.now }
+    requires handler { HasHandler code.now h }
     ensures { result ≡ new_frame (flat_bodies code.now) FrameKind.Signal (BodyOf.Handler h) (capped value) }
 {
     Frame::new(
@@ -149,11 +149,10 @@ impl Thread {
 
     /// A handler runs in a frame of its own, with the value of its signal in the register.
     pub fn catch_signal(&mut self, code: &Code, h: ObjId, value: u64)
-        requires known { h < length code.now.handlers }
-        requires begins { CatchersBegin code.now }
+        requires handler { HasHandler code.now h }
         requires room { length self.old.frames ≤ 2 }
         ensures { self.new ≡ on_top (new_frame (flat_bodies code.now) FrameKind.Signal (BodyOf.Handler h) (capped value)) self.old }
     {
-        self.frames.insert(0, catcher_frame(code, h, value));
+        put_on_top(&mut self.frames, catcher_frame(code, h, value));
     }
 }

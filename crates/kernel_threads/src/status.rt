@@ -1,4 +1,4 @@
-// What a thread is doing, as plain data.
+//! What a thread is doing, as plain data.
 ghost use Rattle.std.specs.Prelude.{◌≡◌};
 ghost use Rattle.rules_machine.specs.Conditions.{released_mutex, waits_on_condition, waits_with_other_mutex};
 ghost use Rattle.kernel_threads.specs.Plain.{wait_of};

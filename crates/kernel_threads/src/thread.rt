@@ -1,4 +1,4 @@
-// One thread of the kernel.
+//! One thread of the kernel.
 ghost use Rattle.std.specs.Prelude.{◌≡◌, ◌≤◌, ◌<◌, ◌*◌, ◌^◌, ◌∷◌, [], None, option_and_then, option_map, true, false, Some};
 ghost use Rattle.rules_bodies.specs.declared.cursor.Cursor.{Cursor};
 ghost use Rattle.rules_machine.specs.Threads.{is_runnable, is_dormant, no_thread, catches_signal, is_live, waiting_in, top_left, top_register, is_blocked};

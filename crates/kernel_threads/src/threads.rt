@@ -1,4 +1,4 @@
-// The threads by their numbers.
+//! The threads by their numbers.
 ghost use Rattle.std.specs.Prelude.{◌≡◌, ◌<◌, ◌≤◌, length, map, slice_index_or, IfOk};
 ghost use Rattle.rules_machine.specs.Declarations.{threads_of};
 ghost use Rattle.rules_machine.specs.Runs.{thread_opened};

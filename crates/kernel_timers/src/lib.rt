@@ -10,4 +10,5 @@ mod open;
 mod timer;
 mod timers;
 
+pub use timer::Timer;
 pub use timers::Timers;

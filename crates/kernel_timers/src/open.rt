@@ -1,4 +1,4 @@
-// The timers of a script, disarmed.
+//! The timers of a script, disarmed.
 ghost use Rattle.std.specs.Prelude.{◌≡◌, ◌++◌, option_to_list, IfOk};
 ghost use Rattle.rules_machine.specs.Declarations.{named, timer_kind, timers_of};
 

@@ -1,4 +1,4 @@
-// One interval timer.
+//! One interval timer.
 ghost use Rattle.std.specs.Prelude.{◌≡◌, ◌≤◌, ◌*◌, ◌^◌, None};
 ghost use Rattle.rules_machine.specs.Signals.{with_overrun_told};
 ghost use Rattle.rules_machine.specs.Timers.{armed, armed_again, overrun_once_more, ticks_to};
@@ -9,8 +9,9 @@ use words_numbers::Tick;
 // DELAYTIMER_MAX
 const OVERRUN_LIMIT: u32 = 2_147_483_647;
 
+/// One interval timer.
 #[derive(Drop)]
-pub(crate) struct Timer {
+pub struct Timer {
     // of its expiry: the signal, 0 to 31, and that signal's value
     signal: u8,
     value: u64,
@@ -86,32 +87,36 @@ impl Timer {
         self.extra = 0;
     }
 
-    pub(crate) fn signal(&self) -> u8
+    /// The signal of an expiry, 0 to 31, as it was declared.
+    pub fn signal(&self) -> u8
         ensures { result ≡ self.now.signal }
     {
         self.signal
     }
 
-    pub(crate) fn value(&self) -> u64
+    /// The value of that signal.
+    pub fn value(&self) -> u64
         ensures { result ≡ self.now.value }
     {
         self.value
     }
 
-    pub(crate) fn due(&self) -> Option<Tick>
+    /// When it expires next; `None` exactly where it is disarmed.
+    pub fn due(&self) -> Option<Tick>
         ensures { result ≡ self.now.due }
     {
         self.due
     }
 
-    pub(crate) fn interval(&self) -> u64
+    /// The ticks from one expiry to the next, at most 10^18; 0 where it expires once.
+    pub fn interval(&self) -> u64
         ensures { result ≡ self.now.interval }
     {
         self.interval
     }
 
-    // 0 where it is not armed, or due by now.
-    pub(crate) fn ticks_left(&self, now: Tick) -> u64
+    /// The ticks from now until it expires; 0 where it is disarmed, or due by now.
+    pub fn ticks_left(&self, now: Tick) -> u64
         ensures { result ≡ ticks_to self.now.due now }
     {
         match self.due {
@@ -120,7 +125,8 @@ impl Timer {
         }
     }
 
-    pub(crate) fn overrun(&self) -> u32
+    /// The overrun of its last signal, at most 2,147,483,647.
+    pub fn overrun(&self) -> u32
         ensures { result ≡ self.now.overrun }
     {
         self.overrun

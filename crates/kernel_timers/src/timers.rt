@@ -1,8 +1,8 @@
-// The timers by their numbers.
-ghost use Rattle.std.specs.Prelude.{◌≡◌, ◌<◌, ◌≤◌, ◌*◌, ◌^◌, length, IfOk};
+//! The timers by their numbers.
+ghost use Rattle.std.specs.Prelude.{◌≡◌, ◌<◌, ◌≤◌, ◌^◌, length, IfOk};
 ghost use Rattle.rules_machine.specs.Declarations.{timers_of};
 ghost use Rattle.rules_machine.specs.Signals.{with_overrun_told};
-ghost use Rattle.rules_machine.specs.Timers.{armed, armed_again, overrun_once_more, ticks_to};
+ghost use Rattle.rules_machine.specs.Timers.{armed, armed_again, overrun_once_more};
 ghost use Rattle.kernel_timers.specs.Timers.{timer_in, with_timer};
 
 use crate::open::open_timers;
@@ -43,6 +43,14 @@ impl Timers {
         self.items.len()
     }
 
+    /// A timer as it stands.
+    pub fn get(&self, k: ObjId) -> &Timer
+        requires { k < length self.now }
+        ensures { result.now ≡ timer_in self.now k }
+    {
+        &self.items[k.get() as usize]
+    }
+
     /// The timer is due at that tick, and then again after each interval of so many ticks, at most 10^18; with an interval of 0 once.
     /// With None it is disarmed.
     pub fn settime(&mut self, k: ObjId, due: Option<Tick>, interval: u64)
@@ -76,53 +84,5 @@ impl Timers {
         ensures { self.new ≡ with_timer k with_overrun_told self.old }
     {
         self.items[k.get() as usize].accepted();
-    }
-
-    /// The signal of an expiry, as it was declared.
-    pub fn signal(&self, k: ObjId) -> u8
-        requires { k < length self.now }
-        ensures { result ≡ (timer_in self.now k).signal }
-    {
-        self.items[k.get() as usize].signal()
-    }
-
-    /// The value of that signal.
-    pub fn value(&self, k: ObjId) -> u64
-        requires { k < length self.now }
-        ensures { result ≡ (timer_in self.now k).value }
-    {
-        self.items[k.get() as usize].value()
-    }
-
-    /// When the timer expires next. None exactly where it is disarmed.
-    pub fn due(&self, k: ObjId) -> Option<Tick>
-        requires { k < length self.now }
-        ensures { result ≡ (timer_in self.now k).due }
-    {
-        self.items[k.get() as usize].due()
-    }
-
-    /// The ticks from one expiry to the next; 0 where it expires once.
-    pub fn interval(&self, k: ObjId) -> u64
-        requires { k < length self.now }
-        ensures { result ≡ (timer_in self.now k).interval }
-    {
-        self.items[k.get() as usize].interval()
-    }
-
-    /// The ticks from now until the timer expires; 0 where it is disarmed, or due by now.
-    pub fn gettime(&self, k: ObjId, now: Tick) -> u64
-        requires { k < length self.now }
-        ensures { result ≡ ticks_to (timer_in self.now k).due now }
-    {
-        self.items[k.get() as usize].ticks_left(now)
-    }
-
-    /// The overrun of the timer's last signal, at most 2,147,483,647.
-    pub fn overrun(&self, k: ObjId) -> u32
-        requires { k < length self.now }
-        ensures { result ≡ (timer_in self.now k).overrun }
-    {
-        self.items[k.get() as usize].overrun()
     }
 }

@@ -1,4 +1,4 @@
-// Owners, mutex waits, and the execution priorities that follow from them.
+//! Owners, mutex waits, and the execution priorities that follow from them.
 ghost use Rattle.std.specs.Prelude.{◌≡◌, ◌==◌, ◌<◌, ◌≤◌, IfOk, IfSome, IsSome, None, Some, false, is_some, length, ℕ};
 ghost use Rattle.std.specs.Prelude.{filter};
 ghost use Rattle.std.specs.List.{list_any};

@@ -1,4 +1,4 @@
-// Each change, and the walk that corrects the priorities after it.
+//! Each change, and the walk that corrects the priorities after it.
 ghost use Rattle.std.specs.Prelude.{◌≡◌, ◌==◌, ◌<◌, IfSome, None, Some, IsSome, false, length, true};
 ghost use Rattle.rules_machine.specs.Lists.{changed_at};
 ghost use Rattle.rules_machine.specs.Mutexes.{freed, taken_by};

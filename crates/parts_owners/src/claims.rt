@@ -1,4 +1,4 @@
-// What the execution priorities go by: the claims of threads and the owners of mutexes.
+//! What the execution priorities go by: the claims of threads and the owners of mutexes.
 ghost use Rattle.std.specs.Prelude.{IfOk, replicate, ◌≡◌, ◌<◌, length, map};
 ghost use Rattle.rules_machine.specs.Lists.{changed_at, is};
 ghost use Rattle.rules_machine.specs.Mutexes.{freed, taken_by};

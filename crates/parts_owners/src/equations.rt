@@ -1,4 +1,4 @@
-// What the equations of the execution priorities ask for.
+//! What the equations of the execution priorities ask for.
 ghost use Rattle.std.specs.Prelude.{◌≡◌, ◌==◌, ◌<◌, length, map, max, if◌then◌else◌, slice_index_or, true};
 ghost use Rattle.rules_machine.specs.Lists.{greatest, is};
 ghost use Rattle.rules_machine.specs.Priorities.{is_inherit_mutex_of, owner_ceiling};

@@ -1,4 +1,4 @@
-// The walk along the chain of owners.
+//! The walk along the chain of owners.
 ghost use Rattle.std.specs.Prelude.{◌≡◌, ◌≢◌, ◌<◌, IfSome, None, Some, length, slice_set, is_none, if◌then◌else◌};
 ghost use Rattle.parts_waiters.specs.Places.{place_in, repriced};
 ghost use Rattle.parts_owners.specs.Chains.{ArePriorities, Solves, asked_in, links_of, next_in, prio_in};

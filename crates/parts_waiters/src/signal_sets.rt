@@ -1,4 +1,4 @@
-// The signals that threads wait for.
+//! The signals that threads wait for.
 ghost use Rattle.std.specs.Prelude.{◌≡◌, ◌<◌, ℕ, List, length, slice_index_or};
 
 use words_numbers::{SigSet, Tid};

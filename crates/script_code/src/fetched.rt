@@ -1,4 +1,4 @@
-// Units as they are fetched.
+//! Units as they are fetched.
 
 use words_numbers::ObjId;
 

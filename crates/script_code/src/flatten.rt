@@ -1,4 +1,4 @@
-// Trees of steps into flat operations.
+//! Trees of steps into flat operations.
 ghost use Rattle.std.specs.Prelude.{◌≡◌, ◌+◌, ◌<◌, ◌^◌, [], ◌∷◌, ◌++◌, length, OnOk};
 ghost use Rattle.words_script.specs.Tree.{block_of};
 ghost use Rattle.rules_bodies.specs.Flat.{flat, op_number};

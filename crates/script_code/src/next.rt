@@ -1,4 +1,4 @@
-// What a register may hold, and whether a test holds.
+//! What a register may hold, and whether a test holds.
 ghost use Rattle.std.specs.Prelude.{◌≡◌};
 ghost use Rattle.rules_bodies.specs.Next.{capped, holds};
 

@@ -1,4 +1,4 @@
-// The operations of a body as they are kept.
+//! The operations of a body as they are kept.
 ghost use Rattle.std.specs.Prelude.{◌≡◌, ◌<◌, [], ◌∷◌, ◌++◌, length, slice_get, slice_set, unwrap_or, IfSome, OnOk, OnErr, Some};
 ghost use Rattle.words_script.specs.declared.call.Call.TheVariants.{Yield};
 ghost use Rattle.rules_bodies.specs.declared.op.Op.TheVariants.{Make, Test};
@@ -106,6 +106,17 @@ impl Ops {
         match self.packed.get(number)? {
             Packed::Make(call) => Some(self.calls[*call]),
             packed => packed.short_call(),
+        }
+    }
+
+    // The call of that number, where the table has it; none where the operation is no call, or keeps its call whole.
+    #[inline(always)]
+    pub(crate) fn call_in_table(&self, number: usize) -> Option<&Call>
+        ensures { IfSome result (λ call. call.now ≡ call_at (slice_get self.now number)) }
+    {
+        match self.packed.get(number)? {
+            Packed::Make(call) => Some(&self.calls[*call]),
+            _ => None,
         }
     }
 

@@ -1,4 +1,4 @@
-// The units of one body.
+//! The units of one body.
 ghost use Rattle.std.specs.Prelude.{◌≡◌, ◌≤◌, ◌<◌, ◌^◌, drop, length};
 ghost use Rattle.words_script.specs.Block.{Block};
 ghost use Rattle.rules_bodies.specs.Fetch.{fetched, found_in, ops_of};

@@ -1,4 +1,4 @@
-// Four nodes, of which two or three come.
+//! Four nodes, of which two or three come.
 use parts_arrivals::Arrivals;
 use std::test::Fail;
 

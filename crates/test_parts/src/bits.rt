@@ -1,4 +1,4 @@
-// A set of numbers from each of its words, and one of all numbers.
+//! A set of numbers from each of its words, and one of all numbers.
 use parts_bits::BitSet;
 use std::test::Fail;
 

@@ -1,4 +1,4 @@
-// What is known of a call.
+//! What is known of a call.
 use rules_machine::{call_name, is_cancellation_point};
 use words_script::{Call, Operand};
 use words_trace::CallName;

@@ -1,4 +1,4 @@
-// Lists whose order is known.
+//! Lists whose order is known.
 use parts_links::Links;
 
 #[test]

@@ -1,4 +1,4 @@
-// Numbers in their ranges, as the tests say them.
+//! Numbers in their ranges, as the tests say them.
 ghost use Rattle.std.specs.Prelude.{◌≡◌, ◌≤◌, ◌<◌, ◌*◌, ◌^◌};
 
 use words_numbers::{ObjId, Prio, Tick, Tid};

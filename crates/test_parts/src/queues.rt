@@ -1,4 +1,4 @@
-// A queue for two messages.
+//! A queue for two messages.
 ghost use Rattle.std.specs.Prelude.{◌≡◌, ◌∷◌, [], None, false, IfOk};
 ghost use Rattle.rules_machine.specs.Declarations.{queues_of};
 
@@ -32,21 +32,21 @@ fn messages_of_a_higher_priority_come_first(rt: HostRuntime) -> Result<(), Fail>
     let mut queues = Queues::open(rt.alloc(), &script)?;
     let q = object(0);
     assert_eq!(rt; queues.count(), 1);
-    assert!(rt; queues.is_empty(q));
-    assert!(rt; queues.is_too_long(q, 9));
-    assert!(rt; !queues.is_nonblock(q));
+    assert!(rt; queues.get(q).is_empty());
+    assert!(rt; queues.get(q).is_too_long(9));
+    assert!(rt; !queues.get(q).is_nonblock());
 
     queues.put(q, 3, 30);
     queues.put(q, 7, 70);
-    assert!(rt; !queues.has_room(q));
-    assert_eq!(rt; queues.len(q), 2);
-    let Some(second) = queues.nth(q, 1) else {
+    assert!(rt; !queues.get(q).has_room());
+    assert_eq!(rt; queues.get(q).len(), 2);
+    let Some(second) = queues.get(q).nth(1) else {
         assert!(rt; false);
         return Ok(());
     };
     assert_eq!(rt; second.priority(), 7);
     assert_eq!(rt; second.value(), 70);
-    assert!(rt; queues.nth(q, 2).is_none());
+    assert!(rt; queues.get(q).nth(2).is_none());
     assert_eq!(rt; queues.take(q), Some(70));
     assert_eq!(rt; queues.take(q), Some(30));
     assert_eq!(rt; queues.take(q), None);
@@ -59,13 +59,13 @@ fn a_registration_is_kept(rt: HostRuntime) -> Result<(), Fail> {
     let mut queues = Queues::open(rt.alloc(), &script)?;
     let q = object(0);
     queues.register(q, Some(Registration::new(5, 9)));
-    let Some(kept) = queues.registration(q) else {
+    let Some(kept) = queues.get(q).registration() else {
         assert!(rt; false);
         return Ok(());
     };
     assert_eq!(rt; kept.signal(), 5);
     assert_eq!(rt; kept.value(), 9);
     queues.register(q, None);
-    assert!(rt; queues.registration(q).is_none());
+    assert!(rt; queues.get(q).registration().is_none());
     Ok(())
 }

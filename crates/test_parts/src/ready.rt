@@ -1,4 +1,4 @@
-// Three threads, and a fourth that is given the highest priority.
+//! Three threads, and a fourth that is given the highest priority.
 use crate::numbers::{prio, thread};
 use parts_ready::Ready;
 use std::test::Fail;

@@ -1,4 +1,4 @@
-// Servers of both kinds, by themselves.
+//! Servers of both kinds, by themselves.
 use crate::numbers::{prio, tick};
 use parts_server::{BudgetLine, Server, ServerKind, budget_law};
 use words_numbers::Params;

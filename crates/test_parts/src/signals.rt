@@ -1,4 +1,4 @@
-// Records for two threads and for the process.
+//! Records for two threads and for the process.
 use crate::numbers::{object, thread};
 use kernel_signals::{Pending, SignalRecord};
 use std::test::Fail;

@@ -1,4 +1,4 @@
-// A thread that starts by itself, and ends; and a timer that expires twice.
+//! A thread that starts by itself, and ends; and a timer that expires twice.
 ghost use Rattle.std.specs.Prelude.{◌≡◌, ◌≤◌, ◌^◌, IfOk, None, length};
 ghost use Rattle.rules_machine.specs.Declarations.{named, threads_of, timer_kind, timers_of};
 
@@ -106,17 +106,17 @@ fn a_timer_is_due_again_after_its_interval(rt: HostRuntime) -> Result<(), Fail> 
     let k = ObjId::try_new(0).ok_or("no timer")?;
     assert_eq!(rt; table.next_due(), None);
     assert!(rt; (k.get() as usize) < table.timer_count());
-    assert_eq!(rt; table.timer_signal(k), 3);
-    assert_eq!(rt; table.timer_value(k), 9);
+    assert_eq!(rt; table.timer(k).signal(), 3);
+    assert_eq!(rt; table.timer(k).value(), 9);
     table.set_timer(k, Some(tick(5)), 4);
     assert_eq!(rt; table.next_due(), Some(tick(5)));
-    assert_eq!(rt; table.ticks_to_expiry(k, tick(2)), 3);
+    assert_eq!(rt; table.timer(k).ticks_left(tick(2)), 3);
     assert_eq!(rt; table.first_due(tick(5)), Some(Item::Timer(k)));
     table.arm_timer_again(k, tick(5));
     assert_eq!(rt; table.next_due(), Some(tick(9)));
     table.overrun_once_more(k);
-    assert_eq!(rt; table.overrun(k), 0);
+    assert_eq!(rt; table.timer(k).overrun(), 0);
     table.tell_overrun(k);
-    assert_eq!(rt; table.overrun(k), 1);
+    assert_eq!(rt; table.timer(k).overrun(), 1);
     Ok(())
 }

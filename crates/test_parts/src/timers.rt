@@ -1,4 +1,4 @@
-// A timer of signal 5.
+//! A timer of signal 5.
 ghost use Rattle.std.specs.Prelude.{◌≡◌, ◌∷◌, [], None, IfOk};
 ghost use Rattle.rules_machine.specs.Declarations.{timers_of};
 
@@ -27,22 +27,22 @@ fn a_timer_expires_again_and_again(rt: HostRuntime) -> Result<(), Fail> {
     let mut timers = Timers::open(rt.alloc(), &script)?;
     let k = object(0);
     assert_eq!(rt; timers.count(), 1);
-    assert_eq!(rt; timers.signal(k), 5);
-    assert_eq!(rt; timers.value(k), 77);
-    assert_eq!(rt; timers.due(k), None);
+    assert_eq!(rt; timers.get(k).signal(), 5);
+    assert_eq!(rt; timers.get(k).value(), 77);
+    assert_eq!(rt; timers.get(k).due(), None);
 
     timers.settime(k, Some(tick(10)), 4);
-    assert_eq!(rt; timers.due(k), Some(tick(10)));
-    assert_eq!(rt; timers.gettime(k, tick(7)), 3);
+    assert_eq!(rt; timers.get(k).due(), Some(tick(10)));
+    assert_eq!(rt; timers.get(k).ticks_left(tick(7)), 3);
     timers.arm_again(k, tick(10));
-    assert_eq!(rt; timers.due(k), Some(tick(14)));
+    assert_eq!(rt; timers.get(k).due(), Some(tick(14)));
 
     timers.overrun_once_more(k);
     timers.overrun_once_more(k);
-    assert_eq!(rt; timers.overrun(k), 0);
+    assert_eq!(rt; timers.get(k).overrun(), 0);
     timers.accepted(k);
-    assert_eq!(rt; timers.overrun(k), 2);
+    assert_eq!(rt; timers.get(k).overrun(), 2);
     timers.settime(k, None, 0);
-    assert_eq!(rt; timers.gettime(k, tick(12)), 0);
+    assert_eq!(rt; timers.get(k).ticks_left(tick(12)), 0);
     Ok(())
 }

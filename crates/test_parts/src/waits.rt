@@ -1,4 +1,4 @@
-// Three threads that wait for one mutex, a fourth that waits for a semaphore of the same number, and two that wait for signals.
+//! Three threads that wait for one mutex, a fourth that waits for a semaphore of the same number, and two that wait for signals.
 ghost use Rattle.std.specs.Prelude.{◌≡◌, ℕ, IfOk, None, length};
 ghost use Rattle.parts_waiters.specs.Places.{place_in};
 ghost use Rattle.parts_waiters.specs.declared.WaitObj.TheVariants.{Mutex};

@@ -1,4 +1,4 @@
-// Items that come and go.
+//! Items that come and go.
 ghost use Rattle.std.specs.Prelude.{◌≡◌};
 
 use crate::numbers::tick;

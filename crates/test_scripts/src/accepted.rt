@@ -1,4 +1,4 @@
-// What is read of texts that are accepted, and the limits at their edges.
+//! What is read of texts that are accepted, and the limits at their edges.
 use script_reader::{Decl, FaultKind, Kind, Script, ScriptEnd, read_script};
 use std::alloc::{AllocError, Global};
 use std::test::Fail;

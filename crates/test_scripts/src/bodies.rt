@@ -1,11 +1,11 @@
-// Small bodies and their units in order.
+//! Small bodies and their units in order.
 ghost use Rattle.std.specs.Prelude.{◌≡◌, ◌≤◌, [], ◌∷◌, IfOk};
 ghost use Rattle.words_script.specs.Block.{Nothing};
 ghost use Rattle.words_script.specs.Tree.{step_count};
 ghost use Rattle.rules_bodies.specs.Flat.{nesting};
 ghost use Rattle.rules_bodies.specs.Stands.{IsBody, IsPlaced};
 
-use script_code::{Code, Cursor, Fetched};
+use script_code::{CallPlace, Code, Cursor, Fetched};
 use std::alloc::Global;
 use std::test::Fail;
 use words_numbers::{ObjId, Prio, Res, Tid};
@@ -50,7 +50,10 @@ fn code_of(alloc: Global, thread: Body, handler: Body, cleanup: Body) -> Result<
 fn said(code: &Code, unit: &Fetched) -> (&'static str, u64) {
     match unit {
         Fetched::Run(ticks) => ("run", *ticks),
-        Fetched::Make(place) => said_of_call(&code.call(place)),
+        Fetched::Make(place) => {
+            let (word, _) = said_of_call(&code.call(place));
+            (word, number_in_table(code, place))
+        }
         Fetched::Jump => ("jump", 0),
         Fetched::Finish => ("finish", 0),
         Fetched::Yield => ("yield", 0),
@@ -58,6 +61,14 @@ fn said(code: &Code, unit: &Fetched) -> (&'static str, u64) {
         Fetched::Unlock(k) => ("unlock", u64::from(k.get())),
         Fetched::Post(k) => ("post", u64::from(k.get())),
         Fetched::Sleep(ticks) => ("sleep", *ticks),
+    }
+}
+
+// The number of the call at a place, as the table of its body has it.
+fn number_in_table(code: &Code, place: &CallPlace) -> u64 {
+    match code.call_in_table(place) {
+        Some(call) => said_of_call(call).1,
+        None => u64::MAX,
     }
 }
 

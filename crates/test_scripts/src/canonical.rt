@@ -1,4 +1,4 @@
-// Canonical texts, and that they are read back.
+//! Canonical texts, and that they are read back.
 use parts_io::MemSink;
 use script_reader::read_script;
 use script_writer::write_script;

@@ -1,4 +1,4 @@
-// Lines of words, one in pieces, and a sink that has no room for all.
+//! Lines of words, one in pieces, and a sink that has no room for all.
 use parts_io::MemSink;
 use script_printer::Printer;
 use script_writer::Word::{Keyword, Name, Number, Signal};

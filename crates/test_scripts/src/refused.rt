@@ -1,5 +1,5 @@
-// Texts that are refused, with the line and the kind of their least fault. What is expected comes from the reference
-// simulator in tools/reference, which reads by another program.
+//! Texts that are refused, with the line and the kind of their least fault. What is expected comes from the reference
+//! simulator in tools/reference, which reads by another program.
 use script_reader::{FaultKind, ScriptEnd, read_script};
 use std::alloc::Global;
 

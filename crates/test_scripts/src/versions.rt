@@ -1,4 +1,4 @@
-// Scripts of version 2.
+//! Scripts of version 2.
 use parts_io::MemSink;
 use script_reader::{FaultKind, Script, ScriptEnd, read_script};
 use script_writer::{canon_len, write_script};

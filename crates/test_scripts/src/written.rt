@@ -1,4 +1,4 @@
-// The text of each form of declaration, step, block and call, against literals.
+//! The text of each form of declaration, step, block and call, against literals.
 use parts_io::MemSink;
 use script_writer::write_script;
 use std::alloc::Global;

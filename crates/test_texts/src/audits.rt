@@ -1,4 +1,4 @@
-// Audits of traces, line by line, and the faults of heads. The verdicts were worked out by hand.
+//! Audits of traces, line by line, and the faults of heads. The verdicts were worked out by hand.
 ghost use Rattle.std.specs.Prelude.{◌≤◌, length};
 
 use std::alloc::{AllocError, Global};

@@ -1,4 +1,4 @@
-// Traces beside one another, each form of line, and what is no line.
+//! Traces beside one another, each form of line, and what is no line.
 use parts_io::{Failed, Sink};
 use std::test::Fail;
 use tool_check::{Form, Limited, compare, divide, first_difference, read_line};

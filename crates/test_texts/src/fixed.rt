@@ -1,4 +1,4 @@
-// Texts in a room of fixed size.
+//! Texts in a room of fixed size.
 use arrayvec::ArrayVec;
 use parts_text::{add, add_number};
 use std::test::Fail;

@@ -1,4 +1,4 @@
-// Sources and sinks in memory, and one that throws away.
+//! Sources and sinks in memory, and one that throws away.
 use parts_io::{Failed, MemSink, MemSource, NullSink, ReadEnd, Sink, SureSource, read_whole};
 use std::test::Fail;
 

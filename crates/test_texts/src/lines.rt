@@ -1,4 +1,4 @@
-// The lines of a text, and their words.
+//! The lines of a text, and their words.
 use script_lex::{Lines, Words};
 use std::test::Fail;
 

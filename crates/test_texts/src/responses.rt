@@ -1,4 +1,4 @@
-// The lines of three tasks, whole and cut off.
+//! The lines of three tasks, whole and cut off.
 ghost use Rattle.std.specs.Prelude.{◌≡◌, ◌^◌, ◌≤◌};
 
 use parts_io::{Failed, MemSink, Sink};

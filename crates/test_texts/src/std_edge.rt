@@ -1,4 +1,4 @@
-// The adapters over readers and writers that fail in mid-stream.
+//! The adapters over readers and writers that fail in mid-stream.
 ghost use Rattle.std.specs.Prelude.{◌≤◌, length};
 
 use parts_io::{Failed, ReadEnd, Sink, StdSink, StdSource, read_whole};

@@ -1,4 +1,4 @@
-// Worked texts of tasks: their responses, and their faults. The values were worked out by hand.
+//! Worked texts of tasks: their responses, and their faults. The values were worked out by hand.
 ghost use Rattle.std.specs.Prelude.{◌≡◌, ◌^◌, ◌≤◌, length};
 
 use parts_steps::Steps;

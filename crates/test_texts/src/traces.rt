@@ -1,4 +1,4 @@
-// Each form of line against its literal, and sinks that fail.
+//! Each form of line against its literal, and sinks that fail.
 ghost use Rattle.std.specs.Prelude.{◌≡◌, length};
 
 use parts_io::MemSink;

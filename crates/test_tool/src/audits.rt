@@ -1,4 +1,4 @@
-// Audits of traces through the one call.
+//! Audits of traces through the one call.
 use crate::commands::run_from;
 use parts_io::{MemSink, MemSource, SureSource};
 use std::alloc::{AllocError, Global};

@@ -1,4 +1,4 @@
-// Traces beside those of scripts, through the one call.
+//! Traces beside those of scripts, through the one call.
 use crate::commands::run_from;
 use parts_io::{MemSink, MemSource, SureSource};
 use std::alloc::{AllocError, Global};

@@ -1,4 +1,4 @@
-// Worked examples through the one call.
+//! Worked examples through the one call.
 ghost use Rattle.std.specs.Prelude.{◌≡◌};
 
 use parts_io::{MemSink, MemSource, Sink, Source, SureSource};

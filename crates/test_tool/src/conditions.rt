@@ -1,4 +1,4 @@
-// Worked examples of conditions, whose traces follow from the rules line by line.
+//! Worked examples of conditions, whose traces follow from the rules line by line.
 use crate::waiters::print_as_they_should;
 use std::test::Fail;
 

@@ -1,4 +1,4 @@
-// One run in which each write fails in turn, and each read.
+//! One run in which each write fails in turn, and each read.
 use crate::commands::run_from;
 use parts_io::{MemSink, MemSource, Source, StdSource, SureSource};
 use std::alloc::{AllocError, Global};

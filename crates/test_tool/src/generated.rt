@@ -1,4 +1,4 @@
-// Scripts that are generated, through the one call.
+//! Scripts that are generated, through the one call.
 use crate::commands::run_from;
 use parts_io::{MemSink, MemSource};
 use std::alloc::{AllocError, Global};

@@ -1,5 +1,5 @@
-// Worked examples of joins, ends, requests and cleanup handlers. The traces come from the reference simulator in
-// tools/reference, and follow from the rules line by line.
+//! Worked examples of joins, ends, requests and cleanup handlers. The traces come from the reference simulator in
+//! tools/reference, and follow from the rules line by line.
 use crate::waiters::print_as_they_should;
 use std::test::Fail;
 

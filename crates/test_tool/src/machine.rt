@@ -1,4 +1,4 @@
-// The calls and policies of the whole machine, through the one call.
+//! The calls and policies of the whole machine, through the one call.
 use crate::commands::run_from;
 use parts_io::{MemSink, SureSource};
 use std::test::Fail;

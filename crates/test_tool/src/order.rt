@@ -1,4 +1,4 @@
-// A source is read whole before the first write: a reader and a writer share the count of the reads.
+//! A source is read whole before the first write: a reader and a writer share the count of the reads.
 use crate::commands::run_from;
 use parts_io::{StdSink, StdSource};
 use std::alloc::{AllocError, Global};

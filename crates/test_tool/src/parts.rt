@@ -1,4 +1,4 @@
-// The parts below, each public call once.
+//! The parts below, each public call once.
 ghost use Rattle.std.specs.Prelude.{◌≡◌};
 
 use kernel_leaps::{Kernel, RunEnd};

@@ -1,4 +1,4 @@
-// Worked texts of tasks through the one call.
+//! Worked texts of tasks through the one call.
 use crate::commands::run_from;
 use parts_io::{MemSink, SureSource};
 use std::test::Fail;

@@ -1,4 +1,4 @@
-// What is shown of instants through the one call.
+//! What is shown of instants through the one call.
 use crate::commands::run_from;
 use parts_io::{MemSink, MemSource, SureSource};
 use std::alloc::{AllocError, Global};

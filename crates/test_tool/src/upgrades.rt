@@ -1,4 +1,4 @@
-// Scripts of version 1 as scripts of version 2 through the one call.
+//! Scripts of version 1 as scripts of version 2 through the one call.
 use crate::commands::run_from;
 use parts_io::{MemSink, MemSource, SureSource};
 use std::alloc::{AllocError, Global};

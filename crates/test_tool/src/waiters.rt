@@ -1,4 +1,4 @@
-// Worked examples of mutexes and semaphores, whose traces were written by hand from the rules.
+//! Worked examples of mutexes and semaphores, whose traces were written by hand from the rules.
 use crate::commands::run_from;
 use parts_io::{MemSink, SureSource};
 use std::alloc::Global;

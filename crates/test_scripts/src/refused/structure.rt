@@ -1,4 +1,4 @@
-// Lines that do not stand where they may, and blocks that are not closed or never opened.
+//! Lines that do not stand where they may, and blocks that are not closed or never opened.
 use super::{Case, are_refused};
 use script_reader::FaultKind;
 

@@ -13,7 +13,7 @@ pub notify-requires-clause-can : goal.notify-requires-clause-can
 notify-requires-clause-can g c =
     let w = c.args.sender in
     let waits = subst (λ (k : Kernel). is_blocked (thread_at k.machine w).status ≡ true) (sym c.put_message.ensures) c.requires.blocked in
-    let can = put_can c.args.q (message_of c.args.message) c.args.p.now c.put_message.new.self c.put_message.ensures c.requires.can in
+    let can = put_can c.args.q (message_of c.args.message) c.args.p.now c.put_message.new.self c.put_message.ensures c.requires.can.notifies in
     woken_can w res.Zero 0 c.args.q c.put_message.new.self c.wake.new.self c.wake.ensures.state waits can
 
 pub returns : goal.returns

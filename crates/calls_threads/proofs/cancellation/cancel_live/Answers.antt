@@ -1,6 +1,7 @@
 use Rattle.std.proofs.Common.{rules, subst, sym}
 use Rattle.rules_machine.proofs.BehindCalls.{acts_if_blocked_behind}
-use Rattle.kernel_state.specs.Kernel.{Kernel, by, turn}
+use Rattle.kernel_state.specs.Kernel.{Kernel, turn}
+use Rattle.kernel_state.specs.Caller.{caller}
 use Rattle.calls_sync.specs.Waits.{WaitsFit}
 use Rattle.calls_threads.specs.Joins.{JoinsFit}
 use Rattle.calls_threads.proofs.Asked.{asked_fits, asked_joins}
@@ -11,11 +12,11 @@ pub act_if_blocked-requires-clause-can : goal.act_if_blocked-requires-clause-can
 act_if_blocked-requires-clause-can g c =
     let can = c.requires.can in
     let s = turn c.args.p.now in
-    let caller = by c.args.t c.args.call.now in
+    let b = caller c.args.by.now in
     record {
       threads = search rules;
-      fits = subst (λ (k : Kernel). WaitsFit k.machine) (sym c.ask_to_end.ensures.state) (asked_fits caller c.args.u s can.fits);
-      joins = subst (λ (k : Kernel). JoinsFit k.machine) (sym c.ask_to_end.ensures.state) (asked_joins caller c.args.u s can.joins);
+      fits = subst (λ (k : Kernel). WaitsFit k.machine) (sym c.ask_to_end.ensures.state) (asked_fits b c.args.u s can.fits);
+      joins = subst (λ (k : Kernel). JoinsFit k.machine) (sym c.ask_to_end.ensures.state) (asked_joins b c.args.u s can.joins);
       room = search rules;
       serial = search rules;
       early = search rules;

@@ -11,7 +11,7 @@ invariant_of-self c =
     let s = c.self.inside in
     let w = c.block_runner-moved in
     let f : Thread Cursor → Thread Cursor = put_to_wait (waiting_of c.args.waiting) in
-    let known = rw (← c.self.view_is) at c.requires.known in
+    let known = rw (← c.self.view_is) at c.requires.caller.known in
     record {
       tied = tied_again s.names s.code s.ready.threads s.table.threads w.new.self.threads s.direct (as_many s.table w.new.self c.args.t f w.ensures.table) c.self.invariant.tied;
       stand = self_thread s.table w.new.self s.ready.lists s.named.bits c.args.t f w.ensures.table c.self.invariant.stand c.add.new.self.bits c.take_in.new.self.bits w.result

@@ -11,8 +11,8 @@ invariant_of-self c =
     let w = c.refill-moved in
     let f : Thread Cursor → Thread Cursor = with_server refill in
     record {
-      tied = tied_again s.names s.code s.ready.threads s.table.threads w.new.self.threads s.direct (as_many s.table w.new.self c.args.t f w.ensures.table) c.self.invariant.tied;
-      stand = told_thread s.table w.new.self s.ready.lists s.named.bits c.args.t f w.ensures.table c.self.invariant.stand c.take_in.new.self.bits w.result.1 (λ th h. h) c.take_in.ensures w.ensures.moved;
+      tied = tied_again s.names s.code s.ready.threads s.table.threads w.new.self.threads s.direct (as_many s.table w.new.self c.args.t f w.ensures.change.table) c.self.invariant.tied;
+      stand = told_thread s.table w.new.self s.ready.lists s.named.bits c.args.t f w.ensures.change.table c.self.invariant.stand c.take_in.new.self.bits w.result.1 (λ th h. h) c.take_in.ensures w.ensures.change.moved;
     }
 
 pub take_in-requires : goal.take_in-requires
@@ -20,4 +20,4 @@ take_in-requires c =
     let s = c.self.inside in
     let w = c.refill-moved in
     let f : Thread Cursor → Thread Cursor = with_server refill in
-    fit s.table w.new.self w.result.1 (as_many s.table w.new.self c.args.t f w.ensures.table) c.self.invariant.tied.few (told_there s.table w.new.self w.result.1 w.ensures.moved)
+    fit s.table w.new.self w.result.1 (as_many s.table w.new.self c.args.t f w.ensures.change.table) c.self.invariant.tied.few (told_there s.table w.new.self w.result.1 w.ensures.change.moved)

@@ -15,11 +15,11 @@ invariant_of-self g c =
     let ran = w.ensures.ran in
     let bodies = flat_bodies s.code in
     let f : Thread Cursor → Thread Cursor = run_past bodies ran.units w.result.0.ticks in
-    let is = w.ensures.table ∙ ap (λ (th : Thread Cursor). with_thread c.args.t (λ old. th) s.table) ran.thread in
+    let is = w.ensures.change.table ∙ ap (λ (th : Thread Cursor). with_thread c.args.t (λ old. th) s.table) ran.thread in
     record {
       tied = tied_again s.names s.code s.ready.threads s.table.threads w.new.self.threads s.direct (as_many s.table w.new.self c.args.t f is) c.self.invariant.tied;
       stand = told_thread s.table w.new.self s.ready.lists s.named.bits c.args.t f is c.self.invariant.stand c.take_in.new.self.bits w.result.1
-          (λ th runs. runs_keep bodies (λ (x : Thread Cursor). is_runnable x.status) true (λ x fs us. refl) (λ k x e. e) ran.units w.result.0.ticks th runs) c.take_in.ensures w.ensures.moved;
+          (λ th runs. runs_keep bodies (λ (x : Thread Cursor). is_runnable x.status) true (λ x fs us. refl) (λ k x e. e) ran.units w.result.0.ticks th runs) c.take_in.ensures w.ensures.change.moved;
     }
 
 pub take_in-requires : goal.take_in-requires
@@ -27,4 +27,4 @@ take_in-requires g c =
     let s = c.self.inside in
     let w = c.run-ran in
     let to_new : Thread Cursor → Thread Cursor = λ th. thread_in w.new.self.threads c.args.t in
-    fit s.table w.new.self w.result.1 (as_many s.table w.new.self c.args.t to_new w.ensures.table) c.self.invariant.tied.few (told_there s.table w.new.self w.result.1 w.ensures.moved)
+    fit s.table w.new.self w.result.1 (as_many s.table w.new.self c.args.t to_new w.ensures.change.table) c.self.invariant.tied.few (told_there s.table w.new.self w.result.1 w.ensures.change.moved)

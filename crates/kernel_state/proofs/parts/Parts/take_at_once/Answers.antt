@@ -9,6 +9,6 @@ invariant_of-self c =
     let s = c.self.inside in
     let w = c.take_at_once in
     record {
-      tied = tied_again s.names s.code s.ready.threads s.table.threads w.new.self.threads s.direct (ap (λ (x : Table). length x.threads) w.ensures.table) c.self.invariant.tied;
-      stand = none_mutex s.table w.new.self s.ready.lists s.named.bits c.args.k (taken_if w.result c.args.t) w.ensures.table w.ensures.same c.self.invariant.stand;
+      tied = tied_again s.names s.code s.ready.threads s.table.threads w.new.self.threads s.direct (ap (λ (x : Table). length x.threads) w.ensures.change.table) c.self.invariant.tied;
+      stand = none_mutex s.table w.new.self s.ready.lists s.named.bits c.args.k (taken_if w.result c.args.t) w.ensures.change.table w.ensures.change.same c.self.invariant.stand;
     }

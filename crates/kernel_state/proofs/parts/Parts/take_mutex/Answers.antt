@@ -11,12 +11,12 @@ invariant_of-self c =
     let w = c.take-moved in
     let f : Mutex → Mutex = taken_by c.args.t in
     record {
-      tied = tied_again s.names s.code s.ready.threads s.table.threads w.new.self.threads s.direct (ap (λ (x : Table). length x.threads) w.ensures.table) c.self.invariant.tied;
-      stand = told_mutex s.table w.new.self s.ready.lists s.named.bits c.take_in.new.self.bits c.args.k f w.result w.ensures.table c.take_in.ensures w.ensures.moved c.self.invariant.stand;
+      tied = tied_again s.names s.code s.ready.threads s.table.threads w.new.self.threads s.direct (ap (λ (x : Table). length x.threads) w.ensures.change.table) c.self.invariant.tied;
+      stand = told_mutex s.table w.new.self s.ready.lists s.named.bits c.take_in.new.self.bits c.args.k f w.result w.ensures.change.table c.take_in.ensures w.ensures.change.moved c.self.invariant.stand;
     }
 
 pub take_in-requires : goal.take_in-requires
 take_in-requires c =
     let s = c.self.inside in
     let w = c.take-moved in
-    fit s.table w.new.self w.result (ap (λ (x : Table). length x.threads) w.ensures.table) c.self.invariant.tied.few (told_there s.table w.new.self w.result w.ensures.moved)
+    fit s.table w.new.self w.result (ap (λ (x : Table). length x.threads) w.ensures.change.table) c.self.invariant.tied.few (told_there s.table w.new.self w.result w.ensures.change.moved)

@@ -1,4 +1,4 @@
-use Rattle.std.proofs.Common.{refl}
+use Rattle.std.proofs.Common.{refl, rules}
 use Rattle.rules_server.specs.Server.{activate}
 use Rattle.rules_machine.specs.Servers.{with_server}
 use Rattle.kernel_table.proofs.Statuses.{activated_claim}
@@ -16,7 +16,10 @@ invariant_of-self c = record {
       (still_armed s.threads s.timers s.wheel.dues c.args.t (with_server (activate c.args.now)) (λ th. activated_due c.args.now th.server) (λ th. refl) (λ th. refl) c.self.invariant.armed));
 }
 
-pub returns-clause-same : goal.returns-clause-same
-returns-clause-same c = λ u _.
-    let s = c.self.inside in
-    rw (c.activate.ensures, c.get_mut.ensures.value, ← c.self.view_is) (claims_kept (table_with s.timers s.threads s.chain) c.args.t (with_server (activate c.args.now)) (λ th. activated_claim c.args.now th) u)
+pub returns : goal.returns
+returns c = record {
+  table = (search rules);
+  same = (λ u _.
+      let s = c.self.inside in
+      rw (c.activate.ensures, c.get_mut.ensures.value, ← c.self.view_is) (claims_kept (table_with s.timers s.threads s.chain) c.args.t (with_server (activate c.args.now)) (λ th. activated_claim c.args.now th) u));
+}

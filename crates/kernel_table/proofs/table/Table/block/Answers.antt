@@ -1,4 +1,4 @@
-use Rattle.std.proofs.Common.{ap, length, slice_set, subst, ◌∙◌}
+use Rattle.std.proofs.Common.{ap, length, slice_set, subst, ◌∙◌, rules}
 use Rattle.rules_machine.specs.Waking.{put_to_wait}
 use Rattle.kernel_threads.specs.Plain.{waiting_of}
 use Rattle.kernel_table.specs.Times.{refill_of, start_of, timeout_of}
@@ -17,22 +17,24 @@ invariant_of-self c = record {
       let w = waiting_of c.args.waiting in
       let known = rw (← c.self.view_is) at c.requires.known in
       begun_tied s.threads s.chain c.stop_waiting.new.chain c.begin_waiting-moved.new.chain s.waits c.stop_waiting.new.waits c.begin_waiting-moved.new.waits c.args.t w c.block.new.self known
-      (c.block.ensures ∙ ap (put_to_wait w) c.get_mut.ensures.value) c.stop_waiting.ensures.chain c.stop_waiting.ensures.waits c.begin_waiting-moved.ensures.chain c.begin_waiting-moved.ensures.waits c.self.invariant.tied);
+      (c.block.ensures ∙ ap (put_to_wait w) c.get_mut.ensures.value) c.stop_waiting.ensures.links.chain c.stop_waiting.ensures.links.waits c.begin_waiting-moved.ensures.chain c.begin_waiting-moved.ensures.waits c.self.invariant.tied);
   armed = (let s = c.self.inside in
       let is = c.block.ensures ∙ ap (put_to_wait (waiting_of c.args.waiting)) c.get_mut.ensures.value in
       armed_waiting s.threads s.timers s.wheel.dues _ c.args.t c.block.new.self c.args.waiting.due c.self.invariant.tied.few (rw (← c.self.view_is) at c.requires.known) (ap refill_of is) (ap start_of is) (ap timeout_of is) c.time_wait.ensures c.self.invariant.armed);
 }
 
-pub returns-clause-moved : goal.returns-clause-moved
-returns-clause-moved c =
-    let s = c.self.inside in
-    let b = c.begin_waiting-moved in
-    let none = awaits_none s.threads s.chain s.waits c.args.t (rw (← c.self.view_is) at c.requires.waits_not) c.self.invariant.tied in
-    let kept = c.stop_waiting.ensures.chain ∙ same_links s.chain c.args.t none in
-    let moved = subst (λ (l : Links). TellsMoved (length l.claims) (exec_of l) (exec_of b.new.chain) b.new.waits b.result) kept b.ensures.moved in
-    rw (← c.self.view_is, c.thread_of.ensures)
-    (told s.timers s.threads (slice_set s.threads c.args.t c.block.new.self) s.chain b.new.chain s.waits b.new.waits b.result (length-set s.threads c.args.t c.block.new.self) c.self.invariant.tied
-    (invariant_of-self c).tied moved)
+pub returns : goal.returns
+returns c = record {
+  table = (search rules);
+  moved = (let s = c.self.inside in
+      let b = c.begin_waiting-moved in
+      let none = awaits_none s.threads s.chain s.waits c.args.t (rw (← c.self.view_is) at c.requires.waits_not) c.self.invariant.tied in
+      let kept = c.stop_waiting.ensures.links.chain ∙ same_links s.chain c.args.t none in
+      let moved = subst (λ (l : Links). TellsMoved (length l.claims) (exec_of l) (exec_of b.new.chain) b.new.waits b.result) kept b.ensures.moved in
+      rw (← c.self.view_is, c.thread_of.ensures)
+      (told s.timers s.threads (slice_set s.threads c.args.t c.block.new.self) s.chain b.new.chain s.waits b.new.waits b.result (length-set s.threads c.args.t c.block.new.self) c.self.invariant.tied
+      (invariant_of-self c).tied moved));
+}
 
 pub time_wait-requires-clause-numbers : goal.time_wait-requires-clause-numbers
 time_wait-requires-clause-numbers c = c.self.invariant.armed.numbers

@@ -1,4 +1,4 @@
-use Rattle.std.proofs.Common.{ap, slice_set, ◌∙◌, arith}
+use Rattle.std.proofs.Common.{ap, slice_set, ◌∙◌, arith, rules}
 use Rattle.std.proofs.lemmas.List.{length-set}
 use Rattle.rules_machine.specs.Waking.{put_to_wait}
 use Rattle.kernel_threads.specs.Plain.{waiting_of}
@@ -41,10 +41,12 @@ invariant_of-self c = record {
       armed_waiting s.threads s.timers s.wheel.dues _ c.args.t c.block.new.self c.args.waiting.due c.self.invariant.tied.few (rw (← c.self.view_is) at c.requires.known) (ap refill_of is) (ap start_of is) (ap timeout_of is) c.time_runner.ensures c.self.invariant.armed);
 }
 
-pub returns-clause-moved : goal.returns-clause-moved
-returns-clause-moved c =
-    let s = c.self.inside in
-    let b = c.begin_waiting-moved in
-    rw (← c.self.view_is, c.thread_of.ensures)
-    (told s.timers s.threads (slice_set s.threads c.args.t c.block.new.self) s.chain b.new.chain s.waits b.new.waits b.result (length-set s.threads c.args.t c.block.new.self) c.self.invariant.tied
-    (invariant_of-self c).tied b.ensures.moved)
+pub returns : goal.returns
+returns c = record {
+  table = (search rules);
+  moved = (let s = c.self.inside in
+      let b = c.begin_waiting-moved in
+      rw (← c.self.view_is, c.thread_of.ensures)
+      (told s.timers s.threads (slice_set s.threads c.args.t c.block.new.self) s.chain b.new.chain s.waits b.new.waits b.result (length-set s.threads c.args.t c.block.new.self) c.self.invariant.tied
+      (invariant_of-self c).tied b.ensures.moved));
+}

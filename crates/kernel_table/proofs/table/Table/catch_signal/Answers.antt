@@ -1,4 +1,4 @@
-use Rattle.std.proofs.Common.{refl}
+use Rattle.std.proofs.Common.{refl, rules}
 use Rattle.rules_bodies.specs.Next.{capped}
 use Rattle.rules_machine.specs.declared.frame.BodyOf.TheVariants as body_of
 use Rattle.rules_machine.specs.declared.frame.FrameKind.TheVariants as frame
@@ -18,7 +18,10 @@ invariant_of-self c = record {
       (still_armed s.threads s.timers s.wheel.dues c.args.t (on_top (new_frame (flat_bodies c.args.code.now) frame.Signal (body_of.Handler c.args.h) (capped c.args.value))) (λ th. refl) (λ th. refl) (λ th. refl) c.self.invariant.armed));
 }
 
-pub returns-clause-same : goal.returns-clause-same
-returns-clause-same c = λ u _.
-    let s = c.self.inside in
-    rw (c.catch_signal.ensures, c.get_mut.ensures.value, ← c.self.view_is) (claims_kept (table_with s.timers s.threads s.chain) c.args.t (on_top (new_frame (flat_bodies c.args.code.now) frame.Signal (body_of.Handler c.args.h) (capped c.args.value))) (λ th. refl) u)
+pub returns : goal.returns
+returns c = record {
+  table = (search rules);
+  same = (λ u _.
+      let s = c.self.inside in
+      rw (c.catch_signal.ensures, c.get_mut.ensures.value, ← c.self.view_is) (claims_kept (table_with s.timers s.threads s.chain) c.args.t (on_top (new_frame (flat_bodies c.args.code.now) frame.Signal (body_of.Handler c.args.h) (capped c.args.value))) (λ th. refl) u));
+}

@@ -1,4 +1,4 @@
-use Rattle.std.proofs.Common.{refl}
+use Rattle.std.proofs.Common.{refl, rules}
 use Rattle.rules_machine.specs.Lives.{without_top}
 use Rattle.kernel_table.proofs.Ties.{still_tied}
 use Rattle.kernel_table.proofs.ToldMoves.{claims_kept, table_with}
@@ -14,7 +14,10 @@ invariant_of-self c = record {
       (still_armed s.threads s.timers s.wheel.dues c.args.t without_top (λ th. refl) (λ th. refl) (λ th. refl) c.self.invariant.armed));
 }
 
-pub returns-clause-same : goal.returns-clause-same
-returns-clause-same c = λ u _.
-    let s = c.self.inside in
-    rw (c.drop_frame.ensures, c.get_mut.ensures.value, ← c.self.view_is) (claims_kept (table_with s.timers s.threads s.chain) c.args.t without_top (λ th. refl) u)
+pub returns : goal.returns
+returns c = record {
+  table = (search rules);
+  same = (λ u _.
+      let s = c.self.inside in
+      rw (c.drop_frame.ensures, c.get_mut.ensures.value, ← c.self.view_is) (claims_kept (table_with s.timers s.threads s.chain) c.args.t without_top (λ th. refl) u));
+}

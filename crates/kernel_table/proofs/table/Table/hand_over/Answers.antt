@@ -31,8 +31,8 @@ woken_tied c =
     let s = c.self.inside in
     let f = woken c.args.res c.args.value in
     let known = rw (← c.self.view_is) at c.requires.known in
-    moved_tied s.threads c.release-released.new.self c.stop_waiting-woken.new.chain c.release-released.new.w _ c.stop_waiting-woken.new.waits c.args.t f (waiting_for None) c.stop_waiting-woken.ensures.chain refl
-    (wait_set s.threads c.release-released.new.self c.release-released.new.w c.args.t f None known refl (freed_tied c)) c.stop_waiting-woken.ensures.waits (freed_tied c)
+    moved_tied s.threads c.release-released.new.self c.stop_waiting-woken.new.chain c.release-released.new.w _ c.stop_waiting-woken.new.waits c.args.t f (waiting_for None) c.stop_waiting-woken.ensures.links.chain refl
+    (wait_set s.threads c.release-released.new.self c.release-released.new.w c.args.t f None known refl (freed_tied c)) c.stop_waiting-woken.ensures.links.waits (freed_tied c)
 
 -- and once it owns the mutex
 taken_tied : (c : After-thread_of-2) → IsTied (changed_at no_thread c.args.t (woken c.args.res c.args.value) c.self.inside.threads) c.take.new.self c.take.new.w
@@ -51,7 +51,7 @@ told_woken c =
     let s = c.self.inside in
     let f = woken c.args.res c.args.value in
     told s.timers s.threads (changed_at no_thread c.args.t f s.threads) c.release-released.new.self c.stop_waiting-woken.new.chain c.release-released.new.w c.stop_waiting-woken.new.waits c.stop_waiting-woken.result
-    (changed-length no_thread c.args.t f s.threads) (freed_tied c) (woken_tied c) c.stop_waiting-woken.ensures.moved
+    (changed-length no_thread c.args.t f s.threads) (freed_tied c) (woken_tied c) c.stop_waiting-woken.ensures.links.moved
 
 pub invariant_of-self : goal.invariant_of-self
 invariant_of-self c = record {
@@ -65,7 +65,7 @@ pub returns-clause-table : goal.returns-clause-table
 returns-clause-table c =
     let s = c.self.inside in
     let mutexes = ap (λ (l : Links). l.mutexes) c.take.ensures.chain in
-    rw (c.wake.ensures, c.get_mut.ensures.value, mutexes, c.stop_waiting-woken.ensures.chain, c.release-released.ensures.chain, changed-twice no_mutex c.args.k freed (taken_by c.args.t) s.chain.mutexes, sym c.self.view_is) refl
+    rw (c.wake.ensures, c.get_mut.ensures.value, mutexes, c.stop_waiting-woken.ensures.links.chain, c.release-released.ensures.chain, changed-twice no_mutex c.args.k freed (taken_by c.args.t) s.chain.mutexes, sym c.self.view_is) refl
 
 pub returns-clause-released : goal.returns-clause-released
 returns-clause-released c =
@@ -79,7 +79,7 @@ returns-clause-woken c =
     let s = c.self.inside in
     let ths = changed_at no_thread c.args.t (woken c.args.res c.args.value) s.threads in
     let one = ap (λ (l : Links). l.mutexes) c.release-released.ensures.chain in
-    let two = ap (λ (l : Links). l.mutexes) c.stop_waiting-woken.ensures.chain ∙ one in
+    let two = ap (λ (l : Links). l.mutexes) c.stop_waiting-woken.ensures.links.chain ∙ one in
     rw (← c.self.view_is, c.thread_of-2.ensures)
     (subst (λ (ms : List Mutex). TellsMoved (record { threads = s.threads; mutexes = ms; timers = s.timers }) (record { threads = ths; mutexes = changed_at no_mutex c.args.k freed s.chain.mutexes; timers = s.timers }) (option_map (λ (m : Moved). m.thread) c.stop_waiting-woken.result)) one
     (subst (λ (ms : List Mutex). TellsMoved (table_with s.timers s.threads c.release-released.new.self) (record { threads = ths; mutexes = ms; timers = s.timers }) (option_map (λ (m : Moved). m.thread) c.stop_waiting-woken.result)) two (told_woken c)))

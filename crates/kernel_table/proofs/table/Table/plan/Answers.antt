@@ -1,4 +1,4 @@
-use Rattle.std.proofs.Common.{ap, option_map, refl, slice_set, ◌∙◌}
+use Rattle.std.proofs.Common.{ap, option_map, refl, slice_set, ◌∙◌, rules, arith}
 use Rattle.rules_server.specs.Server.{plan}
 use Rattle.rules_machine.specs.Servers.{with_server}
 use Rattle.kernel_table.specs.Times.{start_of, timeout_of}
@@ -10,7 +10,7 @@ use Rattle.rules_machine.specs.Threads.{no_thread}
 use Rattle.kernel_threads.specs.Ends.{planned_of}
 use Rattle.kernel_table.proofs.Planning.{planned}
 use Rattle.std.proofs.lemmas.List.{get_or-set_same, length-set}
-use Rattle.kernel_table.proofs.ToldMoves.{told}
+use Rattle.kernel_table.proofs.ToldMoves.{claims_long, told}
 use Rattle.kernel_table.proofs.Armed.{armed_refilled}
 use Rattle.kernel_table.proofs.table.Table.plan.Goals as goal
 
@@ -20,21 +20,27 @@ invariant_of-self c = record {
       let f = with_server plan in
       let known = rw (← c.self.view_is) at c.requires.known in
       reassigned_tied s.threads s.chain c.take_plan-moved.new.chain s.waits c.take_plan-moved.new.waits c.args.t f c.plan_next-planned.new.self known
-      (c.plan_next-planned.ensures.thread ∙ ap f c.get_mut.ensures.value) (λ th. refl) c.take_plan-moved.ensures.chain c.take_plan-moved.ensures.waits c.self.invariant.tied);
+      (c.plan_next-planned.ensures.thread ∙ ap f c.get_mut.ensures.value) (λ th. refl) c.take_plan-moved.ensures.links.chain c.take_plan-moved.ensures.links.waits c.self.invariant.tied);
   armed = (let s = c.self.inside in
       let is = c.plan_next-planned.ensures.thread ∙ ap (with_server plan) c.get_mut.ensures.value in
       armed_refilled s.threads s.timers s.wheel.dues _ c.args.t c.plan_next-planned.new.self c.self.invariant.tied.few (rw (← c.self.view_is) at c.requires.known) (ap start_of is) (ap timeout_of is) c.take_plan-moved.ensures.dues c.self.invariant.armed);
 }
 
-pub take_plan-moved-requires-clause-placed : goal.take_plan-moved-requires-clause-placed
-take_plan-moved-requires-clause-placed c = placed c.self.inside.threads c.self.inside.chain c.self.inside.waits c.self.invariant.tied
-
-pub returns-clause-moved : goal.returns-clause-moved
-returns-clause-moved c =
+pub take_plan-moved-requires-clause-can : goal.take_plan-moved-requires-clause-can
+take_plan-moved-requires-clause-can c =
     let s = c.self.inside in
-    rw (← c.self.view_is, c.thread_of.ensures)
-    (told s.timers s.threads (slice_set s.threads c.args.t c.plan_next-planned.new.self) s.chain c.take_plan-moved.new.chain s.waits c.take_plan-moved.new.waits c.take_plan-moved.result (length-set s.threads c.args.t c.plan_next-planned.new.self) c.self.invariant.tied
-    (invariant_of-self c).tied c.take_plan-moved.ensures.moved)
+    let known = rw (← c.self.view_is) at c.requires.known in
+    let long = claims_long s.threads s.chain s.waits c.self.invariant.tied in
+    record { known = omega (arith, known, long); placed = placed c.self.inside.threads c.self.inside.chain c.self.inside.waits c.self.invariant.tied }
+
+pub returns-clause-change : goal.returns-clause-change
+returns-clause-change c = record {
+  table = (search rules);
+  moved = (let s = c.self.inside in
+      rw (← c.self.view_is, c.thread_of.ensures)
+      (told s.timers s.threads (slice_set s.threads c.args.t c.plan_next-planned.new.self) s.chain c.take_plan-moved.new.chain s.waits c.take_plan-moved.new.waits c.take_plan-moved.result (length-set s.threads c.args.t c.plan_next-planned.new.self) c.self.invariant.tied
+      (invariant_of-self c).tied c.take_plan-moved.ensures.links.moved));
+}
 
 pub take_plan-moved-requires-clause-numbers : goal.take_plan-moved-requires-clause-numbers
 take_plan-moved-requires-clause-numbers c = c.self.invariant.armed.numbers

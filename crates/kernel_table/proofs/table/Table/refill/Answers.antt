@@ -1,4 +1,4 @@
-use Rattle.std.proofs.Common.{ap, refl, slice_set, sym, ◌∙◌, ◌≡◌}
+use Rattle.std.proofs.Common.{ap, refl, slice_set, sym, ◌∙◌, ◌≡◌, rules, arith}
 use Rattle.rules_server.specs.Server.{refill}
 use Rattle.rules_machine.specs.Servers.{with_server}
 use Rattle.rules_machine.specs.Priorities.{assigned_of}
@@ -9,7 +9,7 @@ use Rattle.kernel_table.proofs.Planning.{chain_has}
 use Rattle.kernel_table.proofs.Ties.{placed}
 use Rattle.kernel_table.proofs.Moved.{reassigned_tied}
 use Rattle.std.proofs.lemmas.List.{get_or-set_same, length-set}
-use Rattle.kernel_table.proofs.ToldMoves.{told}
+use Rattle.kernel_table.proofs.ToldMoves.{claims_long, told}
 use Rattle.kernel_table.proofs.Armed.{armed_refilled}
 use Rattle.kernel_table.proofs.table.Table.refill.Goals as goal
 use Rattle.kernel_table.proofs.table.Table.refill.Goals.{After-thread_of}
@@ -28,21 +28,27 @@ invariant_of-self c = record {
       let f = with_server refill in
       let known = rw (← c.self.view_is) at c.requires.known in
       reassigned_tied s.threads s.chain c.reassign_changed-moved.new.chain s.waits c.reassign_changed-moved.new.waits c.args.t f c.refill_oldest-next.new.self known
-      (c.refill_oldest-next.ensures.thread ∙ ap f c.get_mut.ensures.value) (λ th. refl) c.reassign_changed-moved.ensures.chain c.reassign_changed-moved.ensures.waits c.self.invariant.tied);
+      (c.refill_oldest-next.ensures.thread ∙ ap f c.get_mut.ensures.value) (λ th. refl) c.reassign_changed-moved.ensures.links.chain c.reassign_changed-moved.ensures.links.waits c.self.invariant.tied);
   armed = (let s = c.self.inside in
       let is = c.refill_oldest-next.ensures.thread ∙ ap (with_server refill) c.get_mut.ensures.value in
       armed_refilled s.threads s.timers s.wheel.dues _ c.args.t c.refill_oldest-next.new.self c.self.invariant.tied.few (rw (← c.self.view_is) at c.requires.known) (ap start_of is) (ap timeout_of is) (due_then c) c.self.invariant.armed);
 }
 
-pub reassign_changed-moved-requires-clause-placed : goal.reassign_changed-moved-requires-clause-placed
-reassign_changed-moved-requires-clause-placed c = placed c.self.inside.threads c.self.inside.chain c.self.inside.waits c.self.invariant.tied
-
-pub returns-clause-moved : goal.returns-clause-moved
-returns-clause-moved c =
+pub reassign_changed-moved-requires-clause-can : goal.reassign_changed-moved-requires-clause-can
+reassign_changed-moved-requires-clause-can c =
     let s = c.self.inside in
-    rw (← c.self.view_is, c.thread_of.ensures)
-    (told s.timers s.threads (slice_set s.threads c.args.t c.refill_oldest-next.new.self) s.chain c.reassign_changed-moved.new.chain s.waits c.reassign_changed-moved.new.waits c.reassign_changed-moved.result (length-set s.threads c.args.t c.refill_oldest-next.new.self) c.self.invariant.tied
-    (invariant_of-self c).tied c.reassign_changed-moved.ensures.moved)
+    let known = rw (← c.self.view_is) at c.requires.known in
+    let long = claims_long s.threads s.chain s.waits c.self.invariant.tied in
+    record { known = omega (arith, known, long); placed = placed c.self.inside.threads c.self.inside.chain c.self.inside.waits c.self.invariant.tied }
+
+pub returns-clause-change : goal.returns-clause-change
+returns-clause-change c = record {
+  table = (search rules);
+  moved = (let s = c.self.inside in
+      rw (← c.self.view_is, c.thread_of.ensures)
+      (told s.timers s.threads (slice_set s.threads c.args.t c.refill_oldest-next.new.self) s.chain c.reassign_changed-moved.new.chain s.waits c.reassign_changed-moved.new.waits c.reassign_changed-moved.result (length-set s.threads c.args.t c.refill_oldest-next.new.self) c.self.invariant.tied
+      (invariant_of-self c).tied c.reassign_changed-moved.ensures.links.moved));
+}
 
 pub time_refill-requires-clause-numbers : goal.time_refill-requires-clause-numbers
 time_refill-requires-clause-numbers c = c.self.invariant.armed.numbers

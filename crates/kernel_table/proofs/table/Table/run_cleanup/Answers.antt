@@ -1,4 +1,4 @@
-use Rattle.std.proofs.Common.{refl}
+use Rattle.std.proofs.Common.{refl, rules}
 use Rattle.rules_machine.specs.declared.frame.BodyOf.TheVariants as body_of
 use Rattle.rules_machine.specs.declared.frame.FrameKind.TheVariants as frame
 use Rattle.rules_machine.specs.Waking.{new_frame, on_top}
@@ -17,7 +17,10 @@ invariant_of-self c = record {
       (still_armed s.threads s.timers s.wheel.dues c.args.t (on_top (new_frame (flat_bodies c.args.code.now) frame.Cleanup (body_of.Cleanup c.args.u) 0)) (λ th. refl) (λ th. refl) (λ th. refl) c.self.invariant.armed));
 }
 
-pub returns-clause-same : goal.returns-clause-same
-returns-clause-same c = λ u _.
-    let s = c.self.inside in
-    rw (c.run_cleanup.ensures, c.get_mut.ensures.value, ← c.self.view_is) (claims_kept (table_with s.timers s.threads s.chain) c.args.t (on_top (new_frame (flat_bodies c.args.code.now) frame.Cleanup (body_of.Cleanup c.args.u) 0)) (λ th. refl) u)
+pub returns : goal.returns
+returns c = record {
+  table = (search rules);
+  same = (λ u _.
+      let s = c.self.inside in
+      rw (c.run_cleanup.ensures, c.get_mut.ensures.value, ← c.self.view_is) (claims_kept (table_with s.timers s.threads s.chain) c.args.t (on_top (new_frame (flat_bodies c.args.code.now) frame.Cleanup (body_of.Cleanup c.args.u) 0)) (λ th. refl) u));
+}

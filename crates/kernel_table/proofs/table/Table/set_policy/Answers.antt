@@ -1,10 +1,10 @@
-use Rattle.std.proofs.Common.{ap, refl, slice_set, ◌∙◌}
+use Rattle.std.proofs.Common.{ap, refl, slice_set, ◌∙◌, rules, arith}
 use Rattle.rules_machine.specs.Scheduling.{with_policy}
 use Rattle.kernel_table.specs.Times.{start_of, timeout_of}
 use Rattle.kernel_table.proofs.Ties.{placed}
 use Rattle.kernel_table.proofs.Moved.{reassigned_tied}
 use Rattle.std.proofs.lemmas.List.{length-set}
-use Rattle.kernel_table.proofs.ToldMoves.{told}
+use Rattle.kernel_table.proofs.ToldMoves.{claims_long, told}
 use Rattle.kernel_table.proofs.Armed.{armed_refilled}
 use Rattle.kernel_table.proofs.table.Table.set_policy.Goals as goal
 
@@ -14,21 +14,27 @@ invariant_of-self c = record {
       let f = with_policy c.args.new c.args.now in
       let known = rw (← c.self.view_is) at c.requires.known in
       reassigned_tied s.threads s.chain c.reassign.new.chain s.waits c.reassign.new.waits c.args.t f c.set_policy.new.self known
-      (c.set_policy.ensures ∙ ap f c.get_mut.ensures.value) (λ th. refl) c.reassign.ensures.chain c.reassign.ensures.waits c.self.invariant.tied);
+      (c.set_policy.ensures ∙ ap f c.get_mut.ensures.value) (λ th. refl) c.reassign.ensures.links.chain c.reassign.ensures.links.waits c.self.invariant.tied);
   armed = (let s = c.self.inside in
       let is = c.set_policy.ensures ∙ ap (with_policy c.args.new c.args.now) c.get_mut.ensures.value in
       armed_refilled s.threads s.timers s.wheel.dues _ c.args.t c.set_policy.new.self c.self.invariant.tied.few (rw (← c.self.view_is) at c.requires.known) (ap start_of is) (ap timeout_of is) c.retime_refill.ensures c.self.invariant.armed);
 }
 
-pub reassign-requires-clause-placed : goal.reassign-requires-clause-placed
-reassign-requires-clause-placed c = placed c.self.inside.threads c.self.inside.chain c.self.inside.waits c.self.invariant.tied
-
-pub returns-clause-moved : goal.returns-clause-moved
-returns-clause-moved c =
+pub reassign-requires-clause-can : goal.reassign-requires-clause-can
+reassign-requires-clause-can c =
     let s = c.self.inside in
-    rw (← c.self.view_is, c.thread_of.ensures)
-    (told s.timers s.threads (slice_set s.threads c.args.t c.set_policy.new.self) s.chain c.reassign.new.chain s.waits c.reassign.new.waits c.reassign.result (length-set s.threads c.args.t c.set_policy.new.self) c.self.invariant.tied
-    (invariant_of-self c).tied c.reassign.ensures.moved)
+    let known = rw (← c.self.view_is) at c.requires.known in
+    let long = claims_long s.threads s.chain s.waits c.self.invariant.tied in
+    record { known = omega (arith, known, long); placed = placed c.self.inside.threads c.self.inside.chain c.self.inside.waits c.self.invariant.tied }
+
+pub returns : goal.returns
+returns c = record {
+  table = (search rules);
+  moved = (let s = c.self.inside in
+      rw (← c.self.view_is, c.thread_of.ensures)
+      (told s.timers s.threads (slice_set s.threads c.args.t c.set_policy.new.self) s.chain c.reassign.new.chain s.waits c.reassign.new.waits c.reassign.result (length-set s.threads c.args.t c.set_policy.new.self) c.self.invariant.tied
+      (invariant_of-self c).tied c.reassign.ensures.links.moved));
+}
 
 pub retime_refill-requires-clause-numbers : goal.retime_refill-requires-clause-numbers
 retime_refill-requires-clause-numbers c = c.self.invariant.armed.numbers

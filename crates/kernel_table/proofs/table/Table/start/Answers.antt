@@ -1,4 +1,4 @@
-use Rattle.std.proofs.Common.{None, [], ◌∷◌, ◌≡◌, ap, length, refl, slice_set, ◌∙◌}
+use Rattle.std.proofs.Common.{None, [], ◌∷◌, ◌≡◌, ap, length, refl, slice_set, ◌∙◌, rules}
 use Rattle.rules_bodies.specs.declared.cursor.Cursor.{Cursor}
 use Rattle.rules_machine.specs.Servers.{server_of}
 use Rattle.rules_machine.specs.State.{Thread, runnable}
@@ -16,22 +16,24 @@ invariant_of-self c = record {
       let f = λ (th : Thread Cursor). record th { status = runnable; slice = 0; mask = c.args.mask; frames = c.args.main ∷ []; server = server_of th.policy c.args.now } in
       let known = rw (← c.self.view_is) at c.requires.known in
       restated_tied s.threads s.chain c.stop_waiting-moved.new.chain c.reassign.new.chain s.waits c.stop_waiting-moved.new.waits c.reassign.new.waits c.args.t f c.start.new.self known
-      (c.start.ensures ∙ ap f c.get_mut.ensures.value) refl c.stop_waiting-moved.ensures.chain c.stop_waiting-moved.ensures.waits c.reassign.ensures.chain c.reassign.ensures.waits c.self.invariant.tied);
+      (c.start.ensures ∙ ap f c.get_mut.ensures.value) refl c.stop_waiting-moved.ensures.links.chain c.stop_waiting-moved.ensures.links.waits c.reassign.ensures.links.chain c.reassign.ensures.links.waits c.self.invariant.tied);
   armed = (let s = c.self.inside in
       armed_after s.threads s.timers s.wheel.dues _ c.args.t c.start.new.self c.self.invariant.tied.few (rw (← c.self.view_is) at c.requires.known) c.retime.ensures c.self.invariant.armed);
 }
 
-pub returns-clause-moved : goal.returns-clause-moved
-returns-clause-moved c =
-    let s = c.self.inside in
-    let mid = c.stop_waiting-moved.new.chain in
-    let left = c.stop_waiting-moved.ensures.chain in
-    let alone = c.reassign.ensures.alone (rw left (awaits_nothing s.chain.claims c.args.t)) in
-    let long : length mid.claims ≡ length s.chain.claims = ap (λ (l : Links). length l.claims) left ∙ changed-length no_claim c.args.t (waiting_for None) s.chain.claims in
-    rw (← c.self.view_is, c.beside.ensures, c.thread_of.ensures)
-    (told_beside s.timers s.threads (slice_set s.threads c.args.t c.start.new.self) s.chain mid c.reassign.new.chain s.waits c.stop_waiting-moved.new.waits c.reassign.new.waits c.args.t
-    (length-set s.threads c.args.t c.start.new.self) long c.self.invariant.tied (invariant_of-self c).tied c.reassign.ensures.waits.same c.stop_waiting-moved.result c.reassign.result
-    c.stop_waiting-moved.ensures.moved c.reassign.ensures.moved alone)
+pub returns : goal.returns
+returns c = record {
+  table = (search rules);
+  moved = (let s = c.self.inside in
+      let mid = c.stop_waiting-moved.new.chain in
+      let left = c.stop_waiting-moved.ensures.links.chain in
+      let alone = c.reassign.ensures.alone (rw left (awaits_nothing s.chain.claims c.args.t)) in
+      let long : length mid.claims ≡ length s.chain.claims = ap (λ (l : Links). length l.claims) left ∙ changed-length no_claim c.args.t (waiting_for None) s.chain.claims in
+      rw (← c.self.view_is, c.beside.ensures, c.thread_of.ensures)
+      (told_beside s.timers s.threads (slice_set s.threads c.args.t c.start.new.self) s.chain mid c.reassign.new.chain s.waits c.stop_waiting-moved.new.waits c.reassign.new.waits c.args.t
+      (length-set s.threads c.args.t c.start.new.self) long c.self.invariant.tied (invariant_of-self c).tied c.reassign.ensures.links.waits.same c.stop_waiting-moved.result c.reassign.result
+      c.stop_waiting-moved.ensures.links.moved c.reassign.ensures.links.moved alone));
+}
 
 pub retime-requires-clause-numbers : goal.retime-requires-clause-numbers
 retime-requires-clause-numbers c = c.self.invariant.armed.numbers

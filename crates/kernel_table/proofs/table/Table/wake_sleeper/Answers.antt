@@ -1,4 +1,4 @@
-use Rattle.std.proofs.Common.{None, ap, refl, slice_set, ◌∙◌, arith}
+use Rattle.std.proofs.Common.{None, ap, refl, slice_set, ◌∙◌, arith, rules}
 use Rattle.std.proofs.lemmas.List.{length-set}
 use Rattle.rules_machine.specs.Waking.{woken}
 use Rattle.parts_owners.specs.Chains.{waiting_for}
@@ -36,9 +36,11 @@ invariant_of-self c = record {
       armed_waiting s.threads s.timers s.wheel.dues _ c.args.t c.wake.new.self None c.self.invariant.tied.few (rw (← c.self.view_is) at c.requires.known) (ap refill_of is) (ap start_of is) (ap timeout_of is) c.end_sleep.ensures c.self.invariant.armed);
 }
 
-pub returns-clause-same : goal.returns-clause-same
-returns-clause-same c =
-    let s = c.self.inside in
-    rw (← c.self.view_is)
-    (told s.timers s.threads (slice_set s.threads c.args.t c.wake.new.self) s.chain s.chain s.waits s.waits None (length-set s.threads c.args.t c.wake.new.self) c.self.invariant.tied
-    (invariant_of-self c).tied (λ u known nowhere. refl))
+pub returns : goal.returns
+returns c = record {
+  table = (search rules);
+  moved = (let s = c.self.inside in
+      rw (← c.self.view_is)
+      (told s.timers s.threads (slice_set s.threads c.args.t c.wake.new.self) s.chain s.chain s.waits s.waits None (length-set s.threads c.args.t c.wake.new.self) c.self.invariant.tied
+      (invariant_of-self c).tied (λ u known nowhere. refl)));
+}
