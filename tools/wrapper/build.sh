@@ -143,7 +143,6 @@ turn() {
     while read -r name deps; do
         [ ! -e "$work/$name.proved" ] || continue
         left=$((left + 1))
-        : "${first:=$name}"
         if [ -e "$work/$name.status" ]; then
             [ "$(cat "$work/$name.status")" -eq 0 ] || not_proved "$name"
             mv "$work/$name.status" "$work/$name.proved"
@@ -152,6 +151,7 @@ turn() {
         elif [ -e "$work/$name.started" ]; then
             under_way+=" $name"
         else
+            : "${first:=$name}"
             is_ready=yes
             for dep in $deps; do
                 [ -e "$work/$dep.proved" ] || ! grep -q "^$dep\( \|\$\)" "$work/crates" || is_ready=

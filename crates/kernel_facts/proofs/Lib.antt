@@ -7,3 +7,12 @@ pub mod Served
 pub mod Standing
 pub mod Ending
 pub mod Whole
+pub mod Keeping
+pub mod KeptFacts
+pub mod Changing
+pub mod KeptSubjects
+pub mod Roomy
+pub mod Modest
+pub mod ModestFacts
+pub mod Counted
+pub mod Named

@@ -32,7 +32,7 @@ two_texts a b = ap (λ (t : List ℕ). a ++ t) (sym (append-nil b))
 
 -- ---- lines
 
-joined_same : (words : Words) → join_with_byte 32 words ≡ joined_words words
+pub joined_same : (words : Words) → join_with_byte 32 words ≡ joined_words words
 joined_same [] = refl
 joined_same (w ∷ []) = sym (append-nil w)
 joined_same (w ∷ v ∷ words) = ap (λ (t : List ℕ). w ++ (32 ∷ t)) (joined_same (v ∷ words))
@@ -224,3 +224,7 @@ pub state_told : {P : Type 0} (script : Script) (m : Machine P) → length m.lis
     ++ (threads_text script.decls m ++ (objects_text script.decls m ++ signals_text script.decls (left_in (left_out m) m)))))
     ++ numbers_text script.decls m ≡ state_text script (once_ended m.killed m)
 state_told script m every = whole script (left_in (left_out m) m) every ∙ ap (state_text script) (by_killed m m.killed)
+
+-- the state without that record, as the code leaves it out
+pub ended_state : {P : Type 0} (m : Machine P) → left_in (left_out m) m ≡ once_ended m.killed m
+ended_state m = by_killed m m.killed

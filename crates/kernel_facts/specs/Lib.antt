@@ -3,3 +3,8 @@ pub mod Lines
 pub mod Rows
 pub mod Picked
 pub mod InLine
+pub mod Kept
+pub mod Changed
+pub mod Subjects
+pub mod Rooms
+pub mod Modest

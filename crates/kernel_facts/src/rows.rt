@@ -1,12 +1,15 @@
 //! The rows of facts, each with a fact for each thread or for each object of a kind.
 ghost use Rattle.std.specs.Prelude.{◌≡◌, ◌≤◌, ◌<◌, ◌++◌, length};
-ghost use Rattle.rules_facts.specs.Objects.{condition_waiters, mutex_waiters, semaphore_waiters};
+ghost use Rattle.rules_machine.specs.Queues.{waits_to_receive, waits_to_send};
+ghost use Rattle.rules_facts.specs.Fact.{receivers_of, senders_of};
+ghost use Rattle.rules_facts.specs.Objects.{condition_waiters, in_service_order, mutex_waiters, semaphore_waiters};
 ghost use Rattle.rules_facts.specs.Queues.{senders_and_receivers};
 ghost use Rattle.script_printer.specs.Puts.{Puts};
 ghost use Rattle.kernel_facts.specs.Lines.{fact_text, facts_text};
 ghost use Rattle.kernel_facts.specs.Numbered.{AreNumbered};
 ghost use Rattle.kernel_facts.specs.Rows.{object_count, object_facts, object_row_text, objects_text, thread_fact_of, thread_row_text, threads_text};
 
+use crate::known::know_timers;
 use crate::names::object_name;
 use crate::objects::{put_owner, put_semaphore, put_timer};
 use crate::queues::{put_messages, put_registration};
@@ -24,7 +27,7 @@ use words_script::{Decl, NameKind, Script};
 
 // What is told of each thread in one row.
 #[derive(Clone, Copy)]
-enum ThreadRow {
+pub(crate) enum ThreadRow {
     Status,
     Frames,
     Mask,
@@ -35,7 +38,7 @@ enum ThreadRow {
 
 // What is told of each object of a kind in one row.
 #[derive(Clone, Copy)]
-enum ObjectRow {
+pub(crate) enum ObjectRow {
     Owner,
     MutexWaiters,
     ConditionWaiters,
@@ -49,7 +52,7 @@ enum ObjectRow {
 
 // ---- threads
 
-fn put_thread_fact<K: Sink>(
+pub(crate) fn put_thread_fact<K: Sink>(
     out: &mut Printer<'_, K>,
     parts: &Parts,
     decls: &[Decl],
@@ -122,31 +125,50 @@ fn put_semaphore_waiters<K: Sink>(out: &mut Printer<'_, K>, parts: &Parts, decls
     put_line(out, parts, decls, &subject, &Line::Semaphore(k));
 }
 
+/// Prints who waits for room in a queue.
+pub(crate) fn put_senders<K: Sink>(
+    out: &mut Printer<'_, K>,
+    parts: &Parts,
+    decls: &[Decl],
+    q: ObjId,
+)
+    ensures { Puts K.text K.faults out.old out.new (fact_text decls.now (senders_of q (in_service_order parts.now.machine (waits_to_send q)))) }
+{
+    let subject = [
+        Keyword(b"senders"),
+        Name(object_name(decls, NameKind::Queue, q)),
+    ];
+    put_line(out, parts, decls, &subject, &Line::Senders(q));
+}
+
+/// Prints who waits for a message of a queue.
+pub(crate) fn put_receivers<K: Sink>(
+    out: &mut Printer<'_, K>,
+    parts: &Parts,
+    decls: &[Decl],
+    q: ObjId,
+)
+    ensures { Puts K.text K.faults out.old out.new (fact_text decls.now (receivers_of q (in_service_order parts.now.machine (waits_to_receive q)))) }
+{
+    let subject = [
+        Keyword(b"receivers"),
+        Name(object_name(decls, NameKind::Queue, q)),
+    ];
+    put_line(out, parts, decls, &subject, &Line::Receivers(q));
+}
+
 // Prints who waits for room in a queue, and then who waits for a message of it.
 fn put_queue_waiters<K: Sink>(out: &mut Printer<'_, K>, parts: &Parts, decls: &[Decl], q: ObjId)
     ensures { Puts K.text K.faults out.old out.new (facts_text decls.now (senders_and_receivers parts.now.machine q)) }
 {
-    let name = object_name(decls, NameKind::Queue, q);
-    put_line(
-        out,
-        parts,
-        decls,
-        &[Keyword(b"senders"), Name(name)],
-        &Line::Senders(q),
-    );
-    put_line(
-        out,
-        parts,
-        decls,
-        &[Keyword(b"receivers"), Name(name)],
-        &Line::Receivers(q),
-    );
+    put_senders(out, parts, decls, q);
+    put_receivers(out, parts, decls, q);
 }
 
 // ---- objects
 
 // How many objects a row tells of.
-fn object_count(parts: &Parts, decls: &[Decl], row: ObjectRow) -> usize
+pub(crate) fn object_count(parts: &Parts, decls: &[Decl], row: ObjectRow) -> usize
     ensures { result ≡ object_count row decls.now parts.now.machine }
 {
     match row {
@@ -162,7 +184,7 @@ fn object_count(parts: &Parts, decls: &[Decl], row: ObjectRow) -> usize
     }
 }
 
-fn put_object_facts<K: Sink>(
+pub(crate) fn put_object_facts<K: Sink>(
     out: &mut Printer<'_, K>,
     parts: &Parts,
     decls: &[Decl],
@@ -185,7 +207,7 @@ fn put_object_facts<K: Sink>(
     }
 }
 
-fn object_of(number: usize) -> ObjId
+pub(crate) fn object_of(number: usize) -> ObjId
     requires { number < 256 }
     ensures { result ≡ number }
 {
@@ -219,6 +241,6 @@ pub(crate) fn put_objects<K: Sink>(out: &mut Printer<'_, K>, parts: &Parts, scri
     put_object_row(out, parts, decls, ObjectRow::Messages);
     put_object_row(out, parts, decls, ObjectRow::QueueWaiters);
     put_object_row(out, parts, decls, ObjectRow::Registration);
-    let _ = parts.timer_count();
+    know_timers(parts);
     put_object_row(out, parts, decls, ObjectRow::Arming);
 }

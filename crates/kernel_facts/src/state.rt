@@ -9,6 +9,7 @@ ghost use Rattle.kernel_facts.specs.Numbered.{AreNumbered};
 ghost use Rattle.kernel_facts.specs.Picked.{left_in};
 ghost use Rattle.kernel_facts.specs.Rows.{left_out, list_text, numbers_text, signals_text};
 
+use crate::known::know_rows;
 use crate::lists::put_list;
 use crate::numbers::put_numbers;
 use crate::rows::{put_objects, put_threads};
@@ -36,7 +37,7 @@ fn put_killed<K: Sink>(out: &mut Printer<'_, K>, killed: Option<u8>)
     }
 }
 
-fn prio_of(level: u8) -> Prio
+pub(crate) fn prio_of(level: u8) -> Prio
     requires { 0 < level }
     ensures { result ≡ level }
 {
@@ -56,7 +57,7 @@ fn put_lists<K: Sink>(out: &mut Printer<'_, K>, parts: &Parts, decls: &[Decl])
 }
 
 // The serial of the record that ended the process, where one did.
-fn left_out(parts: &Parts) -> Option<u64>
+pub(crate) fn left_out(parts: &Parts) -> Option<u64>
     ensures { result ≡ left_out parts.now.machine }
 {
     if !parts.is_killed() {
@@ -75,7 +76,7 @@ fn put_signals<K: Sink>(out: &mut Printer<'_, K>, parts: &Parts, decls: &[Decl])
     ensures { Puts K.text K.faults out.old out.new (signals_text decls.now (left_in (left_out parts.now.machine) parts.now.machine)) }
 {
     let out_of_it = left_out(parts);
-    let _ = parts.signal_count();
+    know_rows(parts);
     for signal in 0..32u8 {
         put_signal(out, parts, decls, signal, out_of_it);
     }
@@ -96,8 +97,7 @@ fn put_state<K: Sink>(out: &mut Printer<'_, K>, parts: &Parts, script: &Script)
     ensures { Puts K.text K.faults out.old out.new (state_text script.now (once_ended parts.now.machine.killed parts.now.machine)) }
 {
     let decls = script.decls.items();
-    let _ = parts.list_count();
-    let _ = parts.signal_count();
+    know_rows(parts);
     put_instant(out, parts);
     put_killed(out, parts.killed());
     put_lists(out, parts, decls);

@@ -47,6 +47,13 @@ impl<'a, K: Sink> Printer<'a, K> {
         }
     }
 
+    /// Prints bytes as they are, as a part of a line or a whole one.
+    pub fn text(&mut self, bytes: &[u8])
+        ensures { Puts K.text K.faults self.old self.new bytes.now }
+    {
+        self.put(bytes);
+    }
+
     // Prints a word without a blank.
     fn put_word(&mut self, word: &Word<'_>)
         requires { IsShort word.now }

@@ -23,6 +23,8 @@ mod signals;
 #[cfg(test)]
 mod table;
 #[cfg(test)]
+mod texts;
+#[cfg(test)]
 mod timers;
 #[cfg(test)]
 mod waits;

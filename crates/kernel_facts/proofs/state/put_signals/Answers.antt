@@ -12,7 +12,7 @@ loop-signal-preserved g c = rw add-one (puts_both _ _ _ _ _ _ _ c.loop-signal.in
 pub returns : goal.returns
 returns g c =
     let m = c.args.parts.now.machine in
-    let all : c.loop-signal.signal ≡ length m.actions = omega (arith, c.signal_count.ensures.value, c.signal_count.ensures.all) in
+    let all : c.loop-signal.signal ≡ length m.actions = omega (arith, c.know_rows.ensures.signals) in
     let put = rw all at c.loop-signal.invariant in
     subst (λ (o : Option ℕ). Puts g.K.Sink.text g.K.Sink.faults c.args.out.now c.loop-signal.out
     (texts_below (λ (s : ℕ). fact_text c.args.decls.now (signal_fact (left_in o m) s)) (length m.actions))) c.left_out-out_of_it.ensures put

@@ -1,4 +1,4 @@
-use Rattle.std.proofs.Common.{◌≡◌, List, length, subst, sym, ◌∙◌}
+use Rattle.std.proofs.Common.{◌≡◌, List, length, subst}
 use Rattle.words_script.specs.declared.decl.Decl.{Decl}
 use Rattle.script_printer.specs.Puts.{Puts}
 use Rattle.script_printer.proofs.Puts.{puts_both}
@@ -13,7 +13,7 @@ pub returns : goal.returns
 returns g c =
     let m = c.args.parts.now.machine in
     let same = c.items-decls.ensures in
-    let every : length m.lists ≡ 255 = sym c.list_count.ensures.count ∙ c.list_count.ensures.all in
+    let every : length m.lists ≡ 255 = c.know_rows.ensures.lists in
     let lists = subst (λ (ds : List Decl). Puts g.K.Sink.text g.K.Sink.faults c.put_killed.new.out c.put_lists.new.out (texts_below (list_text ds 255 m.lists) 255)) same c.put_lists.ensures in
     let threads = subst (λ (ds : List Decl). Puts g.K.Sink.text g.K.Sink.faults c.put_lists.new.out c.put_threads.new.out (threads_text ds m)) same c.put_threads.ensures in
     let signals = subst (λ (ds : List Decl). Puts g.K.Sink.text g.K.Sink.faults c.put_objects.new.out c.put_signals.new.out (signals_text ds (left_in (left_out m) m))) same c.put_signals.ensures in

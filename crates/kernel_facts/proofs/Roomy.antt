@@ -1,0 +1,151 @@
+-- Where the rooms are as large as the facts are many, all texts have room.
+use Rattle.std.proofs.Common.{None, Option, Some, ◌≡◌, ◌∙◌, ◌+◌, ◌*◌, ◌<◌, ◌≤◌, List, [], ◌∷◌, ◌++◌, ap, arith, flat_map, length, length-append, map, refl, suc, sym, zero, ℕ}
+use Rattle.std.specs.List.{AllByRecursion, range_with_len}
+use Rattle.std.specs.Prelude.{sum_by}
+use Rattle.std.proofs.lemmas.List.{length-map, length-reverse}
+use Rattle.std.proofs.lemmas.List.FromFn.{length-map-range_with_len}
+use Rattle.std.proofs.lemmas.List.Sums.{sum_by-cons}
+use Rattle.words_script.specs.declared.decl.Script.{Script}
+use Rattle.words_script.specs.declared.name_kind.NameKind.TheVariants as kind
+use Rattle.script_writer.specs.Names.{names_of}
+use Rattle.parts_texts.specs.Texts.{Told}
+use Rattle.rules_machine.specs.State.{Machine}
+use Rattle.rules_facts.specs.Fact.{Fact}
+use Rattle.rules_facts.specs.Facts.{facts, facts_of_objects, facts_of_threads}
+use Rattle.rules_facts.specs.Lists.{list_facts, lists_from}
+use Rattle.rules_facts.specs.Objects.{condition_waiters, mutex_waiters, owner_fact, semaphore_fact, semaphore_waiters, timer_fact}
+use Rattle.rules_facts.specs.Queues.{messages_fact, registration_fact, senders_and_receivers}
+use Rattle.rules_facts.specs.Signals.{signal_fact}
+use Rattle.rules_facts.specs.Threads.{cancelability_fact, cleanups_fact, frames_fact, mask_fact, pending_fact, thread_fact}
+use Rattle.kernel_facts.specs.Kept.{HaveRoom}
+use Rattle.kernel_facts.specs.Kept.{texts_of}
+use Rattle.kernel_facts.specs.Lines.{fact_text}
+use Rattle.kernel_facts.specs.Changed.{subject_text}
+use Rattle.kernel_facts.specs.Subjects.{subjects_of}
+use Rattle.kernel_facts.specs.Modest.{IsModestState, NamesAreShort}
+use Rattle.kernel_facts.specs.Rooms.{AreRooms, HasObjectsOf, HasRooms, IsRoomy, fact_count, facts_told, members_told, no_text}
+use Rattle.kernel_facts.specs.declared.rooms.Rooms.{Rooms}
+use Rattle.kernel_facts.proofs.ModestFacts.{ended_modest, state_modest}
+use Rattle.kernel_facts.proofs.Modest.{subjects_short, texts_short}
+use Rattle.rules_facts.specs.Shown.{ending_record, once_ended, without_taken}
+use Rattle.rules_machine.specs.State.{SignalRecord}
+
+-- ---- how many facts there are
+
+record Counts (fs : List Fact) (n : ℕ) : Type 0 where
+  same : length fs ≡ n
+
+infixl 4 ◌⊕◌
+◌⊕◌ : {a b : List Fact} {n k : ℕ} → Counts a n → Counts b k → Counts (a ++ b) (n + k)
+◌⊕◌ {a} {b} {n} {k} in_a in_b = let sum = length-append a b in let first = in_a.same in let second = in_b.same in record { same = omega (arith, sum, first, second) }
+
+one_of : (f : ℕ → Fact) (n : ℕ) → Counts (map f (range_with_len 0 n)) n
+one_of f n = record { same = length-map-range_with_len f 0 n }
+
+two_from : {P : Type 0} (m : Machine P) (a n : ℕ) → length (flat_map (senders_and_receivers m) (range_with_len a n)) ≡ 2 * n
+two_from m a zero = refl
+two_from m a (suc n) =
+    let rest = two_from m (a + 1) n in
+    let here : length (flat_map (senders_and_receivers m) (range_with_len a (suc n))) ≡ suc (suc (length (flat_map (senders_and_receivers m) (range_with_len (a + 1) n)))) = refl in
+    omega (arith, rest, here)
+
+lists_count : (p : ℕ) (lists : List (List ℕ)) → length (lists_from p lists) ≡ length lists
+lists_count p [] = refl
+lists_count p (l ∷ lists) = ap suc (lists_count (p + 1) lists)
+
+module _ {P : Type 0} (script : Script) (m : Machine P) where
+  threads_count : Counts (facts_of_threads m) (length m.threads + length m.threads + length m.threads + length m.threads + length m.threads + length m.threads)
+  threads_count =
+      let n = length m.threads in
+      one_of (thread_fact m) n ⊕ one_of (frames_fact m) n ⊕ one_of (mask_fact m) n ⊕ one_of (cancelability_fact m) n ⊕ one_of (cleanups_fact m) n ⊕ one_of (pending_fact m) n
+
+  waiters_count : Counts (flat_map (senders_and_receivers m) (range_with_len 0 (length m.queues))) (2 * length m.queues)
+  waiters_count = record { same = two_from m 0 (length m.queues) }
+
+  objects_count : Counts (facts_of_objects script m)
+      (length m.mutexes + length m.mutexes + length (names_of kind.Cond script.decls) + length m.semaphores + length m.semaphores + length m.queues + 2 * length m.queues + length m.queues
+      + length m.timers + length m.actions)
+  objects_count =
+      one_of (owner_fact m) (length m.mutexes)
+      ⊕ one_of (mutex_waiters m) (length m.mutexes)
+      ⊕ one_of (condition_waiters m) (length (names_of kind.Cond script.decls))
+      ⊕ one_of (semaphore_waiters m) (length m.semaphores)
+      ⊕ one_of (semaphore_fact m) (length m.semaphores)
+      ⊕ one_of (messages_fact m) (length m.queues)
+      ⊕ waiters_count
+      ⊕ one_of (registration_fact m) (length m.queues)
+      ⊕ one_of (timer_fact m) (length m.timers)
+      ⊕ one_of (signal_fact m) (length m.actions)
+
+  listed_count : Counts (list_facts m.lists) (length m.lists)
+  listed_count = record { same = length-reverse (lists_from 1 m.lists) ∙ lists_count 1 m.lists }
+
+  taken_count : (r : Option SignalRecord) → fact_count script (without_taken r m) ≡ fact_count script m
+  taken_count None = refl
+  taken_count (Some r) = refl
+
+  -- the record that ended the process is no fact of its own
+  pub ended_count : (killed : Option ℕ) → fact_count script (once_ended killed m) ≡ fact_count script m
+  ended_count None = refl
+  ended_count (Some signal) = taken_count (ending_record m)
+
+  pub count_is : length (facts script m) ≡ fact_count script m
+  count_is = let all = (listed_count ⊕ (threads_count ⊕ objects_count)).same in omega (arith, all)
+
+-- ---- what they take
+
+sum_short : (one : ℕ) (ts : List (List ℕ)) → AllByRecursion (λ (text : List ℕ). length text < one) ts → sum_by length ts ≤ length ts * one
+sum_short one [] all = omega arith
+sum_short one (t ∷ ts) all =
+    let first = all.0 in
+    let rest = sum_short one ts all.1 in
+    let sum = sum_by-cons length t ts in
+    let more : (1 + length ts) * one ≡ one + length ts * one = grind arith in
+    let is : length (t ∷ ts) ≡ 1 + length ts = omega arith in
+    let whole : length (t ∷ ts) * one ≡ one + length ts * one = ap (λ (n : ℕ). n * one) is ∙ more in
+    omega (arith, first, rest, sum, whole)
+
+-- so many short texts have room
+pub have_room : (one count : ℕ) (t : Told) (due : List (List ℕ)) → IsRoomy one count t → length due ≡ count → AllByRecursion (λ (text : List ℕ). length text < one) due → HaveRoom one t due
+have_room one count t due roomy same short =
+    let sum = sum_short one due short in
+    let bytes : length due * one ≡ count * one = ap (λ (n : ℕ). n * one) same in
+    let none : sum_by length t.texts ≡ 0 = ap (sum_by length) roomy.empty in
+    let no_text : length t.texts ≡ 0 = ap length roomy.empty in
+    record {
+      fresh = roomy.fresh;
+      each = short;
+      bytes = omega (arith, sum, bytes, none, roomy.bytes);
+      number = omega (arith, same, no_text, roomy.number);
+    }
+
+module _ {P : Type 0} (script : Script) (m : Machine P) (names : NamesAreShort script.decls) (one : ℕ) (t : Told) (h : HasRooms script m one t) where
+  -- without the record that ended the process
+  pub facts_fit : HaveRoom one t (texts_of script.decls (facts script (once_ended m.killed m)))
+  facts_fit =
+      let told = once_ended m.killed m in
+      have_room one (fact_count script m) t (texts_of script.decls (facts script told)) h.roomy
+      (length-map (facts script told) (fact_text script.decls) ∙ count_is script told ∙ ended_count script m m.killed)
+      (texts_short script.decls names h.most one (facts script told) h.long (state_modest script h.most told (ended_modest h.most m h.modest m.killed)))
+
+  pub subjects_fit : HaveRoom one t (subjects_of script.decls (facts script m))
+  subjects_fit =
+      have_room one (fact_count script m) t (subjects_of script.decls (facts script m)) h.roomy
+      (length-map (facts script m) (subject_text script.decls) ∙ count_is script m)
+      (subjects_short script.decls names h.most one (facts script m) h.long (state_modest script h.most m h.modest))
+
+-- The rooms of a script's run are large enough for each modest state that has its threads and objects.
+pub rooms_hold : {P : Type 0} (script : Script) (m : Machine P) (rooms : Rooms) → AreRooms script rooms → HasObjectsOf script m → IsModestState (members_told script) m
+    → HasRooms script m rooms.longest (no_text rooms)
+rooms_hold script m rooms are has modest =
+    let count : fact_count script m ≡ facts_told script = omega (arith, has.lists, has.signals, has.threads, has.mutexes, has.semaphores, has.queues, has.timers) in
+    let bytes : fact_count script m * rooms.longest ≡ rooms.room =
+    ap (λ (n : ℕ). n * rooms.longest) count ∙ ap (λ (n : ℕ). facts_told script * n) are.longest ∙ sym are.room in
+    let most = are.most in
+    let long = are.longest in
+    record {
+      most = members_told script;
+      modest = modest;
+      long = omega (arith, long);
+      roomy = record { fresh = refl; empty = refl; number = omega (arith, count, most); bytes = omega (arith, bytes) };
+    }
