@@ -149,6 +149,7 @@ turn() {
             running=$((running - 1))
             left=$((left - 1))
         elif [ -e "$work/$name.started" ]; then
+            : "${first:=$name}"
             under_way+=" $name"
         else
             : "${first:=$name}"
