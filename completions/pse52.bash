@@ -8,9 +8,9 @@ _pse52() {
         -*) mapfile -t COMPREPLY < <(compgen -W '--explain --prove --released --which --version --help' -- "$word"); return ;;
     esac
     case $command in
-        '') mapfile -t COMPREPLY < <(compgen -W 'run show check audit rta upgrade gen soak explain' -- "$word") ;;
+        '') mapfile -t COMPREPLY < <(compgen -W 'run show detail check audit rta upgrade gen soak explain' -- "$word") ;;
         explain | upgrade | audit | check) mapfile -t COMPREPLY < <(compgen -f -- "$word") ;;
-        run | show | rta) ((COMP_CWORD > at + 1)) && mapfile -t COMPREPLY < <(compgen -f -- "$word") ;;
+        run | show | detail | rta) ((COMP_CWORD > at + 1)) && mapfile -t COMPREPLY < <(compgen -f -- "$word") ;;
     esac
 }
 _pse52_view() {

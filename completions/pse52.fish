@@ -2,6 +2,7 @@
 complete -c pse52 -f
 complete -c pse52 -n __fish_use_subcommand -a run -d 'run a script to tick N, and write its trace'
 complete -c pse52 -n __fish_use_subcommand -a show -d 'tell who runs, waits and owns what at tick N'
+complete -c pse52 -n __fish_use_subcommand -a detail -d 'write the trace with the facts that change'
 complete -c pse52 -n __fish_use_subcommand -a check -d 'tell whether a trace is that of a script'
 complete -c pse52 -n __fish_use_subcommand -a audit -d 'tell whether the servers of a trace kept their budgets'
 complete -c pse52 -n __fish_use_subcommand -a rta -d 'tell least response times of periodic tasks'
@@ -9,7 +10,7 @@ complete -c pse52 -n __fish_use_subcommand -a upgrade -d 'write a script as one 
 complete -c pse52 -n __fish_use_subcommand -a gen -d 'write the script that is made of a number'
 complete -c pse52 -n __fish_use_subcommand -a soak -d 'run the script of a number, and write its closing lines'
 complete -c pse52 -n __fish_use_subcommand -a explain -d 'tell every fault of a script'
-complete -c pse52 -n '__fish_seen_subcommand_from run show check audit rta upgrade explain' -F
+complete -c pse52 -n '__fish_seen_subcommand_from run show detail check audit rta upgrade explain' -F
 complete -c pse52 -l explain -d 'show the faults of a script that is refused'
 complete -c pse52 -l prove -d 'prove and build the program'
 complete -c pse52 -l released -d 'run the program of the release'

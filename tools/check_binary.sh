@@ -32,6 +32,10 @@ try 'a script' 0 '0 start a' run 10 <examples/one_thread.task
 try 'an instant of a script' 0 '2 state' show 2 <examples/one_thread.task
 try 'an instant of an empty input' 2 'refused 1 14 NoThread' show 2 </dev/null
 try 'an instant without a number' 1 "$usage" show <examples/one_thread.task
+try 'a detail of a script' 0 '0 start a' detail 10 <examples/one_thread.task
+try 'a detail of no tick' 0 '0 end' detail 0 <examples/one_thread.task
+try 'a detail of an empty input' 2 'refused 1 14 NoThread' detail 10 </dev/null
+try 'a detail without a number' 1 "$usage" detail <examples/one_thread.task
 try 'an empty input' 2 'refused 1 14 NoThread' run 10 </dev/null
 try 'a text that is too long' 3 'too long' run 1 < <(head -c 1048577 /dev/zero | tr '\0' '\n')
 try 'a folder as standard input' 4 '' run 10 <examples
@@ -92,6 +96,8 @@ try 'an audit with a number' 1 "$usage" audit 10
 expect 'a closed standard output' $? 5 '' ''
 "$program" show 2 <examples/one_thread.task >&-
 expect 'a closed standard output, for an instant' $? 5 '' ''
+"$program" detail 10 <examples/one_thread.task >&-
+expect 'a closed standard output, for a detail' $? 5 '' ''
 if [ -e /dev/full ]; then
     "$program" run 10 <examples/one_thread.task >/dev/full
     expect 'a full device' $? 5 '' ''

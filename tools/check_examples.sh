@@ -1,7 +1,6 @@
 #!/usr/bin/env bash
 # Runs each example of examples/ and examples/real/, and each worked example of tests/worked/, to its horizon or by its command, and
-# compares what is printed with the text beside it; those of detail wait for the program to have this command. The program is
-# built without a second proof: the gate has proved it before.
+# compares what is printed with the text beside it. The program is built without a second proof: the gate has proved it before.
 # Before all that, and without a build, each trace and picture of examples/ is compared with what tools/reference makes of its script.
 set -u
 cd "$(dirname "$0")/.." || exit 1
@@ -59,7 +58,9 @@ while read -r name _; do
     for text in "$worked.trace" "$worked.refused"; do
         [ ! -e "$text" ] || add_case "worked_$name" "$worked.task" "$text" run "$horizon"
     done
-    [ ! -e "$worked.show" ] || add_case "worked_$name" "$worked.task" "$worked.show" show "$horizon"
+    for command in show detail; do
+        [ ! -e "$worked.$command" ] || add_case "worked_$name" "$worked.task" "$worked.$command" "$command" "$horizon"
+    done
 done < <(grep -v '^#' tests/worked/INDEX.txt)
 
 while read -r name _; do

@@ -100,6 +100,13 @@ cp "$worked.trace" "$room/due"
 refuse_each 'the controller' "$worked.task" 0 run 44
 comes_to_no_more run 4400
 
+facts=$top/tests/worked/facts_of_cleanups_and_frames
+cp "$facts.detail" "$room/due"
+refuse_each 'a detail' "$facts.task" 0 detail 19
+comes_to_no_more detail 1900
+refuse_each 'an instant' "$facts.task" 0 show 9
+comes_to_no_more show 900
+
 { cat "$worked.task"; echo '%%'; cat "$worked.trace"; } >"$room/beside"
 echo same >"$room/due"
 refuse_each 'a trace that is the same' "$room/beside" 0 check 44

@@ -54,7 +54,7 @@ def named() -> Iterator[str]:
 def is_command(words: str) -> bool:
     """Whether words between back quotes are a whole command: more than a name, and of bin/pse52 one with a command of its own."""
     if words.startswith("bin/pse52 "):
-        return re.match(r"bin/pse52 (--\w+ )?(run|check|rta|gen|soak|explain|--help|--version|--which)\b", words) is not None
+        return re.match(r"bin/pse52 (--\w+ )?(run|show|detail|check|rta|gen|soak|explain|--help|--version|--which)\b", words) is not None
     return words.startswith(FIRST_WORDS) and " " in words
 
 

@@ -37,10 +37,11 @@ explain_refusal() {
         say "the text is refused: standard output has its line and the kind of its fault, which $page explains"
         return
     fi
-    if [ "$1" = run ] || [ "$1" = show ] || [ "$1" = upgrade ]; then
-        python3 "$top/tools/explain/main.py" "$kept_script" 2>/dev/null
-        [ $? -ne 2 ] || return 0
-    fi
+    case $1 in
+        run | show | detail | upgrade)
+            python3 "$top/tools/explain/main.py" "$kept_script" 2>/dev/null
+            [ $? -ne 2 ] || return 0 ;;
+    esac
     refusal=$("$program" "$@" <"$kept_script" 2>/dev/null | head -n 1)
     line=$(printf '%s\n' "$refusal" | cut -d ' ' -f 2)
     words=$(sed -n "${line}p" "$kept_script" | tr -cd ' -~' | cut -c 1-60)

@@ -10,6 +10,7 @@ Without FILE it reads standard input. Times are in ticks.
 
   run N [SCRIPT]          runs a script to tick N, and writes its trace
   show N [SCRIPT]         tells who runs, waits and owns what at tick N of the script's run
+  detail N [SCRIPT]       writes the trace, and behind the lines of each instant what changed of all that
   check N [SCRIPT TRACE]  tells whether a trace is that of the script (standard input: SCRIPT, a line %%, TRACE)
   audit [HEAD TRACE]      tells whether the sporadic servers of any trace kept their budgets (HEAD, a line %%, TRACE)
   rta N [TASKS]           tells the least response times of periodic tasks, up to N ticks
@@ -45,7 +46,7 @@ refuse() {
 # What the number of a command is.
 meaning_of() {
     case $1 in
-        run | show | check) echo 'a number of ticks from 0 to 10^18' ;;
+        run | show | detail | check) echo 'a number of ticks from 0 to 10^18' ;;
         rta) echo 'a number of ticks from 0 to 100000000' ;;
         *) echo 'a number from 0 to 10^18' ;;
     esac
@@ -112,7 +113,7 @@ divided() {
 # The command that a misspelt word was to be, if one is near: the same letters but one, or two that changed places.
 near() {
     awk -v have="$1" 'BEGIN {
-        count = split("run show check audit rta upgrade gen soak explain help version", names, " ")
+        count = split("run show detail check audit rta upgrade gen soak explain help version", names, " ")
         for (i = 1; i <= count; i++) {
             name = names[i]
             if (distance(have, name) <= 1 + (length(name) > 4)) { print name; exit }
@@ -141,7 +142,7 @@ answer_words() {
         -h | --help | help) help_text; exit 0 ;;
         -V | --version | version) version_text; exit 0 ;;
         explain) shift; explain_command "$@" ;;
-        run | show | check | rta | gen | soak) refuse_operands "$@" ;;
+        run | show | detail | check | rta | gen | soak) refuse_operands "$@" ;;
         upgrade | audit)
             [ "$1 $#" != 'audit 3' ] || divided audit "$2" "$3"
             refuse "$1 takes no number; $(usage_of "$1")" ;;
@@ -159,6 +160,7 @@ usage_of() {
     case $1 in
         run) echo 'write: pse52 run N SCRIPT, or pse52 run N < SCRIPT' ;;
         show) echo 'write: pse52 show N SCRIPT, or pse52 show N < SCRIPT' ;;
+        detail) echo 'write: pse52 detail N SCRIPT, or pse52 detail N < SCRIPT' ;;
         check) echo 'write: pse52 check N SCRIPT TRACE' ;;
         rta) echo 'write: pse52 rta N TASKS, or pse52 rta N < TASKS' ;;
         gen) echo 'write: pse52 gen S' ;;
@@ -177,7 +179,7 @@ refuse_operands() {
         'check 3') refuse "check takes a script and a trace; $(usage_of check)" ;;
         'soak 2') refuse "soak needs two numbers; $(usage_of soak)" ;;
         'soak 3') refuse_number soak "$3" ;;
-        'run 3' | 'show 3' | 'rta 3') open_input "$3" ;;
+        'run 3' | 'show 3' | 'detail 3' | 'rta 3') open_input "$3" ;;
     esac
     refuse "$1 has a word too many; $(usage_of "$1")"
 }

@@ -16,3 +16,6 @@ pub mod Modest
 pub mod ModestFacts
 pub mod Counted
 pub mod Named
+pub mod ShortFacts
+pub mod FewMembers
+pub mod Deep

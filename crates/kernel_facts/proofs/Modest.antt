@@ -1,4 +1,4 @@
--- The texts of modest facts are short.
+-- The texts of facts whose numbers have 64 bits are short, and so are those of modest facts where the code that prints them says it.
 use Rattle.std.proofs.Common.{◌≡◌, ◌+◌, ◌*◌, ◌<◌, ◌≤◌, ◌^◌, Bool, List, None, Option, Some, [], ◌∷◌, ◌++◌, arith, codes, decimal, false, flat_map, length, length-append, map, refl, suc, true, zero, ℕ}
 use Rattle.std.specs.List.{AllByRecursion, filter, range_with_len}
 use Rattle.std.specs.Prelude.{cond, ◌==◌}
@@ -19,16 +19,30 @@ use Rattle.script_writer.specs.Names.{name_of}
 use Rattle.script_writer.specs.Words.{after_commas, joined_by_commas, set_word, signal_word, signals_of}
 use Rattle.rules_machine.specs.declared.frame.BodyOf.{BodyOf}
 use Rattle.rules_machine.specs.declared.frame.BodyOf.TheVariants as body_of
-use Rattle.rules_machine.specs.State.{Message, Registration}
+use Rattle.rules_machine.specs.State.{Message}
 use Rattle.rules_server.specs.declared.Replenish.{Replenish}
-use Rattle.rules_facts.specs.Fact.{Arming, Awaited, Block, Cancelability, Fact, Owner, Pending, Priorities, arming_of, blocked_thread, cancelability, dormant_thread, ended_thread, inner_frames, masked, messages_of, nothing, on_list, one_signal_of, owner, pending_signals, pushed_cleanups, ready_thread, receivers_of, registration_of, replenishments, semaphore_value, senders_of, thing, waiters_of}
-use Rattle.rules_facts.specs.Spelled.{awaited_words, body_name, mask_words, message_words, owner_words, pending_words, registration_words, arming_words, replenishment_words, subject, target_word, thread_name, told, until_words, words_if_any}
+use Rattle.rules_facts.specs.Fact.{Awaited, Block, Cancelability, Fact, Pending, Priorities, arming_of, blocked_thread, cancelability, dormant_thread, ended_thread, inner_frames, masked, messages_of, nothing, on_list, one_signal_of, owner, pending_signals, pushed_cleanups, ready_thread, receivers_of, registration_of, replenishments, semaphore_value, senders_of, thing, waiters_of}
+use Rattle.rules_facts.specs.Spelled.{awaited_words, body_name, mask_words, message_words, pending_words, replenishment_words, subject, target_word, thread_name, told, until_words, words_if_any}
 use Rattle.kernel_facts.specs.Kept.{texts_of}
 use Rattle.kernel_facts.specs.Lines.{fact_text, told_text}
-use Rattle.kernel_facts.specs.Modest.{AreModest, ArePriorities, IfAny, IsArming, IsMessage, IsModest, IsNumber, IsOwner, IsPending, IsPlanned, IsRegistration, NamesAreShort}
+use Rattle.kernel_facts.specs.Modest.{AreModest, IsModest, IsNumber, NamesAreShort, members_in, number_in}
+use Rattle.kernel_facts.specs.Short.{HasShortText, HaveShortTexts}
 use Rattle.kernel_facts.specs.Changed.{subject_text}
 use Rattle.kernel_facts.specs.Rooms.{longest_text}
 use Rattle.kernel_facts.specs.Subjects.{subjects_of}
+
+-- ---- numbers of 64 bits
+
+pub record ArePriorities (p : Priorities) : Type 0 where
+  pub assigned : IsNumber p.assigned
+  pub exec : IsNumber p.exec
+
+pub record IsMessage (message : Message) : Type 0 where
+  pub priority : IsNumber message.priority
+  pub value : IsNumber message.value
+
+abbrev pub IsPending : Pending → Type 0
+IsPending p = IsNumber p.value
 
 -- ---- what words take, each with a blank
 
@@ -170,21 +184,6 @@ flag_cost word false short = omega arith
 two_numbers : (a b : ℕ) → IsNumber a → IsNumber b → cost (decimal a ∷ decimal b ∷ []) ≤ 42
 two_numbers a b fits_a fits_b = let one = number_len a fits_a in let two = number_len b fits_b in omega (arith, one, two)
 
-until_cost : (due : Option ℕ) → IfAny IsNumber due → cost (words_if_any until_words due) ≤ 27
-until_cost None fits = omega arith
-until_cost (Some due) fits = let one = number_len due fits in omega (arith, one)
-
-registration_cost : (r : Option Registration) → IfAny IsRegistration r → cost (words_if_any registration_words r) ≤ 44
-registration_cost None fits = omega arith
-registration_cost (Some r) fits = let one = signal_len r.signal fits.signal in let two = number_len r.value fits.value in omega (arith, one, two)
-
-arming_cost : (a : Option Arming) → IfAny IsArming a → cost (words_if_any arming_words a) ≤ 42
-arming_cost None fits = omega arith
-arming_cost (Some a) fits = two_numbers a.due a.interval fits.due fits.interval
-
-planned_cost : (r : Replenish) → IsPlanned r → cost (replenishment_words r) ≤ 71
-planned_cost r fits = let two = two_numbers r.amount r.due fits.amount fits.due in omega (arith, two)
-
 message_cost : (message : Message) → IsMessage message → cost (message_words message) ≤ 71
 message_cost message fits = let two = two_numbers message.priority message.value fits.priority fits.value in omega (arith, two)
 
@@ -203,48 +202,35 @@ module _ (decls : List Decl) (names : NamesAreShort decls) where
   awaited_cost (thing sort k) = let one = names.each sort k in omega (arith, one)
   awaited_cost (one_signal_of set) = let one = set_len set in omega (arith, one)
 
-  owner_cost : (o : Option Owner) → IfAny IsOwner o → cost (words_if_any (owner_words decls) o) ≤ 54
-  owner_cost None fits = omega arith
-  owner_cost (Some o) fits = let one = names.each kind.Thread o.thread in let two = number_len o.count fits in omega (arith, one, two)
-
   pending_cost : (p : Pending) → IsPending p → cost (pending_words decls p) ≤ 71
   pending_cost p fits = let one = code_len p.code in let two = number_len p.value fits in let three = target_len p.target in omega (arith, one, two, three)
 
   about : (word : List ℕ) (of : NameKind) (k : ℕ) → length word ≤ 16 → cost (word ∷ name_of decls of k ∷ []) ≤ 50
   about word of k short = let one = names.each of k in omega (arith, one, short)
 
-  subject_cost : (most : ℕ) (f : Fact) → IsModest most f → cost (subject decls f) ≤ 50
-  subject_cost most (on_list p threads) fits = let one = number_len p fits.0 in omega (arith, one)
-  subject_cost most (dormant_thread t) fits = about (codes "thread") kind.Thread t (omega arith)
-  subject_cost most (ended_thread t) fits = about (codes "thread") kind.Thread t (omega arith)
-  subject_cost most (ready_thread t priorities) fits = about (codes "thread") kind.Thread t (omega arith)
-  subject_cost most (blocked_thread t priorities block) fits = about (codes "thread") kind.Thread t (omega arith)
-  subject_cost most (inner_frames t bodies) fits = about (codes "frames") kind.Thread t (omega arith)
-  subject_cost most (masked t set) fits = about (codes "mask") kind.Thread t (omega arith)
-  subject_cost most (cancelability t c) fits = about (codes "cancelability") kind.Thread t (omega arith)
-  subject_cost most (pushed_cleanups t handlers) fits = about (codes "cleanups") kind.Thread t (omega arith)
-  subject_cost most (replenishments t planned) fits = about (codes "pending") kind.Thread t (omega arith)
-  subject_cost most (owner k o) fits = about (codes "mutex") kind.Mutex k (omega arith)
-  subject_cost most (waiters_of sort k threads) fits = about (codes "waiters") sort k (omega arith)
-  subject_cost most (semaphore_value k value) fits = about (codes "sem") kind.Sem k (omega arith)
-  subject_cost most (messages_of q messages) fits = about (codes "messages") kind.Queue q (omega arith)
-  subject_cost most (senders_of q threads) fits = about (codes "senders") kind.Queue q (omega arith)
-  subject_cost most (receivers_of q threads) fits = about (codes "receivers") kind.Queue q (omega arith)
-  subject_cost most (registration_of q r) fits = about (codes "notify") kind.Queue q (omega arith)
-  subject_cost most (arming_of k a) fits = about (codes "timer") kind.Timer k (omega arith)
-  subject_cost most (pending_signals signal records) fits = let one = signal_len signal fits.0 in omega (arith, one)
+  subject_cost : (f : Fact) → IsNumber (number_in f) → cost (subject decls f) ≤ 50
+  subject_cost (on_list p threads) fits = let one = number_len p fits in omega (arith, one)
+  subject_cost (dormant_thread t) fits = about (codes "thread") kind.Thread t (omega arith)
+  subject_cost (ended_thread t) fits = about (codes "thread") kind.Thread t (omega arith)
+  subject_cost (ready_thread t priorities) fits = about (codes "thread") kind.Thread t (omega arith)
+  subject_cost (blocked_thread t priorities block) fits = about (codes "thread") kind.Thread t (omega arith)
+  subject_cost (inner_frames t bodies) fits = about (codes "frames") kind.Thread t (omega arith)
+  subject_cost (masked t set) fits = about (codes "mask") kind.Thread t (omega arith)
+  subject_cost (cancelability t c) fits = about (codes "cancelability") kind.Thread t (omega arith)
+  subject_cost (pushed_cleanups t handlers) fits = about (codes "cleanups") kind.Thread t (omega arith)
+  subject_cost (replenishments t planned) fits = about (codes "pending") kind.Thread t (omega arith)
+  subject_cost (owner k o) fits = about (codes "mutex") kind.Mutex k (omega arith)
+  subject_cost (waiters_of sort k threads) fits = about (codes "waiters") sort k (omega arith)
+  subject_cost (semaphore_value k value) fits = about (codes "sem") kind.Sem k (omega arith)
+  subject_cost (messages_of q messages) fits = about (codes "messages") kind.Queue q (omega arith)
+  subject_cost (senders_of q threads) fits = about (codes "senders") kind.Queue q (omega arith)
+  subject_cost (receivers_of q threads) fits = about (codes "receivers") kind.Queue q (omega arith)
+  subject_cost (registration_of q r) fits = about (codes "notify") kind.Queue q (omega arith)
+  subject_cost (arming_of k a) fits = about (codes "timer") kind.Timer k (omega arith)
+  subject_cost (pending_signals signal records) fits = let one = signal_len signal fits in omega (arith, one)
 
-  threads_cost : (most : ℕ) (ts : List ℕ) → length ts ≤ most → cost (map (thread_name decls) ts) ≤ 71 * most + 300
-  threads_cost most ts few = let all = cost_map (thread_name decls) (λ t. names.each kind.Thread t) ts in omega (arith, all, few)
-
-  blocked_cost : (priorities : Priorities) (block : Block) → ArePriorities priorities → IfAny IsNumber block.due → cost (told decls (blocked_thread 0 priorities block)) ≤ 300
-  blocked_cost priorities block fits due =
-      let first = two_numbers priorities.assigned priorities.exec fits.assigned fits.exec in
-      let call = call_len block.call in
-      let what = awaited_cost block.awaited in
-      let till = until_cost block.due due in
-      let both = cost-append (awaited_words decls block.awaited) (words_if_any until_words block.due) in
-      omega (arith, first, call, what, till, both)
+  threads_cost : (ts : List ℕ) → cost (map (thread_name decls) ts) ≤ 71 * length ts + 300
+  threads_cost ts = let all = cost_map (thread_name decls) (λ t. names.each kind.Thread t) ts in omega (arith, all)
 
   cancelability_cost : (c : Cancelability) → cost (told decls (cancelability 0 c)) ≤ 60
   cancelability_cost c =
@@ -255,41 +241,87 @@ module _ (decls : List Decl) (names : NamesAreShort decls) where
       let all = cost-append (flag_words (codes "requested") c.is_requested ++ flag_words (codes "disabled") c.is_disabled) (flag_words (codes "ending") c.is_ending) in
       omega (arith, one, two, three, front, all)
 
-  told_cost : (most : ℕ) (f : Fact) → IsModest most f → cost (told decls f) ≤ 71 * most + 300
-  told_cost most (on_list p threads) fits = threads_cost most threads fits.1
-  told_cost most (dormant_thread t) fits = omega arith
-  told_cost most (ended_thread t) fits = omega arith
-  told_cost most (ready_thread t priorities) fits = let two = two_numbers priorities.assigned priorities.exec fits.assigned fits.exec in omega (arith, two)
-  told_cost most (blocked_thread t priorities block) fits = let all = blocked_cost priorities block fits.0 fits.1 in omega (arith, all)
-  told_cost most (inner_frames t bodies) fits = let all = cost_map (body_name decls) body_len bodies in omega (arith, all, fits)
-  told_cost most (masked t set) fits = let all = mask_cost set in omega (arith, all)
-  told_cost most (cancelability t c) fits = let all = cancelability_cost c in omega (arith, all)
-  told_cost most (pushed_cleanups t handlers) fits = let all = cost_map (name_of decls kind.Cleanup) (λ u. names.each kind.Cleanup u) handlers in omega (arith, all, fits)
-  told_cost most (replenishments t planned) fits = let all = cost_flat replenishment_words IsPlanned planned_cost planned fits.each in let few = fits.few in omega (arith, all, few)
-  told_cost most (owner k o) fits = let all = owner_cost o fits in omega (arith, all)
-  told_cost most (waiters_of sort k threads) fits = threads_cost most threads fits
-  told_cost most (semaphore_value k value) fits = let one = number_len value fits in omega (arith, one)
-  told_cost most (messages_of q messages) fits = let all = cost_flat message_words IsMessage message_cost messages fits.each in let few = fits.few in omega (arith, all, few)
-  told_cost most (senders_of q threads) fits = threads_cost most threads fits
-  told_cost most (receivers_of q threads) fits = threads_cost most threads fits
-  told_cost most (registration_of q r) fits = let all = registration_cost r fits in omega (arith, all)
-  told_cost most (arming_of k a) fits = let all = arming_cost a fits in omega (arith, all)
-  told_cost most (pending_signals signal records) fits = let all = cost_flat (pending_words decls) IsPending pending_cost records fits.1.each in let few = fits.1.few in omega (arith, all, few)
+  blocked_cost : (priorities : Priorities) (block : Block) → ArePriorities priorities → length (after_blanks (words_if_any until_words block.due)) ≤ 38
+      → cost (told decls (blocked_thread 0 priorities block)) ≤ 300
+  blocked_cost priorities block fits due =
+      let first = two_numbers priorities.assigned priorities.exec fits.assigned fits.exec in
+      let call = call_len block.call in
+      let what = awaited_cost block.awaited in
+      let till = after_len (words_if_any until_words block.due) in
+      let both = cost-append (awaited_words decls block.awaited) (words_if_any until_words block.due) in
+      omega (arith, first, call, what, till, due, both)
 
-  text_len : (most : ℕ) (f : Fact) → IsModest most f → length (fact_text decls f) < longest_text most
-  text_len most f fits =
-      let about = subject_cost most f fits in
-      let words = told_cost most f fits in
+  text_len : (f : Fact) → IsNumber (number_in f) → cost (told decls f) ≤ 71 * members_in f + 300 → length (fact_text decls f) < longest_text (members_in f)
+  text_len f number words =
+      let about = subject_cost f number in
       let all = told_len (subject decls f) (told decls f) in
       omega (arith, about, words, all)
 
-  pub texts_short : (most one : ℕ) (fs : List Fact) → longest_text most ≤ one → AreModest most fs → AllByRecursion (λ (text : List ℕ). length text < one) (texts_of decls fs)
-  texts_short most one [] large all = tt
-  texts_short most one (f ∷ fs) large all = let here = text_len most f all.0 in (omega (arith, here, large), texts_short most one fs large all.1)
+  pub texts_short : (most one : ℕ) (fs : List Fact) → longest_text most ≤ one → HaveShortTexts decls fs → AreModest most fs → AllByRecursion (λ (text : List ℕ). length text < one) (texts_of decls fs)
+  texts_short most one [] large short all = tt
+  texts_short most one (f ∷ fs) large short all =
+      let here = short.0.short names in
+      let few = all.0.few in
+      (omega (arith, here, few, large), texts_short most one fs large short.1 all.1)
 
   subject_len : (most one : ℕ) (f : Fact) → longest_text most ≤ one → IsModest most f → length (subject_text decls f) < one
-  subject_len most one f large fits = let about = subject_cost most f fits in let all = joined_len (subject decls f) in omega (arith, about, all, large)
+  subject_len most one f large fits = let about = subject_cost f fits.number in let all = joined_len (subject decls f) in omega (arith, about, all, large)
 
   pub subjects_short : (most one : ℕ) (fs : List Fact) → longest_text most ≤ one → AreModest most fs → AllByRecursion (λ (text : List ℕ). length text < one) (subjects_of decls fs)
   subjects_short most one [] large all = tt
   subjects_short most one (f ∷ fs) large all = (subject_len most one f large all.0, subjects_short most one fs large all.1)
+
+-- ---- facts
+
+module _ (decls : List Decl) where
+  pub list_short : (p : ℕ) (threads : List ℕ) → IsNumber p → HasShortText decls (on_list p threads)
+  list_short p threads fits = record { short = λ names. text_len decls names (on_list p threads) fits (threads_cost decls names threads) }
+
+  pub blocked_short : (t : ℕ) (priorities : Priorities) (block : Block) → ArePriorities priorities → length (after_blanks (words_if_any until_words block.due)) ≤ 38
+      → HasShortText decls (blocked_thread t priorities block)
+  blocked_short t priorities block fits due =
+      record { short = λ names. let all = blocked_cost decls names priorities block fits due in text_len decls names (blocked_thread t priorities block) (omega arith) (omega (arith, all)) }
+
+  pub frames_short : (t : ℕ) (bodies : List BodyOf) → HasShortText decls (inner_frames t bodies)
+  frames_short t bodies =
+      record { short = λ names. let all = cost_map (body_name decls) (body_len decls names) bodies in text_len decls names (inner_frames t bodies) (omega arith) (omega (arith, all)) }
+
+  pub masked_short : (t set : ℕ) → HasShortText decls (masked t set)
+  masked_short t set = record { short = λ names. let all = mask_cost set in text_len decls names (masked t set) (omega arith) (omega (arith, all)) }
+
+  pub cancelability_short : (t : ℕ) (flags : Cancelability) → HasShortText decls (cancelability t flags)
+  cancelability_short t flags =
+      record { short = λ names. let all = cancelability_cost decls names flags in text_len decls names (cancelability t flags) (omega arith) (omega (arith, all)) }
+
+  pub cleanups_short : (t : ℕ) (handlers : List ℕ) → HasShortText decls (pushed_cleanups t handlers)
+  cleanups_short t handlers = record {
+    short = λ names.
+        let all = cost_map (name_of decls kind.Cleanup) (λ u. names.each kind.Cleanup u) handlers in
+        text_len decls names (pushed_cleanups t handlers) (omega arith) (omega (arith, all));
+  }
+
+  pub planned_short : (t : ℕ) (plans : List Replenish) → length (after_blanks (flat_map replenishment_words plans)) ≤ 42 * length plans → HasShortText decls (replenishments t plans)
+  planned_short t plans within =
+      let all = after_len (flat_map replenishment_words plans) in
+      record { short = λ names. text_len decls names (replenishments t plans) (omega arith) (omega (arith, all, within)) }
+
+  pub waiters_short : (sort : NameKind) (k : ℕ) (threads : List ℕ) → HasShortText decls (waiters_of sort k threads)
+  waiters_short sort k threads = record { short = λ names. text_len decls names (waiters_of sort k threads) (omega arith) (threads_cost decls names threads) }
+
+  pub senders_short : (q : ℕ) (threads : List ℕ) → HasShortText decls (senders_of q threads)
+  senders_short q threads = record { short = λ names. text_len decls names (senders_of q threads) (omega arith) (threads_cost decls names threads) }
+
+  pub receivers_short : (q : ℕ) (threads : List ℕ) → HasShortText decls (receivers_of q threads)
+  receivers_short q threads = record { short = λ names. text_len decls names (receivers_of q threads) (omega arith) (threads_cost decls names threads) }
+
+  pub messages_short : (q : ℕ) (messages : List Message) → AllByRecursion IsMessage messages → HasShortText decls (messages_of q messages)
+  messages_short q messages each =
+      let all = cost_flat message_words IsMessage message_cost messages each in
+      record { short = λ names. text_len decls names (messages_of q messages) (omega arith) (omega (arith, all)) }
+
+  pub signals_short : (signal : ℕ) (records : List Pending) → IsNumber signal → AllByRecursion IsPending records → HasShortText decls (pending_signals signal records)
+  signals_short signal records fits each = record {
+    short = λ names.
+        let all = cost_flat (pending_words decls) IsPending (pending_cost decls names) records each in
+        text_len decls names (pending_signals signal records) fits (omega (arith, all));
+  }

@@ -1,7 +1,7 @@
 -- The facts of a modest state are modest.
 use Rattle.std.proofs.Common.{◌≡◌, ◌∙◌, ◌+◌, ◌<◌, ◌≤◌, Bool, List, None, Option, Some, [], ◌∷◌, ◌++◌, ap, arith, eqb, false, flat_map, length, map, refl, reverse, suc, sym, true, zero, ℕ, inl, inr, if◌then◌else◌}
 use Rattle.std.specs.List.{AllByRecursion, IsDistinct, cons_option, filter, list_any, range_with_len}
-use Rattle.std.specs.Prelude.{cond, filter_map, not, option_map, ◌==◌, ◌||◌}
+use Rattle.std.specs.Prelude.{cond, filter_map, not, ◌==◌, ◌||◌}
 use Rattle.std.proofs.lemmas.Grind.{reverse_onto}
 use Rattle.std.proofs.lemmas.Bool.{ne_eqb}
 use Rattle.std.proofs.lemmas.Bool.Decides.{eqb_tells}
@@ -13,12 +13,12 @@ use Rattle.words_script.specs.declared.name_kind.NameKind.TheVariants as kind
 use Rattle.script_writer.specs.Names.{names_of}
 use Rattle.rules_lists.specs.Lists.{times_in_all}
 use Rattle.rules_lists.specs.Threads.{times}
-use Rattle.rules_server.specs.Server.{ServerState}
 use Rattle.rules_machine.specs.Lists.{kept_if, numbers_from, numbers_where}
-use Rattle.rules_machine.specs.Priorities.{assigned_of, exec}
-use Rattle.rules_machine.specs.State.{Frame, Machine, SignalRecord, Status, Wait, Waiting, blocked, dormant, ended, runnable}
-use Rattle.rules_machine.specs.Threads.{is_live, is_main, mutex_at, no_thread, queue_at, thread_at, timer_at, waiting_in, waiting_of}
+use Rattle.rules_machine.specs.Priorities.{exec}
+use Rattle.rules_machine.specs.State.{Frame, Machine, SignalRecord, Status, Wait, blocked, dormant, ended, runnable}
+use Rattle.rules_machine.specs.Threads.{is_live, is_main, no_thread, queue_at, thread_at, waiting_of}
 use Rattle.rules_machine.specs.Waiters.{Waiter, is_served_before, waiter_of, waiters, waits_so}
+use Rattle.rules_facts.specs.Fact.{Fact}
 use Rattle.rules_facts.specs.Facts.{facts, facts_of_objects, facts_of_threads}
 use Rattle.rules_facts.specs.Lists.{list_facts, lists_from}
 use Rattle.rules_facts.specs.Objects.{condition_waiters, in_service_order, mutex_waiters, owner_fact, semaphore_fact, semaphore_waiters, timer_fact}
@@ -26,29 +26,29 @@ use Rattle.rules_facts.specs.Order.{in_order, put_in}
 use Rattle.rules_facts.specs.Queues.{is_received_before, messages_fact, registration_fact, senders_and_receivers}
 use Rattle.rules_facts.specs.Shown.{ending_record, once_ended, without_taken}
 use Rattle.rules_facts.specs.Signals.{pending_of, signal_fact}
-use Rattle.rules_facts.specs.Threads.{cancelability_fact, cleanups_fact, frames_fact, inner_bodies, living, mask_fact, pending_fact, planned, status_fact, thread_fact}
-use Rattle.kernel_facts.specs.Modest.{AreFew, AreModest, IfAny, IsArming, IsMessage, IsModest, IsModestState, IsModestThread, IsNumber, IsOwner, IsPending, IsPlanned, IsRecord}
+use Rattle.rules_facts.specs.Threads.{cancelability_fact, cleanups_fact, frames_fact, inner_bodies, living, mask_fact, pending_fact, status_fact, thread_fact}
+use Rattle.kernel_facts.specs.Modest.{AreModest, IsModest, IsModestState, IsModestThread, IsNumber, members_in, number_in}
 
 -- ---- lists
 
 module _ {X : Type 0} (holds : X → Type 0) where
-  all_both : (xs ys : List X) → AllByRecursion holds xs → AllByRecursion holds ys → AllByRecursion holds (xs ++ ys)
+  pub all_both : (xs ys : List X) → AllByRecursion holds xs → AllByRecursion holds ys → AllByRecursion holds (xs ++ ys)
   all_both [] ys a b = b
   all_both (x ∷ xs) ys a b = (a.0, all_both xs ys a.1 b)
 
-  all_reverse : (xs : List X) → AllByRecursion holds xs → AllByRecursion holds (reverse xs)
+  pub all_reverse : (xs : List X) → AllByRecursion holds xs → AllByRecursion holds (reverse xs)
   all_reverse [] a = tt
   all_reverse (x ∷ xs) a = rw (reverse_onto xs x []) (all_both (reverse xs) (x ∷ []) (all_reverse xs a.1) (a.0, tt))
 
-  all_below : (f : ℕ → X) (a n : ℕ) → ((k : ℕ) → k < a + n → holds (f k)) → AllByRecursion holds (map f (range_with_len a n))
+  pub all_below : (f : ℕ → X) (a n : ℕ) → ((k : ℕ) → k < a + n → holds (f k)) → AllByRecursion holds (map f (range_with_len a n))
   all_below f a zero each = tt
   all_below f a (suc n) each = (each a (omega arith), all_below f (a + 1) n (λ k low. each k (omega (arith, low))))
 
-  all_of_rows : (f : ℕ → List X) (ns : List ℕ) → ((k : ℕ) → AllByRecursion holds (f k)) → AllByRecursion holds (flat_map f ns)
+  pub all_of_rows : (f : ℕ → List X) (ns : List ℕ) → ((k : ℕ) → AllByRecursion holds (f k)) → AllByRecursion holds (flat_map f ns)
   all_of_rows f [] each = tt
   all_of_rows f (n ∷ ns) each = all_both (f n) (flat_map f ns) (each n) (all_of_rows f ns each)
 
-  all_filtered : (p : X → Bool) (xs : List X) → AllByRecursion holds xs → AllByRecursion holds (filter p xs)
+  pub all_filtered : (p : X → Bool) (xs : List X) → AllByRecursion holds xs → AllByRecursion holds (filter p xs)
   all_filtered p [] a = tt
   all_filtered p (x ∷ xs) a =
       let rest = all_filtered p xs a.1 in
@@ -63,7 +63,7 @@ module _ {X : Type 0} (holds : X → Type 0) where
       let behind = a.1 in
       elim (before y x) as (λ b. AllByRecursion holds (if b then y ∷ put_in before x ys else x ∷ y ∷ ys)) [ true ↦ (here, rest) | false ↦ (h, (here, behind)) ]
 
-  all_ordered : (before : X → X → Bool) (xs : List X) → AllByRecursion holds xs → AllByRecursion holds (in_order before xs)
+  pub all_ordered : (before : X → X → Bool) (xs : List X) → AllByRecursion holds xs → AllByRecursion holds (in_order before xs)
   all_ordered before [] a = tt
   all_ordered before (x ∷ xs) a = all_put before x (in_order before xs) a.0 (all_ordered before xs a.1)
 
@@ -137,7 +137,7 @@ lists_modest most p [] low once known = tt
 lists_modest most p (threads ∷ lists) low once known =
     let number : IsNumber p = omega (arith, low) in
     let few = list_few most threads (λ t. let all = once t in omega (arith, all)) (λ t some. known t (omega (arith, some))) in
-    ((number, few), lists_modest most (p + 1) lists (omega (arith, low)) (λ t. let all = once t in omega (arith, all)) (λ t some. known t (omega (arith, some))))
+    (record { number = number; few = few }, lists_modest most (p + 1) lists (omega (arith, low)) (λ t. let all = once t in omega (arith, all)) (λ t some. known t (omega (arith, some))))
 
 -- ---- waiters
 
@@ -160,21 +160,29 @@ service_few m passes =
 
 -- ---- rows
 
+-- a fact that tells of so few
+few_in : (most : ℕ) (f : Fact) → number_in f ≡ 0 → members_in f ≤ most → IsModest most f
+few_in most f none few = record { number = omega (arith, none); few = few }
+
+-- a fact that tells of no members
+none_in : (most : ℕ) (f : Fact) → number_in f ≡ 0 → members_in f ≡ 0 → IsModest most f
+none_in most f none no_members = few_in most f none (omega (arith, no_members))
+
 module _ {P : Type 0} (most : ℕ) (m : Machine P) (ok : IsModestState most m) where
   none : IsModestThread {P = P} most no_thread
-  none = record { assigned = omega arith; waits = tt; frames = omega arith; cleanups = omega arith; planned = tt }
+  none = record { frames = omega arith; cleanups = omega arith; pending = omega arith }
 
-  living_modest : (t : ℕ) → IsModestThread most (living (thread_at m t))
-  living_modest t =
-      let here = ok.threads t in
+  living_modest : (t : ℕ) → t < length m.threads → IsModestThread most (living (thread_at m t))
+  living_modest t low =
+      let here = ok.threads t low in
       let th = thread_at m t in
       elim (is_live th.status) as (λ b. IsModestThread most (if b then th else no_thread)) [ true ↦ here | false ↦ none ]
 
-  status_modest : (t : ℕ) (status : Status) → IsNumber (assigned_of (thread_at m t)) → IfAny (λ (w : Waiting). IfAny IsNumber w.due) (waiting_in status) → IsModest most (status_fact m t status)
-  status_modest t (dormant at) assigned waits = tt
-  status_modest t runnable assigned waits = record { assigned = assigned; exec = ok.exec t }
-  status_modest t (blocked w) assigned waits = (record { assigned = assigned; exec = ok.exec t }, waits)
-  status_modest t ended assigned waits = tt
+  status_modest : (t : ℕ) (status : Status) → IsModest most (status_fact m t status)
+  status_modest t (dormant at) = none_in most _ refl refl
+  status_modest t runnable = none_in most _ refl refl
+  status_modest t (blocked w) = none_in most _ refl refl
+  status_modest t ended = none_in most _ refl refl
 
   frames_few : (frames : List (Frame P)) → length (inner_bodies frames) ≤ length frames
   frames_few frames =
@@ -182,68 +190,53 @@ module _ {P : Type 0} (most : ℕ) (m : Machine P) (ok : IsModestState most m) w
       let filtered = len_filtered (λ (f : Frame P). not (is_main f.kind)) frames in
       omega (arith, mapped, filtered)
 
-  planned_modest : (s : Option ServerState) → IfAny (λ (x : ServerState). AreFew most IsPlanned x.pending) s → AreFew most IsPlanned (planned s)
-  planned_modest None h = record { each = tt; few = omega arith }
-  planned_modest (Some s) h = h
+  frames_modest : (t : ℕ) → t < length m.threads → IsModest most (frames_fact m t)
+  frames_modest t low =
+      let all = frames_few (living (thread_at m t)).frames in
+      let few = (living_modest t low).frames in
+      few_in most (frames_fact m t) refl (omega (arith, all, few))
 
   threads_modest : AreModest most (facts_of_threads m)
   threads_modest =
       let n = length m.threads in
       all_both (IsModest most) _ _ (all_both (IsModest most) _ _ (all_both (IsModest most) _ _ (all_both (IsModest most) _ _ (all_both (IsModest most) _ _
-      (all_below (IsModest most) (thread_fact m) 0 n (λ t low. status_modest t (thread_at m t).status (ok.threads t).assigned (ok.threads t).waits))
-      (all_below (IsModest most) (frames_fact m) 0 n (λ t low. let all = frames_few (living (thread_at m t)).frames in let few = (living_modest t).frames in omega (arith, all, few))))
-      (all_below (IsModest most) (mask_fact m) 0 n (λ t low. tt)))
-      (all_below (IsModest most) (cancelability_fact m) 0 n (λ t low. tt)))
-      (all_below (IsModest most) (cleanups_fact m) 0 n (λ t low. (living_modest t).cleanups)))
-      (all_below (IsModest most) (pending_fact m) 0 n (λ t low. planned_modest (living (thread_at m t)).server (living_modest t).planned))
-
-  owner_modest : (k : ℕ) → IsModest most (owner_fact m k)
-  owner_modest k =
-      let count = ok.counts k in
-      elim (mutex_at m k).owner as (λ (o : Option ℕ). IfAny IsOwner (option_map (λ (t : ℕ). record { thread = t; count = (mutex_at m k).count }) o)) [ None ↦ tt | Some t ↦ count ]
+      (all_below (IsModest most) (thread_fact m) 0 n (λ t low. status_modest t (thread_at m t).status))
+      (all_below (IsModest most) (frames_fact m) 0 n (λ t low. frames_modest t (omega (arith, low)))))
+      (all_below (IsModest most) (mask_fact m) 0 n (λ t low. none_in most (mask_fact m t) refl refl)))
+      (all_below (IsModest most) (cancelability_fact m) 0 n (λ t low. none_in most (cancelability_fact m t) refl refl)))
+      (all_below (IsModest most) (cleanups_fact m) 0 n (λ t low. few_in most (cleanups_fact m t) refl (living_modest t (omega (arith, low))).cleanups)))
+      (all_below (IsModest most) (pending_fact m) 0 n (λ t low. few_in most (pending_fact m t) refl (living_modest t (omega (arith, low))).pending))
 
   service_modest : (passes : Wait → Bool) → length (in_service_order m passes) ≤ most
   service_modest passes = let all = service_few m passes in let few = ok.few in omega (arith, all, few)
 
-  timer_modest : (k : ℕ) → IsModest most (timer_fact m k)
-  timer_modest k = armed (timer_at m k).due (ok.timers k).due
-    where
-      armed : (due : Option ℕ) → IfAny IsNumber due → IfAny IsArming (option_map (λ (x : ℕ). record { due = x; interval = (timer_at m k).interval }) due)
-      armed None h = tt
-      armed (Some due) h = record { due = h; interval = (ok.timers k).interval }
-
-  messages_modest : (q : ℕ) → IsModest most (messages_fact m q)
-  messages_modest q =
+  messages_modest : (q : ℕ) → q < length m.queues → IsModest most (messages_fact m q)
+  messages_modest q low =
       let ordered = len_ordered is_received_before (queue_at m q).messages in
-      let few = (ok.messages q).few in
-      record { each = all_ordered IsMessage is_received_before (queue_at m q).messages (ok.messages q).each; few = omega (arith, ordered, few) }
-
-  records_modest : (rs : List SignalRecord) → AllByRecursion IsRecord rs → AllByRecursion IsPending (map pending_of rs)
-  records_modest [] all = tt
-  records_modest (r ∷ rs) all = (all.0, records_modest rs all.1)
+      let few = ok.messages q low in
+      few_in most (messages_fact m q) refl (omega (arith, ordered, few))
 
   signal_modest : (signal : ℕ) → signal < 32 → IsModest most (signal_fact m signal)
   signal_modest signal low =
       let p : SignalRecord → Bool = λ r. r.signal == signal in
       let mapped = length-map (filter p m.pending) pending_of in
       let filtered = len_filtered p m.pending in
-      let few = ok.pending.few in
-      let number : IsNumber signal = omega (arith, low) in
-      (number, record { each = records_modest (filter p m.pending) (all_filtered IsRecord p m.pending ok.pending.each); few = omega (arith, mapped, filtered, few) })
+      let few = ok.pending in
+      record { number = omega (arith, low); few = omega (arith, mapped, filtered, few) }
 
   objects_modest : (script : Script) → AreModest most (facts_of_objects script m)
   objects_modest script =
       all_both (IsModest most) _ _ (all_both (IsModest most) _ _ (all_both (IsModest most) _ _ (all_both (IsModest most) _ _ (all_both (IsModest most) _ _
       (all_both (IsModest most) _ _ (all_both (IsModest most) _ _ (all_both (IsModest most) _ _ (all_both (IsModest most) _ _
-      (all_below (IsModest most) (owner_fact m) 0 (length m.mutexes) (λ k low. owner_modest k))
-      (all_below (IsModest most) (mutex_waiters m) 0 (length m.mutexes) (λ k low. service_modest _)))
-      (all_below (IsModest most) (condition_waiters m) 0 (length (names_of kind.Cond script.decls)) (λ k low. service_modest _)))
-      (all_below (IsModest most) (semaphore_waiters m) 0 (length m.semaphores) (λ k low. service_modest _)))
-      (all_below (IsModest most) (semaphore_fact m) 0 (length m.semaphores) (λ k low. ok.values k)))
-      (all_below (IsModest most) (messages_fact m) 0 (length m.queues) (λ q low. messages_modest q)))
-      (all_of_rows (IsModest most) (senders_and_receivers m) (range_with_len 0 (length m.queues)) (λ q. (service_modest _, (service_modest _, tt)))))
-      (all_below (IsModest most) (registration_fact m) 0 (length m.queues) (λ q low. ok.registrations q)))
-      (all_below (IsModest most) (timer_fact m) 0 (length m.timers) (λ k low. timer_modest k)))
+      (all_below (IsModest most) (owner_fact m) 0 (length m.mutexes) (λ k low. none_in most (owner_fact m k) refl refl))
+      (all_below (IsModest most) (mutex_waiters m) 0 (length m.mutexes) (λ k low. few_in most (mutex_waiters m k) refl (service_modest _))))
+      (all_below (IsModest most) (condition_waiters m) 0 (length (names_of kind.Cond script.decls)) (λ k low. few_in most (condition_waiters m k) refl (service_modest _))))
+      (all_below (IsModest most) (semaphore_waiters m) 0 (length m.semaphores) (λ k low. few_in most (semaphore_waiters m k) refl (service_modest _))))
+      (all_below (IsModest most) (semaphore_fact m) 0 (length m.semaphores) (λ k low. none_in most (semaphore_fact m k) refl refl)))
+      (all_below (IsModest most) (messages_fact m) 0 (length m.queues) (λ q low. messages_modest q (omega (arith, low)))))
+      (all_of_rows (IsModest most) (senders_and_receivers m) (range_with_len 0 (length m.queues)) (λ q. (few_in most _ refl (service_modest _), (few_in most _ refl (service_modest _), tt)))))
+      (all_below (IsModest most) (registration_fact m) 0 (length m.queues) (λ q low. none_in most (registration_fact m q) refl refl)))
+      (all_below (IsModest most) (timer_fact m) 0 (length m.timers) (λ k low. none_in most (timer_fact m k) refl refl)))
       (all_below (IsModest most) (signal_fact m) 0 (length m.actions) (λ signal low. signal_modest signal (let few = ok.signals in omega (arith, low, few))))
 
   listed_modest : AreModest most (list_facts m.lists)
@@ -261,19 +254,14 @@ module _ {P : Type 0} (most : ℕ) (m : Machine P) (ok : IsModestState most m) w
   fewer_modest : (p : SignalRecord → Bool) → IsModestState most (record m { pending = filter p m.pending })
   fewer_modest p =
       let filtered = len_filtered p m.pending in
-      let few = ok.pending.few in
+      let few = ok.pending in
       record {
         few = ok.few;
         lists = ok.lists;
-        exec = ok.exec;
         threads = ok.threads;
-        counts = ok.counts;
-        values = ok.values;
         messages = ok.messages;
-        registrations = ok.registrations;
-        timers = ok.timers;
         signals = ok.signals;
-        pending = record { each = all_filtered IsRecord p m.pending ok.pending.each; few = omega (arith, filtered, few) };
+        pending = omega (arith, filtered, few);
       }
 
   taken_modest : (r : Option SignalRecord) → IsModestState most (without_taken r m)

@@ -1,5 +1,5 @@
--- Where the rooms are as large as the facts are many, all texts have room.
-use Rattle.std.proofs.Common.{None, Option, Some, ◌≡◌, ◌∙◌, ◌+◌, ◌*◌, ◌<◌, ◌≤◌, List, [], ◌∷◌, ◌++◌, ap, arith, flat_map, length, length-append, map, refl, suc, sym, zero, ℕ}
+-- Where the rooms are as large as those of a script's run, the texts of all facts of a state with its threads and objects have room.
+use Rattle.std.proofs.Common.{None, Option, Some, ◌≡◌, ◌∙◌, ◌+◌, ◌*◌, ◌<◌, ◌≤◌, List, false, [], ◌∷◌, ◌++◌, ap, arith, flat_map, length, length-append, map, refl, suc, sym, zero, ℕ}
 use Rattle.std.specs.List.{AllByRecursion, range_with_len}
 use Rattle.std.specs.Prelude.{sum_by}
 use Rattle.std.proofs.lemmas.List.{length-map, length-reverse}
@@ -10,6 +10,7 @@ use Rattle.words_script.specs.declared.name_kind.NameKind.TheVariants as kind
 use Rattle.script_writer.specs.Names.{names_of}
 use Rattle.parts_texts.specs.Texts.{Told}
 use Rattle.rules_machine.specs.State.{Machine}
+use Rattle.rules_machine.specs.Threads.{thread_at}
 use Rattle.rules_facts.specs.Fact.{Fact}
 use Rattle.rules_facts.specs.Facts.{facts, facts_of_objects, facts_of_threads}
 use Rattle.rules_facts.specs.Lists.{list_facts, lists_from}
@@ -17,12 +18,12 @@ use Rattle.rules_facts.specs.Objects.{condition_waiters, mutex_waiters, owner_fa
 use Rattle.rules_facts.specs.Queues.{messages_fact, registration_fact, senders_and_receivers}
 use Rattle.rules_facts.specs.Signals.{signal_fact}
 use Rattle.rules_facts.specs.Threads.{cancelability_fact, cleanups_fact, frames_fact, mask_fact, pending_fact, thread_fact}
-use Rattle.kernel_facts.specs.Kept.{HaveRoom}
-use Rattle.kernel_facts.specs.Kept.{texts_of}
+use Rattle.kernel_facts.specs.Kept.{HaveRoom, HaveSameRooms, texts_of}
 use Rattle.kernel_facts.specs.Lines.{fact_text}
 use Rattle.kernel_facts.specs.Changed.{subject_text}
 use Rattle.kernel_facts.specs.Subjects.{subjects_of}
-use Rattle.kernel_facts.specs.Modest.{IsModestState, NamesAreShort}
+use Rattle.kernel_facts.specs.Modest.{HasFewMembers, IsModestState, IsModestThread, NamesAreShort}
+use Rattle.kernel_facts.specs.Short.{HaveShortTexts}
 use Rattle.kernel_facts.specs.Rooms.{AreRooms, HasObjectsOf, HasRooms, IsRoomy, fact_count, facts_told, members_told, no_text}
 use Rattle.kernel_facts.specs.declared.rooms.Rooms.{Rooms}
 use Rattle.kernel_facts.proofs.ModestFacts.{ended_modest, state_modest}
@@ -119,33 +120,74 @@ have_room one count t due roomy same short =
       number = omega (arith, same, no_text, roomy.number);
     }
 
-module _ {P : Type 0} (script : Script) (m : Machine P) (names : NamesAreShort script.decls) (one : ℕ) (t : Told) (h : HasRooms script m one t) where
+module _ {P : Type 0} (script : Script) (m : Machine P) (names : NamesAreShort script.decls) (lists : length m.lists ≡ 255) (signals : length m.actions ≡ 32) (few : HasFewMembers m)
+    (has : HasObjectsOf script m) (one : ℕ) (t : Told) (none : t.texts ≡ []) (h : HasRooms script one t) where
+  thread_modest : (u : ℕ) → u < length m.threads → IsModestThread (members_told script) (thread_at m u)
+  thread_modest u low =
+      let th = few.threads u low in
+      let frames = th.frames in
+      let cleanups = th.cleanups in
+      let pending = th.pending in
+      record { frames = omega (arith, frames); cleanups = omega (arith, cleanups); pending = omega (arith, pending) }
+
+  modest : IsModestState (members_told script) m
+  modest =
+      let threads = has.threads in
+      let pending = few.pending in
+      record {
+        few = omega (arith, threads);
+        lists = few.lists;
+        threads = thread_modest;
+        messages = λ q low. (let held = few.messages q low in let deep = has.depths q in omega (arith, held, deep));
+        signals = omega (arith, signals);
+        pending = omega (arith, pending);
+      }
+
+  as_many : fact_count script m ≡ facts_told script
+  as_many = (let threads = has.threads in let mutexes = has.mutexes in let semaphores = has.semaphores in let queues = has.queues in let timers = has.timers in omega (arith, lists, signals, threads, mutexes, semaphores, queues, timers))
+
+  roomy : IsRoomy one (fact_count script m) t
+  roomy =
+      let all : fact_count script m * one ≡ facts_told script * one = ap (λ (n : ℕ). n * one) as_many in
+      let number = h.number in
+      let bytes = h.bytes in
+      let same = as_many in
+      record { fresh = h.fresh; empty = none; number = omega (arith, same, number); bytes = omega (arith, all, bytes) }
+
   -- without the record that ended the process
-  pub facts_fit : HaveRoom one t (texts_of script.decls (facts script (once_ended m.killed m)))
-  facts_fit =
+  pub facts_fit : HaveShortTexts script.decls (facts script (once_ended m.killed m)) → HaveRoom one t (texts_of script.decls (facts script (once_ended m.killed m)))
+  facts_fit short =
       let told = once_ended m.killed m in
-      have_room one (fact_count script m) t (texts_of script.decls (facts script told)) h.roomy
+      have_room one (fact_count script m) t (texts_of script.decls (facts script told)) roomy
       (length-map (facts script told) (fact_text script.decls) ∙ count_is script told ∙ ended_count script m m.killed)
-      (texts_short script.decls names h.most one (facts script told) h.long (state_modest script h.most told (ended_modest h.most m h.modest m.killed)))
+      (texts_short script.decls names (members_told script) one (facts script told) h.long short (state_modest script (members_told script) told (ended_modest (members_told script) m modest m.killed)))
 
   pub subjects_fit : HaveRoom one t (subjects_of script.decls (facts script m))
   subjects_fit =
-      have_room one (fact_count script m) t (subjects_of script.decls (facts script m)) h.roomy
+      have_room one (fact_count script m) t (subjects_of script.decls (facts script m)) roomy
       (length-map (facts script m) (subject_text script.decls) ∙ count_is script m)
-      (subjects_short script.decls names h.most one (facts script m) h.long (state_modest script h.most m h.modest))
+      (subjects_short script.decls names (members_told script) one (facts script m) h.long (state_modest script (members_told script) m modest))
 
--- The rooms of a script's run are large enough for each modest state that has its threads and objects.
-pub rooms_hold : {P : Type 0} (script : Script) (m : Machine P) (rooms : Rooms) → AreRooms script rooms → HasObjectsOf script m → IsModestState (members_told script) m
-    → HasRooms script m rooms.longest (no_text rooms)
-rooms_hold script m rooms are has modest =
-    let count : fact_count script m ≡ facts_told script = omega (arith, has.lists, has.signals, has.threads, has.mutexes, has.semaphores, has.queues, has.timers) in
-    let bytes : fact_count script m * rooms.longest ≡ rooms.room =
-    ap (λ (n : ℕ). n * rooms.longest) count ∙ ap (λ (n : ℕ). facts_told script * n) are.longest ∙ sym are.room in
+-- the rooms stay as large
+pub still_rooms : (script : Script) (one next : ℕ) (old new : Told) → HasRooms script one old → next ≡ one → HaveSameRooms old new → new.is_full ≡ false → HasRooms script next new
+still_rooms script one next old new h same_one same fresh =
+    let long = h.long in
+    let number = h.number in
+    let most = same.number in
+    let bytes = h.bytes in
+    let room = same.bytes in
+    let each : facts_told script * next ≡ facts_told script * one = ap (λ (n : ℕ). facts_told script * n) same_one in
+    record {
+      fresh = fresh;
+      long = omega (arith, long, same_one);
+      number = omega (arith, number, most);
+      bytes = omega (arith, bytes, room, each);
+    }
+
+-- The rooms of a script's run are so.
+pub rooms_hold : (script : Script) (rooms : Rooms) → AreRooms script rooms → HasRooms script rooms.longest (no_text rooms)
+rooms_hold script rooms are =
     let most = are.most in
     let long = are.longest in
-    record {
-      most = members_told script;
-      modest = modest;
-      long = omega (arith, long);
-      roomy = record { fresh = refl; empty = refl; number = omega (arith, count, most); bytes = omega (arith, bytes) };
-    }
+    let bytes : facts_told script * rooms.longest ≡ rooms.room = ap (λ (n : ℕ). facts_told script * n) are.longest ∙ sym are.room in
+    record { fresh = refl; long = omega (arith, long); number = omega (arith, most); bytes = omega (arith, bytes) }

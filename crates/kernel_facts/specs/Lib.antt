@@ -8,3 +8,4 @@ pub mod Changed
 pub mod Subjects
 pub mod Rooms
 pub mod Modest
+pub mod Short

@@ -1,5 +1,5 @@
 -- How large the rooms for the texts of a state's facts are. This project's own.
-use Rattle.std.specs.Prelude.{List, [], false, length, max, min, ℕ, ◌+◌, ◌*◌, ◌∷◌, ◌≤◌, ◌≡◌}
+use Rattle.std.specs.Prelude.{List, [], false, length, max, ℕ, ◌+◌, ◌*◌, ◌∷◌, ◌≤◌, ◌≡◌}
 use Rattle.words_script.specs.declared.decl.Decl.{Decl}
 use Rattle.words_script.specs.declared.decl.Decl.TheVariants as decl
 use Rattle.words_script.specs.declared.decl.Kind.{Kind}
@@ -10,7 +10,7 @@ use Rattle.script_writer.specs.Names.{names_of}
 use Rattle.parts_texts.specs.Texts.{Told}
 use Rattle.rules_machine.specs.Declarations.{mutexes_of, queues_of, semaphores_of, threads_of, timers_of}
 use Rattle.rules_machine.specs.State.{Machine}
-use Rattle.kernel_facts.specs.Modest.{IsModestState}
+use Rattle.rules_machine.specs.Threads.{queue_at}
 use Rattle.kernel_facts.specs.declared.rooms.Rooms.{Rooms}
 
 -- how many facts are told of a state: of each list and signal one, of each thread six, of each queue four
@@ -30,13 +30,6 @@ pub record IsRoomy (one count : ℕ) (t : Told) : Type 0 where
 abbrev pub longest_text : ℕ → ℕ
 longest_text most = 71 * most + 400
 
--- The state is modest, and the rooms are as large as they need.
-pub record HasRooms {P : Type 0} (script : Script) (m : Machine P) (one : ℕ) (t : Told) : Type 0 where
-  pub most : ℕ
-  pub modest : IsModestState most m
-  pub long : longest_text most ≤ one
-  pub roomy : IsRoomy one (fact_count script m) t
-
 -- ---- the rooms of a script's run
 
 -- how many facts are told at each instant: of the 255 lists, of the 32 signals, and of the threads and objects
@@ -45,9 +38,8 @@ facts_told script =
     287 + 6 * length (threads_of script) + 2 * length (mutexes_of script) + length (names_of kind.Cond script.decls) + 2 * length (semaphores_of script) + 4 * length (queues_of script)
     + length (timers_of script)
 
--- No queue has more than 65,536 messages.
 abbrev pub depth_in : Kind → ℕ
-depth_in (said.Queue depth longest nonblock) = min depth 65536
+depth_in (said.Queue depth longest nonblock) = depth
 depth_in other = 0
 
 abbrev pub depth_of : Decl → ℕ
@@ -78,15 +70,22 @@ pub record AreRooms (script : Script) (rooms : Rooms) : Type 0 where
   pub longest : rooms.longest ≡ longest_text (members_told script)
   pub room : rooms.room ≡ facts_told script * longest_text (members_told script)
 
--- a state with the threads and objects of the script
+-- a state with the threads and objects of the script, and queues that are no deeper than it says
 pub record HasObjectsOf {P : Type 0} (script : Script) (m : Machine P) : Type 0 where
-  pub lists : length m.lists ≡ 255
-  pub signals : length m.actions ≡ 32
   pub threads : length m.threads ≡ length (threads_of script)
   pub mutexes : length m.mutexes ≡ length (mutexes_of script)
   pub semaphores : length m.semaphores ≡ length (semaphores_of script)
   pub queues : length m.queues ≡ length (queues_of script)
   pub timers : length m.timers ≡ length (timers_of script)
+  pub depths : (q : ℕ) → (queue_at m q).depth ≤ deepest script.decls
+
+-- No text was without room so far, and the rooms of a list of texts, and that of one text, are as large as the facts of the script's run
+-- need.
+pub record HasRooms (script : Script) (one : ℕ) (t : Told) : Type 0 where
+  pub fresh : t.is_full ≡ false
+  pub long : longest_text (members_told script) ≤ one
+  pub number : facts_told script ≤ t.most
+  pub bytes : facts_told script * one ≤ t.room
 
 -- no text, in these rooms
 abbrev pub no_text : Rooms → Told

@@ -1,4 +1,4 @@
-// The lines of the facts that change.
+//! The lines of the facts that change.
 ghost use Rattle.std.specs.Prelude.{◌≡◌, length};
 ghost use Rattle.script_printer.specs.Puts.{Puts};
 ghost use Rattle.kernel_facts.specs.Changed.{PutsChanged, behind_subject, changed_line, changed_lines, line_or_subject};

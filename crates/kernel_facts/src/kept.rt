@@ -1,5 +1,5 @@
-// The facts of a state as a list of texts.
-ghost use Rattle.std.specs.Prelude.{◌≡◌, ◌∷◌, ◌<◌, ◌≤◌, [], false, length};
+//! The facts of a state as a list of texts.
+ghost use Rattle.std.specs.Prelude.{ℕ, ◌≡◌, ◌∷◌, ◌<◌, ◌≤◌, [], false, length};
 ghost use Rattle.rules_lists.specs.Lists.{list_of};
 ghost use Rattle.rules_facts.specs.Fact.{on_list};
 ghost use Rattle.rules_facts.specs.Facts.{facts};
@@ -10,10 +10,13 @@ ghost use Rattle.kernel_facts.specs.Kept.{HaveSameRooms, Kept, KeptIn, KeptOne, 
 ghost use Rattle.kernel_facts.specs.Lines.{fact_text, facts_text};
 ghost use Rattle.kernel_facts.specs.Numbered.{AreNumbered};
 ghost use Rattle.kernel_facts.specs.Picked.{left_in};
-ghost use Rattle.kernel_facts.specs.Rooms.{HasRooms};
+ghost use Rattle.kernel_facts.specs.Rooms.{HasObjectsOf, HasRooms};
+ghost use Rattle.kernel_facts.specs.Short.{HasShortText, HaveShortTexts};
+ghost use Rattle.kernel_facts.specs.declared.rows.ThreadRow.{ThreadRow};
+ghost use Rattle.kernel_facts.specs.declared.rows.ObjectRow.{ObjectRow};
 ghost use Rattle.kernel_facts.specs.Rows.{left_out, object_count, object_facts, thread_fact_of};
 
-use crate::known::{know_names, know_rows, know_timers};
+use crate::known::{know_few, know_names, know_rows, know_timers};
 use crate::lists::put_list;
 use crate::rows::{
     ObjectRow, ThreadRow, object_count, object_of, put_object_facts, put_receivers, put_senders,
@@ -48,7 +51,8 @@ fn print_thread_fact<K: Sink>(
     sink: &mut K,
 ) -> bool
     requires { t < length parts.now.names }
-    ensures { Put (outlet K.text K.faults false sink.old) (outlet K.text K.faults result sink.new) (fact_text decls.now (thread_fact_of row parts.now.machine t)) }
+    ensures text { Put (outlet K.text K.faults false sink.old) (outlet K.text K.faults result sink.new) (fact_text decls.now (thread_fact_of row parts.now.machine t)) }
+    ensures short { HasShortText decls.now (thread_fact_of row parts.now.machine t) }
 {
     let mut out = Printer::new(sink);
     put_thread_fact(&mut out, parts, decls, row, t);
@@ -64,7 +68,8 @@ fn print_object_facts<K: Sink>(
     sink: &mut K,
 ) -> bool
     requires { k < object_count row decls.now parts.now.machine }
-    ensures { Put (outlet K.text K.faults false sink.old) (outlet K.text K.faults result sink.new) (facts_text decls.now (object_facts row parts.now.machine k)) }
+    ensures text { Put (outlet K.text K.faults false sink.old) (outlet K.text K.faults result sink.new) (facts_text decls.now (object_facts row parts.now.machine k)) }
+    ensures short { HaveShortTexts decls.now (object_facts row parts.now.machine k) }
 {
     let mut out = Printer::new(sink);
     put_object_facts(&mut out, parts, decls, row, k);
@@ -79,7 +84,8 @@ fn print_signal<K: Sink>(
     left_out: Option<u64>,
     sink: &mut K,
 ) -> bool
-    ensures { Put (outlet K.text K.faults false sink.old) (outlet K.text K.faults result sink.new) (fact_text decls.now (signal_fact (left_in left_out parts.now.machine) signal)) }
+    ensures text { Put (outlet K.text K.faults false sink.old) (outlet K.text K.faults result sink.new) (fact_text decls.now (signal_fact (left_in left_out parts.now.machine) signal)) }
+    ensures short { HasShortText decls.now (signal_fact (left_in left_out parts.now.machine) signal) }
 {
     let mut out = Printer::new(sink);
     put_signal(&mut out, parts, decls, signal, left_out);
@@ -145,7 +151,8 @@ fn keep_thread_fact(
     texts: &mut Texts,
 )
     requires { t < length parts.now.names }
-    ensures { KeptIn next.old next.new texts.old texts.new (fact_text decls.now (thread_fact_of row parts.now.machine t) ∷ []) }
+    ensures kept { KeptIn next.old next.new texts.old texts.new (fact_text decls.now (thread_fact_of row parts.now.machine t) ∷ []) }
+    ensures short { HasShortText decls.now (thread_fact_of row parts.now.machine t) }
 {
     next.clear();
     let failed = print_thread_fact(parts, decls, row, t, next);
@@ -160,7 +167,8 @@ fn keep_thread_row(
     next: &mut NextText,
     texts: &mut Texts,
 )
-    ensures { KeptIn next.old next.new texts.old texts.new (thread_row_kept decls.now row parts.now.machine) }
+    ensures kept { KeptIn next.old next.new texts.old texts.new (thread_row_kept decls.now row parts.now.machine) }
+    ensures short { (t : ℕ) → t < length parts.now.machine.threads → HasShortText decls.now (thread_fact_of row parts.now.machine t) }
 {
     for number in 0..parts.count() {
         keep_thread_fact(parts, decls, row, parts.tid(number), next, texts);
@@ -169,7 +177,8 @@ fn keep_thread_row(
 
 // Keeps all rows of threads.
 fn keep_threads(parts: &Parts, decls: &[Decl], next: &mut NextText, texts: &mut Texts)
-    ensures { KeptIn next.old next.new texts.old texts.new (threads_kept decls.now parts.now.machine) }
+    ensures kept { KeptIn next.old next.new texts.old texts.new (threads_kept decls.now parts.now.machine) }
+    ensures short { (row : ThreadRow) → (t : ℕ) → t < length parts.now.machine.threads → HasShortText decls.now (thread_fact_of row parts.now.machine t) }
 {
     keep_thread_row(parts, decls, ThreadRow::Status, next, texts);
     keep_thread_row(parts, decls, ThreadRow::Frames, next, texts);
@@ -188,7 +197,8 @@ fn keep_object_fact(
     texts: &mut Texts,
 )
     requires { k < object_count row decls.now parts.now.machine }
-    ensures { KeptIn next.old next.new texts.old texts.new (facts_text decls.now (object_facts row parts.now.machine k) ∷ []) }
+    ensures kept { KeptIn next.old next.new texts.old texts.new (facts_text decls.now (object_facts row parts.now.machine k) ∷ []) }
+    ensures short { HaveShortTexts decls.now (object_facts row parts.now.machine k) }
 {
     next.clear();
     let failed = print_object_facts(parts, decls, row, k, next);
@@ -204,7 +214,8 @@ fn keep_object_row(
     texts: &mut Texts,
 )
     requires { object_count row decls.now parts.now.machine ≤ 256 }
-    ensures { KeptIn next.old next.new texts.old texts.new (object_row_kept decls.now row parts.now.machine) }
+    ensures kept { KeptIn next.old next.new texts.old texts.new (object_row_kept decls.now row parts.now.machine) }
+    ensures short { (k : ℕ) → k < object_count row decls.now parts.now.machine → HaveShortTexts decls.now (object_facts row parts.now.machine k) }
 {
     for number in 0..object_count(parts, decls, row) {
         keep_object_fact(parts, decls, row, object_of(number), next, texts);
@@ -240,7 +251,8 @@ fn keep_queue_waiters(parts: &Parts, decls: &[Decl], next: &mut NextText, texts:
 // Keeps all rows of objects but that of signals.
 fn keep_objects(parts: &Parts, script: &Script, next: &mut NextText, texts: &mut Texts)
     requires { AreNumbered script.now parts.now.machine }
-    ensures { KeptIn next.old next.new texts.old texts.new (objects_kept script.now.decls parts.now.machine) }
+    ensures kept { KeptIn next.old next.new texts.old texts.new (objects_kept script.now.decls parts.now.machine) }
+    ensures short { (row : ObjectRow) → (k : ℕ) → k < object_count row script.now.decls parts.now.machine → HaveShortTexts script.now.decls (object_facts row parts.now.machine k) }
 {
     let decls = script.decls.items();
     keep_object_row(parts, decls, ObjectRow::Owner, next, texts);
@@ -263,7 +275,8 @@ fn keep_signal(
     next: &mut NextText,
     texts: &mut Texts,
 )
-    ensures { KeptIn next.old next.new texts.old texts.new (fact_text decls.now (signal_fact (left_in left_out parts.now.machine) signal) ∷ []) }
+    ensures kept { KeptIn next.old next.new texts.old texts.new (fact_text decls.now (signal_fact (left_in left_out parts.now.machine) signal) ∷ []) }
+    ensures short { HasShortText decls.now (signal_fact (left_in left_out parts.now.machine) signal) }
 {
     next.clear();
     let failed = print_signal(parts, decls, signal, left_out, next);
@@ -272,7 +285,8 @@ fn keep_signal(
 
 // Keeps the pending signals, by number.
 fn keep_signals(parts: &Parts, decls: &[Decl], next: &mut NextText, texts: &mut Texts)
-    ensures { KeptIn next.old next.new texts.old texts.new (signals_kept decls.now (left_in (left_out parts.now.machine) parts.now.machine) 32) }
+    ensures kept { KeptIn next.old next.new texts.old texts.new (signals_kept decls.now (left_in (left_out parts.now.machine) parts.now.machine) 32) }
+    ensures short { (signal : ℕ) → signal < 32 → HasShortText decls.now (signal_fact (left_in (left_out parts.now.machine) parts.now.machine) signal) }
 {
     let out_of_it = left_out(parts);
     for signal in 0..32u8 {
@@ -282,17 +296,18 @@ fn keep_signals(parts: &Parts, decls: &[Decl], next: &mut NextText, texts: &mut 
 
 /// Puts the text of each fact of the state behind the texts, in their order: its line, or nothing where it is empty. Where the process
 /// has ended they are the facts of the state without the record that ended it. Where one has no room, the list is full from then on;
-/// where the rooms are as large as the facts need it is not. It takes no memory.
+/// in rooms as large as those of `rooms_of` each has room. It takes no memory.
 pub fn keep_facts(parts: &Parts, script: &Script, next: &mut NextText, texts: &mut Texts)
     requires { AreNumbered script.now parts.now.machine }
     ensures kept { Kept texts.old texts.new (texts_of script.now.decls (facts script.now (once_ended parts.now.machine.killed parts.now.machine))) }
     ensures room { next.new.room ≡ next.old.room }
     ensures rooms { texts.new.is_full ≡ false → HaveSameRooms texts.old texts.new }
-    ensures roomy { HasRooms script.now parts.now.machine next.old.room texts.old → texts.new.is_full ≡ false }
+    ensures roomy { HasObjectsOf script.now parts.now.machine → texts.old.texts ≡ [] → HasRooms script.now next.old.room texts.old → HasRooms script.now next.new.room texts.new }
 {
     let decls = script.decls.items();
     know_names(decls);
     know_rows(parts);
+    know_few(parts);
     keep_lists(parts, decls, next, texts);
     keep_threads(parts, decls, next, texts);
     keep_objects(parts, script, next, texts);

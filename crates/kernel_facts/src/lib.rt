@@ -1,9 +1,9 @@
 //! What a kernel tells of its state: the facts and the numbers of rules_facts, read where it stands.
 //!
 //! Proved: `write_state` writes the text of the state, or a part of it and then a write failed. `keep_facts` puts the text of each fact
-//! into a list of texts, where there is room, and `keep_subjects` that of its subject. There is room for all in the rooms of `rooms_of`,
-//! where the state has the objects of the script, numbers of 64 bits, and lists that are as short as these rooms reckon with.
-//! `put_changed` prints the lines of the facts that change, from their texts before and now. None takes memory.
+//! into a list of texts, and `keep_subjects` that of its subject; in the rooms of `rooms_of` each has room, where the state has the
+//! threads and objects of the script. `put_changed` prints the lines of the facts that change, from their texts before and now. None
+//! takes memory.
 //!
 //! The state is read and not changed. Lists are written word by word, so that no room limits their length.
 #![tactic(auto)]

@@ -1,6 +1,7 @@
 //! The line of a fact, which is begun with the first word that is told.
-ghost use Rattle.std.specs.Prelude.{◌≡◌, ◌<◌, length, map};
-ghost use Rattle.script_writer.specs.Line.{AreShort, spelled};
+ghost use Rattle.std.specs.Prelude.{◌≡◌, ◌<◌, ◌≤◌, length, map};
+ghost use Rattle.script_lex.specs.Joined.{after_blanks};
+ghost use Rattle.script_writer.specs.Line.{AreShort, spelled, total_width};
 ghost use Rattle.script_printer.specs.Puts.{Puts};
 ghost use Rattle.kernel_facts.specs.Lines.{end_text, more_text};
 
@@ -18,7 +19,8 @@ pub(crate) fn put_more<K: Sink>(
     requires some { 0 < length subject.now }
     requires subject { AreShort subject.now }
     requires words { AreShort words.now }
-    ensures { Puts K.text K.faults out.old out.new (more_text is_begun (map spelled subject.now) (map spelled words.now)) }
+    ensures text { Puts K.text K.faults out.old out.new (more_text is_begun (map spelled subject.now) (map spelled words.now)) }
+    ensures short { length (after_blanks (map spelled words.now)) ≤ total_width words.now }
 {
     if !is_begun {
         out.begin(subject);

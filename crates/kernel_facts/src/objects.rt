@@ -3,6 +3,7 @@ ghost use Rattle.std.specs.Prelude.{◌≡◌, ◌<◌, length};
 ghost use Rattle.rules_facts.specs.Objects.{owner_fact, semaphore_fact, timer_fact};
 ghost use Rattle.script_printer.specs.Puts.{Puts};
 ghost use Rattle.kernel_facts.specs.Lines.{fact_text};
+ghost use Rattle.kernel_facts.specs.Short.{HasShortText};
 
 use crate::names::{object_name, thread_name};
 use kernel_state::Parts;
@@ -15,7 +16,8 @@ use words_script::{Decl, NameKind};
 /// Prints who owns a mutex, and how often it has locked it; nothing where it is free.
 pub(crate) fn put_owner<K: Sink>(out: &mut Printer<'_, K>, parts: &Parts, decls: &[Decl], k: ObjId)
     requires { k < length parts.now.machine.mutexes }
-    ensures { Puts K.text K.faults out.old out.new (fact_text decls.now (owner_fact parts.now.machine k)) }
+    ensures text { Puts K.text K.faults out.old out.new (fact_text decls.now (owner_fact parts.now.machine k)) }
+    ensures short { HasShortText decls.now (owner_fact parts.now.machine k) }
 {
     let mutex = parts.mutex(k);
     if let Some(owner) = mutex.owner() {
@@ -36,7 +38,8 @@ pub(crate) fn put_semaphore<K: Sink>(
     k: ObjId,
 )
     requires { k < length parts.now.machine.semaphores }
-    ensures { Puts K.text K.faults out.old out.new (fact_text decls.now (semaphore_fact parts.now.machine k)) }
+    ensures text { Puts K.text K.faults out.old out.new (fact_text decls.now (semaphore_fact parts.now.machine k)) }
+    ensures short { HasShortText decls.now (semaphore_fact parts.now.machine k) }
 {
     out.line(&[
         Keyword(b"sem"),
@@ -48,7 +51,8 @@ pub(crate) fn put_semaphore<K: Sink>(
 /// Prints when an armed timer is due, and its interval.
 pub(crate) fn put_timer<K: Sink>(out: &mut Printer<'_, K>, parts: &Parts, decls: &[Decl], k: ObjId)
     requires { k < length parts.now.machine.timers }
-    ensures { Puts K.text K.faults out.old out.new (fact_text decls.now (timer_fact parts.now.machine k)) }
+    ensures text { Puts K.text K.faults out.old out.new (fact_text decls.now (timer_fact parts.now.machine k)) }
+    ensures short { HasShortText decls.now (timer_fact parts.now.machine k) }
 {
     if let Some(due) = parts.timer(k).due() {
         out.line(&[

@@ -6,9 +6,6 @@ ghost use Rattle.kernel_facts.specs.Rooms.{AreRooms, HasFewOfEach, deepest, dept
 use script_writer::name_count;
 use words_script::{Decl, Kind, NameKind, Script};
 
-// A queue has no room for more messages.
-const MOST_MESSAGES: u32 = 65_536;
-
 /// The rooms for the texts of the facts of an instant.
 #[derive(Clone, Copy)]
 pub struct Rooms {
@@ -22,17 +19,17 @@ pub struct Rooms {
 
 fn depth_of(decl: &Decl) -> usize
     ensures depth { result ≡ depth_of decl.now }
-    ensures few { result ≤ 65536 }
+    ensures few { result < 2 ^ 32 }
 {
     match decl {
-        Decl::Named(_, Kind::Queue { depth, .. }) => (*depth).min(MOST_MESSAGES) as usize,
+        Decl::Named(_, Kind::Queue { depth, .. }) => *depth as usize,
         _ => 0,
     }
 }
 
 fn deepest(decls: &[Decl]) -> usize
     ensures depth { result ≡ deepest decls.now }
-    ensures few { result ≤ 65536 }
+    ensures few { result < 2 ^ 32 }
 {
     let mut most = 0;
     for decl in decls {
@@ -79,7 +76,7 @@ fn timer_count(script: &Script) -> usize
 fn members_told(script: &Script) -> usize
     requires { HasFewOfEach script.now }
     ensures members { result ≡ members_told script.now }
-    ensures few { result ≤ 65904 }
+    ensures few { result ≤ 4294967663 }
 {
     112 + thread_count(script) + deepest(script.decls.items())
 }
@@ -99,7 +96,7 @@ pub fn rooms_of(script: &Script) -> Rooms
     requires { HasFewOfEach script.now }
     ensures rooms { AreRooms script.now result }
     ensures few { result.most < 2 ^ 32 }
-    ensures small { result.room < 2 ^ 40 }
+    ensures small { result.room < 2 ^ 51 }
     ensures short { result.longest < 2 ^ 40 }
 {
     let most = facts_told(script);

@@ -8,6 +8,7 @@ ghost use Rattle.script_printer.specs.Puts.{Puts};
 ghost use Rattle.kernel_facts.specs.Lines.{fact_text, facts_text};
 ghost use Rattle.kernel_facts.specs.Numbered.{AreNumbered};
 ghost use Rattle.kernel_facts.specs.Rows.{object_count, object_facts, object_row_text, objects_text, thread_fact_of, thread_row_text, threads_text};
+ghost use Rattle.kernel_facts.specs.Short.{HasShortText, HaveShortTexts};
 
 use crate::known::know_timers;
 use crate::names::object_name;
@@ -60,7 +61,8 @@ pub(crate) fn put_thread_fact<K: Sink>(
     t: Tid,
 )
     requires { t < length parts.now.names }
-    ensures { Puts K.text K.faults out.old out.new (fact_text decls.now (thread_fact_of row parts.now.machine t)) }
+    ensures text { Puts K.text K.faults out.old out.new (fact_text decls.now (thread_fact_of row parts.now.machine t)) }
+    ensures short { HasShortText decls.now (thread_fact_of row parts.now.machine t) }
 {
     match row {
         ThreadRow::Status => put_status(out, parts, decls, t),
@@ -192,7 +194,8 @@ pub(crate) fn put_object_facts<K: Sink>(
     k: ObjId,
 )
     requires { k < object_count row decls.now parts.now.machine }
-    ensures { Puts K.text K.faults out.old out.new (facts_text decls.now (object_facts row parts.now.machine k)) }
+    ensures text { Puts K.text K.faults out.old out.new (facts_text decls.now (object_facts row parts.now.machine k)) }
+    ensures short { HaveShortTexts decls.now (object_facts row parts.now.machine k) }
 {
     match row {
         ObjectRow::Owner => put_owner(out, parts, decls, k),

@@ -5,6 +5,7 @@ ghost use Rattle.rules_facts.specs.Spelled.{target_word};
 ghost use Rattle.script_printer.specs.Puts.{Puts};
 ghost use Rattle.kernel_facts.specs.Lines.{fact_text};
 ghost use Rattle.kernel_facts.specs.Picked.{is_left_out, is_told, left_in};
+ghost use Rattle.kernel_facts.specs.Short.{HasShortText};
 
 use crate::line::{put_end, put_more};
 use crate::names::thread_name;
@@ -52,16 +53,18 @@ pub(crate) fn put_signal<K: Sink>(
     signal: u8,
     left_out: Option<u64>,
 )
-    ensures { Puts K.text K.faults out.old out.new (fact_text decls.now (signal_fact (left_in left_out parts.now.machine) signal)) }
+    ensures text { Puts K.text K.faults out.old out.new (fact_text decls.now (signal_fact (left_in left_out parts.now.machine) signal)) }
+    ensures short { HasShortText decls.now (signal_fact (left_in left_out parts.now.machine) signal) }
 {
     let subject = [Keyword(b"signal"), Signal(signal)];
     let mut is_begun = false;
     let mut place = 0;
     while let Some(r) = parts.pending_record(place) {
+        let value = r.value();
         if is_told(left_out, signal, &r) {
             let words = [
                 Keyword(r.code().text().as_bytes()),
-                Number(r.value()),
+                Number(value),
                 Name(target_word(decls, r.target())),
             ];
             put_more(out, is_begun, &subject, &words);

@@ -1,4 +1,4 @@
-// The subjects of the facts of a state as a list of texts.
+//! The subjects of the facts of a state as a list of texts.
 ghost use Rattle.std.specs.Prelude.{◌≡◌, ◌∷◌, ◌≤◌, [], codes, decimal, false, length, map};
 ghost use Rattle.words_script.specs.declared.name_kind.NameKind.TheVariants as kind;
 ghost use Rattle.rules_facts.specs.Facts.{facts};
@@ -9,12 +9,12 @@ ghost use Rattle.script_writer.specs.Names.{name_of, names_of};
 ghost use Rattle.script_writer.specs.Words.{signal_word};
 ghost use Rattle.kernel_facts.specs.Kept.{HaveSameRooms, Kept, KeptIn};
 ghost use Rattle.kernel_facts.specs.Numbered.{AreNumbered};
-ghost use Rattle.kernel_facts.specs.Rooms.{HasRooms};
+ghost use Rattle.kernel_facts.specs.Rooms.{HasObjectsOf, HasRooms};
 ghost use Rattle.kernel_facts.specs.Rows.{object_count};
 ghost use Rattle.kernel_facts.specs.Subjects.{about, list_subjects, lock_subjects, named_row, object_subjects, queue_subjects, signal_subjects, subjects_of, thread_subjects};
 
 use crate::kept::keep;
-use crate::known::{know_names, know_rows, know_timers};
+use crate::known::{know_few, know_names, know_rows, know_timers};
 use crate::names::{object_name, thread_name};
 use crate::rows::{ObjectRow, object_count, object_of};
 use kernel_state::Parts;
@@ -264,17 +264,18 @@ fn keep_signal_subjects(next: &mut NextText, texts: &mut Texts)
 }
 
 /// Puts the text of the subject of each fact of the state behind the texts, in their order. They are the same for all states of a run.
-/// Where one has no room, the list is full from then on; where the rooms are as large as the facts need it is not. It takes no memory.
+/// Where one has no room, the list is full from then on; in rooms as large as those of `rooms_of` each has room. It takes no memory.
 pub fn keep_subjects(parts: &Parts, script: &Script, next: &mut NextText, texts: &mut Texts)
     requires { AreNumbered script.now parts.now.machine }
     ensures kept { Kept texts.old texts.new (subjects_of script.now.decls (facts script.now parts.now.machine)) }
     ensures room { next.new.room ≡ next.old.room }
     ensures rooms { texts.new.is_full ≡ false → HaveSameRooms texts.old texts.new }
-    ensures roomy { HasRooms script.now parts.now.machine next.old.room texts.old → texts.new.is_full ≡ false }
+    ensures roomy { HasObjectsOf script.now parts.now.machine → texts.old.texts ≡ [] → HasRooms script.now next.old.room texts.old → HasRooms script.now next.new.room texts.new }
 {
     let decls = script.decls.items();
     know_names(decls);
     know_rows(parts);
+    know_few(parts);
     keep_list_subjects(next, texts);
     keep_thread_subjects(parts, decls, next, texts);
     keep_object_subjects(parts, script, next, texts);

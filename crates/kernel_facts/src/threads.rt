@@ -13,6 +13,7 @@ ghost use Rattle.rules_facts.specs.Spelled.{awaited_words, until_words, words_if
 ghost use Rattle.rules_facts.specs.Threads.{awaited, block_of, cancelability_fact, cleanups_fact, frames_fact, inner_bodies, mask_fact, pending_fact, priorities_of, thread_fact};
 ghost use Rattle.script_printer.specs.Puts.{Puts};
 ghost use Rattle.kernel_facts.specs.Lines.{fact_text};
+ghost use Rattle.kernel_facts.specs.Short.{HasShortText};
 
 use crate::line::{put_end, put_more};
 use crate::names::{body_name, object_name, thread_name};
@@ -49,7 +50,8 @@ fn put_awaited<K: Sink>(out: &mut Printer<'_, K>, decls: &[Decl], wait: &Wait)
 
 // Prints until when it waits, where there is a limit.
 fn put_due<K: Sink>(out: &mut Printer<'_, K>, due: Option<Tick>)
-    ensures { Puts K.text K.faults out.old out.new (after_blanks (words_if_any until_words due)) }
+    ensures text { Puts K.text K.faults out.old out.new (after_blanks (words_if_any until_words due)) }
+    ensures short { length (after_blanks (words_if_any until_words due)) ≤ 38 }
 {
     match due {
         Some(at) => out.words(&[Keyword(b"until"), Number(at.get())]),
@@ -66,7 +68,8 @@ fn put_blocked<K: Sink>(
     waiting: &Waiting,
 )
     requires { t < length parts.now.names }
-    ensures { Puts K.text K.faults out.old out.new (fact_text decls.now (blocked_thread t (priorities_of parts.now.machine t) (block_of (waiting_of waiting.now)))) }
+    ensures text { Puts K.text K.faults out.old out.new (fact_text decls.now (blocked_thread t (priorities_of parts.now.machine t) (block_of (waiting_of waiting.now)))) }
+    ensures short { HasShortText decls.now (blocked_thread t (priorities_of parts.now.machine t) (block_of (waiting_of waiting.now))) }
 {
     out.begin(&[
         Keyword(b"thread"),
@@ -84,7 +87,8 @@ fn put_blocked<K: Sink>(
 /// Prints whether a thread runs or waits, and at which priorities.
 pub(crate) fn put_status<K: Sink>(out: &mut Printer<'_, K>, parts: &Parts, decls: &[Decl], t: Tid)
     requires { t < length parts.now.names }
-    ensures { Puts K.text K.faults out.old out.new (fact_text decls.now (thread_fact parts.now.machine t)) }
+    ensures text { Puts K.text K.faults out.old out.new (fact_text decls.now (thread_fact parts.now.machine t)) }
+    ensures short { HasShortText decls.now (thread_fact parts.now.machine t) }
 {
     let subject = Keyword(b"thread");
     let name = Name(thread_name(decls, t));
@@ -246,7 +250,8 @@ pub(crate) fn put_cleanups<K: Sink>(out: &mut Printer<'_, K>, parts: &Parts, dec
 
 // Prints replenishments, in their order.
 fn put_planned<K: Sink>(out: &mut Printer<'_, K>, decls: &[Decl], t: Tid, planned: &[Replenish])
-    ensures { Puts K.text K.faults out.old out.new (fact_text decls.now (replenishments t planned.now)) }
+    ensures text { Puts K.text K.faults out.old out.new (fact_text decls.now (replenishments t planned.now)) }
+    ensures short { HasShortText decls.now (replenishments t planned.now) }
 {
     let subject = [Keyword(b"pending"), Name(thread_name(decls, t))];
     let mut is_begun = false;
@@ -265,7 +270,8 @@ fn put_planned<K: Sink>(out: &mut Printer<'_, K>, decls: &[Decl], t: Tid, planne
 /// Prints what the server of a thread that lives has planned, the oldest first.
 pub(crate) fn put_pending<K: Sink>(out: &mut Printer<'_, K>, parts: &Parts, decls: &[Decl], t: Tid)
     requires { t < length parts.now.names }
-    ensures { Puts K.text K.faults out.old out.new (fact_text decls.now (pending_fact parts.now.machine t)) }
+    ensures text { Puts K.text K.faults out.old out.new (fact_text decls.now (pending_fact parts.now.machine t)) }
+    ensures short { HasShortText decls.now (pending_fact parts.now.machine t) }
 {
     if !parts.thread(t).is_live() {
         return;

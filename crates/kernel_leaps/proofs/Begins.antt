@@ -1,6 +1,6 @@
 -- After some ticks of the head at once, nothing more precedes its next tick.
-use Rattle.std.proofs.Common.{Bool, List, [], suc, zero, ◌∷◌, ◌-◌, None, Option, Some, ap, arith, false, inl, inr, refl, subst, sym, true, ℕ, ◌+◌, ◌≤◌, ◌≡◌, ◌⊎◌, ◌∙◌}
-use Rattle.std.specs.Prelude.{nat_lt, option_map, ◌==◌, ◌&&◌, if◌then◌else◌}
+use Rattle.std.proofs.Common.{Bool, List, [], suc, zero, ◌∷◌, ◌-◌, None, Option, Some, ap, arith, false, inl, inr, refl, subst, true, ℕ, ◌+◌, ◌≤◌, ◌≡◌, ◌⊎◌, ◌∙◌}
+use Rattle.std.specs.Prelude.{option_map, ◌==◌, ◌&&◌, if◌then◌else◌}
 use Rattle.rules_bodies.specs.declared.cursor.Cursor.{Cursor}
 use Rattle.rules_server.specs.Server.{ServerState, charge_ticks, is_high}
 use Rattle.rules_server.proofs.Laws.{charge_ticks_is}

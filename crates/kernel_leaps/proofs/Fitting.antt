@@ -1,6 +1,6 @@
 -- What fits goes from the states of a run to the kernel that is in them.
-use Rattle.std.proofs.Common.{◌≡◌, ◌∙◌, ◌≤◌, ◌^◌, ◌+◌, ℕ, suc, List, [], ◌∷◌, Bool, true, false, Option, None, Some, ap, arith, length, refl, subst, sym}
-use Rattle.std.specs.Prelude.{slice_index_or, ◌==◌, IfSome}
+use Rattle.std.proofs.Common.{◌≡◌, ◌∙◌, ◌≤◌, ◌^◌, ◌+◌, ℕ, List, [], Bool, true, false, Option, None, Some, ap, arith, length, refl, subst, sym}
+use Rattle.std.specs.Prelude.{◌==◌, IfSome}
 use Rattle.rules_bodies.specs.declared.cursor.Cursor.{Cursor}
 use Rattle.rules_bodies.specs.declared.op.Op.{Op}
 use Rattle.rules_bodies.specs.Flat as flat

@@ -1,5 +1,5 @@
 -- The head of the lists can run where the threads stand right.
-use Rattle.std.proofs.Common.{◌≡◌, ◌+◌, ℕ, suc, List, [], ◌∷◌, Bool, true, false, Some, arith, refl}
+use Rattle.std.proofs.Common.{◌≡◌, ℕ, suc, List, [], ◌∷◌, Bool, true, false, Some, arith, refl}
 use Rattle.std.specs.Prelude.{slice_index_or}
 use Rattle.rules_lists.specs.Threads.{times}
 use Rattle.rules_machine.specs.State.{Machine}

@@ -1,6 +1,6 @@
 -- Units that a thread passes: what stays as it is meanwhile, and how long they are.
 use Rattle.std.proofs.Common.{◌≡◌, ◌≤◌, ◌<◌, ◌+◌, ◌-◌, ℕ, zero, suc, Bool, true, false, List, [], ◌∷◌, Option, None, Some, ap, arith, length, refl, slice_index_or, slice_set, subst, sym, ◌∙◌}
-use Rattle.std.specs.Prelude.{max, nat_lt, option_map, ◌&&◌, ◌==◌, is_some, if◌then◌else◌}
+use Rattle.std.specs.Prelude.{max, option_map, ◌&&◌, ◌==◌, is_some, if◌then◌else◌}
 use Rattle.rules_bodies.specs.declared.cursor.Cursor.{Cursor}
 use Rattle.rules_bodies.specs.declared.op.Op.{Op}
 use Rattle.script_code.specs.Fetched.{unit_of}

@@ -1,5 +1,5 @@
 -- What precedes the tick of the head changes servers and the last dispatch alone, and no execution priority.
-use Rattle.std.proofs.Common.{Bool, List, None, Option, Some, [], ap, arith, false, inl, inr, length, refl, subst, sym, true, ℕ, ◌+◌, ◌<◌, ◌≤◌, ◌^◌, ◌≡◌, ◌⊎◌, ◌∙◌}
+use Rattle.std.proofs.Common.{List, None, Option, Some, [], ap, inl, inr, length, refl, subst, sym, true, ℕ, ◌<◌, ◌≤◌, ◌≡◌, ◌⊎◌, ◌∙◌}
 use Rattle.std.specs.Prelude.{option_map, slice_index_or, ◌-◌, ◌==◌, ◌∷◌, if◌then◌else◌}
 use Rattle.rules_lists.specs.Threads.{times}
 use Rattle.rules_bodies.specs.declared.cursor.Cursor.{Cursor}
@@ -32,7 +32,7 @@ use Rattle.rules_moves.proofs.Waiters.OfThreads.{changed_is}
 use Rattle.laws_machine.proofs.Lists.Kept.{claim_at, claims_at, strict_high}
 use Rattle.laws_machine.proofs.Servers.OfThreads.{run_parts}
 use Rattle.kernel_threads.specs.Unused.{IsUnused, IsUnusedAs}
-use Rattle.laws_threads.specs.Within.{HighWithin, IsWithin}
+use Rattle.laws_threads.specs.Within.{HighWithin}
 use Rattle.calls_table.specs.Calls.{HasRoomFor}
 use Rattle.kernel_state.specs.Kernel.{Kernel, after, turn}
 use Rattle.kernel_state.specs.Stood.{StoodRight}

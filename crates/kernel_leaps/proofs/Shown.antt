@@ -1,8 +1,6 @@
 -- What is shown of a script's kernel is what is shown of the script.
-use Rattle.std.proofs.Common.{List, ap, arith, length, subst, sym, ℕ, ◌∙◌, ◌≡◌, ◌≤◌}
+use Rattle.std.proofs.Common.{List, ap, arith, subst, sym, ℕ, ◌∙◌, ◌≡◌, ◌≤◌}
 use Rattle.words_script.specs.declared.decl.Script.{Script}
-use Rattle.rules_bodies.specs.declared.cursor.Cursor.{Cursor}
-use Rattle.rules_machine.specs.Declarations.{mutexes_of, queues_of, semaphores_of}
 use Rattle.rules_machine.specs.DueItems.{instant, item_bound}
 use Rattle.rules_machine.specs.Runs.{opening, ticks}
 use Rattle.rules_machine.specs.WellFormed.{IsWellFormed}

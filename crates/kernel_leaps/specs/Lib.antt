@@ -7,3 +7,4 @@ pub mod Ran
 pub mod Reach
 pub mod Passing
 pub mod Shown
+pub mod Detail

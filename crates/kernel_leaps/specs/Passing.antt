@@ -1,5 +1,11 @@
 -- A thread that passes units and then leaps. This project's own.
-use Rattle.std.specs.Prelude.{◌≡◌, ◌≤◌, ◌+◌, ◌-◌, ◌^◌, ℕ, List, Option, Some, length, max}
+use Rattle.std.specs.Prelude.{◌≡◌, ◌≤◌, ◌+◌, ◌-◌, ◌^◌, ℕ, List, [], Option, Some, false, length, max}
+use Rattle.rules_bodies.specs.declared.cursor.Cursor.{Cursor}
+use Rattle.rules_machine.specs.Bodies.{Bodies}
+use Rattle.rules_machine.specs.Eventful.{tick_matters}
+use Rattle.rules_machine.specs.Servers.{has_high}
+use Rattle.rules_machine.specs.State.{Thread}
+use Rattle.rules_machine.specs.Ticks.{tick_charged}
 use Rattle.parts_tracer.specs.declared.tracer.Tracer.{Tracer}
 use Rattle.parts_tracer.specs.Tells.{Tells}
 use Rattle.rules_machine.specs.Threads.{thread_at}
@@ -44,3 +50,11 @@ pub record HasLeapt {K : Type 0} (text : K → Option (List ℕ)) (faults : K �
   pub state : new ≡ after (leap_runs (flat_bodies old.code) (leap_of (near - all_of units) t (passed_by t units old)) (Some t)) (passed_by t units old)
   pub told : Tells text faults old.names a b (told (leap_runs (flat_bodies old.code) (leap_of (near - all_of units) t (passed_by t units old)) (Some t)) (passed_by t units old))
   pub steps : steps_now ≡ steps_before + length units + 1
+
+-- one tick of a thread, of the unit that it is in or takes next, neither completes the unit nor uses up an interval or a capacity
+abbrev pub IsQuietTick : Bodies Cursor → ℕ → Thread Cursor → Type 0
+IsQuietTick bodies quantum th = tick_matters (has_high th.server) quantum (tick_charged (in_unit bodies th).thread) ≡ false
+
+-- a thread that runs for at most so many ticks passes no unit in them
+abbrev pub PassesNoUnit : ℕ → ℕ → Kernel → Type 0
+PassesNoUnit near t k = (units : List ℕ) → ArePassed (flat_bodies k.code) near k.machine.quantum units (thread_at k.machine t) → units ≡ []

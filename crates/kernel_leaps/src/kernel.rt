@@ -1,5 +1,5 @@
 //! The kernel of a script.
-ghost use Rattle.std.specs.Prelude.{ℕ, ◌≡◌, ◌≤◌, ◌<◌, ◌+◌, ◌-◌, ◌^◌, [], None, Some, length, false, true, option_map, IfOk};
+ghost use Rattle.std.specs.Prelude.{ℕ, ◌≡◌, ◌≤◌, ◌<◌, ◌+◌, ◌-◌, ◌*◌, ◌^◌, [], None, Some, length, false, true, option_map, IfOk};
 ghost use Rattle.parts_tracer.specs.Prints.{Prints};
 ghost use Rattle.parts_tracer.specs.Tells.{Tells};
 ghost use Rattle.rules_server.specs.Server.{totals};
@@ -21,12 +21,16 @@ ghost use Rattle.kernel_leaps.specs.Fits.{StaysFit};
 ghost use Rattle.kernel_leaps.specs.Good.{IsGood};
 ghost use Rattle.kernel_leaps.specs.Ran.{ticked_by};
 ghost use Rattle.kernel_leaps.specs.Shown.{HasFewObjects, IsInRun};
+ghost use Rattle.rules_facts.specs.Detail.{detail};
 ghost use Rattle.rules_facts.specs.Shown.{shown};
+ghost use Rattle.kernel_leaps.specs.Detail.{HaveRoomsFor};
 ghost use Rattle.parts_io.specs.Bytes.{WritesAll};
 ghost use Rattle.parts_io.specs.Causes.{HasCause};
 ghost use Rattle.laws_flat_code.specs.Places.{carry};
 ghost use Rattle.laws_places.specs.Carried.{ran_carried};
 
+use crate::detail::write_detail;
+use crate::fact_texts::FactTexts;
 use crate::instant::handle_items;
 use crate::run::{RunEnd, run_leaps};
 use kernel_facts::write_state;
@@ -157,6 +161,36 @@ impl Kernel {
         let mut parts = self.parts;
         handle_items(&mut parts);
         write_state(&parts, script, sink)
+    }
+
+    /// Writes what `detail` tells of a run to the horizon, at most 10^18: what happens, behind it the facts that change at each instant, and
+    /// then the closing lines. It is two steps a leap at most, and takes no memory: `texts` has rooms for all facts of the script's run.
+    ///
+    /// `Err` comes only where the sink's count of faults rose in this call, and then a part from the front of the text was appended.
+    pub fn detail<K: Sink, L: Ledger>(
+        self,
+        script: &Script,
+        horizon: Tick,
+        texts: FactTexts,
+        sink: &mut K,
+        steps: &mut Steps<L>,
+    ) -> Result<(), Failed>
+        requires runnable { IsRunnable script.now }
+        requires well_formed { IsWellFormed script.now }
+        requires few { HasFewObjects script.now }
+        requires opened { self ≡ opened script.now }
+        requires limit { horizon ≤ 10 ^ 18 }
+        requires rooms { HaveRoomsFor script.now texts }
+        ensures written { WritesAll (K.text sink.old) (K.text sink.new) result (detail script.now horizon) }
+        ensures cause { HasCause (K.faults sink.old) (K.faults sink.new) result }
+        ensures steps { steps.new ≤ steps.old + 2 * busy_between script.now 0 horizon + 2 }
+    {
+        let mut parts = self.parts;
+        let mut texts = texts;
+        if write_detail(&mut parts, script, horizon, &mut texts, sink, steps) {
+            return Err(Failed);
+        }
+        Ok(())
     }
 }
 

@@ -10,6 +10,8 @@
 #![tactic(auto)]
 
 mod calls;
+mod detail;
+mod fact_texts;
 mod instant;
 mod kernel;
 mod leaps;
@@ -17,5 +19,6 @@ mod run;
 mod tick_ends;
 mod units;
 
+pub use fact_texts::FactTexts;
 pub use kernel::Kernel;
 pub use run::RunEnd;

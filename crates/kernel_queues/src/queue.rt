@@ -106,6 +106,13 @@ impl MessageQueue {
         let _ = self.arrivals.len();
     }
 
+    /// Costs nothing when it runs: it holds at most as many messages as it is deep.
+    pub fn know_few(&self)
+        ensures { length self.now.messages ≤ self.now.depth }
+    {
+        let _ = self.arrivals.len();
+    }
+
     pub(crate) fn register(&mut self, registration: Option<Registration>)
         ensures { self.new ≡ registered registration self.old }
     {

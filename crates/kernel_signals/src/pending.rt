@@ -90,6 +90,13 @@ impl Pending {
         self.arrivals.is_empty()
     }
 
+    /// Costs nothing when it runs: at most 112 records are pending.
+    pub fn know_few(&self)
+        ensures { length self.now ≤ room }
+    {
+        let _ = self.arrivals.len();
+    }
+
     /// The record, of a signal from 0 to 31, becomes pending with this serial, which is above those of all that are.
     pub fn add(&mut self, generated: SignalRecord, serial: u64)
         requires signal { generated.signal < 32 }

@@ -1,5 +1,6 @@
 //! What of a thread can be told.
-ghost use Rattle.std.specs.Prelude.{◌≡◌};
+ghost use Rattle.std.specs.Prelude.{◌≡◌, ◌≤◌, IfSome, length};
+ghost use Rattle.rules_server.specs.Server.{ServerState};
 ghost use Rattle.kernel_threads.specs.Plain.{status_of};
 
 use crate::frame::Frame;
@@ -55,6 +56,19 @@ impl Thread {
         ensures { result.now ≡ self.now.cleanups }
     {
         self.cleanups.as_slice()
+    }
+
+    /// Costs nothing when it runs: it has at most 3 frames, 8 cleanup handlers and 16 pending replenishments.
+    pub fn know_few(&self)
+        ensures frames { length self.now.frames ≤ 3 }
+        ensures cleanups { length self.now.cleanups ≤ 8 }
+        ensures pending { IfSome self.now.server (λ (s : ServerState). length s.pending ≤ 16) }
+    {
+        let _frames = self.frames.len();
+        let _cleanups = self.cleanups.len();
+        if let Some(server) = &self.server {
+            server.know_few();
+        }
     }
 
     /// Whether it was asked to end.

@@ -32,7 +32,7 @@ module _ {P : Type 0} (bodies : Bodies P) where
   before_told s e = ap (λ (direct : List ℕ). record s { direct = direct }) e ∙ ap (λ (es : List Entry). record s { direct = []; events = es }) (sym (nothing_more s.events))
 
   -- the events of a tick are both
-  tick_events : (m : Machine P) → (instant bodies (turn_of m)).direct ≡ [] → (instant bodies (turn_of m)).machine.killed ≡ None → (tick_of bodies m).events ≡ (begun_turn bodies m).events ++ ended_events m
+  pub tick_events : (m : Machine P) → (instant bodies (turn_of m)).direct ≡ [] → (instant bodies (turn_of m)).machine.killed ≡ None → (tick_of bodies m).events ≡ (begun_turn bodies m).events ++ ended_events m
   tick_events m none alive =
       let ready = instant bodies (turn_of m) in
       let to = head ready.machine in
@@ -54,18 +54,18 @@ module _ {P : Type 0} (bodies : Bodies P) where
       abbrev x : Machine P
       x = charges bodies (suc j) ready
 
-      ticks_are : ticks bodies (suc j) m ≡ record { machine = x; events = (begun_turn bodies m).events }
+      pub ticks_are : ticks bodies (suc j) m ≡ record { machine = x; events = (begun_turn bodies m).events }
       ticks_are =
           calm_ticks bodies j m none h (fewer bodies m none h j k (omega arith) c) (c.quiet j (omega arith))
           ∙ ap (λ (o : Option ℕ). record { machine = x; events = told_with_dispatch o (instant bodies (turn_of m)) }) alive
 
-      items : instant bodies (turn_of x) ≡ turn_of x
+      pub items : instant bodies (turn_of x) ≡ turn_of x
       items = idle_items bodies (item_bound x) (turn_of x) (c.idle j (omega arith))
 
       alive_x : x.killed ≡ None
       alive_x = ap (λ (n : Machine P). n.killed) (bridge bodies to ready alive refl j) ∙ (going_at bodies to ready alive refl j).alive
 
-      nothing_begins : begun_turn bodies x ≡ turn_of x
+      pub nothing_begins : begun_turn bodies x ≡ turn_of x
       nothing_begins =
           let g = going_at bodies to ready alive refl j in
           let same = bridge bodies to ready alive refl j in

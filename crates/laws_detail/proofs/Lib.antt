@@ -8,3 +8,4 @@ pub mod Events
 pub mod LeapsTold
 pub mod Subjects
 pub mod Flat
+pub mod Depths

@@ -86,7 +86,7 @@ module _ (decls : List Decl) where
       let here : (b == b) ≡ true = grind arith in
       ap (λ (x : Bool). x && bytes_eq bytes bytes) here ∙ same_bytes bytes
 
-  none_changed : (fs : List Fact) → changed decls fs fs ≡ []
+  pub none_changed : (fs : List Fact) → changed decls fs fs ≡ []
   none_changed [] = refl
   none_changed (f ∷ fs) =
       ap (λ (b : Bool). if not b then f ∷ changed decls fs fs else changed decls fs fs) (same_bytes (join_with_byte 32 (told decls f))) ∙ none_changed fs

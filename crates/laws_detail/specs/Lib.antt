@@ -3,3 +3,4 @@ pub mod Looks
 pub mod Leaps
 pub mod Subjects
 pub mod Flat
+pub mod Depths

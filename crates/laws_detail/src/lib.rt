@@ -5,7 +5,7 @@
 //! that are passed. `ticks_happen_in_time`: what begins a tick happens at its instant, and what ends it one tick later.
 //! `leaps_are_told`: what is told of a leap is what begins it, two looks, and what ends it. `facts_keep_their_subjects`: facts of
 //! machines with as many threads and objects have the same subjects. `flat_code_tells_the_same`: the facts of each instant over flat
-//! code are the script's.
+//! code are the script's. `queues_stay_as_deep`: each message queue of a run is as deep as it is declared.
 //!
 //! Each function stands for a law, which its clause states. None of them does anything when it is called.
 #![tactic(auto)]
@@ -13,11 +13,16 @@
 ghost use Rattle.std.specs.Prelude.{ℕ, ◌≤◌};
 ghost use Rattle.words_script.specs.declared.decl.Script.{Script};
 ghost use Rattle.rules_bodies.specs.Next.{Place};
+ghost use Rattle.rules_bodies.specs.declared.cursor.Cursor.{Cursor};
 ghost use Rattle.rules_machine.specs.Bodies.{Bodies};
 ghost use Rattle.rules_machine.specs.Machine.{bodies_of, machine};
+ghost use Rattle.rules_machine.specs.Runs.{opening};
 ghost use Rattle.rules_machine.specs.State.{Machine};
+ghost use Rattle.rules_machine.specs.Throughout.{HoldsThroughout};
 ghost use Rattle.rules_machine.specs.WellFormed.{IsWellFormed};
+ghost use Rattle.rules_moves.specs.UnitRanges.{BodiesFit};
 ghost use Rattle.rules_leaps.specs.Quiet.{IsHandled, IsQuiet};
+ghost use Rattle.laws_detail.specs.Depths.{HasDepthsOf};
 ghost use Rattle.laws_detail.specs.Flat.{FlatTellsTheSame};
 ghost use Rattle.laws_detail.specs.Leaps.{LeapsAreTold};
 ghost use Rattle.laws_detail.specs.Looks.{IsTold, TickInTime};
@@ -63,4 +68,9 @@ pub fn facts_keep_their_subjects()
 /// The facts of each instant of the machine over the flat code of a script, and the events up to it, are the script's.
 pub fn flat_code_tells_the_same()
     ensures { (script : Script) → (n : ℕ) → FlatTellsTheSame script n }
+{}
+
+/// Each message queue of a run is as deep as its script declares it: at each instant, and between the items of one.
+pub fn queues_stay_as_deep()
+    ensures { (bodies : Bodies Cursor) → BodiesFit bodies → (script : Script) → IsWellFormed script → HoldsThroughout bodies (opening script) (HasDepthsOf script) }
 {}

@@ -134,6 +134,13 @@ impl Server {
         self.pending.as_slice()
     }
 
+    /// Costs nothing when it runs: at most 16 replenishments are pending, SS_REPL_MAX.
+    pub fn know_few(&self)
+        ensures { length self.now.pending ≤ 16 }
+    {
+        let _few = self.pending.len();
+    }
+
     /// The totals since the server was new.
     pub fn totals(&self) -> BudgetLine
         ensures value { result ≡ totals self.now }

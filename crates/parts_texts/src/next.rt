@@ -1,4 +1,4 @@
-// One text that is written piece by piece.
+//! One text that is written piece by piece.
 ghost use Rattle.std.specs.Prelude.{◌≡◌, ◌≤◌, ◌<◌, ◌^◌, ◌+◌, ◌++◌, ◌∷◌, [], IfOk, IsOk, Some, length};
 
 use parts_io::{Failed, Sink};

@@ -1,4 +1,4 @@
-// A list of texts.
+//! A list of texts.
 ghost use Rattle.std.specs.Prelude.{◌≡◌, ◌≤◌, ◌<◌, ◌^◌, ◌++◌, ◌∷◌, [], IfOk, false, length, slice_index_or, true};
 ghost use Rattle.parts_texts.specs.Texts.{HasRoom};
 

@@ -1,7 +1,7 @@
 //! A printer writes words, each by a write of its own.
-ghost use Rattle.std.specs.Prelude.{◌≡◌, ◌∷◌, ◌++◌, [], false, length, map};
+ghost use Rattle.std.specs.Prelude.{◌≡◌, ◌<◌, ◌≤◌, ◌+◌, ◌∷◌, ◌++◌, [], false, length, map};
 ghost use Rattle.script_lex.specs.Joined.{after_blanks, joined_words};
-ghost use Rattle.script_writer.specs.Line.{AreShort, IsShort, line_text, spelled};
+ghost use Rattle.script_writer.specs.Line.{AreShort, IsShort, line_text, spelled, total_width, width};
 ghost use Rattle.script_printer.specs.Puts.{Puts};
 
 use parts_io::Sink;
@@ -57,7 +57,8 @@ impl<'a, K: Sink> Printer<'a, K> {
     // Prints a word without a blank.
     fn put_word(&mut self, word: &Word<'_>)
         requires { IsShort word.now }
-        ensures { Puts K.text K.faults self.old self.new (spelled word.now) }
+        ensures text { Puts K.text K.faults self.old self.new (spelled word.now) }
+        ensures short { length (spelled word.now) < width word.now }
     {
         let text = word_text(word);
         self.put(text.as_slice());
@@ -66,7 +67,8 @@ impl<'a, K: Sink> Printer<'a, K> {
     /// Prints more words of a line, with a blank before each.
     pub fn words(&mut self, words: &[Word<'_>])
         requires { AreShort words.now }
-        ensures { Puts K.text K.faults self.old self.new (after_blanks (map spelled words.now)) }
+        ensures text { Puts K.text K.faults self.old self.new (after_blanks (map spelled words.now)) }
+        ensures short { length (after_blanks (map spelled words.now)) ≤ total_width words.now }
     {
         for word in words {
             self.put(b" ");
@@ -77,7 +79,8 @@ impl<'a, K: Sink> Printer<'a, K> {
     /// Prints the first words of a line, with one blank between them.
     pub fn begin(&mut self, words: &[Word<'_>])
         requires { AreShort words.now }
-        ensures { Puts K.text K.faults self.old self.new (joined_words (map spelled words.now)) }
+        ensures text { Puts K.text K.faults self.old self.new (joined_words (map spelled words.now)) }
+        ensures short { length (joined_words (map spelled words.now)) ≤ total_width words.now }
     {
         if let [first, rest @ ..] = words {
             self.put_word(first);
@@ -95,7 +98,8 @@ impl<'a, K: Sink> Printer<'a, K> {
     /// Prints a line of these words, with one blank between them.
     pub fn line(&mut self, words: &[Word<'_>])
         requires { AreShort words.now }
-        ensures { Puts K.text K.faults self.old self.new (line_text (map spelled words.now)) }
+        ensures text { Puts K.text K.faults self.old self.new (line_text (map spelled words.now)) }
+        ensures short { length (line_text (map spelled words.now)) ≤ total_width words.now + 1 }
     {
         self.begin(words);
         self.end();

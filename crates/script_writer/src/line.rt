@@ -1,5 +1,5 @@
 //! The text of a line, made of words.
-ghost use Rattle.std.specs.Prelude.{◌≡◌, ◌≤◌, ◌+◌, ◌++◌, ◌∷◌, [], length, decimal, map};
+ghost use Rattle.std.specs.Prelude.{◌≡◌, ◌<◌, ◌≤◌, ◌+◌, ◌++◌, ◌∷◌, [], length, decimal, map};
 ghost use Rattle.script_lex.specs.Joined.{joined_words, after_blanks};
 ghost use Rattle.script_writer.specs.Words.{operand_word, signal_word, set_word, signals_of, joined_by_commas, listed};
 ghost use Rattle.script_writer.specs.Line.{spelled, width, total_width, line_text, IsShort, AreShort};
@@ -107,7 +107,8 @@ fn add_word(line: &mut LineText, word: &Word<'_>)
 /// The text of a word.
 pub fn word_text(word: &Word<'_>) -> LineText
     requires { IsShort word.now }
-    ensures { result.items ≡ spelled word.now }
+    ensures text { result.items ≡ spelled word.now }
+    ensures short { length (spelled word.now) < width word.now }
 {
     let mut text = ArrayVec::new();
     add_word(&mut text, word);

@@ -1,4 +1,4 @@
-// Texts in rooms that are just large enough, and then too small.
+//! Texts in rooms that are just large enough, and then too small.
 use parts_io::Sink;
 use parts_texts::{NextText, Texts};
 use std::test::Fail;

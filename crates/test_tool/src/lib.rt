@@ -11,6 +11,8 @@ mod commands;
 #[cfg(test)]
 mod conditions;
 #[cfg(test)]
+mod details;
+#[cfg(test)]
 mod failures;
 #[cfg(test)]
 mod generated;

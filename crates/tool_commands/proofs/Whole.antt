@@ -4,7 +4,7 @@ use Rattle.std.specs.Prelude.{◌&&◌, if◌then◌else◌, nat_lt}
 use Rattle.std.specs.Io.KnownBytes.{Consumes, IsAtEnd}
 use Rattle.tool_commands.specs.declared.status.Status.{Status}
 use Rattle.tool_commands.specs.declared.command.Command.{Command}
-use Rattle.tool_commands.specs.declared.command.Command.TheVariants.{Run, Show, Check, Audit, Upgrade, ResponseTimes, Gen, Soak}
+use Rattle.tool_commands.specs.declared.command.Command.TheVariants.{Run, Show, Detail, Check, Audit, Upgrade, ResponseTimes, Gen, Soak}
 use Rattle.tool_commands.specs.Command.{command, limit_of, reads}
 use Rattle.tool_commands.specs.Answer.{Answer, Told, answer, command_answer, text_answer}
 
@@ -33,12 +33,21 @@ told_whole words c (Some b) (Some rest) bytes s old new is small moved end told 
     let a : answer words b ≡ text_answer c bytes = ap (answer words) same ∙ answer_to words c bytes is small in
     subst (λ (x : Answer). Told s x old new) (sym a) told
 
+-- and no other text is
+pub read_whole : (before now : Option (List ℕ)) (taken bytes : List ℕ) → Consumes before now taken → IsAtEnd now → before ≡ Some bytes → taken ≡ bytes
+read_whole None now taken bytes moved end is = absurd (cc)
+read_whole (Some b) None taken bytes moved end is = absurd moved
+read_whole (Some b) (Some rest) taken bytes moved end is =
+    let same : b ≡ bytes = cc in
+    sym (moved ∙ (ap (λ (r : List ℕ). taken ++ r) end ∙ append-nil taken)) ∙ same
+
 -- the words are a command that reads nothing: whatever the bytes are
 pub answer_unread : (words : List (List ℕ)) (c : Command) (bytes : List ℕ) → command words ≡ Some c → reads c ≡ false → answer words bytes ≡ text_answer c []
 answer_unread words c bytes is none = ap (λ o. command_answer o bytes) is ∙ (rw none (same_text c bytes none)) where
   same_text : (c : Command) (bytes : List ℕ) → reads c ≡ false → text_answer c bytes ≡ text_answer c []
   same_text (Run n) bytes e = absurd (let f : true ≡ false = e in cc)
   same_text (Show n) bytes e = absurd (let f : true ≡ false = e in cc)
+  same_text (Detail n) bytes e = absurd (let f : true ≡ false = e in cc)
   same_text (Check n) bytes e = absurd (let f : true ≡ false = e in cc)
   same_text Audit bytes e = absurd (let f : true ≡ false = e in cc)
   same_text Upgrade bytes e = absurd (let f : true ≡ false = e in cc)

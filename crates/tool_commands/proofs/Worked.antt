@@ -35,6 +35,12 @@ one_thread_is_shown : answer (codes "show" ∷ codes "2" ∷ []) (text (codes "t
 unfolding read heading read_in patterns declaration_patterns step_patterns call_patterns said_from phase_one lines_of words_of digits exec_in
 one_thread_is_shown = refl
 
+one_thread_is_told_in_detail : answer (codes "detail" ∷ codes "5" ∷ []) (text (codes "thread a fifo 5 at 0" ∷ codes "run 3" ∷ codes "end" ∷ [])) ≡
+    done (codes "0 start a" ∷ codes "0 dispatch a 5" ∷ codes "0 list 5 a" ∷ codes "0 thread a ready 5 5" ∷
+    codes "4 exit a" ∷ codes "4 idle" ∷ codes "4 list 5" ∷ codes "4 thread a ended" ∷ codes "5 end" ∷ codes "thread a ticks 4" ∷ [])
+unfolding read heading read_in patterns declaration_patterns step_patterns call_patterns said_from phase_one lines_of words_of digits exec_in
+one_thread_is_told_in_detail = refl
+
 preempted_thread_resumes_at_the_head : answer (codes "run" ∷ codes "12" ∷ [])
     (text (codes "thread a fifo 5 at 0" ∷ codes "run 4" ∷ codes "end" ∷ codes "thread b fifo 5 at 0" ∷ codes "run 1" ∷ codes "end" ∷
     codes "thread c fifo 9 at 2" ∷ codes "run 1" ∷ codes "end" ∷ [])) ≡
@@ -51,6 +57,10 @@ no_thread_is_refused = refl
 no_thread_is_not_shown : answer (codes "show" ∷ codes "10" ∷ []) [] ≡ record { status = Refused; text = codes "refused 1 14 NoThread\n" }
 unfolding read heading read_in patterns declaration_patterns step_patterns call_patterns said_from phase_one lines_of words_of digits
 no_thread_is_not_shown = refl
+
+no_thread_has_no_detail : answer (codes "detail" ∷ codes "10" ∷ []) [] ≡ record { status = Refused; text = codes "refused 1 14 NoThread\n" }
+unfolding read heading read_in patterns declaration_patterns step_patterns call_patterns said_from phase_one lines_of words_of digits
+no_thread_has_no_detail = refl
 
 one_word_is_no_command : answer (codes "run" ∷ []) [] ≡ record { status = Usage; text = usage_line }
 one_word_is_no_command = refl

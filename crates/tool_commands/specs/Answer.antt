@@ -11,11 +11,12 @@ use Rattle.script_table.specs.Faults.{Fault, number_of, name_of}
 use Rattle.script_table.specs.Table.{patterns}
 use Rattle.script_table.specs.Read.{read}
 use Rattle.rules_machine.specs.Machine.{closing, machine, names_of, trace}
+use Rattle.rules_facts.specs.Detail.{detail}
 use Rattle.rules_facts.specs.Shown.{shown}
 use Rattle.tool_commands.specs.declared.status.Status.{Status}
 use Rattle.tool_commands.specs.declared.status.Status.TheVariants.{Done, Usage, Refused, TooLong, ReadFault, WriteFault, OutOfMemory, Differs, NoTrace, Breach}
 use Rattle.tool_commands.specs.declared.command.Command.{Command}
-use Rattle.tool_commands.specs.declared.command.Command.TheVariants.{Run, Show, Check, Audit, Upgrade, ResponseTimes, Gen, Soak}
+use Rattle.tool_commands.specs.declared.command.Command.TheVariants.{Run, Show, Detail, Check, Audit, Upgrade, ResponseTimes, Gen, Soak}
 use Rattle.tool_commands.specs.Command.{command, limit_of, reads}
 use Rattle.tool_commands.specs.Message.{refused_line}
 use Rattle.tool_check.specs.Divided.{Divided, divided}
@@ -57,6 +58,11 @@ run_answer n (Ok script) = record { status = Done; text = trace script n }
 abbrev pub show_answer : ℕ → Result Script Fault → Answer
 show_answer n (Err fault) = record { status = Refused; text = fault_line fault }
 show_answer n (Ok script) = record { status = Done; text = shown script n }
+
+-- the trace of a script's run, with the facts that change at each instant
+abbrev pub detail_answer : ℕ → Result Script Fault → Answer
+detail_answer n (Err fault) = record { status = Refused; text = fault_line fault }
+detail_answer n (Ok script) = record { status = Done; text = detail script n }
 
 -- the trace is the one that is due, or lines tell what differs
 abbrev pub trace_answer : Option (List ℕ) → Answer
@@ -124,6 +130,7 @@ soak_answer seed n = record { status = Done; text = closing_lines (script_of see
 abbrev pub text_answer : Command → List ℕ → Answer
 text_answer (Run n) bytes = run_answer n (read patterns bytes)
 text_answer (Show n) bytes = show_answer n (read patterns bytes)
+text_answer (Detail n) bytes = detail_answer n (read patterns bytes)
 text_answer (Check n) bytes = divided_answer n (divided bytes)
 text_answer Audit bytes = audit_answer (divided bytes)
 text_answer Upgrade bytes = upgrade_answer (read patterns bytes)

@@ -1,12 +1,12 @@
--- The commands of the tool: `run N`, `show N`, `check N`, `audit`, `upgrade`, `rta N`, `gen S` and `soak S N`, where N and S are one or more
--- decimal digits with a value up to a limit of the command's own.
+-- The commands of the tool: `run N`, `show N`, `detail N`, `check N`, `audit`, `upgrade`, `rta N`, `gen S` and `soak S N`, where N and S are one
+-- or more decimal digits with a value up to a limit of the command's own.
 use Rattle.std.specs.Prelude.{Bool, IsTrue, true, false, not, ℕ, ◌^◌, ◌≤◌, ◌&&◌, nat_le, if◌then◌else◌, List, [], ◌∷◌, codes, Option, None, Some}
 use Rattle.std.specs.Option.{option_map}
 use Rattle.std.specs.Str.{bytes_eq}
 use Rattle.script_table.specs.Words.{is_number, value_of}
 use Rattle.script_table.specs.Operands.{map_two}
 use Rattle.tool_commands.specs.declared.command.Command.{Command}
-use Rattle.tool_commands.specs.declared.command.Command.TheVariants.{Run, Show, Check, Audit, Upgrade, ResponseTimes, Gen, Soak}
+use Rattle.tool_commands.specs.declared.command.Command.TheVariants.{Run, Show, Detail, Check, Audit, Upgrade, ResponseTimes, Gen, Soak}
 
 -- the number that a word names, where it is at most so great
 abbrev pub number_up_to : ℕ → List ℕ → Option ℕ
@@ -16,6 +16,7 @@ abbrev pub command_of : List ℕ → List ℕ → Option Command
 command_of word number =
     if bytes_eq word (codes "run") then option_map Run (number_up_to (10 ^ 18) number)
     else if bytes_eq word (codes "show") then option_map Show (number_up_to (10 ^ 18) number)
+    else if bytes_eq word (codes "detail") then option_map Detail (number_up_to (10 ^ 18) number)
     else if bytes_eq word (codes "check") then option_map Check (number_up_to (10 ^ 18) number)
     else if bytes_eq word (codes "rta") then option_map ResponseTimes (number_up_to (10 ^ 8) number)
     else if bytes_eq word (codes "gen") then option_map Gen (number_up_to (10 ^ 18) number)
@@ -45,6 +46,7 @@ command words = None
 abbrev pub IsWithinLimit : Command → Type 0
 IsWithinLimit (Run n) = n ≤ 10 ^ 18
 IsWithinLimit (Show n) = n ≤ 10 ^ 18
+IsWithinLimit (Detail n) = n ≤ 10 ^ 18
 IsWithinLimit (Check n) = n ≤ 10 ^ 18
 IsWithinLimit Audit = Unit {0}
 IsWithinLimit Upgrade = Unit {0}
@@ -56,6 +58,7 @@ IsWithinLimit (Soak seed n) = (seed ≤ 10 ^ 18) × (n ≤ 10 ^ 18)
 abbrev pub reads : Command → Bool
 reads (Run n) = true
 reads (Show n) = true
+reads (Detail n) = true
 reads (Check n) = true
 reads Audit = true
 reads Upgrade = true
@@ -67,6 +70,7 @@ reads (Soak seed n) = false
 abbrev pub limit_of : Command → ℕ
 limit_of (Run n) = 1_048_576
 limit_of (Show n) = 1_048_576
+limit_of (Detail n) = 1_048_576
 limit_of (Check n) = 67_108_864
 limit_of Audit = 67_108_864
 limit_of Upgrade = 1_048_576
@@ -87,6 +91,7 @@ abbrev pub Compares : Option Command → Type 0
 Compares None = ⊥
 Compares (Some (Run n)) = ⊥
 Compares (Some (Show n)) = ⊥
+Compares (Some (Detail n)) = ⊥
 Compares (Some (Check n)) = Unit {0}
 Compares (Some Audit) = ⊥
 Compares (Some Upgrade) = ⊥
@@ -99,6 +104,7 @@ abbrev pub Audits : Option Command → Type 0
 Audits None = ⊥
 Audits (Some (Run n)) = ⊥
 Audits (Some (Show n)) = ⊥
+Audits (Some (Detail n)) = ⊥
 Audits (Some (Check n)) = ⊥
 Audits (Some Audit) = Unit {0}
 Audits (Some Upgrade) = ⊥
@@ -111,6 +117,7 @@ abbrev pub Divides : Option Command → Type 0
 Divides None = ⊥
 Divides (Some (Run n)) = ⊥
 Divides (Some (Show n)) = ⊥
+Divides (Some (Detail n)) = ⊥
 Divides (Some (Check n)) = Unit {0}
 Divides (Some Audit) = Unit {0}
 Divides (Some Upgrade) = ⊥
@@ -123,6 +130,7 @@ abbrev pub HasSecondLimit : Option Command → Type 0
 HasSecondLimit None = ⊥
 HasSecondLimit (Some (Run n)) = ⊥
 HasSecondLimit (Some (Show n)) = ⊥
+HasSecondLimit (Some (Detail n)) = ⊥
 HasSecondLimit (Some (Check n)) = Unit {0}
 HasSecondLimit (Some Audit) = ⊥
 HasSecondLimit (Some Upgrade) = Unit {0}

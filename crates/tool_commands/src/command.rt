@@ -15,6 +15,8 @@ pub enum Command {
     Run(Tick),
     /// `show N`: what the lists and objects of a script are at tick N of its run, at most 10^18.
     Show(Tick),
+    /// `detail N`: the trace of a script's run to tick N, with the facts that change at each instant; N is at most 10^18.
+    Detail(Tick),
     /// `check N`: whether a trace is that of a script's run to tick N, at most 10^18.
     Check(Tick),
     /// `audit`: whether a trace keeps the budgets of its sporadic servers.
@@ -38,6 +40,7 @@ impl Command {
         match *self {
             Command::Run(_) => 1_048_576,
             Command::Show(_) => 1_048_576,
+            Command::Detail(_) => 1_048_576,
             Command::Check(_) => 67_108_864,
             Command::Audit => 67_108_864,
             Command::Upgrade => 1_048_576,
@@ -54,6 +57,7 @@ impl Command {
         match *self {
             Command::Run(_) => true,
             Command::Show(_) => true,
+            Command::Detail(_) => true,
             Command::Check(_) => true,
             Command::Audit => true,
             Command::Upgrade => true,
@@ -103,6 +107,11 @@ fn command_of(word: &[u8], number: &[u8]) -> Option<Command>
         match tick_of(number) {
             None => None,
             Some(horizon) => Some(Command::Show(horizon)),
+        }
+    } else if word == b"detail".as_slice() {
+        match tick_of(number) {
+            None => None,
+            Some(horizon) => Some(Command::Detail(horizon)),
         }
     } else if word == b"check".as_slice() {
         match tick_of(number) {

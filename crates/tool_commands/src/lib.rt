@@ -6,6 +6,7 @@
 mod audit;
 mod check;
 mod command;
+mod detail;
 mod generated;
 mod message;
 mod responses;

@@ -21,7 +21,7 @@ ghost use Rattle.words_script.specs.declared.decl.Script.{Script};
 ghost use Rattle.tool_commands.specs.Command.{command, limit_of, reads, words_limit, Audits, Compares, HasSecondLimit, Divides, Generates, IsWithinLimit, Reads};
 ghost use Rattle.rules_machine.specs.Promises.{RunKeepsBudgets, RunStaysGood, busy_between};
 ghost use Rattle.tool_commands.specs.Audited.{BreaksNoRule, BudgetsHold};
-ghost use Rattle.tool_commands.specs.Few.{RoundsAreFew, StepsAreFew};
+ghost use Rattle.tool_commands.specs.Few.{DoubleStepsAreFew, RoundsAreFew, StepsAreFew};
 ghost use Rattle.tool_commands.specs.Spelled.{LinesHaveOneReading, RunHasSmallNumbers};
 ghost use Rattle.laws_threads.specs.HeadRuns.{HeadRuns};
 ghost use Rattle.tool_commands.specs.Answer.{answer, run_answer, text_answer, usage_line, too_long_line, no_trace_line, Told, SinkFaults, HasText};
@@ -31,6 +31,7 @@ use crate::Status;
 use crate::audit::audit_text;
 use crate::check::check_text;
 use crate::command::{Command, command_of_words};
+use crate::detail::detail_text;
 use crate::generated::{soak, tell_generated};
 use crate::message::refused_line;
 use crate::responses::tell_responses;
@@ -127,12 +128,14 @@ fn answer_text<K: Sink, L: Ledger>(
     ensures kind { reads command.now ≡ false → IsWithoutSource result }
     ensures busy { (n : ℕ) → command.now ≡ Command.Run n → StepsAreFew n text.now steps.old steps.new }
     ensures shows { (n : ℕ) → command.now ≡ Command.Show n → StepsAreFew n text.now steps.old steps.new }
+    ensures details { (n : ℕ) → command.now ≡ Command.Detail n → DoubleStepsAreFew n text.now steps.old steps.new }
     ensures rounds { (n : ℕ) → command.now ≡ Command.ResponseTimes n → RoundsAreFew n text.now steps.old steps.new }
     ensures soaks { (seed n : ℕ) → command.now ≡ Command.Soak seed n → steps.new ≤ steps.old + busy_between (script_of seed) 0 n + 1 }
 {
     match *command {
         Command::Run(horizon) => answer_run(alloc, text, horizon, sink, steps),
         Command::Show(horizon) => show_text(alloc, text, horizon, sink, steps),
+        Command::Detail(horizon) => detail_text(alloc, text, horizon, sink, steps),
         Command::Check(horizon) => check_text(alloc, text, horizon, sink, steps),
         Command::Audit => audit_text(alloc, text, sink),
         Command::Upgrade => upgrade_text(alloc, text, sink),
@@ -144,22 +147,22 @@ fn answer_text<K: Sink, L: Ledger>(
 
 /// Carries out the command of the words: reads the source, and writes to the sink.
 ///
-/// `run N` reads the source whole, at most 1,048,576 bytes, and runs its script to tick N; the text is the trace of the
-/// list machine. `show N` reads it so, and the text is what the lists and objects of that run are at tick N, with what is due then
-/// handled. `check N` reads it whole, at most 67,108,864 bytes, splits it at its first line `%%` into a script and a
-/// trace, and tells whether the trace is the script's; `Differs` comes with the first line that differs. `audit` reads it whole, at
-/// most 67,108,864 bytes, splits it so into a head of servers and a trace, and tells whether the trace keeps their budgets;
-/// `Breach` comes with the first line that breaks a rule, and the least rule that it breaks. `upgrade` reads it whole, at most
-/// 1,048,576 bytes, and writes the canonical text of its script as one of version 2. `rta N` reads it whole,
-/// at most 67,108,864 bytes, and tells the least response times of its tasks, up to N ticks. `gen S` writes the
-/// canonical text of the generated script of number S, and `soak S N` runs that script to tick N and writes the closing
-/// lines of its trace; these two leave the source as it is, and answer `Done`, `WriteFault` or `OutOfMemory`. Where the words are no
-/// command the answer is `Usage`, or `WriteFault` where its line could not be written; that takes no memory and no byte.
-/// Then come `ReadFault` or `TooLong`, by the bytes read; then `NoTrace`, where `check` or `audit` finds no line `%%`, or `TooLong`,
-/// where the script in front of it has more than 1,048,576 bytes; then `Refused`, where the script, the text of tasks or the head of
-/// servers has a fault; then `TooLong`, where `upgrade` would write more than 1,048,576 bytes; then the answer. `OutOfMemory` may come in place of any of these but `Usage`, before
-/// anything is written. A fault of the source or the sink is answered only where its count of faults rose in this call.
-/// Nothing is written before the source was read to its end, or to one byte more than the limit.
+/// `run N` reads the source whole, at most 1,048,576 bytes, and runs its script to tick N; the text is the trace of the list machine.
+/// `show N` reads it so, and the text is what the lists and objects of that run are at tick N, with what is due then handled. `detail N`
+/// reads it so, and the text is that trace with the facts that change behind the lines of each instant. `check N` reads it whole, at most
+/// 67,108,864 bytes, splits it at its first line `%%` into a script and a trace, and tells whether the trace is the script's; `Differs`
+/// comes with the first line that differs. `audit` reads it whole, at most 67,108,864 bytes, splits it so into a head of servers and a
+/// trace, and tells whether the trace keeps their budgets; `Breach` comes with the first line that breaks a rule, and the least rule that
+/// it breaks. `upgrade` reads it whole, at most 1,048,576 bytes, and writes the canonical text of its script as one of version 2. `rta N`
+/// reads it whole, at most 67,108,864 bytes, and tells the least response times of its tasks, up to N ticks. `gen S` writes the canonical
+/// text of the generated script of number S, and `soak S N` runs that script to tick N and writes the closing lines of its trace; these two
+/// leave the source as it is, and answer `Done`, `WriteFault` or `OutOfMemory`. Where the words are no command the answer is `Usage`, or
+/// `WriteFault` where its line could not be written; that takes no memory and no byte. Then come `ReadFault` or `TooLong`, by the bytes
+/// read; then `NoTrace`, where `check` or `audit` finds no line `%%`, or `TooLong`, where the script in front of it has more than 1,048,576
+/// bytes; then `Refused`, where the script, the text of tasks or the head of servers has a fault; then `TooLong`, where `upgrade` would
+/// write more than 1,048,576 bytes; then the answer. `OutOfMemory` may come in place of any of these but `Usage`, before anything is
+/// written. A fault of the source or the sink is answered only where its count of faults rose in this call. Nothing is written before the
+/// source was read to its end, or to one byte more than the limit.
 #[tactic(auto, using(crate::proofs::Promises::head_runs, crate::proofs::Promises::stays_good, crate::proofs::Promises::keeps_budgets, crate::proofs::Promises::generated_stays_good, crate::proofs::Promises::generated_keeps_budgets, crate::proofs::Promises::numbers_small, crate::proofs::Promises::one_reading, crate::proofs::Promises::breaks_none, crate::proofs::Promises::keeps_windows, crate::proofs::Promises::reads_upgraded, crate::proofs::Promises::runs_alike, crate::proofs::Promises::runs_as_before))]
 pub fn run_tool<S: Source, K: Sink, L: Ledger>(
     alloc: Global,
@@ -209,12 +212,14 @@ pub fn run_tool<S: Source, K: Sink, L: Ledger>(
     ensures first_versions { (bytes : List ℕ) (script : Script) → read patterns bytes ≡ Ok script → script.version ≡ 1
         → RunsAsBefore (bodies_of script) (opening {P = Place} script) }
 
-    // A run has at most one step more than there are eventful instants before its horizon, and the response times of tasks at most one more
-    // than the bound for each task.
+    // A run has at most one step more than there are eventful instants before its horizon, that of a detail at most twice as many, and the
+    // response times of tasks at most one more than the bound for each task.
     ensures busy { (n : ℕ) (bytes : List ℕ) → command (map string_bytes words.now) ≡ Some (Command.Run n) → S.rest source.old ≡ Some bytes
         → StepsAreFew n bytes steps.old steps.new }
     ensures shows { (n : ℕ) (bytes : List ℕ) → command (map string_bytes words.now) ≡ Some (Command.Show n) → S.rest source.old ≡ Some bytes
         → StepsAreFew n bytes steps.old steps.new }
+    ensures details { (n : ℕ) (bytes : List ℕ) → command (map string_bytes words.now) ≡ Some (Command.Detail n) → S.rest source.old ≡ Some bytes
+        → DoubleStepsAreFew n bytes steps.old steps.new }
     ensures rounds { (n : ℕ) (bytes : List ℕ) → command (map string_bytes words.now) ≡ Some (Command.ResponseTimes n) → S.rest source.old ≡ Some bytes
         → RoundsAreFew n bytes steps.old steps.new }
     ensures soaks { (seed n : ℕ) → command (map string_bytes words.now) ≡ Some (Command.Soak seed n)

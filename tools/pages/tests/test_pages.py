@@ -56,9 +56,7 @@ class Pages(unittest.TestCase):
                     stand_in = f"{sys.executable} {TOP}/tools/pages/stand_in.py"
                     ended = subprocess.run(["bash", "-o", "pipefail", "-c", command], cwd=folder, capture_output=True, check=False,
                                            env=dict(os.environ, PSE52=os.environ.get("PSE52_PROGRAM", stand_in)))
-                    # A program that does not print facts has the reference beside it, and a line tells so.
-                    said = [line for line in ended.stderr.splitlines() if not line.endswith(b"the reference answers")]
-                    self.assertEqual((ended.returncode, said), (0, []), command)
+                    self.assertEqual((ended.returncode, ended.stderr), (0, b""), command)
 
 
 class Editors(unittest.TestCase):

@@ -15,7 +15,8 @@ WRONG = [
     ("run", "needs a number of ticks"), ("run 1e3", "as in 1000"), ("run 1_000", "as in 1000"), ("run 10k", "as in 1000"),
     ("run -5", "no number is negative"), ("run 2.5", "ticks are whole numbers"), ("run 10ms", "without a unit"),
     ("run s.task", "pse52 run 100 s.task"), ("run s.task 20", "pse52 run 20 s.task"), ("run 1000000000000000001", "10^18"),
-    ("run 1 s.task s.task", "a word too many"), ("show", "pse52 show N SCRIPT"), ("show 1 2 3", "a word too many"), ("shov 7", "did you mean 'show'?"), ("rta 100000001", "100000000"), ("7", "a command comes before its numbers"),
+    ("run 1 s.task s.task", "a word too many"), ("show", "pse52 show N SCRIPT"), ("show 1 2 3", "a word too many"), ("shov 7", "did you mean 'show'?"),
+    ("detail", "pse52 detail N SCRIPT"), ("detail 1 2 3", "a word too many"), ("details 7", "did you mean 'detail'?"), ("rta 100000001", "100000000"), ("7", "a command comes before its numbers"),
     ("s.task", "pse52 run 100 s.task"), ("rum 7", "did you mean 'run'?"), ("frobnicate", "--help"), ("--frob", "no option"),
     ("soak 7", "needs two numbers"), ("gen", "pse52 gen S"), ("gen x", "a number from 0 to 10^18"), ("check 7 s.task", "a script and a trace"),
     ("upgrade 3", "takes no number"), ("audit 3", "takes no number"), ("explain s.task s.task", "one script")]
@@ -41,7 +42,7 @@ class Words(unittest.TestCase):
         for word in ("--help", "-h", "help"):
             ended = self.checkout.run(word)
             self.assertEqual((ended.status, ended.err), (0, ""))
-            for command in ("run N", "show N", "check N", "rta N", "gen S", "soak S N", "upgrade", "audit", "explain", "--prove", "--released"):
+            for command in ("run N", "show N", "detail N", "check N", "rta N", "gen S", "soak S N", "upgrade", "audit", "explain", "--prove", "--released"):
                 self.assertIn(f"\n  {command}", ended.out)
         self.assertEqual(self.checkout.run().err, self.checkout.run("--help").out)
         self.assertEqual(self.checkout.run().status, 1)
@@ -52,7 +53,7 @@ class Words(unittest.TestCase):
 
     def test_commands_reach_the_program_as_they_are(self) -> None:
         self.checkout.put_release()
-        for words in ("run 000", "show 0", "run 1000000000000000000", "rta 100000000", "check 7", "upgrade", "audit"):
+        for words in ("run 000", "show 0", "detail 0", "run 1000000000000000000", "rta 100000000", "check 7", "upgrade", "audit"):
             self.assertEqual(self.checkout.run(*words.split(), text="x\n").out, f"release: {words}\nx\n", words)
         self.assertEqual(self.checkout.run("gen", "7").out, "release: gen 7\n")
         self.assertEqual(self.checkout.run("soak", "7", "9").status, 5)
@@ -62,6 +63,7 @@ class Words(unittest.TestCase):
         self.checkout.write("t.trace", "trace\n")
         self.assertEqual(self.checkout.run("run", "7", "s.task").out, "release: run 7\n" + SCRIPT)
         self.assertEqual(self.checkout.run("show", "7", "s.task").out, "release: show 7\n" + SCRIPT)
+        self.assertEqual(self.checkout.run("detail", "7", "s.task").out, "release: detail 7\n" + SCRIPT)
         self.assertEqual(self.checkout.run("run", "7", "-", text="x\n").out, "release: run 7\nx\n")
         self.assertEqual(self.checkout.run("upgrade", "s.task").out, "release: upgrade\n" + SCRIPT)
         self.assertEqual(self.checkout.run("check", "7", "s.task", "t.trace").out, f"release: check 7\n{SCRIPT}%%\ntrace\n")

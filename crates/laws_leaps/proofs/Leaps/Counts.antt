@@ -32,7 +32,7 @@ count_one p a n e = rw e (omega arith)
 
 module _ {P : Type 0} (bodies : Bodies P) where
   -- the instants of a run, from a later one on
-  eventful_later : (a i : ℕ) (m : Machine P) → is_eventful bodies m (a + suc i) ≡ is_eventful bodies (ticks bodies a m).machine (suc i)
+  pub eventful_later : (a i : ℕ) (m : Machine P) → is_eventful bodies m (a + suc i) ≡ is_eventful bodies (ticks bodies a m).machine (suc i)
   eventful_later a i m =
       let one_more : a + suc i ≡ suc (a + i) = omega arith in
       let on : suc (a + i) ≡ a + suc i = omega arith in

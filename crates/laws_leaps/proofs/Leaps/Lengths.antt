@@ -146,7 +146,7 @@ least_of a b c k most lt le top = by_first (nat_le a k) refl
     by_first true e = inl (grind arith)
     by_first false e = by_second false (nat_le b c) e refl
 
-thread_ends : {P : Type 0} (most k quantum : ℕ) (th : Thread P) → th.slice < quantum → thread_lasts most quantum th < most → thread_lasts most quantum th ≤ k → k ≤ max 1 (thread_lasts most quantum th) →
+pub thread_ends : {P : Type 0} (most k quantum : ℕ) (th : Thread P) → th.slice < quantum → thread_lasts most quantum th < most → thread_lasts most quantum th ≤ k → k ≤ max 1 (thread_lasts most quantum th) →
     tick_matters (has_high th.server) quantum (after_ticks k th) ≡ true
 thread_ends most k quantum th room lt le top =
     by_least (least_of (top_left th.frames) (slice_left most quantum th.policy th.slice) (capacity_left most th.server) k most lt le top)
@@ -230,10 +230,10 @@ module _ {P : Type 0} (bodies : Bodies P) where
     can : (t : ℕ) → to ≡ Some t → can_run m t ≡ true
     can t e = head_can_run m t h.listed (first ∙ e)
 
-    r_slices : (t : ℕ) → (thread_at r t).slice < r.quantum
+    pub r_slices : (t : ℕ) → (thread_at r t).slice < r.quantum
     r_slices = (prepares_keep InSlices in_slices to (turn_of m) can slices).0
 
-    begins : (t : ℕ) → to ≡ Some t → Begins bodies t r
+    pub begins : (t : ℕ) → to ≡ Some t → Begins bodies t r
     begins t e = record { alive = r_alive; first = r_first ∙ e; here = running_within r.threads t (alike_runs m r t (steady bodies to m h first).so.alike (can t e)) }
 
     -- all ticks but the last are calm

@@ -1,15 +1,26 @@
-use Rattle.std.proofs.Common.{◌≡◌, add-one, arith}
-use Rattle.kernel_facts.specs.Rows.{object_count}
+use Rattle.std.proofs.Common.{◌≡◌, add-one, arith, below_more, ℕ}
+use Rattle.kernel_facts.specs.Rows.{object_count, object_facts}
+use Rattle.kernel_facts.specs.Short.{HaveShortTexts}
 use Rattle.kernel_facts.proofs.Keeping.{kept_both, kept_none}
 use Rattle.kernel_facts.proofs.kept.keep_object_row.Goals as goal
 
 pub loop-number-init : goal.loop-number-init
-loop-number-init c = kept_none _ _
+loop-number-init c = record { kept = kept_none _ _; short = λ k low. absurd (omega (arith, low)) }
 
 pub loop-number-preserved : goal.loop-number-preserved
-loop-number-preserved c = rw add-one (kept_both _ _ _ _ _ _ _ _ c.loop-number.invariant (rw c.object_of.ensures at c.keep_object_fact.ensures))
+loop-number-preserved c =
+    let holds = λ (k : ℕ). HaveShortTexts c.args.decls.now (object_facts c.args.row c.args.parts.now.machine k) in
+    record {
+      kept = rw add-one (kept_both _ _ _ _ _ _ _ _ c.loop-number.invariant.kept (rw c.object_of.ensures at c.keep_object_fact.ensures.kept));
+      short = below_more holds c.loop-number.number c.loop-number.invariant.short (rw c.object_of.ensures at c.keep_object_fact.ensures.short);
+    }
 
-pub returns : goal.returns
-returns c =
+pub returns-clause-kept : goal.returns-clause-kept
+returns-clause-kept c =
     let all : c.loop-number.number ≡ object_count c.args.row c.args.decls.now c.args.parts.now.machine = omega (arith, c.object_count-number-end.ensures) in
-    rw all at c.loop-number.invariant
+    rw all at c.loop-number.invariant.kept
+
+pub returns-clause-short : goal.returns-clause-short
+returns-clause-short c =
+    let all : c.loop-number.number ≡ object_count c.args.row c.args.decls.now c.args.parts.now.machine = omega (arith, c.object_count-number-end.ensures) in
+    rw all at c.loop-number.invariant.short

@@ -1,12 +1,25 @@
-use Rattle.std.proofs.Common.{List, subst}
+use Rattle.std.proofs.Common.{List, subst, ◌<◌, ℕ}
 use Rattle.words_script.specs.declared.decl.Decl.{Decl}
 use Rattle.kernel_facts.specs.Kept.{KeptIn, objects_kept}
+use Rattle.kernel_facts.specs.Rows.{object_count, object_facts}
+use Rattle.kernel_facts.specs.Short.{HaveShortTexts}
+use Rattle.kernel_facts.specs.declared.rows.ObjectRow.{ObjectRow}
 use Rattle.kernel_facts.proofs.Keeping.{kept_both}
+use Rattle.kernel_facts.proofs.ShortFacts.{both_short, each_object_row}
 use Rattle.kernel_facts.proofs.kept.keep_objects.Goals as goal
 
-pub returns : goal.returns
-returns c =
+pub returns-clause-kept : goal.returns-clause-kept
+returns-clause-kept c =
     subst (λ (decls : List Decl). KeptIn c.args.next.now c.keep_object_row-8.new.next c.args.texts.now c.keep_object_row-8.new.texts (objects_kept decls c.args.parts.now.machine)) c.items-decls.ensures
     (kept_both _ _ _ _ _ _ _ _ (kept_both _ _ _ _ _ _ _ _ (kept_both _ _ _ _ _ _ _ _ (kept_both _ _ _ _ _ _ _ _ (kept_both _ _ _ _ _ _ _ _ (kept_both _ _ _ _ _ _ _ _ (kept_both _ _ _ _ _ _ _ _ (kept_both _ _ _ _ _ _ _ _
-    c.keep_object_row.ensures c.keep_object_row-2.ensures) c.keep_object_row-3.ensures) c.keep_object_row-4.ensures) c.keep_object_row-5.ensures) c.keep_object_row-6.ensures)
-    c.keep_queue_waiters.ensures) c.keep_object_row-7.ensures) c.keep_object_row-8.ensures)
+    c.keep_object_row.ensures.kept c.keep_object_row-2.ensures.kept) c.keep_object_row-3.ensures.kept) c.keep_object_row-4.ensures.kept) c.keep_object_row-5.ensures.kept) c.keep_object_row-6.ensures.kept)
+    c.keep_queue_waiters.ensures) c.keep_object_row-7.ensures.kept) c.keep_object_row-8.ensures.kept)
+
+pub returns-clause-short : goal.returns-clause-short
+returns-clause-short c =
+    let m = c.args.parts.now.machine in
+    let ds = c.items-decls.result.now in
+    let rows = each_object_row (λ (row : ObjectRow). (k : ℕ) → k < object_count row ds m → HaveShortTexts ds (object_facts row m k))
+    c.keep_object_row.ensures.short c.keep_object_row-2.ensures.short c.keep_object_row-3.ensures.short c.keep_object_row-4.ensures.short c.keep_object_row-5.ensures.short c.keep_object_row-6.ensures.short
+    (λ k low. both_short ds m k) c.keep_object_row-7.ensures.short c.keep_object_row-8.ensures.short in
+    subst (λ (decls : List Decl). (row : ObjectRow) → (k : ℕ) → k < object_count row decls m → HaveShortTexts decls (object_facts row m k)) c.items-decls.ensures rows

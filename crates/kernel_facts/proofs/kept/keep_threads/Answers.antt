@@ -1,7 +1,18 @@
+use Rattle.std.proofs.Common.{◌<◌, length, ℕ}
+use Rattle.kernel_facts.specs.Rows.{thread_fact_of}
+use Rattle.kernel_facts.specs.Short.{HasShortText}
+use Rattle.kernel_facts.specs.declared.rows.ThreadRow.{ThreadRow}
 use Rattle.kernel_facts.proofs.Keeping.{kept_both}
+use Rattle.kernel_facts.proofs.ShortFacts.{each_thread_row}
 use Rattle.kernel_facts.proofs.kept.keep_threads.Goals as goal
 
-pub returns : goal.returns
-returns c =
+pub returns-clause-kept : goal.returns-clause-kept
+returns-clause-kept c =
     kept_both _ _ _ _ _ _ _ _ (kept_both _ _ _ _ _ _ _ _ (kept_both _ _ _ _ _ _ _ _ (kept_both _ _ _ _ _ _ _ _ (kept_both _ _ _ _ _ _ _ _
-    c.keep_thread_row.ensures c.keep_thread_row-2.ensures) c.keep_thread_row-3.ensures) c.keep_thread_row-4.ensures) c.keep_thread_row-5.ensures) c.keep_thread_row-6.ensures
+    c.keep_thread_row.ensures.kept c.keep_thread_row-2.ensures.kept) c.keep_thread_row-3.ensures.kept) c.keep_thread_row-4.ensures.kept) c.keep_thread_row-5.ensures.kept) c.keep_thread_row-6.ensures.kept
+
+pub returns-clause-short : goal.returns-clause-short
+returns-clause-short c =
+    let m = c.args.parts.now.machine in
+    each_thread_row (λ (row : ThreadRow). (t : ℕ) → t < length m.threads → HasShortText c.args.decls.now (thread_fact_of row m t))
+    c.keep_thread_row.ensures.short c.keep_thread_row-2.ensures.short c.keep_thread_row-3.ensures.short c.keep_thread_row-4.ensures.short c.keep_thread_row-5.ensures.short c.keep_thread_row-6.ensures.short

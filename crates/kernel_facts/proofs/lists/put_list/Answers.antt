@@ -23,7 +23,7 @@ loop-t-preserved g c =
     let more = words_more words list c.loop-t.place c.in-Some.t c.in-Some.ensures.thread in
     record {
       text = rw (add-one, ← more) (puts_more _ _ _ _ _ (codes "list" ∷ decimal c.from.result ∷ []) (flat_map words (take c.loop-t.place list)) (words c.in-Some.t) c.loop-t.is_begun (omega arith) (omega arith)
-          c.loop-t.invariant.flag c.loop-t.invariant.text (rw c.thread_name.ensures.name at c.put_more.ensures));
+          c.loop-t.invariant.flag c.loop-t.invariant.text (rw c.thread_name.ensures.name at c.put_more.ensures.text));
       flag = rw (add-one, ← more) (told_some (flat_map words (take c.loop-t.place list)) (words c.in-Some.t) (omega arith));
     }
 

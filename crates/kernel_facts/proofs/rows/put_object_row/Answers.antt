@@ -4,7 +4,7 @@ use Rattle.kernel_facts.specs.Rows.{object_count}
 use Rattle.kernel_facts.proofs.rows.put_object_row.Goals as goal
 
 pub loop-number-preserved : goal.loop-number-preserved
-loop-number-preserved g c = rw add-one (puts_both _ _ _ _ _ _ _ c.loop-number.invariant (rw c.object_of.ensures at c.put_object_facts.ensures))
+loop-number-preserved g c = rw add-one (puts_both _ _ _ _ _ _ _ c.loop-number.invariant (rw c.object_of.ensures at c.put_object_facts.ensures.text))
 
 pub returns : goal.returns
 returns g c =

@@ -1,4 +1,6 @@
-use Rattle.std.proofs.Common.{◌≡◌, ◌-◌, flat_map, length, map, not, take}
+use Rattle.std.specs.List.{AllByRecursion}
+use Rattle.std.proofs.Common.{◌≡◌, ◌<◌, ◌-◌, ◌^◌, flat_map, length, map, not, take}
+use Rattle.rules_machine.specs.State.{SignalRecord}
 use Rattle.script_writer.specs.Line.{spelled}
 use Rattle.script_writer.specs.Words.{is_nil}
 use Rattle.script_printer.specs.Puts.{Puts}
@@ -12,6 +14,7 @@ invariant-loop-r g l =
     record {
       text : Puts g.K.Sink.text g.K.Sink.faults l.initial.out l.out (begun (map spelled l.subject) told);
       flag : l.is_begun ≡ not (is_nil told);
+      values : AllByRecursion (λ (r : SignalRecord). r.value < 2 ^ 64) (take l.place l.parts.machine.pending);
     }
 
 abbrev pub decreases-loop-r : goal.decreases-loop-r

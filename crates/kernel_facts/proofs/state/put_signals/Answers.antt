@@ -7,7 +7,7 @@ use Rattle.kernel_facts.specs.Picked.{left_in}
 use Rattle.kernel_facts.proofs.state.put_signals.Goals as goal
 
 pub loop-signal-preserved : goal.loop-signal-preserved
-loop-signal-preserved g c = rw add-one (puts_both _ _ _ _ _ _ _ c.loop-signal.invariant (c.put_signal.ensures))
+loop-signal-preserved g c = rw add-one (puts_both _ _ _ _ _ _ _ c.loop-signal.invariant (c.put_signal.ensures.text))
 
 pub returns : goal.returns
 returns g c =

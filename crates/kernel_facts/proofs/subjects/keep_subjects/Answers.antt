@@ -5,7 +5,7 @@ use Rattle.kernel_facts.specs.Kept.{KeptIn}
 use Rattle.kernel_facts.specs.Subjects.{subjects_of, thread_subjects}
 use Rattle.kernel_facts.specs.Modest.{NamesAreShort}
 use Rattle.kernel_facts.proofs.Keeping.{kept_both}
-use Rattle.kernel_facts.proofs.Roomy.{subjects_fit}
+use Rattle.kernel_facts.proofs.Roomy.{still_rooms, subjects_fit}
 use Rattle.kernel_facts.proofs.KeptSubjects.{subjects_kept}
 use Rattle.kernel_facts.proofs.subjects.keep_subjects.Goals as goal
 
@@ -19,4 +19,11 @@ returns c =
     subst (KeptIn c.args.next.now c.keep_signal_subjects.new.next c.args.texts.now c.keep_signal_subjects.new.texts) (subjects_kept c.args.script.now m c.know_rows.ensures.lists c.know_rows.ensures.signals)
     (kept_both _ _ _ _ _ _ _ _ c.keep_list_subjects.ensures (kept_both _ _ _ _ _ _ _ _ threads (kept_both _ _ _ _ _ _ _ _ c.keep_object_subjects.ensures c.keep_signal_subjects.ensures))) in
     let names = subst NamesAreShort c.items-decls.ensures c.know_names.ensures in
-    record { kept = all.kept; room = all.same_room; rooms = all.same_rooms; roomy = λ h. all.roomy (subjects_fit c.args.script.now m names c.args.next.now.room c.args.texts.now h) }
+    record {
+      kept = all.kept;
+      room = all.same_room;
+      rooms = all.same_rooms;
+      roomy = λ has none h. still_rooms c.args.script.now c.args.next.now.room c.keep_signal_subjects.new.next.room c.args.texts.now c.keep_signal_subjects.new.texts h all.same_room
+          (all.same_rooms (all.roomy (subjects_fit c.args.script.now m names c.know_rows.ensures.lists c.know_rows.ensures.signals c.know_few.ensures has c.args.next.now.room c.args.texts.now none h)))
+          (all.roomy (subjects_fit c.args.script.now m names c.know_rows.ensures.lists c.know_rows.ensures.signals c.know_few.ensures has c.args.next.now.room c.args.texts.now none h));
+    }

@@ -9,7 +9,7 @@ use Rattle.kernel_facts.proofs.threads.put_flags.Goals.{else-not-is_requested-vi
 
 pub returns : goal.returns
 returns g c =
-    let put = puts_both _ _ _ _ _ _ _ c.begin.ensures
+    let put = puts_both _ _ _ _ _ _ _ c.begin.ensures.text
     (puts_both _ _ _ _ _ _ _ c.put_flag.ensures (puts_both _ _ _ _ _ _ _ c.put_flag-2.ensures (puts_both _ _ _ _ _ _ _ c.put_flag-3.ensures c.end.ensures))) in
     let a = flag_words (codes "requested") c.args.is_requested in
     let b = flag_words (codes "disabled") c.args.is_disabled in

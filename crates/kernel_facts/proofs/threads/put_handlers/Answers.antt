@@ -20,7 +20,7 @@ loop-u-preserved g c =
     let more = words_more words xs c.loop-u.u-index c.u-item.result (sym read) in
     record {
       text = rw (add-one, ← more) (puts_more _ _ _ _ _ (codes "cleanups" ∷ c.thread_name.result.now ∷ []) (flat_map words (take c.loop-u.u-index xs)) (words c.u-item.result) c.loop-u.is_begun (omega arith) (omega arith)
-          c.loop-u.invariant.flag c.loop-u.invariant.text (rw c.object_name.ensures.name at c.put_more.ensures));
+          c.loop-u.invariant.flag c.loop-u.invariant.text (rw c.object_name.ensures.name at c.put_more.ensures.text));
       flag = rw (add-one, ← more) (told_some (flat_map words (take c.loop-u.u-index xs)) (words c.u-item.result) (omega arith));
     }
 

@@ -28,7 +28,7 @@ loop-frame-preserved g c =
           let name : w.body_name.result.now ≡ body_name c.args.decls.now c.frame-item.result.body = w.body_name.ensures.name ∙ ap (body_name c.args.decls.now) w.body.ensures in
           record {
             text = rw (w.out-is, add-one, ← more, here) (puts_more _ _ _ _ _ about told (body_name c.args.decls.now c.frame-item.result.body ∷ []) c.loop-frame.is_begun
-                (omega arith) (omega arith) c.loop-frame.invariant.flag c.loop-frame.invariant.text (rw name at w.put_more.ensures));
+                (omega arith) (omega arith) c.loop-frame.invariant.flag c.loop-frame.invariant.text (rw name at w.put_more.ensures.text));
             flag = rw (w.is_begun-is, add-one, ← more, here) (told_some told (body_name c.args.decls.now c.frame-item.result.body ∷ []) (omega arith));
           })
       | else-not-is_main w ↦

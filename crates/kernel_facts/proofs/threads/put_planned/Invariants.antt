@@ -1,4 +1,5 @@
-use Rattle.std.proofs.Common.{◌≡◌, flat_map, map, not, take}
+use Rattle.std.proofs.Common.{◌≡◌, ◌≤◌, ◌*◌, flat_map, length, map, not, take}
+use Rattle.script_lex.specs.Joined.{after_blanks}
 use Rattle.rules_facts.specs.Spelled.{replenishment_words}
 use Rattle.script_writer.specs.Line.{spelled}
 use Rattle.script_writer.specs.Words.{is_nil}
@@ -12,4 +13,5 @@ invariant-loop-r g l =
     record {
       text : Puts g.K.Sink.text g.K.Sink.faults l.initial.out l.out (begun (map spelled l.subject) told);
       flag : l.is_begun ≡ not (is_nil told);
+      within : length (after_blanks told) ≤ 42 * l.r-index;
     }

@@ -1,5 +1,6 @@
-use Rattle.std.proofs.Common.{List, arith, length, subst, sym, ℕ, ◌-◌, ◌<◌, ◌^◌, ◌≤◌}
+use Rattle.std.proofs.Common.{List, ap, arith, length, subst, sym, ℕ, ◌-◌, ◌<◌, ◌^◌, ◌≤◌}
 use Rattle.kernel_threads.specs.Running.{all_of}
+use Rattle.kernel_leaps.proofs.InUnit.{matters_of, not_blocked, quiet_of}
 use Rattle.kernel_leaps.proofs.Passing.{begun_at, may_here}
 use Rattle.kernel_leaps.proofs.ThreadLeap.{acts, can_complete, has_leapt, in_time, leapt_state, leapt_told, may_be_swept, settled_stood}
 use Rattle.kernel_state.specs.Kernel.{Kernel}
@@ -75,3 +76,15 @@ returns-clause-leapt g c =
     c.complete_at_end.new.p c.complete_at_end.ensures.state c.settle.new.self c.settle.ensures.moves c.settle.ensures.fits c.end_tick.new.p c.end_tick.ensures.does.state c.sweep.new.p c.sweep.ensures.does.state
     g.K.Sink.text g.K.Sink.faults c.args.out.now c.complete_at_end.new.out c.end_tick.new.out c.sweep.new.out c.complete_at_end.ensures.told c.end_tick.ensures.does.told c.sweep.ensures.does.told in
     has_leapt g.K.Sink.text g.K.Sink.faults c.args.near c.args.t c.run_thread-ran.result c.args.p.now c.run_thread-ran.new.p c.sweep.new.p c.args.out.now c.sweep.new.out b state tells
+
+-- ---- a quiet tick
+
+pub returns-clause-quiet_tick : goal.returns-clause-quiet_tick
+returns-clause-quiet_tick g c quiet one =
+    quiet_of _ _ _ _ _ _ _ _ _ c.run_thread-ran.ensures.ran one (ap (λ (k : Kernel). k.machine.quantum) c.run_thread-ran.ensures.state) (c.ends_quietly-is_quiet.ensures.sure quiet)
+
+pub returns-clause-each_quiet_tick : goal.returns-clause-each_quiet_tick
+returns-clause-each_quiet_tick g c one runs quiet =
+    let ran = c.run_thread-ran.ensures.ran in
+    c.ends_quietly-is_quiet.ensures.whenever (not_blocked _ _ _ _ _ _ _ _ ran one runs)
+    (matters_of _ _ _ _ _ _ _ _ _ ran one (ap (λ (k : Kernel). k.machine.quantum) c.run_thread-ran.ensures.state) quiet)

@@ -1,4 +1,4 @@
-use Rattle.std.proofs.Common.{◌+◌, ◌≤◌, ◌^◌, ◌∙◌, None, Some, ap, arith, sym}
+use Rattle.std.proofs.Common.{◌^◌, ◌∙◌, None, Some, ap, arith, sym}
 use Rattle.rules_machine.proofs.Counting.{instant_now}
 use Rattle.rules_flat_code.specs.FlatBodies.{flat_bodies}
 use Rattle.rules_bodies.specs.declared.cursor.Cursor.{Cursor}
@@ -130,7 +130,7 @@ returns-clause-within g c =
     let m = begun g.K.Sink.text g.K.Sink.faults c.args.p.now c.requires.fits c.do_instant.new.p c.prepare-to.new.self (Some c.in-Some.t) c.args.most c.ticks_to_next-near.result c.args.steps.now c.args.out.now c.do_instant.new.out c.prepare-to.new.out
     c.requires.some c.requires.stood c.requires.quiet c.do_instant.ensures.does.state c.do_instant.ensures.does.told c.do_instant.ensures.stood c.do_instant.ensures.quiet (sym c.is_killed.ensures ∙ c.if-is_killed.false)
     (sym c.in-Some.is ∙ c.prepare-to.ensures.top) c.prepare-to.ensures.does.state c.prepare-to.ensures.does.told c.ticks_to_next-near.ensures in
-    let on = thread_leapt g.K.Sink.text g.K.Sink.faults c.args.p.now c.requires.fits c.prepare-to.new.self c.in-Some.t c.args.most c.ticks_to_next-near.result c.args.steps.now c.args.out.now c.prepare-to.new.out m c.leap_thread.new.p c.leap_thread.new.out c.leap_thread.result c.leap_thread.new.steps c.leap_thread.ensures.leapt c.leap_thread.ensures.stood c.leap_thread.ensures.quiet in
+    let on = thread_leapt g.K.Sink.text g.K.Sink.faults c.args.p.now c.requires.fits c.prepare-to.new.self c.in-Some.t c.args.most c.ticks_to_next-near.result c.args.steps.now c.args.out.now c.prepare-to.new.out m c.leap_thread.new.p c.leap_thread.new.out c.leap_thread.result.ticks c.leap_thread.new.steps c.leap_thread.ensures.leapt c.leap_thread.ensures.stood c.leap_thread.ensures.quiet in
     on.within
 
 pub returns-clause-state : goal.returns-clause-state
@@ -138,7 +138,7 @@ returns-clause-state g c =
     let m = begun g.K.Sink.text g.K.Sink.faults c.args.p.now c.requires.fits c.do_instant.new.p c.prepare-to.new.self (Some c.in-Some.t) c.args.most c.ticks_to_next-near.result c.args.steps.now c.args.out.now c.do_instant.new.out c.prepare-to.new.out
     c.requires.some c.requires.stood c.requires.quiet c.do_instant.ensures.does.state c.do_instant.ensures.does.told c.do_instant.ensures.stood c.do_instant.ensures.quiet (sym c.is_killed.ensures ∙ c.if-is_killed.false)
     (sym c.in-Some.is ∙ c.prepare-to.ensures.top) c.prepare-to.ensures.does.state c.prepare-to.ensures.does.told c.ticks_to_next-near.ensures in
-    let on = thread_leapt g.K.Sink.text g.K.Sink.faults c.args.p.now c.requires.fits c.prepare-to.new.self c.in-Some.t c.args.most c.ticks_to_next-near.result c.args.steps.now c.args.out.now c.prepare-to.new.out m c.leap_thread.new.p c.leap_thread.new.out c.leap_thread.result c.leap_thread.new.steps c.leap_thread.ensures.leapt c.leap_thread.ensures.stood c.leap_thread.ensures.quiet in
+    let on = thread_leapt g.K.Sink.text g.K.Sink.faults c.args.p.now c.requires.fits c.prepare-to.new.self c.in-Some.t c.args.most c.ticks_to_next-near.result c.args.steps.now c.args.out.now c.prepare-to.new.out m c.leap_thread.new.p c.leap_thread.new.out c.leap_thread.result.ticks c.leap_thread.new.steps c.leap_thread.ensures.leapt c.leap_thread.ensures.stood c.leap_thread.ensures.quiet in
     on.running.state
 
 pub returns-clause-told : goal.returns-clause-told
@@ -146,7 +146,7 @@ returns-clause-told g c =
     let m = begun g.K.Sink.text g.K.Sink.faults c.args.p.now c.requires.fits c.do_instant.new.p c.prepare-to.new.self (Some c.in-Some.t) c.args.most c.ticks_to_next-near.result c.args.steps.now c.args.out.now c.do_instant.new.out c.prepare-to.new.out
     c.requires.some c.requires.stood c.requires.quiet c.do_instant.ensures.does.state c.do_instant.ensures.does.told c.do_instant.ensures.stood c.do_instant.ensures.quiet (sym c.is_killed.ensures ∙ c.if-is_killed.false)
     (sym c.in-Some.is ∙ c.prepare-to.ensures.top) c.prepare-to.ensures.does.state c.prepare-to.ensures.does.told c.ticks_to_next-near.ensures in
-    let on = thread_leapt g.K.Sink.text g.K.Sink.faults c.args.p.now c.requires.fits c.prepare-to.new.self c.in-Some.t c.args.most c.ticks_to_next-near.result c.args.steps.now c.args.out.now c.prepare-to.new.out m c.leap_thread.new.p c.leap_thread.new.out c.leap_thread.result c.leap_thread.new.steps c.leap_thread.ensures.leapt c.leap_thread.ensures.stood c.leap_thread.ensures.quiet in
+    let on = thread_leapt g.K.Sink.text g.K.Sink.faults c.args.p.now c.requires.fits c.prepare-to.new.self c.in-Some.t c.args.most c.ticks_to_next-near.result c.args.steps.now c.args.out.now c.prepare-to.new.out m c.leap_thread.new.p c.leap_thread.new.out c.leap_thread.result.ticks c.leap_thread.new.steps c.leap_thread.ensures.leapt c.leap_thread.ensures.stood c.leap_thread.ensures.quiet in
     on.running.told
 
 pub returns-clause-steps : goal.returns-clause-steps
@@ -154,5 +154,5 @@ returns-clause-steps g c =
     let m = begun g.K.Sink.text g.K.Sink.faults c.args.p.now c.requires.fits c.do_instant.new.p c.prepare-to.new.self (Some c.in-Some.t) c.args.most c.ticks_to_next-near.result c.args.steps.now c.args.out.now c.do_instant.new.out c.prepare-to.new.out
     c.requires.some c.requires.stood c.requires.quiet c.do_instant.ensures.does.state c.do_instant.ensures.does.told c.do_instant.ensures.stood c.do_instant.ensures.quiet (sym c.is_killed.ensures ∙ c.if-is_killed.false)
     (sym c.in-Some.is ∙ c.prepare-to.ensures.top) c.prepare-to.ensures.does.state c.prepare-to.ensures.does.told c.ticks_to_next-near.ensures in
-    let on = thread_leapt g.K.Sink.text g.K.Sink.faults c.args.p.now c.requires.fits c.prepare-to.new.self c.in-Some.t c.args.most c.ticks_to_next-near.result c.args.steps.now c.args.out.now c.prepare-to.new.out m c.leap_thread.new.p c.leap_thread.new.out c.leap_thread.result c.leap_thread.new.steps c.leap_thread.ensures.leapt c.leap_thread.ensures.stood c.leap_thread.ensures.quiet in
+    let on = thread_leapt g.K.Sink.text g.K.Sink.faults c.args.p.now c.requires.fits c.prepare-to.new.self c.in-Some.t c.args.most c.ticks_to_next-near.result c.args.steps.now c.args.out.now c.prepare-to.new.out m c.leap_thread.new.p c.leap_thread.new.out c.leap_thread.result.ticks c.leap_thread.new.steps c.leap_thread.ensures.leapt c.leap_thread.ensures.stood c.leap_thread.ensures.quiet in
     on.few

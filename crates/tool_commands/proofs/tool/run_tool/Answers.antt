@@ -3,10 +3,11 @@ use Rattle.parts_io.proofs.Known.{consumes_none}
 use Rattle.tool_commands.specs.declared.command.Command.{Command}
 use Rattle.tool_commands.specs.Answer.{Told, answer}
 use Rattle.tool_commands.specs.Command.{command, limit_of, reads, words_limit, words_limit_of}
+use Rattle.tool_commands.specs.Few.{DoubleStepsAreFew, RoundsAreFew, StepsAreFew}
 use Rattle.tool_commands.proofs.Audits.{holds_where_told}
 use Rattle.tool_commands.proofs.Promises.{reads_upgraded}
 use Rattle.tool_commands.proofs.Taken.{no_rounds, no_run, no_steps, no_times}
-use Rattle.tool_commands.proofs.Whole.{answer_to, answer_unread, told_whole}
+use Rattle.tool_commands.proofs.Whole.{answer_to, answer_unread, read_whole, told_whole}
 use Rattle.tool_commands.proofs.tool.run_tool.Goals as goal
 
 same_command : {a b : Command} → Some a ≡ Some b → a ≡ b
@@ -65,18 +66,27 @@ returns-in-Ok-clause-holds g c bytes is rest done =
 pub returns-in-Ok-clause-busy : goal.returns-in-Ok-clause-busy
 returns-in-Ok-clause-busy g c n bytes run rest =
     let is : command (map string_bytes c.args.words.now) ≡ Some c.in-Some.command = sym c.command_of_words.ensures.command ∙ c.in-Some.is in
-    search rules
+    subst (λ (b : List ℕ). StepsAreFew n b c.args.steps.now c.answer_text-in-Ok.new.steps) (read_whole _ _ c.in-Ok.bytes.items bytes c.in-Ok.ensures.whole c.in-Ok.ensures.end rest)
+    (rw c.as_slice.ensures.value at (c.answer_text-in-Ok.ensures.busy n (same_command (sym is ∙ run))))
 
 pub returns-in-Ok-clause-shows : goal.returns-in-Ok-clause-shows
 returns-in-Ok-clause-shows g c n bytes run rest =
     let is : command (map string_bytes c.args.words.now) ≡ Some c.in-Some.command = sym c.command_of_words.ensures.command ∙ c.in-Some.is in
-    search rules
+    subst (λ (b : List ℕ). StepsAreFew n b c.args.steps.now c.answer_text-in-Ok.new.steps) (read_whole _ _ c.in-Ok.bytes.items bytes c.in-Ok.ensures.whole c.in-Ok.ensures.end rest)
+    (rw c.as_slice.ensures.value at (c.answer_text-in-Ok.ensures.shows n (same_command (sym is ∙ run))))
+
+pub returns-in-Ok-clause-details : goal.returns-in-Ok-clause-details
+returns-in-Ok-clause-details g c n bytes run rest =
+    let is : command (map string_bytes c.args.words.now) ≡ Some c.in-Some.command = sym c.command_of_words.ensures.command ∙ c.in-Some.is in
+    subst (λ (b : List ℕ). DoubleStepsAreFew n b c.args.steps.now c.answer_text-in-Ok.new.steps) (read_whole _ _ c.in-Ok.bytes.items bytes c.in-Ok.ensures.whole c.in-Ok.ensures.end rest)
+    (rw c.as_slice.ensures.value at (c.answer_text-in-Ok.ensures.details n (same_command (sym is ∙ run))))
 
 -- and so are those of its response times
 pub returns-in-Ok-clause-rounds : goal.returns-in-Ok-clause-rounds
 returns-in-Ok-clause-rounds g c n bytes run rest =
     let is : command (map string_bytes c.args.words.now) ≡ Some c.in-Some.command = sym c.command_of_words.ensures.command ∙ c.in-Some.is in
-    search rules
+    subst (λ (b : List ℕ). RoundsAreFew n b c.args.steps.now c.answer_text-in-Ok.new.steps) (read_whole _ _ c.in-Ok.bytes.items bytes c.in-Ok.ensures.whole c.in-Ok.ensures.end rest)
+    (rw c.as_slice.ensures.value at (c.answer_text-in-Ok.ensures.rounds n (same_command (sym is ∙ run))))
 
 -- what reads nothing took nothing, and its answer is that to any bytes
 pub returns-then-not-reads-clause-answered : goal.returns-then-not-reads-clause-answered

@@ -1,4 +1,4 @@
-use Rattle.std.proofs.Common.{List, subst, sym, ℕ, ◌∙◌}
+use Rattle.std.proofs.Common.{List, subst, ℕ, ◌∙◌}
 use Rattle.parts_io.specs.Bytes.{WritesAll}
 use Rattle.kernel_leaps.proofs.Running.{items_fit}
 use Rattle.kernel_leaps.proofs.Shown.{numbered, text_is}

@@ -1,0 +1,112 @@
+-- The kernel of a script has the script's threads and objects at each instant of its run, and queues that are no deeper than it says.
+use Rattle.std.proofs.Common.{◌≡◌, ◌∙◌, ◌++◌, ℕ, List, [], ap, arith, refl, subst, sym}
+use Rattle.std.proofs.lemmas.List.{length-map}
+use Rattle.words_script.specs.declared.decl.Script.{Script}
+use Rattle.rules_bodies.specs.declared.cursor.Cursor.{Cursor}
+use Rattle.rules_machine.specs.Declarations.{queues_of, threads_of}
+use Rattle.rules_machine.specs.DueItems.{instant, item_bound}
+use Rattle.rules_machine.specs.Runs.{opening, thread_opened, ticks}
+use Rattle.rules_machine.specs.State.{Machine}
+use Rattle.rules_machine.specs.Turns.{turn_of}
+use Rattle.rules_machine.specs.WellFormed.{IsWellFormed}
+use Rattle.rules_flat_code.specs.FlatBodies.{code_of, flat_bodies}
+use Rattle.rules_flat_code.specs.Runnable.{IsRunnable}
+use Rattle.laws_detail.proofs.Depths.{depths_throughout}
+use Rattle.laws_kernel.specs.Counts.{Counts}
+use Rattle.laws_kernel.proofs.Ranges.{flat_bodies_fit}
+use Rattle.parts_texts.specs.Texts.{Told}
+use Rattle.kernel_facts.specs.Kept.{Kept}
+use Rattle.kernel_facts.specs.Rooms.{AreRooms, HasFewOfEach, HasObjectsOf, HasRooms, no_text}
+use Rattle.kernel_facts.specs.declared.rooms.Rooms.{Rooms}
+use Rattle.kernel_facts.proofs.Roomy.{rooms_hold}
+use Rattle.kernel_facts.proofs.Deep.{no_deeper}
+use Rattle.kernel_state.specs.Kernel.{Kernel, opened}
+use Rattle.calls_table.specs.Calls.{objects_in}
+use Rattle.kernel_leaps.specs.Detail.{HaveRoomsFor}
+use Rattle.kernel_leaps.specs.Fits.{Fits}
+use Rattle.kernel_leaps.specs.Shown.{HasFewObjects}
+use Rattle.kernel_leaps.specs.declared.fact_texts.FactTexts.{FactTexts}
+use Rattle.kernel_leaps.proofs.Opened.{script_fits}
+use Rattle.kernel_leaps.proofs.Telling.{l}
+
+-- before the first tick
+first : (script : Script) → HasObjectsOf script (opened script).machine
+first script = record {
+  threads = length-map (threads_of script) thread_opened;
+  mutexes = refl;
+  semaphores = refl;
+  queues = refl;
+  timers = refl;
+  depths = no_deeper script.decls (queues_of script) refl;
+}
+
+pub objects_first : (script : Script) (k : Kernel) → k ≡ opened script → HasObjectsOf script k.machine
+objects_first script k is = subst (λ (x : Kernel). HasObjectsOf script x.machine) (sym is) (first script)
+
+-- with the items of an instant handled
+module _ (script : Script) (ok : IsRunnable script) (fits : IsWellFormed script) (n : ℕ) where
+  abbrev here : Machine Cursor
+  here = (ticks (flat_bodies (code_of script)) n (opening script)).machine
+
+  abbrev ready : Machine Cursor
+  ready = (instant (flat_bodies (code_of script)) (turn_of here)).machine
+
+  fits_here : Fits (objects_in (opened script)) (code_of script) ready
+  fits_here = (script_fits script ok fits).each n (item_bound here)
+
+  fits_opened : Fits (objects_in (opened script)) (code_of script) (opening script)
+  fits_opened = (script_fits script ok fits).each 0 0
+
+  pub objects_here : HasObjectsOf script (l script fits n).machine
+  objects_here =
+      let counts = fits_here.counts in
+      record {
+        threads = fits_here.threads ∙ sym fits_opened.threads ∙ length-map (threads_of script) thread_opened;
+        mutexes = ap (λ (c : Counts). c.mutexes) counts;
+        semaphores = ap (λ (c : Counts). c.semaphores) counts;
+        queues = ap (λ (c : Counts). c.queues) counts;
+        timers = ap (λ (c : Counts). c.timers) counts;
+        depths = no_deeper script.decls ready.queues ((depths_throughout (flat_bodies (code_of script)) (flat_bodies_fit script fits.priorities) script fits).each n (item_bound here));
+      }
+
+-- ---- the rooms that are opened
+
+pub few_of_each : (script : Script) → IsRunnable script → HasFewObjects script → HasFewOfEach script
+few_of_each script ok few =
+    let queues = ok.few_queues in
+    let timers = ok.few_timers in
+    record {
+      threads = ok.few;
+      mutexes = few.mutexes;
+      conditions = few.conditions;
+      semaphores = few.semaphores;
+      queues = omega (arith, queues);
+      timers = omega (arith, timers);
+    }
+
+pub opened_rooms : (script : Script) (rooms : Rooms) → AreRooms script rooms → (t : FactTexts) → t.subjects ≡ no_text rooms → t.before ≡ no_text rooms → t.lines ≡ no_text rooms → t.next.room ≡ rooms.longest
+    → HaveRoomsFor script t
+opened_rooms script rooms are t subjects before lines one =
+    let all : (x : Told) → x ≡ no_text rooms → HasRooms script t.next.room x =
+    λ x is. subst (λ (n : ℕ). HasRooms script n x) (sym one) (subst (HasRooms script rooms.longest) (sym is) (rooms_hold script rooms are)) in
+    record { subjects = all t.subjects subjects; before = all t.before before; lines = all t.lines lines }
+
+-- ---- a list that takes in the texts of the facts of a state
+
+cleared_rooms : (script : Script) (one : ℕ) (t cleared : Told) → cleared ≡ record t { texts = [] } → HasRooms script one t → HasRooms script one cleared
+cleared_rooms script one t cleared is h = subst (HasRooms script one) (sym is) (record { fresh = h.fresh; long = h.long; number = h.number; bytes = h.bytes })
+
+module _ (script : Script) (m : Machine Cursor) (due : List (List ℕ)) (old cleared new : Told) (one next : ℕ) (is : cleared ≡ record old { texts = [] }) (kept : Kept cleared new due)
+    (roomy : HasObjectsOf script m → cleared.texts ≡ [] → HasRooms script one cleared → HasRooms script next new) (has : HasObjectsOf script m) (rooms : HasRooms script one old) where
+  none : cleared.texts ≡ []
+  none = ap (λ (t : Told). t.texts) is
+
+  pub kept_rooms : HasRooms script next new
+  kept_rooms = roomy has none (cleared_rooms script one old cleared is rooms)
+
+  pub kept_texts : new.texts ≡ due
+  kept_texts = kept.texts kept_rooms.fresh ∙ ap (λ (ts : List (List ℕ)). ts ++ due) none
+
+-- in the room of one text that stays
+pub same_rooms : (script : Script) (one next : ℕ) (t : Told) → next ≡ one → HasRooms script one t → HasRooms script next t
+same_rooms script one next t same rooms = subst (λ (n : ℕ). HasRooms script n t) (sym same) rooms
