@@ -6,7 +6,8 @@
 //! that it leaves has its lists, owners, servers and waits right (`good`), and in a run from the beginning each server keeps its
 //! budget at every instant (`budgets`); of a kernel that was opened for a script and has not run yet, state, events and eventful
 //! instants are the script's (`machine`, `events`, `eventful`); `report` prints the closing lines; `show` writes what is shown of the
-//! script at the instant to which its kernel ran; `running`, `now`, `totals`.
+//! script at the instant to which its kernel ran, and `detail` what is told of its run in detail, in at most twice as many steps;
+//! `running`, `now`, `totals`.
 #![tactic(auto)]
 
 mod calls;
