@@ -4,7 +4,8 @@
 #   tools/make_release.sh            makes it, of the program in crates/pse52/out (from `bin/pse52 --prove` or `bash .ci/run`)
 #   tools/make_release.sh --check    holds the release to the program that was built here: where the manifest's sum is that of the code
 #                                    that stands here, the bytes must be the same. A release of other code is told, and no fault, since
-#                                    a release is made of a program only after its gate; bin/pse52 does not run it unasked
+#                                    a release is made of a program only after its gate; bin/pse52 does not run it unasked. One for
+#                                    another machine, or built by another toolchain, is told as well, and not compared
 #
 # Status 1: the bytes differ, or there is nothing to make a release of. Status 3: the bytes were not compared, as the line says.
 set -u
@@ -62,6 +63,7 @@ END
 }
 
 check() {
+    local toolchain
     [ -e "$manifest" ] || warn "there is none; tools/make_release.sh makes one"
     [ "$(value_of program "$manifest")" = "$(digest_of "$release")" ] || fail "release/pse52 is not the program of its manifest"
     [ "$(value_of code "$manifest")" = "$(sh tools/wrapper/sum.sh code)" ] ||
@@ -71,6 +73,10 @@ check() {
         echo "release: proofs changed since it was made; its code and contracts are the same"
     [ "$(value_of machine "$manifest")" = "$(uname -sm)" ] || warn "it is for another machine, so it is not compared"
     [ -x "$built" ] || fail "no program was built here, so the release cannot be held to it"
+    toolchain=$(value_of toolchain "$built.record")
+    [ "$(value_of toolchain "$manifest")" = "$toolchain" ] ||
+        warn "it was built by $(value_of toolchain "$manifest"), and the program here by ${toolchain:-no toolchain that is recorded}," \
+            "so it is not compared"
     [ "$(value_of built "$manifest")" = "$(digest_of "$built")" ] ||
         fail "the program that was built here is not the one that the release was made of"
     [ "$(value_of strip "$manifest")" = "$(strip_line)" ] ||
@@ -84,5 +90,5 @@ check() {
 case ${1-} in
     '') make ;;
     --check) check ;;
-    *) sed -n '2,10s/^# \{0,1\}//p' "$0"; exit 1 ;;
+    *) sed -n '2,11s/^# \{0,1\}//p' "$0"; exit 1 ;;
 esac

@@ -6,7 +6,7 @@
     python3 tools/turned_rules.py WORD..   only the rules whose title has each of the words
 
 A turned rule is a change of one place of a file of tools/reference, made in memory alone: `old` stands there exactly once, and `new`
-in its stead. The rules stand in tools/turned. Examples of a CLOCK_REALTIME that can be set are read at the stage `clock`. Exit status 1 where an example does not differ, does not run, or where `old` is not there.
+in its stead. The rules stand in tools/turned. Exit status 1 where an example does not differ, does not run, or where `old` is not there.
 """
 from __future__ import annotations
 
@@ -21,7 +21,6 @@ TOP = Path(__file__).resolve().parent.parent
 REFERENCE = TOP / "tools" / "reference"
 WORKED = TOP / "tests" / "worked"
 SLOW = ("chain_of_sixty_three_owners", "sixty_four_threads_start_together", "lock_counted_to_its_limit")
-CLOCK = "clock/"
 FARTHEST = 1_000_000
 COMMANDS = {"trace": "run", "refused": "run", "show": "show", "detail": "detail", "upgrade": "upgrade"}
 """What the text of each suffix is printed by."""
@@ -91,15 +90,13 @@ def noticed(answer: Answer, name: str) -> bool:
     horizon = int(path.with_suffix(".horizon").read_text()) if path.with_suffix(".horizon").exists() else 0
     if path.with_suffix(".has").exists():
         return not set(path.with_suffix(".has").read_bytes().splitlines()) <= set(answer(script, horizon)[1].splitlines())
-    options = {"stage": sys.modules["forms"].Stage.CLOCK} if name.startswith(CLOCK) else {}
     form = next(form for form in COMMANDS if path.with_suffix(f".{form}").exists())
-    return answer(script, horizon, command=COMMANDS[form], **options)[1] != path.with_suffix(f".{form}").read_bytes()
+    return answer(script, horizon, command=COMMANDS[form])[1] != path.with_suffix(f".{form}").read_bytes()
 
 
 def examples() -> list[str]:
     """The worked examples that are run, but those that take long."""
-    names = [folder + line.split()[0] for folder in ("", CLOCK)
-             for line in (WORKED / folder / "INDEX.txt").read_text().splitlines() if not line.startswith("#")]
+    names = [line.split()[0] for line in (WORKED / "INDEX.txt").read_text().splitlines() if not line.startswith("#")]
     return [name for name in names if name not in SLOW and (WORKED / f"{name}.horizon").exists()
             and not (WORKED / f"{name}.refused").exists()
             and int((WORKED / f"{name}.horizon").read_text()) <= FARTHEST]

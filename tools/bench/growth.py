@@ -43,6 +43,7 @@ GROWTHS = (
     Growth("chain", "owners in a chain", (2, 4, 8, 16, 32, 63), loads.chain),
     Growth("records", "records of signals that are pending", (1, 2, 4, 8, 16, 32, 64), loads.pending),
     Growth("timers", "timers that are armed", (1, 2, 4, 8, 16, 32), loads.timers),
+    Growth("settings", "threads that sleep for a time of the clock that is set", (1, 2, 4, 8, 16, 32, 63, 127, 255), loads.settings),
     Growth("messages", "messages in a queue", (1, 2, 4, 8, 16, 32, 64), loads.messages),
     Growth("servers", "sporadic servers", (1, 2, 4, 8, 16, 24, 48), loads.servers),
     Growth("script", "lines of the script", (100, 1_000, 10_000, 58_000), loads.long_script, counts_script=True),

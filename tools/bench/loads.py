@@ -6,6 +6,8 @@ from __future__ import annotations
 
 from dataclasses import dataclass
 
+GREATEST = "1000000000000000000"
+
 
 @dataclass(frozen=True)
 class Load:
@@ -93,6 +95,12 @@ def sleepers(count: int) -> str:
     return "".join(looping(f"t{n}", f"fifo {5 + n % 7}", f"nanosleep {3 + n}") for n in range(count))
 
 
+def settings(count: int) -> str:
+    """So many threads that sleep up to a far time of the clock, and one that sets it again and again."""
+    text = "".join(looping(f"t{n}", "fifo 9", f"clock_nanosleep {GREATEST} real") for n in range(count))
+    return text + looping("s", "fifo 5", "clock_settime 5", "clock_settime 900")
+
+
 def long_script(lines: int) -> str:
     """A script of so many lines, with a comment on each."""
     return "thread a fifo 5 at 0\n" + "run 1 # a comment\n" * lines + "end\n"
@@ -140,8 +148,6 @@ thread s sporadic 8 2 1000000000000000000 200000000000000000 4 at 20000000000000
 run 1000000000000000000
 end
 """
-GREATEST = "1000000000000000000"
-
 LOADS = (
     Load("start-up", ("run", "10"), thread("a", "fifo 5", "run 3")),
     Load("one thread that runs and yields", ("run", "3000000"), looping("a", "fifo 5", "run 1", "yield")),
@@ -158,6 +164,7 @@ LOADS = (
     Load("handlers", ("run", "1000000"), HANDLERS),
     Load("sigqueue to a waiter", ("run", "1000000"), SIGQUEUE),
     Load("32 timers", ("run", "1000000"), timers(32)),
+    Load("a clock that is set under 32 sleepers", ("run", "1000000"), settings(32)),
     Load("create and join", ("run", "1000000"), LIVES),
     Load("cancel with cleanup", ("run", "1000000"), CANCELS),
     Load("24 sporadic servers", ("run", "1000000"), servers(24)),

@@ -3,12 +3,14 @@ from __future__ import annotations
 
 import re
 
-from forms import DECLARED, GREATEST_NUMBER, OPERAND, RANGES, RESULTS, SERVER_WORDS, SIGNAL, SIGNAL_SET, is_place
+from forms import DECLARED, GREATEST_NUMBER, OPERAND, RANGES, REAL, RESULTS, SERVER_WORDS, SIGNAL, SIGNAL_SET, is_place
 from reader import Entry, FaultKind, is_number, operand_fault, read_line
 
 from .found import Found, Word, listed, words_in
 from .patterns import LETTERS, MEANT, SERVER, Forms, best_form, meant_by, nearest, pattern_of
 
+_CLOCKS = {REAL: REAL, "realtime": REAL, "clock_realtime": REAL, "monotonic": "", "clock_monotonic": ""}
+"""What people write for a clock, and the word for it."""
 _BYTES = {0: "a byte 0", 11: "a vertical tab", 12: "a form feed", 13: "a Windows line end", 27: "an escape", 127: "a delete"}
 
 
@@ -153,11 +155,29 @@ def _word_count(number: int, words: list[Word], forms: Forms) -> Found:
     if len(texts) > longest:
         if all(text.startswith(",") or text.endswith(",") or "," in text for text in texts[longest - 1:longest]):
             wants += "; a set has no blanks round its commas"
+        if (clock := _clock(texts[0], texts[longest], forms)) is not None:
+            wants = clock
         return Found(1, number, FaultKind.WordCount, words[longest], f"'{texts[longest]}' is a word too many", wants)
     end = Word(" ", words[-1].column + len(words[-1].text) + 1)
     missing = [_what(place) for place in form.words[len(texts):]]
     wrong = f"the line ends too early: {' '.join(missing)} is missing" if len(agreeing) == 1 else "the line ends too early"
     return Found(1, number, FaultKind.WordCount, end, wrong, wants)
+
+
+def _clock(head: str, word: str, forms: Forms) -> str | None:
+    """What to write for a word too many that names a clock, if it does."""
+    clock = _CLOCKS.get(word.lower())
+    if clock is None:
+        return None
+    if clock == "":
+        return "leave it out: without `real` a time is one of CLOCK_MONOTONIC"
+    if word != REAL and any(form.words[-1] == REAL for form in forms[head]):
+        return "write `real`: that puts the time on CLOCK_REALTIME"
+    if head == "timer_settime":
+        return "a timer's clock is said where it is declared, by `timer NAME SIG N real`"
+    if head == "gettime":
+        return "write `real_gettime`, which reads CLOCK_REALTIME"
+    return "leave it out: `real` stands once, behind an absolute time and a timer's declaration alone"
 
 
 def _what(place: str) -> str:
@@ -169,6 +189,8 @@ def _number(place: str, text: str) -> tuple[str, str]:
     if text == "reg":
         return "`reg` may not stand here", "a number stands here: only where a pattern has V may the register stand"
     wrong = f"'{text}' is no number"
+    if text == REAL:
+        return wrong, "the number stands here, and `real` behind it"
     if re.fullmatch(r"[0-9]+\.[0-9]+", text):
         return wrong, "ticks are whole numbers: choose a shorter tick"
     if re.fullmatch(r"-[0-9]+", text):

@@ -23,6 +23,8 @@ MEANT = {
     "cond_wait": "wait", "pthread_cond_timedwait": "timedwait", "pthread_cond_signal": "signal", "notify": "signal",
     "pthread_cond_broadcast": "broadcast", "semaphore": "sem", "post": "sem_post", "sem_init": "sem", "mq_open": "queue",
     "mq": "queue", "condition": "cond", "clock_gettime": "gettime", "now": "gettime", "timer_create": "timer",
+    "settime": "clock_settime", "settimeofday": "clock_settime", "gettimeofday": "real_gettime", "sem_clockwait": "sem_timedwait",
+    "pthread_mutex_clocklock": "timedlock", "pthread_cond_clockwait": "timedwait",
     "pthread_kill": "tkill", "raise": "kill", "pthread_sigmask": "sigmask", "sigprocmask": "sigmask", "sigaction": "action",
     "sigwait": "sigwaitinfo", "pthread_cleanup_push": "push", "pthread_cleanup_pop": "pop", "compute": "run", "work": "run",
     "exec": "run", "execute": "run", "busy": "run", "for": "loop", "repeat": "loop", "while": "forever", "do": "forever",

@@ -4,7 +4,7 @@ from __future__ import annotations
 from collections.abc import Iterator
 from dataclasses import dataclass
 
-from forms import RESULTS, SIGNAL, SIGNAL_SET, Form, Stage, is_place
+from forms import REAL, RESULTS, SIGNAL, SIGNAL_SET, Form, Stage, is_place
 from reader import Entry, heading_of, read_lines
 from words import lines_of, number_of, signals_of
 
@@ -18,6 +18,10 @@ KNOWN = frozenset((
     *"1 abs action add at block cleanup cond disable dormant enable end fifo forever handler if ignore inherit loop mutex".split(),
     *"nonblock none protect quantum queue recursive rel rr run sem set take thread timer unblock unless".split(),
     *CALLS, *RESULTS))
+
+
+#: the words of CLOCK_REALTIME, which is this machine's own clock
+OF_THE_CLOCK = frozenset((REAL, "clock_settime", "real_gettime"))
 
 
 @dataclass(frozen=True)
@@ -45,6 +49,8 @@ def reasons(entry: Entry) -> Iterator[str]:
     unknown = [word for word in entry.form.words if not is_place(word) and word not in KNOWN]
     if "sporadic" in unknown:
         yield "SCHED_SPORADIC: Linux has no sporadic servers"
+    elif OF_THE_CLOCK & set(unknown):
+        yield "CLOCK_REALTIME: it is this machine's own clock, which the rig leaves alone"
     elif unknown:
         yield f"{unknown[0]}: the rig does not know it"
     for place, number in entry.numbers():

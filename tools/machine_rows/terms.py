@@ -1,16 +1,18 @@
 """A script as the term that its definition is about."""
 from __future__ import annotations
 
-from forms import OPERAND, ObjectKind
+from forms import ABSOLUTE_WAITS, OPERAND, ObjectKind
 from script import (
     Action, AddRegister, Call, CleanupKind, CondKind, Fifo, Guard, HandlerKind, Loop, MutexKind, Named, QueueKind, Rr,
     Run, Script, SemKind, SetRegister, Sporadic, Strict, TakeValue, Test, ThreadKind, TimerKind)
 
 SPECS = "Rattle.rules_machine.specs"
+TIMED = frozenset(wait.split()[0] for wait in ABSOLUTE_WAITS)
 VARIANTS = {
     "res": "words_numbers.specs.declared.res.Res",
     "call": "words_script.specs.declared.call.Call",
     "operand": "words_script.specs.declared.call.Operand",
+    "moment": "words_script.specs.declared.call.Moment",
     "policy": "words_script.specs.declared.policy.Policy",
     "protocol": "words_script.specs.declared.policy.Protocol",
     "decl": "words_script.specs.declared.decl.Decl",
@@ -76,6 +78,11 @@ def operand(place: str, value) -> str:
     return "operand.Reg" if value.number is None else f"(operand.Num {value.number})"
 
 
+def moment(value: Call, time: str) -> str:
+    """An absolute time with the clock of its call."""
+    return f"(moment.{'Realtime' if value.is_real else 'Monotonic'} {time})"
+
+
 def scheduling(words: tuple[str, ...], operands: list) -> str:
     """The policy that a call's line names from a keyword on."""
     kinds = {"fifo": Fifo, "rr": Rr, "sporadic": Sporadic, "strict": Strict}
@@ -91,6 +98,8 @@ def call(value: Call) -> str:
         given = value.operands[1:]
         wanted = policy(given[0]) if isinstance(given[0], (Fifo, Rr, Sporadic)) else scheduling(words, list(given))
         return f"(call.Setsched {value.operands[0]} {wanted})"
+    if value.word in TIMED:
+        terms[-1] = moment(value, terms[-1])
     name = camel(value.word)
     if value.word in ("sigmask", "timer_settime"):
         name += camel(value.choice)
@@ -137,8 +146,8 @@ def kind(value) -> str:
             return f"kind.Sem {count}"
         case QueueKind(depth, greatest, nonblock):
             return f"kind.Queue {depth} {greatest} {truth(nonblock)}"
-        case TimerKind(signal, number):
-            return f"kind.Timer {signal} {number}"
+        case TimerKind(signal, number, real):
+            return f"kind.Timer {signal} {number} {truth(real)}"
     raise AssertionError(value)
 
 

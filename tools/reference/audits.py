@@ -14,7 +14,7 @@ import sys
 from bisect import bisect_left, bisect_right
 from dataclasses import dataclass
 
-from forms import GREATEST_NUMBER, Stage
+from forms import GREATEST_NUMBER
 from reader import GREATEST_LIMIT, Fault, FaultKind
 from trace_lines import BUDGET_LINE, TraceLine, read_line
 from words import has_bad_byte, is_name, is_number, lines_of, number_of, words_of
@@ -259,11 +259,11 @@ class Order:
         self.ended = self.ended or line.form == "end"
 
 
-def first_breach(servers: list[AuditedServer], trace: bytes, stage: Stage) -> tuple[int, int] | None:
+def first_breach(servers: list[AuditedServer], trace: bytes) -> tuple[int, int] | None:
     """The first line that breaks a rule for any server, and the least rule that it breaks; the first line is 1."""
     accounts, order, count = [Account(server) for server in servers], Order(), 0
     for count, text in enumerate(lines_of(trace), 1):
-        line = read_line(text, stage)
+        line = read_line(text)
         if line is None or order.broken_by(line):
             return count, 1
         rule = min(filter(None, (account.broken(line) for account in accounts)), default=None)
@@ -276,7 +276,7 @@ def first_breach(servers: list[AuditedServer], trace: bytes, stage: Stage) -> tu
     return None if all(account.closed for account in accounts) else (count + 1, 6)
 
 
-def audit(text: bytes, stage: Stage = Stage.WHOLE) -> tuple[int, bytes]:
+def audit(text: bytes) -> tuple[int, bytes]:
     """The status and the text of an audit."""
     if len(text) > GREATEST_INPUT:
         return TOO_LONG, b"too long\n"
@@ -286,7 +286,7 @@ def audit(text: bytes, stage: Stage = Stage.WHOLE) -> tuple[int, bytes]:
     servers, fault = read_head(text[:divider.start()])
     if fault is not None:
         return REFUSED, f"refused {fault.line} {fault.kind.value} {fault.kind.name}\n".encode()
-    breach = first_breach(servers, text[divider.end():], stage)
+    breach = first_breach(servers, text[divider.end():])
     if breach is not None:
         return BREACH, b"breach %d %d\n" % breach
     return DONE, b"budgets hold\n"

@@ -135,7 +135,7 @@ def main() -> int:
     stage, differ, verdicts = Stage.named(args.stage), 0, Counter()
     for seed in range(args.first, args.first + args.count):
         for text, is_right in zip(inputs_of(seed, stage), (True, False)):
-            want = audit(text, stage)
+            want = audit(text)
             verdicts[verdict(*want)] += not is_right
             found = None if not is_right or want[0] == DONE else f"a right trace gets {want}"
             if found is None and args.program:

@@ -29,22 +29,22 @@ SIGNAL = r"rt(?:[0-9]|[12][0-9]|3[01])"
 RESULT = r"(?:0|EAGAIN|EBUSY|EDEADLK|EINTR|EINVAL|EMSGSIZE|EOVERFLOW|EPERM|ESRCH|ETIMEDOUT)"
 CALLS = (
     "yield create join cancel testcancel setcancel push pop exit setprio setsched lock timedlock trylock unlock wait timedwait signal"
-    " broadcast sem_wait sem_timedwait sem_trywait sem_getvalue sem_post nanosleep clock_nanosleep gettime timer_settime timer_gettime"
-    " timer_getoverrun kill tkill sigqueue sigmask sigwaitinfo sigtimedwait mq_send mq_timedsend mq_receive mq_timedreceive mq_notify").split()
-CALLS_OF_THE_CLOCK = ["clock_settime", "real_gettime"]
+    " broadcast sem_wait sem_timedwait sem_trywait sem_getvalue sem_post nanosleep clock_nanosleep gettime clock_settime real_gettime"
+    " timer_settime timer_gettime timer_getoverrun kill tkill sigqueue sigmask sigwaitinfo sigtimedwait"
+    " mq_send mq_timedsend mq_receive mq_timedreceive mq_notify").split()
 FORMS = {
     "dispatch": f"{NAME} {NUMBER}", "idle": "", "start": NAME, "exhaust": NAME, "cancel": NAME, "exit": NAME, "end": "",
-    "return": f"{NAME} (?:CALL) {RESULT} {NUMBER}", "deliver": f"{NAME} {SIGNAL} (?:USER|QUEUE|TIMER|MESGQ) {NUMBER}",
+    "return": f"{NAME} (?:{'|'.join(CALLS)}) {RESULT} {NUMBER}", "deliver": f"{NAME} {SIGNAL} (?:USER|QUEUE|TIMER|MESGQ) {NUMBER}",
     "activate": f"{NAME} {NUMBER}", "plan": f"{NAME} {NUMBER} {NUMBER}", "refill": f"{NAME} {NUMBER} {NUMBER}", "killed": SIGNAL}
 CLOSING = f"thread {NAME} ticks {NUMBER}(?: high {NUMBER} init {NUMBER} refilled {NUMBER} capacity {NUMBER})?"
 
 
-def word_of(line: bytes, stage: Stage) -> str:
+def word_of(line: bytes) -> str:
     """The word of the form of a trace's line, or `text`."""
     shapes = [("thread", CLOSING), *((word, f"{NUMBER} {word}{' ' + rest if rest else ''}") for word, rest in FORMS.items())]
-    text, calls = line.decode("latin-1"), CALLS + CALLS_OF_THE_CLOCK * (stage >= Stage.CLOCK)
+    text = line.decode("latin-1")
     for word, shape in shapes:
-        match = re.fullmatch(shape.replace("CALL", "|".join(calls)), text)
+        match = re.fullmatch(shape, text)
         if match and all(int(n) <= GREATEST for n in match.groups() if n and n.isdigit()):
             return word
     return "text"
@@ -56,13 +56,13 @@ def line_at(text: bytes, number: int) -> bytes | None:
     return lines[number - 1] if number <= len(lines) else None
 
 
-def compared(have: bytes, want: bytes, stage: Stage) -> tuple[int, bytes]:
+def compared(have: bytes, want: bytes) -> tuple[int, bytes]:
     """The status and the text of two traces."""
     if have == want:
         return Status.DONE, b"same\n"
     number = 1 + os.path.commonprefix([have, want]).count(b"\n")
     due, there = line_at(want, number), line_at(have, number)
-    word = "nothing" if there is None else word_of(there, stage)
+    word = "nothing" if there is None else word_of(there)
     return DIFFERS, b"differs %d\nwant %s\nhave %s\n" % (number, b"nothing" if due is None else due, word.encode())
 
 
@@ -75,7 +75,7 @@ def checked(text: bytes, horizon: int, stage: Stage) -> tuple[int, bytes]:
     if len(head) > GREATEST_TEXT:
         return Status.TOO_LONG, b"too long\n"
     status, want = answer(head, horizon, stage)
-    return (status, want) if status != Status.DONE else compared(text[match.end():], want, stage)
+    return (status, want) if status != Status.DONE else compared(text[match.end():], want)
 
 
 def changed(trace: bytes, rng: random.Random) -> bytes:

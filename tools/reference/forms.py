@@ -16,8 +16,7 @@ GREATEST_NUMBER = 10**18
 class Stage(IntEnum):
     """How much of the language is known. Each stage holds the forms of those before it.
 
-    The whole language has two versions; scripts that are generated for the stage after it are of version 2. The last
-    stage has a CLOCK_REALTIME that can be set, which the program does not have.
+    The whole language has two versions; scripts that are generated for the stage after it are of version 2.
     """
 
     FIRST = 1
@@ -31,9 +30,9 @@ class Stage(IntEnum):
     SIGNALS = 9
     TIMERS = 10
     QUEUES = 11
-    WHOLE = 12
-    VERSION2 = 13
-    CLOCK = 14
+    CLOCK = 12
+    WHOLE = 13
+    VERSION2 = 14
 
     @staticmethod
     def named(name: str) -> "Stage":
@@ -183,16 +182,14 @@ _TABLE: list[tuple[Stage, Role, list[str]]] = [
     (Stage.QUEUES, Role.STEP, [
         "mq_send <queue> <length> <urgency> <operand>", "mq_timedsend <queue> <length> <urgency> <operand> <operand>",
         "mq_receive <queue>", "mq_timedreceive <queue> <operand>", "mq_notify <queue> <sig> <operand>"]),
-    (Stage.WHOLE, Role.BODY, threads(STRICT)),
-    (Stage.WHOLE, Role.STEP, [f"setsched <thread> {STRICT}"]),
     (Stage.CLOCK, Role.DECLARATION, [f"timer <name> <sig> <number> {REAL}"]),
     (Stage.CLOCK, Role.STEP, ["clock_settime <operand>", "real_gettime", *[f"{wait} {REAL}" for wait in ABSOLUTE_WAITS]]),
+    (Stage.WHOLE, Role.BODY, threads(STRICT)),
+    (Stage.WHOLE, Role.STEP, [f"setsched <thread> {STRICT}"]),
 ]
 
-ALL_FORMS: list[Form] = [
+FORMS: list[Form] = [
     Form(role, stage, tuple(text.split())) for stage, role, texts in _TABLE for text in texts]
-FORMS: list[Form] = [form for form in ALL_FORMS if form.stage < Stage.CLOCK]
-"""The forms of the program's language; those of the clock that can be set are none of them."""
 
 BARRED_FROM_HANDLERS_AND_CLEANUPS = frozenset((
     "lock", "timedlock", "join", "testcancel", "push", "exit", "wait", "timedwait", "sem_wait", "sem_timedwait",
@@ -201,16 +198,11 @@ BARRED_FROM_HANDLERS_AND_CLEANUPS = frozenset((
 BARRED_FROM_HANDLERS = frozenset(("sigmask",))
 
 
-def language(stage: Stage) -> list[Form]:
-    """The forms of the program's language and, at the stage of the clock that can be set, those of it too."""
-    return ALL_FORMS if stage >= Stage.CLOCK else FORMS
-
-
 @lru_cache(maxsize=None)
 def built_forms(stage: Stage, version: int = 1) -> dict[str, tuple[Form, ...]]:
     """The forms of a version that are known at a stage, by their first word."""
     found: dict[str, tuple[Form, ...]] = {}
-    for form in ALL_FORMS:
+    for form in FORMS:
         if form.stage <= stage and form.version <= version:
             found[form.head] = found.get(form.head, ()) + (form,)
     return found

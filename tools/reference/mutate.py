@@ -7,7 +7,7 @@ from typing import Callable
 
 from forms import (
     BARRED_FROM_HANDLERS_AND_CLEANUPS, DECLARED, FORMS, OPERAND, RANGES, SERVER_WORDS, SIGNAL, SIGNAL_SET, USES, Form, Role,
-    Stage, built_forms, language)
+    Stage, built_forms)
 from reader import LIMITS_OF_VERSION, read
 from writer import accepted
 
@@ -141,7 +141,7 @@ def line_put(draw: Random, stage: Stage, lines: Text) -> Text:
 def form_put(draw: Random, stage: Stage, lines: Text) -> Text:
     """A line of some form with fitting or strange operands is put in."""
     at = draw.randint(0, len(lines))
-    form = draw.choice(language(stage) if draw.random() < 0.3 else [f for fs in forms_at(stage).values() for f in fs])
+    form = draw.choice(FORMS if draw.random() < 0.3 else [f for fs in forms_at(stage).values() for f in fs])
     return lines[:at] + [filled(draw, form, lines)] + lines[at:]
 
 
@@ -327,7 +327,7 @@ def barred_step(draw: Random, stage: Stage) -> Text:
     """A handler or cleanup with a step that must not stand in it."""
     if stage < Stage.LANGUAGE:
         return faulty_line(draw, stage)
-    barred = [form for form in language(stage) if form.head in BARRED_FROM_HANDLERS_AND_CLEANUPS | {"sigmask"}]
+    barred = [form for form in FORMS if form.head in BARRED_FROM_HANDLERS_AND_CLEANUPS | {"sigmask"}]
     return [f"{draw.choice(('handler', 'cleanup'))} w", filled(draw, draw.choice(barred), LEAST_SCRIPT), "end"]
 
 

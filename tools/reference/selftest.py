@@ -8,7 +8,6 @@ of its fault; NAME.show and NAME.detail, the whole text of that command;
 NAME.canonical, its canonical text; NAME.upgrade, that of the script of version 2. NAME.horizon is the number of the command.
 Examples whose horizon is too far for a machine that ticks are passed over. Where
 the horizon is at most 10,000 each state of the run is checked too.
-The scripts of tests/worked/clock set CLOCK_REALTIME; they are read at the stage `clock` alone.
 Each example of AUDITS.txt is an input of `audit`, NAME.audit, and its answer, NAME.verdict.
 The facts of some generated scripts are held against their traces (check_facts.py). Generated scripts of the stage `clock` from
 which the settings are taken out run as they do without the words of that stage.
@@ -38,13 +37,10 @@ UNSET_OF = 20
 
 
 def examples() -> list[tuple[str, Stage]]:
-    """The examples of both indexes with their stages."""
-    found: list[tuple[str, Stage]] = []
-    for folder in ("", "clock/"):
-        lines = (WORKED / folder / "INDEX.txt").read_text().splitlines()
-        words = [line.split() for line in lines if not line.startswith("#")]
-        found += [(folder + name, Stage.named(stage)) for name, stage, *_ in words]
-    return found
+    """The examples of the index with their stages."""
+    lines = (WORKED / "INDEX.txt").read_text().splitlines()
+    words = [line.split() for line in lines if not line.startswith("#")]
+    return [(name, Stage.named(stage)) for name, stage, *_ in words]
 
 
 def difference(name: str, stage: Stage) -> str | None:
@@ -98,7 +94,7 @@ LINES_OF_THE_CLOCK: tuple[tuple[str, str, str], ...] = (
     ("nanosleep 5 real", "WordCount", "WordCount"), ("sigtimedwait rt1 5 real", "WordCount", "WordCount"),
     ("timer_settime k abs 5 0 real", "WordCount", "WordCount"), ("timer_settime k real 5 0", "UnknownWord", "UnknownWord"),
     ("lock m real", "WordCount", "WordCount"), ("timer t rt1 5 real", "WordCount", "NotHere"), ("real", "UnknownWord", "UnknownWord"))
-"""Lines of a thread's body: the fault of each without the clock that can be set, and with it, if any."""
+"""Lines of a thread's body: the fault of each at the stage before the clock that can be set, and at that stage, if any."""
 
 
 def lines_wrong() -> list[str]:
@@ -107,7 +103,7 @@ def lines_wrong() -> list[str]:
     wrong: list[str] = []
     for line, *wanted in LINES_OF_THE_CLOCK:
         text = objects + f"thread a fifo 5 at 0\n{line}\nend\n".encode()
-        faults = [read(text, stage)[1] for stage in (Stage.WHOLE, Stage.CLOCK)]
+        faults = [read(text, stage)[1] for stage in (Stage.QUEUES, Stage.CLOCK)]
         have = ["" if fault is None else fault.kind.name for fault in faults]
         wrong += [] if have == wanted else [f"{line}: the reference gives {have}"]
     return wrong
@@ -120,7 +116,7 @@ def words_wrong(count: int) -> list[str]:
         text, horizon = generate.accepted(seed, Stage.CLOCK)
         unset = re.sub(rb"clock_settime[^\n#]*", b"yield", text)
         plain = re.sub(rb"(?m)[ \t]+real(?=[ \t]*(#|$))", b"", unset.replace(b"real_gettime", b"gettime"))
-        have = answer(unset, horizon, Stage.CLOCK, checked=True)[1].replace(b"real_gettime", b"gettime")
+        have = answer(unset, horizon, checked=True)[1].replace(b"real_gettime", b"gettime")
         wrong += [] if have == answer(plain, horizon)[1] else [f"generated script {seed} without a setting: the words change its run"]
     return wrong
 

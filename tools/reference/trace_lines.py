@@ -5,7 +5,7 @@ import re
 from dataclasses import dataclass
 from functools import lru_cache
 
-from forms import RESULTS, Role, Stage, language
+from forms import FORMS, RESULTS, Role
 from state import CANCELED, SigCode
 
 GREATEST = CANCELED
@@ -13,9 +13,10 @@ NAME = r"(?P<name>[a-z][a-z0-9_]{0,31})"
 NUMBER = r"(0|[1-9][0-9]*)"
 SIGNAL = r"rt(0|[1-9]|[12][0-9]|3[01])"
 NO_CALLS = frozenset(("run", "set", "add", "take", "if", "unless", "loop", "forever", "end"))
+CALLS = sorted({form.head for form in FORMS if form.role in (Role.STEP, Role.BLOCK, Role.CLOSE)} - NO_CALLS)
 SHAPES = {
     "dispatch": f"{NAME} {NUMBER}", "idle": "", "start": NAME,
-    "return": f"{NAME} (?:CALL) (?:{'|'.join(RESULTS)}) {NUMBER}",
+    "return": f"{NAME} (?:{'|'.join(CALLS)}) (?:{'|'.join(RESULTS)}) {NUMBER}",
     "deliver": f"{NAME} {SIGNAL} (?:{'|'.join(code.value for code in SigCode)}) {NUMBER}",
     "activate": f"{NAME} {NUMBER}", "exhaust": NAME, "plan": f"{NAME} {NUMBER} {NUMBER}",
     "refill": f"{NAME} {NUMBER} {NUMBER}", "cancel": NAME, "exit": NAME, "killed": SIGNAL, "end": ""}
@@ -37,25 +38,18 @@ class TraceLine:
         return self.form in (THREAD_LINE, BUDGET_LINE)
 
 
-def calls(stage: Stage) -> list[str]:
-    """The first words of all calls of the language."""
-    steps = {form.head for form in language(stage) if form.role in (Role.STEP, Role.BLOCK, Role.CLOSE)}
-    return sorted(steps - NO_CALLS)
-
-
 @lru_cache(maxsize=None)
-def shapes(stage: Stage) -> list[tuple[str, re.Pattern[str]]]:
-    call = "|".join(calls(stage))
-    timed = [(form, re.compile(f"(?P<time>{NUMBER[1:-1]}) {form}{' ' + shape if shape else ''}".replace("CALL", call)))
+def shapes() -> list[tuple[str, re.Pattern[str]]]:
+    timed = [(form, re.compile(f"(?P<time>{NUMBER[1:-1]}) {form}{' ' + shape if shape else ''}"))
              for form, shape in SHAPES.items()]
     plain = f"thread {NAME} ticks {NUMBER}"
     return [*timed, (THREAD_LINE, re.compile(plain)), (BUDGET_LINE, re.compile(f"{plain} {BUDGET}"))]
 
 
-def read_line(line: bytes, stage: Stage = Stage.WHOLE) -> TraceLine | None:
+def read_line(line: bytes) -> TraceLine | None:
     """What a line without its line end says, or None where it is no line of a trace."""
     text = line.decode("latin-1")
-    for form, shape in shapes(stage):
+    for form, shape in shapes():
         found = shape.fullmatch(text)
         if found is not None:
             named = found.groupdict()

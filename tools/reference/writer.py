@@ -10,9 +10,10 @@ from scenes import CAST, PEER, SCENES, SELF, Part
 _GREATEST = 10**18
 _SHARES: dict[Stage, float] = {
     Stage.THREADS: 0.5, Stage.SERVERS: 0.4, Stage.MUTEXES: 0.7, Stage.SEMAPHORES: 0.6, Stage.WAITING: 0.6,
-    Stage.SIGNALS: 0.6, Stage.TIMERS: 0.5, Stage.QUEUES: 0.6, Stage.LIVES: 0.6, Stage.CLOCK: 1}
+    Stage.SIGNALS: 0.6, Stage.TIMERS: 0.5, Stage.QUEUES: 0.6, Stage.LIVES: 0.6}
 """How often a topic occurs in the steps of a script."""
-_SCENES = SCENES | {Stage.CLOCK: CLOCK_SCENES}
+_SETS_CLOCK = 0.3
+"""How many of the scripts of the whole language are about the clock that can be set: the others have none of its words."""
 _ON_A_CLOCK = frozenset(("timer", *(wait.split()[0] for wait in ABSOLUTE_WAITS)))
 
 
@@ -24,8 +25,9 @@ class ScriptWriter:
         self.stage = stage
         self.lines: list[str] = []
         draw = self.draw
-        self.version = draw.choice((1, 1, 2)) if stage is Stage.CLOCK else 1 + (stage is Stage.VERSION2)
-        counts = (3, 4, 4, 4, 5) if stage is Stage.CLOCK else (1, 2, 2, 3, 3, 3, 4, 4, 5)
+        self.version = 1 + (stage is Stage.VERSION2)
+        self.sets_clock = stage is Stage.CLOCK or stage > Stage.CLOCK and draw.random() < _SETS_CLOCK
+        counts = (3, 4, 4, 4, 5) if self.sets_clock else (1, 2, 2, 3, 3, 3, 4, 4, 5)
         self.threads = [f"t{k}" for k in range(draw.choice(counts))]
         self.mutexes = self.some_names("m", 3, Stage.MUTEXES)
         self.conds = self.some_names("c", 2, Stage.WAITING)
@@ -36,10 +38,10 @@ class ScriptWriter:
         self.cleanups = self.some_names("u", 2, Stage.LANGUAGE)
         self.signals = sorted(draw.sample(range(32), draw.randint(2, 4)))
         self.topics = {topic for topic, share in _SHARES.items() if topic <= stage and draw.random() < share}
-        self.topics |= {stage} & set(_SHARES)
+        self.topics |= {stage} & set(_SHARES) | ({Stage.CLOCK} if self.sets_clock else set())
         self.handled = draw.choice(self.signals)
         self.steps_left = draw.choice((12, 25, 40, 60))
-        self.least_horizon = 40 if stage is Stage.CLOCK else 0
+        self.least_horizon = 40 if self.sets_clock else 0
         self.parts = self.played()
 
     def some_names(self, letter: str, most: int, since: Stage) -> list[str]:
@@ -49,11 +51,10 @@ class ScriptWriter:
     def played(self) -> dict[str, list[Part]]:
         """The parts of some scenes, given out to the threads."""
         draw = self.draw
-        stages = [stage for stage in _SCENES if stage <= self.stage and (stage is not Stage.VERSION2 or self.version == 2)]
-        scenes = [scene for stage in stages for scene in _SCENES[stage]]
-        newest = _SCENES.get(self.stage, ())
-        if self.stage is Stage.CLOCK:
-            chosen = [draw.choice(newest) for _ in range(draw.choice((1, 1, 1, 2)))] + draw.sample(scenes, draw.choice((0, 0, 1)))
+        scenes = [scene for stage, some in SCENES.items() if stage <= self.stage for scene in some]
+        newest = SCENES.get(self.stage, ())
+        if self.sets_clock:
+            chosen = [draw.choice(CLOCK_SCENES) for _ in range(draw.choice((1, 1, 1, 2)))] + draw.sample(scenes, draw.choice((0, 0, 1)))
         else:
             chosen = draw.sample(scenes, min(len(scenes), draw.choice((0, 1, 1, 2, 2, 3))))
             if newest and draw.random() < 0.5:
@@ -79,7 +80,7 @@ class ScriptWriter:
         if self.stage >= Stage.LANGUAGE and draw.random() < 0.6:
             parts.append([f"quantum {draw.randint(1, 5)}"])
         draw.shuffle(parts)
-        if self.stage >= Stage.CLOCK:
+        if self.sets_clock:
             parts = [[self.on_a_clock(line) for line in part] for part in parts]
         if self.version == 2:
             parts = [["version 2"], *parts, *self.crowd()]
@@ -114,14 +115,14 @@ class ScriptWriter:
 
     def thread(self, name: str) -> list[str]:
         draw = self.draw
-        share = 0.1 if self.stage is Stage.CLOCK else 0.25
+        share = 0.1 if self.sets_clock else 0.25
         dormant = self.stage >= Stage.LANGUAGE and self.threads[0] != name and draw.random() < share
         begin = "dormant" if dormant else f"at {draw.choice((0, 0, 0, 1, 2, 3, 5, 8))}"
         parts = [[line.replace(SELF, name) for line in part] for part in self.parts[name]]
         casts = [line[len(CAST):] for part in parts for line in part if line.startswith(CAST)]
         policy = casts[0] if casts else self.policy()
         parts = [[line for line in part if not line.startswith(CAST)] for part in parts]
-        prompt = parts and self.stage is Stage.CLOCK and draw.random() < 0.8
+        prompt = parts and self.sets_clock and draw.random() < 0.8
         body = self.block("thread", 1, 0 if prompt else draw.randint(0, 2) if parts else draw.randint(1, 7))
         for part in parts:
             body += [*part, *self.block("thread", 1, draw.choice((0, 0, 1, 2)))]
@@ -153,7 +154,7 @@ class ScriptWriter:
     def actions(self) -> list[list[str]]:
         if self.stage < Stage.SIGNALS:
             return []
-        kills = 0.1 if self.stage is Stage.CLOCK else 0.4
+        kills = 0.1 if self.sets_clock else 0.4
         ways = [f"run {name}" for name in self.handlers] * 3 + ["ignore"] + ["kill"] * (self.draw.random() < kills)
         found = [(signal, self.draw.choice(ways)) for signal in self.signals if signal != self.handled]
         found.append((self.handled, f"run {self.draw.choice(self.handlers)}"))
@@ -316,7 +317,7 @@ class ScriptWriter:
         return draw.choice((near, near, near, *[[*by_register, "clock_settime reg"]] * 2, draw.choice((far, near))))
 
     def setting_of_a_handler(self) -> list[str]:
-        return self.setting() if self.stage >= Stage.CLOCK and self.draw.random() < 0.5 else []
+        return self.setting() if self.sets_clock and self.draw.random() < 0.5 else []
 
     def reading(self) -> list[str]:
         return self.draw.choice((["real_gettime"], ["real_gettime"], ["real_gettime", "take", f"add {self.draw.randint(0, 20)}"]))

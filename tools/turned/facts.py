@@ -52,6 +52,10 @@ RULES = [
     Turned("show tells the state before the items of its instant", "detail.py",
            "    machine.run_until(instant)\n    machine.handle_due_items()\n", "    machine.run_until(instant)\n",
            "facts_of_the_instant_at_the_horizon"),
+    Turned("a call that a cancellation ends answers 0", "kernel.py",
+           "        self.make_ready(thread)\n        self.begin_ending(thread)\n",
+           "        self.make_ready(thread)\n        thread.frame.result, thread.frame.value = Res.ZERO, 0\n"
+           "        self.begin_ending(thread)\n", "facts_of_cancelled_threads"),
     Turned("the rest of a covered unit is told", "facts.py",
            "    if frame.left >= 1:\n        lines.append(f\"left {name} {frame.left}\")",
            "    rest = max(one.left for one in thread.frames)\n    if rest >= 1:\n"

@@ -74,8 +74,8 @@ def tell(seen: Timeline) -> None:
 
 
 def goes_on(before: Span, span: Span) -> bool:
-    """Whether a wait goes on, though the thread's priority is another one."""
-    same = (before.state, before.call, before.what, before.frame) == (span.state, span.call, span.what, span.frame)
+    """Whether a wait goes on, though the thread's priority is another one; where a setting of the clock moves its end, a stretch begins."""
+    same = (before.state, before.call, before.what, before.until, before.frame) == (span.state, span.call, span.what, span.until, span.frame)
     return same and span.state is State.WAITING and before.end == span.start
 
 

@@ -3,6 +3,7 @@ ghost use Rattle.std.specs.Prelude.{◌≡◌, ◌<◌, None, length};
 ghost use Rattle.rules_machine.specs.Priorities.{mutex_waited};
 ghost use Rattle.rules_machine.specs.Queues.{blocks_unless_nonblock};
 ghost use Rattle.kernel_threads.specs.Plain.{wait_of};
+ghost use Rattle.kernel_state.specs.RealTimes.{MayWaitUntil};
 ghost use Rattle.kernel_state.specs.Does.{Does};
 ghost use Rattle.kernel_state.specs.Caller.{caller};
 ghost use Rattle.kernel_state.specs.Callers.{CanBlock};
@@ -26,6 +27,7 @@ pub(crate) fn block_unless_nonblock<K: Sink>(
     requires can { CanBlock p.old by.now.thread }
     requires queue { q < length p.old.machine.queues }
     requires other { mutex_waited (wait_of wait) ≡ None }
+    requires modest { MayWaitUntil p.old.machine by.now.call.now due }
     ensures { Does K.text K.faults (blocks_unless_nonblock (caller by.now) q (wait_of wait) due) p.old p.new out.old out.new }
 {
     if p.queue(q).is_nonblock() {

@@ -1,6 +1,7 @@
 //! Receiving a message: `mq_receive` and `mq_timedreceive`.
 ghost use Rattle.std.specs.Prelude.{◌<◌, length};
 ghost use Rattle.rules_machine.specs.Queues.{receives_message};
+ghost use Rattle.kernel_state.specs.RealTimes.{MayWaitUntil};
 ghost use Rattle.kernel_state.specs.Does.{Does};
 ghost use Rattle.kernel_state.specs.Caller.{caller};
 ghost use Rattle.calls_queues.specs.Receives.{hands_out, takes_over_from};
@@ -54,6 +55,7 @@ pub fn mq_receive<K: Sink>(
 )
     requires caller { CanPass p.old by.now.thread }
     requires queue { q < length p.old.machine.queues }
+    requires modest { MayWaitUntil p.old.machine by.now.call.now due }
     ensures { Does K.text K.faults (receives_message (caller by.now) q due) p.old p.new out.old out.new }
 {
     let sender = p.best_sender(q);

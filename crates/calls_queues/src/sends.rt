@@ -6,6 +6,7 @@ ghost use Rattle.rules_machine.specs.Threads.{is_blocked, thread_at};
 ghost use Rattle.rules_machine.specs.Turns.{returns, ◌▷◌};
 ghost use Rattle.rules_machine.specs.Waking.{wakes};
 ghost use Rattle.kernel_threads.specs.Plain.{message_of};
+ghost use Rattle.kernel_state.specs.RealTimes.{MayWaitUntil};
 ghost use Rattle.kernel_state.specs.Does.{Does};
 ghost use Rattle.kernel_state.specs.Caller.{caller};
 ghost use Rattle.kernel_state.specs.Callers.{CanWake, IsRunning};
@@ -69,6 +70,7 @@ fn send_to_queue<K: Sink>(
     requires priority { message.priority < 32 }
     requires can { CanNotify p.old.machine q }
     requires room { length p.old.direct < 255 }
+    requires modest { MayWaitUntil p.old.machine by.now.call.now due }
     ensures { Does K.text K.faults (reaches_receiver_or_queue None (caller by.now) q (message_of message) due) p.old p.new out.old out.new }
 {
     if p.queue(q).has_room() {
@@ -90,6 +92,7 @@ pub fn mq_send<K: Sink>(
     requires caller { CanPass p.old by.now.thread }
     requires queue { queue < length p.old.machine.queues }
     requires priority { outgoing.message.priority < 32 }
+    requires modest { MayWaitUntil p.old.machine by.now.call.now due }
     ensures { Does K.text K.faults (sends_message (caller by.now) queue outgoing.length (message_of outgoing.message) due) p.old p.new out.old out.new }
 {
     let Outgoing { length, message } = outgoing;

@@ -7,3 +7,4 @@ pub mod Midway
 pub mod Awaited
 pub mod Generated
 pub mod Expired
+pub mod ClockSet

@@ -1,5 +1,5 @@
 //! Signals: sending them, masks, waiting for them, the sweep that delivers those that are pending, and the interval timers that send
-//! them. Each is a step of a turn of the machine.
+//! them and CLOCK_REALTIME, which is set under them. Each is a step of a turn of the machine.
 //!
 //! Proved: each answer of the calls of signals and of timers by its row, with the lines told. `generate`: a signal goes to the
 //! thread that waits for it and is served first, or is ignored, or becomes pending. `expire`: an expiry generates its timer's
@@ -7,6 +7,7 @@
 //! it, by its handler or as the end of the process, with the moves.
 #![tactic(auto)]
 
+mod clock;
 mod delivery;
 mod generation;
 mod kills;
@@ -15,6 +16,7 @@ mod sigwait;
 mod sweeps;
 mod timers;
 
+pub use clock::clock_settime;
 pub use generation::generate;
 pub use kills::{kill, sigqueue, tkill};
 pub use masks::{sigmask_block, sigmask_set, sigmask_unblock};

@@ -1,6 +1,7 @@
 //! Waiting for signals: `sigwaitinfo`, and with ticks `sigtimedwait`.
-ghost use Rattle.std.specs.Prelude.{◌≡◌, ◌≤◌, ◌<◌, ◌+◌, ◌^◌, Contains, IfSome, Some, length};
+ghost use Rattle.std.specs.Prelude.{◌≡◌, ◌≤◌, ◌<◌, ◌+◌, ◌^◌, Contains, IfSome, Some, false, length};
 ghost use Rattle.words_numbers.specs.declared.res.Res.TheVariants as res;
+ghost use Rattle.rules_machine.specs.Clock.{waits_on_real};
 ghost use Rattle.rules_machine.specs.Signals.{delivers, waits_signal, blocks_for_signal, without_record};
 ghost use Rattle.rules_machine.specs.State.{for_signal};
 ghost use Rattle.rules_machine.specs.Turns.{changes_pending, returns, ◌▷◌};
@@ -51,6 +52,7 @@ fn wait_at_most<K: Sink>(
     requires can { CanBlock p.old by.now.thread }
     requires ticks { n ≤ 10 ^ 18 }
     requires early { p.old.machine.now ≤ 10 ^ 18 }
+    requires plain { waits_on_real by.now.call.now ≡ false }
     ensures { Does K.text K.faults (blocks_for_signal (Some n) (caller by.now) awaited) p.old p.new out.old out.new }
 {
     if n == 0 {
@@ -72,6 +74,7 @@ fn wait_ticks<K: Sink>(
     requires can { CanBlock p.old by.now.thread }
     requires ticks { IfSome ticks (λ n. n ≤ 10 ^ 18) }
     requires early { p.old.machine.now ≤ 10 ^ 18 }
+    requires plain { waits_on_real by.now.call.now ≡ false }
     ensures { Does K.text K.faults (blocks_for_signal ticks (caller by.now) awaited) p.old p.new out.old out.new }
 {
     match ticks {
@@ -92,6 +95,7 @@ pub fn sigtimedwait<K: Sink>(
     requires can { CanBlock p.old by.now.thread }
     requires ticks { IfSome ticks (λ n. n ≤ 10 ^ 18) }
     requires early { p.old.machine.now ≤ 10 ^ 18 }
+    requires plain { waits_on_real by.now.call.now ≡ false }
     ensures { Does K.text K.faults (waits_signal ticks (caller by.now) awaited) p.old p.new out.old out.new }
 {
     match p.next_awaited(by.thread, awaited) {

@@ -1,9 +1,11 @@
 //! Interval timers: setting and reading them, and their expiries.
-ghost use Rattle.std.specs.Prelude.{◌≡◌, ◌≤◌, ◌<◌, ◌+◌, ◌^◌, length};
+ghost use Rattle.std.specs.Prelude.{◌≡◌, ◌≤◌, ◌<◌, ◌+◌, ◌*◌, ◌^◌, length};
 ghost use Rattle.rules_machine.specs.Signals.{generates};
 ghost use Rattle.rules_machine.specs.Threads.{timer_at};
-ghost use Rattle.rules_machine.specs.Timers.{expires, first_expiry, reads_overrun, reads_timer, record_of_timer, sets_timer, signals_expiry};
+ghost use Rattle.rules_machine.specs.Timers.{expires, first_expiry, reads_overrun, reads_timer, record_of_timer, sets_timer, signals_expiry, timer_moment};
+ghost use Rattle.kernel_threads.specs.RealDues.{real_due_if};
 ghost use Rattle.kernel_state.specs.Kernel.{after};
+ghost use Rattle.kernel_state.specs.RealTimes.{ComesModestly};
 ghost use Rattle.kernel_state.specs.Does.{Does};
 ghost use Rattle.kernel_state.specs.Caller.{caller};
 ghost use Rattle.kernel_state.specs.Pending.{SignalsFit};
@@ -24,29 +26,39 @@ pub fn expiry_after(now: Tick, n: u64) -> Option<Tick>
     if n == 0 { None } else { now.after(n) }
 }
 
-/// When a timer that is set for a tick first expires. `None` exactly where that is 0: it is disarmed.
-pub fn expiry_at(at: Tick) -> Option<Tick>
-    ensures { result ≡ first_expiry at at }
+/// When a timer that is set for a time of its clock, at most 2·10^18, first expires. `None` exactly where that is 0: it is disarmed.
+pub fn expiry_at(p: &Parts, k: ObjId, at: Tick) -> Option<Tick>
+    requires timer { k < length p.now.machine.timers }
+    requires early { p.now.machine.now ≤ 10 ^ 18 }
+    requires limit { at ≤ 2 * 10 ^ 18 }
+    ensures value { result ≡ first_expiry at (timer_moment p.now.machine k at) }
+    ensures modest { ComesModestly p.now.machine.clock (real_due_if result (timer_at p.now.machine k).is_real) }
 {
-    if at.get() == 0 { None } else { Some(at) }
+    if at.get() == 0 {
+        None
+    } else {
+        Some(p.timer_moment(k, at))
+    }
 }
 
 /// `timer_settime`: the timer is due at that tick, and then again after each interval of so many ticks; with an interval of 0 once. With
-/// `None` it is disarmed.
+/// `None` it is disarmed. The flag says whether that tick is when CLOCK_REALTIME reads the time that the timer is set to.
 pub fn timer_settime<K: Sink>(
     p: &mut Parts,
     by: &Caller<'_>,
     k: ObjId,
     due: Option<Tick>,
+    is_reading: bool,
     interval: u64,
     out: &mut Tracer<'_, K>,
 )
     requires known { by.now.thread < length p.old.names }
     requires timer { k < length p.old.machine.timers }
     requires interval { interval ≤ 10 ^ 18 }
-    ensures { Does K.text K.faults (sets_timer (caller by.now) k due interval) p.old p.new out.old out.new }
+    requires modest { ComesModestly p.old.machine.clock (real_due_if due is_reading) }
+    ensures { Does K.text K.faults (sets_timer (caller by.now) k due is_reading interval) p.old p.new out.old out.new }
 {
-    p.set_timer(k, due, interval);
+    p.set_timer(k, due, is_reading, interval);
     p.returns(by, Res::Zero, 0, out);
 }
 

@@ -20,7 +20,7 @@ use Rattle.rules_machine.specs.State.{Machine, Mutex, Status, Thread, Wait, Wait
 use Rattle.rules_machine.specs.Threads.{can_run, is_blocked, is_runnable, no_mutex, no_thread, thread_at, waiting_in, waiting_of}
 use Rattle.rules_machine.specs.Turns.{Caller, Turn, changes, changes_mutex, moves, tells, ◌▷◌}
 use Rattle.rules_machine.specs.Waiters.{Waiter, best_waiter, waits_so}
-use Rattle.rules_machine.specs.Waking.{blocks, call_in, cancelled_value, ending_with, put_to_wait, wakes_telling, woken}
+use Rattle.rules_machine.specs.Waking.{blocks, call_in, cancelled_value, ending_with, last_result, last_value, put_to_wait, wakes_telling, woken}
 use Rattle.rules_machine.proofs.Reading.{changed-length, thread-other}
 use Rattle.rules_moves.proofs.Calls.Answers.{waits_blocked}
 use Rattle.rules_moves.proofs.Calls.Commuting.{woken_runs}
@@ -78,51 +78,51 @@ activated_other : (t u : ℕ) (o : Option ServerState) (s : Turn Cursor) → (t 
 activated_other t u None s other = refl
 activated_other t u (Some server) s other = thread-other s.machine t u (with_server (activate s.machine.now)) other
 
-woken_thread : (e : Event) (t u : ℕ) (r : Res) (s : Turn Cursor) → (t == u) ≡ false → thread_at (wakes_telling e t r 0 s).machine u ≡ thread_at s.machine u
-woken_thread e t u r s other =
-    let up = tells e (moves t (changes t (woken r 0) s)) in
-    activated_other t u (at_once (high_server (thread_at up.machine t).server)) up other ∙ thread-other s.machine t u (woken r 0) other
+woken_thread : (e : Event) (t u : ℕ) (r : Res) (v : ℕ) (s : Turn Cursor) → (t == u) ≡ false → thread_at (wakes_telling e t r v s).machine u ≡ thread_at s.machine u
+woken_thread e t u r v s other =
+    let up = tells e (moves t (changes t (woken r v) s)) in
+    activated_other t u (at_once (high_server (thread_at up.machine t).server)) up other ∙ thread-other s.machine t u (woken r v) other
 
-woken_mutexes : (e : Event) (t : ℕ) (r : Res) (s : Turn Cursor) → (wakes_telling e t r 0 s).machine.mutexes ≡ s.machine.mutexes
-woken_mutexes e t r s = kept_mutexes (at_once (high_server (thread_at (tells e (moves t (changes t (woken r 0) s))).machine t).server))
+woken_mutexes : (e : Event) (t : ℕ) (r : Res) (v : ℕ) (s : Turn Cursor) → (wakes_telling e t r v s).machine.mutexes ≡ s.machine.mutexes
+woken_mutexes e t r v s = kept_mutexes (at_once (high_server (thread_at (tells e (moves t (changes t (woken r v) s))).machine t).server))
   where
-    kept_mutexes : (o : Option ServerState) → (activates_server t o (tells e (moves t (changes t (woken r 0) s)))).machine.mutexes ≡ s.machine.mutexes
+    kept_mutexes : (o : Option ServerState) → (activates_server t o (tells e (moves t (changes t (woken r v) s)))).machine.mutexes ≡ s.machine.mutexes
     kept_mutexes None = refl
     kept_mutexes (Some server) = refl
 
-taken_fits : (e : Event) (t k : ℕ) (r : Res) (s : Turn Cursor) → is_blocked (thread_at s.machine t).status ≡ true → WaitsFit s.machine → WaitsFit (s ▷ changes_mutex k (taken_by t) ▷ wakes_telling e t r 0).machine
-taken_fits d t k r s waits h = record { mutexes = λ u. mutexes_at u (t == u) refl; rests = λ u e. rests u (t == u) refl e; own_none = λ u e. own_none u (t == u) refl e }
+taken_fits : (e : Event) (t k : ℕ) (r : Res) (v : ℕ) (s : Turn Cursor) → is_blocked (thread_at s.machine t).status ≡ true → WaitsFit s.machine → WaitsFit (s ▷ changes_mutex k (taken_by t) ▷ wakes_telling e t r v).machine
+taken_fits d t k r v s waits h = record { mutexes = λ u. mutexes_at u (t == u) refl; rests = λ u e. rests u (t == u) refl e; own_none = λ u e. own_none u (t == u) refl e }
   where
     mid : Turn Cursor
     mid = changes_mutex k (taken_by t) s
 
     after : Machine Cursor
-    after = (wakes_telling d t r 0 mid).machine
+    after = (wakes_telling d t r v mid).machine
 
     runs : can_run after t ≡ true
-    runs = woken_runs d t r 0 mid waits
+    runs = woken_runs d t r v mid waits
 
     many : length after.mutexes ≡ length s.machine.mutexes
-    many = ap length (woken_mutexes d t r mid) ∙ changed-length no_mutex k (taken_by t) s.machine.mutexes
+    many = ap length (woken_mutexes d t r v mid) ∙ changed-length no_mutex k (taken_by t) s.machine.mutexes
 
     mutexes_at : (u : ℕ) (b : Bool) → (t == u) ≡ b → WaitKnowsMutex (length after.mutexes) (waiting_in (thread_at after u).status)
     mutexes_at u true it = subst (λ (i : ℕ). WaitKnowsMutex (length after.mutexes) (waiting_in (thread_at after i).status)) (same_number t u it) (runs_built (length after.mutexes) (thread_at after t).status runs)
     mutexes_at u false other =
         subst (λ (n : ℕ). WaitKnowsMutex n (waiting_in (thread_at after u).status)) (sym many)
-        (subst (λ (th : Thread Cursor). WaitKnowsMutex (length s.machine.mutexes) (waiting_in th.status)) (sym (woken_thread d t u r mid other)) (h.mutexes u))
+        (subst (λ (th : Thread Cursor). WaitKnowsMutex (length s.machine.mutexes) (waiting_in th.status)) (sym (woken_thread d t u r v mid other)) (h.mutexes u))
 
     rests : (u : ℕ) (b : Bool) → (t == u) ≡ b → is_blocked (thread_at after u).status ≡ true → IsUnused (thread_at after u).server
     rests u true it e = not_both (is_blocked (thread_at after t).status) (runs_unblocked (thread_at after t).status runs) (subst (λ (i : ℕ). is_blocked (thread_at after i).status ≡ true) (sym (same_number t u it)) e)
     rests u false other e =
-        let same = woken_thread d t u r mid other in
+        let same = woken_thread d t u r v mid other in
         subst (λ (th : Thread Cursor). IsUnused th.server) (sym same) (h.rests u (sym (ap (λ (th : Thread Cursor). is_blocked th.status) same) ∙ e))
 
     own_none : (u : ℕ) (b : Bool) → (t == u) ≡ b → waits_so is_in_condition_wait (thread_at after u) ≡ true → owned_by after u ≡ []
     own_none u true it e = not_both (waits_so is_in_condition_wait (thread_at after t)) (runs_waits (thread_at after t).status runs) (subst (λ (i : ℕ). waits_so is_in_condition_wait (thread_at after i) ≡ true) (sym (same_number t u it)) e)
     own_none u false other e =
-        let same = woken_thread d t u r mid other in
+        let same = woken_thread d t u r v mid other in
         let before = h.own_none u (sym (ap (λ (th : Thread Cursor). waits_so is_in_condition_wait th) same) ∙ e) in
-        ap (filter (λ (j : Mutex). is j.owner u)) (woken_mutexes d t r mid) ∙ others_own t u k s.machine.mutexes other before
+        ap (filter (λ (j : Mutex). is j.owner u)) (woken_mutexes d t r v mid) ∙ others_own t u k s.machine.mutexes other before
 
 -- ---- a thread waits for its mutex again
 
@@ -159,10 +159,11 @@ told_in t r s = event.Return t (name_of (call_in (waiting_of s.machine t))) r 0
 
 returned_fits : (how : CondEnd) (t k : ℕ) (s : Turn Cursor) → is_blocked (thread_at s.machine t).status ≡ true → WaitsFit s.machine →
     WaitsFit (s ▷ changes_mutex k (taken_by t) ▷ returns_from_wait how t).machine
-returned_fits cond_end.Signalled t k s waits h = taken_fits (told_in t res.Zero s) t k res.Zero s waits h
-returned_fits cond_end.Timedout t k s waits h = taken_fits (told_in t res.Timedout s) t k res.Timedout s waits h
+returned_fits cond_end.Signalled t k s waits h = taken_fits (told_in t res.Zero s) t k res.Zero 0 s waits h
+returned_fits cond_end.Timedout t k s waits h = taken_fits (told_in t res.Timedout s) t k res.Timedout 0 s waits h
 returned_fits cond_end.Cancelled t k s waits h =
-    kept_fits t (ending_with cancelled_value) (s ▷ changes_mutex k (taken_by t) ▷ wakes_telling (event.Cancel t) t res.Zero 0) (λ th. refl) (λ th. refl) (taken_fits (event.Cancel t) t k res.Zero s waits h)
+    kept_fits t (ending_with cancelled_value) (s ▷ changes_mutex k (taken_by t) ▷ wakes_telling (event.Cancel t) t (last_result t s.machine) (last_value t s.machine)) (λ th. refl) (λ th. refl)
+    (taken_fits (event.Cancel t) t k (last_result t s.machine) (last_value t s.machine) s waits h)
 
 contended_fits : (t k : ℕ) (how : CondEnd) (s : Turn Cursor) → is_blocked (thread_at s.machine t).status ≡ true → OwnsNone s.machine t → WaitsFit s.machine →
     WaitsFit (reacquires_or_waits (Some k) t how s).machine
@@ -203,17 +204,17 @@ activated_grows : (t : ℕ) (o : Option ServerState) (s r : Turn Cursor) → Gro
 activated_grows t None s r h = h
 activated_grows t (Some server) s r h = record { moves = h.moves; serial = h.serial; time = h.time }
 
-woken_grows : (e : Event) (t k : ℕ) (r : Res) (s : Turn Cursor) → Grows s (s ▷ changes_mutex k (taken_by t) ▷ wakes_telling e t r 0)
-woken_grows e t k r s =
+woken_grows : (e : Event) (t k : ℕ) (r : Res) (v : ℕ) (s : Turn Cursor) → Grows s (s ▷ changes_mutex k (taken_by t) ▷ wakes_telling e t r v)
+woken_grows e t k r v s =
     let mid = changes_mutex k (taken_by t) s in
-    let up = tells e (moves t (changes t (woken r 0) mid)) in
+    let up = tells e (moves t (changes t (woken r v) mid)) in
     activated_grows t (at_once (high_server (thread_at up.machine t).server)) s up
     (record { moves = (let e = length-append s.direct (t ∷ []) in omega (arith, e)); serial = omega arith; time = refl })
 
 returned_grows : (how : CondEnd) (t k : ℕ) (s : Turn Cursor) → Grows s (s ▷ changes_mutex k (taken_by t) ▷ returns_from_wait how t)
-returned_grows cond_end.Signalled t k s = woken_grows (told_in t res.Zero s) t k res.Zero s
-returned_grows cond_end.Timedout t k s = woken_grows (told_in t res.Timedout s) t k res.Timedout s
-returned_grows cond_end.Cancelled t k s = let g = woken_grows (event.Cancel t) t k res.Zero s in record { moves = g.moves; serial = g.serial; time = g.time }
+returned_grows cond_end.Signalled t k s = woken_grows (told_in t res.Zero s) t k res.Zero 0 s
+returned_grows cond_end.Timedout t k s = woken_grows (told_in t res.Timedout s) t k res.Timedout 0 s
+returned_grows cond_end.Cancelled t k s = let g = woken_grows (event.Cancel t) t k (last_result t s.machine) (last_value t s.machine) s in record { moves = g.moves; serial = g.serial; time = g.time }
 
 pub contends_grows : (t : ℕ) (how : CondEnd) (s : Turn Cursor) → Grows s (contends t how s)
 contends_grows t how s = by_mutex (option_and_then (λ (w : Waiting). released_mutex w.wait) (waiting_of s.machine t))

@@ -3,6 +3,7 @@ ghost use Rattle.std.specs.Prelude.{◌≡◌, None};
 ghost use Rattle.rules_machine.specs.Priorities.{mutex_waited};
 ghost use Rattle.rules_machine.specs.Semaphores.{blocks_unless_late};
 ghost use Rattle.kernel_threads.specs.Plain.{wait_of};
+ghost use Rattle.kernel_state.specs.RealTimes.{MayWaitUntil};
 ghost use Rattle.kernel_state.specs.Does.{Does};
 ghost use Rattle.kernel_state.specs.Caller.{caller};
 ghost use Rattle.kernel_state.specs.Callers.{CanBlock};
@@ -25,6 +26,7 @@ pub fn block_unless_late<K: Sink>(
 )
     requires can { CanBlock p.old by.now.thread }
     requires other { mutex_waited (wait_of wait) ≡ None }
+    requires modest { MayWaitUntil p.old.machine by.now.call.now due }
     ensures { Does K.text K.faults (blocks_unless_late (caller by.now) (wait_of wait) due) p.old p.new out.old out.new }
 {
     if is_late(p, &due) {

@@ -10,6 +10,7 @@ ghost use Rattle.rules_machine.specs.Threads.{mutex_at, thread_at};
 ghost use Rattle.rules_machine.specs.Turns.{changes_mutex, returns, ◌▷◌};
 ghost use Rattle.rules_machine.specs.Waiters.{waiters};
 ghost use Rattle.rules_machine.specs.Waking.{blocks};
+ghost use Rattle.kernel_state.specs.RealTimes.{MayWaitUntil};
 ghost use Rattle.kernel_state.specs.Does.{Does};
 ghost use Rattle.kernel_state.specs.Caller.{caller};
 ghost use Rattle.calls_sync.specs.Waits.{OwnsNone};
@@ -97,6 +98,7 @@ fn block_and_release<K: Sink>(
     requires mutex { k < length p.old.machine.mutexes }
     requires owned { (mutex_at p.old.machine k).owner ≡ Some by.now.thread }
     requires can { CanContend p.old }
+    requires modest { MayWaitUntil p.old.machine by.now.call.now due }
     ensures { Does K.text K.faults (λ s. s ▷ blocks (caller by.now) (for_condition c k) due ▷ releases k) p.old p.new out.old out.new }
 {
     p.block(by, Wait::Condition(c, k), due);
@@ -115,6 +117,7 @@ pub fn cond_wait<K: Sink>(
     requires caller { IsRunning p.old by.now.thread }
     requires mutex { k < length p.old.machine.mutexes }
     requires can { CanContend p.old }
+    requires modest { MayWaitUntil p.old.machine by.now.call.now due }
     ensures { Does K.text K.faults (waits (caller by.now) c k due) p.old p.new out.old out.new }
 {
     if !p.mutex(k).is_owned_by(by.thread) {

@@ -5,6 +5,7 @@ ghost use Rattle.rules_machine.specs.Mutexes.{counted_up, counted_down, locks, c
 ghost use Rattle.rules_machine.specs.Threads.{mutex_at};
 ghost use Rattle.rules_machine.specs.Turns.{changes_mutex, returns, ◌▷◌};
 ghost use Rattle.rules_machine.specs.Waiters.{Waiter, best_waiter};
+ghost use Rattle.kernel_state.specs.RealTimes.{MayWaitUntil};
 ghost use Rattle.kernel_state.specs.Does.{Does};
 ghost use Rattle.kernel_state.specs.Caller.{caller};
 ghost use Rattle.calls_sync.specs.Answers.{CanAct, answer_of};
@@ -59,6 +60,7 @@ fn act<K: Sink>(
     requires caller { CanBlock p.old by.now.thread }
     requires mutex { k < length p.old.machine.mutexes }
     requires can { CanAct p.old.machine by.now.thread k (answer_of answer) }
+    requires modest { MayWaitUntil p.old.machine by.now.call.now due }
     ensures { Does K.text K.faults (carries_out_lock (answer_of answer) (caller by.now) k due) p.old p.new out.old out.new }
 {
     match answer {
@@ -81,6 +83,7 @@ pub fn mutex_lock<K: Sink>(
 )
     requires can { CanBlock p.old by.now.thread }
     requires mutex { k < length p.old.machine.mutexes }
+    requires modest { MayWaitUntil p.old.machine by.now.call.now due }
     ensures { Does K.text K.faults (locks (caller by.now) k due) p.old p.new out.old out.new }
 {
     if p.take_at_once(k, by.thread) {
@@ -102,6 +105,7 @@ fn lock_any<K: Sink>(
 )
     requires can { CanBlock p.old by.now.thread }
     requires mutex { k < length p.old.machine.mutexes }
+    requires modest { MayWaitUntil p.old.machine by.now.call.now due }
     ensures { Does K.text K.faults (locks (caller by.now) k due) p.old p.new out.old out.new }
 {
     let answer = lock_answer(p, by.thread, k, &due);

@@ -5,6 +5,7 @@ ghost use Rattle.rules_machine.specs.Semaphores.{posts, reads_semaphore, semapho
 ghost use Rattle.rules_machine.specs.Threads.{is_blocked, semaphore_at, thread_at};
 ghost use Rattle.rules_machine.specs.Turns.{changes_semaphore, returns, ◌▷◌};
 ghost use Rattle.rules_machine.specs.Waking.{wakes};
+ghost use Rattle.kernel_state.specs.RealTimes.{MayWaitUntil};
 ghost use Rattle.kernel_state.specs.Does.{Does};
 ghost use Rattle.kernel_state.specs.Caller.{caller};
 ghost use Rattle.kernel_state.specs.Callers.{CanBlock, CanWake};
@@ -41,6 +42,7 @@ pub fn sem_wait<K: Sink>(
 )
     requires can { CanBlock p.old by.now.thread }
     requires semaphore { k < length p.old.machine.semaphores }
+    requires modest { MayWaitUntil p.old.machine by.now.call.now due }
     ensures { Does K.text K.faults (waits_semaphore (caller by.now) k due) p.old p.new out.old out.new }
 {
     if p.semaphore(k) > 0 {

@@ -2,6 +2,7 @@
 pub mod Steps
 pub mod Waits
 pub mod Signals
+pub mod Clock
 pub mod Queues
 pub mod Lives
 pub mod Items

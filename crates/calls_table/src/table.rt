@@ -15,8 +15,8 @@ use crate::scheduling::{make_setprio, make_setsched, make_yield};
 use crate::time::{end_of_sleep, sleep_until};
 use calls_queues::{Outgoing, mq_notify, mq_receive, mq_send};
 use calls_signals::{
-    expiry_after, expiry_at, kill, sigmask_block, sigmask_set, sigmask_unblock, sigqueue,
-    sigtimedwait, timer_getoverrun, timer_gettime, timer_settime, tkill,
+    clock_settime, expiry_after, expiry_at, kill, sigmask_block, sigmask_set, sigmask_unblock,
+    sigqueue, sigtimedwait, timer_getoverrun, timer_gettime, timer_settime, tkill,
 };
 use calls_sync::{
     cond_broadcast, cond_signal, cond_wait, mutex_lock, mutex_trylock, mutex_unlock, sem_getvalue,
@@ -33,6 +33,7 @@ use words_script::Call;
 
 /// The effect of a call.
 #[inline(always)]
+#[tactic(auto, using(crate::proofs::Readings::no_reading))]
 fn do_call<K: Sink>(p: &mut Parts, by: &Caller<'_>, out: &mut Tracer<'_, K>)
     requires caller { CanCall p.old by.now.thread }
     requires runnable { CallIsRunnable (objects_in p.old) by.now.call.now }
@@ -75,18 +76,22 @@ fn do_call<K: Sink>(p: &mut Parts, by: &Caller<'_>, out: &mut Tracer<'_, K>)
         Call::Nanosleep(n) => sleep_until(p, by, end_of_sleep(p.instant(), *n), out),
         Call::ClockNanosleep { at } => sleep_until(p, by, p.moment(by.thread, at), out),
         Call::Gettime => p.returns(by, Res::Zero, p.instant().get(), out),
+        Call::RealGettime => p.returns(by, Res::Zero, p.real_time(), out),
+        Call::ClockSettime(at) => clock_settime(p, by, p.number(by.thread, at), out),
         Call::TimerSettimeRel(k, n, interval) => {
-            timer_settime(p, by, *k, expiry_after(p.instant(), *n), *interval, out)
-        }
-        Call::TimerSettimeAbs(k, at, interval) => {
             timer_settime(
                 p,
                 by,
                 *k,
-                expiry_at(p.moment(by.thread, at)),
+                expiry_after(p.instant(), *n),
+                false,
                 *interval,
                 out,
             )
+        }
+        Call::TimerSettimeAbs(k, at, interval) => {
+            let due = expiry_at(p, *k, p.tick(by.thread, at));
+            timer_settime(p, by, *k, due, p.timer(*k).is_real(), *interval, out)
         }
         Call::TimerGettime(k) => timer_gettime(p, by, *k, out),
         Call::TimerGetoverrun(k) => timer_getoverrun(p, by, *k, out),

@@ -1,8 +1,9 @@
 //! Sleeping.
-ghost use Rattle.std.specs.Prelude.{◌≡◌, ◌≤◌, ◌<◌, ◌+◌, ◌*◌, ◌^◌, length, true};
+ghost use Rattle.std.specs.Prelude.{◌≡◌, ◌≤◌, ◌<◌, ◌+◌, ◌*◌, ◌^◌, Some, length, true};
 ghost use Rattle.rules_machine.specs.Threads.{can_run};
 ghost use Rattle.rules_machine.specs.Turns.{returns};
 ghost use Rattle.rules_machine.specs.Timers.{sleeps_until};
+ghost use Rattle.kernel_state.specs.RealTimes.{MayWaitUntil};
 ghost use Rattle.kernel_state.specs.Does.{Does};
 ghost use Rattle.kernel_state.specs.Caller.{caller};
 
@@ -22,6 +23,7 @@ pub(crate) fn sleep_until<K: Sink>(
 )
     requires known { by.now.thread < length p.old.names }
     requires runs { can_run p.old.machine by.now.thread ≡ true }
+    requires modest { MayWaitUntil p.old.machine by.now.call.now (Some at) }
     ensures { Does K.text K.faults (sleeps_until (caller by.now) at) p.old p.new out.old out.new }
 {
     if at <= p.instant() {

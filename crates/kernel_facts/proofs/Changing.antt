@@ -1,6 +1,6 @@
 -- The lines of the facts that change, by their texts.
 use Rattle.std.proofs.Common.{◌≡◌, ◌∙◌, ◌+◌, ℕ, zero, suc, Bool, List, [], ◌∷◌, ◌++◌, ap, append-nil, append_assoc, arith, drop, false, flat_map, length, map, not, refl, sym, take, true}
-use Rattle.std.specs.Prelude.{decimal, slice_index_or, ◌-◌, if◌then◌else◌}
+use Rattle.std.specs.Prelude.{decimal, ◌-◌, if◌then◌else◌}
 use Rattle.std.specs.List.{join_with_byte}
 use Rattle.std.specs.Str.{bytes_eq}
 use Rattle.std.proofs.Math.Seq.{drop-append-add, take-append_seam}
@@ -14,7 +14,7 @@ use Rattle.rules_facts.specs.Fact.{Fact, arming_of, blocked_thread, cancelabilit
 use Rattle.rules_facts.specs.Spelled.{subject, told}
 use Rattle.kernel_facts.specs.Changed.{HaveSameSubjects, behind_subject, changed_line, changed_lines, line_or_subject, subject_text}
 use Rattle.kernel_facts.specs.Kept.{texts_of}
-use Rattle.kernel_facts.specs.Lines.{fact_text, texts_below, told_text}
+use Rattle.kernel_facts.specs.Lines.{fact_text, told_text}
 use Rattle.kernel_facts.proofs.Lines.{joined-append}
 use Rattle.kernel_facts.proofs.Whole.{joined_same}
 
@@ -184,23 +184,6 @@ pub line_changes : (now : ℕ) (about before line : List ℕ) → bytes_eq (behi
     → ((decimal now ++ []) ++ (32 ∷ [])) ++ line_or_subject about line ≡ changed_line now about before line
 line_changes now about before line e =
     in_front (decimal now) (line_or_subject about line) ∙ sym (ap (λ (x : Bool). if x then [] else decimal now ++ (32 ∷ line_or_subject about line)) e)
-
-first_below : (text : ℕ → List ℕ) (n : ℕ) → texts_below text (suc n) ≡ text 0 ++ texts_below (λ (i : ℕ). text (suc i)) n
-first_below text zero = sym (append-nil (text 0))
-first_below text (suc n) = ap (λ (t : List ℕ). t ++ text (suc n)) (first_below text n) ∙ append_assoc (text 0) (texts_below (λ (i : ℕ). text (suc i)) n) (text (suc n))
-
--- the line of the fact with a number
-abbrev pub line_at : ℕ → List (List ℕ) → List (List ℕ) → List (List ℕ) → ℕ → List ℕ
-line_at now abouts before lines i = changed_line now (slice_index_or abouts i []) (slice_index_or before i []) (slice_index_or lines i [])
-
-pub lines_below : (now : ℕ) (abouts before lines : List (List ℕ)) → length before ≡ length abouts → length lines ≡ length abouts
-    → texts_below (line_at now abouts before lines) (length abouts) ≡ changed_lines now abouts before lines
-lines_below now [] before lines e f = refl
-lines_below now (a ∷ abouts) [] lines e f = absurd (omega arith)
-lines_below now (a ∷ abouts) (b ∷ before) [] e f = absurd (omega arith)
-lines_below now (a ∷ abouts) (b ∷ before) (l ∷ lines) e f =
-    first_below (line_at now (a ∷ abouts) (b ∷ before) (l ∷ lines)) (length abouts)
-    ∙ ap (λ (t : List ℕ). changed_line now a b l ++ t) (lines_below now abouts before lines (omega arith) (omega arith))
 
 -- where these are the texts of facts
 pub texts_are : (now : ℕ) (subjects before lines : List (List ℕ)) (decls : List Decl) (old new : List Fact) → HaveSameSubjects decls old new

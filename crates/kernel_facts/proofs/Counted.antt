@@ -24,7 +24,7 @@ thread_matches name (said.Mutex protocol recursive) names xs same = same
 thread_matches name said.Cond names xs same = same
 thread_matches name (said.Sem value) names xs same = same
 thread_matches name (said.Queue depth longest nonblock) names xs same = same
-thread_matches name (said.Timer signal value) names xs same = same
+thread_matches name (said.Timer signal value real) names xs same = same
 
 mutex_matches : Matches kind.Mutex (λ (name : List ℕ). mutex_kind)
 mutex_matches name (said.Thread policy start body) names xs same = same
@@ -34,7 +34,7 @@ mutex_matches name (said.Mutex protocol recursive) names xs same = ap suc same
 mutex_matches name said.Cond names xs same = same
 mutex_matches name (said.Sem value) names xs same = same
 mutex_matches name (said.Queue depth longest nonblock) names xs same = same
-mutex_matches name (said.Timer signal value) names xs same = same
+mutex_matches name (said.Timer signal value real) names xs same = same
 
 semaphore_matches : Matches kind.Sem (λ (name : List ℕ). semaphore_kind)
 semaphore_matches name (said.Thread policy start body) names xs same = same
@@ -44,7 +44,7 @@ semaphore_matches name (said.Mutex protocol recursive) names xs same = same
 semaphore_matches name said.Cond names xs same = same
 semaphore_matches name (said.Sem value) names xs same = ap suc same
 semaphore_matches name (said.Queue depth longest nonblock) names xs same = same
-semaphore_matches name (said.Timer signal value) names xs same = same
+semaphore_matches name (said.Timer signal value real) names xs same = same
 
 queue_matches : Matches kind.Queue (λ (name : List ℕ). queue_kind)
 queue_matches name (said.Thread policy start body) names xs same = same
@@ -54,7 +54,7 @@ queue_matches name (said.Mutex protocol recursive) names xs same = same
 queue_matches name said.Cond names xs same = same
 queue_matches name (said.Sem value) names xs same = same
 queue_matches name (said.Queue depth longest nonblock) names xs same = ap suc same
-queue_matches name (said.Timer signal value) names xs same = same
+queue_matches name (said.Timer signal value real) names xs same = same
 
 timer_matches : Matches kind.Timer (λ (name : List ℕ). timer_kind)
 timer_matches name (said.Thread policy start body) names xs same = same
@@ -64,7 +64,7 @@ timer_matches name (said.Mutex protocol recursive) names xs same = same
 timer_matches name said.Cond names xs same = same
 timer_matches name (said.Sem value) names xs same = same
 timer_matches name (said.Queue depth longest nonblock) names xs same = same
-timer_matches name (said.Timer signal value) names xs same = ap suc same
+timer_matches name (said.Timer signal value real) names xs same = ap suc same
 
 pub threads_named : (ds : List Decl) → length (names_of kind.Thread ds) ≡ length (filter_map declared_thread ds)
 threads_named [] = refl

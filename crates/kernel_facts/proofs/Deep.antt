@@ -31,7 +31,7 @@ module _ (ds : List Decl) (rest : (q : ℕ) → slice_index_or (depths (filter_m
   one_more (said.Mutex protocol recursive) q = (let deep = rest q in omega (arith, deep))
   one_more said.Cond q = (let deep = rest q in omega (arith, deep))
   one_more (said.Sem value) q = (let deep = rest q in omega (arith, deep))
-  one_more (said.Timer signal value) q = (let deep = rest q in omega (arith, deep))
+  one_more (said.Timer signal value real) q = (let deep = rest q in omega (arith, deep))
 
 declared_deep : (ds : List Decl) (q : ℕ) → slice_index_or (depths (filter_map (named queue_kind) ds)) q 0 ≤ deepest ds
 declared_deep [] q = omega arith

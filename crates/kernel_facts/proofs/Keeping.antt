@@ -10,11 +10,11 @@ use Rattle.kernel_facts.specs.Kept.{HaveRoom, HaveSameRooms, KeptIn, KeptOne}
 
 -- ---- a list in two parts
 
-all_first : {X : Type 0} (P : X → Type 0) (xs ys : List X) → AllByRecursion P (xs ++ ys) → AllByRecursion P xs
+pub all_first : {X : Type 0} (P : X → Type 0) (xs ys : List X) → AllByRecursion P (xs ++ ys) → AllByRecursion P xs
 all_first P [] ys all = tt
 all_first P (x ∷ xs) ys all = (all.0, all_first P xs ys all.1)
 
-all_last : {X : Type 0} (P : X → Type 0) (xs ys : List X) → AllByRecursion P (xs ++ ys) → AllByRecursion P ys
+pub all_last : {X : Type 0} (P : X → Type 0) (xs ys : List X) → AllByRecursion P (xs ++ ys) → AllByRecursion P ys
 all_last P [] ys all = all
 all_last P (x ∷ xs) ys all = all_last P xs ys all.1
 
@@ -71,10 +71,10 @@ kept_both one two three a b c xs ys first second = record {
 
 -- ---- one text
 
-abbrev text_told : Next → Option (List ℕ)
+abbrev pub text_told : Next → Option (List ℕ)
 text_told n = Some (n.room ∷ n.text)
 
-abbrev faults_told : Next → ℕ
+abbrev pub faults_told : Next → ℕ
 faults_told n = n.faults
 
 module _ (before cleared printed : Next) (due : List ℕ) (empty : cleared ≡ record before { text = []; faults = 0 }) where
@@ -87,13 +87,13 @@ module _ (before cleared printed : Next) (due : List ℕ) (empty : cleared ≡ r
   sound : cleared.faults ≡ 0
   sound = ap (λ (n : Next). n.faults) empty
 
-  whole_text : (failed : Bool) → Put (outlet text_told faults_told false cleared) (outlet text_told faults_told failed printed) due → failed ≡ false → printed.text ≡ due
+  pub whole_text : (failed : Bool) → Put (outlet text_told faults_told false cleared) (outlet text_told faults_told failed printed) due → failed ≡ false → printed.text ≡ due
   whole_text failed put whole =
       let told : printed.room ∷ printed.text ≡ (cleared.room ∷ cleared.text) ++ due = put.whole whole in
       let text : printed.text ≡ cleared.text ++ due = cc in
       text ∙ ap (λ (t : List ℕ). t ++ due) none
 
-  part_text : (failed : Bool) → (put : Put (outlet text_told faults_told false cleared) (outlet text_told faults_told failed printed) due)
+  pub part_text : (failed : Bool) → (put : Put (outlet text_told faults_told false cleared) (outlet text_told faults_told failed printed) due)
       → (printed.room ≡ before.room) × (length printed.text ≤ length due)
   part_text failed put =
       let k = put.part.0 in
@@ -106,7 +106,7 @@ module _ (before cleared printed : Next) (due : List ℕ) (empty : cleared ≡ r
       (room ∙ room_is, omega (arith, len, short))
 
   -- no write fails where the whole has room
-  succeeds : (failed : Bool) → Put (outlet text_told faults_told false cleared) (outlet text_told faults_told failed printed) due
+  pub succeeds : (failed : Bool) → Put (outlet text_told faults_told false cleared) (outlet text_told faults_told failed printed) due
       → (0 < printed.faults → length printed.text ≡ printed.room) → length due < before.room → failed ≡ false
   succeeds false put used fits = refl
   succeeds true put used fits =

@@ -19,3 +19,8 @@ pub mod Named
 pub mod ShortFacts
 pub mod FewMembers
 pub mod Deep
+pub mod NothingTold
+pub mod Looking
+pub mod Ready
+pub mod SeenTexts
+pub mod SeenShort

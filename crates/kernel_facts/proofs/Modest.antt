@@ -70,8 +70,11 @@ told_len about (w ∷ ws) =
     let both = cost-append about (w ∷ ws) in
     omega (arith, joined, whole, both)
 
-number_len : (n : ℕ) → IsNumber n → length (decimal n) ≤ 20
+pub number_len : (n : ℕ) → IsNumber n → length (decimal n) ≤ 20
 number_len n fits = let low : n < 10 ^ 20 = omega (arith, fits) in length-decimal-le 20 n (omega arith) low fits
+
+pub due_short : (due : ℕ) → IsNumber due → length (after_blanks (words_if_any until_words (Some due))) ≤ 38
+due_short due fits = let digits = number_len due fits in let whole = length-append (decimal due) [] in omega (arith, digits, whole)
 
 cost_map : {X : Type 0} (f : X → List ℕ) → ((x : X) → length (f x) ≤ 32) → (xs : List X) → cost (map f xs) ≤ 33 * length xs
 cost_map f short [] = omega arith
@@ -154,6 +157,8 @@ call_len call.SemPost = omega arith
 call_len call.Nanosleep = omega arith
 call_len call.ClockNanosleep = omega arith
 call_len call.Gettime = omega arith
+call_len call.RealGettime = omega arith
+call_len call.ClockSettime = omega arith
 call_len call.TimerSettime = omega arith
 call_len call.TimerGettime = omega arith
 call_len call.TimerGetoverrun = omega arith
@@ -281,6 +286,16 @@ module _ (decls : List Decl) where
       → HasShortText decls (blocked_thread t priorities block)
   blocked_short t priorities block fits due =
       record { short = λ names. let all = blocked_cost decls names priorities block fits due in text_len decls names (blocked_thread t priorities block) (omega arith) (omega (arith, all)) }
+
+  pub dormant_short : (t : ℕ) → HasShortText decls (dormant_thread t)
+  dormant_short t = record { short = λ names. text_len decls names (dormant_thread t) (omega arith) (omega arith) }
+
+  pub ended_short : (t : ℕ) → HasShortText decls (ended_thread t)
+  ended_short t = record { short = λ names. text_len decls names (ended_thread t) (omega arith) (omega arith) }
+
+  pub ready_short : (t : ℕ) (priorities : Priorities) → ArePriorities priorities → HasShortText decls (ready_thread t priorities)
+  ready_short t priorities fits =
+      record { short = λ names. let two = two_numbers priorities.assigned priorities.exec fits.assigned fits.exec in text_len decls names (ready_thread t priorities) (omega arith) (omega (arith, two)) }
 
   pub frames_short : (t : ℕ) (bodies : List BodyOf) → HasShortText decls (inner_frames t bodies)
   frames_short t bodies =

@@ -143,7 +143,7 @@ module _ {P : Type 0} (script : Script) (m : Machine P) (names : NamesAreShort s
         pending = omega (arith, pending);
       }
 
-  as_many : fact_count script m ≡ facts_told script
+  pub as_many : fact_count script m ≡ facts_told script
   as_many = (let threads = has.threads in let mutexes = has.mutexes in let semaphores = has.semaphores in let queues = has.queues in let timers = has.timers in omega (arith, lists, signals, threads, mutexes, semaphores, queues, timers))
 
   roomy : IsRoomy one (fact_count script m) t
@@ -161,6 +161,12 @@ module _ {P : Type 0} (script : Script) (m : Machine P) (names : NamesAreShort s
       have_room one (fact_count script m) t (texts_of script.decls (facts script told)) roomy
       (length-map (facts script told) (fact_text script.decls) ∙ count_is script told ∙ ended_count script m m.killed)
       (texts_short script.decls names (members_told script) one (facts script told) h.long short (state_modest script (members_told script) told (ended_modest (members_told script) m modest m.killed)))
+
+  pub facts_number : length (texts_of script.decls (facts script (once_ended m.killed m))) ≡ facts_told script
+  facts_number = length-map (facts script (once_ended m.killed m)) (fact_text script.decls) ∙ count_is script (once_ended m.killed m) ∙ ended_count script m m.killed ∙ as_many
+
+  pub subjects_number : length (subjects_of script.decls (facts script m)) ≡ facts_told script
+  subjects_number = length-map (facts script m) (subject_text script.decls) ∙ count_is script m ∙ as_many
 
   pub subjects_fit : HaveRoom one t (subjects_of script.decls (facts script m))
   subjects_fit =

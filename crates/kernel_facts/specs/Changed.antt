@@ -1,14 +1,10 @@
 -- The lines of the facts that change, from the texts that were told and those that are told now. The form is this project's own.
-use Rattle.std.specs.Prelude.{List, Option, [], decimal, drop, flat_map, length, map, take, ℕ, ◌+◌, ◌-◌, ◌∷◌, ◌++◌, ◌≡◌, if◌then◌else◌}
+use Rattle.std.specs.Prelude.{List, [], decimal, drop, length, map, take, ℕ, ◌+◌, ◌-◌, ◌∷◌, ◌++◌, ◌≡◌, if◌then◌else◌}
 use Rattle.std.specs.Str.{bytes_eq}
 use Rattle.words_script.specs.declared.decl.Decl.{Decl}
 use Rattle.script_lex.specs.Joined.{joined_words}
-use Rattle.rules_facts.specs.Detail.{changed, timed_line}
 use Rattle.rules_facts.specs.Fact.{Fact}
 use Rattle.rules_facts.specs.Spelled.{subject}
-use Rattle.script_printer.specs.Puts.{Puts}
-use Rattle.script_printer.specs.declared.printer.Printer.{Printer}
-use Rattle.kernel_facts.specs.Kept.{texts_of}
 
 -- what stands behind the subject in the line of a fact, without the end of the line; nothing where there is no line
 abbrev pub behind_subject : List ℕ → List ℕ → List ℕ
@@ -37,10 +33,3 @@ subject_text decls f = joined_words (subject decls f)
 -- Two lists of facts tell of the same subjects in the same order.
 abbrev pub HaveSameSubjects : List Decl → List Fact → List Fact → Type 0
 HaveSameSubjects decls before after = map (subject decls) before ≡ map (subject decls) after
-
--- Where these are the texts of facts and of their subjects, the lines of those that change are printed.
-abbrev pub PutsChanged : {K : Type 0} → (K → Option (List ℕ)) → (K → ℕ) → Printer K → Printer K → ℕ → List (List ℕ) → List (List ℕ) → List (List ℕ) → Type 0
-PutsChanged text faults a b now subjects before lines =
-    (decls : List Decl) → (old new : List Fact) → HaveSameSubjects decls old new
-    → subjects ≡ map (subject_text decls) new → before ≡ texts_of decls old → lines ≡ texts_of decls new
-    → Puts text faults a b (flat_map (timed_line decls now) (changed decls old new))

@@ -9,3 +9,6 @@ pub mod Subjects
 pub mod Rooms
 pub mod Modest
 pub mod Short
+pub mod Nothing
+pub mod Desk
+pub mod Seen

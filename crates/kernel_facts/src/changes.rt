@@ -1,13 +1,11 @@
-//! The lines of the facts that change.
+//! The line of a fact that changes.
 ghost use Rattle.std.specs.Prelude.{◌≡◌, length};
 ghost use Rattle.script_printer.specs.Puts.{Puts};
-ghost use Rattle.kernel_facts.specs.Changed.{PutsChanged, behind_subject, changed_line, changed_lines, line_or_subject};
+ghost use Rattle.kernel_facts.specs.Changed.{behind_subject, changed_line, line_or_subject};
 
 use parts_io::Sink;
-use parts_texts::Texts;
 use script_printer::Printer;
 use script_writer::Word::Number;
-use words_numbers::Tick;
 
 // What stands behind the subject in a line, without its end; nothing where there is no line.
 fn behind_subject<'a>(about: &[u8], line: &'a [u8]) -> &'a [u8]
@@ -30,10 +28,10 @@ fn put_line_or_subject<K: Sink>(out: &mut Printer<'_, K>, about: &[u8], line: &[
     }
 }
 
-// Prints the line of a fact with the instant in front, where it tells something else than it told before.
-fn put_changed_line<K: Sink>(
+/// Prints the line of a fact with the instant in front, where it tells something else than it told before.
+pub(crate) fn put_changed_line<K: Sink>(
     out: &mut Printer<'_, K>,
-    now: Tick,
+    now: u64,
     about: &[u8],
     before: &[u8],
     line: &[u8],
@@ -43,32 +41,7 @@ fn put_changed_line<K: Sink>(
     if behind_subject(about, before) == behind_subject(about, line) {
         return;
     }
-    out.begin(&[Number(now.get())]);
+    out.begin(&[Number(now)]);
     out.text(b" ");
     put_line_or_subject(out, about, line);
-}
-
-/// Prints the lines of the facts that change at an instant, from the texts of their subjects, those that were told last, and those of now.
-/// Where they are the texts of facts, before and now, it prints a line with the instant for each that tells something else.
-pub fn put_changed<K: Sink>(
-    out: &mut Printer<'_, K>,
-    now: Tick,
-    subjects: &Texts,
-    before: &Texts,
-    lines: &Texts,
-)
-    requires before { length before.now.texts ≡ length subjects.now.texts }
-    requires lines { length lines.now.texts ≡ length subjects.now.texts }
-    ensures lines { Puts K.text K.faults out.old out.new (changed_lines now subjects.now.texts before.now.texts lines.now.texts) }
-    ensures facts { PutsChanged K.text K.faults out.old out.new now subjects.now.texts before.now.texts lines.now.texts }
-{
-    for number in 0..subjects.count() {
-        put_changed_line(
-            out,
-            now,
-            subjects.text(number),
-            before.text(number),
-            lines.text(number),
-        );
-    }
 }

@@ -1,33 +1,42 @@
 //! What a kernel tells of its state: the facts and the numbers of rules_facts, read where it stands.
 //!
-//! Proved: `write_state` writes the text of the state, or a part of it and then a write failed. `keep_facts` puts the text of each fact
-//! into a list of texts, and `keep_subjects` that of its subject; in the rooms of `rooms_of` each has room, where the state has the
-//! threads and objects of the script. `put_changed` prints the lines of the facts that change, from their texts before and now. None
-//! takes memory.
+//! Proved: `write_state` writes the text of the state, or a part of it and then a write failed. `keep_subjects` puts the text of the
+//! subject of each fact into a list of texts. `look_at_facts` replaces at a desk what was told of each fact last by what is told now,
+//! and leaves there the lines of those that change. In the rooms of `rooms_of` all have room, where the state has the threads and
+//! objects of the script. None takes memory.
+//!
+//! A look writes no text of a fact that tells nothing now and told nothing before, and none of a thread's status that is seen to be the
+//! same.
 //!
 //! The state is read and not changed. Lists are written word by word, so that no room limits their length.
 #![tactic(auto)]
 
 mod changes;
+mod desk;
 mod in_line;
 mod kept;
 mod known;
 mod line;
 mod lists;
+mod look;
 mod names;
+mod nothing;
 mod numbers;
 mod objects;
+mod printed;
 mod queues;
 mod rooms;
 mod rows;
+mod seen;
 mod signals;
 mod state;
 mod subjects;
 mod threads;
 mod waiters;
 
-pub use changes::put_changed;
-pub use kept::keep_facts;
+pub use desk::Desk;
+pub use look::look_at_facts;
 pub use rooms::{Rooms, rooms_of};
+pub use seen::{Seen, nothing_seen};
 pub use state::write_state;
 pub use subjects::keep_subjects;

@@ -7,6 +7,7 @@ ghost use Rattle.script_printer.specs.Puts.{Put, outlet};
 ghost use Rattle.script_writer.specs.Line.{AreShort, spelled};
 ghost use Rattle.script_writer.specs.Names.{name_of, names_of};
 ghost use Rattle.script_writer.specs.Words.{signal_word};
+ghost use Rattle.kernel_facts.specs.Desk.{AreSubjects};
 ghost use Rattle.kernel_facts.specs.Kept.{HaveSameRooms, Kept, KeptIn};
 ghost use Rattle.kernel_facts.specs.Numbered.{AreNumbered};
 ghost use Rattle.kernel_facts.specs.Rooms.{HasObjectsOf, HasRooms};
@@ -271,6 +272,7 @@ pub fn keep_subjects(parts: &Parts, script: &Script, next: &mut NextText, texts:
     ensures room { next.new.room ≡ next.old.room }
     ensures rooms { texts.new.is_full ≡ false → HaveSameRooms texts.old texts.new }
     ensures roomy { HasObjectsOf script.now parts.now.machine → texts.old.texts ≡ [] → HasRooms script.now next.old.room texts.old → HasRooms script.now next.new.room texts.new }
+    ensures fit { HasObjectsOf script.now parts.now.machine → texts.old.texts ≡ [] → HasRooms script.now next.old.room texts.old → AreSubjects script.now next.old.room (subjects_of script.now.decls (facts script.now parts.now.machine)) }
 {
     let decls = script.decls.items();
     know_names(decls);

@@ -108,7 +108,7 @@ pub(crate) fn put_status<K: Sink>(out: &mut Printer<'_, K>, parts: &Parts, decls
 
 // ---- what it has about it
 
-fn is_main(kind: FrameKind) -> bool
+pub(crate) fn is_main(kind: FrameKind) -> bool
     ensures { result ≡ is_main kind }
 {
     match kind {

@@ -36,7 +36,7 @@ use Rattle.kernel_facts.proofs.Whole.{ended_state}
 use Rattle.laws_kernel.specs.Counts.{Counts}
 use Rattle.kernel_state.specs.Kernel.{opened}
 use Rattle.calls_table.specs.Calls.{objects_in}
-use Rattle.kernel_leaps.specs.Detail.{AreBefore, HaveRoomsFor}
+use Rattle.kernel_leaps.specs.Detail.{AreBefore, AreReady}
 use Rattle.kernel_leaps.specs.Fits.{Fits}
 use Rattle.kernel_leaps.specs.declared.fact_texts.FactTexts.{FactTexts}
 use Rattle.kernel_leaps.proofs.Opened.{script_fits}
@@ -113,13 +113,13 @@ module _ (script : Script) (ok : IsRunnable script) (fits : IsWellFormed script)
   same_now = before.same ∙ sym (same_here script ok fits n signals before.signals)
 
   -- what changes at this instant
-  pub changed_now : (lines : List (List ℕ)) → lines ≡ texts_of script.decls (facts script (shown_machine script n)) → changed_lines n old.subjects.texts old.before.texts lines ≡ facts_told script n
-  changed_now lines is = changed_here script n old.subjects.texts old.before.texts lines same_now before.subjects before.told is
+  pub changed_now : (lines : List (List ℕ)) → lines ≡ texts_of script.decls (facts script (shown_machine script n)) → changed_lines n old.desk.subjects.texts old.desk.told.texts lines ≡ facts_told script n
+  changed_now lines is = changed_here script n old.desk.subjects.texts old.desk.told.texts lines same_now before.subjects before.told is
 
   -- what is told before a later one, where the facts stay up to it
-  pub before_later : (j : ℕ) → facts script (machine_before script (n + j)) ≡ facts script (shown_machine script n) → (new : FactTexts) → new.subjects.texts ≡ old.subjects.texts
-      → new.before.texts ≡ texts_of script.decls (facts script (shown_machine script n)) → HaveRoomsFor script new → AreBefore script (n + j) new
-  before_later j stay new subjects told rooms = record {
+  pub before_later : (j : ℕ) → facts script (machine_before script (n + j)) ≡ facts script (shown_machine script n) → (new : FactTexts) → new.desk.subjects.texts ≡ old.desk.subjects.texts
+      → new.desk.told.texts ≡ texts_of script.decls (facts script (shown_machine script n)) → AreReady script new → AreBefore script (n + j) new
+  before_later j stay new subjects told ready = record {
     subjects =
         subjects ∙ before.subjects
         ∙ same_texts script.decls (facts script (machine_before script n)) (facts script (shown_machine script n)) same_now
@@ -127,5 +127,5 @@ module _ (script : Script) (ok : IsRunnable script) (fits : IsWellFormed script)
     told = told ∙ ap (texts_of script.decls) (sym stay);
     same = ap (map (subject script.decls)) stay ∙ same_here script ok fits n signals before.signals;
     signals = before.signals;
-    rooms = rooms;
+    ready = ready;
   }

@@ -1,6 +1,7 @@
 -- The kernel of a script has the script's threads and objects at each instant of its run, and queues that are no deeper than it says.
-use Rattle.std.proofs.Common.{◌≡◌, ◌∙◌, ◌++◌, ℕ, List, [], ap, arith, refl, subst, sym}
-use Rattle.std.proofs.lemmas.List.{length-map}
+use Rattle.std.proofs.Common.{◌≡◌, ◌∙◌, ◌+◌, ◌*◌, ◌++◌, ◌≤◌, ℕ, List, None, Option, [], ap, arith, false, length, refl, subst, suc, sym, zero}
+use Rattle.std.specs.Prelude.{drop, replicate, slice_index_or}
+use Rattle.std.proofs.lemmas.List.{get_or-replicate, length-map, length-replicate}
 use Rattle.words_script.specs.declared.decl.Script.{Script}
 use Rattle.rules_bodies.specs.declared.cursor.Cursor.{Cursor}
 use Rattle.rules_machine.specs.Declarations.{queues_of, threads_of}
@@ -14,15 +15,20 @@ use Rattle.rules_flat_code.specs.Runnable.{IsRunnable}
 use Rattle.laws_detail.proofs.Depths.{depths_throughout}
 use Rattle.laws_kernel.specs.Counts.{Counts}
 use Rattle.laws_kernel.proofs.Ranges.{flat_bodies_fit}
+use Rattle.parts_texts.specs.Slots.{Held, no_texts}
 use Rattle.parts_texts.specs.Texts.{Told}
+use Rattle.kernel_facts.specs.Desk.{AreSubjects, HasDeskRooms, IsReady}
 use Rattle.kernel_facts.specs.Kept.{Kept}
-use Rattle.kernel_facts.specs.Rooms.{AreRooms, HasFewOfEach, HasObjectsOf, HasRooms, no_text}
+use Rattle.kernel_facts.specs.Rooms.{AreRooms, HasFewOfEach, HasObjectsOf, HasRooms, facts_told, no_text}
+use Rattle.kernel_facts.specs.declared.desk.Desk.{Desk}
+use Rattle.kernel_facts.specs.Seen.{AreTextsSeen, IsTextSeen}
 use Rattle.kernel_facts.specs.declared.rooms.Rooms.{Rooms}
+use Rattle.kernel_facts.specs.declared.seen.Seen.{Seen}
 use Rattle.kernel_facts.proofs.Roomy.{rooms_hold}
 use Rattle.kernel_facts.proofs.Deep.{no_deeper}
 use Rattle.kernel_state.specs.Kernel.{Kernel, opened}
 use Rattle.calls_table.specs.Calls.{objects_in}
-use Rattle.kernel_leaps.specs.Detail.{HaveRoomsFor}
+use Rattle.kernel_leaps.specs.Detail.{HaveRoomsFor, SeesThreads}
 use Rattle.kernel_leaps.specs.Fits.{Fits}
 use Rattle.kernel_leaps.specs.Shown.{HasFewObjects}
 use Rattle.kernel_leaps.specs.declared.fact_texts.FactTexts.{FactTexts}
@@ -84,16 +90,43 @@ few_of_each script ok few =
       timers = omega (arith, timers);
     }
 
-pub opened_rooms : (script : Script) (rooms : Rooms) → AreRooms script rooms → (t : FactTexts) → t.subjects ≡ no_text rooms → t.before ≡ no_text rooms → t.lines ≡ no_text rooms → t.next.room ≡ rooms.longest
-    → HaveRoomsFor script t
-opened_rooms script rooms are t subjects before lines one =
-    let all : (x : Told) → x ≡ no_text rooms → HasRooms script t.next.room x =
-    λ x is. subst (λ (n : ℕ). HasRooms script n x) (sym one) (subst (HasRooms script rooms.longest) (sym is) (rooms_hold script rooms are)) in
-    record { subjects = all t.subjects subjects; before = all t.before before; lines = all t.lines lines }
+pub opened_rooms : (script : Script) (rooms : Rooms) → AreRooms script rooms → (t : FactTexts) (lines : ℕ) → lines ≡ rooms.room + 22 * rooms.most + 1
+    → t.desk ≡ record { subjects = no_text rooms; told = record { texts = no_texts rooms.most; room = rooms.longest }; lines = record { text = []; room = lines; faults = 0 }; at = 0; instant = 0; is_full = false }
+    → t.seen.items ≡ replicate rooms.most None → t.next.room ≡ rooms.longest → HaveRoomsFor script t
+opened_rooms script rooms are t lines size is none one =
+    let most = are.most in
+    let long = are.longest in
+    let whole : facts_told script * (rooms.longest + 22) ≡ rooms.room + 22 * rooms.most =
+    by_parts (facts_told script) rooms.longest ∙ ap (λ (n : ℕ). n + 22 * facts_told script) (ap (λ (n : ℕ). facts_told script * n) long ∙ sym are.room) ∙ ap (λ (n : ℕ). rooms.room + 22 * n) (sym most) in
+    let opened : HasDeskRooms script rooms.longest (record { subjects = no_text rooms; told = record { texts = no_texts rooms.most; room = rooms.longest }; lines = record { text = []; room = lines; faults = 0 }; at = 0; instant = 0; is_full = false }) =
+    record {
+      fresh = refl;
+      long = omega (arith, long);
+      slots = omega arith;
+      number = so_many rooms.most ∙ most;
+      lines = omega (arith, size, whole);
+      subjects = rooms_hold script rooms are;
+    } in
+    let places = ap length none ∙ length-replicate rooms.most None in
+    record {
+      desk = subst (λ (n : ℕ). HasDeskRooms script n t.desk) (sym one) (subst (HasDeskRooms script rooms.longest) (sym is) opened);
+      seen = record {
+        many = omega (arith, places, most);
+        told = λ u low. subst (λ (all : List (Option Seen)). IsTextSeen script.decls u (slice_index_or all u None) (slice_index_or (drop 255 t.desk.told.texts) u [])) (sym none)
+            (subst (λ (s : Option Seen). IsTextSeen script.decls u s (slice_index_or (drop 255 t.desk.told.texts) u [])) (sym (get_or-replicate rooms.most u None None (omega (arith, low, most)))) tt);
+      };
+    }
+  where
+    by_parts : (count one : ℕ) → count * (one + 22) ≡ count * one + 22 * count
+    by_parts count one = grind arith
+
+    so_many : (n : ℕ) → length (no_texts n) ≡ n
+    so_many zero = refl
+    so_many (suc n) = ap suc (so_many n)
 
 -- ---- a list that takes in the texts of the facts of a state
 
-cleared_rooms : (script : Script) (one : ℕ) (t cleared : Told) → cleared ≡ record t { texts = [] } → HasRooms script one t → HasRooms script one cleared
+pub cleared_rooms : (script : Script) (one : ℕ) (t cleared : Told) → cleared ≡ record t { texts = [] } → HasRooms script one t → HasRooms script one cleared
 cleared_rooms script one t cleared is h = subst (HasRooms script one) (sym is) (record { fresh = h.fresh; long = h.long; number = h.number; bytes = h.bytes })
 
 module _ (script : Script) (m : Machine Cursor) (due : List (List ℕ)) (old cleared new : Told) (one next : ℕ) (is : cleared ≡ record old { texts = [] }) (kept : Kept cleared new due)
@@ -107,6 +140,24 @@ module _ (script : Script) (m : Machine Cursor) (due : List (List ℕ)) (old cle
   pub kept_texts : new.texts ≡ due
   kept_texts = kept.texts kept_rooms.fresh ∙ ap (λ (ts : List (List ℕ)). ts ++ due) none
 
--- in the room of one text that stays
-pub same_rooms : (script : Script) (one next : ℕ) (t : Told) → next ≡ one → HasRooms script one t → HasRooms script next t
-same_rooms script one next t same rooms = subst (λ (n : ℕ). HasRooms script n t) (sym same) rooms
+-- ---- the desk of a run that begins
+
+pub begun_ready : (script : Script) (one next : ℕ) (old : Desk) (subjects : Told) → next ≡ one → HasDeskRooms script one old → HasRooms script next subjects → AreSubjects script one subjects.texts
+    → IsReady script next (record old { subjects = subjects })
+begun_ready script one next old subjects same h rooms are =
+    subst (λ (n : ℕ). IsReady script n (record old { subjects = subjects })) (sym same) (record {
+      rooms = record { fresh = h.fresh; long = h.long; slots = h.slots; number = h.number; lines = h.lines; subjects = subst (λ (n : ℕ). HasRooms script n subjects) same rooms };
+      subjects = are;
+    })
+
+-- what was seen of a script's threads, by their number in a state
+pub seen_by : (script : Script) (count : ℕ) (old : FactTexts) (all : List (Option Seen)) (told : Held) → count ≡ length (threads_of script) → length all ≡ length old.seen.items → length (threads_of script) ≤ length old.seen.items
+    → AreTextsSeen script.decls count all (drop 255 told.texts) → (new : FactTexts) → new.seen.items ≡ all → new.desk.told ≡ told → SeesThreads script new
+seen_by script count old all told same long many seen new is_all is_told =
+    let places = ap length is_all ∙ long in
+    record {
+      many = omega (arith, places, many);
+      told = subst (λ (xs : List (Option Seen)). AreTextsSeen script.decls (length (threads_of script)) xs (drop 255 new.desk.told.texts)) (sym is_all)
+          (subst (λ (h : Held). AreTextsSeen script.decls (length (threads_of script)) all (drop 255 h.texts)) (sym is_told)
+          (subst (λ (n : ℕ). AreTextsSeen script.decls n all (drop 255 told.texts)) same seen));
+    }

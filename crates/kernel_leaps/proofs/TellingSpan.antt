@@ -24,7 +24,7 @@ use Rattle.kernel_facts.specs.Changed.{changed_lines}
 use Rattle.kernel_facts.specs.Kept.{texts_of}
 use Rattle.kernel_state.specs.Kernel.{Kernel, after, opened, told, turn}
 use Rattle.kernel_state.specs.Stood.{StoodRight}
-use Rattle.kernel_leaps.specs.Detail.{AreBefore, GoesOn, HasGoneOn, HaveRoomsFor, IsAfterQuietTick, Stops, Writes}
+use Rattle.kernel_leaps.specs.Detail.{AreBefore, GoesOn, HasGoneOn, AreReady, IsAfterQuietTick, Stops, Writes}
 use Rattle.kernel_leaps.specs.Ran.{ticked_by}
 use Rattle.kernel_leaps.specs.declared.detail.Reached.{Reached}
 use Rattle.kernel_leaps.specs.declared.fact_texts.FactTexts.{FactTexts}
@@ -33,7 +33,7 @@ use Rattle.kernel_leaps.proofs.Resting.{StayFor, facts_before, one_stays, stay_c
 use Rattle.kernel_leaps.proofs.Telling.{leap_here, m, now_of, p, q, ready, to}
 use Rattle.kernel_leaps.proofs.TellingLeap.{ends_at_item, leaps_on, stops_at_once}
 use Rattle.kernel_leaps.proofs.TellingPieces.{dispatch_written, ends_there, goes_on, is_handled, is_prepared, items_written, lives}
-use Rattle.kernel_leaps.proofs.TellingTexts.{changes_are, gone_on, told_later}
+use Rattle.kernel_leaps.proofs.TellingTexts.{changes_are, told_later}
 use Rattle.kernel_leaps.proofs.TellingTick.{changes, dispatch, ends, items, only_items, stops_at_changes, stops_at_dispatch, stops_at_end, stops_at_items, whole_leap}
 
 pub no_signal : (o : Option ℕ) → is_some o ≡ false → o ≡ None
@@ -108,16 +108,18 @@ module _ (script : Script) (fits : IsWellFormed script) (at : Reached) (start : 
 
         -- ---- the facts
 
-        module _ (ok : IsRunnable script) (fine : w ≡ false) (d : K) (x : Bool) (now : ℕ) (is_now : now ≡ prepared.machine.now) (old look : FactTexts)
-            (third : Put (printer.outlet text faults false c) (printer.outlet text faults x d) (changed_lines now look.subjects.texts look.before.texts look.lines.texts))
+        module _ (ok : IsRunnable script) (fine : w ≡ false) (d : K) (x : Bool) (old look : FactTexts)
+            (third : Put (printer.outlet text faults false c) (printer.outlet text faults x d) look.desk.lines.text)
             (signals : length handled.machine.actions ≡ 32)
-            (kept : look.lines.texts ≡ texts_of script.decls (facts script (once_ended handled.machine.killed handled.machine))) (subjects : look.subjects ≡ old.subjects) (same : look.before ≡ old.before)
-            (was : AreBefore script at.done old) (rooms : HaveRoomsFor script look) where
+            (kept : look.desk.told.texts ≡ texts_of script.decls (facts script (once_ended handled.machine.killed handled.machine))) (subjects : look.desk.subjects ≡ old.desk.subjects)
+            (differ : look.desk.lines.text ≡ changed_lines handled.machine.now old.desk.subjects.texts old.desk.told.texts look.desk.told.texts)
+            (was : AreBefore script at.done old) (is_ready : AreReady script look) where
           changes_is : Writes text faults c d x (changes script fits at.done)
           changes_is =
-              put_same (printer.outlet text faults false c) (printer.outlet text faults x d) (changed_lines now look.subjects.texts look.before.texts look.lines.texts) (changes script fits at.done)
-              (ap (λ (i : ℕ). changed_lines i look.subjects.texts look.before.texts look.lines.texts) (is_now ∙ prepared_now)
-              ∙ changes_are script ok fits at.done old look handled (is_handled script fits at.done start in_run handled state) signals kept subjects same was rooms)
+              put_same (printer.outlet text faults false c) (printer.outlet text faults x d) look.desk.lines.text (changes script fits at.done)
+              (differ
+              ∙ ap (λ (i : ℕ). changed_lines i old.desk.subjects.texts old.desk.told.texts look.desk.told.texts) handled_now
+              ∙ changes_are script ok fits at.done old look handled (is_handled script fits at.done start in_run handled state) signals kept subjects was is_ready)
               third
 
           -- their lines could not be written
@@ -145,10 +147,10 @@ module _ (script : Script) (fits : IsWellFormed script) (at : Reached) (start : 
             }
 
             pub leap_goes : (e : K) → Writes text faults d e false (ends script fits at.done j) → (left : Kernel) → left ≡ after (leap_runs (flat_bodies (p script fits at.done).code) j (to script fits at.done)) (p script fits at.done)
-                → left.direct ≡ [] → StoodRight left.machine → (next : FactTexts) → next ≡ gone_on look → (is_quiet : Bool) → (is_quiet ≡ true → j ≡ 1) → (is_quiet ≡ true → IsAfterQuietTick script (at.done + 1))
-                → HasGoneOn text faults script at (record { done = at.done + j; left = at.left - j; is_quiet = is_quiet }) left next a e
-            leap_goes e fourth left leap quiet stood next next_is is_quiet single tick =
-                leaps_on text faults script at fits alive runs j one within long left leap quiet stood is_quiet next a e
+                → left.direct ≡ [] → StoodRight left.machine → (is_quiet : Bool) → (is_quiet ≡ true → j ≡ 1) → (is_quiet ≡ true → IsAfterQuietTick script (at.done + 1))
+                → HasGoneOn text faults script at (record { done = at.done + j; left = at.left - j; is_quiet = is_quiet }) left look a e
+            leap_goes e fourth left leap quiet stood is_quiet single tick =
+                leaps_on text faults script at fits alive runs j one within long left leap quiet stood is_quiet look a e
                 (whole_leap script fits at.done alive text faults runs a b c v w good (items_are text faults some a b v first) dispatch_is fine d x changes_is sound j one long (told_stays script at.done j stays one) e false fourth)
-                (told_later script ok fits at.done old look handled (is_handled script fits at.done start in_run handled state) signals kept subjects same was rooms j (facts_before script at.done j stays one) next next_is)
+                (told_later script ok fits at.done old look handled (is_handled script fits at.done start in_run handled state) signals kept subjects was is_ready j (facts_before script at.done j stays one))
                 (λ e'. subst (λ (i : ℕ). IsAfterQuietTick script (at.done + i)) (sym (single e')) (tick e'))

@@ -10,7 +10,7 @@ use Rattle.laws_detail.proofs.Looks.{is_told}
 use Rattle.kernel_facts.specs.Kept.{texts_of}
 use Rattle.kernel_facts.specs.Subjects.{subjects_of}
 use Rattle.kernel_state.specs.Kernel.{Kernel, opened}
-use Rattle.kernel_leaps.specs.Detail.{AreBefore, HasGoneOn, HaveRoomsFor, Stops, Writes, told_by}
+use Rattle.kernel_leaps.specs.Detail.{AreBefore, AreReady, HasGoneOn, Stops, Writes, told_by}
 use Rattle.kernel_leaps.specs.Ran.{ticked_by}
 use Rattle.kernel_leaps.specs.declared.detail.Reached.{Reached}
 use Rattle.kernel_leaps.specs.declared.fact_texts.FactTexts.{FactTexts}
@@ -18,14 +18,14 @@ use Rattle.kernel_leaps.proofs.TellingFacts.{opened_facts}
 use Rattle.kernel_leaps.proofs.TellingRun.{Telling, ended_state, ended_told, goes_further, stops_in}
 
 -- the texts of the facts before the first tick
-pub are_first : (script : Script) (k : Kernel) → k ≡ opened script → (new : FactTexts) → new.subjects.texts ≡ subjects_of script.decls (facts script k.machine)
-    → new.before.texts ≡ texts_of script.decls (facts script (once_ended k.machine.killed k.machine)) → length k.machine.actions ≡ 32 → HaveRoomsFor script new → AreBefore script 0 new
-are_first script k is new subjects told signals rooms = record {
+pub are_first : (script : Script) (k : Kernel) → k ≡ opened script → (new : FactTexts) → new.desk.subjects.texts ≡ subjects_of script.decls (facts script k.machine)
+    → new.desk.told.texts ≡ texts_of script.decls (facts script (once_ended k.machine.killed k.machine)) → length k.machine.actions ≡ 32 → AreReady script new → AreBefore script 0 new
+are_first script k is new subjects told signals ready = record {
   subjects = subjects ∙ ap (subjects_of script.decls) (ap (λ (x : Kernel). facts script x.machine) is ∙ opened_facts script);
   told = told ∙ ap (texts_of script.decls) (ap (λ (x : Kernel). facts script (once_ended x.machine.killed x.machine)) is ∙ opened_facts script);
   same = refl;
   signals = sym (ap (λ (x : Kernel). length x.machine.actions) is) ∙ signals;
-  rooms = rooms;
+  ready = ready;
 }
 
 -- nothing is told yet

@@ -1,8 +1,8 @@
 -- What `detail` has told of a run, leap by leap. All of it is this project's own.
-use Rattle.std.specs.Prelude.{Bool, List, None, Option, false, length, not, suc, true, ℕ, ◌+◌, ◌-◌, ◌*◌, ◌&&◌, ◌++◌, ◌<◌, ◌≤◌, ◌≡◌, if◌then◌else◌}
+use Rattle.std.specs.Prelude.{Bool, List, None, Option, drop, false, length, not, suc, true, ℕ, ◌+◌, ◌-◌, ◌*◌, ◌&&◌, ◌++◌, ◌<◌, ◌≤◌, ◌≡◌, if◌then◌else◌}
 use Rattle.words_script.specs.declared.decl.Script.{Script}
 use Rattle.rules_bodies.specs.Next.{Place}
-use Rattle.rules_machine.specs.Declarations.{actions_of}
+use Rattle.rules_machine.specs.Declarations.{actions_of, threads_of}
 use Rattle.rules_machine.specs.Eventful.{has_item, next_tick_matters}
 use Rattle.rules_machine.specs.Machine.{run}
 use Rattle.rules_machine.specs.Runs.{opening, ticks}
@@ -13,8 +13,9 @@ use Rattle.rules_facts.specs.Facts.{facts}
 use Rattle.laws_detail.specs.Looks.{told_until}
 use Rattle.script_printer.specs.Puts.{Put, outlet}
 use Rattle.kernel_facts.specs.Changed.{HaveSameSubjects}
+use Rattle.kernel_facts.specs.Desk.{HasDeskRooms, IsReady}
 use Rattle.kernel_facts.specs.Kept.{texts_of}
-use Rattle.kernel_facts.specs.Rooms.{HasRooms}
+use Rattle.kernel_facts.specs.Seen.{AreTextsSeen}
 use Rattle.kernel_facts.specs.Subjects.{subjects_of}
 use Rattle.kernel_state.specs.Kernel.{Kernel, opened}
 use Rattle.kernel_state.specs.Stood.{StoodRight}
@@ -44,20 +45,29 @@ pub record IsAfterQuietTick (script : Script) (n : ℕ) : Type 0 where
 
 -- ---- the texts of the facts
 
+-- There is a place for each thread, and where something was seen of its status, its text tells it.
+pub record SeesThreads (script : Script) (t : FactTexts) : Type 0 where
+  pub many : length (threads_of script) ≤ length t.seen.items
+  pub told : AreTextsSeen script.decls (length (threads_of script)) t.seen.items (drop 255 t.desk.told.texts)
+
 -- No text was without room, and the rooms are as large as the facts of the script's run need.
 pub record HaveRoomsFor (script : Script) (t : FactTexts) : Type 0 where
-  pub subjects : HasRooms script t.next.room t.subjects
-  pub before : HasRooms script t.next.room t.before
-  pub lines : HasRooms script t.next.room t.lines
+  pub desk : HasDeskRooms script t.next.room t.desk
+  pub seen : SeesThreads script t
+
+-- and there is a subject for each of them
+pub record AreReady (script : Script) (t : FactTexts) : Type 0 where
+  pub desk : IsReady script t.next.room t.desk
+  pub seen : SeesThreads script t
 
 -- The texts are those of the facts before an instant of a run, and of the subjects of all facts, in rooms for each later one.
 pub record AreBefore (script : Script) (n : ℕ) (t : FactTexts) : Type 0 where
-  pub subjects : t.subjects.texts ≡ subjects_of script.decls (facts script (machine_before script n))
-  pub told : t.before.texts ≡ texts_of script.decls (facts script (machine_before script n))
+  pub subjects : t.desk.subjects.texts ≡ subjects_of script.decls (facts script (machine_before script n))
+  pub told : t.desk.told.texts ≡ texts_of script.decls (facts script (machine_before script n))
   -- which are those of the opening state
   pub same : HaveSameSubjects script.decls (facts script (machine_before script n)) (facts script (opening {P = Place} script))
   pub signals : length (actions_of script) ≡ 32
-  pub rooms : HaveRoomsFor script t
+  pub ready : AreReady script t
 
 -- ---- how many steps are left
 

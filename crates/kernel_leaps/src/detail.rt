@@ -222,10 +222,9 @@ pub(crate) fn tell_leap<K: Sink, L: Ledger>(
     if failed {
         return None;
     }
-    if texts.write_changed(p.instant(), sink) {
+    if texts.write_changed(sink) {
         return None;
     }
-    texts.go_on();
     let most = most_at_once(reached.left, calm);
     let near = p.ticks_to_next(most);
     let Some(t) = to else {

@@ -9,30 +9,28 @@ ghost use Rattle.kernel_facts.specs.Numbered.{AreNumbered};
 ghost use Rattle.kernel_facts.specs.Rooms.{HasObjectsOf};
 ghost use Rattle.kernel_facts.specs.Subjects.{subjects_of};
 ghost use Rattle.rules_flat_code.specs.Runnable.{IsRunnable};
-ghost use Rattle.kernel_leaps.specs.Detail.{HaveRoomsFor};
+ghost use Rattle.kernel_leaps.specs.Detail.{AreReady, HaveRoomsFor};
 ghost use Rattle.kernel_leaps.specs.Shown.{HasFewObjects};
 
-use kernel_facts::{keep_facts, keep_subjects, put_changed, rooms_of};
+use kernel_facts::{Desk, Seen, keep_subjects, look_at_facts, nothing_seen, rooms_of};
 use kernel_state::Parts;
 use parts_io::Sink;
-use parts_texts::{NextText, Texts};
+use parts_texts::NextText;
 use script_printer::Printer;
 use std::alloc::{AllocError, Global};
-use std::mem::swap;
-use words_numbers::Tick;
 use words_script::Script;
 
 // More bytes are not asked for.
-const MOST_BYTES: usize = 1 << 40;
+const MOST_BYTES: usize = 1 << 39;
 
-/// The texts of the facts of a run: their subjects, what was told of them last, and what is told of them now. All rooms are taken at the
-/// opening.
+/// The texts of the facts of a run: their subjects, what was told of them last, and the lines of those that change. All rooms are taken
+/// at the opening.
 #[derive(Drop)]
 pub struct FactTexts {
-    subjects: Texts,
-    before: Texts,
-    lines: Texts,
-    // one text, before it is put behind the others
+    desk: Desk,
+    // what was seen last of the status of each thread
+    seen: Vec<Option<Seen>>,
+    // one text, before it takes its place
     next: NextText,
 }
 
@@ -47,10 +45,11 @@ impl FactTexts {
         if rooms.room >= MOST_BYTES {
             return Err(AllocError);
         }
+        // of each line what is in front of the text, and a byte more
+        let lines = rooms.room + 22 * rooms.most + 1;
         Ok(FactTexts {
-            subjects: Texts::open(alloc, rooms.most, rooms.room)?,
-            before: Texts::open(alloc, rooms.most, rooms.room)?,
-            lines: Texts::open(alloc, rooms.most, rooms.room)?,
+            desk: Desk::open(alloc, &rooms, lines)?,
+            seen: nothing_seen(alloc, rooms.most)?,
             next: NextText::open(alloc, rooms.longest)?,
         })
     }
@@ -60,49 +59,40 @@ impl FactTexts {
         requires numbered { AreNumbered script.now parts.now.machine }
         requires objects { HasObjectsOf script.now parts.now.machine }
         requires rooms { HaveRoomsFor script.now self.old }
-        ensures subjects { self.new.subjects.texts ≡ subjects_of script.now.decls (facts script.now parts.now.machine) }
-        ensures told { self.new.before.texts ≡ texts_of script.now.decls (facts script.now (once_ended parts.now.machine.killed parts.now.machine)) }
+        ensures subjects { self.new.desk.subjects.texts ≡ subjects_of script.now.decls (facts script.now parts.now.machine) }
+        ensures told { self.new.desk.told.texts ≡ texts_of script.now.decls (facts script.now (once_ended parts.now.machine.killed parts.now.machine)) }
         ensures signals { length parts.now.machine.actions ≡ 32 }
-        ensures rooms { HaveRoomsFor script.now self.new }
+        ensures ready { AreReady script.now self.new }
     {
         let _signals = parts.signal_count();
-        self.subjects.clear();
-        keep_subjects(parts, script, &mut self.next, &mut self.subjects);
-        self.before.clear();
-        keep_facts(parts, script, &mut self.next, &mut self.before);
+        self.desk.subjects.clear();
+        keep_subjects(parts, script, &mut self.next, &mut self.desk.subjects);
+        let seen = self.seen.as_mut_slice();
+        look_at_facts(parts, script, &mut self.next, &mut self.desk, seen);
     }
 
-    /// Takes in what is told of a state.
+    /// Takes in what is told of a state, and the lines of the facts that tell something else now than was told before.
     pub(crate) fn look(&mut self, parts: &Parts, script: &Script)
         requires numbered { AreNumbered script.now parts.now.machine }
         requires objects { HasObjectsOf script.now parts.now.machine }
-        requires rooms { HaveRoomsFor script.now self.old }
-        ensures lines { self.new.lines.texts ≡ texts_of script.now.decls (facts script.now (once_ended parts.now.machine.killed parts.now.machine)) }
-        ensures subjects { self.new.subjects ≡ self.old.subjects }
-        ensures before { self.new.before ≡ self.old.before }
+        requires ready { AreReady script.now self.old }
+        ensures told { self.new.desk.told.texts ≡ texts_of script.now.decls (facts script.now (once_ended parts.now.machine.killed parts.now.machine)) }
+        ensures lines { self.new.desk.lines.text ≡ changed_lines parts.now.machine.now self.old.desk.subjects.texts self.old.desk.told.texts self.new.desk.told.texts }
+        ensures subjects { self.new.desk.subjects ≡ self.old.desk.subjects }
         ensures signals { length parts.now.machine.actions ≡ 32 }
-        ensures rooms { HaveRoomsFor script.now self.new }
+        ensures ready { AreReady script.now self.new }
     {
         let _signals = parts.signal_count();
-        self.lines.clear();
-        keep_facts(parts, script, &mut self.next, &mut self.lines);
+        let seen = self.seen.as_mut_slice();
+        look_at_facts(parts, script, &mut self.next, &mut self.desk, seen);
     }
 
-    /// Writes the lines of the facts that tell something else now than was told before, and answers whether a write failed.
-    pub(crate) fn write_changed<K: Sink>(&self, now: Tick, sink: &mut K) -> bool
-        requires before { length self.now.before.texts ≡ length self.now.subjects.texts }
-        requires lines { length self.now.lines.texts ≡ length self.now.subjects.texts }
-        ensures { Put (outlet K.text K.faults false sink.old) (outlet K.text K.faults result sink.new) (changed_lines now self.now.subjects.texts self.now.before.texts self.now.lines.texts) }
+    /// Writes the lines of the facts that changed, and answers whether a write failed.
+    pub(crate) fn write_changed<K: Sink>(&self, sink: &mut K) -> bool
+        ensures { Put (outlet K.text K.faults false sink.old) (outlet K.text K.faults result sink.new) self.now.desk.lines.text }
     {
         let mut out = Printer::new(sink);
-        put_changed(&mut out, now, &self.subjects, &self.before, &self.lines);
+        out.text(self.desk.lines.text());
         out.failed()
-    }
-
-    /// What is told now was told from here on.
-    pub(crate) fn go_on(&mut self)
-        ensures { self.new ≡ record self.old { before = self.old.lines; lines = self.old.before } }
-    {
-        swap(&mut self.before, &mut self.lines);
     }
 }

@@ -17,6 +17,8 @@ pub mod Nearest
 pub mod OnLists
 pub mod StandOn
 pub mod Carried
+pub mod StillModest
+pub mod Setting
 pub mod Targets
 pub mod InQueues
 pub mod LeftAlone

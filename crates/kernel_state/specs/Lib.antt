@@ -13,3 +13,4 @@ pub mod Waits
 pub mod Messages
 pub mod Caught
 pub mod Pending
+pub mod RealTimes

@@ -8,6 +8,7 @@ ghost use Rattle.kernel_state.specs.Caller.{caller};
 ghost use Rattle.kernel_state.specs.Callers.{CanBlock, IsRunning};
 ghost use Rattle.kernel_state.specs.Does.{Does};
 ghost use Rattle.kernel_state.specs.Kernel.{after};
+ghost use Rattle.kernel_state.specs.RealTimes.{MayWaitUntil};
 ghost use Rattle.kernel_state.specs.Waits.{CanWait};
 
 use crate::parts::Parts;
@@ -51,6 +52,7 @@ impl Parts {
     pub fn block(&mut self, by: &Caller<'_>, wait: Wait, due: Option<Tick>)
         requires can { CanBlock self.old by.now.thread }
         requires may { CanWait self.old.machine by.now.thread (mutex_waited (wait_of wait)) }
+        requires modest { MayWaitUntil self.old.machine by.now.call.now due }
         ensures { self.new ≡ after (blocks (caller by.now) (wait_of wait) due) self.old }
     {
         let serial = self.take_serial();
@@ -71,6 +73,7 @@ impl Parts {
     pub fn block_unordered(&mut self, by: &Caller<'_>, wait: Wait, due: Option<Tick>)
         requires caller { IsRunning self.old by.now.thread }
         requires unordered { mutex_waited (wait_of wait) ≡ None }
+        requires modest { MayWaitUntil self.old.machine by.now.call.now due }
         ensures { self.new ≡ after (blocks_unordered (caller by.now) (wait_of wait) due) self.old }
     {
         self.block_runner(

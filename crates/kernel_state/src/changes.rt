@@ -14,6 +14,7 @@ ghost use Rattle.rules_machine.specs.Turns.{answered, changes};
 ghost use Rattle.rules_machine.specs.Waking.{put_to_wait, woken};
 ghost use Rattle.rules_machine.specs.Priorities.{mutex_awaited_by, mutex_waited};
 ghost use Rattle.kernel_threads.specs.Plain.{wait_of, waiting_of};
+ghost use Rattle.kernel_state.specs.RealTimes.{MayWaitUntil};
 ghost use Rattle.kernel_state.specs.Waits.{CanWait};
 ghost use Rattle.kernel_state.specs.Kernel.{after};
 ghost use Rattle.std.specs.Prelude.{IfSome, None, Some, is_some};
@@ -52,6 +53,7 @@ impl Parts {
         requires known { t < length self.old.names }
         requires waits_not { mutex_awaited_by (thread_at self.old.machine t) ≡ None }
         requires may { CanWait self.old.machine t (mutex_waited (wait_of waiting.wait)) }
+        requires modest { MayWaitUntil self.old.machine waiting.call waiting.due }
         ensures { self.new ≡ after (changes t (put_to_wait (waiting_of waiting))) self.old }
     {
         self.named.add(t);
@@ -65,6 +67,7 @@ impl Parts {
     pub(crate) fn block_runner(&mut self, t: Tid, waiting: Waiting)
         requires caller { IsRunning self.old t }
         requires may { CanWait self.old.machine t (mutex_waited (wait_of waiting.wait)) }
+        requires modest { MayWaitUntil self.old.machine waiting.call waiting.due }
         ensures { self.new ≡ after (changes t (put_to_wait (waiting_of waiting))) self.old }
     {
         self.named.add(t);

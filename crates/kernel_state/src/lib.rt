@@ -6,6 +6,7 @@
 
 mod caller;
 mod changes;
+mod clock;
 mod conditions;
 mod direct;
 mod dispatch;
@@ -22,6 +23,7 @@ mod reads;
 mod report;
 mod semaphore_values;
 mod servers;
+mod settings;
 mod settling;
 mod signals;
 mod threads;

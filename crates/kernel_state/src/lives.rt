@@ -19,7 +19,7 @@ use kernel_threads::Joiner;
 use parts_io::Sink;
 use parts_tracer::Tracer;
 use rules_machine::{BodyOf, FrameKind};
-use words_numbers::{ObjId, Res, Tid};
+use words_numbers::{ObjId, Tid};
 use words_trace::Event;
 
 /// The value of a cancelled thread, as `PTHREAD_CANCELED`.
@@ -92,12 +92,14 @@ impl Parts {
         self.table.run_cleanup(t, &self.code, u);
     }
 
-    /// A request acts in a thread that waits; it wakes, and its call does not return.
+    /// A request acts in a thread that waits; it wakes, and since its call does not return, the answer of its last call stays.
     pub fn wake_cancelled<K: Sink>(&mut self, t: Tid, out: &mut Tracer<'_, K>)
         requires { CanRise self.old t }
         ensures { Does K.text K.faults (wakes_cancelled t) self.old self.new out.old out.new }
     {
-        self.wake_telling(&Event::Cancel(t), t, Res::Zero, 0, out);
+        let thread = self.thread(t);
+        let (res, value) = (thread.last_result(), thread.last_value());
+        self.wake_telling(&Event::Cancel(t), t, res, value, out);
         self.begin_end(t, CANCELLED_VALUE);
     }
 
@@ -113,7 +115,9 @@ impl Parts {
         requires owner { IsOwner self.old.machine k owner }
         ensures { Does K.text K.faults (λ s. s ▷ changes_mutex k (taken_by t) ▷ wakes_cancelled t) self.old self.new out.old out.new }
     {
-        self.hand_over(k, owner, t, Res::Zero);
+        let thread = self.thread(t);
+        let (res, value) = (thread.last_result(), thread.last_value());
+        self.hand_over(k, owner, t, res, value);
         self.rise(&Event::Cancel(t), t, out);
         self.begin_end(t, CANCELLED_VALUE);
     }

@@ -99,12 +99,12 @@ impl Parts {
     }
 
     // The mutex goes from its owner to a thread that is runnable again.
-    pub(crate) fn hand_over(&mut self, k: ObjId, owner: Tid, t: Tid, res: Res)
+    pub(crate) fn hand_over(&mut self, k: ObjId, owner: Tid, t: Tid, res: Res, value: u64)
         requires known { t < length self.old.names }
         requires owner { IsOwner self.old.machine k owner }
-        ensures { self.new ≡ after (λ s. s ▷ changes_mutex k (taken_by t) ▷ changes t (woken res 0)) self.old }
+        ensures { self.new ≡ after (λ s. s ▷ changes_mutex k (taken_by t) ▷ changes t (woken res value)) self.old }
     {
-        let (released, woken) = self.table.hand_over(k, owner, t, res, 0);
+        let (released, woken) = self.table.hand_over(k, owner, t, res, value);
         self.named.add(t);
         self.named.take_in(&released);
         self.named.take_in(&woken);
@@ -124,7 +124,7 @@ impl Parts {
         ensures { Does K.text K.faults (λ s. s ▷ changes_mutex k (taken_by t) ▷ wakes t res 0) self.old self.new out.old out.new }
     {
         let call = self.thread(t).waiting_call();
-        self.hand_over(k, owner, t, res);
+        self.hand_over(k, owner, t, res, 0);
         self.rise(&Event::Return(t, call_name(&call), res, 0), t, out);
     }
 

@@ -7,6 +7,7 @@ ghost use Rattle.kernel_state.specs.Kernel.{Kernel, opened};
 ghost use Rattle.rules_flat_code.specs.Runnable.{IsRunnable};
 ghost use Rattle.kernel_state.specs.Settled.{HavePriorities};
 
+use crate::clock::Clock;
 use crate::direct::Direct;
 use crate::named::Named;
 use crate::parts::Parts;
@@ -86,6 +87,7 @@ impl Parts {
             actions: Actions::open(script),
             quantum: script.quantum,
             instant: Tick::default(),
+            clock: Clock::new(),
             last: LastDispatch::NoTick,
             next_serial: 0,
             killed: None,

@@ -7,6 +7,7 @@ ghost use Rattle.rules_machine.specs.Turns.{becomes, moves, takes_serial, tells}
 ghost use Rattle.kernel_state.specs.Kernel.{after, ran, told};
 ghost use Rattle.std.specs.Prelude.{Some, is_some};
 
+use crate::clock::Clock;
 use crate::direct::Direct;
 use crate::named::Named;
 use kernel_queues::Queues;
@@ -36,6 +37,7 @@ pub struct Parts {
     pub(crate) actions: Actions,
     pub(crate) quantum: u64,
     pub(crate) instant: Tick,
+    pub(crate) clock: Clock,
     pub(crate) last: LastDispatch,
     pub(crate) next_serial: u64,
     pub(crate) killed: Option<u8>,

@@ -1,10 +1,12 @@
 //! The interval timers.
-ghost use Rattle.std.specs.Prelude.{◌≡◌, ◌≤◌, ◌<◌, ◌^◌, length};
+ghost use Rattle.std.specs.Prelude.{◌≡◌, ◌≤◌, ◌<◌, ◌*◌, ◌^◌, Some, length};
 ghost use Rattle.rules_machine.specs.Signals.{with_overrun_told};
 ghost use Rattle.rules_machine.specs.Threads.{timer_at};
-ghost use Rattle.rules_machine.specs.Timers.{armed, armed_again, is_pending_from, overrun_once_more, record_of_timer};
+ghost use Rattle.rules_machine.specs.Timers.{armed, armed_again, is_pending_from, overrun_once_more, record_of_timer, timer_moment};
 ghost use Rattle.rules_machine.specs.Turns.{changes_timer};
+ghost use Rattle.kernel_threads.specs.RealDues.{real_due_if};
 ghost use Rattle.kernel_state.specs.Kernel.{after};
+ghost use Rattle.kernel_state.specs.RealTimes.{ComesModestly};
 
 use crate::parts::Parts;
 use kernel_signals::SignalRecord;
@@ -12,13 +14,30 @@ use words_numbers::{ObjId, Tick};
 
 impl Parts {
     /// The timer is due at that tick, and then again after each interval of so many ticks, at most 10^18; with an interval of 0 once.
-    /// With `None` it is disarmed.
-    pub fn set_timer(&mut self, k: ObjId, due: Option<Tick>, interval: u64)
+    /// With `None` it is disarmed. The flag says whether that tick is when CLOCK_REALTIME reads the time that the timer is set to.
+    pub fn set_timer(&mut self, k: ObjId, due: Option<Tick>, is_reading: bool, interval: u64)
         requires known { k < length self.old.machine.timers }
         requires interval { interval ≤ 10 ^ 18 }
-        ensures { self.new ≡ after (changes_timer k (armed due interval)) self.old }
+        requires modest { ComesModestly self.old.machine.clock (real_due_if due is_reading) }
+        ensures { self.new ≡ after (changes_timer k (armed due is_reading interval)) self.old }
     {
-        self.table.set_timer(k, due, interval);
+        self.table.set_timer(k, due, is_reading, interval);
+    }
+
+    /// When an absolute time of a timer comes, as the clocks stand: now, where the timer's clock has read it.
+    pub fn timer_moment(&self, k: ObjId, at: Tick) -> Tick
+        requires known { k < length self.now.machine.timers }
+        requires early { self.now.machine.now ≤ 10 ^ 18 }
+        requires limit { at ≤ 2 * 10 ^ 18 }
+        ensures value { result ≡ timer_moment self.now.machine k at }
+        ensures modest { ComesModestly self.now.machine.clock (real_due_if (Some result) (timer_at self.now.machine k).is_real) }
+    {
+        if self.timer(k).is_real() {
+            let left = at.get().saturating_sub(self.real_time());
+            self.instant.plus(left)
+        } else {
+            at
+        }
     }
 
     /// After an expiry now: the timer is due again after its interval, or disarmed where it has none.

@@ -25,7 +25,7 @@ disarmed threads timers dues few none h = record {
 -- ---- the timers of a script
 
 decl_disarmed : (d : Decl) → option_and_then (λ (x : Timer). x.due) (named timer_kind d) ≡ None
-decl_disarmed (decl.Named name (kind.Timer signal value)) = refl
+decl_disarmed (decl.Named name (kind.Timer signal value real)) = refl
 decl_disarmed (decl.Named name other) = refl
 decl_disarmed (decl.Action signal handler) = refl
 

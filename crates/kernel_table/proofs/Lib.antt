@@ -14,3 +14,4 @@ pub mod Charges
 pub mod Planning
 pub mod Runs
 pub mod LeftAlone
+pub mod SetTimes

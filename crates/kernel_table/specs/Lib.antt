@@ -7,3 +7,4 @@ pub mod Plans
 pub mod Movers
 pub mod Times
 pub mod Acceptors
+pub mod Settings

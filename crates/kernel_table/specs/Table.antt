@@ -44,6 +44,7 @@ CanAwait table t (Some k) = (k < length table.mutexes) × IsSome (mutex_at table
 abbrev pub machine_with : List (Thread Cursor) → List Mutex → List Timer → Machine Cursor
 machine_with threads mutexes timers = record {
   now = 0;
+  clock = record { ahead = 0; behind = 0 };
   last = last.NoTick;
   next_serial = 0;
   killed = None;

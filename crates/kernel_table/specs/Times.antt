@@ -10,7 +10,7 @@ use Rattle.parts_wheel.specs.Dues.{earlier}
 
 -- No instant is later than this.
 abbrev pub last_instant : ℕ
-last_instant = 2 * 10 ^ 18
+last_instant = 3 * 10 ^ 18
 
 -- the tick, where it is an instant
 abbrev pub in_time : Option ℕ → Option ℕ

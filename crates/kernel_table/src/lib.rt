@@ -17,9 +17,11 @@ mod mutexes;
 mod open;
 mod plans;
 mod reads;
+mod settings;
 mod signals;
 mod table;
 mod timers;
 mod times;
 
+pub use settings::Setting;
 pub use table::Table;

@@ -13,7 +13,7 @@ use parts_wheel::Wheel;
 use words_numbers::{Item, ObjId, Tick};
 
 // The expiry of the timer is armed as it is due now.
-fn reset(timers: &Timers, wheel: &mut Wheel, k: ObjId)
+pub(crate) fn reset(timers: &Timers, wheel: &mut Wheel, k: ObjId)
     requires timer { k < length timers.now }
     requires numbers { length wheel.old.dues ≡ 1024 }
     ensures { wheel.new.dues ≡ expiring k (timer_in timers.now k) wheel.old.dues }
@@ -40,12 +40,12 @@ impl Table {
 
     /// The timer is due at that tick, and then again after each interval of so many ticks, at most 10^18; with an interval of 0 once.
     /// With `None` it is disarmed.
-    pub fn set_timer(&mut self, k: ObjId, due: Option<Tick>, interval: u64)
+    pub fn set_timer(&mut self, k: ObjId, due: Option<Tick>, is_reading: bool, interval: u64)
         requires known { k < length self.old.timers }
         requires interval { interval ≤ 10 ^ 18 }
-        ensures { self.new ≡ with_timer k (armed due interval) self.old }
+        ensures { self.new ≡ with_timer k (armed due is_reading interval) self.old }
     {
-        self.timers.settime(k, due, interval);
+        self.timers.settime(k, due, is_reading, interval);
         reset(&self.timers, &mut self.wheel, k);
     }
 

@@ -13,3 +13,4 @@ pub mod Opening
 pub mod Operands
 pub mod Handlers
 pub mod Signals
+pub mod RealDues

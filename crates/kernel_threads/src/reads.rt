@@ -1,13 +1,14 @@
 //! What of a thread can be told.
 ghost use Rattle.std.specs.Prelude.{◌≡◌, ◌≤◌, IfSome, length};
 ghost use Rattle.rules_server.specs.Server.{ServerState};
+ghost use Rattle.rules_machine.specs.Threads.{top_result, top_value};
 ghost use Rattle.kernel_threads.specs.Plain.{status_of};
 
 use crate::frame::Frame;
 use crate::status::Status;
 use crate::thread::Thread;
 use parts_server::Server;
-use words_numbers::ObjId;
+use words_numbers::{ObjId, Res};
 use words_script::Policy;
 
 impl Thread {
@@ -49,6 +50,26 @@ impl Thread {
         ensures { result.now ≡ self.now.frames }
     {
         self.frames.as_slice()
+    }
+
+    /// The answer of the last call of its body.
+    pub fn last_result(&self) -> Res
+        ensures { result ≡ top_result self.now.frames }
+    {
+        match self.frames.first() {
+            None => Res::Zero,
+            Some(frame) => frame.result(),
+        }
+    }
+
+    /// The value of the last call of its body.
+    pub fn last_value(&self) -> u64
+        ensures { result ≡ top_value self.now.frames }
+    {
+        match self.frames.first() {
+            None => 0,
+            Some(frame) => frame.value(),
+        }
     }
 
     /// Its cleanup handlers, the one that was pushed last first.

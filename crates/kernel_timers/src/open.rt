@@ -11,8 +11,8 @@ fn add_timer(timers: &mut Vec<Timer>, decl: &Decl) -> Result<(), AllocError>
     ensures { IfOk result (λ _. timers.new.items ≡ timers.old.items ++ option_to_list (named timer_kind decl.now)) }
 {
     match decl {
-        Decl::Named(_, Kind::Timer { sig, value }) => {
-            timers.push(Timer::new(*sig, *value))?;
+        Decl::Named(_, Kind::Timer { sig, value, real }) => {
+            timers.push(Timer::new(*sig, *value, *real))?;
             Ok(())
         }
         _ => Ok(()),

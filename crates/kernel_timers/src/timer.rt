@@ -1,5 +1,5 @@
 //! One interval timer.
-ghost use Rattle.std.specs.Prelude.{◌≡◌, ◌≤◌, ◌*◌, ◌^◌, None};
+ghost use Rattle.std.specs.Prelude.{◌≡◌, ◌≤◌, ◌*◌, ◌^◌, None, Some, false};
 ghost use Rattle.rules_machine.specs.Signals.{with_overrun_told};
 ghost use Rattle.rules_machine.specs.Timers.{armed, armed_again, overrun_once_more, ticks_to};
 
@@ -15,7 +15,11 @@ pub struct Timer {
     // of its expiry: the signal, 0 to 31, and that signal's value
     signal: u8,
     value: u64,
+    // whether its clock is CLOCK_REALTIME
+    is_real: bool,
     due: Option<Tick>,
+    // whether that is when its clock reads the time that it was set to
+    is_reading: bool,
     // in ticks; 0 where it expires once
     interval: u64,
     // the expiries since its signal became pending
@@ -30,31 +34,34 @@ impl Model for Timer {
 
     ghost Value = { machine.Timer };
 
-    ghost view = { λ t. record { signal = t.signal; value = t.value; due = t.due; interval = t.interval; extra = t.extra; overrun = t.overrun } };
+    ghost view = { λ t. record { signal = t.signal; value = t.value; is_real = t.is_real; due = t.due; is_reading = t.is_reading; interval = t.interval; extra = t.extra; overrun = t.overrun } };
 
     ghost invariant = { λ t. t.interval ≤ 10 ^ 18 };
 }
 
 impl Timer {
     // It is not armed.
-    pub(crate) fn new(signal: u8, value: u64) -> Timer
-        ensures { result ≡ record { signal = signal; value = value; due = None; interval = 0; extra = 0; overrun = 0 } }
+    pub(crate) fn new(signal: u8, value: u64, is_real: bool) -> Timer
+        ensures { result ≡ record { signal = signal; value = value; is_real = is_real; due = None; is_reading = false; interval = 0; extra = 0; overrun = 0 } }
     {
         Timer {
             signal,
             value,
+            is_real,
             due: None,
+            is_reading: false,
             interval: 0,
             extra: 0,
             overrun: 0,
         }
     }
 
-    pub(crate) fn arm(&mut self, due: Option<Tick>, interval: u64)
+    pub(crate) fn arm(&mut self, due: Option<Tick>, is_reading: bool, interval: u64)
         requires { interval ≤ 10 ^ 18 }
-        ensures { self.new ≡ armed due interval self.old }
+        ensures { self.new ≡ armed due is_reading interval self.old }
     {
         self.due = due;
+        self.is_reading = is_reading;
         self.interval = interval;
     }
 
@@ -68,6 +75,14 @@ impl Timer {
         } else {
             now.after(self.interval)
         };
+        self.is_reading = false;
+    }
+
+    // When it expires next is moved.
+    pub(crate) fn set_due(&mut self, due: Tick)
+        ensures { self.new ≡ record self.old { due = Some due } }
+    {
+        self.due = Some(due);
     }
 
     pub(crate) fn overrun_once_more(&mut self)
@@ -99,6 +114,20 @@ impl Timer {
         ensures { result ≡ self.now.value }
     {
         self.value
+    }
+
+    /// Whether its clock is CLOCK_REALTIME.
+    pub fn is_real(&self) -> bool
+        ensures { result ≡ self.now.is_real }
+    {
+        self.is_real
+    }
+
+    /// Whether its due tick is when its clock reads the time that it was set to.
+    pub fn is_reading(&self) -> bool
+        ensures { result ≡ self.now.is_reading }
+    {
+        self.is_reading
     }
 
     /// When it expires next; `None` exactly where it is disarmed.

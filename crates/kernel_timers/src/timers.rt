@@ -1,6 +1,7 @@
 //! The timers by their numbers.
-ghost use Rattle.std.specs.Prelude.{◌≡◌, ◌<◌, ◌≤◌, ◌^◌, length, IfOk};
+ghost use Rattle.std.specs.Prelude.{◌≡◌, ◌<◌, ◌≤◌, ◌^◌, length, IfOk, Some};
 ghost use Rattle.rules_machine.specs.Declarations.{timers_of};
+ghost use Rattle.rules_machine.specs.State as machine;
 ghost use Rattle.rules_machine.specs.Signals.{with_overrun_told};
 ghost use Rattle.rules_machine.specs.Timers.{armed, armed_again, overrun_once_more};
 ghost use Rattle.kernel_timers.specs.Timers.{timer_in, with_timer};
@@ -53,12 +54,20 @@ impl Timers {
 
     /// The timer is due at that tick, and then again after each interval of so many ticks, at most 10^18; with an interval of 0 once.
     /// With None it is disarmed.
-    pub fn settime(&mut self, k: ObjId, due: Option<Tick>, interval: u64)
+    pub fn settime(&mut self, k: ObjId, due: Option<Tick>, is_reading: bool, interval: u64)
         requires known { k < length self.old }
         requires interval { interval ≤ 10 ^ 18 }
-        ensures { self.new ≡ with_timer k (armed due interval) self.old }
+        ensures { self.new ≡ with_timer k (armed due is_reading interval) self.old }
     {
-        self.items[k.get() as usize].arm(due, interval);
+        self.items[k.get() as usize].arm(due, is_reading, interval);
+    }
+
+    /// When the timer expires next is moved.
+    pub fn set_due(&mut self, k: ObjId, due: Tick)
+        requires known { k < length self.old }
+        ensures { self.new ≡ with_timer k (λ (x : machine.Timer). record x { due = Some due }) self.old }
+    {
+        self.items[k.get() as usize].set_due(due);
     }
 
     /// After an expiry now, at most at 10^18: the timer is due again after its interval, or disarmed where it has none.

@@ -21,7 +21,7 @@ use Rattle.script_table.specs.declared.form.MessageCall.{MessageCall}
 use Rattle.script_table.specs.declared.form.MessageCall.TheVariants as message
 use Rattle.words_script.specs.declared.name_kind.NameKind.TheVariants.{Thread, Mutex, Cond, Sem, Queue, Timer}
 use Rattle.script_table.specs.Names.{Entry}
-use Rattle.script_table.specs.Operands.{map_two, map_three, map_four, map_five, number_in, amount_at, priority_at, operand_at, signal_at, signals_at, named_at, fifo_at, rr_at, sporadic_at, strict_at}
+use Rattle.script_table.specs.Operands.{amount_at, fifo_at, map_five, map_four, map_three, map_two, moment_at, named_at, number_in, operand_at, priority_at, rr_at, signal_at, signals_at, sporadic_at, strict_at, real_at}
 use Rattle.script_table.specs.Calls.{call_of, mutex_call, message_call, sem_call, signal_call, thread_call, time_call}
 use Rattle.laws_accepted.proofs.Operands.{Said, fifo_fits, map_said, priority_is, rr_fits, sporadic_fits, strict_fits, two_said}
 
@@ -79,25 +79,31 @@ thread_plain es thread.SetschedStrict words = setsched (named_at Thread es 1 wor
 
 mutex_plain : (es : List Entry) (f : MutexCall) (words : List (List ℕ)) → Said IsPlainCall (mutex_call es f words)
 mutex_plain es mutex.Lock words = one calls.Lock (λ k. record { fits = tt; plain = refl }) (named_at Mutex es 1 words)
-mutex_plain es mutex.Timedlock words = two calls.Timedlock (λ k at. record { fits = tt; plain = refl }) (named_at Mutex es 1 words) (operand_at 2 words)
+mutex_plain es mutex.Timedlock words = two calls.Timedlock (λ k at. record { fits = tt; plain = refl }) (named_at Mutex es 1 words) (moment_at 2 words)
+mutex_plain es mutex.TimedlockReal words = two calls.Timedlock (λ k at. record { fits = tt; plain = refl }) (named_at Mutex es 1 words) (real_at 2 words)
 mutex_plain es mutex.Trylock words = one calls.Trylock (λ k. record { fits = tt; plain = refl }) (named_at Mutex es 1 words)
 mutex_plain es mutex.Unlock words = one calls.Unlock (λ k. record { fits = tt; plain = refl }) (named_at Mutex es 1 words)
 mutex_plain es mutex.Wait words = two calls.Wait (λ c k. record { fits = tt; plain = refl }) (named_at Cond es 1 words) (named_at Mutex es 2 words)
-mutex_plain es mutex.Timedwait words = three calls.Timedwait (λ c k at. record { fits = tt; plain = refl }) (named_at Cond es 1 words) (named_at Mutex es 2 words) (operand_at 3 words)
+mutex_plain es mutex.Timedwait words = three calls.Timedwait (λ c k at. record { fits = tt; plain = refl }) (named_at Cond es 1 words) (named_at Mutex es 2 words) (moment_at 3 words)
+mutex_plain es mutex.TimedwaitReal words = three calls.Timedwait (λ c k at. record { fits = tt; plain = refl }) (named_at Cond es 1 words) (named_at Mutex es 2 words) (real_at 3 words)
 mutex_plain es mutex.Signal words = one calls.Signal (λ c. record { fits = tt; plain = refl }) (named_at Cond es 1 words)
 mutex_plain es mutex.Broadcast words = one calls.Broadcast (λ c. record { fits = tt; plain = refl }) (named_at Cond es 1 words)
 
 sem_plain : (es : List Entry) (f : SemCall) (words : List (List ℕ)) → Said IsPlainCall (sem_call es f words)
 sem_plain es sem.Wait words = one calls.SemWait (λ k. record { fits = tt; plain = refl }) (named_at Sem es 1 words)
-sem_plain es sem.Timedwait words = two calls.SemTimedwait (λ k at. record { fits = tt; plain = refl }) (named_at Sem es 1 words) (operand_at 2 words)
+sem_plain es sem.Timedwait words = two calls.SemTimedwait (λ k at. record { fits = tt; plain = refl }) (named_at Sem es 1 words) (moment_at 2 words)
+sem_plain es sem.TimedwaitReal words = two calls.SemTimedwait (λ k at. record { fits = tt; plain = refl }) (named_at Sem es 1 words) (real_at 2 words)
 sem_plain es sem.Trywait words = one calls.SemTrywait (λ k. record { fits = tt; plain = refl }) (named_at Sem es 1 words)
 sem_plain es sem.Getvalue words = one calls.SemGetvalue (λ k. record { fits = tt; plain = refl }) (named_at Sem es 1 words)
 sem_plain es sem.Post words = one calls.SemPost (λ k. record { fits = tt; plain = refl }) (named_at Sem es 1 words)
 
 time_plain : (es : List Entry) (f : TimeCall) (words : List (List ℕ)) → Said IsPlainCall (time_call es f words)
 time_plain es time.Nanosleep words = one calls.Nanosleep (λ n. record { fits = tt; plain = refl }) (amount_at 1 words)
-time_plain es time.ClockNanosleep words = one calls.ClockNanosleep (λ at. record { fits = tt; plain = refl }) (operand_at 1 words)
+time_plain es time.ClockNanosleep words = one calls.ClockNanosleep (λ at. record { fits = tt; plain = refl }) (moment_at 1 words)
+time_plain es time.ClockNanosleepReal words = one calls.ClockNanosleep (λ at. record { fits = tt; plain = refl }) (real_at 1 words)
 time_plain es time.Gettime words = record { fits = tt; plain = refl }
+time_plain es time.RealGettime words = record { fits = tt; plain = refl }
+time_plain es time.ClockSettime words = one calls.ClockSettime (λ v. record { fits = tt; plain = refl }) (operand_at 1 words)
 time_plain es time.TimerSettimeRel words = three calls.TimerSettimeRel (λ k n interval. record { fits = tt; plain = refl }) (named_at Timer es 1 words) (amount_at 3 words) (amount_at 4 words)
 time_plain es time.TimerSettimeAbs words = three calls.TimerSettimeAbs (λ k at interval. record { fits = tt; plain = refl }) (named_at Timer es 1 words) (operand_at 3 words) (amount_at 4 words)
 time_plain es time.TimerGettime words = one calls.TimerGettime (λ k. record { fits = tt; plain = refl }) (named_at Timer es 1 words)
@@ -116,9 +122,12 @@ signal_plain es signal.Sigtimedwait words = two calls.Sigtimedwait (λ set n. re
 message_plain : (es : List Entry) (f : MessageCall) (words : List (List ℕ)) → Said IsPlainCall (message_call es f words)
 message_plain es message.Send words = four calls.MqSend (λ q n p v. record { fits = tt; plain = refl }) (named_at Queue es 1 words) (number_in 0 65536 2 words) (number_in 0 31 3 words) (operand_at 4 words)
 message_plain es message.Timedsend words =
-    five calls.MqTimedsend (λ q n p v at. record { fits = tt; plain = refl }) (named_at Queue es 1 words) (number_in 0 65536 2 words) (number_in 0 31 3 words) (operand_at 4 words) (operand_at 5 words)
+    five calls.MqTimedsend (λ q n p v at. record { fits = tt; plain = refl }) (named_at Queue es 1 words) (number_in 0 65536 2 words) (number_in 0 31 3 words) (operand_at 4 words) (moment_at 5 words)
+message_plain es message.TimedsendReal words =
+    five calls.MqTimedsend (λ q n p v at. record { fits = tt; plain = refl }) (named_at Queue es 1 words) (number_in 0 65536 2 words) (number_in 0 31 3 words) (operand_at 4 words) (real_at 5 words)
 message_plain es message.Receive words = one calls.MqReceive (λ q. record { fits = tt; plain = refl }) (named_at Queue es 1 words)
-message_plain es message.Timedreceive words = two calls.MqTimedreceive (λ q at. record { fits = tt; plain = refl }) (named_at Queue es 1 words) (operand_at 2 words)
+message_plain es message.Timedreceive words = two calls.MqTimedreceive (λ q at. record { fits = tt; plain = refl }) (named_at Queue es 1 words) (moment_at 2 words)
+message_plain es message.TimedreceiveReal words = two calls.MqTimedreceive (λ q at. record { fits = tt; plain = refl }) (named_at Queue es 1 words) (real_at 2 words)
 message_plain es message.Notify words = three calls.MqNotify (λ q n v. record { fits = tt; plain = refl }) (named_at Queue es 1 words) (signal_at 2 words) (operand_at 3 words)
 
 pub call_plain : (es : List Entry) (f : CallForm) (words : List (List ℕ)) → Said IsPlainCall (call_of es f words)

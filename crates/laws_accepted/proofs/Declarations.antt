@@ -21,7 +21,7 @@ use Rattle.words_script.specs.declared.name_kind.NameKind.TheVariants as kind
 use Rattle.script_table.specs.Names.{Entry}
 use Rattle.script_table.specs.Structure.{body_kind}
 use Rattle.script_table.specs.Operands.{map_two, number_in, amount_at, priority_at, signal_at, name_at, named_at, fifo_at, rr_at, sporadic_at, strict_at}
-use Rattle.script_table.specs.Meaning.{protect, queue, kind_of_object, object_decl, runs, ignores, action_decl, thread_at, thread_dormant, body_decl, kind_of_body}
+use Rattle.script_table.specs.Meaning.{protect, queue, kind_of_object, object_decl, runs, ignores, action_decl, thread_at, thread_dormant, body_decl, kind_of_body, timer}
 use Rattle.laws_accepted.proofs.Operands.{Said, fifo_fits, priority_is, rr_fits, sporadic_fits, strict_fits}
 use Rattle.laws_accepted.proofs.Steps.{AreSound}
 
@@ -53,10 +53,10 @@ semaphores : (o : Option ℕ) → Said IsSoundKind (option_map kinds.Sem o)
 semaphores None = tt
 semaphores (Some n) = record { fits = tt; guarded = tt }
 
-timers : (o p : Option ℕ) → Said IsSoundKind (map_two kinds.Timer o p)
-timers None p = tt
-timers (Some sig) None = tt
-timers (Some sig) (Some value) = record { fits = tt; guarded = tt }
+timers : (real : Bool) (o p : Option ℕ) → Said IsSoundKind (timer real o p)
+timers real None p = tt
+timers real (Some sig) None = tt
+timers real (Some sig) (Some value) = record { fits = tt; guarded = tt }
 
 objects : (f : ObjectForm) (words : List (List ℕ)) → Said IsSoundKind (kind_of_object f words)
 objects object.MutexNone words = record { fits = tt; guarded = tt }
@@ -69,7 +69,8 @@ objects object.Cond words = record { fits = tt; guarded = tt }
 objects object.Sem words = semaphores (number_in 0 32767 2 words)
 objects object.Queue words = queues false (number_in 1 64 2 words) (number_in 1 65536 3 words)
 objects object.QueueNonblock words = queues true (number_in 1 64 2 words) (number_in 1 65536 3 words)
-objects object.Timer words = timers (signal_at 2 words) (amount_at 3 words)
+objects object.Timer words = timers false (signal_at 2 words) (amount_at 3 words)
+objects object.TimerReal words = timers true (signal_at 2 words) (amount_at 3 words)
 
 pub object_sound : (f : ObjectForm) (words : List (List ℕ)) → Said IsSoundDecl (object_decl f words)
 object_sound f words = named (name_at 1 words) (kind_of_object f words) (objects f words)

@@ -11,7 +11,7 @@ use Rattle.rules_server.specs.declared.ServerKind.TheVariants as server_kind
 use Rattle.rules_server.specs.Server.{ServerState, activate, is_high, new_server, next_due, oldest_pending, refill, set_high}
 use Rattle.rules_machine.specs.Lists.{changed_at, is}
 use Rattle.rules_machine.specs.Bodies.{Bodies}
-use Rattle.rules_machine.specs.State.{Joiner, Status, Thread, Waiting, blocked, for_mutex_again, runnable}
+use Rattle.rules_machine.specs.State.{Joiner, Status, Thread, Waiting, blocked, dormant, ended, for_mutex_again, runnable}
 use Rattle.rules_machine.specs.Threads.{can_run, is_blocked, is_dormant, is_live, is_runnable, no_thread, thread_at, thread_in}
 use Rattle.rules_machine.specs.Turns.{Turn, changes, moves, tells}
 use Rattle.rules_machine.specs.Servers.{activates_if, activates_server, amount_of, at_once, high_server, refills_server, regains_high, server_of, with_server}
@@ -22,7 +22,8 @@ use Rattle.rules_machine.specs.Cancellation.{without_cleanup}
 use Rattle.rules_machine.specs.DueItems.{has_come}
 use Rattle.rules_machine.specs.GoodState.{is_sporadic}
 use Rattle.rules_machine.proofs.Reading.{changed-length, thread-other, thread-same}
-use Rattle.rules_moves.specs.Moves.{Core, MayAwake, Move, alters, begins, blocks_for, blocks_plainly, core_of, does, drops, ends_with, enters_frame, leaves_frame, lives_no_more, prices, pushed, pushes, recasts, refills_one, rejoins, renews_with, tells_of, wakes_with}
+use Rattle.rules_moves.specs.Moves.{Core, MayAwake, Move, alters, at_some_time, begins, blocks_for, blocks_plainly, core_of, does, drops, ends_with, enters_frame, leaves_frame, lives_no_more, prices, pushed, pushes, recasts, refills_one, rejoins, renews_with, tells_of, wakes_with}
+use Rattle.rules_moves.proofs.Cores.{timeless}
 use Rattle.rules_moves.proofs.Waiters.Best.{blocked_within, running_within}
 use Rattle.rules_moves.proofs.Waiters.OfThreads.{changed_is}
 use Rattle.laws_machine.proofs.Servers.OfThreads.{ThreadRight, none_consumed, only}
@@ -358,8 +359,28 @@ module _ {P : Type 0} (bodies : Bodies P) (t : ℕ) (lim : Limits) (a : Account)
   same_thread : (v : ℕ) (f : Thread P → Thread P) (s : Turn P) → ((b : Account) → FitsOf (Booked lim) s.machine.now (thread_at s.machine v) b → FitsOf (Booked lim) s.machine.now (f (thread_at s.machine v)) b) → Recorded s → Recorded (changes v f s)
   same_thread v f s h q = one (Booked lim) v f s h q
 
+  -- the account goes by no time of a wait
+  other_wait : (v w : Waiting) (now : ℕ) (rule : Policy) (server : Option ServerState) (ran : ℕ) (b : Account) → Fits lim own tolled (Booked lim) now (blocked v) rule server ran b → Fits lim own tolled (Booked lim) now (blocked w) rule server ran b
+  other_wait v w now rule server ran b f =
+      refit lim own tolled (Booked lim) (Booked lim) now (blocked v) (blocked w) rule server server ran b b (same_account lim own tolled b) (refl, refl) (refl, refl) (λ o k. k)
+      (λ x k. other_status lim now (blocked v) (blocked w) x b (λ runs. runs) (f.each x k)) f
+
+  seen_so : (status : Status) (now : ℕ) (rule : Policy) (server : Option ServerState) (ran : ℕ) (b : Account) → Fits lim own tolled (Booked lim) now status rule server ran b → Fits lim own tolled (Booked lim) now (at_some_time status) rule server ran b
+  seen_so (dormant at) now rule server ran b f = f
+  seen_so runnable now rule server ran b f = f
+  seen_so (blocked w) now rule server ran b f = other_wait w (timeless w) now rule server ran b f
+  seen_so ended now rule server ran b f = f
+
+  so_seen : (status : Status) (now : ℕ) (rule : Policy) (server : Option ServerState) (ran : ℕ) (b : Account) → Fits lim own tolled (Booked lim) now (at_some_time status) rule server ran b → Fits lim own tolled (Booked lim) now status rule server ran b
+  so_seen (dormant at) now rule server ran b f = f
+  so_seen runnable now rule server ran b f = f
+  so_seen (blocked w) now rule server ran b f = other_wait (timeless w) w now rule server ran b f
+  so_seen ended now rule server ran b f = f
+
   of_core : (now : ℕ) (x y : Thread P) (b : Account) → core_of x ≡ core_of y → FitsOf (Booked lim) now y b → FitsOf (Booked lim) now x b
-  of_core now x y b e h = subst (λ (c : Core P). Fits lim own tolled (Booked lim) now c.status c.policy c.server c.ticks b) (sym e) h
+  of_core now x y b e h =
+      so_seen x.status now x.policy x.server x.ticks b
+      (subst (λ (c : Core P). Fits lim own tolled (Booked lim) now c.status c.policy c.server c.ticks b) (sym e) (seen_so y.status now y.policy y.server y.ticks b h))
 
   priced : (p now : ℕ) (th : Thread P) (b : Account) → FitsOf (Booked lim) now th b → FitsOf (Booked lim) now (with_priority p th) b
   priced p now th b f = record {

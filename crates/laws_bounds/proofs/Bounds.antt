@@ -63,6 +63,7 @@ object_threads c object.Sem = refl
 object_threads c object.Queue = refl
 object_threads c object.QueueNonblock = refl
 object_threads c object.Timer = refl
+object_threads c object.TimerReal = refl
 object_threads c mutex = refl
 
 object_others : (c : Counts) (f : ObjectForm) → others (counted c (object_kind f)) ≡ others c
@@ -71,6 +72,7 @@ object_others c object.Sem = refl
 object_others c object.Queue = refl
 object_others c object.QueueNonblock = refl
 object_others c object.Timer = refl
+object_others c object.TimerReal = refl
 object_others c mutex = refl
 
 -- the counts after a line that opens a body

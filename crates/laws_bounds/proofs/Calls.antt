@@ -4,7 +4,7 @@ use Rattle.std.proofs.Common.{ℕ, ◌<◌, List, Option, arith}
 use Rattle.std.specs.Option.{IfSome, option_map}
 use Rattle.words_script.specs.declared.call.Call.{Call}
 use Rattle.words_script.specs.declared.call.Call.TheVariants as calls
-use Rattle.words_script.specs.declared.call.Operand.{Operand}
+use Rattle.words_script.specs.declared.call.Moment.{Moment}
 use Rattle.words_script.specs.declared.policy.Policy.{Policy}
 use Rattle.script_table.specs.declared.form.CallForm.{CallForm}
 use Rattle.script_table.specs.declared.form.CallForm.TheVariants as call
@@ -23,11 +23,11 @@ use Rattle.script_table.specs.declared.form.MessageCall.TheVariants as message
 use Rattle.words_script.specs.declared.name_kind.NameKind.{NameKind}
 use Rattle.words_script.specs.declared.name_kind.NameKind.TheVariants as kind
 use Rattle.script_table.specs.Names.{Entry}
-use Rattle.script_table.specs.Operands.{map_two, number_in, amount_at, priority_at, operand_at, signal_at, signals_at, named_at, fifo_at, rr_at, sporadic_at, strict_at}
+use Rattle.script_table.specs.Operands.{map_two, number_in, amount_at, priority_at, operand_at, signal_at, signals_at, named_at, fifo_at, rr_at, sporadic_at, strict_at, moment_at, real_at}
 use Rattle.script_table.specs.Calls.{thread_call, mutex_call, sem_call, time_call, signal_call, message_call, call_of}
-use Rattle.rules_flat_code.specs.KnownCalls.{Objects, KnowsObjects, IsNumber, IsOperand, IsSignal}
+use Rattle.rules_flat_code.specs.KnownCalls.{Objects, KnowsObjects, IsNumber, IsOperand, IsSignal, IsMoment}
 use Rattle.rules_flat_code.specs.Runnable.{HasBudget, CallHasBudget}
-use Rattle.laws_bounds.proofs.Operands.{mapped, mapped_two, mapped_three, mapped_four, mapped_five, Any, anything, IsFrom, number_within, amount_within, operand_within, signal_within, fifo_within, rr_within, sporadic_within, strict_within, AllBelow, named_within}
+use Rattle.laws_bounds.proofs.Operands.{mapped, mapped_two, mapped_three, mapped_four, mapped_five, Any, anything, IsFrom, number_within, amount_within, operand_within, signal_within, fifo_within, rr_within, sporadic_within, strict_within, AllBelow, named_within, moment_within, real_within}
 
 -- how many there are of each kind that calls name by number
 abbrev pub objects_by : (NameKind → ℕ) → Objects
@@ -53,10 +53,15 @@ module _ (count : NameKind → ℕ) (es : List Entry) (below : AllBelow count es
       → IfSome (option_map make (named_at kind es 1 words)) (Fits count)
   of_name kind make each = mapped (Below kind) (Fits count) make each (named_at kind es 1 words) (named_within count es below kind 1 words)
 
-  of_name_and_operand : (kind : NameKind) (make : ℕ → Operand → Call) → ((n : ℕ) (v : Operand) → n < count kind → IsOperand v → Fits count (make n v))
-      → IfSome (map_two make (named_at kind es 1 words) (operand_at 2 words)) (Fits count)
-  of_name_and_operand kind make each =
-      mapped_two (Below kind) IsOperand (Fits count) make each (named_at kind es 1 words) (operand_at 2 words) (named_within count es below kind 1 words) (operand_within 2 words)
+  of_name_and_moment : (kind : NameKind) (make : ℕ → Moment → Call) → ((n : ℕ) (at : Moment) → n < count kind → IsMoment at → Fits count (make n at))
+      → IfSome (map_two make (named_at kind es 1 words) (moment_at 2 words)) (Fits count)
+  of_name_and_moment kind make each =
+      mapped_two (Below kind) IsMoment (Fits count) make each (named_at kind es 1 words) (moment_at 2 words) (named_within count es below kind 1 words) (moment_within 2 words)
+
+  of_name_and_real : (kind : NameKind) (make : ℕ → Moment → Call) → ((n : ℕ) (at : Moment) → n < count kind → IsMoment at → Fits count (make n at))
+      → IfSome (map_two make (named_at kind es 1 words) (real_at 2 words)) (Fits count)
+  of_name_and_real kind make each =
+      mapped_two (Below kind) IsMoment (Fits count) make each (named_at kind es 1 words) (real_at 2 words) (named_within count es below kind 1 words) (real_within 2 words)
 
   -- a call that sets a policy
   of_policy : (policy : Option Policy) → IfSome policy HasBudget
@@ -88,22 +93,28 @@ module _ (count : NameKind → ℕ) (es : List Entry) (below : AllBelow count es
 
   mutex_fits : (f : MutexCall) → IfSome (mutex_call es f words) (Fits count)
   mutex_fits mutex.Lock = of_name kind.Mutex calls.Lock (λ k h. (h, tt))
-  mutex_fits mutex.Timedlock = of_name_and_operand kind.Mutex calls.Timedlock (λ k at h o. ((h, o), tt))
+  mutex_fits mutex.Timedlock = of_name_and_moment kind.Mutex calls.Timedlock (λ k at h o. ((h, o), tt))
+  mutex_fits mutex.TimedlockReal = of_name_and_real kind.Mutex calls.Timedlock (λ k at h o. ((h, o), tt))
   mutex_fits mutex.Trylock = of_name kind.Mutex calls.Trylock (λ k h. (h, tt))
   mutex_fits mutex.Unlock = of_name kind.Mutex calls.Unlock (λ k h. (h, tt))
   mutex_fits mutex.Wait =
       mapped_two Any (Below kind.Mutex) (Fits count) calls.Wait (λ c k any h. (h, tt)) (named_at kind.Cond es 1 words) (named_at kind.Mutex es 2 words)
       (anything (named_at kind.Cond es 1 words)) (named_within count es below kind.Mutex 2 words)
   mutex_fits mutex.Timedwait =
-      mapped_three Any (Below kind.Mutex) IsOperand (Fits count) calls.Timedwait (λ c k at any h o. ((h, o), tt))
-      (named_at kind.Cond es 1 words) (named_at kind.Mutex es 2 words) (operand_at 3 words)
-      (anything (named_at kind.Cond es 1 words)) (named_within count es below kind.Mutex 2 words) (operand_within 3 words)
+      mapped_three Any (Below kind.Mutex) IsMoment (Fits count) calls.Timedwait (λ c k at any h o. ((h, o), tt))
+      (named_at kind.Cond es 1 words) (named_at kind.Mutex es 2 words) (moment_at 3 words)
+      (anything (named_at kind.Cond es 1 words)) (named_within count es below kind.Mutex 2 words) (moment_within 3 words)
+  mutex_fits mutex.TimedwaitReal =
+      mapped_three Any (Below kind.Mutex) IsMoment (Fits count) calls.Timedwait (λ c k at any h o. ((h, o), tt))
+      (named_at kind.Cond es 1 words) (named_at kind.Mutex es 2 words) (real_at 3 words)
+      (anything (named_at kind.Cond es 1 words)) (named_within count es below kind.Mutex 2 words) (real_within 3 words)
   mutex_fits mutex.Signal = of_name kind.Cond calls.Signal (λ c h. (tt, tt))
   mutex_fits mutex.Broadcast = of_name kind.Cond calls.Broadcast (λ c h. (tt, tt))
 
   sem_fits : (f : SemCall) → IfSome (sem_call es f words) (Fits count)
   sem_fits sem.Wait = of_name kind.Sem calls.SemWait (λ k h. (h, tt))
-  sem_fits sem.Timedwait = of_name_and_operand kind.Sem calls.SemTimedwait (λ k at h o. ((h, o), tt))
+  sem_fits sem.Timedwait = of_name_and_moment kind.Sem calls.SemTimedwait (λ k at h o. ((h, o), tt))
+  sem_fits sem.TimedwaitReal = of_name_and_real kind.Sem calls.SemTimedwait (λ k at h o. ((h, o), tt))
   sem_fits sem.Trywait = of_name kind.Sem calls.SemTrywait (λ k h. (h, tt))
   sem_fits sem.Getvalue = of_name kind.Sem calls.SemGetvalue (λ k h. (h, tt))
   sem_fits sem.Post = of_name kind.Sem calls.SemPost (λ k h. (h, tt))
@@ -111,8 +122,12 @@ module _ (count : NameKind → ℕ) (es : List Entry) (below : AllBelow count es
   time_fits : (f : TimeCall) → IfSome (time_call es f words) (Fits count)
   time_fits time.Nanosleep = mapped IsNumber (Fits count) calls.Nanosleep (λ n h. (h, tt)) (amount_at 1 words) (amount_within 1 words)
   time_fits time.ClockNanosleep =
-      mapped IsOperand (Fits count) calls.ClockNanosleep (λ at h. (h, tt)) (operand_at 1 words) (operand_within 1 words)
+      mapped IsMoment (Fits count) calls.ClockNanosleep (λ at h. (h, tt)) (moment_at 1 words) (moment_within 1 words)
+  time_fits time.ClockNanosleepReal =
+      mapped IsMoment (Fits count) calls.ClockNanosleep (λ at h. (h, tt)) (real_at 1 words) (real_within 1 words)
   time_fits time.Gettime = (tt, tt)
+  time_fits time.RealGettime = (tt, tt)
+  time_fits time.ClockSettime = mapped IsOperand (Fits count) calls.ClockSettime (λ v h. (h, tt)) (operand_at 1 words) (operand_within 1 words)
   time_fits time.TimerSettimeRel =
       mapped_three (Below kind.Timer) IsNumber IsNumber (Fits count) calls.TimerSettimeRel (λ k n i h a b. ((h, a, b), tt))
       (named_at kind.Timer es 1 words) (amount_at 3 words) (amount_at 4 words)
@@ -147,12 +162,18 @@ module _ (count : NameKind → ℕ) (es : List Entry) (below : AllBelow count es
       (named_at kind.Queue es 1 words) (number_in 0 65536 2 words) (number_in 0 31 3 words) (operand_at 4 words)
       (named_within count es below kind.Queue 1 words) (anything (number_in 0 65536 2 words)) (number_within 0 31 3 words) (operand_within 4 words)
   message_fits message.Timedsend =
-      mapped_five (Below kind.Queue) Any (IsFrom 0 31) IsOperand IsOperand (Fits count) calls.MqTimedsend
+      mapped_five (Below kind.Queue) Any (IsFrom 0 31) IsOperand IsMoment (Fits count) calls.MqTimedsend
       (λ q len p v at h any r o a. ((h, omega (arith, r.1), o, a), tt))
-      (named_at kind.Queue es 1 words) (number_in 0 65536 2 words) (number_in 0 31 3 words) (operand_at 4 words) (operand_at 5 words)
-      (named_within count es below kind.Queue 1 words) (anything (number_in 0 65536 2 words)) (number_within 0 31 3 words) (operand_within 4 words) (operand_within 5 words)
+      (named_at kind.Queue es 1 words) (number_in 0 65536 2 words) (number_in 0 31 3 words) (operand_at 4 words) (moment_at 5 words)
+      (named_within count es below kind.Queue 1 words) (anything (number_in 0 65536 2 words)) (number_within 0 31 3 words) (operand_within 4 words) (moment_within 5 words)
+  message_fits message.TimedsendReal =
+      mapped_five (Below kind.Queue) Any (IsFrom 0 31) IsOperand IsMoment (Fits count) calls.MqTimedsend
+      (λ q len p v at h any r o a. ((h, omega (arith, r.1), o, a), tt))
+      (named_at kind.Queue es 1 words) (number_in 0 65536 2 words) (number_in 0 31 3 words) (operand_at 4 words) (real_at 5 words)
+      (named_within count es below kind.Queue 1 words) (anything (number_in 0 65536 2 words)) (number_within 0 31 3 words) (operand_within 4 words) (real_within 5 words)
   message_fits message.Receive = of_name kind.Queue calls.MqReceive (λ q h. (h, tt))
-  message_fits message.Timedreceive = of_name_and_operand kind.Queue calls.MqTimedreceive (λ q at h o. ((h, o), tt))
+  message_fits message.Timedreceive = of_name_and_moment kind.Queue calls.MqTimedreceive (λ q at h o. ((h, o), tt))
+  message_fits message.TimedreceiveReal = of_name_and_real kind.Queue calls.MqTimedreceive (λ q at h o. ((h, o), tt))
   message_fits message.Notify =
       mapped_three (Below kind.Queue) IsSignal IsOperand (Fits count) calls.MqNotify (λ q k v h s o. ((h, s, o), tt))
       (named_at kind.Queue es 1 words) (signal_at 2 words) (operand_at 3 words)

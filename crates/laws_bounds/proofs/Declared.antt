@@ -20,7 +20,7 @@ use Rattle.script_table.specs.declared.form.BodyForm.TheVariants as body
 use Rattle.words_script.specs.declared.name_kind.NameKind.TheVariants.{Handler}
 use Rattle.script_table.specs.Names.{Entry}
 use Rattle.script_table.specs.Operands.{map_two, number_in, amount_at, priority_at, signal_at, name_at, named_at, fifo_at, rr_at, sporadic_at, strict_at}
-use Rattle.script_table.specs.Meaning.{protect, queue, kind_of_object, object_decl, ignores, runs, action_decl, thread_at, thread_dormant, kind_of_body, body_decl}
+use Rattle.script_table.specs.Meaning.{protect, queue, kind_of_object, object_decl, ignores, runs, action_decl, thread_at, thread_dormant, kind_of_body, body_decl, timer}
 use Rattle.rules_machine.specs.Declarations.{ThreadDecl, declared_thread}
 use Rattle.rules_machine.specs.Semaphores.{semaphore_limit}
 use Rattle.rules_flat_code.specs.EachCall.{EachCall}
@@ -36,7 +36,7 @@ KindRuns P (kinds.Thread policy start steps) = HasBudget policy × EachCall P st
 KindRuns P (kinds.Handler steps) = EachCall P steps
 KindRuns P (kinds.Cleanup steps) = EachCall P steps
 KindRuns P (kinds.Sem value) = value ≤ semaphore_limit
-KindRuns P (kinds.Timer sig value) = IsSignal sig
+KindRuns P (kinds.Timer sig value real) = IsSignal sig
 KindRuns P other = Unit {0}
 
 -- the handler of an action is one of so many
@@ -65,6 +65,11 @@ module _ (handlers : ℕ) (P : Call → Type 0) where
   queue_runs nonblock (Some depth) None = tt
   queue_runs nonblock (Some depth) (Some longest) = tt
 
+  timer_runs : (real : Bool) (o p : Option ℕ) → IfSome o IsSignal → IfSome (timer real o p) KindOf
+  timer_runs real None p small = tt
+  timer_runs real (Some sig) None small = tt
+  timer_runs real (Some sig) (Some value) small = small
+
   kind_runs : (f : ObjectForm) (words : List (List ℕ)) → IfSome (kind_of_object f words) KindOf
   kind_runs object.MutexNone words = tt
   kind_runs object.MutexNoneRecursive words = tt
@@ -76,8 +81,8 @@ module _ (handlers : ℕ) (P : Call → Type 0) where
   kind_runs object.Sem words = mapped (IsFrom 0 32767) KindOf kinds.Sem (λ n from. from.1) (number_in 0 32767 2 words) (number_within 0 32767 2 words)
   kind_runs object.Queue words = queue_runs false (number_in 1 64 2 words) (number_in 1 65536 3 words)
   kind_runs object.QueueNonblock words = queue_runs true (number_in 1 64 2 words) (number_in 1 65536 3 words)
-  kind_runs object.Timer words =
-      mapped_two IsSignal Any KindOf kinds.Timer (λ sig value small more. small) (signal_at 2 words) (amount_at 3 words) (signal_within 2 words) (anything (amount_at 3 words))
+  kind_runs object.Timer words = timer_runs false (signal_at 2 words) (amount_at 3 words) (signal_within 2 words)
+  kind_runs object.TimerReal words = timer_runs true (signal_at 2 words) (amount_at 3 words) (signal_within 2 words)
 
   pub object_runs : (f : ObjectForm) (words : List (List ℕ)) → IfSome (object_decl f words) Runs
   object_runs f words = named_runs (name_at 1 words) (kind_of_object f words) (kind_runs f words)
@@ -158,5 +163,5 @@ module _ (handlers : ℕ) (P : Call → Type 0) where
 
   pub all_signals : (decls : List Decl) → Each Runs decls → All HasSignal decls
   all_signals [] all = All-nil HasSignal
-  all_signals (Named name (kinds.Timer sig value) ∷ decls) all = All-cons HasSignal (Named name (kinds.Timer sig value)) decls all.0 (all_signals decls all.1)
+  all_signals (Named name (kinds.Timer sig value real) ∷ decls) all = All-cons HasSignal (Named name (kinds.Timer sig value real)) decls all.0 (all_signals decls all.1)
   all_signals (d ∷ decls) all = All-cons HasSignal d decls tt (all_signals decls all.1)

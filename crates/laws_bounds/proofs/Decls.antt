@@ -24,7 +24,7 @@ use Rattle.script_table.specs.declared.form.BodyForm.TheVariants as body
 use Rattle.words_script.specs.declared.name_kind.NameKind.TheVariants as kind
 use Rattle.script_table.specs.Names.{Entry}
 use Rattle.script_table.specs.Operands.{map_two, number_in, amount_at, priority_at, signal_at, name_at, named_at, fifo_at, rr_at, sporadic_at, strict_at}
-use Rattle.script_table.specs.Meaning.{protect, queue, kind_of_object, object_decl, runs, ignores, action_decl, thread_at, thread_dormant, body_decl, block_step}
+use Rattle.script_table.specs.Meaning.{protect, queue, kind_of_object, object_decl, runs, ignores, action_decl, thread_at, thread_dormant, body_decl, block_step, timer}
 use Rattle.script_table.specs.Build.{Opened, Built, put_step, close_one}
 
 -- the bodies of what a line declares
@@ -115,10 +115,10 @@ sem_plain : (o : Option ℕ) → HasNoBody (option_map kinds.Sem o)
 sem_plain None = tt
 sem_plain (Some n) = tt
 
-timer_plain : (o p : Option ℕ) → HasNoBody (map_two kinds.Timer o p)
-timer_plain None p = tt
-timer_plain (Some sig) None = tt
-timer_plain (Some sig) (Some value) = tt
+timer_plain : (real : Bool) (o p : Option ℕ) → HasNoBody (timer real o p)
+timer_plain real None p = tt
+timer_plain real (Some sig) None = tt
+timer_plain real (Some sig) (Some value) = tt
 
 object_plain : (f : ObjectForm) (words : List (List ℕ)) → HasNoBody (kind_of_object f words)
 object_plain object.MutexNone words = tt
@@ -131,7 +131,8 @@ object_plain object.Cond words = tt
 object_plain object.Sem words = sem_plain (number_in 0 32767 2 words)
 object_plain object.Queue words = queue_plain false (number_in 1 64 2 words) (number_in 1 65536 3 words)
 object_plain object.QueueNonblock words = queue_plain true (number_in 1 64 2 words) (number_in 1 65536 3 words)
-object_plain object.Timer words = timer_plain (signal_at 2 words) (amount_at 3 words)
+object_plain object.Timer words = timer_plain false (signal_at 2 words) (amount_at 3 words)
+object_plain object.TimerReal words = timer_plain true (signal_at 2 words) (amount_at 3 words)
 
 pub object_added : (f : ObjectForm) (words : List (List ℕ)) → Adds 0 0 (object_decl f words)
 object_added f words = plain_added (name_at 1 words) (kind_of_object f words) (object_plain f words)

@@ -68,7 +68,7 @@ queues (Action sig handler ∷ decls) = queues decls
 
 pub timers : (decls : List Decl) → length (names_of name_kind.Timer decls) ≡ length (filter_map (named timer_kind) decls)
 timers [] = refl
-timers (Named name (kinds.Timer sig value) ∷ decls) = ap suc (timers decls)
+timers (Named name (kinds.Timer sig value real) ∷ decls) = ap suc (timers decls)
 timers (Named name other ∷ decls) = timers decls
 timers (Action sig handler ∷ decls) = timers decls
 

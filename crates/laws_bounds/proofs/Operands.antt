@@ -5,6 +5,7 @@ use Rattle.std.specs.Prelude.{◌&&◌, nat_lt, nat_le, if◌then◌else◌}
 use Rattle.std.specs.Option.{IfSome, option_map}
 use Rattle.script_lex.proofs.Rejoined.{both}
 use Rattle.words_numbers.specs.Parameters.{Parameters}
+use Rattle.words_script.specs.declared.call.Moment.TheVariants.{Monotonic, Realtime}
 use Rattle.words_script.specs.declared.call.Operand.TheVariants.{Num, Reg}
 use Rattle.words_script.specs.declared.policy.Policy.TheVariants.{Fifo, Rr, Sporadic, Strict}
 use Rattle.words_script.specs.declared.name_kind.NameKind.{NameKind}
@@ -13,8 +14,8 @@ use Rattle.script_table.specs.Patterns.{greatest}
 use Rattle.script_table.specs.Words.{value_of, is_register}
 use Rattle.script_table.specs.Ranges.{word, is_within}
 use Rattle.script_table.specs.Names.{Entry, entry_of}
-use Rattle.script_table.specs.Operands.{map_two, map_three, map_four, map_five, number_in, amount_at, priority_at, operand_at, signal_at, number_of_kind, named_at, server_of, joined, server_at, fifo_at, rr_at, sporadic_at, strict_at}
-use Rattle.rules_flat_code.specs.KnownCalls.{IsNumber, IsOperand, IsSignal}
+use Rattle.script_table.specs.Operands.{map_two, map_three, map_four, map_five, number_in, amount_at, priority_at, operand_at, signal_at, number_of_kind, named_at, server_of, joined, server_at, fifo_at, rr_at, sporadic_at, strict_at, moment_at, real_at}
+use Rattle.rules_flat_code.specs.KnownCalls.{IsNumber, IsOperand, IsSignal, IsMoment}
 use Rattle.rules_flat_code.specs.Runnable.{HasBudget}
 use Rattle.laws_canonical_text.proofs.Bounds.{signal_of-small}
 use Rattle.laws_canonical_text.proofs.Declares.{same_kind_is}
@@ -85,6 +86,12 @@ operand_case false o h = mapped IsNumber IsOperand Num (λ n small. small) o h
 
 pub operand_within : (k : ℕ) (words : List (List ℕ)) → IfSome (operand_at k words) IsOperand
 operand_within k words = operand_case (is_register (word k words)) (amount_at k words) (amount_within k words)
+
+pub moment_within : (k : ℕ) (words : List (List ℕ)) → IfSome (moment_at k words) IsMoment
+moment_within k words = mapped IsOperand IsMoment Monotonic (λ v fits. fits) (operand_at k words) (operand_within k words)
+
+pub real_within : (k : ℕ) (words : List (List ℕ)) → IfSome (real_at k words) IsMoment
+real_within k words = mapped IsOperand IsMoment Realtime (λ v fits. fits) (operand_at k words) (operand_within k words)
 
 -- signals
 signal_case : (o : Option ℕ) → ((k : ℕ) → o ≡ Some k → k < 32) → IfSome o IsSignal

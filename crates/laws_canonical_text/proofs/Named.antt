@@ -54,6 +54,7 @@ object_named es ds wanted object.Sem ws h = rw (h.1.0, h.1.1.0) refl
 object_named es ds wanted object.Queue ws h = rw (h.1.0, h.1.1.0, h.1.1.1.0) refl
 object_named es ds wanted object.QueueNonblock ws h = rw (h.1.0, h.1.1.0, h.1.1.1.0) refl
 object_named es ds wanted object.Timer ws h = rw (h.1.0, h.1.1.0.found, h.1.1.1.0) refl
+object_named es ds wanted object.TimerReal ws h = rw (h.1.0, h.1.1.0.found, h.1.1.1.0) refl
 
 body_named : (es : List Entry) (ds : List Decl) (wanted : NameKind) (steps : Block) (f : BodyForm) (ws : List (List ℕ)) → Holds (Shows es ds) (places_of (form.Body f)) ws → server_faults (form.Body f) (padded (places_of (form.Body f)) ws) ≡ []
     → names_of wanted (option_to_list (body_decl f (padded (places_of (form.Body f)) ws) steps)) ≡ kind_names wanted (Some (body_kind f)) (padded (places_of (form.Body f)) ws)

@@ -65,10 +65,12 @@ mutex_same : (es xs : List Entry) (f : MutexCall) (ws : List (List ℕ)) → Hol
     → mutex_call xs f (canonical_words (places_of (form.Call (call.Mutex f))) (padded (places_of (form.Call (call.Mutex f))) ws)) ≡ mutex_call es f (padded (places_of (form.Call (call.Mutex f))) ws)
 mutex_same es xs mutex.Lock ws h = rw h.1.0 refl
 mutex_same es xs mutex.Timedlock ws h = rw (h.1.0, h.1.1.0) refl
+mutex_same es xs mutex.TimedlockReal ws h = rw (h.1.0, h.1.1.0) refl
 mutex_same es xs mutex.Trylock ws h = rw h.1.0 refl
 mutex_same es xs mutex.Unlock ws h = rw h.1.0 refl
 mutex_same es xs mutex.Wait ws h = rw (h.1.0, h.1.1.0) refl
 mutex_same es xs mutex.Timedwait ws h = rw (h.1.0, h.1.1.0, h.1.1.1.0) refl
+mutex_same es xs mutex.TimedwaitReal ws h = rw (h.1.0, h.1.1.0, h.1.1.1.0) refl
 mutex_same es xs mutex.Signal ws h = rw h.1.0 refl
 mutex_same es xs mutex.Broadcast ws h = rw h.1.0 refl
 
@@ -76,6 +78,7 @@ sem_same : (es xs : List Entry) (f : SemCall) (ws : List (List ℕ)) → Holds (
     → sem_call xs f (canonical_words (places_of (form.Call (call.Sem f))) (padded (places_of (form.Call (call.Sem f))) ws)) ≡ sem_call es f (padded (places_of (form.Call (call.Sem f))) ws)
 sem_same es xs sem.Wait ws h = rw h.1.0 refl
 sem_same es xs sem.Timedwait ws h = rw (h.1.0, h.1.1.0) refl
+sem_same es xs sem.TimedwaitReal ws h = rw (h.1.0, h.1.1.0) refl
 sem_same es xs sem.Trywait ws h = rw h.1.0 refl
 sem_same es xs sem.Getvalue ws h = rw h.1.0 refl
 sem_same es xs sem.Post ws h = rw h.1.0 refl
@@ -84,7 +87,10 @@ time_same : (es xs : List Entry) (f : TimeCall) (ws : List (List ℕ)) → Holds
     → time_call xs f (canonical_words (places_of (form.Call (call.Time f))) (padded (places_of (form.Call (call.Time f))) ws)) ≡ time_call es f (padded (places_of (form.Call (call.Time f))) ws)
 time_same es xs time.Nanosleep ws h = rw h.1.0 refl
 time_same es xs time.ClockNanosleep ws h = rw h.1.0 refl
+time_same es xs time.ClockNanosleepReal ws h = rw h.1.0 refl
 time_same es xs time.Gettime ws h = refl
+time_same es xs time.RealGettime ws h = refl
+time_same es xs time.ClockSettime ws h = rw h.1.0 refl
 time_same es xs time.TimerSettimeRel ws h = rw (h.1.0, h.1.1.1.0, h.1.1.1.1.0) refl
 time_same es xs time.TimerSettimeAbs ws h = rw (h.1.0, h.1.1.1.0, h.1.1.1.1.0) refl
 time_same es xs time.TimerGettime ws h = rw h.1.0 refl
@@ -105,8 +111,10 @@ message_same : (es xs : List Entry) (f : MessageCall) (ws : List (List ℕ)) →
     → message_call xs f (canonical_words (places_of (form.Call (call.Message f))) (padded (places_of (form.Call (call.Message f))) ws)) ≡ message_call es f (padded (places_of (form.Call (call.Message f))) ws)
 message_same es xs message.Send ws h = rw (h.1.0, h.1.1.0, h.1.1.1.0, h.1.1.1.1.0) refl
 message_same es xs message.Timedsend ws h = rw (h.1.0, h.1.1.0, h.1.1.1.0, h.1.1.1.1.0, h.1.1.1.1.1.0) refl
+message_same es xs message.TimedsendReal ws h = rw (h.1.0, h.1.1.0, h.1.1.1.0, h.1.1.1.1.0, h.1.1.1.1.1.0) refl
 message_same es xs message.Receive ws h = rw h.1.0 refl
 message_same es xs message.Timedreceive ws h = rw (h.1.0, h.1.1.0) refl
+message_same es xs message.TimedreceiveReal ws h = rw (h.1.0, h.1.1.0) refl
 message_same es xs message.Notify ws h = rw (h.1.0, h.1.1.1.0) refl
 
 pub call_same : (es xs : List Entry) (f : CallForm) (ws : List (List ℕ)) → Holds (Same es xs) (places_of (form.Call f)) ws
@@ -131,6 +139,7 @@ object_same es xs object.Sem ws h = rw h.1.1.0 refl
 object_same es xs object.Queue ws h = rw (h.1.1.0, h.1.1.1.0) refl
 object_same es xs object.QueueNonblock ws h = rw (h.1.1.0, h.1.1.1.0) refl
 object_same es xs object.Timer ws h = rw h.1.1.1.0 refl
+object_same es xs object.TimerReal ws h = rw h.1.1.1.0 refl
 
 pub action_same : (es xs : List Entry) (f : ActionForm) (ws : List (List ℕ)) → Holds (Same es xs) (places_of (form.Action f)) ws
     → action_decl xs f (canonical_words (places_of (form.Action f)) (padded (places_of (form.Action f)) ws)) ≡ action_decl es f (padded (places_of (form.Action f)) ws)

@@ -196,10 +196,12 @@ mutex_shown : (es : List Entry) (ds : List Decl) (f : MutexCall) (ws : List (Lis
     → shown_call ds (mutex_call es f (padded (places_of (form.Call (call.Mutex f))) ws)) ≡ canonical_words (places_of (form.Call (call.Mutex f))) (padded (places_of (form.Call (call.Mutex f))) ws) ∷ []
 mutex_shown es ds mutex.Lock ws h = rw (h.1.0.found, h.1.0.text, h.0) refl
 mutex_shown es ds mutex.Timedlock ws h = rw (h.1.0.found, h.1.1.0.found, h.1.0.text, h.1.1.0.text, h.0) refl
+mutex_shown es ds mutex.TimedlockReal ws h = rw (h.1.0.found, h.1.1.0.found, h.1.0.text, h.1.1.0.text, h.0, h.1.1.1.0) refl
 mutex_shown es ds mutex.Trylock ws h = rw (h.1.0.found, h.1.0.text, h.0) refl
 mutex_shown es ds mutex.Unlock ws h = rw (h.1.0.found, h.1.0.text, h.0) refl
 mutex_shown es ds mutex.Wait ws h = rw (h.1.0.found, h.1.1.0.found, h.1.0.text, h.1.1.0.text, h.0) refl
 mutex_shown es ds mutex.Timedwait ws h = rw (h.1.0.found, h.1.1.0.found, h.1.1.1.0.found, h.1.0.text, h.1.1.0.text, h.1.1.1.0.text, h.0) refl
+mutex_shown es ds mutex.TimedwaitReal ws h = rw (h.1.0.found, h.1.1.0.found, h.1.1.1.0.found, h.1.0.text, h.1.1.0.text, h.1.1.1.0.text, h.0, h.1.1.1.1.0) refl
 mutex_shown es ds mutex.Signal ws h = rw (h.1.0.found, h.1.0.text, h.0) refl
 mutex_shown es ds mutex.Broadcast ws h = rw (h.1.0.found, h.1.0.text, h.0) refl
 
@@ -207,6 +209,7 @@ sem_shown : (es : List Entry) (ds : List Decl) (f : SemCall) (ws : List (List �
     → shown_call ds (sem_call es f (padded (places_of (form.Call (call.Sem f))) ws)) ≡ canonical_words (places_of (form.Call (call.Sem f))) (padded (places_of (form.Call (call.Sem f))) ws) ∷ []
 sem_shown es ds sem.Wait ws h = rw (h.1.0.found, h.1.0.text, h.0) refl
 sem_shown es ds sem.Timedwait ws h = rw (h.1.0.found, h.1.1.0.found, h.1.0.text, h.1.1.0.text, h.0) refl
+sem_shown es ds sem.TimedwaitReal ws h = rw (h.1.0.found, h.1.1.0.found, h.1.0.text, h.1.1.0.text, h.0, h.1.1.1.0) refl
 sem_shown es ds sem.Trywait ws h = rw (h.1.0.found, h.1.0.text, h.0) refl
 sem_shown es ds sem.Getvalue ws h = rw (h.1.0.found, h.1.0.text, h.0) refl
 sem_shown es ds sem.Post ws h = rw (h.1.0.found, h.1.0.text, h.0) refl
@@ -215,7 +218,10 @@ time_shown : (es : List Entry) (ds : List Decl) (f : TimeCall) (ws : List (List 
     → shown_call ds (time_call es f (padded (places_of (form.Call (call.Time f))) ws)) ≡ canonical_words (places_of (form.Call (call.Time f))) (padded (places_of (form.Call (call.Time f))) ws) ∷ []
 time_shown es ds time.Nanosleep ws h = rw (h.1.0, h.0) refl
 time_shown es ds time.ClockNanosleep ws h = rw (h.1.0.found, h.1.0.text, h.0) refl
+time_shown es ds time.ClockNanosleepReal ws h = rw (h.1.0.found, h.1.0.text, h.0, h.1.1.0) refl
 time_shown es ds time.Gettime ws h = rw h.0 refl
+time_shown es ds time.RealGettime ws h = rw h.0 refl
+time_shown es ds time.ClockSettime ws h = rw (h.1.0.found, h.1.0.text, h.0) refl
 time_shown es ds time.TimerSettimeRel ws h = rw (h.1.0.found, h.1.1.1.0, h.1.1.1.1.0, h.1.0.text, h.0, h.1.1.0) refl
 time_shown es ds time.TimerSettimeAbs ws h = rw (h.1.0.found, h.1.1.1.0.found, h.1.1.1.1.0, h.1.0.text, h.1.1.1.0.text, h.0, h.1.1.0) refl
 time_shown es ds time.TimerGettime ws h = rw (h.1.0.found, h.1.0.text, h.0) refl
@@ -243,8 +249,10 @@ message_shown : (es : List Entry) (ds : List Decl) (f : MessageCall) (ws : List 
     → shown_call ds (message_call es f (padded (places_of (form.Call (call.Message f))) ws)) ≡ canonical_words (places_of (form.Call (call.Message f))) (padded (places_of (form.Call (call.Message f))) ws) ∷ []
 message_shown es ds message.Send ws h = rw (h.1.0.found, h.1.1.0, h.1.1.1.0, h.1.1.1.1.0.found, h.1.0.text, h.1.1.1.1.0.text, h.0) refl
 message_shown es ds message.Timedsend ws h = rw (h.1.0.found, h.1.1.0, h.1.1.1.0, h.1.1.1.1.0.found, h.1.1.1.1.1.0.found, h.1.0.text, h.1.1.1.1.0.text, h.1.1.1.1.1.0.text, h.0) refl
+message_shown es ds message.TimedsendReal ws h = rw (h.1.0.found, h.1.1.0, h.1.1.1.0, h.1.1.1.1.0.found, h.1.1.1.1.1.0.found, h.1.0.text, h.1.1.1.1.0.text, h.1.1.1.1.1.0.text, h.0, h.1.1.1.1.1.1.0) refl
 message_shown es ds message.Receive ws h = rw (h.1.0.found, h.1.0.text, h.0) refl
 message_shown es ds message.Timedreceive ws h = rw (h.1.0.found, h.1.1.0.found, h.1.0.text, h.1.1.0.text, h.0) refl
+message_shown es ds message.TimedreceiveReal ws h = rw (h.1.0.found, h.1.1.0.found, h.1.0.text, h.1.1.0.text, h.0, h.1.1.1.0) refl
 message_shown es ds message.Notify ws h = rw (h.1.0.found, h.1.1.0.found, h.1.1.1.0.found, h.1.0.text, h.1.1.0.text, h.1.1.1.0.text, h.0) refl
 
 pub call_shown : (es : List Entry) (ds : List Decl) (f : CallForm) (ws : List (List ℕ)) → Holds (Shows es ds) (places_of (form.Call f)) ws → server_faults (form.Call f) (padded (places_of (form.Call f)) ws) ≡ []
@@ -269,6 +277,7 @@ object_shown es ds object.Sem ws h = rw (h.1.0, h.1.1.0, h.0) refl
 object_shown es ds object.Queue ws h = rw (h.1.0, h.1.1.0, h.1.1.1.0, h.0) refl
 object_shown es ds object.QueueNonblock ws h = rw (h.1.0, h.1.1.0, h.1.1.1.0, h.0, h.1.1.1.1.0) refl
 object_shown es ds object.Timer ws h = rw (h.1.0, h.1.1.0.found, h.1.1.1.0, h.1.1.0.text, h.0) refl
+object_shown es ds object.TimerReal ws h = rw (h.1.0, h.1.1.0.found, h.1.1.1.0, h.1.1.0.text, h.0, h.1.1.1.1.0) refl
 
 pub action_shown : (es : List Entry) (ds : List Decl) (f : ActionForm) (ws : List (List ℕ)) → Holds (Shows es ds) (places_of (form.Action f)) ws
     → shown_decl ds (action_decl es f (padded (places_of (form.Action f)) ws)) ≡ canonical_words (places_of (form.Action f)) (padded (places_of (form.Action f)) ws) ∷ []

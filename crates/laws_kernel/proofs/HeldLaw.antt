@@ -19,7 +19,8 @@ use Rattle.rules_machine.specs.declared.signal.SigAction.{SigAction}
 use Rattle.rules_machine.specs.declared.signal.SigAction.TheVariants as action
 use Rattle.rules_machine.specs.Declarations.{ThreadDecl, handlers_of, named, queue_kind, threads_of, timer_kind}
 use Rattle.rules_machine.specs.Runs.{opening, thread_opened}
-use Rattle.rules_machine.specs.State.{Frame, Machine, Queue, Registration, Status, Thread, Timer, Wait, Waiting, for_room}
+use Rattle.rules_machine.specs.Clock.{status_moved}
+use Rattle.rules_machine.specs.State.{Frame, Machine, Queue, Registration, Status, Thread, Timer, Wait, Waiting, blocked, dormant, ended, for_room, runnable}
 use Rattle.rules_machine.specs.Threads.{action_of, no_queue, no_thread, no_timer, queue_at, thread_at, timer_at, waiting_in}
 use Rattle.rules_machine.specs.Cancellation.{runs_cleanup_if}
 use Rattle.rules_machine.specs.Ticks.{tick_charged}
@@ -149,6 +150,12 @@ module _ (o : Objects) (handlers : ℕ) (code : flat.NumberedBodies (List Op)) (
   held_by : (s r : Status) → r ≡ s → IsHeldBy o (waiting_in s) → IsHeldBy o (waiting_in r)
   held_by s r e q = subst (λ (x : Status). IsHeldBy o (waiting_in x)) (sym e) q
 
+  held_moved : (move : ℕ → ℕ) (status : Status) → IsHeldBy o (waiting_in status) → IsHeldBy o (waiting_in (status_moved move status))
+  held_moved move (dormant at) q = q
+  held_moved move runnable q = q
+  held_moved move (blocked w) q = record { waits = q.waits; ends = q.ends; rooms = q.rooms }
+  held_moved move ended q = q
+
   asleep : (w : Waiting) → WaitIsHeld o w.wait → IsHeldBy o (Some w)
   asleep w h = record { waits = h.mutex; ends = h.end; rooms = h.room }
 
@@ -159,6 +166,7 @@ module _ (o : Objects) (handlers : ℕ) (code : flat.NumberedBodies (List Op)) (
     waits = λ now u th caller w known makes q. asleep w (call_wait o w.call w.wait known makes);
     again = λ now u th w c k how waits may is q. asleep w (subst (WaitIsHeld o) (sym is) (record { mutex = tt; end = tt; room = tt }));
     waiting = λ now u th w q is. tt;
+    moves = λ now u th move q. held_moved move th.status q;
     starts = λ now u th mask lt q. record { waits = tt; ends = tt; rooms = tt };
     activates = λ now u th q. q;
     refills = λ now u th q. q;
@@ -231,7 +239,7 @@ nothing_yet o (d ∷ ds) (suc t) = nothing_yet o ds t
 -- a timer sends what it is declared with
 timers_send : (ds : List Decl) → Each HasSignal ds → Each (λ (k : Timer). k.signal < 32) (filter_map (named timer_kind) ds)
 timers_send [] h = tt
-timers_send (decl.Named name (kind.Timer signal value) ∷ ds) h = (h.0, timers_send ds h.1)
+timers_send (decl.Named name (kind.Timer signal value real) ∷ ds) h = (h.0, timers_send ds h.1)
 timers_send (d ∷ ds) h = timers_send ds h.1
 
 -- and no queue has a registration

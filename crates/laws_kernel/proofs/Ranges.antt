@@ -46,7 +46,7 @@ all_fit (decl.Named name (kind.Mutex protocol recursive) ∷ decls) b h fits = a
 all_fit (decl.Named name kind.Cond ∷ decls) b h fits = all_fit decls b h fits.1
 all_fit (decl.Named name (kind.Sem value) ∷ decls) b h fits = all_fit decls b h fits.1
 all_fit (decl.Named name (kind.Queue depth longest nonblock) ∷ decls) b h fits = all_fit decls b h fits.1
-all_fit (decl.Named name (kind.Timer signal value) ∷ decls) b h fits = all_fit decls b h fits.1
+all_fit (decl.Named name (kind.Timer signal value real) ∷ decls) b h fits = all_fit decls b h fits.1
 all_fit (decl.Action signal handler ∷ decls) b h fits = all_fit decls b h fits.1
 
 unit_fits : (u : units.Unit) → UnitMakes CallFits u → UnitFits u

@@ -21,6 +21,7 @@ use Rattle.laws_machine.proofs.Sweeps.Kept.{EndHeard, InHeard, LawHeard, RestHea
 use Rattle.laws_machine.proofs.Serials.Sweeps.{serials_right}
 use Rattle.laws_machine.proofs.Serials.Kept.{EndSourced, InSourced, LawSourced, RestSourced, items_few, opening_sourced, run_few, tick_sourced}
 use Rattle.laws_machine.proofs.Cleanups.Kept.{cleanups_right, items_clean, run_all_clean}
+use Rattle.laws_machine.proofs.Clock.{clock_throughout}
 use Rattle.laws_machine.proofs.Items.{mutexes_throughout, servers_throughout, signals_throughout, waits_throughout}
 
 module _ {P : Type 0} (bodies : Bodies P) (ranges : BodiesFit bodies) (script : Script) (fits : IsWellFormed script) where
@@ -68,6 +69,7 @@ module _ {P : Type 0} (bodies : Bodies P) (ranges : BodiesFit bodies) (script : 
         servers = (servers_throughout bodies ranges script fits).each n k;
         waits = (waits_throughout bodies ranges script fits).each n k;
         slices = λ t here. (rest_after n k).0.0.0.1.each t;
+        clock = (clock_throughout bodies ranges script fits).each n k;
         signals = (signals_throughout bodies ranges script fits).each n k;
         serials = serials_throughout.each n k;
         cleanups = cleanups_throughout.each n k;

@@ -10,6 +10,7 @@ pub mod Serials
 pub mod Cleanups
 pub mod Sweeps
 pub mod Items
+pub mod Clock
 pub mod Good
 pub mod Premises
 pub mod Agenda

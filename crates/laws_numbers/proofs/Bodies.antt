@@ -15,15 +15,15 @@ use Rattle.rules_machine.specs.declared.frame.BodyOf.TheVariants as body_of
 use Rattle.rules_machine.specs.Declarations.{ThreadDecl, cleanup_kind, declared_thread, handler_kind, named, threads_of}
 use Rattle.rules_machine.specs.Machine.{block_of, bodies_of}
 use Rattle.rules_flat_code.specs.KnownCalls.{Objects, objects_of}
-use Rattle.laws_numbers.specs.Numbers.{Each, IsSmall, PolicySmall}
+use Rattle.laws_numbers.specs.Numbers.{Each, IsRegister, PolicySmall}
 use Rattle.laws_numbers.specs.Scripts.{BlockSmall, BodiesSmall, CallSmall, DeclSmall, IsInRange, StartSmall, UnitSmall}
 use Rattle.laws_numbers.proofs.Turns.{capped_small}
 
 module _ (o : Objects) where
   -- what a block comes to, with a small register
   abbrev OutcomeSmall : Outcome → Type 0
-  OutcomeSmall (Due u place r) = UnitSmall o u × IsSmall r
-  OutcomeSmall (Ended r) = IsSmall r
+  OutcomeSmall (Due u place r) = UnitSmall o u × IsRegister r
+  OutcomeSmall (Ended r) = IsRegister r
 
   later_small : (x : Outcome) → OutcomeSmall x → OutcomeSmall (later x)
   later_small (Due u (At i) r) h = h
@@ -34,7 +34,7 @@ module _ (o : Objects) where
   later_by_small zero x h = h
   later_by_small (suc i) x h = later_small (later_by i x) (later_by_small i x h)
 
-  then_small : (x : Outcome) (after : ℕ → Outcome) → OutcomeSmall x → ((r : ℕ) → IsSmall r → OutcomeSmall (after r)) → OutcomeSmall (and_then x after)
+  then_small : (x : Outcome) (after : ℕ → Outcome) → OutcomeSmall x → ((r : ℕ) → IsRegister r → OutcomeSmall (after r)) → OutcomeSmall (and_then x after)
   then_small (Due u place r) after h k = h
   then_small (Ended r) after h k = later_small (after r) (k r h)
 
@@ -58,7 +58,7 @@ module _ (o : Objects) where
   if_small false x y h k = k
 
   module _ (result : Res) (value : ℕ) where
-    head_small : (block : Block) (r : ℕ) → BlockSmall o block → IsSmall r → OutcomeSmall (from_head result value block r)
+    head_small : (block : Block) (r : ℕ) → BlockSmall o block → IsRegister r → OutcomeSmall (from_head result value block r)
     head_small Nothing r h s = s
     head_small (Running n rest) r h s = (h.0, s)
     head_small (Making c rest) r h s = (h.0, s)
@@ -73,7 +73,7 @@ module _ (o : Objects) where
         (loop_small times (passes_of times) (from_head result value inner r) (head_small inner r h.0 s)) (λ r s. head_small rest r h.1 s)
     head_small (Guarding cleanup run inner rest) r h s = (h.0, s)
 
-    inside_small : (passes : ℕ) (inside : Block → Outcome) (block : Block) (r : ℕ) → ((b : Block) → BlockSmall o b → OutcomeSmall (inside b)) → BlockSmall o block → IsSmall r → OutcomeSmall (from_inside result value passes inside block r)
+    inside_small : (passes : ℕ) (inside : Block → Outcome) (block : Block) (r : ℕ) → ((b : Block) → BlockSmall o b → OutcomeSmall (inside b)) → BlockSmall o block → IsRegister r → OutcomeSmall (from_inside result value passes inside block r)
     inside_small passes inside (Testing named equal inner rest) r k h s =
         then_small (in_test (inside inner)) (from_head result value rest) (test_small (inside inner) (k inner h.0)) (λ r s. head_small rest r h.1 s)
     inside_small passes inside (Looping times inner rest) r k h s =
@@ -101,14 +101,14 @@ module _ (o : Objects) where
     steps_small zero block h = h
     steps_small (suc i) block h = steps_small i (rest_of block) (rest_small block h)
 
-    place_small : (place : Place) (block : Block) (r : ℕ) → BlockSmall o block → IsSmall r → OutcomeSmall (from_place result value place block r)
+    place_small : (place : Place) (block : Block) (r : ℕ) → BlockSmall o block → IsRegister r → OutcomeSmall (from_place result value place block r)
     place_small (At i) block r h s = later_by_small i (from_head result value (steps_from i block) r) (head_small (steps_from i block) r (steps_small i block h) s)
     place_small (In i passes place) block r h s =
         later_by_small i (from_inside result value passes (λ inner. from_place result value place inner r) (steps_from i block) r)
         (inside_small passes (λ inner. from_place result value place inner r) (steps_from i block) r (λ inner k. place_small place inner r k s) (steps_small i block h) s)
 
   abbrev FoundSmall : Rattle.rules_bodies.specs.Next.Next → Type 0
-  FoundSmall n = UnitSmall o n.unit × IsSmall n.register
+  FoundSmall n = UnitSmall o n.unit × IsRegister n.register
 
   or_small : (body : Block) (x : Outcome) → OutcomeSmall x → FoundSmall (or_finish body x)
   or_small body (Due u place r) h = h

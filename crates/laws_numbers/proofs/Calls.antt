@@ -1,5 +1,5 @@
 -- What calls keep small.
-use Rattle.std.proofs.Common.{Bool, List, None, Option, Some, [], arith, false, refl, suc, true, zero, ℕ, ◌+◌, ◌^◌, ◌-◌, ◌<◌, ◌≤◌, ◌∷◌, ◌++◌, ◌≡◌}
+use Rattle.std.proofs.Common.{Bool, List, None, Option, Some, [], ap, arith, false, refl, suc, true, zero, ℕ, ◌+◌, ◌^◌, ◌-◌, ◌<◌, ◌≤◌, ◌∷◌, ◌++◌, ◌≡◌}
 use Rattle.std.specs.Prelude.{filter, nat_lt, not, pred, ◌==◌, ◌&&◌, if◌then◌else◌}
 use mathlib.Core.Path.{subst}
 use Rattle.words_numbers.specs.Signals.{has_signal}
@@ -15,8 +15,8 @@ use Rattle.rules_machine.specs.declared.frame.FrameKind.{FrameKind}
 use Rattle.rules_machine.specs.declared.frame.FrameKind.TheVariants as frame
 use Rattle.rules_machine.specs.declared.thread.CondEnd.TheVariants as cond_end
 use Rattle.rules_machine.specs.Bodies.{Bodies}
-use Rattle.rules_machine.specs.State.{Joiner, Message, Registration, SignalRecord, Thread, Wait, Waiting, for_condition, for_end, for_message, for_mutex, for_mutex_again, for_room, for_semaphore, for_signal, for_time, has_joined, nobody, waits_to_join}
-use Rattle.rules_machine.specs.Threads.{action_of, can_run, is_dormant, lives, number_of, queue_at, semaphore_at, thread_at, timer_at, top_kind, waiting_of}
+use Rattle.rules_machine.specs.State.{Clock, Joiner, Message, Registration, SignalRecord, Thread, Wait, Waiting, for_condition, for_end, for_message, for_mutex, for_mutex_again, for_room, for_semaphore, for_signal, for_time, has_joined, nobody, waits_to_join}
+use Rattle.rules_machine.specs.Threads.{action_of, can_run, is_dormant, lives, moment_of, number_of, queue_at, real_time, semaphore_at, thread_at, timer_at, top_kind, waiting_of}
 use Rattle.rules_machine.specs.Waiters.{Waiter, best_waiter, is_served_before, waiters}
 use Rattle.rules_machine.specs.Turns.{Caller, Turn, changes, changes_pending, changes_queue, changes_semaphore, changes_timer, has_passed, moves, returns, tells}
 use Rattle.rules_machine.specs.Servers.{activates_if}
@@ -24,18 +24,20 @@ use Rattle.rules_machine.specs.Waking.{cancelled_value, wakes}
 use Rattle.rules_machine.specs.Mutexes.{trylock_answer}
 use Rattle.rules_machine.specs.Semaphores.{posts, semaphore_limit, tries_semaphore, waits_on_semaphore, waits_semaphore, wakes_waiter_or_raises_value}
 use Rattle.rules_machine.specs.Signals.{acceptor, accepts, becomes_pending, blocks_for_signal, delivers, generates, has_no_room, is_accepted_or_pends, is_ignore, is_selected_before, may_go_to, record_of_kill, record_of_sigqueue, selected, sends_signal, sets_mask, takes_signal_or_waits, tells_overrun, waits_signal, with_overrun_told, with_signals, without_record, without_signals}
-use Rattle.rules_machine.specs.Timers.{armed, armed_again, expires, first_expiry, is_pending_from, overrun_once_more, record_of_timer, signals_expiry, sleeps_until, ticks_to}
+use Rattle.rules_machine.specs.Timers.{armed, armed_again, expires, first_expiry, is_pending_from, next_expiry, overrun_once_more, record_of_timer, signals_expiry, sleeps_until, ticks_to, timer_moment}
 use Rattle.rules_machine.specs.Queues.{asks_notification, blocks_unless_nonblock, enters, fired_by_message, has_room, is_notifying, message_of, next_message, notifies, reaches_receiver_or_queue, record_of_notification, registered, sends_message, takes_message_or_blocks, takes_over, value_at, waits_to_receive, waits_to_send, with_message, without_message}
 use Rattle.rules_machine.specs.Lives.{creates, ends, ends_frame, inherited_mask, is_nobody, joins, wakes_joiner, with_joiner, without_life, without_target, without_top}
+use Rattle.rules_machine.specs.Clock.{waits_on_real}
 use Rattle.rules_machine.specs.Cancellation.{cancels, is_cancellation_point, is_cancelled, leaves, leaves_wait, pops_cleanup, pushes_cleanup, request_acts, requested, runs_cleanup_if, sets_cancelability, without_cleanup}
 use Rattle.rules_machine.specs.Scheduling.{sets_policy, sets_priority, takes_priority, with_policy, with_priority}
 use Rattle.rules_machine.specs.Calls.{call_effect, makes_call, unit_effect}
 use Rattle.rules_flat_code.specs.KnownCalls.{Objects}
-use Rattle.laws_numbers.specs.Numbers.{DueSmall, FrameSmall, IsNumber, IsSmall, JoinerWithin, MessageSmall, PolicySmall, RecordSmall, RegistrationSmall, ThreadSmall, TurnSmall, WaitSmall}
+use Rattle.laws_numbers.specs.Numbers.{DueSmall, FrameSmall, IsNumber, JoinerWithin, MessageSmall, PolicySmall, RecordSmall, RegistrationSmall, ThreadSmall, ReadingSmall, TimeSmall, TurnSmall, WaitSmall}
 use Rattle.laws_numbers.specs.Scripts.{CallSmall, UnitMade}
 use Rattle.laws_numbers.proofs.Lists.{Waits, best_within, each_at, each_kept, each_last, first_small, waiters_within}
-use Rattle.laws_numbers.proofs.Turns.{blocks_small, blocks_unordered_small, changes_small, if_small, moves_unless_boosted_small, now_low, number_of_small, number_small, pending_small, queue_small, returns_small, semaphore_small, sum_small, tells_small, timer_small, wait_of_small, within}
+use Rattle.laws_numbers.proofs.Turns.{blocks_small, blocks_unordered_small, changes_small, expiry_at_small, expiry_read_small, if_small, moment_small, moves_unless_boosted_small, no_time, not_on_real, now_low, number_of_small, number_small, pending_small, plain_time, queue_small, real_small, returns_small, semaphore_small, sum_small, tells_small, timer_small, wait_of_small, within}
 use Rattle.laws_numbers.proofs.Waking.{trylock_may, activates_if_small, best_there, blocks_unless_late_small, broadcasts_small, contends_small, ending_small, locks_on_small, locks_small, server_of_has, signals_small, starts_small, unlocks_small, waits_small, wakes_cancelled_small, wakes_small, zero_small, cancelled_small}
+use Rattle.laws_numbers.proofs.Clock.{sets_real_clock_small}
 use Rattle.laws_numbers.proofs.Limits.{each_dropped, each_taken, expiry_small, next_small, no_message, once_more, one_less, one_more, overrun_value, priced_has, priced_policy, semaphore_value, signal_value, ticks_to_small, wait_message}
 
 -- ---- numbers
@@ -47,12 +49,12 @@ module _ {P : Type 0} (count top : ℕ) (low : top ≤ 10 ^ 18) where
   back by r s lt h = returns_small count top low by r 0 s lt zero_small h
 
   -- a thread changes in none of its numbers
-  pub plain_small : (t : ℕ) (f : Thread P → Thread P) (s : Turn P) → ((th : Thread P) → ThreadSmall count th → ThreadSmall count (f th)) → Small s → Small (changes t f s)
+  pub plain_small : (t : ℕ) (f : Thread P → Thread P) (s : Turn P) → ((th : Thread P) → ThreadSmall count s.machine.clock th → ThreadSmall count s.machine.clock (f th)) → Small s → Small (changes t f s)
   plain_small t f s new h = changes_small count top low t f s (new (thread_at s.machine t)) h
 
   -- ---- semaphores
 
-  waits_semaphore_small : (by : Caller) (k : ℕ) (due : Option ℕ) (s : Turn P) → by.thread < count → DueSmall due → Small s → Small (waits_semaphore by k due s)
+  waits_semaphore_small : (by : Caller) (k : ℕ) (due : Option ℕ) (s : Turn P) → by.thread < count → TimeSmall s.machine.clock by.call due → Small s → Small (waits_semaphore by k due s)
   waits_semaphore_small by k due s lt d h =
       if_small count top low (nat_lt 0 (semaphore_at s.machine k)) _ _
       (back by res.Zero (changes_semaphore k pred s) lt (semaphore_small count top low k pred s (one_less (semaphore_at s.machine k) (h.of_semaphores k)) h))
@@ -79,7 +81,7 @@ module _ {P : Type 0} (count top : ℕ) (low : top ≤ 10 ^ 18) where
   tells_overrun_small : (k : Option ℕ) (s : Turn P) → Small s → Small (tells_overrun k s)
   tells_overrun_small None s h = h
   tells_overrun_small (Some k) s h =
-      timer_small count top low k with_overrun_told s (λ x. record { signal = x.signal; value = x.value; due = x.due; interval = x.interval; extra = omega arith; overrun = x.extra }) h
+      timer_small count top low k with_overrun_told s (λ x. record { signal = x.signal; value = x.value; due = x.due; reading = x.reading; interval = x.interval; extra = omega arith; overrun = x.extra }) h
 
   pub delivers_small : (t : ℕ) (r : SignalRecord) (s : Turn P) → t < count → RecordSmall r → Small s → Small (delivers t r s)
   delivers_small t r s lt k h =
@@ -115,20 +117,21 @@ module _ {P : Type 0} (count top : ℕ) (low : top ≤ 10 ^ 18) where
       back by res.Zero (changes by.thread f s) lt
       (plain_small by.thread f s (λ th k. record { status = k.status; policy = k.policy; server = k.server; frames = k.frames; exit_value = k.exit_value; joiner = k.joiner }) h)
 
-  waits_ticks_small : (n : Option ℕ) (by : Caller) (set : ℕ) (s : Turn P) → by.thread < count → ((k : ℕ) → n ≡ Some k → IsNumber k) → Small s → Small (blocks_for_signal n by set s)
-  waits_ticks_small None by set s lt k h = blocks_small count top low by (for_signal set) None s tt tt h
-  waits_ticks_small (Some zero) by set s lt k h = back by res.Again s lt h
-  waits_ticks_small (Some (suc n)) by set s lt k h =
-      blocks_small count top low by (for_signal set) (Some (s.machine.now + suc n)) s tt (sum_small s.machine.now (suc n) (now_low count top low s h) (k (suc n) refl)) h
+  waits_ticks_small : (n : Option ℕ) (by : Caller) (set : ℕ) (s : Turn P) → by.thread < count → waits_on_real by.call ≡ false → ((k : ℕ) → n ≡ Some k → IsNumber k) → Small s → Small (blocks_for_signal n by set s)
+  waits_ticks_small None by set s lt on k h = blocks_small count top low by (for_signal set) None s tt (no_time s.machine.clock by.call) h
+  waits_ticks_small (Some zero) by set s lt on k h = back by res.Again s lt h
+  waits_ticks_small (Some (suc n)) by set s lt on k h =
+      blocks_small count top low by (for_signal set) (Some (s.machine.now + suc n)) s tt
+      (plain_time s.machine.clock by.call (s.machine.now + suc n) on (sum_small s.machine.now (suc n) (now_low count top low s h) (k (suc n) refl))) h
 
   pub selected_small : (passes : SignalRecord → Bool) (r : SignalRecord) (s : Turn P) → selected s.machine passes ≡ Some r → Small s → RecordSmall r
   selected_small passes r s e h = first_small RecordSmall is_selected_before (filter passes s.machine.pending) r (each_kept RecordSmall passes s.machine.pending h.of_records) e
 
-  waits_signal_small : (n : Option ℕ) (by : Caller) (set : ℕ) (s : Turn P) → by.thread < count → ((k : ℕ) → n ≡ Some k → IsNumber k) → Small s → Small (waits_signal n by set s)
-  waits_signal_small n by set s lt k h = on (selected s.machine (λ (r : SignalRecord). has_signal set r.signal && may_go_to by.thread r.target)) refl
+  waits_signal_small : (n : Option ℕ) (by : Caller) (set : ℕ) (s : Turn P) → by.thread < count → waits_on_real by.call ≡ false → ((k : ℕ) → n ≡ Some k → IsNumber k) → Small s → Small (waits_signal n by set s)
+  waits_signal_small n by set s lt plain k h = on (selected s.machine (λ (r : SignalRecord). has_signal set r.signal && may_go_to by.thread r.target)) refl
     where
       on : (o : Option SignalRecord) → selected s.machine (λ (r : SignalRecord). has_signal set r.signal && may_go_to by.thread r.target) ≡ o → Small (takes_signal_or_waits o n by set s)
-      on None e = waits_ticks_small n by set s lt k h
+      on None e = waits_ticks_small n by set s lt plain k h
       on (Some r) e =
           let small = selected_small (λ (r : SignalRecord). has_signal set r.signal && may_go_to by.thread r.target) r s e h in
           let out = changes_pending (without_record r) s in
@@ -136,24 +139,24 @@ module _ {P : Type 0} (count top : ℕ) (low : top ≤ 10 ^ 18) where
 
   -- ---- sleeps and timers
 
-  sleeps_until_small : (by : Caller) (at : ℕ) (s : Turn P) → by.thread < count → IsSmall at → Small s → Small (sleeps_until by at s)
+  sleeps_until_small : (by : Caller) (at : ℕ) (s : Turn P) → by.thread < count → TimeSmall s.machine.clock by.call (Some at) → Small s → Small (sleeps_until by at s)
   sleeps_until_small by at s lt a h = if_small count top low (has_passed at s.machine) _ _ (back by res.Zero s lt h) (blocks_unordered_small count top low by for_time (Some at) s tt a h)
 
-  sets_timer_small : (by : Caller) (k : ℕ) (due : Option ℕ) (interval : ℕ) (s : Turn P) → by.thread < count → DueSmall due → IsNumber interval → Small s →
-      Small (returns by res.Zero 0 (changes_timer k (armed due interval) s))
-  sets_timer_small by k due interval s lt d i h =
-      back by res.Zero (changes_timer k (armed due interval) s) lt
-      (timer_small count top low k (armed due interval) s (λ x. record { signal = x.signal; value = x.value; due = d; interval = i; extra = x.extra; overrun = x.overrun }) h)
+  sets_timer_small : (by : Caller) (k : ℕ) (due : Option ℕ) (reading : Bool) (interval : ℕ) (s : Turn P) → by.thread < count → DueSmall due → ReadingSmall s.machine.clock due reading → IsNumber interval → Small s →
+      Small (returns by res.Zero 0 (changes_timer k (armed due reading interval) s))
+  sets_timer_small by k due reading interval s lt d r i h =
+      back by res.Zero (changes_timer k (armed due reading interval) s) lt
+      (timer_small count top low k (armed due reading interval) s (λ x. record { signal = x.signal; value = x.value; due = d; reading = r; interval = i; extra = x.extra; overrun = x.overrun }) h)
 
   pub expires_small : (k : ℕ) (s : Turn P) → Small s → Small (expires k s)
   expires_small k s h =
       timer_small count top low k (armed_again s.machine.now) (signals_expiry k s)
-      (λ x. record { signal = x.signal; value = x.value; due = next_small s.machine.now (timer_at (signals_expiry k s).machine k).interval (now_low count top low s h) x.interval; interval = x.interval; extra = x.extra; overrun = x.overrun }) sent
+      (λ x. record { signal = x.signal; value = x.value; due = next_small s.machine.now (timer_at (signals_expiry k s).machine k).interval (now_low count top low s h) x.interval; reading = not_on_real (signals_expiry k s).machine.clock (next_expiry s.machine.now (timer_at (signals_expiry k s).machine k).interval) false refl; interval = x.interval; extra = x.extra; overrun = x.overrun }) sent
     where
       sent : Small (signals_expiry k s)
       sent =
           if_small count top low (is_pending_from k s.machine) (changes_timer k overrun_once_more s) (generates (record_of_timer k (timer_at s.machine k)) s)
-          (timer_small count top low k overrun_once_more s (λ x. record { signal = x.signal; value = x.value; due = x.due; interval = x.interval; extra = once_more (timer_at s.machine k).extra; overrun = x.overrun }) h)
+          (timer_small count top low k overrun_once_more s (λ x. record { signal = x.signal; value = x.value; due = x.due; reading = x.reading; interval = x.interval; extra = once_more (timer_at s.machine k).extra; overrun = x.overrun }) h)
           (let x = h.of_timers k in generates_small (record_of_timer k (timer_at s.machine k)) s (record { signal = x.signal; value = x.value }) h)
 
   -- ---- message queues
@@ -182,11 +185,11 @@ module _ {P : Type 0} (count top : ℕ) (low : top ≤ 10 ^ 18) where
       let there = changes_queue q (with_message x) s in
       notifies_small (fired_by_message s.machine q) q (told there) (fired_small q s h) (keeps there (with_message_small q x s k h))
 
-  blocks_unless_nonblock_small : (by : Caller) (q : ℕ) (wait : Wait) (due : Option ℕ) (s : Turn P) → by.thread < count → WaitSmall wait → DueSmall due → Small s → Small (blocks_unless_nonblock by q wait due s)
+  blocks_unless_nonblock_small : (by : Caller) (q : ℕ) (wait : Wait) (due : Option ℕ) (s : Turn P) → by.thread < count → WaitSmall wait → TimeSmall s.machine.clock by.call due → Small s → Small (blocks_unless_nonblock by q wait due s)
   blocks_unless_nonblock_small by q wait due s lt w d h =
       if_small count top low (queue_at s.machine q).is_nonblock _ _ (back by res.Again s lt h) (blocks_unless_late_small count top low by wait due s lt w d h)
 
-  sends_message_small : (by : Caller) (q len : ℕ) (x : Message) (due : Option ℕ) (s : Turn P) → by.thread < count → MessageSmall x → DueSmall due → Small s → Small (sends_message by q len x due s)
+  sends_message_small : (by : Caller) (q len : ℕ) (x : Message) (due : Option ℕ) (s : Turn P) → by.thread < count → MessageSmall x → TimeSmall s.machine.clock by.call due → Small s → Small (sends_message by q len x due s)
   sends_message_small by q len x due s lt k d h =
       if_small count top low (nat_lt (queue_at s.machine q).longest len) _ _ (back by res.Msgsize s lt h) (to_best (best_waiter s.machine (waits_to_receive q)) refl)
     where
@@ -196,7 +199,7 @@ module _ {P : Type 0} (count top : ℕ) (low : top ≤ 10 ^ 18) where
           (blocks_unless_nonblock_small by q (for_room q x) due s lt k d h)
       to_best (Some w) e = wakes_small count top low w.thread res.Zero x.value (returns by res.Zero 0 s) (best_there count top low (waits_to_receive q) w s e h) k.value (back by res.Zero s lt h)
 
-  receives_on_small : (n : Option ℕ) (by : Caller) (q : ℕ) (due : Option ℕ) (s : Turn P) → by.thread < count → DueSmall due → Small s → Small (takes_message_or_blocks n by q due s)
+  receives_on_small : (n : Option ℕ) (by : Caller) (q : ℕ) (due : Option ℕ) (s : Turn P) → by.thread < count → TimeSmall s.machine.clock by.call due → Small s → Small (takes_message_or_blocks n by q due s)
   receives_on_small None by q due s lt d h = blocks_unless_nonblock_small by q (for_message q) due s lt tt d h
   receives_on_small (Some n) by q due s lt d h = to_best (best_waiter s.machine (waits_to_send q)) refl
     where
@@ -235,7 +238,7 @@ module _ {P : Type 0} (count top : ℕ) (low : top ≤ 10 ^ 18) where
       (if_small count top low (is_dormant (thread_at s.machine u).status) _ _ (back by res.Srch s lt h)
       (if_small count top low (not (is_nobody (thread_at s.machine u).joiner)) _ _ (back by res.Inval s lt h)
       (if_small count top low (lives s.machine u) _ _
-      (blocks_unordered_small count top low by (for_end u) None (changes u (with_joiner (waits_to_join by.thread)) s) tt tt (joiner_small u (waits_to_join by.thread) s lt h))
+      (blocks_unordered_small count top low by (for_end u) None (changes u (with_joiner (waits_to_join by.thread)) s) tt (no_time s.machine.clock by.call) (joiner_small u (waits_to_join by.thread) s lt h))
       (returns_small count top low by res.Zero (thread_at s.machine u).exit_value (changes u (with_joiner has_joined) s) lt (h.of_threads u).exit_value (joiner_small u has_joined s tt h)))))
 
   ends_small : (t : ℕ) (s : Turn P) → t < count → Small s → Small (ends t s)
@@ -295,14 +298,14 @@ module _ {P : Type 0} (count top : ℕ) (low : top ≤ 10 ^ 18) where
       back by res.Zero (changes by.thread f s) lt
       (plain_small by.thread f s (λ th x. record { status = x.status; policy = x.policy; server = x.server; frames = x.frames; exit_value = x.exit_value; joiner = x.joiner }) h)
 
-  runs_cleanup_small : (bodies : Bodies P) (runs : Bool) (cleanups : List ℕ) (th : Thread P) → ThreadSmall count th → ThreadSmall count (runs_cleanup_if runs bodies cleanups th)
-  runs_cleanup_small bodies false cleanups th x = x
-  runs_cleanup_small bodies true [] th x = x
-  runs_cleanup_small bodies true (u ∷ us) th x = record {
+  runs_cleanup_small : (clock : Clock) (bodies : Bodies P) (runs : Bool) (cleanups : List ℕ) (th : Thread P) → ThreadSmall count clock th → ThreadSmall count clock (runs_cleanup_if runs bodies cleanups th)
+  runs_cleanup_small clock bodies false cleanups th x = x
+  runs_cleanup_small clock bodies true [] th x = x
+  runs_cleanup_small clock bodies true (u ∷ us) th x = record {
     status = x.status;
     policy = x.policy;
     server = x.server;
-    frames = (record { register = zero_small; value = zero_small; left = zero_small }, x.frames);
+    frames = (record { register = omega arith; value = zero_small; left = zero_small }, x.frames);
     exit_value = x.exit_value;
     joiner = x.joiner;
   }
@@ -310,7 +313,7 @@ module _ {P : Type 0} (count top : ℕ) (low : top ≤ 10 ^ 18) where
   pops_small : (bodies : Bodies P) (by : Caller) (runs : Bool) (s : Turn P) → by.thread < count → Small s → Small (pops_cleanup bodies by runs s)
   pops_small bodies by runs s lt h =
       let popped = returns by res.Zero 0 (changes by.thread without_cleanup s) in
-      plain_small by.thread (runs_cleanup_if runs bodies (thread_at s.machine by.thread).cleanups) popped (runs_cleanup_small bodies runs (thread_at s.machine by.thread).cleanups)
+      plain_small by.thread (runs_cleanup_if runs bodies (thread_at s.machine by.thread).cleanups) popped (runs_cleanup_small s.machine.clock bodies runs (thread_at s.machine by.thread).cleanups)
       (back by res.Zero (changes by.thread without_cleanup s) lt
       (plain_small by.thread without_cleanup s (λ th x. record { status = x.status; policy = x.policy; server = x.server; frames = x.frames; exit_value = x.exit_value; joiner = x.joiner }) h))
 
@@ -349,62 +352,66 @@ module _ {P : Type 0} (count top : ℕ) (low : top ≤ 10 ^ 18) where
 
   -- ---- the table
 
-  pub call_small : (bodies : Bodies P) (o : Objects) → o.threads ≡ count → (by : Caller) (c : Call) (s : Turn P) → by.thread < count → CallSmall o c → Small s → Small (call_effect bodies by c s)
-  call_small bodies o e by call.Yield s lt k h = back by res.Zero (moves by.thread s) lt h
-  call_small bodies o e by (call.Create u) s lt k h = let known = k.known in creates_small bodies by u s lt (omega arith) h
-  call_small bodies o e by (call.Join u) s lt k h = joins_small by u s lt h
-  call_small bodies o e by (call.Cancel u) s lt k h = let known = k.known in cancels_small by u s lt (omega arith) h
-  call_small bodies o e by call.Testcancel s lt k h = back by res.Zero s lt h
-  call_small bodies o e by (call.Setcancel on) s lt k h = sets_cancelability_small by on s lt h
-  call_small bodies o e by (call.Push u) s lt k h = pushes_small by u s lt h
-  call_small bodies o e by (call.Pop runs) s lt k h = pops_small bodies by runs s lt h
-  call_small bodies o e by (call.Exit v) s lt k h =
+  pub call_small : (bodies : Bodies P) (o : Objects) → o.threads ≡ count → (by : Caller) (c : Call) (s : Turn P) → by.thread < count → by.call ≡ c → CallSmall o c → Small s → Small (call_effect bodies by c s)
+  call_small bodies o e by call.Yield s lt same k h = back by res.Zero (moves by.thread s) lt h
+  call_small bodies o e by (call.Create u) s lt same k h = let known = k.known in creates_small bodies by u s lt (omega arith) h
+  call_small bodies o e by (call.Join u) s lt same k h = joins_small by u s lt h
+  call_small bodies o e by (call.Cancel u) s lt same k h = let known = k.known in cancels_small by u s lt (omega arith) h
+  call_small bodies o e by call.Testcancel s lt same k h = back by res.Zero s lt h
+  call_small bodies o e by (call.Setcancel on) s lt same k h = sets_cancelability_small by on s lt h
+  call_small bodies o e by (call.Push u) s lt same k h = pushes_small by u s lt h
+  call_small bodies o e by (call.Pop runs) s lt same k h = pops_small bodies by runs s lt h
+  call_small bodies o e by (call.Exit v) s lt same k h =
       ending_small count top low by.thread (number_of s.machine by.thread v) s (number_of_small count top low by.thread v s k.known h) h
-  call_small bodies o e by (call.Setprio u p) s lt k h = sets_priority_small by u p s lt h
-  call_small bodies o e by (call.Setsched u new) s lt k h = let known = k.known in sets_policy_small by u new s lt (omega arith) k.gives h
-  call_small bodies o e by (call.Lock n) s lt k h = locks_small count top low by n None s lt tt h
-  call_small bodies o e by (call.Timedlock n at) s lt k h = locks_small count top low by n (Some (number_of s.machine by.thread at)) s lt (number_of_small count top low by.thread at s k.known.1 h) h
-  call_small bodies o e by (call.Trylock n) s lt k h = locks_on_small count top low (trylock_answer s.machine by.thread n) by n None s lt tt (trylock_may count top low by.thread n s (h.of_mutexes n)) h
-  call_small bodies o e by (call.Unlock n) s lt k h = unlocks_small count top low by n s lt h
-  call_small bodies o e by (call.Wait c n) s lt k h = waits_small count top low by c n None s lt tt h
-  call_small bodies o e by (call.Timedwait c n at) s lt k h = waits_small count top low by c n (Some (number_of s.machine by.thread at)) s lt (number_of_small count top low by.thread at s k.known.1 h) h
-  call_small bodies o e by (call.Signal c) s lt k h = signals_small count top low by c s lt h
-  call_small bodies o e by (call.Broadcast c) s lt k h = broadcasts_small count top low by c s lt h
-  call_small bodies o e by (call.SemWait n) s lt k h = waits_semaphore_small by n None s lt tt h
-  call_small bodies o e by (call.SemTimedwait n at) s lt k h = waits_semaphore_small by n (Some (number_of s.machine by.thread at)) s lt (number_of_small count top low by.thread at s k.known.1 h) h
-  call_small bodies o e by (call.SemTrywait n) s lt k h = tries_semaphore_small by n s lt h
-  call_small bodies o e by (call.SemGetvalue n) s lt k h = returns_small count top low by res.Zero (semaphore_at s.machine n) s lt (semaphore_value (semaphore_at s.machine n) (h.of_semaphores n)) h
-  call_small bodies o e by (call.SemPost n) s lt k h = posts_small by n s lt h
-  call_small bodies o e by (call.Nanosleep n) s lt k h = sleeps_until_small by (s.machine.now + n) s lt (sum_small s.machine.now n (now_low count top low s h) k.known) h
-  call_small bodies o e by (call.ClockNanosleep at) s lt k h = sleeps_until_small by (number_of s.machine by.thread at) s lt (number_of_small count top low by.thread at s k.known h) h
-  call_small bodies o e by call.Gettime s lt k h = returns_small count top low by res.Zero s.machine.now s lt (number_small s.machine.now (now_low count top low s h)) h
-  call_small bodies o e by (call.TimerSettimeRel n first interval) s lt k h =
-      sets_timer_small by n (first_expiry first (s.machine.now + first)) interval s lt (expiry_small first (s.machine.now + first) (sum_small s.machine.now first (now_low count top low s h) k.known.1)) k.known.2 h
-  call_small bodies o e by (call.TimerSettimeAbs n at interval) s lt k h =
+  call_small bodies o e by (call.Setprio u p) s lt same k h = sets_priority_small by u p s lt h
+  call_small bodies o e by (call.Setsched u new) s lt same k h = let known = k.known in sets_policy_small by u new s lt (omega arith) k.gives h
+  call_small bodies o e by (call.Lock n) s lt same k h = locks_small count top low by n None s lt (no_time s.machine.clock by.call) h
+  call_small bodies o e by (call.Timedlock n at) s lt same k h = locks_small count top low by n (Some (moment_of s.machine by.thread at)) s lt (moment_small count top low by at s (ap waits_on_real same) k.known.1 h) h
+  call_small bodies o e by (call.Trylock n) s lt same k h = locks_on_small count top low (trylock_answer s.machine by.thread n) by n None s lt (no_time s.machine.clock by.call) (trylock_may count top low by.thread n s (h.of_mutexes n)) h
+  call_small bodies o e by (call.Unlock n) s lt same k h = unlocks_small count top low by n s lt h
+  call_small bodies o e by (call.Wait c n) s lt same k h = waits_small count top low by c n None s lt (no_time s.machine.clock by.call) h
+  call_small bodies o e by (call.Timedwait c n at) s lt same k h = waits_small count top low by c n (Some (moment_of s.machine by.thread at)) s lt (moment_small count top low by at s (ap waits_on_real same) k.known.1 h) h
+  call_small bodies o e by (call.Signal c) s lt same k h = signals_small count top low by c s lt h
+  call_small bodies o e by (call.Broadcast c) s lt same k h = broadcasts_small count top low by c s lt h
+  call_small bodies o e by (call.SemWait n) s lt same k h = waits_semaphore_small by n None s lt (no_time s.machine.clock by.call) h
+  call_small bodies o e by (call.SemTimedwait n at) s lt same k h = waits_semaphore_small by n (Some (moment_of s.machine by.thread at)) s lt (moment_small count top low by at s (ap waits_on_real same) k.known.1 h) h
+  call_small bodies o e by (call.SemTrywait n) s lt same k h = tries_semaphore_small by n s lt h
+  call_small bodies o e by (call.SemGetvalue n) s lt same k h = returns_small count top low by res.Zero (semaphore_at s.machine n) s lt (semaphore_value (semaphore_at s.machine n) (h.of_semaphores n)) h
+  call_small bodies o e by (call.SemPost n) s lt same k h = posts_small by n s lt h
+  call_small bodies o e by (call.Nanosleep n) s lt same k h = sleeps_until_small by (s.machine.now + n) s lt (plain_time s.machine.clock by.call (s.machine.now + n) (ap waits_on_real same) (sum_small s.machine.now n (now_low count top low s h) k.known)) h
+  call_small bodies o e by (call.ClockNanosleep at) s lt same k h = sleeps_until_small by (moment_of s.machine by.thread at) s lt (moment_small count top low by at s (ap waits_on_real same) k.known h) h
+  call_small bodies o e by call.Gettime s lt same k h = returns_small count top low by res.Zero s.machine.now s lt (number_small s.machine.now (now_low count top low s h)) h
+  call_small bodies o e by call.RealGettime s lt same k h = returns_small count top low by res.Zero (real_time s.machine) s lt (real_small count top low s h) h
+  call_small bodies o e by (call.ClockSettime v) s lt same k h = sets_real_clock_small count top low by (number_of s.machine by.thread v) s lt h
+  call_small bodies o e by (call.TimerSettimeRel n first interval) s lt same k h =
+      sets_timer_small by n (first_expiry first (s.machine.now + first)) false interval s lt (expiry_small first (s.machine.now + first) (sum_small s.machine.now first (now_low count top low s h) k.known.1))
+      (not_on_real s.machine.clock (first_expiry first (s.machine.now + first)) false refl) k.known.2 h
+  call_small bodies o e by (call.TimerSettimeAbs n at interval) s lt same k h =
       let at' = number_of s.machine by.thread at in
-      sets_timer_small by n (first_expiry at' at') interval s lt (expiry_small at' at' (number_of_small count top low by.thread at s k.known.1 h)) k.known.2 h
-  call_small bodies o e by (call.TimerGettime n) s lt k h =
+      sets_timer_small by n (first_expiry at' (timer_moment s.machine n at')) (timer_at s.machine n).is_real interval s lt
+      (expiry_at_small count top low n by.thread at s k.known.1 h) (expiry_read_small count top low n by.thread at s k.known.1 h) k.known.2 h
+  call_small bodies o e by (call.TimerGettime n) s lt same k h =
       returns_small count top low by res.Zero (ticks_to (timer_at s.machine n).due s.machine.now) s lt (ticks_to_small (timer_at s.machine n).due s.machine.now (h.of_timers n).due) h
-  call_small bodies o e by (call.TimerGetoverrun n) s lt k h = returns_small count top low by res.Zero (timer_at s.machine n).overrun s lt (overrun_value (timer_at s.machine n).overrun (h.of_timers n).overrun) h
-  call_small bodies o e by (call.Kill signal) s lt k h = sends_signal_small by (record_of_kill signal None) s lt (record { signal = k.known; value = zero_small }) h
-  call_small bodies o e by (call.Tkill u signal) s lt k h =
+  call_small bodies o e by (call.TimerGetoverrun n) s lt same k h = returns_small count top low by res.Zero (timer_at s.machine n).overrun s lt (overrun_value (timer_at s.machine n).overrun (h.of_timers n).overrun) h
+  call_small bodies o e by (call.Kill signal) s lt same k h = sends_signal_small by (record_of_kill signal None) s lt (record { signal = k.known; value = zero_small }) h
+  call_small bodies o e by (call.Tkill u signal) s lt same k h =
       if_small count top low (lives s.machine u) _ _ (sends_signal_small by (record_of_kill signal (Some u)) s lt (record { signal = k.known.1; value = zero_small }) h) (back by res.Srch s lt h)
-  call_small bodies o e by (call.Sigqueue signal v) s lt k h =
+  call_small bodies o e by (call.Sigqueue signal v) s lt same k h =
       sends_signal_small by (record_of_sigqueue signal (number_of s.machine by.thread v)) s lt (record { signal = k.known.0; value = number_of_small count top low by.thread v s k.known.1 h }) h
-  call_small bodies o e by (call.SigmaskBlock set) s lt k h = sets_mask_small by (with_signals set) s lt h
-  call_small bodies o e by (call.SigmaskUnblock set) s lt k h = sets_mask_small by (without_signals set) s lt h
-  call_small bodies o e by (call.SigmaskSet set) s lt k h = sets_mask_small by (λ (mask : ℕ). set) s lt h
-  call_small bodies o e by (call.Sigwaitinfo set) s lt k h = waits_signal_small None by set s lt (λ n e. absurd (cc)) h
-  call_small bodies o e by (call.Sigtimedwait set n) s lt k h = waits_signal_small (Some n) by set s lt (λ m e. let it : n ≡ m = cc in subst IsNumber it k.known) h
-  call_small bodies o e by (call.MqSend q len p v) s lt k h =
-      sends_message_small by q len (record { priority = p; value = number_of s.machine by.thread v }) None s lt (record { priority = k.known.1; value = number_of_small count top low by.thread v s k.known.2 h }) tt h
-  call_small bodies o e by (call.MqTimedsend q len p v at) s lt k h =
-      sends_message_small by q len (record { priority = p; value = number_of s.machine by.thread v }) (Some (number_of s.machine by.thread at)) s lt
-      (record { priority = k.known.1; value = number_of_small count top low by.thread v s k.known.2 h }) (number_of_small count top low by.thread at s k.known.3 h) h
-  call_small bodies o e by (call.MqReceive q) s lt k h = receives_on_small (next_message (queue_at s.machine q).messages) by q None s lt tt h
-  call_small bodies o e by (call.MqTimedreceive q at) s lt k h =
-      receives_on_small (next_message (queue_at s.machine q).messages) by q (Some (number_of s.machine by.thread at)) s lt (number_of_small count top low by.thread at s k.known.1 h) h
-  call_small bodies o e by (call.MqNotify q signal v) s lt k h =
+  call_small bodies o e by (call.SigmaskBlock set) s lt same k h = sets_mask_small by (with_signals set) s lt h
+  call_small bodies o e by (call.SigmaskUnblock set) s lt same k h = sets_mask_small by (without_signals set) s lt h
+  call_small bodies o e by (call.SigmaskSet set) s lt same k h = sets_mask_small by (λ (mask : ℕ). set) s lt h
+  call_small bodies o e by (call.Sigwaitinfo set) s lt same k h = waits_signal_small None by set s lt (ap waits_on_real same) (λ n e. absurd (cc)) h
+  call_small bodies o e by (call.Sigtimedwait set n) s lt same k h = waits_signal_small (Some n) by set s lt (ap waits_on_real same) (λ m e. let it : n ≡ m = cc in subst IsNumber it k.known) h
+  call_small bodies o e by (call.MqSend q len p v) s lt same k h =
+      sends_message_small by q len (record { priority = p; value = number_of s.machine by.thread v }) None s lt (record { priority = k.known.1; value = number_of_small count top low by.thread v s k.known.2 h }) (no_time s.machine.clock by.call) h
+  call_small bodies o e by (call.MqTimedsend q len p v at) s lt same k h =
+      sends_message_small by q len (record { priority = p; value = number_of s.machine by.thread v }) (Some (moment_of s.machine by.thread at)) s lt
+      (record { priority = k.known.1; value = number_of_small count top low by.thread v s k.known.2 h }) (moment_small count top low by at s (ap waits_on_real same) k.known.3 h) h
+  call_small bodies o e by (call.MqReceive q) s lt same k h = receives_on_small (next_message (queue_at s.machine q).messages) by q None s lt (no_time s.machine.clock by.call) h
+  call_small bodies o e by (call.MqTimedreceive q at) s lt same k h =
+      receives_on_small (next_message (queue_at s.machine q).messages) by q (Some (moment_of s.machine by.thread at)) s lt (moment_small count top low by at s (ap waits_on_real same) k.known.1 h) h
+  call_small bodies o e by (call.MqNotify q signal v) s lt same k h =
       asks_small by q (record { signal = signal; value = number_of s.machine by.thread v }) s lt (k.known.1, number_of_small count top low by.thread v s k.known.2 h) h
 
   is_cancelled_small : (t : ℕ) (s : Turn P) → t < count → Small s → Small (is_cancelled t s)
@@ -412,7 +419,7 @@ module _ {P : Type 0} (count top : ℕ) (low : top ≤ 10 ^ 18) where
 
   pub makes_call_small : (bodies : Bodies P) (o : Objects) → o.threads ≡ count → (by : Caller) (s : Turn P) → by.thread < count → CallSmall o by.call → Small s → Small (makes_call bodies by s)
   makes_call_small bodies o e by s lt k h =
-      if_small count top low (is_cancellation_point by.call && request_acts (thread_at s.machine by.thread)) _ _ (is_cancelled_small by.thread s lt h) (call_small bodies o e by by.call s lt k h)
+      if_small count top low (is_cancellation_point by.call && request_acts (thread_at s.machine by.thread)) _ _ (is_cancelled_small by.thread s lt h) (call_small bodies o e by by.call s lt refl k h)
 
   pub unit_small : (bodies : Bodies P) (o : Objects) → o.threads ≡ count → (t : ℕ) (u : Unit) (s : Turn P) → t < count → UnitMade o u → Small s → Small (unit_effect bodies t u s)
   unit_small bodies o e t (unit.Run n) s lt k h = h

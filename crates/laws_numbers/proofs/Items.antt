@@ -44,7 +44,7 @@ module _ {P : Type 0} (count top : ℕ) (low : top ≤ 10 ^ 18) where
   interrupts_small None t s e h = h
   interrupts_small (Some w) t s e h =
       wakes_small count top low t res.Intr (ticks_left w.call w.due s.machine.now) s (within count top low t s (waiting_within s.machine.threads t w e) h)
-      (left_small w.call w.due s.machine.now (wait_of_small count top low t w s e h).due) h
+      (left_small w.call w.due s.machine.now (wait_of_small count top low t w s e h).time.due) h
 
   module _ (bodies : Bodies P) where
     acts_small : (a : SigAction) (t : ℕ) (r : SignalRecord) (s : Turn P) → t < count → RecordSmall r → Small s → Small (acts bodies a t r s)
@@ -58,7 +58,7 @@ module _ {P : Type 0} (count top : ℕ) (low : top ≤ 10 ^ 18) where
           status = y.status;
           policy = y.policy;
           server = y.server;
-          frames = (record { register = capped_small r.value; value = capped_small r.value; left = zero_small }, y.frames);
+          frames = (record { register = capped_small r.value; value = (let capped = capped_small r.value in omega (arith, capped)); left = zero_small }, y.frames);
           exit_value = y.exit_value;
           joiner = y.joiner;
         }) (delivers_small count top low t r woke lt k (interrupts_small (waiting_of s.machine t) t out refl (out_small count top low r s h)))

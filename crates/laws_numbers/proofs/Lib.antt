@@ -2,6 +2,7 @@ pub mod Lists
 pub mod Servers
 pub mod Turns
 pub mod Waking
+pub mod Clock
 pub mod Limits
 pub mod Calls
 pub mod Items

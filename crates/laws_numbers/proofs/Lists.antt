@@ -1,6 +1,6 @@
 -- What each member of a list keeps; and who waits, lives or has a server is there.
 use Rattle.std.proofs.Common.{Bool, List, None, Option, Some, [], ap, arith, false, length, refl, suc, true, zero, ℕ, ◌<◌, ◌∷◌, ◌++◌, ◌≡◌}
-use Rattle.std.specs.Prelude.{filter, is_some, slice_index_or}
+use Rattle.std.specs.Prelude.{filter, is_some, map, slice_index_or}
 use Rattle.rules_machine.specs.Lists.{changed_at, first_by}
 use Rattle.rules_machine.specs.State.{Machine, Thread, Wait, Waiting}
 use Rattle.rules_machine.specs.Threads.{is_dormant, is_live, no_thread, thread_at, thread_in, waiting_in}
@@ -17,6 +17,11 @@ changed Q none zero f (x ∷ xs) new all zero = new
 changed Q none zero f (x ∷ xs) new all (suc k) = all (suc k)
 changed Q none (suc n) f (x ∷ xs) new all zero = all 0
 changed Q none (suc n) f (x ∷ xs) new all (suc k) = changed Q none n f xs new (λ k. all (suc k)) k
+
+pub mapped : {X : Type 0} (Q : X → Type 0) (none : X) (f : X → X) (xs : List X) → Q none → ((k : ℕ) → Q (f (slice_index_or xs k none))) → (k : ℕ) → Q (slice_index_or (map f xs) k none)
+mapped Q none f [] nothing all k = nothing
+mapped Q none f (x ∷ xs) nothing all zero = all 0
+mapped Q none f (x ∷ xs) nothing all (suc k) = mapped Q none f xs nothing (λ k. all (suc k)) k
 
 pub each_last : {X : Type 0} (Law : X → Type 0) (xs : List X) (x : X) → Each Law xs → Law x → Each Law (xs ++ x ∷ [])
 each_last Law [] x each h = (h, tt)

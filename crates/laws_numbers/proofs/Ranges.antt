@@ -40,9 +40,9 @@ use Rattle.script_table.specs.Patterns.{greatest}
 use Rattle.script_table.specs.Structure.{Said}
 use Rattle.script_table.specs.Table.{patterns}
 use Rattle.script_table.specs.Names.{Entry, declared}
-use Rattle.script_table.specs.Operands.{map_two, map_three, map_four, map_five, number_in, amount_at, answer_at, operand_at, priority_at, signal_at, signals_at, name_at, named_at, fifo_at, rr_at, sporadic_at, strict_at, server_at}
+use Rattle.script_table.specs.Operands.{amount_at, answer_at, fifo_at, map_five, map_four, map_three, map_two, moment_at, name_at, named_at, number_in, operand_at, priority_at, rr_at, server_at, signal_at, signals_at, sporadic_at, strict_at, real_at}
 use Rattle.script_table.specs.Calls.{call_of, thread_call}
-use Rattle.script_table.specs.Meaning.{protect, queue, kind_of_object, object_decl, ignores, runs, action_decl, thread_at, thread_dormant, kind_of_body, body_decl, plain_step, block_step, test, repeat, guard}
+use Rattle.script_table.specs.Meaning.{protect, queue, kind_of_object, object_decl, ignores, runs, action_decl, thread_at, thread_dormant, kind_of_body, body_decl, plain_step, block_step, test, repeat, guard, timer}
 use Rattle.script_table.specs.Build.{nothing_built, script_of}
 use Rattle.script_table.specs.Heading.{Beginning}
 use Rattle.script_table.specs.Read.{said_in, read}
@@ -129,21 +129,27 @@ module _ (es : List Entry) (words : List (List ℕ)) where
   call_gives : (f : CallForm) → IfSome (call_of es f words) GivesSmall
   call_gives (call.Thread f) = thread_gives f
   call_gives (call.Mutex mutex.Lock) = gives_one calls.Lock (λ k. tt) (named_at kind.Mutex es 1 words)
-  call_gives (call.Mutex mutex.Timedlock) = gives_two calls.Timedlock (λ k at. tt) (named_at kind.Mutex es 1 words) (operand_at 2 words)
+  call_gives (call.Mutex mutex.Timedlock) = gives_two calls.Timedlock (λ k at. tt) (named_at kind.Mutex es 1 words) (moment_at 2 words)
+  call_gives (call.Mutex mutex.TimedlockReal) = gives_two calls.Timedlock (λ k at. tt) (named_at kind.Mutex es 1 words) (real_at 2 words)
   call_gives (call.Mutex mutex.Trylock) = gives_one calls.Trylock (λ k. tt) (named_at kind.Mutex es 1 words)
   call_gives (call.Mutex mutex.Unlock) = gives_one calls.Unlock (λ k. tt) (named_at kind.Mutex es 1 words)
   call_gives (call.Mutex mutex.Wait) = gives_two calls.Wait (λ c k. tt) (named_at kind.Cond es 1 words) (named_at kind.Mutex es 2 words)
-  call_gives (call.Mutex mutex.Timedwait) = gives_three calls.Timedwait (λ c k at. tt) (named_at kind.Cond es 1 words) (named_at kind.Mutex es 2 words) (operand_at 3 words)
+  call_gives (call.Mutex mutex.Timedwait) = gives_three calls.Timedwait (λ c k at. tt) (named_at kind.Cond es 1 words) (named_at kind.Mutex es 2 words) (moment_at 3 words)
+  call_gives (call.Mutex mutex.TimedwaitReal) = gives_three calls.Timedwait (λ c k at. tt) (named_at kind.Cond es 1 words) (named_at kind.Mutex es 2 words) (real_at 3 words)
   call_gives (call.Mutex mutex.Signal) = gives_one calls.Signal (λ c. tt) (named_at kind.Cond es 1 words)
   call_gives (call.Mutex mutex.Broadcast) = gives_one calls.Broadcast (λ c. tt) (named_at kind.Cond es 1 words)
   call_gives (call.Sem sem.Wait) = gives_one calls.SemWait (λ k. tt) (named_at kind.Sem es 1 words)
-  call_gives (call.Sem sem.Timedwait) = gives_two calls.SemTimedwait (λ k at. tt) (named_at kind.Sem es 1 words) (operand_at 2 words)
+  call_gives (call.Sem sem.Timedwait) = gives_two calls.SemTimedwait (λ k at. tt) (named_at kind.Sem es 1 words) (moment_at 2 words)
+  call_gives (call.Sem sem.TimedwaitReal) = gives_two calls.SemTimedwait (λ k at. tt) (named_at kind.Sem es 1 words) (real_at 2 words)
   call_gives (call.Sem sem.Trywait) = gives_one calls.SemTrywait (λ k. tt) (named_at kind.Sem es 1 words)
   call_gives (call.Sem sem.Getvalue) = gives_one calls.SemGetvalue (λ k. tt) (named_at kind.Sem es 1 words)
   call_gives (call.Sem sem.Post) = gives_one calls.SemPost (λ k. tt) (named_at kind.Sem es 1 words)
   call_gives (call.Time time.Nanosleep) = gives_one calls.Nanosleep (λ n. tt) (amount_at 1 words)
-  call_gives (call.Time time.ClockNanosleep) = gives_one calls.ClockNanosleep (λ at. tt) (operand_at 1 words)
+  call_gives (call.Time time.ClockNanosleep) = gives_one calls.ClockNanosleep (λ at. tt) (moment_at 1 words)
+  call_gives (call.Time time.ClockNanosleepReal) = gives_one calls.ClockNanosleep (λ at. tt) (real_at 1 words)
   call_gives (call.Time time.Gettime) = tt
+  call_gives (call.Time time.RealGettime) = tt
+  call_gives (call.Time time.ClockSettime) = gives_one calls.ClockSettime (λ v. tt) (operand_at 1 words)
   call_gives (call.Time time.TimerSettimeRel) = gives_three calls.TimerSettimeRel (λ k n i. tt) (named_at kind.Timer es 1 words) (amount_at 3 words) (amount_at 4 words)
   call_gives (call.Time time.TimerSettimeAbs) = gives_three calls.TimerSettimeAbs (λ k at i. tt) (named_at kind.Timer es 1 words) (operand_at 3 words) (amount_at 4 words)
   call_gives (call.Time time.TimerGettime) = gives_one calls.TimerGettime (λ k. tt) (named_at kind.Timer es 1 words)
@@ -159,9 +165,12 @@ module _ (es : List Entry) (words : List (List ℕ)) where
   call_gives (call.Message message.Send) =
       gives_four calls.MqSend (λ q len p v. tt) (named_at kind.Queue es 1 words) (number_in 0 65536 2 words) (number_in 0 31 3 words) (operand_at 4 words)
   call_gives (call.Message message.Timedsend) =
-      gives_five calls.MqTimedsend (λ q len p v at. tt) (named_at kind.Queue es 1 words) (number_in 0 65536 2 words) (number_in 0 31 3 words) (operand_at 4 words) (operand_at 5 words)
+      gives_five calls.MqTimedsend (λ q len p v at. tt) (named_at kind.Queue es 1 words) (number_in 0 65536 2 words) (number_in 0 31 3 words) (operand_at 4 words) (moment_at 5 words)
+  call_gives (call.Message message.TimedsendReal) =
+      gives_five calls.MqTimedsend (λ q len p v at. tt) (named_at kind.Queue es 1 words) (number_in 0 65536 2 words) (number_in 0 31 3 words) (operand_at 4 words) (real_at 5 words)
   call_gives (call.Message message.Receive) = gives_one calls.MqReceive (λ q. tt) (named_at kind.Queue es 1 words)
-  call_gives (call.Message message.Timedreceive) = gives_two calls.MqTimedreceive (λ q at. tt) (named_at kind.Queue es 1 words) (operand_at 2 words)
+  call_gives (call.Message message.Timedreceive) = gives_two calls.MqTimedreceive (λ q at. tt) (named_at kind.Queue es 1 words) (moment_at 2 words)
+  call_gives (call.Message message.TimedreceiveReal) = gives_two calls.MqTimedreceive (λ q at. tt) (named_at kind.Queue es 1 words) (real_at 2 words)
   call_gives (call.Message message.Notify) = gives_three calls.MqNotify (λ q k v. tt) (named_at kind.Queue es 1 words) (signal_at 2 words) (operand_at 3 words)
 
 -- ---- steps and blocks
@@ -231,6 +240,11 @@ module _ (o : Objects) where
   queue_small nonblock (Some depth) None h k = tt
   queue_small nonblock (Some depth) (Some longest) h k = (h.1, k.1)
 
+  timer_small : (real : Bool) (x y : Option ℕ) → IfSome x IsSignal → IfSome y IsNumber → IfSome (timer real x y) KindOf
+  timer_small real None y h k = tt
+  timer_small real (Some sig) None h k = tt
+  timer_small real (Some sig) (Some value) h k = (h, k)
+
   kind_small : (f : ObjectForm) (words : List (List ℕ)) → IfSome (kind_of_object f words) KindOf
   kind_small object.MutexNone words = tt
   kind_small object.MutexNoneRecursive words = tt
@@ -242,8 +256,8 @@ module _ (o : Objects) where
   kind_small object.Sem words = mapped (IsFrom 0 32767) KindOf kinds.Sem (λ n from. from.1) (number_in 0 32767 2 words) (number_within 0 32767 2 words)
   kind_small object.Queue words = queue_small false (number_in 1 64 2 words) (number_in 1 65536 3 words) (number_within 1 64 2 words) (number_within 1 65536 3 words)
   kind_small object.QueueNonblock words = queue_small true (number_in 1 64 2 words) (number_in 1 65536 3 words) (number_within 1 64 2 words) (number_within 1 65536 3 words)
-  kind_small object.Timer words =
-      mapped_two IsSignal IsNumber KindOf kinds.Timer (λ sig value small more. (small, more)) (signal_at 2 words) (amount_at 3 words) (signal_within 2 words) (amount_within 3 words)
+  kind_small object.Timer words = timer_small false (signal_at 2 words) (amount_at 3 words) (signal_within 2 words) (amount_within 3 words)
+  kind_small object.TimerReal words = timer_small true (signal_at 2 words) (amount_at 3 words) (signal_within 2 words) (amount_within 3 words)
 
   object_small : (f : ObjectForm) (words : List (List ℕ)) → IfSome (object_decl f words) DeclOf
   object_small f words = named_small (name_at 1 words) (kind_of_object f words) (kind_small f words)

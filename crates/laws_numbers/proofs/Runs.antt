@@ -8,8 +8,8 @@ use Rattle.words_script.specs.declared.decl.Script.{Script}
 use Rattle.rules_bodies.specs.Next.{Place}
 use Rattle.rules_machine.specs.Bodies.{Bodies}
 use Rattle.rules_machine.specs.Declarations.{ThreadDecl, mutex_kind, named, queue_kind, semaphore_kind, threads_of, timer_kind}
-use Rattle.rules_machine.specs.State.{Machine}
-use Rattle.rules_machine.specs.Threads.{mutex_in, no_queue, no_thread, no_timer, thread_in, thread_numbers}
+use Rattle.rules_machine.specs.State.{Clock, Machine}
+use Rattle.rules_machine.specs.Threads.{mutex_in, no_queue, no_timer, thread_in, thread_numbers}
 use Rattle.rules_machine.specs.Turns.{Turn, turn_of}
 use Rattle.rules_machine.specs.Priorities.{exec}
 use Rattle.rules_machine.specs.Mutexes.{recursion_limit}
@@ -38,7 +38,7 @@ use Rattle.laws_numbers.proofs.Lists.{each_both}
 use Rattle.laws_numbers.proofs.Waking.{zero_small}
 use Rattle.laws_numbers.proofs.Items.{instant_small, items_done_small}
 use Rattle.laws_numbers.proofs.Ticks.{HeadThere, tick_small}
-use Rattle.laws_numbers.proofs.Turns.{number_small}
+use Rattle.laws_numbers.proofs.Turns.{no_thread_small, no_timer_small, number_small}
 use Rattle.laws_numbers.proofs.Bodies.{ThreadDeclSmall, bodies_small, threads_small}
 
 priority_small : (n : ℕ) → n ≤ 255 → IsSmall n
@@ -79,6 +79,7 @@ module _ {P : Type 0} (o : Objects) (bodies : Bodies P) (known : BodiesSmall o b
       record {
         machine = record {
           early = (let e = ticked.early in omega arith);
+          of_clock = ticked.of_clock;
           of_quantum = ticked.of_quantum;
           counted = ticked.counted;
           of_threads = ticked.of_threads;
@@ -98,15 +99,16 @@ module _ {P : Type 0} (o : Objects) (bodies : Bodies P) (known : BodiesSmall o b
 
 -- ---- the opening
 
-no_thread_small : {P : Type 0} (count : ℕ) → ThreadSmall count (no_thread {P = P})
-no_thread_small count = record { status = tt; policy = tt; server = tt; frames = tt; exit_value = zero_small; joiner = tt }
+-- both clocks read the same
+abbrev no_clock : Clock
+no_clock = record { ahead = 0; behind = 0 }
 
 start_small : (o : Option ℕ) → StartSmall o → DueSmall o
 start_small None h = tt
 start_small (Some n) h = number_small n h
 
-opened_threads : (P : Type 0) (o : Objects) (count : ℕ) (ds : List ThreadDecl) → Each (ThreadDeclSmall o) ds → (t : ℕ) → ThreadSmall count (thread_in (map (λ (d : ThreadDecl). thread_opened {P = P} d) ds) t)
-opened_threads P o count [] h t = no_thread_small count
+opened_threads : (P : Type 0) (o : Objects) (count : ℕ) (ds : List ThreadDecl) → Each (ThreadDeclSmall o) ds → (t : ℕ) → ThreadSmall count no_clock (thread_in (map (λ (d : ThreadDecl). thread_opened {P = P} d) ds) t)
+opened_threads P o count [] h t = no_thread_small count no_clock
 opened_threads P o count (d ∷ ds) h zero = record { status = start_small d.start h.0.1; policy = h.0.0; server = tt; frames = tt; exit_value = zero_small; joiner = tt }
 opened_threads P o count (d ∷ ds) h (suc t) = opened_threads P o count ds h.1 t
 
@@ -134,15 +136,12 @@ opened_queues o (decl.Named name (kind.Queue depth longest nonblock) ∷ ds) h z
 opened_queues o (decl.Named name (kind.Queue depth longest nonblock) ∷ ds) h (suc q) = opened_queues o ds h.1 q
 opened_queues o (decl.Named name other ∷ ds) h q = opened_queues o ds h.1 q
 
-no_timer_small : TimerSmall no_timer
-no_timer_small = record { signal = omega arith; value = zero_small; due = tt; interval = omega arith; extra = omega arith; overrun = omega arith }
-
-opened_timers : (o : Objects) (ds : List Decl) → Each (DeclSmall o) ds → (k : ℕ) → TimerSmall (slice_index_or (filter_map (named timer_kind) ds) k no_timer)
-opened_timers o [] h k = no_timer_small
+opened_timers : (o : Objects) (ds : List Decl) → Each (DeclSmall o) ds → (k : ℕ) → TimerSmall no_clock (slice_index_or (filter_map (named timer_kind) ds) k no_timer)
+opened_timers o [] h k = no_timer_small no_clock
 opened_timers o (decl.Action signal handler ∷ ds) h k = opened_timers o ds h.1 k
-opened_timers o (decl.Named name (kind.Timer signal value) ∷ ds) h zero =
-    record { signal = h.0.0; value = number_small value h.0.1; due = tt; interval = omega arith; extra = omega arith; overrun = omega arith }
-opened_timers o (decl.Named name (kind.Timer signal value) ∷ ds) h (suc k) = opened_timers o ds h.1 k
+opened_timers o (decl.Named name (kind.Timer signal value real) ∷ ds) h zero =
+    record { signal = h.0.0; value = number_small value h.0.1; due = tt; reading = tt; interval = omega arith; extra = omega arith; overrun = omega arith }
+opened_timers o (decl.Named name (kind.Timer signal value real) ∷ ds) h (suc k) = opened_timers o ds h.1 k
 opened_timers o (decl.Named name other ∷ ds) h k = opened_timers o ds h.1 k
 
 same_length : {X Y : Type 0} (f : X → Y) (xs : List X) → length (map f xs) ≡ length xs
@@ -152,6 +151,7 @@ same_length f (x ∷ xs) = ap suc (same_length f xs)
 pub opening_small : (P : Type 0) (script : Script) → IsInRange script → NumbersAreSmall (objects_of script).threads 0 (opening {P = P} script)
 opening_small P script h = record {
   early = omega arith;
+  of_clock = record { ahead = omega arith; behind = omega arith };
   of_quantum = h.quantum;
   counted = same_length (λ (d : ThreadDecl). thread_opened {P = P} d) (threads_of script);
   of_threads = opened_threads P (objects_of script) (objects_of script).threads (threads_of script) (threads_small (objects_of script) script.decls h.decls);
@@ -184,6 +184,7 @@ module _ (script : Script) (fits : IsWellFormed script) (ranges : IsInRange scri
       let x = items_done_small (objects_of script).threads n low (bodies_of script) k (turn_of (machine script n)) (ran_small n low).machine in
       record {
         early = x.early;
+        of_clock = x.of_clock;
         of_quantum = x.of_quantum;
         counted = x.counted;
         of_threads = x.of_threads;

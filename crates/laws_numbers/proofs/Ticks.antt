@@ -7,7 +7,7 @@ use Rattle.rules_bodies.specs.Next.{ticks_of}
 use Rattle.words_trace.specs.declared.event.Event.TheVariants as event
 use Rattle.rules_server.specs.Server.{ServerState}
 use Rattle.rules_machine.specs.Bodies.{Bodies, seen_by}
-use Rattle.rules_machine.specs.State.{Frame, Machine, Thread}
+use Rattle.rules_machine.specs.State.{Clock, Frame, Machine, Thread}
 use Rattle.rules_machine.specs.Threads.{can_run, thread_at, thread_numbers, top_left}
 use Rattle.rules_machine.specs.Lists.{is}
 use Rattle.rules_machine.specs.Turns.{Turn, becomes, changes, settles_since, tells}
@@ -45,15 +45,15 @@ ticks_small o unit.Finish h = omega arith
 one_small : IsSmall 1
 one_small = omega arith
 
-module _ {P : Type 0} (count : ℕ) (o : Objects) (bodies : Bodies P) (known : BodiesSmall o bodies) where
+module _ {P : Type 0} (count : ℕ) (clock : Clock) (o : Objects) (bodies : Bodies P) (known : BodiesSmall o bodies) where
   pub record TakenSmall (th : Thread P) (u : units.Unit) : Type 0 where
-    pub thread : ThreadSmall count th
+    pub thread : ThreadSmall count clock th
     pub unit : UnitMade o u
 
-  in_frames : (fs : List (Frame P)) (th : Thread P) → Each FrameSmall fs → ThreadSmall count th → ThreadSmall count (record th { frames = fs })
+  in_frames : (fs : List (Frame P)) (th : Thread P) → Each FrameSmall fs → ThreadSmall count clock th → ThreadSmall count clock (record th { frames = fs })
   in_frames fs th k h = record { status = h.status; policy = h.policy; server = h.server; frames = k; exit_value = h.exit_value; joiner = h.joiner }
 
-  advances_small : (fs : List (Frame P)) (th : Thread P) → Each FrameSmall fs → ThreadSmall count th → TakenSmall (advances bodies fs th).thread (advances bodies fs th).unit
+  advances_small : (fs : List (Frame P)) (th : Thread P) → Each FrameSmall fs → ThreadSmall count clock th → TakenSmall (advances bodies fs th).thread (advances bodies fs th).unit
   advances_small [] th k h = record { thread = h; unit = tt }
   advances_small (f ∷ fs) th k h =
       let next = known f.body f.place (seen_by f) k.0.register in
@@ -62,21 +62,21 @@ module _ {P : Type 0} (count : ℕ) (o : Objects) (bodies : Bodies P) (known : B
         unit = unit_made o (next_of bodies f).unit next.unit;
       }
 
-  finish_small : (fs : List (Frame P)) (th : Thread P) → Each FrameSmall fs → ThreadSmall count th → TakenSmall (begins_finish fs th).thread (begins_finish fs th).unit
+  finish_small : (fs : List (Frame P)) (th : Thread P) → Each FrameSmall fs → ThreadSmall count clock th → TakenSmall (begins_finish fs th).thread (begins_finish fs th).unit
   finish_small [] th k h = record { thread = h; unit = tt }
   finish_small (f ∷ fs) th k h = record { thread = in_frames (record f { left = 1 } ∷ fs) th (record { register = k.0.register; value = k.0.value; left = one_small }, k.1) h; unit = tt }
 
-  cleanup_small : (u : ℕ) (th : Thread P) → ThreadSmall count th → ThreadSmall count (in_cleanup bodies u th)
+  cleanup_small : (u : ℕ) (th : Thread P) → ThreadSmall count clock th → ThreadSmall count clock (in_cleanup bodies u th)
   cleanup_small u th h = record {
     status = h.status;
     policy = h.policy;
     server = h.server;
-    frames = (record { register = zero_small; value = zero_small; left = zero_small }, h.frames);
+    frames = (record { register = omega arith; value = zero_small; left = zero_small }, h.frames);
     exit_value = h.exit_value;
     joiner = h.joiner;
   }
 
-  pub in_unit_small : (th : Thread P) → ThreadSmall count th → TakenSmall (in_unit bodies th).thread (in_unit bodies th).unit
+  pub in_unit_small : (th : Thread P) → ThreadSmall count clock th → TakenSmall (in_unit bodies th).thread (in_unit bodies th).unit
   in_unit_small th h = by_case (following th)
     where
       by_case : (x : Following) → TakenSmall (takes_unit bodies x th).thread (takes_unit bodies x th).unit
@@ -98,8 +98,8 @@ frames_charged_small : {P : Type 0} (fs : List (Frame P)) → Each FrameSmall fs
 frames_charged_small [] h = tt
 frames_charged_small (f ∷ fs) h = (record { register = h.0.register; value = h.0.value; left = one_less_small f.left h.0.left }, h.1)
 
-pub tick_charged_small : {P : Type 0} (count : ℕ) (th : Thread P) → ThreadSmall count th → ThreadSmall count (tick_charged th)
-tick_charged_small count th h = record {
+pub tick_charged_small : {P : Type 0} (count : ℕ) (clock : Clock) (th : Thread P) → ThreadSmall count clock th → ThreadSmall count clock (tick_charged th)
+tick_charged_small count clock th h = record {
   status = h.status;
   policy = h.policy;
   server = charged_has th.ticks th.server h.server;
@@ -109,10 +109,11 @@ tick_charged_small count th h = record {
 }
 
 -- another instant
-pub later_small : {P : Type 0} (count top more : ℕ) (s : Turn P) (now : ℕ) → now ≤ more → TurnSmall count top s →
-    AreSmall count more now s.machine.quantum s.machine.threads s.machine.mutexes s.machine.semaphores s.machine.queues s.machine.timers s.machine.pending s.events
-later_small count top more s now e h = record {
+pub later_small : {P : Type 0} (count top more : ℕ) (s : Turn P) (now : ℕ) → s.machine.now ≤ now → now ≤ more → TurnSmall count top s →
+    AreSmall count more now s.machine.clock s.machine.quantum s.machine.threads s.machine.mutexes s.machine.semaphores s.machine.queues s.machine.timers s.machine.pending s.events
+later_small count top more s now since e h = record {
   early = e;
+  of_clock = record { ahead = h.of_clock.ahead; behind = (let b = h.of_clock.behind in omega (arith, b, since)) };
   of_quantum = h.of_quantum;
   counted = h.counted;
   of_threads = h.of_threads;
@@ -205,7 +206,7 @@ module _ {P : Type 0} (o : Objects) (bodies : Bodies P) (known : BodiesSmall o b
       let x = prepares None s in
       let c = closes_small None (thread_numbers s.machine) s h in
       let k : TurnSmall o.threads top x = told_small (is_same (closes None s).machine.last None) None (closes None s) there c in
-      later_small o.threads top (top + 1) x (x.machine.now + 1) (let e = k.early in omega arith) k
+      later_small o.threads top (top + 1) x (x.machine.now + 1) (omega arith) (let e = k.early in omega arith) k
   runs_small (Some t) s there h =
       let x = prepares (Some t) s in
       let c = closes_small (Some t) (thread_numbers s.machine) s h in
@@ -213,16 +214,16 @@ module _ {P : Type 0} (o : Objects) (bodies : Bodies P) (known : BodiesSmall o b
       let d : TurnSmall o.threads top sent = told_small (is_same (closes (Some t) s).machine.last (Some t)) (Some t) (closes (Some t) s) there c in
       let k : TurnSmall o.threads top x = opens_for_small t (thread_at sent.machine t).server sent there.0 (d.of_threads t).server d in
       let taken = in_unit bodies (thread_at x.machine t) in
-      let in' = in_unit_small o.threads o bodies known (thread_at x.machine t) (k.of_threads t) in
+      let in' = in_unit_small o.threads x.machine.clock o bodies known (thread_at x.machine t) (k.of_threads t) in
       let charged' = changes t (λ th. tick_charged taken.thread) x in
-      let c : TurnSmall o.threads top charged' = changes_small o.threads top lower t (λ th. tick_charged taken.thread) x (λ th. tick_charged_small o.threads taken.thread in'.thread) k in
+      let c : TurnSmall o.threads top charged' = changes_small o.threads top lower t (λ th. tick_charged taken.thread) x (λ th. tick_charged_small o.threads x.machine.clock taken.thread in'.thread) k in
       let on = becomes later charged' in
-      let l : TurnSmall o.threads (top + 1) on = later_small o.threads top (top + 1) charged' (charged'.machine.now + 1) (let e = c.early in omega arith) c in
+      let l : TurnSmall o.threads (top + 1) on = later_small o.threads top (top + 1) charged' (charged'.machine.now + 1) (omega arith) (let e = c.early in omega arith) c in
       charged_on_small o bodies known (top + 1) low (has_high (thread_at x.machine t).server) x.machine t taken.unit on there.0 in'.unit l
 
   goes_on_small : (killed : Option ℕ) (s : Turn P) → HeadThere (closes (head s.machine) s).machine (head s.machine) → TurnSmall o.threads top s → TurnSmall o.threads (top + 1) (unless_killed killed (runs_head bodies) s)
   goes_on_small None s there h = runs_small (head s.machine) s there h
-  goes_on_small (Some signal) s there h = later_small o.threads top (top + 1) s s.machine.now (let e = h.early in omega arith) h
+  goes_on_small (Some signal) s there h = later_small o.threads top (top + 1) s s.machine.now (omega arith) (let e = h.early in omega arith) h
 
   pub tick_small : (s : Turn P) → HeadThere (closes (head (instant bodies s).machine) (instant bodies s)).machine (head (instant bodies s).machine) → TurnSmall o.threads top s → TurnSmall o.threads (top + 1) (tick bodies s)
   tick_small s there h = let ready = instant bodies s in goes_on_small ready.machine.killed ready there (instant_small o.threads top lower bodies s h)

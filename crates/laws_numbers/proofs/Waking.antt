@@ -19,14 +19,14 @@ use Rattle.rules_machine.specs.Waiters.{Waiter, best_waiter, somebody_waits, wai
 use Rattle.rules_machine.specs.Turns.{Caller, Turn, changes, changes_mutex, is_late, moves, returns, tells}
 use Rattle.rules_machine.specs.CallNames.{name_of}
 use Rattle.rules_machine.specs.Servers.{activates_if, activates_server, amount_of, at_once, at_once_as, high_server, plans_server, refills_server, regains_high, server_of, with_server}
-use Rattle.rules_machine.specs.Waking.{blocks, call_in, cancelled_value, ending_with, started, starts, wakes, wakes_cancelled, wakes_telling, woken}
+use Rattle.rules_machine.specs.Waking.{blocks, call_in, cancelled_value, ending_with, last_result, last_value, started, starts, wakes, wakes_cancelled, wakes_telling, woken}
 use Rattle.rules_machine.specs.Mutexes.{closes_cycle, counted_down, freed, is_above_ceiling, locked_again, recursion_limit, trylock_answer, LockAnswer, counted_up, counts, hands_over, is_free, lock_answer, locks, carries_out_lock, must_wait, owned_by, owns, refused, releases, returns_from_wait, taken_by, takes, unlocks, waits_for_mutex, wakes_owner}
 use Rattle.rules_machine.specs.Conditions.{broadcasts, contends, reacquires_or_waits, released_mutex, signals, signals_best_times, signals_waiter, waits, waits_on_condition, waits_with_other_mutex}
 use Rattle.rules_machine.specs.Semaphores.{blocks_unless_late}
-use Rattle.laws_numbers.specs.Numbers.{DueSmall, EventSmall, HasSmall, IsSmall, PolicySmall, TurnSmall, WaitSmall}
+use Rattle.laws_numbers.specs.Numbers.{EventSmall, HasSmall, IsSmall, PolicySmall, TimeSmall, TurnSmall, WaitSmall}
 use Rattle.laws_numbers.proofs.Lists.{best_within, served_within}
 use Rattle.laws_numbers.proofs.Servers.{activate_small, amount_told, capacity_told, due_told, new_small, plan_small, refill_small, refill_told, refilled_told}
-use Rattle.laws_numbers.proofs.Turns.{mutex_small, blocks_small, changes_small, frames_answered_small, high_small, if_small, now_low, returns_small, tells_small, within}
+use Rattle.laws_numbers.proofs.Turns.{mutex_small, blocks_small, changes_small, frames_answered_small, high_small, if_small, no_time, now_low, returns_small, tells_small, value_small, within}
 
 pub zero_small : IsSmall 0
 zero_small = omega arith
@@ -176,7 +176,10 @@ module _ {P : Type 0} (count top : ℕ) (low : top ≤ 10 ^ 18) where
 
   pub wakes_cancelled_small : (t : ℕ) (s : Turn P) → t < count → Small s → Small (wakes_cancelled t s)
   wakes_cancelled_small t s lt h =
-      ending_small t cancelled_value (wakes_telling (event.Cancel t) t res.Zero 0 s) cancelled_small (wakes_telling_small (event.Cancel t) t res.Zero 0 s lt lt zero_small h)
+      let result = last_result t s.machine in
+      let value = last_value t s.machine in
+      ending_small t cancelled_value (wakes_telling (event.Cancel t) t result value s) cancelled_small
+      (wakes_telling_small (event.Cancel t) t result value s lt lt (value_small (thread_at s.machine t).frames (h.of_threads t).frames) h)
 
   pub starts_small : (bodies : Bodies P) (t mask : ℕ) (s : Turn P) → t < count → Small s → Small (starts bodies t mask s)
   starts_small bodies t mask s lt h =
@@ -186,7 +189,7 @@ module _ {P : Type 0} (count top : ℕ) (low : top ≤ 10 ^ 18) where
         status = tt;
         policy = th.policy;
         server = server_of_has (thread_at s.machine t).ticks s.machine.now (thread_at s.machine t).policy (now_low count top low s h) th.policy;
-        frames = (record { register = zero_small; value = zero_small; left = zero_small }, tt);
+        frames = (record { register = omega arith; value = zero_small; left = zero_small }, tt);
         exit_value = th.exit_value;
         joiner = th.joiner;
       }) h))
@@ -208,13 +211,13 @@ module _ {P : Type 0} (count top : ℕ) (low : top ≤ 10 ^ 18) where
   taken_small : (t k : ℕ) (s : Turn P) → Small s → Small (changes_mutex k (taken_by t) s)
   taken_small t k s h = mutex_small count top low k (taken_by t) s one_lock h
 
-  pub locks_on_small : (a : LockAnswer) (by : Caller) (k : ℕ) (due : Option ℕ) (s : Turn P) → by.thread < count → DueSmall due → MayCount (mutex_at s.machine k) a → Small s → Small (carries_out_lock a by k due s)
+  pub locks_on_small : (a : LockAnswer) (by : Caller) (k : ℕ) (due : Option ℕ) (s : Turn P) → by.thread < count → TimeSmall s.machine.clock by.call due → MayCount (mutex_at s.machine k) a → Small s → Small (carries_out_lock a by k due s)
   locks_on_small (refused r) by k due s lt d may h = returns_small count top low by r 0 s lt zero_small h
   locks_on_small counts by k due s lt d may h = returns_small count top low by res.Zero 0 (changes_mutex k counted_up s) lt zero_small (mutex_small count top low k counted_up s may h)
   locks_on_small takes by k due s lt d may h = returns_small count top low by res.Zero 0 (changes_mutex k (taken_by by.thread) s) lt zero_small (taken_small by.thread k s h)
   locks_on_small must_wait by k due s lt d may h = blocks_small count top low by (for_mutex k) due s tt d h
 
-  pub locks_small : (by : Caller) (k : ℕ) (due : Option ℕ) (s : Turn P) → by.thread < count → DueSmall due → Small s → Small (locks by k due s)
+  pub locks_small : (by : Caller) (k : ℕ) (due : Option ℕ) (s : Turn P) → by.thread < count → TimeSmall s.machine.clock by.call due → Small s → Small (locks by k due s)
   locks_small by k due s lt d h = locks_on_small (lock_answer s.machine by.thread k due) by k due s lt d (lock_may by.thread k due s (h.of_mutexes k)) h
 
   returns_from_wait_small : (how : CondEnd) (t : ℕ) (s : Turn P) → t < count → Small s → Small (returns_from_wait how t s)
@@ -249,7 +252,7 @@ module _ {P : Type 0} (count top : ℕ) (low : top ≤ 10 ^ 18) where
   contends_for_small None t how s lt h = h
   contends_for_small (Some k) t how s lt h =
       if_small count top low (is_free s.machine k) _ _ (returns_from_wait_small how t (changes_mutex k (taken_by t) s) lt (taken_small t k s h))
-      (blocks_small count top low (record { thread = t; call = call_in (waiting_of s.machine t) }) (for_mutex_again k how) None s tt tt h)
+      (blocks_small count top low (record { thread = t; call = call_in (waiting_of s.machine t) }) (for_mutex_again k how) None s tt (no_time s.machine.clock (call_in (waiting_of s.machine t))) h)
 
   pub contends_small : (t : ℕ) (how : CondEnd) (s : Turn P) → t < count → Small s → Small (contends t how s)
   contends_small t how s lt h = contends_for_small (option_and_then (λ (w : Waiting). released_mutex w.wait) (waiting_of s.machine t)) t how s lt h
@@ -271,13 +274,13 @@ module _ {P : Type 0} (count top : ℕ) (low : top ≤ 10 ^ 18) where
   pub broadcasts_small : (by : Caller) (c : ℕ) (s : Turn P) → by.thread < count → Small s → Small (broadcasts by c s)
   broadcasts_small by c s lt h = signals_best_of_small (length (waiters s.machine (waits_on_condition c))) c (returns by res.Zero 0 s) (returns_small count top low by res.Zero 0 s lt zero_small h)
 
-  pub waits_small : (by : Caller) (c k : ℕ) (due : Option ℕ) (s : Turn P) → by.thread < count → DueSmall due → Small s → Small (waits by c k due s)
+  pub waits_small : (by : Caller) (c k : ℕ) (due : Option ℕ) (s : Turn P) → by.thread < count → TimeSmall s.machine.clock by.call due → Small s → Small (waits by c k due s)
   waits_small by c k due s lt d h =
       if_small count top low (not (owns s.machine by.thread k)) _ _ (returns_small count top low by res.Perm 0 s lt zero_small h)
       (if_small count top low (nat_lt 1 (mutex_at s.machine k).count || somebody_waits s.machine (waits_with_other_mutex c k)) _ _ (returns_small count top low by res.Inval 0 s lt zero_small h)
       (if_small count top low (nat_lt 1 (length (owned_by s.machine by.thread))) _ _ (returns_small count top low by res.Deadlk 0 s lt zero_small h)
       (releases_small k (blocks by (for_condition c k) due s) (blocks_small count top low by (for_condition c k) due s tt d h))))
 
-  pub blocks_unless_late_small : (by : Caller) (wait : Wait) (due : Option ℕ) (s : Turn P) → by.thread < count → WaitSmall wait → DueSmall due → Small s → Small (blocks_unless_late by wait due s)
+  pub blocks_unless_late_small : (by : Caller) (wait : Wait) (due : Option ℕ) (s : Turn P) → by.thread < count → WaitSmall wait → TimeSmall s.machine.clock by.call due → Small s → Small (blocks_unless_late by wait due s)
   blocks_unless_late_small by wait due s lt w d h =
       if_small count top low (is_late due s.machine) _ _ (returns_small count top low by res.Timedout 0 s lt zero_small h) (blocks_small count top low by wait due s w d h)

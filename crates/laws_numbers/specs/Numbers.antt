@@ -1,6 +1,7 @@
 -- How large the numbers of a machine and of its events are: none is above 3 * 10 ^ 18, but the serials, of which nothing is said here.
 -- The limit is this project's own.
-use Rattle.std.specs.Prelude.{List, None, Option, Some, [], length, ℕ, ◌+◌, ◌*◌, ◌^◌, ◌≤◌, ◌<◌, ◌≡◌, ◌∷◌, slice_index_or}
+use Rattle.std.specs.Prelude.{Bool, List, None, Option, Some, [], false, length, true, ℕ, ◌+◌, ◌*◌, ◌^◌, ◌≤◌, ◌<◌, ◌≡◌, ◌∷◌, slice_index_or}
+use Rattle.words_script.specs.declared.call.Call.{Call}
 use Rattle.words_script.specs.declared.policy.Policy.{Policy}
 use Rattle.words_script.specs.declared.policy.Policy.TheVariants as policy
 use Rattle.rules_server.specs.declared.Replenish.{Replenish}
@@ -8,8 +9,10 @@ use Rattle.rules_server.specs.Server.{ServerState, pending_total}
 use Rattle.words_trace.specs.declared.event.Event.{Event}
 use Rattle.words_trace.specs.declared.event.Event.TheVariants as event
 use Rattle.words_trace.specs.Text.{Entry}
-use Rattle.rules_machine.specs.State.{Frame, Joiner, Machine, Message, Mutex, Queue, Registration, SignalRecord, Status, Thread, Timer, Wait, Waiting, blocked, dormant, ended, for_room, has_joined, nobody, runnable, waits_to_join}
+use Rattle.rules_machine.specs.State.{Clock, Frame, Joiner, Machine, Message, Mutex, Queue, Registration, SignalRecord, Status, Thread, Timer, Wait, Waiting, blocked, dormant, ended, for_room, has_joined, nobody, runnable, waits_to_join}
 use Rattle.rules_machine.specs.Threads.{mutex_in, no_queue, no_timer, thread_in}
+use Rattle.rules_machine.specs.Clock.{waits_on_real}
+use Rattle.rules_machine.specs.GoodState.{ClockFits}
 use Rattle.rules_machine.specs.Mutexes.{recursion_limit}
 use Rattle.rules_machine.specs.Semaphores.{semaphore_limit}
 use Rattle.rules_machine.specs.Timers.{overrun_limit}
@@ -18,6 +21,10 @@ use Rattle.rules_machine.specs.Turns.{Turn}
 -- a number of a machine
 abbrev pub IsSmall : ℕ → Type 0
 IsSmall n = n ≤ 3 * 10 ^ 18
+
+-- what a register may hold
+abbrev pub IsRegister : ℕ → Type 0
+IsRegister n = n ≤ 2 * 10 ^ 18
 
 -- a number of a script
 abbrev pub IsNumber : ℕ → Type 0
@@ -31,10 +38,21 @@ abbrev pub DueSmall : Option ℕ → Type 0
 DueSmall None = Unit {0}
 DueSmall (Some n) = IsSmall n
 
+-- what CLOCK_REALTIME reads at a due tick is what a register may hold, where the tick stands for a time on that clock
+abbrev pub ReadingSmall : Clock → Option ℕ → Bool → Type 0
+ReadingSmall clock None is_real = Unit {0}
+ReadingSmall clock (Some n) false = Unit {0}
+ReadingSmall clock (Some n) true = n + clock.ahead ≤ 2 * 10 ^ 18 + clock.behind
+
+-- the due tick of a wait in a call
+pub record TimeSmall (clock : Clock) (c : Call) (at : Option ℕ) : Type 0 where
+  pub due : DueSmall at
+  pub reading : ReadingSmall clock at (waits_on_real c)
+
 -- ---- threads
 
 pub record FrameSmall {P : Type 0} (f : Frame P) : Type 0 where
-  pub register : IsSmall f.register
+  pub register : IsRegister f.register
   pub value : IsSmall f.value
   pub left : IsSmall f.left
 
@@ -46,15 +64,15 @@ abbrev pub WaitSmall : Wait → Type 0
 WaitSmall (for_room q x) = MessageSmall x
 WaitSmall wait = Unit {0}
 
-pub record WaitingSmall (w : Waiting) : Type 0 where
+pub record WaitingSmall (clock : Clock) (w : Waiting) : Type 0 where
   pub wait : WaitSmall w.wait
-  pub due : DueSmall w.due
+  pub time : TimeSmall clock w.call w.due
 
-abbrev pub StatusSmall : Status → Type 0
-StatusSmall (dormant at) = DueSmall at
-StatusSmall runnable = Unit {0}
-StatusSmall (blocked w) = WaitingSmall w
-StatusSmall ended = Unit {0}
+abbrev pub StatusSmall : Clock → Status → Type 0
+StatusSmall clock (dormant at) = DueSmall at
+StatusSmall clock runnable = Unit {0}
+StatusSmall clock (blocked w) = WaitingSmall clock w
+StatusSmall clock ended = Unit {0}
 
 abbrev pub PolicySmall : Policy → Type 0
 PolicySmall (policy.Fifo p) = Unit {0}
@@ -82,8 +100,8 @@ JoinerWithin count nobody = Unit {0}
 JoinerWithin count (waits_to_join t) = t < count
 JoinerWithin count has_joined = Unit {0}
 
-pub record ThreadSmall {P : Type 0} (count : ℕ) (th : Thread P) : Type 0 where
-  pub status : StatusSmall th.status
+pub record ThreadSmall {P : Type 0} (count : ℕ) (clock : Clock) (th : Thread P) : Type 0 where
+  pub status : StatusSmall clock th.status
   pub policy : PolicySmall th.policy
   pub server : HasSmall th.ticks th.server
   pub frames : Each FrameSmall th.frames
@@ -102,10 +120,11 @@ pub record QueueSmall (q : Queue) : Type 0 where
   pub messages : Each MessageSmall q.messages
   pub registration : RegistrationSmall q.registration
 
-pub record TimerSmall (k : Timer) : Type 0 where
+pub record TimerSmall (clock : Clock) (k : Timer) : Type 0 where
   pub signal : k.signal < 32
   pub value : IsSmall k.value
   pub due : DueSmall k.due
+  pub reading : ReadingSmall clock k.due k.is_reading
   pub interval : IsNumber k.interval
   pub extra : k.extra ≤ overrun_limit
   pub overrun : k.overrun ≤ overrun_limit
@@ -137,22 +156,23 @@ pub record EntrySmall (count : ℕ) (e : Entry) : Type 0 where
 
 -- ---- the machine and what it tells, up to an instant
 
-pub record AreSmall {P : Type 0} (count top now quantum : ℕ) (threads : List (Thread P)) (mutexes : List Mutex) (semaphores : List ℕ) (queues : List Queue) (timers : List Timer) (pending : List SignalRecord) (events : List Entry) : Type 0 where
+pub record AreSmall {P : Type 0} (count top now : ℕ) (clock : Clock) (quantum : ℕ) (threads : List (Thread P)) (mutexes : List Mutex) (semaphores : List ℕ) (queues : List Queue) (timers : List Timer) (pending : List SignalRecord) (events : List Entry) : Type 0 where
   pub early : now ≤ top
+  pub of_clock : ClockFits now clock
   pub of_quantum : IsNumber quantum
   pub counted : length threads ≡ count
-  pub of_threads : (t : ℕ) → ThreadSmall count (thread_in threads t)
+  pub of_threads : (t : ℕ) → ThreadSmall count clock (thread_in threads t)
   pub of_mutexes : (k : ℕ) → (mutex_in mutexes k).count ≤ recursion_limit
   pub of_semaphores : (k : ℕ) → slice_index_or semaphores k 0 ≤ semaphore_limit
   pub of_queues : (q : ℕ) → QueueSmall (slice_index_or queues q no_queue)
-  pub of_timers : (k : ℕ) → TimerSmall (slice_index_or timers k no_timer)
+  pub of_timers : (k : ℕ) → TimerSmall clock (slice_index_or timers k no_timer)
   pub of_records : Each RecordSmall pending
   pub of_events : Each (EntrySmall count) events
 
 abbrev pub TurnSmall : {P : Type 0} → ℕ → ℕ → Turn P → Type 0
 TurnSmall count top s =
-    AreSmall count top s.machine.now s.machine.quantum s.machine.threads s.machine.mutexes s.machine.semaphores s.machine.queues s.machine.timers s.machine.pending s.events
+    AreSmall count top s.machine.now s.machine.clock s.machine.quantum s.machine.threads s.machine.mutexes s.machine.semaphores s.machine.queues s.machine.timers s.machine.pending s.events
 
 -- a machine of so many threads, at that instant or an earlier one
 abbrev pub NumbersAreSmall : {P : Type 0} → ℕ → ℕ → Machine P → Type 0
-NumbersAreSmall count top m = AreSmall count top m.now m.quantum m.threads m.mutexes m.semaphores m.queues m.timers m.pending []
+NumbersAreSmall count top m = AreSmall count top m.now m.clock m.quantum m.threads m.mutexes m.semaphores m.queues m.timers m.pending []

@@ -14,7 +14,7 @@ use Rattle.rules_machine.specs.Bodies.{Bodies, NextUnit, Seen}
 use Rattle.rules_machine.specs.declared.frame.BodyOf.{BodyOf}
 use Rattle.rules_machine.specs.Semaphores.{semaphore_limit}
 use Rattle.rules_flat_code.specs.KnownCalls.{KnowsObjects, Objects, objects_of}
-use Rattle.laws_numbers.specs.Numbers.{Each, IsNumber, IsSmall, PolicySmall}
+use Rattle.laws_numbers.specs.Numbers.{Each, IsNumber, IsRegister, PolicySmall}
 
 abbrev pub GivesSmall : Call → Type 0
 GivesSmall (call.Setsched u new) = PolicySmall new
@@ -45,7 +45,7 @@ KindSmall o (kind.Handler body) = BlockSmall o body
 KindSmall o (kind.Cleanup body) = BlockSmall o body
 KindSmall o (kind.Sem value) = value ≤ semaphore_limit
 KindSmall o (kind.Queue depth longest nonblock) = (depth ≤ 64) × (longest ≤ 65536)
-KindSmall o (kind.Timer signal value) = (signal < 32) × IsNumber value
+KindSmall o (kind.Timer signal value real) = (signal < 32) × IsNumber value
 KindSmall o other = Unit {0}
 
 abbrev pub DeclSmall : Objects → Decl → Type 0
@@ -67,7 +67,7 @@ UnitSmall o unit.Finish = Unit {0}
 
 pub record NextSmall {P : Type 0} (o : Objects) (n : NextUnit P) : Type 0 where
   pub unit : UnitSmall o n.unit
-  pub register : IsSmall n.register
+  pub register : IsRegister n.register
 
 -- a unit that is under way
 abbrev pub UnitMade : Objects → units.Unit → Type 0
@@ -78,4 +78,4 @@ UnitMade o unit.Finish = Unit {0}
 
 -- every unit that a body comes to, with a small register
 abbrev pub BodiesSmall : {P : Type 0} → Objects → Bodies P → Type 0
-BodiesSmall {P} o bodies = (body : BodyOf) (place : P) (seen : Seen) → IsSmall seen.register → NextSmall o (bodies.next body place seen)
+BodiesSmall {P} o bodies = (body : BodyOf) (place : P) (seen : Seen) → IsRegister seen.register → NextSmall o (bodies.next body place seen)

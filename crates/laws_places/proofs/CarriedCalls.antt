@@ -1,8 +1,10 @@
 -- Each call, item and tick of a carried turn is the carried one, where both know the same of bodies.
 use Rattle.std.proofs.Common.{Bool, List, None, Option, Some, [], ap, false, refl, true, ℕ, ◌+◌, ◌∷◌, ◌≡◌}
-use Rattle.std.specs.Prelude.{drop, map, not, ◌==◌, if◌then◌else◌}
+use Rattle.std.specs.Prelude.{drop, map, nat_lt, not, ◌-◌, ◌==◌, if◌then◌else◌}
 use mathlib.Core.Path.{ap₂, ◌∙◌}
 use Rattle.words_numbers.specs.declared.res.Res.TheVariants as res
+use Rattle.words_script.specs.declared.call.Moment.{Moment}
+use Rattle.words_script.specs.declared.call.Moment.TheVariants as moment
 use Rattle.words_script.specs.declared.call.Operand.{Operand}
 use Rattle.words_script.specs.declared.call.Operand.TheVariants as operand
 use Rattle.words_script.specs.declared.policy.Policy.{Policy}
@@ -12,9 +14,11 @@ use Rattle.rules_machine.specs.declared.frame.BodyOf.{BodyOf}
 use Rattle.rules_machine.specs.declared.frame.FrameKind.{FrameKind}
 use Rattle.rules_machine.specs.declared.frame.FrameKind.TheVariants as frame
 use Rattle.rules_machine.specs.declared.thread.CondEnd.TheVariants as cond_end
+use Rattle.rules_machine.specs.Clock.{changes_each, clock_at, clock_limit, due_as_set, moves_times, sets_real_clock, thread_moved, timer_moved}
+use Rattle.rules_machine.specs.Lists.{numbers}
 use Rattle.rules_machine.specs.State.{Frame, Joiner, Machine, Thread, Wait, Waiting, for_condition, for_end, for_mutex, for_mutex_again, for_semaphore, for_signal, for_time, has_joined, nobody, waits_to_join}
-use Rattle.rules_machine.specs.Threads.{can_run, is_dormant, lives, number_of, thread_at, top_kind, waiting_of}
-use Rattle.rules_machine.specs.Turns.{Caller, Turn, becomes, changes, changes_pending, moves_if, returns, settles_since, tells, ◌▷◌}
+use Rattle.rules_machine.specs.Threads.{can_run, is_dormant, lives, moment_of, number_of, real_time, thread_at, thread_numbers, top_kind, waiting_of}
+use Rattle.rules_machine.specs.Turns.{Caller, Turn, becomes, changes, changes_pending, changes_timer, moves_if, returns, settles_since, tells, ◌▷◌}
 use Rattle.rules_machine.specs.Servers.{activates_if, plans}
 use Rattle.rules_machine.specs.Waking.{blocks_unordered, wakes}
 use Rattle.rules_machine.specs.Mutexes.{moves_unless_boosted}
@@ -26,15 +30,48 @@ use Rattle.rules_machine.specs.DueItems.{items_of_threads, pending_count, times_
 use Rattle.rules_machine.specs.Dispatch.{dispatch_event, dispatch_of, dispatches, is_same, tells_unless}
 use Rattle.rules_machine.specs.Ticks.{TickEnd, ends_tick, exhausting, nothing, planning, slicing, tick_end, tick_ends, without_slice}
 use Rattle.laws_places.specs.Carried.{frame_carried}
-use Rattle.laws_places.proofs.CarriedReads.{C, M, can_run_carries, exec_carries, kind_carries, lives_carries, register_carries, status_carries, thread_carries, waiting_carries}
+use Rattle.laws_places.proofs.CarriedReads.{C, M, can_run_carries, exec_carries, kind_carries, lives_carries, numbers_carry, register_carries, status_carries, thread_carries, waiting_carries}
 use Rattle.laws_places.proofs.CarriedEffects.{Carries, T, activates_if_carries, blocks_unordered_carries, changes_carry, contends_carries, if_carries, moves_if_carries, moves_unless_boosted_carries, plans_carries, returns_carries, settles_carry, wakes_cancelled_carries, wakes_carries}
 
 module _ {P Q : Type 0} (carry : BodyOf → P → Q) where
-  -- ---- operands, joins, cancellation and scheduling
+  -- ---- operands
 
   pub number_carries : (m : Machine P) (t : ℕ) (v : Operand) → number_of (M carry m) t v ≡ number_of m t v
   number_carries m t (operand.Num n) = refl
   number_carries m t operand.Reg = register_carries carry m t
+
+  pub moment_carries : (m : Machine P) (t : ℕ) (at : Moment) → moment_of (M carry m) t at ≡ moment_of m t at
+  moment_carries m t (moment.Monotonic at) = number_carries m t at
+  moment_carries m t (moment.Realtime at) = ap (λ (n : ℕ). m.now + (n - real_time m)) (number_carries m t at)
+
+  -- ---- the clock
+
+  changes_each_carries : (change' : ℕ → Turn Q → Turn Q) (change : ℕ → Turn P → Turn P) → ((n : ℕ) → Carries carry (change' n) (change n)) → (ns : List ℕ) →
+      Carries carry (changes_each change' ns) (changes_each change ns)
+  changes_each_carries change' change each [] s = refl
+  changes_each_carries change' change each (n ∷ ns) s = ap (changes_each change' ns) (each n s) ∙ changes_each_carries change' change each ns (change n s)
+
+  moves_times_carries : (move : ℕ → ℕ) → Carries carry (moves_times move) (moves_times move)
+  moves_times_carries move s =
+      let threads' : ℕ → Turn Q → Turn Q = λ t. changes t (thread_moved move) in
+      let threads : ℕ → Turn P → Turn P = λ t. changes t (thread_moved move) in
+      let timers' : ℕ → Turn Q → Turn Q = λ k. changes_timer k (timer_moved move) in
+      let timers : ℕ → Turn P → Turn P = λ k. changes_timer k (timer_moved move) in
+      let ks = numbers s.machine.timers in
+      let ts = thread_numbers s.machine in
+      ap (λ (ns : List ℕ). changes_each timers' ks (changes_each threads' ns (T carry s))) (numbers_carry carry s.machine)
+      ∙ ap (changes_each timers' ks) (changes_each_carries threads' threads (λ t. changes_carry carry t (thread_moved move) (thread_moved move) (λ th. refl)) ts s)
+      ∙ changes_each_carries timers' timers (λ k s. refl) ks (changes_each threads ts s)
+
+  pub sets_real_clock_carries : (by : Caller) (reading : ℕ) → Carries carry (sets_real_clock by reading) (sets_real_clock by reading)
+  sets_real_clock_carries by reading s =
+      let set = becomes (λ m. record m { clock = clock_at reading m.now }) s in
+      let move = due_as_set s.machine.now (real_time s.machine) reading in
+      if_carries carry (nat_lt clock_limit reading) (nat_lt clock_limit reading) _ _ (returns by res.Inval 0 s) (returns by res.Zero 0 (moves_times move set)) refl
+      (returns_carries carry by res.Inval 0 s)
+      (ap (returns by res.Zero 0) (moves_times_carries move set) ∙ returns_carries carry by res.Zero 0 (moves_times move set))
+
+  -- ---- joins, cancellation and scheduling
 
   pub joins_carries : (by : Caller) (u : ℕ) → Carries carry (joins by u) (joins by u)
   joins_carries by u s =

@@ -17,7 +17,7 @@ use Rattle.rules_machine.specs.Waiters.{Waiter, best_waiter, is_served_before, s
 use Rattle.rules_machine.specs.CallNames.{name_of}
 use Rattle.rules_machine.specs.Turns.{Caller, Turn, answered, changes, changes_mutex, changes_pending, changes_queue, changes_semaphore, changes_timer, frames_answered, has_passed, is_late, moves, moves_if, returns, settles_since, takes_serial, tells}
 use Rattle.rules_machine.specs.Servers.{activates, activates_if, activates_if_high, activates_server, amount_of, at_once, closes, closes_of, has_run, high_server, is_strict, opens, opens_for, opens_if, plans, plans_server, plans_if, refills, refills_server, regains_high, with_server}
-use Rattle.rules_machine.specs.Waking.{blocks, blocks_unordered, call_in, cancelled_value, ending_with, put_to_wait, wakes, wakes_cancelled, wakes_telling, woken}
+use Rattle.rules_machine.specs.Waking.{blocks, blocks_unordered, call_in, cancelled_value, ending_with, last_result, last_value, put_to_wait, wakes, wakes_cancelled, wakes_telling, woken}
 use Rattle.rules_machine.specs.Mutexes.{LockAnswer, closes_cycle, counted_down, counted_up, counts, hands_over, is_above_ceiling, is_free, lock_answer, locked_again, locks, carries_out_lock, moves_unless_boosted, must_wait, owned_by, owns, owns_boosting, refused, releases, returns_from_wait, taken_by, takes, tries_lock, trylock_answer, unlocks, waits_for_mutex, wakes_owner}
 use Rattle.rules_machine.specs.Conditions.{broadcasts, contends, reacquires_or_waits, released_mutex, signals, signals_best, signals_best_times, signals_waiter, waits, waits_on_condition, waits_with_other_mutex}
 use Rattle.rules_machine.specs.Semaphores.{blocks_unless_late, posts, wakes_waiter_or_raises_value, semaphore_limit, tries_semaphore, waits_on_semaphore, waits_semaphore}
@@ -25,7 +25,7 @@ use Rattle.rules_machine.specs.Signals.{acceptor, accepts, becomes_pending, deli
 use Rattle.rules_machine.specs.Timers.{armed_again, expires, is_pending_from, overrun_once_more, record_of_timer, signals_expiry, sleeps_until}
 use Rattle.rules_machine.specs.Queues.{asks_notification, blocks_unless_nonblock, enters, fired_by_message, has_room, is_notifying, message_of, next_message, notifies, receives_message, takes_message_or_blocks, record_of_notification, registered, sends_message, reaches_receiver_or_queue, takes_over, value_at, waits_to_receive, waits_to_send, with_message, without_message}
 use Rattle.laws_places.specs.Carried.{frame_carried, turn_carried}
-use Rattle.laws_places.proofs.CarriedReads.{C, M, best_carries, numbers_carry, can_run_carries, ceiling_carries, changed_carries, cycle_carries, server_carries, settled_carries, somebody_carries, waiters_carry, waiting_carries}
+use Rattle.laws_places.proofs.CarriedReads.{C, M, best_carries, numbers_carry, can_run_carries, ceiling_carries, changed_carries, cycle_carries, result_carries, server_carries, settled_carries, somebody_carries, value_carries, waiters_carry, waiting_carries}
 
 module _ {P Q : Type 0} (carry : BodyOf → P → Q) where
   abbrev pub T : Turn P → Turn Q
@@ -159,8 +159,11 @@ module _ {P Q : Type 0} (carry : BodyOf → P → Q) where
 
   pub wakes_cancelled_carries : (t : ℕ) → Carries (wakes_cancelled t) (wakes_cancelled t)
   wakes_cancelled_carries t s =
-      ap (changes t (ending_with cancelled_value)) (wakes_telling_carries (event.Cancel t) t res.Zero 0 s)
-      ∙ changes_carry t (ending_with cancelled_value) (ending_with cancelled_value) (λ th. refl) (wakes_telling (event.Cancel t) t res.Zero 0 s)
+      let result = last_result t s.machine in
+      let value = last_value t s.machine in
+      ap₂ (λ (r : Res) (v : ℕ). changes t (ending_with cancelled_value) (wakes_telling (event.Cancel t) t r v (T s))) (result_carries carry s.machine t) (value_carries carry s.machine t)
+      ∙ ap (changes t (ending_with cancelled_value)) (wakes_telling_carries (event.Cancel t) t result value s)
+      ∙ changes_carry t (ending_with cancelled_value) (ending_with cancelled_value) (λ th. refl) (wakes_telling (event.Cancel t) t result value s)
 
   pub moves_if_carries : (b : Bool) (t : ℕ) → Carries (moves_if b t) (moves_if b t)
   moves_if_carries true t s = refl

@@ -10,9 +10,10 @@ use Rattle.rules_lists.specs.Lists.{to_tail}
 use Rattle.rules_machine.specs.declared.frame.BodyOf.{BodyOf}
 use Rattle.rules_machine.specs.Lists.{changed_at, first_by, is, kept_if, numbers_from}
 use Rattle.rules_machine.specs.State.{Frame, Machine, Mutex, Thread, Wait}
-use Rattle.rules_machine.specs.Threads.{can_run, is_live, is_runnable, lives, no_thread, thread_at, thread_in, thread_numbers, top_kind, top_left, top_register, waiting_in, waiting_of}
+use Rattle.rules_machine.specs.Threads.{can_run, is_live, is_runnable, lives, no_thread, thread_at, thread_in, thread_numbers, top_kind, top_left, top_register, top_result, top_value, waiting_in, waiting_of}
 use Rattle.rules_machine.specs.Priorities.{Claim, claim_of, claims, exec, exec_in, mutex_awaited_by}
 use Rattle.rules_machine.specs.Waiters.{Waiter, best_waiter, is_served_before, somebody_waits, waiter_of, waiters, waits_so}
+use Rattle.rules_machine.specs.Waking.{last_result, last_value}
 use Rattle.rules_machine.specs.Settling.{Shift, left_runnable, moved_all, settled, shift_between, shift_of, shifted, shifted_all, stayed}
 use Rattle.rules_machine.specs.Mutexes.{closes_cycle, is_above_ceiling, leads_within, owner_of_awaited}
 use Rattle.laws_places.specs.Carried.{frame_carried, machine_carried, thread_carried}
@@ -79,8 +80,22 @@ module _ {P Q : Type 0} (carry : BodyOf → P → Q) where
   register_carried [] = refl
   register_carried (f ∷ fs) = refl
 
+  result_carried : (fs : List (Frame P)) → top_result (map (frame_carried carry) fs) ≡ top_result fs
+  result_carried [] = refl
+  result_carried (f ∷ fs) = refl
+
+  value_carried : (fs : List (Frame P)) → top_value (map (frame_carried carry) fs) ≡ top_value fs
+  value_carried [] = refl
+  value_carried (f ∷ fs) = refl
+
   pub register_carries : (m : Machine P) (t : ℕ) → top_register (thread_at (M m) t).frames ≡ top_register (thread_at m t).frames
   register_carries m t = ap (λ (th : Thread Q). top_register th.frames) (thread_carries m t) ∙ register_carried (thread_at m t).frames
+
+  pub result_carries : (m : Machine P) (t : ℕ) → last_result t (M m) ≡ last_result t m
+  result_carries m t = ap (λ (th : Thread Q). top_result th.frames) (thread_carries m t) ∙ result_carried (thread_at m t).frames
+
+  pub value_carries : (m : Machine P) (t : ℕ) → last_value t (M m) ≡ last_value t m
+  value_carries m t = ap (λ (th : Thread Q). top_value th.frames) (thread_carries m t) ∙ value_carried (thread_at m t).frames
 
   pub kind_carries : (m : Machine P) (t : ℕ) → top_kind (thread_at (M m) t).frames ≡ top_kind (thread_at m t).frames
   kind_carries m t = ap (λ (th : Thread Q). top_kind th.frames) (thread_carries m t) ∙ kind_carried (thread_at m t).frames

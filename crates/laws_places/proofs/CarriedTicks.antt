@@ -9,6 +9,7 @@ use Rattle.words_numbers.specs.declared.item.Item.TheVariants as item
 use Rattle.words_numbers.specs.declared.res.Res.TheVariants as res
 use Rattle.words_script.specs.declared.call.Call.{Call}
 use Rattle.words_script.specs.declared.call.Call.TheVariants as call
+use Rattle.words_script.specs.declared.call.Moment.TheVariants as moment
 use Rattle.words_script.specs.declared.call.Operand.TheVariants as operand
 use Rattle.rules_bodies.specs.Next.{capped, ticks_of}
 use Rattle.rules_bodies.specs.declared.unit.Unit.{Unit}
@@ -23,8 +24,9 @@ use Rattle.rules_machine.specs.declared.signal.SigAction.{SigAction}
 use Rattle.rules_machine.specs.declared.signal.SigAction.TheVariants as action
 use Rattle.rules_machine.specs.Lists.{first_by}
 use Rattle.rules_machine.specs.Bodies.{Bodies, Seen}
+use Rattle.rules_machine.specs.Clock.{sets_real_clock}
 use Rattle.rules_machine.specs.State.{Frame, Machine, SignalRecord, Thread, Waiting}
-use Rattle.rules_machine.specs.Threads.{action_of, is_dormant, is_live, is_main, is_signal, number_of, thread_at, thread_numbers, top_left, waiting_of}
+use Rattle.rules_machine.specs.Threads.{action_of, is_dormant, is_live, is_main, is_signal, moment_of, number_of, thread_at, thread_numbers, top_left, waiting_of}
 use Rattle.rules_machine.specs.Turns.{Caller, Turn, becomes, changes, changes_pending, moves, returns, settles_since, tells, turn_of}
 use Rattle.rules_machine.specs.Servers.{activates, closes, has_high, opens, server_of}
 use Rattle.rules_machine.specs.Waking.{cancelled_value, ending_with, new_frame, on_top, started, starts}
@@ -41,7 +43,7 @@ use Rattle.rules_machine.specs.Runs.{Ran, follow, tick_of, ticks}
 use Rattle.laws_places.specs.Carried.{Agree, frame_carried, ran_carried}
 use Rattle.laws_places.proofs.CarriedReads.{C, M, kind_carried, left_carried, left_carries, numbers_carry, same_function, server_carries, status_carries, thread_carries, waiting_carries}
 use Rattle.laws_places.proofs.CarriedEffects.{Carries, T, activates_carries, asks_notification_carries, broadcasts_carries, changes_carry, closes_carries, delivers_carries, expires_carries, if_carries, locks_carries, opens_carries, posts_carries, receives_message_carries, refills_carries, returns_carries, sends_message_carries, sends_signal_carries, settles_carry, signals_carries, sleeps_until_carries, tries_lock_carries, tries_semaphore_carries, unlocks_carries, waits_carries, waits_semaphore_carries, waits_signal_on_carries}
-use Rattle.laws_places.proofs.CarriedCalls.{cancels_carries, dispatches_carries, finishes_carries, interrupts_carries, items_of_carried, joins_carries, number_carries, on_live_carries, sets_mask_carries, sets_policy_carries, sets_priority_carries, tick_ends_carries, times_out_carries}
+use Rattle.laws_places.proofs.CarriedCalls.{cancels_carries, dispatches_carries, finishes_carries, interrupts_carries, items_of_carried, joins_carries, moment_carries, number_carries, on_live_carries, sets_mask_carries, sets_policy_carries, sets_priority_carries, sets_real_clock_carries, tick_ends_carries, times_out_carries}
 
 module _ {P Q : Type 0} (carry : BodyOf → P → Q) (p : Bodies P) (q : Bodies Q) (a : Agree carry p q) where
   -- ---- frames begin where the bodies do
@@ -214,24 +216,27 @@ module _ {P Q : Type 0} (carry : BodyOf → P → Q) (p : Bodies P) (q : Bodies 
   call_effect_carries by (call.Setsched u new) s = sets_policy_carries carry by u new s
   call_effect_carries by (call.Lock k) s = locks_carries carry by k None s
   call_effect_carries by (call.Timedlock k at) s =
-      ap (λ (n : ℕ). call_effect q by (call.Timedlock k (operand.Num n)) (T carry s)) (number_carries carry s.machine by.thread at) ∙ locks_carries carry by k (Some (number_of s.machine by.thread at)) s
+      ap (λ (n : ℕ). call_effect q by (call.Timedlock k (moment.Monotonic (operand.Num n))) (T carry s)) (moment_carries carry s.machine by.thread at) ∙ locks_carries carry by k (Some (moment_of s.machine by.thread at)) s
   call_effect_carries by (call.Trylock k) s = tries_lock_carries carry by k s
   call_effect_carries by (call.Unlock k) s = unlocks_carries carry by k s
   call_effect_carries by (call.Wait c k) s = waits_carries carry by c k None s
   call_effect_carries by (call.Timedwait c k at) s =
-      ap (λ (n : ℕ). call_effect q by (call.Timedwait c k (operand.Num n)) (T carry s)) (number_carries carry s.machine by.thread at) ∙ waits_carries carry by c k (Some (number_of s.machine by.thread at)) s
+      ap (λ (n : ℕ). call_effect q by (call.Timedwait c k (moment.Monotonic (operand.Num n))) (T carry s)) (moment_carries carry s.machine by.thread at) ∙ waits_carries carry by c k (Some (moment_of s.machine by.thread at)) s
   call_effect_carries by (call.Signal c) s = signals_carries carry by c s
   call_effect_carries by (call.Broadcast c) s = broadcasts_carries carry by c s
   call_effect_carries by (call.SemWait k) s = waits_semaphore_carries carry by k None s
   call_effect_carries by (call.SemTimedwait k at) s =
-      ap (λ (n : ℕ). call_effect q by (call.SemTimedwait k (operand.Num n)) (T carry s)) (number_carries carry s.machine by.thread at) ∙ waits_semaphore_carries carry by k (Some (number_of s.machine by.thread at)) s
+      ap (λ (n : ℕ). call_effect q by (call.SemTimedwait k (moment.Monotonic (operand.Num n))) (T carry s)) (moment_carries carry s.machine by.thread at) ∙ waits_semaphore_carries carry by k (Some (moment_of s.machine by.thread at)) s
   call_effect_carries by (call.SemTrywait k) s = tries_semaphore_carries carry by k s
   call_effect_carries by (call.SemGetvalue k) s = returns_carries carry by res.Zero _ s
   call_effect_carries by (call.SemPost k) s = posts_carries carry by k s
   call_effect_carries by (call.Nanosleep n) s = sleeps_until_carries carry by (s.machine.now + n) s
   call_effect_carries by (call.ClockNanosleep at) s =
-      ap (λ (n : ℕ). call_effect q by (call.ClockNanosleep (operand.Num n)) (T carry s)) (number_carries carry s.machine by.thread at) ∙ sleeps_until_carries carry by (number_of s.machine by.thread at) s
+      ap (λ (n : ℕ). call_effect q by (call.ClockNanosleep (moment.Monotonic (operand.Num n))) (T carry s)) (moment_carries carry s.machine by.thread at) ∙ sleeps_until_carries carry by (moment_of s.machine by.thread at) s
   call_effect_carries by call.Gettime s = returns_carries carry by res.Zero _ s
+  call_effect_carries by call.RealGettime s = returns_carries carry by res.Zero _ s
+  call_effect_carries by (call.ClockSettime at) s =
+      ap (λ (n : ℕ). sets_real_clock by n (T carry s)) (number_carries carry s.machine by.thread at) ∙ sets_real_clock_carries carry by (number_of s.machine by.thread at) s
   call_effect_carries by (call.TimerSettimeRel k n interval) s = returns_carries carry by res.Zero 0 (call_timer s)
     where
       call_timer : Turn P → Turn P
@@ -259,12 +264,12 @@ module _ {P Q : Type 0} (carry : BodyOf → P → Q) (p : Bodies P) (q : Bodies 
       ap (λ (n : ℕ). call_effect q by (call.MqSend queue len prio (operand.Num n)) (T carry s)) (number_carries carry s.machine by.thread v)
       ∙ sends_message_carries carry by queue len (record { priority = prio; value = number_of s.machine by.thread v }) None s
   call_effect_carries by (call.MqTimedsend queue len prio v at) s =
-      ap₂ (λ (n k : ℕ). call_effect q by (call.MqTimedsend queue len prio (operand.Num n) (operand.Num k)) (T carry s)) (number_carries carry s.machine by.thread v) (number_carries carry s.machine by.thread at)
-      ∙ sends_message_carries carry by queue len (record { priority = prio; value = number_of s.machine by.thread v }) (Some (number_of s.machine by.thread at)) s
+      ap₂ (λ (n k : ℕ). call_effect q by (call.MqTimedsend queue len prio (operand.Num n) (moment.Monotonic (operand.Num k))) (T carry s)) (number_carries carry s.machine by.thread v) (moment_carries carry s.machine by.thread at)
+      ∙ sends_message_carries carry by queue len (record { priority = prio; value = number_of s.machine by.thread v }) (Some (moment_of s.machine by.thread at)) s
   call_effect_carries by (call.MqReceive queue) s = receives_message_carries carry by queue None s
   call_effect_carries by (call.MqTimedreceive queue at) s =
-      ap (λ (n : ℕ). call_effect q by (call.MqTimedreceive queue (operand.Num n)) (T carry s)) (number_carries carry s.machine by.thread at)
-      ∙ receives_message_carries carry by queue (Some (number_of s.machine by.thread at)) s
+      ap (λ (n : ℕ). call_effect q by (call.MqTimedreceive queue (moment.Monotonic (operand.Num n))) (T carry s)) (moment_carries carry s.machine by.thread at)
+      ∙ receives_message_carries carry by queue (Some (moment_of s.machine by.thread at)) s
   call_effect_carries by (call.MqNotify queue signal v) s =
       ap (λ (n : ℕ). call_effect q by (call.MqNotify queue signal (operand.Num n)) (T carry s)) (number_carries carry s.machine by.thread v)
       ∙ asks_notification_carries carry by queue (record { signal = signal; value = number_of s.machine by.thread v }) s

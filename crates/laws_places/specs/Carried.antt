@@ -39,6 +39,7 @@ module _ {P Q : Type 0} (carry : BodyOf → P → Q) where
   abbrev pub machine_carried : Machine P → Machine Q
   machine_carried m = record {
     now = m.now;
+    clock = m.clock;
     last = m.last;
     next_serial = m.next_serial;
     killed = m.killed;

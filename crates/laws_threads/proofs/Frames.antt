@@ -194,6 +194,7 @@ module _ (script : Script) (ok : IsPlaceable script) where
     waits = λ now u th caller w known makes q. same th _ refl refl q;
     again = λ now u th w c k how waits may is q. same th _ refl refl q;
     waiting = λ now u th w q is. tt;
+    moves = λ now u th move q. same th _ refl refl q;
     starts = λ now u th mask lt q. record {
       all = (record { placed = placed_same code _ _ (thread_begins script ok u lt) refl refl refl refl; plain = λ inner. absurd (not_main frame.Main refl inner) }, tt);
       ordered = (tt, tt);

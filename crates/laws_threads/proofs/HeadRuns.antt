@@ -45,6 +45,7 @@ module _ {P : Type 0} (bodies : Bodies P) (count : ℕ) (T : ℕ → ℕ) where
     waits = λ now u th caller w known makes q. q;
     again = λ now u th w c k how waits may is q. q;
     waiting = λ now u th w q is. tt;
+    moves = λ now u th move q. q;
     starts = λ now u th mask lt q. q;
     activates = λ now u th q. q;
     refills = λ now u th q. q;

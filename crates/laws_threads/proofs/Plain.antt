@@ -42,7 +42,7 @@ cleanups_plain (decl.Named name (kind.Mutex protocol recursive) ∷ decls) u h =
 cleanups_plain (decl.Named name kind.Cond ∷ decls) u h = cleanups_plain decls u h.1
 cleanups_plain (decl.Named name (kind.Sem value) ∷ decls) u h = cleanups_plain decls u h.1
 cleanups_plain (decl.Named name (kind.Queue depth longest nonblock) ∷ decls) u h = cleanups_plain decls u h.1
-cleanups_plain (decl.Named name (kind.Timer signal value) ∷ decls) u h = cleanups_plain decls u h.1
+cleanups_plain (decl.Named name (kind.Timer signal value real) ∷ decls) u h = cleanups_plain decls u h.1
 cleanups_plain (decl.Action signal handler ∷ decls) u h = cleanups_plain decls u h.1
 
 handlers_plain : (decls : List Decl) (n : ℕ) → DeclsGuarded decls → EachCall IsPlain (slice_index_or (filter_map (named handler_kind) decls) n Nothing)
@@ -55,7 +55,7 @@ handlers_plain (decl.Named name (kind.Mutex protocol recursive) ∷ decls) n h =
 handlers_plain (decl.Named name kind.Cond ∷ decls) n h = handlers_plain decls n h.1
 handlers_plain (decl.Named name (kind.Sem value) ∷ decls) n h = handlers_plain decls n h.1
 handlers_plain (decl.Named name (kind.Queue depth longest nonblock) ∷ decls) n h = handlers_plain decls n h.1
-handlers_plain (decl.Named name (kind.Timer signal value) ∷ decls) n h = handlers_plain decls n h.1
+handlers_plain (decl.Named name (kind.Timer signal value real) ∷ decls) n h = handlers_plain decls n h.1
 handlers_plain (decl.Action signal handler ∷ decls) n h = handlers_plain decls n h.1
 
 module _ (script : Script) (guards : DeclsGuarded script.decls) where

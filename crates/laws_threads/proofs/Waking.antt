@@ -15,7 +15,7 @@ use Rattle.rules_machine.specs.Waiters.{Waiter, best_waiter, somebody_waits, wai
 use Rattle.rules_machine.specs.Turns.{Caller, Turn, answered, changes, changes_mutex, is_late, moves, moves_if, returns, tells}
 use Rattle.rules_machine.specs.CallNames.{name_of}
 use Rattle.rules_machine.specs.Servers.{activates_if, activates_server, amount_of, at_once, high_server, plans_server, refills_server, regains_high, with_server}
-use Rattle.rules_machine.specs.Waking.{blocks, blocks_unordered, call_in, cancelled_value, ending_with, put_to_wait, started, starts, wakes, wakes_cancelled, wakes_telling, woken}
+use Rattle.rules_machine.specs.Waking.{blocks, blocks_unordered, call_in, cancelled_value, ending_with, last_result, last_value, put_to_wait, started, starts, wakes, wakes_cancelled, wakes_telling, woken}
 use Rattle.rules_machine.specs.Mutexes.{LockAnswer, counted_up, counts, hands_over, is_free, lock_answer, locks, carries_out_lock, moves_unless_boosted, must_wait, owned_by, owns, owns_boosting, refused, releases, returns_from_wait, taken_by, takes, unlocks, waits_for_mutex, wakes_owner}
 use Rattle.rules_machine.specs.Conditions.{broadcasts, contends, reacquires_or_waits, released_mutex, signals, signals_best_times, signals_waiter, waits, waits_on_condition, waits_with_other_mutex}
 use Rattle.rules_machine.specs.Semaphores.{blocks_unless_late}
@@ -103,13 +103,15 @@ module _ {P : Type 0} (given : Given P) (Q : ℕ → ℕ → Thread P → Type 0
       let x = tells e (moves t (changes t (woken r value) s)) in
       activates_acts t u (at_once (high_server (thread_at x.machine t).server)) x ∙ changed-keeps no_thread t u (woken r value) request_acts (λ th. refl) s.machine.threads
 
-  wakes_cancels : (t : ℕ) (s : Turn P) → Cancels given (thread_at s.machine t) → Cancels given (thread_at (wakes_telling (event.Cancel t) t res.Zero 0 s).machine t)
-  wakes_cancels t s (inl acts) = inl (wakes_acts (event.Cancel t) t t res.Zero 0 s ∙ acts)
-  wakes_cancels t s (inr over) = inr over
+  wakes_cancels : (t : ℕ) (r : Res) (value : ℕ) (s : Turn P) → Cancels given (thread_at s.machine t) → Cancels given (thread_at (wakes_telling (event.Cancel t) t r value s).machine t)
+  wakes_cancels t r value s (inl acts) = inl (wakes_acts (event.Cancel t) t t r value s ∙ acts)
+  wakes_cancels t r value s (inr over) = inr over
 
   pub wakes_cancelled_hold : (t : ℕ) (s : Turn P) → Cancels given (thread_at s.machine t) → Holding s → Holding (wakes_cancelled t s)
   wakes_cancelled_hold t s may h =
-      ending_hold t cancelled_value (wakes_telling (event.Cancel t) t res.Zero 0 s) (inr (wakes_cancels t s may)) (wakes_telling_hold (event.Cancel t) t res.Zero 0 s h)
+      let result = last_result t s.machine in
+      let value = last_value t s.machine in
+      ending_hold t cancelled_value (wakes_telling (event.Cancel t) t result value s) (inr (wakes_cancels t result value s may)) (wakes_telling_hold (event.Cancel t) t result value s h)
 
   pub starts_hold : (t mask : ℕ) (s : Turn P) → Holding s → Holding (starts given.bodies t mask s)
   starts_hold t mask s h =

@@ -85,6 +85,7 @@ module _ {P : Type 0} (bodies : Bodies P) (count : ℕ) where
     waits = λ now u th caller w known makes q. same now th _ refl refl refl q;
     again = λ now u th w c k how waits may is q. same now th _ refl refl refl q;
     waiting = λ now u th w q is. tt;
+    moves = λ now u th move q. same now th _ refl refl refl q;
     starts = λ now u th mask lt q. fresh now th _ refl refl (high_new now th.policy now) q;
     activates = λ now u th q. counted_by now th _ refl refl (high_kept now (activate now) th.server (λ s. refl) q.high) q;
     refills = λ now u th q. counted_by now th _ refl refl (high_kept now refill th.server (λ s. refill_high s.pending s) q.high) q;

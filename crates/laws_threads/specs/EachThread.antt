@@ -18,6 +18,7 @@ use Rattle.rules_machine.specs.declared.thread.CondEnd.{CondEnd}
 use Rattle.rules_machine.specs.declared.thread.CondEnd.TheVariants as cond_end
 use Rattle.rules_machine.specs.Lists.{is}
 use Rattle.rules_machine.specs.Bodies.{Bodies}
+use Rattle.rules_machine.specs.Clock.{thread_moved}
 use Rattle.rules_machine.specs.State.{Joiner, Machine, Message, SignalRecord, Thread, Wait, Waiting, for_condition, for_end, for_message, for_mutex, for_mutex_again, for_room, for_semaphore, for_signal, for_time, has_joined, nobody, waits_to_join}
 use Rattle.rules_machine.specs.Threads.{catches_signal, is_main, thread_in, top_kind, waiting_in}
 use Rattle.rules_machine.specs.Turns.{answered}
@@ -104,6 +105,8 @@ pub record Closed {P : Type 0} (given : Given P) (Q : ℕ → ℕ → Thread P �
   pub again : (now u : ℕ) (th : Thread P) (w : Waiting) (c k : ℕ) (how : CondEnd) → given.Waits (for_condition c k) → (how ≡ cond_end.Cancelled → Cancels given th) → w.wait ≡ for_mutex_again k how →
       Q now u th → Q now u (put_to_wait w th)
   pub waiting : (now u : ℕ) (th : Thread P) (w : Waiting) → Q now u th → waiting_in th.status ≡ Some w → given.Waits w.wait
+  -- the tick at which its wait ends moves as CLOCK_REALTIME is set
+  pub moves : (now u : ℕ) (th : Thread P) (move : ℕ → ℕ) → Q now u th → Q now u (thread_moved move th)
   pub starts : (now u : ℕ) (th : Thread P) (mask : ℕ) → u < given.count → Q now u th → Q now u (started given.bodies u mask now th)
   -- its server is activated, refilled, or plans a replenishment
   pub activates : (now u : ℕ) (th : Thread P) → Q now u th → Q now u (with_server (activate now) th)

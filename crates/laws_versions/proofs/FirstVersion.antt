@@ -46,9 +46,9 @@ use Rattle.script_table.specs.LineFaults.{fits}
 use Rattle.script_table.specs.Table.{patterns, declaration_patterns, step_patterns, call_patterns}
 use Rattle.script_table.specs.Structure.{Said, row_of_line, said_from}
 use Rattle.script_table.specs.Names.{Entry, declared}
-use Rattle.script_table.specs.Operands.{map_two, map_three, map_four, map_five, number_in, amount_at, priority_at, operand_at, signal_at, signals_at, name_at, named_at, server_at, fifo_at, rr_at, sporadic_at}
+use Rattle.script_table.specs.Operands.{amount_at, fifo_at, map_five, map_four, map_three, map_two, moment_at, name_at, named_at, number_in, operand_at, priority_at, rr_at, server_at, signal_at, signals_at, sporadic_at, real_at}
 use Rattle.script_table.specs.Calls.{thread_call, mutex_call, sem_call, time_call, signal_call, message_call, call_of}
-use Rattle.script_table.specs.Meaning.{protect, queue, kind_of_object, object_decl, ignores, runs, action_decl, thread_at, thread_dormant, kind_of_body}
+use Rattle.script_table.specs.Meaning.{protect, queue, kind_of_object, object_decl, ignores, runs, action_decl, thread_at, thread_dormant, kind_of_body, timer}
 use Rattle.script_table.specs.Build.{script_of}
 use Rattle.script_table.specs.Read.{read}
 use Rattle.laws_canonical_text.proofs.Accepted.{is_read}
@@ -142,25 +142,31 @@ module _ (es : List Entry) (words : List (List ℕ)) where
 
   mutex_plain : (f : MutexCall) → PlainCall (mutex_call es f words)
   mutex_plain mutex.Lock = one calls.Lock (λ k. tt) (named_at Mutex es 1 words)
-  mutex_plain mutex.Timedlock = two calls.Timedlock (λ k at. tt) (named_at Mutex es 1 words) (operand_at 2 words)
+  mutex_plain mutex.Timedlock = two calls.Timedlock (λ k at. tt) (named_at Mutex es 1 words) (moment_at 2 words)
+  mutex_plain mutex.TimedlockReal = two calls.Timedlock (λ k at. tt) (named_at Mutex es 1 words) (real_at 2 words)
   mutex_plain mutex.Trylock = one calls.Trylock (λ k. tt) (named_at Mutex es 1 words)
   mutex_plain mutex.Unlock = one calls.Unlock (λ k. tt) (named_at Mutex es 1 words)
   mutex_plain mutex.Wait = two calls.Wait (λ c k. tt) (named_at Cond es 1 words) (named_at Mutex es 2 words)
-  mutex_plain mutex.Timedwait = three calls.Timedwait (λ c k at. tt) (named_at Cond es 1 words) (named_at Mutex es 2 words) (operand_at 3 words)
+  mutex_plain mutex.Timedwait = three calls.Timedwait (λ c k at. tt) (named_at Cond es 1 words) (named_at Mutex es 2 words) (moment_at 3 words)
+  mutex_plain mutex.TimedwaitReal = three calls.Timedwait (λ c k at. tt) (named_at Cond es 1 words) (named_at Mutex es 2 words) (real_at 3 words)
   mutex_plain mutex.Signal = one calls.Signal (λ c. tt) (named_at Cond es 1 words)
   mutex_plain mutex.Broadcast = one calls.Broadcast (λ c. tt) (named_at Cond es 1 words)
 
   sem_plain : (f : SemCall) → PlainCall (sem_call es f words)
   sem_plain sem.Wait = one calls.SemWait (λ k. tt) (named_at Sem es 1 words)
-  sem_plain sem.Timedwait = two calls.SemTimedwait (λ k at. tt) (named_at Sem es 1 words) (operand_at 2 words)
+  sem_plain sem.Timedwait = two calls.SemTimedwait (λ k at. tt) (named_at Sem es 1 words) (moment_at 2 words)
+  sem_plain sem.TimedwaitReal = two calls.SemTimedwait (λ k at. tt) (named_at Sem es 1 words) (real_at 2 words)
   sem_plain sem.Trywait = one calls.SemTrywait (λ k. tt) (named_at Sem es 1 words)
   sem_plain sem.Getvalue = one calls.SemGetvalue (λ k. tt) (named_at Sem es 1 words)
   sem_plain sem.Post = one calls.SemPost (λ k. tt) (named_at Sem es 1 words)
 
   time_plain : (f : TimeCall) → PlainCall (time_call es f words)
   time_plain time.Nanosleep = one calls.Nanosleep (λ n. tt) (amount_at 1 words)
-  time_plain time.ClockNanosleep = one calls.ClockNanosleep (λ at. tt) (operand_at 1 words)
+  time_plain time.ClockNanosleep = one calls.ClockNanosleep (λ at. tt) (moment_at 1 words)
+  time_plain time.ClockNanosleepReal = one calls.ClockNanosleep (λ at. tt) (real_at 1 words)
   time_plain time.Gettime = tt
+  time_plain time.RealGettime = tt
+  time_plain time.ClockSettime = one calls.ClockSettime (λ v. tt) (operand_at 1 words)
   time_plain time.TimerSettimeRel = three calls.TimerSettimeRel (λ k n i. tt) (named_at Timer es 1 words) (amount_at 3 words) (amount_at 4 words)
   time_plain time.TimerSettimeAbs = three calls.TimerSettimeAbs (λ k at i. tt) (named_at Timer es 1 words) (operand_at 3 words) (amount_at 4 words)
   time_plain time.TimerGettime = one calls.TimerGettime (λ k. tt) (named_at Timer es 1 words)
@@ -179,9 +185,12 @@ module _ (es : List Entry) (words : List (List ℕ)) where
   message_plain : (f : MessageCall) → PlainCall (message_call es f words)
   message_plain message.Send = four calls.MqSend (λ q len prio v. tt) (named_at Queue es 1 words) (number_in 0 65536 2 words) (number_in 0 31 3 words) (operand_at 4 words)
   message_plain message.Timedsend =
-      five calls.MqTimedsend (λ q len prio v at. tt) (named_at Queue es 1 words) (number_in 0 65536 2 words) (number_in 0 31 3 words) (operand_at 4 words) (operand_at 5 words)
+      five calls.MqTimedsend (λ q len prio v at. tt) (named_at Queue es 1 words) (number_in 0 65536 2 words) (number_in 0 31 3 words) (operand_at 4 words) (moment_at 5 words)
+  message_plain message.TimedsendReal =
+      five calls.MqTimedsend (λ q len prio v at. tt) (named_at Queue es 1 words) (number_in 0 65536 2 words) (number_in 0 31 3 words) (operand_at 4 words) (real_at 5 words)
   message_plain message.Receive = one calls.MqReceive (λ q. tt) (named_at Queue es 1 words)
-  message_plain message.Timedreceive = two calls.MqTimedreceive (λ q at. tt) (named_at Queue es 1 words) (operand_at 2 words)
+  message_plain message.Timedreceive = two calls.MqTimedreceive (λ q at. tt) (named_at Queue es 1 words) (moment_at 2 words)
+  message_plain message.TimedreceiveReal = two calls.MqTimedreceive (λ q at. tt) (named_at Queue es 1 words) (real_at 2 words)
   message_plain message.Notify = three calls.MqNotify (λ q sig v. tt) (named_at Queue es 1 words) (signal_at 2 words) (operand_at 3 words)
 
   call_plain : (f : CallForm) → IsFirst (form.Call f) → PlainCall (call_of es f words)
@@ -219,7 +228,7 @@ named_plain (Some name) (Some (kinds.Mutex protocol recursive)) h = tt
 named_plain (Some name) (Some kinds.Cond) h = tt
 named_plain (Some name) (Some (kinds.Sem value)) h = tt
 named_plain (Some name) (Some (kinds.Queue depth longest nonblock)) h = tt
-named_plain (Some name) (Some (kinds.Timer sig value)) h = tt
+named_plain (Some name) (Some (kinds.Timer sig value real)) h = tt
 
 protect_plain : (recursive : Bool) (o : Option ℕ) → IfSome (protect recursive o) KindPlain
 protect_plain recursive None = tt
@@ -234,10 +243,10 @@ sem_kind_plain : (o : Option ℕ) → IfSome (option_map kinds.Sem o) KindPlain
 sem_kind_plain None = tt
 sem_kind_plain (Some value) = tt
 
-timer_plain : (o p : Option ℕ) → IfSome (map_two kinds.Timer o p) KindPlain
-timer_plain None p = tt
-timer_plain (Some sig) None = tt
-timer_plain (Some sig) (Some value) = tt
+timer_plain : (real : Bool) (o p : Option ℕ) → IfSome (timer real o p) KindPlain
+timer_plain real None p = tt
+timer_plain real (Some sig) None = tt
+timer_plain real (Some sig) (Some value) = tt
 
 object_kind_plain : (f : ObjectForm) (words : List (List ℕ)) → IfSome (kind_of_object f words) KindPlain
 object_kind_plain object.MutexNone words = tt
@@ -250,7 +259,8 @@ object_kind_plain object.Cond words = tt
 object_kind_plain object.Sem words = sem_kind_plain (number_in 0 32767 2 words)
 object_kind_plain object.Queue words = queue_plain false (number_in 1 64 2 words) (number_in 1 65536 3 words)
 object_kind_plain object.QueueNonblock words = queue_plain true (number_in 1 64 2 words) (number_in 1 65536 3 words)
-object_kind_plain object.Timer words = timer_plain (signal_at 2 words) (amount_at 3 words)
+object_kind_plain object.Timer words = timer_plain false (signal_at 2 words) (amount_at 3 words)
+object_kind_plain object.TimerReal words = timer_plain true (signal_at 2 words) (amount_at 3 words)
 
 object_plain : (f : ObjectForm) (words : List (List ℕ)) → IfSome (object_decl f words) DeclPlain
 object_plain f words = named_plain (name_at 1 words) (kind_of_object f words) (object_kind_plain f words)

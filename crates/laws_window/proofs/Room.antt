@@ -22,6 +22,7 @@ use Rattle.rules_machine.specs.Cancellation.{without_cleanup}
 use Rattle.rules_machine.specs.Scheduling.{with_priority}
 use Rattle.rules_machine.specs.DueItems.{has_come}
 use Rattle.rules_moves.specs.Moves.{Core, KeepsAwake, alters, begins, blocks_for, blocks_plainly, core_of, drops, ends_with, enters_frame, leaves_frame, lives_no_more, prices, pushed, pushes, recasts, refills_one, rejoins, renews_with, wakes_with}
+use Rattle.rules_moves.proofs.Cores.{dormant_seen, same_read}
 use Rattle.rules_moves.proofs.Waiters.OfThreads.{changed_is}
 use Rattle.laws_strict_server.proofs.Sums.{amount_if, early, planned_early}
 
@@ -176,7 +177,7 @@ module _ (p : Parameters) (d h K : ℕ) where
     of_core : (a b : Thread P) → core_of a ≡ core_of b → Has b → Has a
     of_core a b e q = record {
       room = λ x k. q.room x (sym (ap (λ (c : Core P). c.server) e) ∙ k);
-      asleep = λ k. let g = q.asleep (sym (ap (λ (c : Core P). is_dormant c.status) e) ∙ k) in (ap (λ (c : Core P). c.policy) e ∙ g.0, g.1);
+      asleep = λ k. let g = q.asleep (same_read is_dormant dormant_seen b a (sym e) ∙ k) in (ap (λ (c : Core P). c.policy) e ∙ g.0, g.1);
     }
 
     -- a change that leaves status, policy and server

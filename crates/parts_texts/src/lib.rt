@@ -7,7 +7,9 @@
 #![tactic(auto)]
 
 mod next;
+mod slots;
 mod texts;
 
 pub use next::NextText;
+pub use slots::Slots;
 pub use texts::Texts;

@@ -52,6 +52,15 @@ impl NextText {
         self.faults = 0;
     }
 
+    /// It is this text from here on, as where no write has failed.
+    pub fn set(&mut self, text: &[u8])
+        requires { length text.now ≤ self.old.room }
+        ensures { self.new ≡ record self.old { text = text.now; faults = 0 } }
+    {
+        self.clear();
+        self.text.extend_from_slice(text).unwrap();
+    }
+
     /// Costs nothing when it runs: where a write has failed the room is used up.
     pub fn know_use(&self)
         ensures { 0 < self.now.faults → length self.now.text ≡ self.now.room }

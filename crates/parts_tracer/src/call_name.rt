@@ -1,5 +1,5 @@
 //! The words of calls.
-ghost use Rattle.std.specs.Prelude.{◌≡◌, ◌≤◌, ◌+◌, length};
+ghost use Rattle.std.specs.Prelude.{◌≡◌, ◌≤◌, ◌+◌, length, take};
 ghost use Rattle.parts_bytes.specs.Placed.{Placed};
 ghost use Rattle.words_trace.specs.Calls.{call_word};
 
@@ -7,7 +7,7 @@ use parts_bytes::place_within;
 use words_trace::CallName;
 
 // The word of each call, with blanks behind it, and how long it is.
-static WORDS: [([u8; 16], usize); 41] = [
+static WORDS: [([u8; 16], usize); 43] = [
     (*b"yield           ", 5),
     (*b"create          ", 6),
     (*b"join            ", 4),
@@ -35,6 +35,8 @@ static WORDS: [([u8; 16], usize); 41] = [
     (*b"nanosleep       ", 9),
     (*b"clock_nanosleep ", 15),
     (*b"gettime         ", 7),
+    (*b"real_gettime    ", 12),
+    (*b"clock_settime   ", 13),
     (*b"timer_settime   ", 13),
     (*b"timer_gettime   ", 13),
     (*b"timer_getoverrun", 16),
@@ -51,13 +53,24 @@ static WORDS: [([u8; 16], usize); 41] = [
     (*b"mq_notify       ", 9),
 ];
 
+// A text that begins with the first word of a call, and how long the word is.
+#[inline(always)]
+fn entry(call: CallName) -> (&'static [u8], usize)
+    ensures word { take result.1 result.0.now ≡ call_word call }
+    ensures text { length result.0.now ≡ 16 }
+    ensures short { result.1 ≤ 16 }
+{
+    let (text, len) = &WORDS[call as usize];
+    (text.as_slice(), *len)
+}
+
 /// The first word of a call, as a script spells it.
 pub fn call_text(call: CallName) -> &'static [u8]
     ensures word { result.now ≡ call_word call }
     ensures short { length result.now ≤ 16 }
 {
-    let (text, len) = &WORDS[call as usize];
-    &text[..*len]
+    let (text, len) = entry(call);
+    &text[..len]
 }
 
 // Puts the word at a place with room for any, and answers the place behind it.
@@ -67,6 +80,6 @@ pub(crate) fn place_call_text(call: CallName, buf: &mut [u8], at: usize) -> usiz
     ensures placed { Placed buf.old buf.new at (call_word call) result }
     ensures within { result ≤ at + 16 }
 {
-    let (text, len) = &WORDS[call as usize];
-    place_within::<16>(buf, at, text, *len)
+    let (text, len) = entry(call);
+    place_within::<16>(buf, at, text, len)
 }

@@ -31,7 +31,7 @@ far_list base d e = ap (λ b. if b then d % 2048 else 2048 + list_of (place 7 (b
 later_block : (base d : ℕ) → base < d → d / 2048 ≢ base / 2048 → base / 2048 < d / 2048
 later_block base d l apart = ⊎_elim (λ h. h) (λ h. absurd (apart (omega (arith, h, l)))) (lt_or (base / 2048) (d / 2048))
 
-pub list_small : (base d : ℕ) → base < d → d ≤ 2 * 10 ^ 18 → list_for base d < 3840
+pub list_small : (base d : ℕ) → base < d → d ≤ 3 * 10 ^ 18 → list_for base d < 3840
 list_small base d l small = ⊎_elim
     (λ same. let e = near_list base d same in omega (arith, e))
     (λ apart.
@@ -107,7 +107,7 @@ by_list base a b la lb l = ⊎_elim
     (equal (a / 2048) (base / 2048))
 
 -- of two ticks of one list beyond the lowest level the later has a lower list once the wheel stands at the first
-lower : (base to d : ℕ) → base < to → to / 2048 ≢ base / 2048 → d / 2048 ≢ base / 2048 → list_for base d ≡ list_for base to → to < d → d ≤ 2 * 10 ^ 18 → list_for to d ≢ list_for base to
+lower : (base to d : ℕ) → base < to → to / 2048 ≢ base / 2048 → d / 2048 ≢ base / 2048 → list_for base d ≡ list_for base to → to < d → d ≤ 3 * 10 ^ 18 → list_for to d ≢ list_for base to
 lower base to d lt tn dn same l small other =
     let f : list_for base to ≡ 2048 + list_of (place 7 (base / 2048) (to / 2048)) = far_list base to tn in ⊎_elim
     (λ dt. let e = near_list to d dt in omega (arith, e, f, other))
@@ -143,7 +143,7 @@ module _ (base to d : ℕ) (lt : base < to) (ld : base < d) where
       (equal (d / 2048) (base / 2048)))
       (equal (to / 2048) (base / 2048))
 
-  pub goes_elsewhere : list_for base d ≡ list_for base to → to < d → d ≤ 2 * 10 ^ 18 → list_for to d ≢ list_for base to
+  pub goes_elsewhere : list_for base d ≡ list_for base to → to < d → d ≤ 3 * 10 ^ 18 → list_for to d ≢ list_for base to
   goes_elsewhere same l small other = ⊎_elim
       (λ tn. ⊎_elim
       (λ dn. let e = near_list base to tn in let f = near_list base d dn in omega (arith, e, f, same, tn, dn, l))

@@ -50,7 +50,7 @@ front_led base id d least dues is lt less inside l = (
 )
 
 -- a tick before all that is due is before the least later due tick
-pub before_least : (base d early least : ℕ) (dues : List (Option ℕ)) → IsLeastLater base dues least → IsEarly dues early → d < early → d ≤ 2 * 10 ^ 18 → d < least
+pub before_least : (base d early least : ℕ) (dues : List (Option ℕ)) → IsLeastLater base dues least → IsEarly dues early → d < early → d ≤ 3 * 10 ^ 18 → d < least
 before_least base d early least dues is none less small = ⊎_elim (λ never. omega (arith, never, small)) (λ h. let l = none h.0 least h.1 in omega (arith, l, less)) is.holds
 
 -- an item that alone is due then stays so where another falls due later

@@ -116,7 +116,7 @@ module _ (base id d : ℕ) (dues : List (Option ℕ)) (lists new : List (List �
   pub stands_later : base < d → on_a_list id lists ≡ true
   stands_later lt = on_at id (list_for base d) lists (filed.later id d due lt)
 
-pub still_small : (dues : List (Option ℕ)) (id : ℕ) (v : Option ℕ) → AreSmall dues → ((d : ℕ) → v ≡ Some d → d ≤ 2 * 10 ^ 18) → id < length dues → AreSmall (set dues id v)
+pub still_small : (dues : List (Option ℕ)) (id : ℕ) (v : Option ℕ) → AreSmall dues → ((d : ℕ) → v ≡ Some d → d ≤ 3 * 10 ^ 18) → id < length dues → AreSmall (set dues id v)
 still_small dues id v small here l i d h = ⊎_elim
     (λ same. here d (sym (set_same id v dues l) ∙ subst (λ m. due_of m (set dues id v) ≡ Some d) same h))
     (λ other. small i d (sym (set_other id i v dues other) ∙ h))
@@ -194,7 +194,7 @@ pub least_at_lowest : (base : ℕ) (dues : List (Option ℕ)) (lists : List (Lis
 least_at_lowest base dues lists occupied passed list tick filed marked small low of =
     let x = has_head (list_at lists list) (sym (marked list) ∙ low.itself) in
     let o = filed.only_later x.0 list x.1 in
-    let most : tick ≤ 2 * 10 ^ 18 = (let s = small x.0 o.0 o.1 in let t = of.least x.0 o.0 x.1 o.1 in omega (arith, s, t)) in
+    let most : tick ≤ 3 * 10 ^ 18 = (let s = small x.0 o.0 o.1 in let t = of.least x.0 o.0 x.1 o.1 in omega (arith, s, t)) in
     let holder = ⊎_elim (λ never. absurd (omega (arith, never, most))) (λ h. h) of.holds in
     let stood = filed.only_later holder.0 list holder.1 in
     let same = same_due dues holder.0 tick stood.0 holder.2 stood.1 in
@@ -241,7 +241,7 @@ none_held [] h = refl
 none_held (x ∷ xs) h = absurd (let l : length (x ∷ xs) ≤ 0 = ltb-false 0 (length (x ∷ xs)) h in let m : suc (length xs) ≤ 0 = l in omega (arith, m))
 
 module _ (base to target : ℕ) (dues : List (Option ℕ)) (lists : List (List ℕ)) (occupied passed : List ℕ) (filed : AreFiled base dues lists passed) (marked : AreMarked lists occupied)
-    (is : IsLeastLater base dues to) (most : to ≤ 2 * 10 ^ 18) where
+    (is : IsLeastLater base dues to) (most : to ≤ 3 * 10 ^ 18) where
   holder : (i : ℕ) × (due_of i dues ≡ Some to) × (base < to)
   holder = ⊎_elim (λ never. absurd (omega (arith, never, most))) (λ h. h) is.holds
 
@@ -278,7 +278,7 @@ module _ (base to target : ℕ) (dues : List (Option ℕ)) (lists new : List (Li
 
 -- ---- the item that is due next leaves, and the wheel goes on to its tick
 
-pub comes_next : (base to : ℕ) (dues : List (Option ℕ)) → IsLeastLater base dues to → to ≤ 2 * 10 ^ 18 → base < to
+pub comes_next : (base to : ℕ) (dues : List (Option ℕ)) → IsLeastLater base dues to → to ≤ 3 * 10 ^ 18 → base < to
 comes_next base to dues is most = ⊎_elim (λ never. absurd (omega (arith, never, most))) (λ h. h.2) is.holds
 
 module _ (base id to : ℕ) (dues : List (Option ℕ)) (lists mid new : List (List ℕ)) (passed q : List ℕ) (filed : AreFiled base dues lists passed) (due : due_of id dues ≡ Some to) (small : AreSmall dues)

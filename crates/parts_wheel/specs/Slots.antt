@@ -31,7 +31,7 @@ pub record IsLeastLater (base : ℕ) (dues : List (Option ℕ)) (tick : ℕ) : T
   pub holds : (tick ≡ 2 ^ 64 - 1) ⊎ ((i : ℕ) × (due_of i dues ≡ Some tick) × (base < tick))
 
 abbrev pub AreSmall : List (Option ℕ) → Type 0
-AreSmall dues = (i d : ℕ) → due_of i dues ≡ Some d → d ≤ 2 * 10 ^ 18
+AreSmall dues = (i d : ℕ) → due_of i dues ≡ Some d → d ≤ 3 * 10 ^ 18
 
 -- no item of the list is due before this tick, and one is due then, or none at all
 pub record IsLeastOf (dues : List (Option ℕ)) (items : List ℕ) (tick : ℕ) : Type 0 where

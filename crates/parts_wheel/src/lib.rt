@@ -61,7 +61,7 @@ impl Model for Wheel {
 /// The slots go on from one due tick to the next, up to now. The answer is what is due next after theirs.
 fn caught_up(slots: &mut Slots, least: u64, now: u64) -> Next
     requires least { IsLeastLater slots.old.base slots.old.dues least }
-    requires now { (slots.old.base ≤ now) × (now ≤ 2 * 10 ^ 18) }
+    requires now { (slots.old.base ≤ now) × (now ≤ 3 * 10 ^ 18) }
     ensures dues { slots.new.dues ≡ slots.old.dues }
     ensures base { slots.new.base ≤ now }
     ensures least { IsLeastLater slots.new.base slots.new.dues result.tick }
@@ -117,7 +117,7 @@ fn with_passed(front: Front, tick: u64) -> Front
 /// What is due first, once an item that was not armed falls due at that tick, which is later than that of the slots.
 #[inline(always)]
 fn with_later(front: Front, id: u32, tick: u64) -> Front
-    requires { tick ≤ 2 * 10 ^ 18 }
+    requires { tick ≤ 3 * 10 ^ 18 }
     ensures { (slots : Placed) → slots.base < tick → (id < length slots.dues) × (due_of id slots.dues ≡ None) → IsFront slots front.least front.early front.lone → IsFront (record slots { dues = slice_set slots.dues id (Some tick) }) result.least result.early result.lone }
 {
     // no item's number where the tick is no later than the least

@@ -71,7 +71,7 @@ pub(crate) fn file(
     due: u64,
 )
     requires sized { IsSized links.old occupied.old × (length passed.old ≡ 16) }
-    requires node { (node < 1024) × (due ≤ 2 * 10 ^ 18) × (on_a_list node links.old.lists ≡ false) }
+    requires node { (node < 1024) × (due ≤ 3 * 10 ^ 18) × (on_a_list node links.old.lists ≡ false) }
     ensures sized { IsSized links.new occupied.new × (length passed.new ≡ 16) }
     ensures noted { IsNoted base due occupied.old occupied.new }
     ensures filed { IsFiled base node due links.old.lists links.new.lists passed.old passed.new }

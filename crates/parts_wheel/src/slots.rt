@@ -221,7 +221,7 @@ impl Slots {
 
     /// The wheel goes on to the least due tick after its own.
     pub(crate) fn advance(&mut self, to: u64)
-        requires { IsLeastLater self.old.base self.old.dues to × (to ≤ 2 * 10 ^ 18) }
+        requires { IsLeastLater self.old.base self.old.dues to × (to ≤ 3 * 10 ^ 18) }
         ensures { self.new ≡ record self.old { base = to } }
     {
         let target = self.occupied.lowest();

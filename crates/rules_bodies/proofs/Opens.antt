@@ -25,7 +25,7 @@ all-with_decl (Named name (Mutex protocol recursive)) b = sym (append-nil b.all)
 all-with_decl (Named name Cond) b = sym (append-nil b.all)
 all-with_decl (Named name (Sem value)) b = sym (append-nil b.all)
 all-with_decl (Named name (Queue depth max_len nonblock)) b = sym (append-nil b.all)
-all-with_decl (Named name (Timer sig value)) b = sym (append-nil b.all)
+all-with_decl (Named name (Timer sig value real)) b = sym (append-nil b.all)
 all-with_decl (Action sig handler) b = sym (append-nil b.all)
 
 all-with_decls : (decls : List Decl) (b : NumberedBodies Block) → (with_decls (λ body. body) decls b).all ≡ b.all ++ bodies_in decls
@@ -60,7 +60,7 @@ with_decl-flat_form (Named name (Mutex protocol recursive)) b = refl
 with_decl-flat_form (Named name Cond) b = refl
 with_decl-flat_form (Named name (Sem value)) b = refl
 with_decl-flat_form (Named name (Queue depth max_len nonblock)) b = refl
-with_decl-flat_form (Named name (Timer sig value)) b = refl
+with_decl-flat_form (Named name (Timer sig value real)) b = refl
 with_decl-flat_form (Action sig handler) b = refl
 
 pub with_decls-flat_form : (decls : List Decl) (b : NumberedBodies Block)
@@ -152,7 +152,7 @@ length-with_decl (Named name (Mutex protocol recursive)) code = omega arith
 length-with_decl (Named name Cond) code = omega arith
 length-with_decl (Named name (Sem value)) code = omega arith
 length-with_decl (Named name (Queue depth max_len nonblock)) code = omega arith
-length-with_decl (Named name (Timer sig value)) code = omega arith
+length-with_decl (Named name (Timer sig value real)) code = omega arith
 length-with_decl (Action sig handler) code = omega arith
 
 pub opens_more : (decls items : List Decl) (code new : NumberedBodies (List Op)) (i : ℕ) (d : Decl) → Opens decls code (drop i items) → i < length items

@@ -2,6 +2,7 @@
 use Rattle.std.specs.Prelude.{ℕ, List, Some, [], ◌∷◌, ◌++◌, ◌≡◌, false, codes, refl}
 use Rattle.std.specs.Fmt.{digits}
 use Rattle.words_script.specs.declared.call.Call.TheVariants as call
+use Rattle.words_script.specs.declared.call.Moment.TheVariants as moment
 use Rattle.words_script.specs.declared.call.Operand.TheVariants as operand
 use Rattle.words_script.specs.declared.policy.Policy.TheVariants as policy
 use Rattle.words_script.specs.declared.policy.Protocol.TheVariants as protocol
@@ -40,7 +41,7 @@ up_to_a_kill_script = record {
   version = 1;
   quantum = 10;
   decls =
-      decl.Named (codes "k") (kind.Timer 3 5)
+      decl.Named (codes "k") (kind.Timer 3 5 false)
       ∷ decl.Named (codes "a") (kind.Thread (policy.Fifo 5) (Some 0) (Making (call.TimerSettimeRel 0 2 0) (Making (call.Nanosleep 9) Nothing)))
       ∷ decl.Named (codes "b") (kind.Thread (policy.Fifo 4) (Some 1) (Running 9 Nothing))
       ∷ decl.Named (codes "c") (kind.Thread (policy.Fifo 3) (Some 20) Nothing)
@@ -204,7 +205,7 @@ condition_and_contenders_script = record {
   decls =
       decl.Named (codes "m") (kind.Mutex protocol.Plain false)
       ∷ decl.Named (codes "c") (kind.Cond)
-      ∷ decl.Named (codes "x") (kind.Thread (policy.Fifo 5) (Some 0) (Making (call.Lock 0) (Making (call.Timedwait 0 0 (operand.Num 20)) (Making (call.Unlock 0) Nothing))))
+      ∷ decl.Named (codes "x") (kind.Thread (policy.Fifo 5) (Some 0) (Making (call.Lock 0) (Making (call.Timedwait 0 0 (moment.Monotonic (operand.Num 20))) (Making (call.Unlock 0) Nothing))))
       ∷ decl.Named (codes "y") (kind.Thread (policy.Fifo 7) (Some 1) (Making (call.Lock 0) (Making (call.Wait 0 0) (Making (call.Unlock 0) Nothing))))
       ∷ decl.Named (codes "z") (kind.Thread (policy.Fifo 3) (Some 0) (Making (call.Lock 0) (Making (call.Broadcast 0) (Running 2 (Making (call.Unlock 0) Nothing)))))
       ∷ [];

@@ -2,6 +2,7 @@
 use Rattle.std.specs.Prelude.{ℕ, List, Some, None, [], ◌∷◌, ◌++◌, ◌≡◌, true, false, codes, refl}
 use Rattle.std.specs.Fmt.{digits}
 use Rattle.words_script.specs.declared.call.Call.TheVariants as call
+use Rattle.words_script.specs.declared.call.Moment.TheVariants as moment
 use Rattle.words_script.specs.declared.call.Operand.TheVariants as operand
 use Rattle.words_script.specs.declared.policy.Policy.TheVariants as policy
 use Rattle.words_script.specs.declared.policy.Protocol.TheVariants as protocol
@@ -28,7 +29,7 @@ at_instant_zero_script = record {
       ∷ decl.Named (codes "s") (kind.Sem 3)
       ∷ decl.Named (codes "e") (kind.Sem 0)
       ∷ decl.Named (codes "q") (kind.Queue 1 8 false)
-      ∷ decl.Named (codes "k") (kind.Timer 1 5)
+      ∷ decl.Named (codes "k") (kind.Timer 1 5 false)
       ∷ decl.Named (codes "a") (kind.Thread (policy.Sporadic (record { high = 9; low = 2; period = 10; budget = 4; max = 1 })) (Some 0) (Running 1 Nothing))
       ∷ decl.Named (codes "b") (kind.Thread (policy.Rr 5) (Some 0) (Running 1 Nothing))
       ∷ decl.Named (codes "d") (kind.Thread (policy.Fifo 5) None (Running 1 Nothing))
@@ -61,7 +62,7 @@ equal_waiters_script = record {
       decl.Named (codes "s") (kind.Sem 0)
       ∷ decl.Named (codes "z") (kind.Thread (policy.Fifo 5) (Some 2) (Making (call.SemWait 0) Nothing))
       ∷ decl.Named (codes "y") (kind.Thread (policy.Fifo 5) (Some 0) (Making (call.SemWait 0) Nothing))
-      ∷ decl.Named (codes "x") (kind.Thread (policy.Fifo 5) (Some 1) (Making (call.SemTimedwait 0 (operand.Num 40)) Nothing))
+      ∷ decl.Named (codes "x") (kind.Thread (policy.Fifo 5) (Some 1) (Making (call.SemTimedwait 0 (moment.Monotonic (operand.Num 40))) Nothing))
       ∷ decl.Named (codes "w") (kind.Thread (policy.Fifo 6) (Some 3) (Making (call.SemWait 0) Nothing))
       ∷ [];
 }
@@ -92,7 +93,7 @@ two_queues_at_one_instant_script = record {
       ∷ decl.Named (codes "q") (kind.Queue 2 8 false)
       ∷ decl.Action 1 (Some 0)
       ∷ decl.Named (codes "g") (kind.Handler (Running 1 Nothing))
-      ∷ decl.Named (codes "a") (kind.Thread (policy.Fifo 6) (Some 0) (Making (call.MqSend 1 1 0 (operand.Num 11)) (Making (call.MqSend 1 1 3 (operand.Num 12)) (Making (call.MqTimedsend 1 1 1 (operand.Num 13) (operand.Num 30)) Nothing))))
+      ∷ decl.Named (codes "a") (kind.Thread (policy.Fifo 6) (Some 0) (Making (call.MqSend 1 1 0 (operand.Num 11)) (Making (call.MqSend 1 1 3 (operand.Num 12)) (Making (call.MqTimedsend 1 1 1 (operand.Num 13) (moment.Monotonic (operand.Num 30))) Nothing))))
       ∷ decl.Named (codes "b") (kind.Thread (policy.Fifo 5) (Some 0) (Making (call.MqNotify 0 1 (operand.Num 9)) (Making (call.MqReceive 0) Nothing)))
       ∷ decl.Named (codes "c") (kind.Thread (policy.Fifo 4) (Some 0) (Making (call.MqReceive 1) (Making (call.MqSend 0 1 2 (operand.Num 21)) (Making (call.MqSend 0 1 5 (operand.Num 22)) (Running 5 Nothing)))))
       ∷ [];
@@ -121,7 +122,7 @@ killed_process_script = record {
   version = 1;
   quantum = 10;
   decls =
-      decl.Named (codes "k") (kind.Timer 3 5)
+      decl.Named (codes "k") (kind.Timer 3 5 false)
       ∷ decl.Named (codes "a") (kind.Thread (policy.Fifo 5) (Some 0) (Making (call.TimerSettimeRel 0 2 0) (Making (call.Nanosleep 9) Nothing)))
       ∷ decl.Named (codes "b") (kind.Thread (policy.Fifo 4) (Some 1) (Running 9 Nothing))
       ∷ decl.Named (codes "c") (kind.Thread (policy.Fifo 3) (Some 20) Nothing)
@@ -148,8 +149,8 @@ timers_masks_and_signals_script = record {
   version = 1;
   quantum = 10;
   decls =
-      decl.Named (codes "k") (kind.Timer 4 7)
-      ∷ decl.Named (codes "j") (kind.Timer 5 0)
+      decl.Named (codes "k") (kind.Timer 4 7 false)
+      ∷ decl.Named (codes "j") (kind.Timer 5 0 false)
       ∷ decl.Action 2 (Some 0)
       ∷ decl.Action 4 (Some 0)
       ∷ decl.Named (codes "g") (kind.Handler Nothing)
@@ -243,7 +244,7 @@ slices_a_semaphore_and_a_join_script = record {
       decl.Named (codes "s") (kind.Sem 0)
       ∷ decl.Named (codes "a") (kind.Thread (policy.Rr 5) (Some 0) (Setting 3 (Running 6 Nothing)))
       ∷ decl.Named (codes "b") (kind.Thread (policy.Rr 5) (Some 0) (Making (call.SemTrywait 0) (Running 9 Nothing)))
-      ∷ decl.Named (codes "h") (kind.Thread (policy.Fifo 9) (Some 7) (Running 2 (Making (call.SemTimedwait 0 (operand.Num 30)) Nothing)))
+      ∷ decl.Named (codes "h") (kind.Thread (policy.Fifo 9) (Some 7) (Running 2 (Making (call.SemTimedwait 0 (moment.Monotonic (operand.Num 30))) Nothing)))
       ∷ decl.Named (codes "j") (kind.Thread (policy.Fifo 8) (Some 0) (Making (call.Join 0) Nothing))
       ∷ [];
 }

@@ -88,7 +88,7 @@ known_all (Named name (Mutex protocol recursive) ∷ decls) b ts hs us is = know
 known_all (Named name Cond ∷ decls) b ts hs us is = known_all decls b ts hs us is
 known_all (Named name (Sem value) ∷ decls) b ts hs us is = known_all decls b ts hs us is
 known_all (Named name (Queue depth max_len nonblock) ∷ decls) b ts hs us is = known_all decls b ts hs us is
-known_all (Named name (Timer sig value) ∷ decls) b ts hs us is = known_all decls b ts hs us is
+known_all (Named name (Timer sig value real) ∷ decls) b ts hs us is = known_all decls b ts hs us is
 known_all (Action sig handler ∷ decls) b ts hs us is = known_all decls b ts hs us is
 
 pub known : (script : Script) → Known (bodies_of script.decls) (thread_blocks script.decls) (handler_blocks script.decls) (cleanup_blocks script.decls)

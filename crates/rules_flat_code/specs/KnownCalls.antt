@@ -3,6 +3,8 @@
 use Rattle.std.specs.Prelude.{ℕ, ◌≤◌, ◌<◌, ◌^◌, length}
 use Rattle.words_script.specs.declared.call.Call.{Call}
 use Rattle.words_script.specs.declared.call.Call.TheVariants as call
+use Rattle.words_script.specs.declared.call.Moment.{Moment}
+use Rattle.words_script.specs.declared.call.Moment.TheVariants as moment
 use Rattle.words_script.specs.declared.call.Operand.{Operand}
 use Rattle.words_script.specs.declared.call.Operand.TheVariants as operand
 use Rattle.words_script.specs.declared.decl.Script.{Script}
@@ -35,6 +37,10 @@ abbrev pub IsOperand : Operand → Type 0
 IsOperand (operand.Num n) = IsNumber n
 IsOperand operand.Reg = Unit {0}
 
+abbrev pub IsMoment : Moment → Type 0
+IsMoment (moment.Monotonic at) = IsOperand at
+IsMoment (moment.Realtime at) = IsOperand at
+
 abbrev pub IsSignal : ℕ → Type 0
 IsSignal signal = signal < 32
 
@@ -52,21 +58,23 @@ KnowsObjects o (call.Exit v) = IsOperand v
 KnowsObjects o (call.Setprio u p) = u < o.threads
 KnowsObjects o (call.Setsched u policy) = u < o.threads
 KnowsObjects o (call.Lock k) = k < o.mutexes
-KnowsObjects o (call.Timedlock k at) = (k < o.mutexes) × IsOperand at
+KnowsObjects o (call.Timedlock k at) = (k < o.mutexes) × IsMoment at
 KnowsObjects o (call.Trylock k) = k < o.mutexes
 KnowsObjects o (call.Unlock k) = k < o.mutexes
 KnowsObjects o (call.Wait c k) = k < o.mutexes
-KnowsObjects o (call.Timedwait c k at) = (k < o.mutexes) × IsOperand at
+KnowsObjects o (call.Timedwait c k at) = (k < o.mutexes) × IsMoment at
 KnowsObjects o (call.Signal c) = Unit {0}
 KnowsObjects o (call.Broadcast c) = Unit {0}
 KnowsObjects o (call.SemWait k) = k < o.semaphores
-KnowsObjects o (call.SemTimedwait k at) = (k < o.semaphores) × IsOperand at
+KnowsObjects o (call.SemTimedwait k at) = (k < o.semaphores) × IsMoment at
 KnowsObjects o (call.SemTrywait k) = k < o.semaphores
 KnowsObjects o (call.SemGetvalue k) = k < o.semaphores
 KnowsObjects o (call.SemPost k) = k < o.semaphores
 KnowsObjects o (call.Nanosleep n) = IsNumber n
-KnowsObjects o (call.ClockNanosleep at) = IsOperand at
+KnowsObjects o (call.ClockNanosleep at) = IsMoment at
 KnowsObjects o call.Gettime = Unit {0}
+KnowsObjects o call.RealGettime = Unit {0}
+KnowsObjects o (call.ClockSettime at) = IsOperand at
 KnowsObjects o (call.TimerSettimeRel k n interval) = (k < o.timers) × IsNumber n × IsNumber interval
 KnowsObjects o (call.TimerSettimeAbs k at interval) = (k < o.timers) × IsOperand at × IsNumber interval
 KnowsObjects o (call.TimerGettime k) = k < o.timers
@@ -80,7 +88,7 @@ KnowsObjects o (call.SigmaskSet set) = Unit {0}
 KnowsObjects o (call.Sigwaitinfo set) = Unit {0}
 KnowsObjects o (call.Sigtimedwait set n) = IsNumber n
 KnowsObjects o (call.MqSend q len p v) = (q < o.queues) × (p < 32) × IsOperand v
-KnowsObjects o (call.MqTimedsend q len p v at) = (q < o.queues) × (p < 32) × IsOperand v × IsOperand at
+KnowsObjects o (call.MqTimedsend q len p v at) = (q < o.queues) × (p < 32) × IsOperand v × IsMoment at
 KnowsObjects o (call.MqReceive q) = q < o.queues
-KnowsObjects o (call.MqTimedreceive q at) = (q < o.queues) × IsOperand at
+KnowsObjects o (call.MqTimedreceive q at) = (q < o.queues) × IsMoment at
 KnowsObjects o (call.MqNotify q signal v) = (q < o.queues) × IsSignal signal × IsOperand v

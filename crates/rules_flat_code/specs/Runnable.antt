@@ -43,7 +43,7 @@ HasValue other = Unit {0}
 
 -- a timer sends one of the signals
 abbrev pub HasSignal : Decl → Type 0
-HasSignal (decl.Named name (kind.Timer signal value)) = IsSignal signal
+HasSignal (decl.Named name (kind.Timer signal value real)) = IsSignal signal
 HasSignal other = Unit {0}
 
 -- at most 256 threads, 16 queues and 32 timers, bodies that are not too long and not nested too deeply, and calls and actions that name

@@ -16,7 +16,7 @@ use Rattle.rules_machine.specs.Waiters.{Waiter, best_waiter}
 use Rattle.rules_machine.specs.CallNames.{name_of}
 use Rattle.rules_machine.specs.Turns.{Caller, Turn, answered, changes, changes_mutex, moves, returns, tells, ◌▷◌}
 use Rattle.rules_machine.specs.Servers.{activates_if, activates_if_high, activates_server, at_once, with_server}
-use Rattle.rules_machine.specs.Waking.{call_in, cancelled_value, ending_with, wakes, wakes_cancelled, wakes_telling, woken}
+use Rattle.rules_machine.specs.Waking.{call_in, cancelled_value, ending_with, last_result, last_value, wakes, wakes_cancelled, wakes_telling, woken}
 use Rattle.rules_machine.specs.Mutexes.{LockAnswer, counted_down, counted_up, counts, hands_over, locks, carries_out_lock, lock_answer, must_wait, owns, refused, releases, returns_from_wait, taken_by, takes, unlocks, waits_for_mutex, wakes_owner}
 
 module _ {P : Type 0} where
@@ -63,7 +63,7 @@ module _ {P : Type 0} where
   wakes_behind t r value told s = wakes_telling_behind (event.Return t (name_of (call_in (waiting_of s.machine t))) r value) t r value told s
 
   pub wakes_cancelled_behind : (t : ℕ) → AddsBehind (wakes_cancelled t)
-  wakes_cancelled_behind t told s = ap (changes t (ending_with cancelled_value)) (wakes_telling_behind (event.Cancel t) t res.Zero 0 told s)
+  wakes_cancelled_behind t told s = ap (changes t (ending_with cancelled_value)) (wakes_telling_behind (event.Cancel t) t (last_result t s.machine) (last_value t s.machine) told s)
 
   pub locks_on_behind : (a : LockAnswer) (by : Caller) (k : ℕ) (due : Option ℕ) → AddsBehind (carries_out_lock a by k due)
   locks_on_behind (refused r) by k due told s = returns_behind by r 0 told s

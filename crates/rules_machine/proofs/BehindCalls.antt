@@ -1,5 +1,5 @@
 -- Events of two parts, for each call, item and tick.
-use Rattle.std.proofs.Common.{Bool, None, Option, Some, ap, false, length, refl, suc, true, zero, ℕ, ◌+◌, ◌∷◌}
+use Rattle.std.proofs.Common.{Bool, List, None, Option, Some, [], ap, false, length, refl, suc, true, zero, ℕ, ◌+◌, ◌∷◌}
 use Rattle.std.specs.Prelude.{nat_lt, not, option_and_then, pred, ◌==◌, ◌&&◌, ◌||◌}
 use mathlib.Core.Path.{◌∙◌}
 use Rattle.words_numbers.specs.Signals.{has_signal}
@@ -15,10 +15,12 @@ use Rattle.rules_machine.specs.declared.frame.FrameKind.TheVariants as frame
 use Rattle.rules_machine.specs.declared.thread.CondEnd.{CondEnd}
 use Rattle.rules_machine.specs.declared.thread.CondEnd.TheVariants as cond_end
 use Rattle.rules_machine.specs.Bodies.{Bodies}
+use Rattle.rules_machine.specs.Clock.{changes_each, clock_at, clock_limit, due_as_set, moves_times, sets_real_clock, thread_moved, timer_moved}
+use Rattle.rules_machine.specs.Lists.{numbers}
 use Rattle.rules_machine.specs.State.{Joiner, Message, Registration, SignalRecord, Wait, Waiting, for_condition, for_end, for_message, for_mutex, for_mutex_again, for_room, for_semaphore, for_time, has_joined, nobody, waits_to_join}
-use Rattle.rules_machine.specs.Threads.{action_of, can_run, is_dormant, lives, mutex_at, number_of, queue_at, semaphore_at, thread_at, top_kind, waiting_of}
+use Rattle.rules_machine.specs.Threads.{action_of, can_run, is_dormant, lives, moment_of, mutex_at, number_of, queue_at, real_time, semaphore_at, thread_at, thread_numbers, top_kind, waiting_of}
 use Rattle.rules_machine.specs.Waiters.{Waiter, best_waiter, somebody_waits, waiters}
-use Rattle.rules_machine.specs.Turns.{Caller, Turn, changes, changes_mutex, changes_pending, changes_queue, changes_semaphore, is_late, moves, moves_if, returns, tells, ◌▷◌}
+use Rattle.rules_machine.specs.Turns.{Caller, Turn, becomes, changes, changes_mutex, changes_pending, changes_queue, changes_semaphore, changes_timer, is_late, moves, moves_if, returns, tells, ◌▷◌}
 use Rattle.rules_machine.specs.Servers.{activates, activates_if}
 use Rattle.rules_machine.specs.Waking.{blocks, blocks_unordered, call_in, ending_with, cancelled_value, started, starts, wakes}
 use Rattle.rules_machine.specs.Mutexes.{is_free, moves_unless_boosted, owned_by, owns, owns_boosting, returns_from_wait, taken_by, trylock_answer}
@@ -246,6 +248,30 @@ module _ {P : Type 0} where
       ∙ ap (moves_unless_boosted u) (activates_if_behind (can_run s.machine u) u told renewed)
       ∙ moves_unless_boosted_behind u told (activates_if (can_run s.machine u) u renewed))
 
+-- ---- the clock
+
+module _ {P : Type 0} where
+  pub changes_each_behind : (change : ℕ → Turn P → Turn P) → ((n : ℕ) → AddsBehind (change n)) → (ns : List ℕ) → AddsBehind (changes_each change ns)
+  changes_each_behind change each [] told s = refl
+  changes_each_behind change each (n ∷ ns) told s = ap (changes_each change ns) (each n told s) ∙ changes_each_behind change each ns told (change n s)
+
+  pub moves_times_behind : (move : ℕ → ℕ) → AddsBehind {P = P} (moves_times move)
+  moves_times_behind move told s =
+      let threads = changes_each (λ t. changes t (thread_moved move)) (thread_numbers s.machine) in
+      ap (changes_each (λ k. changes_timer k (timer_moved move)) (numbers s.machine.timers))
+      (changes_each_behind (λ t. changes t (thread_moved move)) (λ t told s. refl) (thread_numbers s.machine) told s)
+      ∙ changes_each_behind (λ k. changes_timer k (timer_moved move)) (λ k told s. refl) (numbers s.machine.timers) told (threads s)
+
+  pub sets_real_clock_behind : (by : Caller) (reading : ℕ) → AddsBehind {P = P} (sets_real_clock by reading)
+  sets_real_clock_behind by reading =
+      if_behind (λ m. nat_lt clock_limit reading) (returns by res.Inval 0)
+      (λ s. s ▷ becomes (λ m. record m { clock = clock_at reading m.now }) ▷ moves_times (due_as_set s.machine.now (real_time s.machine) reading) ▷ returns by res.Zero 0)
+      (returns_behind by res.Inval 0)
+      (λ told s.
+      let set = becomes (λ m. record m { clock = clock_at reading m.now }) s in
+      let move = due_as_set s.machine.now (real_time s.machine) reading in
+      ap (returns by res.Zero 0) (moves_times_behind move told set) ∙ returns_behind by res.Zero 0 told (moves_times move set))
+
 -- ---- the table
 
 module _ {P : Type 0} (bodies : Bodies P) where
@@ -262,23 +288,25 @@ module _ {P : Type 0} (bodies : Bodies P) where
   call_effect_behind by (call.Setprio u p) told s = sets_priority_behind by u p told s
   call_effect_behind by (call.Setsched u new) told s = sets_policy_behind by u new told s
   call_effect_behind by (call.Lock k) told s = locks_behind by k None told s
-  call_effect_behind by (call.Timedlock k at) told s = locks_behind by k (Some (number_of s.machine by.thread at)) told s
+  call_effect_behind by (call.Timedlock k at) told s = locks_behind by k (Some (moment_of s.machine by.thread at)) told s
   call_effect_behind by (call.Trylock k) told s = locks_on_behind (trylock_answer s.machine by.thread k) by k None told s
   call_effect_behind by (call.Unlock k) told s = unlocks_behind by k told s
   call_effect_behind by (call.Wait c k) told s = waits_behind by c k None told s
-  call_effect_behind by (call.Timedwait c k at) told s = waits_behind by c k (Some (number_of s.machine by.thread at)) told s
+  call_effect_behind by (call.Timedwait c k at) told s = waits_behind by c k (Some (moment_of s.machine by.thread at)) told s
   call_effect_behind by (call.Signal c) told s = then_behind (returns by res.Zero 0) (signals_best c) (returns_behind by res.Zero 0) (signals_best_behind c) told s
   call_effect_behind by (call.Broadcast c) told s =
       let n = length (waiters s.machine (waits_on_condition c)) in
       then_behind (returns by res.Zero 0) (signals_best_times n c) (returns_behind by res.Zero 0) (signals_best_of_behind n c) told s
   call_effect_behind by (call.SemWait k) told s = waits_semaphore_behind by k None told s
-  call_effect_behind by (call.SemTimedwait k at) told s = waits_semaphore_behind by k (Some (number_of s.machine by.thread at)) told s
+  call_effect_behind by (call.SemTimedwait k at) told s = waits_semaphore_behind by k (Some (moment_of s.machine by.thread at)) told s
   call_effect_behind by (call.SemTrywait k) told s = tries_semaphore_behind by k told s
   call_effect_behind by (call.SemGetvalue k) told s = returns_behind by res.Zero (semaphore_at s.machine k) told s
   call_effect_behind by (call.SemPost k) told s = posts_to_behind (best_waiter s.machine (waits_on_semaphore k)) by k told s
   call_effect_behind by (call.Nanosleep n) told s = sleeps_until_behind by (s.machine.now + n) told s
-  call_effect_behind by (call.ClockNanosleep at) told s = sleeps_until_behind by (number_of s.machine by.thread at) told s
+  call_effect_behind by (call.ClockNanosleep at) told s = sleeps_until_behind by (moment_of s.machine by.thread at) told s
   call_effect_behind by call.Gettime told s = returns_behind by res.Zero _ told s
+  call_effect_behind by call.RealGettime told s = returns_behind by res.Zero _ told s
+  call_effect_behind by (call.ClockSettime at) told s = sets_real_clock_behind by (number_of s.machine by.thread at) told s
   call_effect_behind by (call.TimerSettimeRel k n interval) told s = returns_behind by res.Zero 0 told _
   call_effect_behind by (call.TimerSettimeAbs k at interval) told s = returns_behind by res.Zero 0 told _
   call_effect_behind by (call.TimerGettime k) told s = returns_behind by res.Zero _ told s
@@ -295,10 +323,10 @@ module _ {P : Type 0} (bodies : Bodies P) where
       waits_signal_on_behind (selected s.machine (λ (r : SignalRecord). has_signal set r.signal && may_go_to by.thread r.target)) (Some n) by set told s
   call_effect_behind by (call.MqSend q len p v) told s = sends_message_behind by q len (record { priority = p; value = number_of s.machine by.thread v }) None told s
   call_effect_behind by (call.MqTimedsend q len p v at) told s =
-      sends_message_behind by q len (record { priority = p; value = number_of s.machine by.thread v }) (Some (number_of s.machine by.thread at)) told s
+      sends_message_behind by q len (record { priority = p; value = number_of s.machine by.thread v }) (Some (moment_of s.machine by.thread at)) told s
   call_effect_behind by (call.MqReceive q) told s = receives_on_behind (next_message (queue_at s.machine q).messages) by q None told s
   call_effect_behind by (call.MqTimedreceive q at) told s =
-      receives_on_behind (next_message (queue_at s.machine q).messages) by q (Some (number_of s.machine by.thread at)) told s
+      receives_on_behind (next_message (queue_at s.machine q).messages) by q (Some (moment_of s.machine by.thread at)) told s
   call_effect_behind by (call.MqNotify q signal v) told s = asks_notification_behind by q (record { signal = signal; value = number_of s.machine by.thread v }) told s
 
   pub makes_call_behind : (by : Caller) → AddsBehind (makes_call bodies by)

@@ -20,7 +20,7 @@ use Rattle.rules_machine.specs.Waiters.{Waiter}
 use Rattle.rules_machine.specs.Turns.{Caller, Turn, changes, changes_mutex, changes_timer, moves, tells, ◌▷◌}
 use Rattle.rules_machine.specs.CallNames.{name_of}
 use Rattle.rules_machine.specs.Servers.{activates_if, activates_server, amount_of, at_once, high_server, refills_server, regains_high, server_of, with_server}
-use Rattle.rules_machine.specs.Waking.{blocks, call_in, cancelled_value, ending_with, put_to_wait, started, starts, wakes, wakes_cancelled, wakes_telling, woken}
+use Rattle.rules_machine.specs.Waking.{blocks, call_in, cancelled_value, ending_with, last_result, last_value, put_to_wait, started, starts, wakes, wakes_cancelled, wakes_telling, woken}
 use Rattle.rules_machine.specs.Mutexes.{returns_from_wait, taken_by}
 use Rattle.rules_machine.specs.Conditions.{reacquires_or_waits}
 use Rattle.rules_machine.specs.Signals.{acceptor, becomes_pending, delivers, generates, is_accepted_or_pends, is_ignore, tells_overrun, with_overrun_told}
@@ -131,8 +131,8 @@ module _ {P : Type 0} where
 
   cancelled_falls : (t : ℕ) (s : Turn P) → coming (wakes_cancelled t s).machine + owes (thread_at s.machine t) ≤ coming s.machine
   cancelled_falls t s =
-      let up = wakes_telling (event.Cancel t) t res.Zero 0 s in
-      omega (arith, wakes_telling_falls (event.Cancel t) t res.Zero 0 s, changed_loads t (ending_with cancelled_value) (λ th. 0) (λ th. omega arith) up.machine.threads)
+      let up = wakes_telling (event.Cancel t) t (last_result t s.machine) (last_value t s.machine) s in
+      omega (arith, wakes_telling_falls (event.Cancel t) t (last_result t s.machine) (last_value t s.machine) s, changed_loads t (ending_with cancelled_value) (λ th. 0) (λ th. omega arith) up.machine.threads)
 
   returns_from_wait_falls : (how : CondEnd) (t : ℕ) (s : Turn P) → coming (returns_from_wait how t s).machine + owes (thread_at s.machine t) ≤ coming s.machine
   returns_from_wait_falls cond_end.Signalled t s = wakes_falls t res.Zero 0 s

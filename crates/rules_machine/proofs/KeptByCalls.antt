@@ -1,7 +1,7 @@
 -- No call changes what is kept.
 use Rattle.rules_machine.specs.Servers.{at_once}
-use Rattle.std.proofs.Common.{Bool, None, Option, Some, arith, false, length, refl, suc, true, zero, ℕ, ◌+◌, ◌≡◌}
-use Rattle.std.specs.Prelude.{not, option_and_then, ◌&&◌}
+use Rattle.std.proofs.Common.{Bool, List, None, Option, Some, [], arith, false, length, refl, suc, true, zero, ℕ, ◌+◌, ◌∷◌, ◌≡◌}
+use Rattle.std.specs.Prelude.{nat_lt, not, option_and_then, ◌&&◌}
 use mathlib.Core.Path.{◌∙◌}
 use Rattle.words_numbers.specs.Signals.{has_signal}
 use Rattle.words_numbers.specs.declared.res.Res.TheVariants as res
@@ -16,10 +16,12 @@ use Rattle.rules_machine.specs.declared.frame.FrameKind.TheVariants as frame
 use Rattle.rules_machine.specs.declared.thread.CondEnd.{CondEnd}
 use Rattle.rules_machine.specs.declared.thread.CondEnd.TheVariants as cond_end
 use Rattle.rules_machine.specs.Bodies.{Bodies}
+use Rattle.rules_machine.specs.Clock.{changes_each, clock_at, clock_limit, due_as_set, moves_times, sets_real_clock, thread_moved, timer_moved}
+use Rattle.rules_machine.specs.Lists.{numbers}
 use Rattle.rules_machine.specs.State.{Joiner, Message, Registration, SignalRecord, Wait, Waiting, for_condition, for_end, for_message, for_mutex, for_mutex_again, has_joined, nobody, waits_to_join}
-use Rattle.rules_machine.specs.Threads.{number_of, queue_at, thread_at, top_kind, waiting_of}
+use Rattle.rules_machine.specs.Threads.{moment_of, number_of, queue_at, real_time, thread_at, thread_numbers, top_kind, waiting_of}
 use Rattle.rules_machine.specs.Waiters.{Waiter, best_waiter, waiters}
-use Rattle.rules_machine.specs.Turns.{Caller, Turn, changes, changes_pending, changes_queue, moves, moves_if, returns, tells}
+use Rattle.rules_machine.specs.Turns.{Caller, Turn, becomes, changes, changes_pending, changes_queue, changes_timer, moves, moves_if, returns, tells, ◌▷◌}
 use Rattle.rules_machine.specs.Waking.{started, starts, wakes}
 use Rattle.rules_machine.specs.Mutexes.{moves_unless_boosted, owns_boosting, trylock_answer, unlocks}
 use Rattle.rules_machine.specs.Conditions.{contends, reacquires_or_waits, released_mutex, signals_best_times, signals_waiter, waits, waits_on_condition}
@@ -31,7 +33,7 @@ use Rattle.rules_machine.specs.Lives.{creates, ends_frame, joins, wakes_joiner, 
 use Rattle.rules_machine.specs.Cancellation.{acts_if_blocked, cancels, leaves, leaves_wait}
 use Rattle.rules_machine.specs.Scheduling.{sets_policy, sets_priority}
 use Rattle.rules_machine.specs.Calls.{call_effect, makes_call, unit_effect}
-use Rattle.rules_machine.proofs.Kept.{activates_if_kept, activates_server_kept, kept, locks_kept, locks_on_kept, releases_kept, returns_from_wait_kept, wakes_cancelled_kept, wakes_kept}
+use Rattle.rules_machine.proofs.Kept.{activates_if_kept, activates_server_kept, if_kept, kept, locks_kept, locks_on_kept, releases_kept, returns_from_wait_kept, wakes_cancelled_kept, wakes_kept}
 
 -- ---- conditions
 
@@ -194,6 +196,21 @@ sets_policy_kept by u new s = grind (arith, moves_unless_boosted_kept, activates
 
 -- ---- the table
 
+pub changes_each_kept : {P : Type 0} (change : ℕ → Turn P → Turn P) → ((n : ℕ) (s : Turn P) → kept (change n s) ≡ kept s) → (ns : List ℕ) (s : Turn P) → kept (changes_each change ns s) ≡ kept s
+changes_each_kept change each [] s = refl
+changes_each_kept change each (n ∷ ns) s = changes_each_kept change each ns (change n s) ∙ each n s
+
+pub moves_times_kept : {P : Type 0} (move : ℕ → ℕ) (s : Turn P) → kept (moves_times move s) ≡ kept s
+moves_times_kept move s =
+    changes_each_kept (λ k. changes_timer k (timer_moved move)) (λ k s. refl) (numbers s.machine.timers) (changes_each (λ t. changes t (thread_moved move)) (thread_numbers s.machine) s)
+    ∙ changes_each_kept (λ t. changes t (thread_moved move)) (λ t s. refl) (thread_numbers s.machine) s
+
+pub sets_real_clock_kept : {P : Type 0} (by : Caller) (reading : ℕ) (s : Turn P) → kept (sets_real_clock by reading s) ≡ kept s
+sets_real_clock_kept by reading s =
+    let set = becomes (λ m. record m { clock = clock_at reading m.now }) s in
+    let move = due_as_set s.machine.now (real_time s.machine) reading in
+    if_kept (nat_lt clock_limit reading) (returns by res.Inval 0 s) (moves_times move set ▷ returns by res.Zero 0) s refl (moves_times_kept move set)
+
 pub call_effect_kept : {P : Type 0} (bodies : Bodies P) (by : Caller) (call' : Call) (s : Turn P) → kept (call_effect bodies by call' s) ≡ kept s
 call_effect_kept bodies by call.Yield s = refl
 call_effect_kept bodies by (call.Create u) s = creates_kept bodies by u s
@@ -202,20 +219,21 @@ call_effect_kept bodies by (call.Cancel u) s = cancels_kept by u s
 call_effect_kept bodies by (call.Setprio u p) s = sets_priority_kept by u p s
 call_effect_kept bodies by (call.Setsched u new) s = sets_policy_kept by u new s
 call_effect_kept bodies by (call.Lock k) s = locks_kept by k None s
-call_effect_kept bodies by (call.Timedlock k at) s = locks_kept by k (Some (number_of s.machine by.thread at)) s
+call_effect_kept bodies by (call.Timedlock k at) s = locks_kept by k (Some (moment_of s.machine by.thread at)) s
 call_effect_kept bodies by (call.Trylock k) s = locks_on_kept (trylock_answer s.machine by.thread k) by k None s
 call_effect_kept bodies by (call.Unlock k) s = unlocks_kept by k s
 call_effect_kept bodies by (call.Wait c k) s = waits_kept by c k None s
-call_effect_kept bodies by (call.Timedwait c k at) s = waits_kept by c k (Some (number_of s.machine by.thread at)) s
+call_effect_kept bodies by (call.Timedwait c k at) s = waits_kept by c k (Some (moment_of s.machine by.thread at)) s
 call_effect_kept bodies by (call.Signal c) s =
     let back = returns by res.Zero 0 s in signals_waiter_kept (best_waiter back.machine (waits_on_condition c)) back
 call_effect_kept bodies by (call.Broadcast c) s = signals_best_of_kept (length (waiters s.machine (waits_on_condition c))) c (returns by res.Zero 0 s)
 call_effect_kept bodies by (call.SemWait k) s = waits_semaphore_kept by k None s
-call_effect_kept bodies by (call.SemTimedwait k at) s = waits_semaphore_kept by k (Some (number_of s.machine by.thread at)) s
+call_effect_kept bodies by (call.SemTimedwait k at) s = waits_semaphore_kept by k (Some (moment_of s.machine by.thread at)) s
 call_effect_kept bodies by (call.SemTrywait k) s = tries_semaphore_kept by k s
 call_effect_kept bodies by (call.SemPost k) s = posts_to_kept (best_waiter s.machine (waits_on_semaphore k)) by k s
 call_effect_kept bodies by (call.Nanosleep n) s = sleeps_until_kept by (s.machine.now + n) s
-call_effect_kept bodies by (call.ClockNanosleep at) s = sleeps_until_kept by (number_of s.machine by.thread at) s
+call_effect_kept bodies by (call.ClockNanosleep at) s = sleeps_until_kept by (moment_of s.machine by.thread at) s
+call_effect_kept bodies by (call.ClockSettime at) s = sets_real_clock_kept by (number_of s.machine by.thread at) s
 call_effect_kept bodies by (call.Kill signal) s = sends_signal_kept by (record_of_kill signal None) s
 call_effect_kept bodies by (call.Tkill u signal) s = grind (arith, sends_signal_kept)
 call_effect_kept bodies by (call.Sigqueue signal v) s = sends_signal_kept by (record_of_sigqueue signal (number_of s.machine by.thread v)) s
@@ -225,10 +243,10 @@ call_effect_kept bodies by (call.Sigtimedwait set n) s =
     waits_signal_on_kept (selected s.machine (λ (r : SignalRecord). has_signal set r.signal && may_go_to by.thread r.target)) (Some n) by set s
 call_effect_kept bodies by (call.MqSend q len p v) s = sends_message_kept by q len (record { priority = p; value = number_of s.machine by.thread v }) None s
 call_effect_kept bodies by (call.MqTimedsend q len p v at) s =
-    sends_message_kept by q len (record { priority = p; value = number_of s.machine by.thread v }) (Some (number_of s.machine by.thread at)) s
+    sends_message_kept by q len (record { priority = p; value = number_of s.machine by.thread v }) (Some (moment_of s.machine by.thread at)) s
 call_effect_kept bodies by (call.MqReceive q) s = receives_on_kept (next_message (queue_at s.machine q).messages) by q None s
 call_effect_kept bodies by (call.MqTimedreceive q at) s =
-    receives_on_kept (next_message (queue_at s.machine q).messages) by q (Some (number_of s.machine by.thread at)) s
+    receives_on_kept (next_message (queue_at s.machine q).messages) by q (Some (moment_of s.machine by.thread at)) s
 call_effect_kept bodies by (call.MqNotify q signal v) s = asks_notification_kept by q (record { signal = signal; value = number_of s.machine by.thread v }) s
 call_effect_kept bodies by _ s = refl
 

@@ -1,6 +1,6 @@
 -- What a script declares, kind by kind, each in order of declaration: so its threads and objects are numbered. Scripts are this
 -- project's own.
-use Rattle.std.specs.Prelude.{List, None, Option, Some, [], filter_map, fold, replicate, slice_set, ℕ}
+use Rattle.std.specs.Prelude.{List, None, Option, Some, [], filter_map, fold, replicate, slice_set, ℕ, false}
 use Rattle.words_script.specs.Block.{Block}
 use Rattle.words_script.specs.declared.decl.Decl.{Decl}
 use Rattle.words_script.specs.declared.decl.Decl.TheVariants as decl
@@ -49,7 +49,7 @@ queue_kind other = None
 
 -- a disarmed timer
 abbrev pub timer_kind : Kind → Option Timer
-timer_kind (kind.Timer signal value) = Some (record { signal = signal; value = value; due = None; interval = 0; extra = 0; overrun = 0 })
+timer_kind (kind.Timer signal value real) = Some (record { signal = signal; value = value; is_real = real; due = None; is_reading = false; interval = 0; extra = 0; overrun = 0 })
 timer_kind other = None
 
 -- a declaration of a name, read by its kind

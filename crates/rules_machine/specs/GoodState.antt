@@ -11,7 +11,8 @@ use Rattle.rules_lists.specs.Lists.{list_of}
 use Rattle.rules_machine.specs.declared.frame.BodyOf.{BodyOf}
 use Rattle.rules_machine.specs.Lists.{is}
 use Rattle.rules_machine.specs.Bodies.{Bodies}
-use Rattle.rules_machine.specs.State.{Frame, Machine, SignalRecord, Wait, Waiting, for_condition, for_end, for_mutex_again, for_time}
+use Rattle.rules_machine.specs.Clock.{clock_limit}
+use Rattle.rules_machine.specs.State.{Clock, Frame, Machine, SignalRecord, Wait, Waiting, for_condition, for_end, for_mutex_again, for_time}
 use Rattle.rules_machine.specs.Threads.{can_run, catches_signal, is_main, lives, mutex_at, queue_at, semaphore_at, thread_at, waiting_in}
 use Rattle.rules_machine.specs.Priorities.{exec, mutex_awaited_by}
 use Rattle.rules_machine.specs.Waiters.{somebody_waits, waits_so}
@@ -150,6 +151,13 @@ pub record IsSwept {P : Type 0} (bodies : Bodies P) (m : Machine P) : Type 0 whe
   pub machine : (sweeps bodies (turn_of m)).machine ≡ m
   pub events : (sweeps bodies (turn_of m)).events ≡ []
 
+-- ---- the clock
+
+-- CLOCK_REALTIME reads a time that is not below 0, and at most 10^18 ticks ahead of CLOCK_MONOTONIC.
+pub record ClockFits (now : ℕ) (clock : Clock) : Type 0 where
+  pub behind : clock.behind ≤ now
+  pub ahead : clock.ahead ≤ clock_limit
+
 -- ---- all of it
 
 pub record Good {P : Type 0} (bodies : Bodies P) (guards : BodyOf → P → List ℕ) (m : Machine P) : Type 0 where
@@ -158,6 +166,7 @@ pub record Good {P : Type 0} (bodies : Bodies P) (guards : BodyOf → P → List
   pub servers : ServersAreRight m
   pub waits : WaitsAreRight m
   pub slices : (t : ℕ) → t < length m.threads → (thread_at m t).slice < m.quantum
+  pub clock : ClockFits m.now m.clock
   pub signals : SignalsAreRight m
   pub serials : SerialsAreRight m
   pub cleanups : CleanupsAreRight guards m

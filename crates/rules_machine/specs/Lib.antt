@@ -16,6 +16,7 @@ pub mod Signals
 pub mod Delivery
 pub mod Queues
 pub mod Timers
+pub mod Clock
 pub mod Lives
 pub mod Cancellation
 pub mod Scheduling

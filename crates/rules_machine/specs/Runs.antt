@@ -17,10 +17,11 @@ use Rattle.rules_machine.specs.Ticks.{goes_on, prepares, runs, tick, unless_kill
 abbrev pub thread_opened : {P : Type 0} → ThreadDecl → Thread P
 thread_opened d = record no_thread { status = dormant d.start; policy = d.policy }
 
--- All threads are dormant, all mutexes free, and nothing is pending.
+-- All threads are dormant, all mutexes free, both clocks at 0, and nothing is pending.
 abbrev pub opening : {P : Type 0} → Script → Machine P
 opening script = record {
   now = 0;
+  clock = record { ahead = 0; behind = 0 };
   last = last.NoTick;
   next_serial = 0;
   killed = None;

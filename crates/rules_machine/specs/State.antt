@@ -113,7 +113,11 @@ pub record Queue : Type 0 where
 pub record Timer : Type 0 where
   pub signal : ℕ
   pub value : ℕ
+  -- whether its clock is CLOCK_REALTIME
+  pub is_real : Bool
   pub due : Option ℕ
+  -- whether that is when its clock reads the time that it was set to
+  pub is_reading : Bool
   pub interval : ℕ
   pub extra : ℕ
   pub overrun : ℕ
@@ -128,9 +132,16 @@ pub record SignalRecord : Type 0 where
   pub queue : Option ℕ
   pub serial : ℕ
 
+-- how far CLOCK_REALTIME is ahead of CLOCK_MONOTONIC, and how far behind: at most one of them is above 0
+pub record Clock : Type 0 where
+  pub ahead : ℕ
+  pub behind : ℕ
+
 -- the whole machine at an instant
 pub record Machine (P : Type 0) : Type 0 where
+  -- the reading of CLOCK_MONOTONIC
   pub now : ℕ
+  pub clock : Clock
   pub last : LastDispatch
   pub next_serial : ℕ
   -- the signal that ended the process

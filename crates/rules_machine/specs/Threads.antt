@@ -1,5 +1,9 @@
 -- Threads, mutexes and the other parts by their numbers, and what can be asked of them.
-use Rattle.std.specs.Prelude.{Bool, List, None, Option, Some, [], false, is_some, slice_index_or, true, ℕ, ◌||◌, ◌∷◌}
+use Rattle.std.specs.Prelude.{Bool, List, None, Option, Some, [], false, is_some, slice_index_or, true, ℕ, ◌+◌, ◌-◌, ◌||◌, ◌∷◌}
+use Rattle.words_numbers.specs.declared.res.Res.{Res}
+use Rattle.words_numbers.specs.declared.res.Res.TheVariants as res
+use Rattle.words_script.specs.declared.call.Moment.{Moment}
+use Rattle.words_script.specs.declared.call.Moment.TheVariants as moment
 use Rattle.words_script.specs.declared.call.Operand.{Operand}
 use Rattle.words_script.specs.declared.call.Operand.TheVariants as operand
 use Rattle.words_script.specs.declared.policy.Policy.TheVariants as policy
@@ -37,7 +41,7 @@ abbrev pub no_queue : Queue
 no_queue = record { depth = 0; longest = 0; is_nonblock = false; messages = []; registration = None }
 
 abbrev pub no_timer : Timer
-no_timer = record { signal = 0; value = 0; due = None; interval = 0; extra = 0; overrun = 0 }
+no_timer = record { signal = 0; value = 0; is_real = false; due = None; is_reading = false; interval = 0; extra = 0; overrun = 0 }
 
 -- ---- the parts by number
 
@@ -120,6 +124,15 @@ abbrev pub top_register : {P : Type 0} → List (Frame P) → ℕ
 top_register [] = 0
 top_register (f ∷ fs) = f.register
 
+-- what its last call answered
+abbrev pub top_result : {P : Type 0} → List (Frame P) → Res
+top_result [] = res.Zero
+top_result (f ∷ fs) = f.result
+
+abbrev pub top_value : {P : Type 0} → List (Frame P) → ℕ
+top_value [] = 0
+top_value (f ∷ fs) = f.value
+
 abbrev pub is_main : FrameKind → Bool
 is_main frame.Main = true
 is_main frame.Cleanup = false
@@ -138,3 +151,13 @@ catches_signal th = is_signal (top_kind th.frames)
 abbrev pub number_of : {P : Type 0} → Machine P → ℕ → Operand → ℕ
 number_of m t (operand.Num n) = n
 number_of m t operand.Reg = top_register (thread_at m t).frames
+
+-- the reading of CLOCK_REALTIME (clock_gettime)
+abbrev pub real_time : {P : Type 0} → Machine P → ℕ
+real_time m = m.now + m.clock.ahead - m.clock.behind
+
+-- When an absolute time of a call of t comes, as the clocks stand: at the first instant at which its clock reads that time, and now where
+-- it does or has passed (XSH 2.8.5).
+abbrev pub moment_of : {P : Type 0} → Machine P → ℕ → Moment → ℕ
+moment_of m t (moment.Monotonic at) = number_of m t at
+moment_of m t (moment.Realtime at) = m.now + (number_of m t at - real_time m)

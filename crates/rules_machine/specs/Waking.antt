@@ -10,8 +10,8 @@ use Rattle.rules_machine.specs.declared.frame.BodyOf.{BodyOf}
 use Rattle.rules_machine.specs.declared.frame.BodyOf.TheVariants as body_of
 use Rattle.rules_machine.specs.declared.frame.FrameKind.{FrameKind}
 use Rattle.rules_machine.specs.declared.frame.FrameKind.TheVariants as frame
-use Rattle.rules_machine.specs.State.{Frame, Thread, Wait, Waiting, blocked, runnable}
-use Rattle.rules_machine.specs.Threads.{waiting_of}
+use Rattle.rules_machine.specs.State.{Frame, Machine, Thread, Wait, Waiting, blocked, runnable}
+use Rattle.rules_machine.specs.Threads.{thread_at, top_result, top_value, waiting_of}
 use Rattle.rules_machine.specs.Bodies.{Bodies}
 use Rattle.rules_machine.specs.Turns.{Caller, Turn, answered, changes, moves, takes_serial, tells, ◌▷◌}
 use Rattle.rules_machine.specs.CallNames.{name_of}
@@ -56,9 +56,16 @@ cancelled_value = 3_000_000_000_000_000_000
 abbrev pub ending_with : {P : Type 0} → ℕ → Thread P → Thread P
 ending_with value th = record th { is_ending = true; exit_value = value }
 
--- XSH 2.9.5: a request acts in a thread that waits; it wakes, and its call does not return
+-- the answer of its last call
+abbrev pub last_result : {P : Type 0} → ℕ → Machine P → Res
+last_result t m = top_result (thread_at m t).frames
+
+abbrev pub last_value : {P : Type 0} → ℕ → Machine P → ℕ
+last_value t m = top_value (thread_at m t).frames
+
+-- XSH 2.9.5: a request acts in a thread that waits; it wakes, and since its call does not return, the answer of its last call stays
 abbrev pub wakes_cancelled : {P : Type 0} → ℕ → Turn P → Turn P
-wakes_cancelled t s = s ▷ wakes_telling (event.Cancel t) t res.Zero 0 ▷ changes t (ending_with cancelled_value)
+wakes_cancelled t s = s ▷ wakes_telling (event.Cancel t) t (last_result t s.machine) (last_value t s.machine) ▷ changes t (ending_with cancelled_value)
 
 -- ---- frames and starting
 

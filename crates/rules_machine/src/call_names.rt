@@ -37,6 +37,8 @@ pub fn call_name(call: &Call) -> CallName
         Call::Nanosleep(_) => CallName::Nanosleep,
         Call::ClockNanosleep { .. } => CallName::ClockNanosleep,
         Call::Gettime => CallName::Gettime,
+        Call::RealGettime => CallName::RealGettime,
+        Call::ClockSettime(_) => CallName::ClockSettime,
         Call::TimerSettimeRel(_, _, _) => CallName::TimerSettime,
         Call::TimerSettimeAbs(_, _, _) => CallName::TimerSettime,
         Call::TimerGettime(_) => CallName::TimerGettime,

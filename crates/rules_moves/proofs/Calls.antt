@@ -1,6 +1,7 @@
 -- Every call of the table is made of moves.
 pub mod Answers
 pub mod Commuting
+pub mod Clock
 pub mod Objects
 pub mod ConditionWaits
 pub mod Signals

@@ -1,3 +1,4 @@
+pub mod Cores
 pub mod Waiters
 pub mod Calls
 pub mod Runs

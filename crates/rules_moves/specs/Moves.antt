@@ -2,6 +2,7 @@
 -- is kept by every call. All of it is this project's own.
 use Rattle.std.specs.Prelude.{Bool, List, None, Option, Some, [], false, is_some, map, nat_lt, pred, suc, true, ℕ, ◌≡◌, ◌==◌, ◌∷◌, ◌⊎◌}
 use Rattle.std.specs.List.{list_any}
+use Rattle.std.specs.Option.{option_map}
 use Rattle.words_numbers.specs.declared.res.Res.{Res}
 use Rattle.words_script.specs.declared.policy.Policy.{Policy}
 use Rattle.words_trace.specs.declared.event.Event.{Event}
@@ -10,7 +11,7 @@ use Rattle.rules_server.specs.Server.{ServerState}
 use Rattle.rules_machine.specs.declared.frame.BodyOf.{BodyOf}
 use Rattle.rules_machine.specs.declared.frame.FrameKind.{FrameKind}
 use Rattle.rules_machine.specs.Bodies.{Bodies}
-use Rattle.rules_machine.specs.State.{Frame, Joiner, Machine, Message, Registration, SignalRecord, Status, Thread, Timer, Wait, Waiting, for_condition, for_end, for_message, for_mutex, for_mutex_again, for_room, for_semaphore, for_signal, for_time, waits_to_join}
+use Rattle.rules_machine.specs.State.{Clock, Frame, Joiner, Machine, Message, Registration, SignalRecord, Status, Thread, Timer, Wait, Waiting, blocked, dormant, ended, for_condition, for_end, for_message, for_mutex, for_mutex_again, for_room, for_semaphore, for_signal, for_time, runnable, waits_to_join}
 use Rattle.rules_machine.specs.Threads.{action_of, can_run, is_blocked, is_dormant, lives, mutex_at, queue_at, semaphore_at, thread_at, waiting_of}
 use Rattle.rules_machine.specs.Waiters.{somebody_waits, waits_so}
 use Rattle.rules_machine.specs.Turns.{Caller, Turn, becomes, changes, changes_mutex, changes_pending, changes_queue, changes_semaphore, changes_timer, moves, tells, ◌▷◌}
@@ -25,7 +26,7 @@ use Rattle.rules_machine.specs.Lives.{is_nobody, with_joiner, without_life, with
 use Rattle.rules_machine.specs.Cancellation.{without_cleanup}
 use Rattle.rules_machine.specs.Scheduling.{takes_priority, with_policy, with_priority}
 use Rattle.rules_machine.specs.DueItems.{has_come, refill_due, timer_due}
-use Rattle.rules_machine.specs.GoodState.{is_in_condition_wait}
+use Rattle.rules_machine.specs.GoodState.{ClockFits, is_in_condition_wait}
 use Rattle.rules_machine.specs.Lists.{is}
 use Rattle.rules_machine.specs.WellFormed.{IsPriority, PolicyFits}
 
@@ -50,9 +51,16 @@ pub record Core (P : Type 0) : Type 0 where
   pub cleanups : List ℕ
   pub joiner : Joiner
 
+-- others go by whether a wait ends at a time, and not by which
+abbrev pub at_some_time : Status → Status
+at_some_time (dormant at) = dormant at
+at_some_time runnable = runnable
+at_some_time (blocked w) = blocked (record w { due = option_map (λ (due : ℕ). 0) w.due })
+at_some_time ended = ended
+
 abbrev pub core_of : {P : Type 0} → Thread P → Core P
 core_of th = record {
-  status = th.status;
+  status = at_some_time th.status;
   policy = th.policy;
   server = th.server;
   slice = th.slice;
@@ -104,6 +112,8 @@ pub data Move (P : Type 0) : Type 0 where
   records_of_ended : ℕ → Move P
   ends_process : ℕ → Move P
   refills_one : ℕ → Move P
+  -- CLOCK_REALTIME is set
+  sets_clock_to : Clock → Move P
 
 abbrev pub pushed : {P : Type 0} → ℕ → Thread P → Thread P
 pushed u th = record th { cleanups = u ∷ th.cleanups }
@@ -144,6 +154,7 @@ module _ {P : Type 0} (bodies : Bodies P) where
   does (records_of_ended t) s = changes_pending (without_target t) s
   does (ends_process signal) s = becomes (λ m. record m { killed = Some signal }) s
   does (refills_one t) s = refills t s
+  does (sets_clock_to clock) s = becomes (λ m. record m { clock = clock }) s
 
 -- ---- where each may be made
 
@@ -239,6 +250,7 @@ May who (record_out r) s = Unit {0}
 May who (records_of_ended t) s = Unit {0}
 May who (ends_process signal) s = Unit {0}
 May who (refills_one t) s = (has_come (refill_due s.machine t) s.machine.now ≡ true) × (who ≡ None)
+May who (sets_clock_to clock) s = ClockFits s.machine.now clock
 
 -- a law that every move keeps, in a unit of that thread or in none
 abbrev pub Keeps : {P : Type 0} → Bodies P → Option ℕ → (Turn P → Type 0) → Type 0

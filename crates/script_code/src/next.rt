@@ -2,13 +2,15 @@
 ghost use Rattle.std.specs.Prelude.{◌≡◌};
 ghost use Rattle.rules_bodies.specs.Next.{capped, holds};
 
-use words_numbers::{Res, Tick};
+use words_numbers::Res;
+
+const REGISTER_LIMIT: u64 = 2_000_000_000_000_000_000;
 
 /// The value of a register that is to be n.
 pub(crate) fn capped(n: u64) -> u64
     ensures { result ≡ capped n }
 {
-    n.min(Tick::LAST)
+    n.min(REGISTER_LIMIT)
 }
 
 /// Whether a test holds after a call with this result.

@@ -1,7 +1,7 @@
 //! What the word at a place says.
 ghost use Rattle.std.specs.Prelude.{◌≡◌, ◌≤◌, ◌^◌, IfSome};
 ghost use Rattle.script_table.specs.Ranges.{capped_number_at};
-ghost use Rattle.script_table.specs.Operands.{number_in, amount_at, priority_at, operand_at, signal_at, signals_at, answer_at, name_at, named_at, server_of, server_at, fifo_at, rr_at, sporadic_at, strict_at};
+ghost use Rattle.script_table.specs.Operands.{number_in, amount_at, priority_at, moment_at, operand_at, real_at, signal_at, signals_at, answer_at, name_at, named_at, server_of, server_at, fifo_at, rr_at, sporadic_at, strict_at};
 ghost use Rattle.words_script.specs.declared.name_kind.NameKind.TheVariants as kind;
 
 use crate::names::NameIndex;
@@ -9,6 +9,7 @@ use crate::structure::statement::LineWords;
 use crate::{Name, Operand, Policy};
 use script_table::{NameKind, answer_of, capped_value, is_register, set_of, signal_of};
 use words_numbers::{GREATEST_NUMBER, ObjId, Params, Prio, Res, SigSet, Tid};
+use words_script::Moment;
 
 /// A number, or one past the greatest where it is above that.
 pub(crate) fn capped_number_at(k: usize, words: &LineWords<'_>) -> u128
@@ -64,6 +65,26 @@ pub(crate) fn operand(k: usize, words: &LineWords<'_>) -> Option<Operand>
     match amount(k, words) {
         None => None,
         Some(n) => Some(Operand::Num(n)),
+    }
+}
+
+/// An absolute time on CLOCK_MONOTONIC.
+pub(crate) fn moment(k: usize, words: &LineWords<'_>) -> Option<Moment>
+    ensures { result ≡ moment_at k words.now }
+{
+    match operand(k, words) {
+        None => None,
+        Some(at) => Some(Moment::Monotonic(at)),
+    }
+}
+
+/// The same on CLOCK_REALTIME.
+pub(crate) fn real(k: usize, words: &LineWords<'_>) -> Option<Moment>
+    ensures { result ≡ real_at k words.now }
+{
+    match operand(k, words) {
+        None => None,
+        Some(at) => Some(Moment::Realtime(at)),
     }
 }
 

@@ -19,7 +19,7 @@ use Rattle.script_table.specs.declared.form.MessageCall.{MessageCall}
 use Rattle.script_table.specs.declared.form.MessageCall.TheVariants as message
 use Rattle.words_script.specs.declared.name_kind.NameKind.TheVariants.{Thread, Mutex, Cond, Sem, Queue, Timer}
 use Rattle.script_table.specs.Names.{Entry}
-use Rattle.script_table.specs.Operands.{map_two, map_three, map_four, map_five, number_in, amount_at, priority_at, operand_at, signal_at, signals_at, named_at, fifo_at, rr_at, sporadic_at, strict_at}
+use Rattle.script_table.specs.Operands.{amount_at, fifo_at, map_five, map_four, map_three, map_two, moment_at, named_at, number_in, operand_at, priority_at, rr_at, signal_at, signals_at, sporadic_at, strict_at, real_at}
 
 abbrev pub thread_call : List Entry → ThreadCall → List (List ℕ) → Option Call
 thread_call es thread.Yield words = Some calls.Yield
@@ -38,25 +38,31 @@ thread_call es thread.SetschedStrict words = map_two calls.Setsched (named_at Th
 
 abbrev pub mutex_call : List Entry → MutexCall → List (List ℕ) → Option Call
 mutex_call es mutex.Lock words = option_map calls.Lock (named_at Mutex es 1 words)
-mutex_call es mutex.Timedlock words = map_two calls.Timedlock (named_at Mutex es 1 words) (operand_at 2 words)
+mutex_call es mutex.Timedlock words = map_two calls.Timedlock (named_at Mutex es 1 words) (moment_at 2 words)
+mutex_call es mutex.TimedlockReal words = map_two calls.Timedlock (named_at Mutex es 1 words) (real_at 2 words)
 mutex_call es mutex.Trylock words = option_map calls.Trylock (named_at Mutex es 1 words)
 mutex_call es mutex.Unlock words = option_map calls.Unlock (named_at Mutex es 1 words)
 mutex_call es mutex.Wait words = map_two calls.Wait (named_at Cond es 1 words) (named_at Mutex es 2 words)
-mutex_call es mutex.Timedwait words = map_three calls.Timedwait (named_at Cond es 1 words) (named_at Mutex es 2 words) (operand_at 3 words)
+mutex_call es mutex.Timedwait words = map_three calls.Timedwait (named_at Cond es 1 words) (named_at Mutex es 2 words) (moment_at 3 words)
+mutex_call es mutex.TimedwaitReal words = map_three calls.Timedwait (named_at Cond es 1 words) (named_at Mutex es 2 words) (real_at 3 words)
 mutex_call es mutex.Signal words = option_map calls.Signal (named_at Cond es 1 words)
 mutex_call es mutex.Broadcast words = option_map calls.Broadcast (named_at Cond es 1 words)
 
 abbrev pub sem_call : List Entry → SemCall → List (List ℕ) → Option Call
 sem_call es sem.Wait words = option_map calls.SemWait (named_at Sem es 1 words)
-sem_call es sem.Timedwait words = map_two calls.SemTimedwait (named_at Sem es 1 words) (operand_at 2 words)
+sem_call es sem.Timedwait words = map_two calls.SemTimedwait (named_at Sem es 1 words) (moment_at 2 words)
+sem_call es sem.TimedwaitReal words = map_two calls.SemTimedwait (named_at Sem es 1 words) (real_at 2 words)
 sem_call es sem.Trywait words = option_map calls.SemTrywait (named_at Sem es 1 words)
 sem_call es sem.Getvalue words = option_map calls.SemGetvalue (named_at Sem es 1 words)
 sem_call es sem.Post words = option_map calls.SemPost (named_at Sem es 1 words)
 
 abbrev pub time_call : List Entry → TimeCall → List (List ℕ) → Option Call
 time_call es time.Nanosleep words = option_map calls.Nanosleep (amount_at 1 words)
-time_call es time.ClockNanosleep words = option_map calls.ClockNanosleep (operand_at 1 words)
+time_call es time.ClockNanosleep words = option_map calls.ClockNanosleep (moment_at 1 words)
+time_call es time.ClockNanosleepReal words = option_map calls.ClockNanosleep (real_at 1 words)
 time_call es time.Gettime words = Some calls.Gettime
+time_call es time.RealGettime words = Some calls.RealGettime
+time_call es time.ClockSettime words = option_map calls.ClockSettime (operand_at 1 words)
 time_call es time.TimerSettimeRel words = map_three calls.TimerSettimeRel (named_at Timer es 1 words) (amount_at 3 words) (amount_at 4 words)
 time_call es time.TimerSettimeAbs words = map_three calls.TimerSettimeAbs (named_at Timer es 1 words) (operand_at 3 words) (amount_at 4 words)
 time_call es time.TimerGettime words = option_map calls.TimerGettime (named_at Timer es 1 words)
@@ -75,9 +81,12 @@ signal_call es signal.Sigtimedwait words = map_two calls.Sigtimedwait (signals_a
 abbrev pub message_call : List Entry → MessageCall → List (List ℕ) → Option Call
 message_call es message.Send words = map_four calls.MqSend (named_at Queue es 1 words) (number_in 0 65536 2 words) (number_in 0 31 3 words) (operand_at 4 words)
 message_call es message.Timedsend words =
-    map_five calls.MqTimedsend (named_at Queue es 1 words) (number_in 0 65536 2 words) (number_in 0 31 3 words) (operand_at 4 words) (operand_at 5 words)
+    map_five calls.MqTimedsend (named_at Queue es 1 words) (number_in 0 65536 2 words) (number_in 0 31 3 words) (operand_at 4 words) (moment_at 5 words)
+message_call es message.TimedsendReal words =
+    map_five calls.MqTimedsend (named_at Queue es 1 words) (number_in 0 65536 2 words) (number_in 0 31 3 words) (operand_at 4 words) (real_at 5 words)
 message_call es message.Receive words = option_map calls.MqReceive (named_at Queue es 1 words)
-message_call es message.Timedreceive words = map_two calls.MqTimedreceive (named_at Queue es 1 words) (operand_at 2 words)
+message_call es message.Timedreceive words = map_two calls.MqTimedreceive (named_at Queue es 1 words) (moment_at 2 words)
+message_call es message.TimedreceiveReal words = map_two calls.MqTimedreceive (named_at Queue es 1 words) (real_at 2 words)
 message_call es message.Notify words = map_three calls.MqNotify (named_at Queue es 1 words) (signal_at 2 words) (operand_at 3 words)
 
 abbrev pub call_of : List Entry → CallForm → List (List ℕ) → Option Call

@@ -38,6 +38,11 @@ queue nonblock None max_len = None
 queue nonblock (Some depth) None = None
 queue nonblock (Some depth) (Some max_len) = Some (kinds.Queue depth max_len nonblock)
 
+abbrev pub timer : Bool → Option ℕ → Option ℕ → Option Kind
+timer real None value = None
+timer real (Some sig) None = None
+timer real (Some sig) (Some value) = Some (kinds.Timer sig value real)
+
 -- what an object is
 abbrev pub kind_of_object : ObjectForm → List (List ℕ) → Option Kind
 kind_of_object object.MutexNone words = Some (kinds.Mutex Plain false)
@@ -50,7 +55,8 @@ kind_of_object object.Cond words = Some kinds.Cond
 kind_of_object object.Sem words = option_map kinds.Sem (number_in 0 32767 2 words)
 kind_of_object object.Queue words = queue false (number_in 1 64 2 words) (number_in 1 65536 3 words)
 kind_of_object object.QueueNonblock words = queue true (number_in 1 64 2 words) (number_in 1 65536 3 words)
-kind_of_object object.Timer words = map_two kinds.Timer (signal_at 2 words) (amount_at 3 words)
+kind_of_object object.Timer words = timer false (signal_at 2 words) (amount_at 3 words)
+kind_of_object object.TimerReal words = timer true (signal_at 2 words) (amount_at 3 words)
 
 abbrev pub object_decl : ObjectForm → List (List ℕ) → Option Decl
 object_decl f words = map_two Named (name_at 1 words) (kind_of_object f words)

@@ -6,6 +6,8 @@ use Rattle.words_numbers.specs.declared.res.Res.{Res}
 use Rattle.words_script.specs.Names.{is_name}
 use Rattle.words_script.specs.declared.policy.Policy.{Policy}
 use Rattle.words_script.specs.declared.policy.Policy.TheVariants.{Fifo, Rr, Sporadic, Strict}
+use Rattle.words_script.specs.declared.call.Moment.{Moment}
+use Rattle.words_script.specs.declared.call.Moment.TheVariants.{Monotonic, Realtime}
 use Rattle.words_script.specs.declared.call.Operand.{Operand}
 use Rattle.words_script.specs.declared.call.Operand.TheVariants.{Num, Reg}
 use Rattle.words_script.specs.declared.name_kind.NameKind.{NameKind}
@@ -47,6 +49,14 @@ priority_at k words = number_in 1 255 k words
 -- a number or the register
 abbrev pub operand_at : ℕ → List (List ℕ) → Option Operand
 operand_at k words = if is_register (word k words) then Some Reg else option_map Num (amount_at k words)
+
+-- an absolute time on CLOCK_MONOTONIC
+abbrev pub moment_at : ℕ → List (List ℕ) → Option Moment
+moment_at k words = option_map Monotonic (operand_at k words)
+
+-- and on CLOCK_REALTIME
+abbrev pub real_at : ℕ → List (List ℕ) → Option Moment
+real_at k words = option_map Realtime (operand_at k words)
 
 abbrev pub signal_at : ℕ → List (List ℕ) → Option ℕ
 signal_at k words = signal_of (word k words)

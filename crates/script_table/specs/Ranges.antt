@@ -64,6 +64,7 @@ object_kind object.Sem = kind.Sem
 object_kind object.Queue = kind.Queue
 object_kind object.QueueNonblock = kind.Queue
 object_kind object.Timer = kind.Timer
+object_kind object.TimerReal = kind.Timer
 object_kind mutex = kind.Mutex
 
 -- how many threads, mutexes, conditions and semaphores there may be of each; how many there are so far, how deep the blocks are, and how many of those are push blocks

@@ -55,6 +55,7 @@ declaration_patterns =
     row (form.Object object.Queue) Nowhere (Keyword (codes "queue") ∷ Declares kind.Queue ∷ Number 1 64 ∷ Number 1 65536 ∷ []) ∷
     row (form.Object object.QueueNonblock) Nowhere (Keyword (codes "queue") ∷ Declares kind.Queue ∷ Number 1 64 ∷ Number 1 65536 ∷ Keyword (codes "nonblock") ∷ []) ∷
     row (form.Object object.Timer) Nowhere (Keyword (codes "timer") ∷ Declares kind.Timer ∷ Signal ∷ amount ∷ []) ∷
+    row (form.Object object.TimerReal) Nowhere (Keyword (codes "timer") ∷ Declares kind.Timer ∷ Signal ∷ amount ∷ Keyword (codes "real") ∷ []) ∷
     row (form.Action action.Ignore) Nowhere (Keyword (codes "action") ∷ Acts ∷ Keyword (codes "ignore") ∷ []) ∷
     row (form.Action action.Run) Nowhere (Keyword (codes "action") ∷ Acts ∷ Keyword (codes "run") ∷ Uses kind.Handler ∷ []) ∷
     []
@@ -93,20 +94,26 @@ call_patterns =
     row (form.Call (call.Thread thread.SetschedSporadic)) Nowhere (Keyword (codes "setsched") ∷ Uses kind.Thread ∷ Keyword (codes "sporadic") ∷ priority ∷ priority ∷ amount ∷ amount ∷ amount ∷ []) ∷
     row (form.Call (call.Mutex mutex.Lock)) HandlersAndCleanups (Keyword (codes "lock") ∷ Uses kind.Mutex ∷ []) ∷
     row (form.Call (call.Mutex mutex.Timedlock)) HandlersAndCleanups (Keyword (codes "timedlock") ∷ Uses kind.Mutex ∷ Operand ∷ []) ∷
+    row (form.Call (call.Mutex mutex.TimedlockReal)) HandlersAndCleanups (Keyword (codes "timedlock") ∷ Uses kind.Mutex ∷ Operand ∷ Keyword (codes "real") ∷ []) ∷
     row (form.Call (call.Mutex mutex.Trylock)) Nowhere (Keyword (codes "trylock") ∷ Uses kind.Mutex ∷ []) ∷
     row (form.Call (call.Mutex mutex.Unlock)) Nowhere (Keyword (codes "unlock") ∷ Uses kind.Mutex ∷ []) ∷
     row (form.Call (call.Mutex mutex.Wait)) HandlersAndCleanups (Keyword (codes "wait") ∷ Uses kind.Cond ∷ Uses kind.Mutex ∷ []) ∷
     row (form.Call (call.Mutex mutex.Timedwait)) HandlersAndCleanups (Keyword (codes "timedwait") ∷ Uses kind.Cond ∷ Uses kind.Mutex ∷ Operand ∷ []) ∷
+    row (form.Call (call.Mutex mutex.TimedwaitReal)) HandlersAndCleanups (Keyword (codes "timedwait") ∷ Uses kind.Cond ∷ Uses kind.Mutex ∷ Operand ∷ Keyword (codes "real") ∷ []) ∷
     row (form.Call (call.Mutex mutex.Signal)) Nowhere (Keyword (codes "signal") ∷ Uses kind.Cond ∷ []) ∷
     row (form.Call (call.Mutex mutex.Broadcast)) Nowhere (Keyword (codes "broadcast") ∷ Uses kind.Cond ∷ []) ∷
     row (form.Call (call.Sem sem.Wait)) HandlersAndCleanups (Keyword (codes "sem_wait") ∷ Uses kind.Sem ∷ []) ∷
     row (form.Call (call.Sem sem.Timedwait)) HandlersAndCleanups (Keyword (codes "sem_timedwait") ∷ Uses kind.Sem ∷ Operand ∷ []) ∷
+    row (form.Call (call.Sem sem.TimedwaitReal)) HandlersAndCleanups (Keyword (codes "sem_timedwait") ∷ Uses kind.Sem ∷ Operand ∷ Keyword (codes "real") ∷ []) ∷
     row (form.Call (call.Sem sem.Trywait)) Nowhere (Keyword (codes "sem_trywait") ∷ Uses kind.Sem ∷ []) ∷
     row (form.Call (call.Sem sem.Getvalue)) Nowhere (Keyword (codes "sem_getvalue") ∷ Uses kind.Sem ∷ []) ∷
     row (form.Call (call.Sem sem.Post)) Nowhere (Keyword (codes "sem_post") ∷ Uses kind.Sem ∷ []) ∷
     row (form.Call (call.Time time.Nanosleep)) HandlersAndCleanups (Keyword (codes "nanosleep") ∷ amount ∷ []) ∷
     row (form.Call (call.Time time.ClockNanosleep)) HandlersAndCleanups (Keyword (codes "clock_nanosleep") ∷ Operand ∷ []) ∷
+    row (form.Call (call.Time time.ClockNanosleepReal)) HandlersAndCleanups (Keyword (codes "clock_nanosleep") ∷ Operand ∷ Keyword (codes "real") ∷ []) ∷
     row (form.Call (call.Time time.Gettime)) Nowhere (Keyword (codes "gettime") ∷ []) ∷
+    row (form.Call (call.Time time.RealGettime)) Nowhere (Keyword (codes "real_gettime") ∷ []) ∷
+    row (form.Call (call.Time time.ClockSettime)) Nowhere (Keyword (codes "clock_settime") ∷ Operand ∷ []) ∷
     row (form.Call (call.Time time.TimerSettimeRel)) Nowhere (Keyword (codes "timer_settime") ∷ Uses kind.Timer ∷ Keyword (codes "rel") ∷ amount ∷ amount ∷ []) ∷
     row (form.Call (call.Time time.TimerSettimeAbs)) Nowhere (Keyword (codes "timer_settime") ∷ Uses kind.Timer ∷ Keyword (codes "abs") ∷ Operand ∷ amount ∷ []) ∷
     row (form.Call (call.Time time.TimerGettime)) Nowhere (Keyword (codes "timer_gettime") ∷ Uses kind.Timer ∷ []) ∷
@@ -121,8 +128,10 @@ call_patterns =
     row (form.Call (call.Signal signal.Sigtimedwait)) HandlersAndCleanups (Keyword (codes "sigtimedwait") ∷ Signals ∷ amount ∷ []) ∷
     row (form.Call (call.Message message.Send)) HandlersAndCleanups (Keyword (codes "mq_send") ∷ Uses kind.Queue ∷ Number 0 65536 ∷ Number 0 31 ∷ Operand ∷ []) ∷
     row (form.Call (call.Message message.Timedsend)) HandlersAndCleanups (Keyword (codes "mq_timedsend") ∷ Uses kind.Queue ∷ Number 0 65536 ∷ Number 0 31 ∷ Operand ∷ Operand ∷ []) ∷
+    row (form.Call (call.Message message.TimedsendReal)) HandlersAndCleanups (Keyword (codes "mq_timedsend") ∷ Uses kind.Queue ∷ Number 0 65536 ∷ Number 0 31 ∷ Operand ∷ Operand ∷ Keyword (codes "real") ∷ []) ∷
     row (form.Call (call.Message message.Receive)) HandlersAndCleanups (Keyword (codes "mq_receive") ∷ Uses kind.Queue ∷ []) ∷
     row (form.Call (call.Message message.Timedreceive)) HandlersAndCleanups (Keyword (codes "mq_timedreceive") ∷ Uses kind.Queue ∷ Operand ∷ []) ∷
+    row (form.Call (call.Message message.TimedreceiveReal)) HandlersAndCleanups (Keyword (codes "mq_timedreceive") ∷ Uses kind.Queue ∷ Operand ∷ Keyword (codes "real") ∷ []) ∷
     row (form.Call (call.Message message.Notify)) Nowhere (Keyword (codes "mq_notify") ∷ Uses kind.Queue ∷ Signal ∷ Operand ∷ []) ∷
     []
 

@@ -31,6 +31,7 @@ pub enum ObjectForm {
     Queue,
     QueueNonblock,
     Timer,
+    TimerReal,
 }
 
 #[derive(Clone, Copy)]
@@ -114,10 +115,12 @@ pub enum ThreadCall {
 pub enum MutexCall {
     Lock,
     Timedlock,
+    TimedlockReal,
     Trylock,
     Unlock,
     Wait,
     Timedwait,
+    TimedwaitReal,
     Signal,
     Broadcast,
 }
@@ -126,6 +129,7 @@ pub enum MutexCall {
 pub enum SemCall {
     Wait,
     Timedwait,
+    TimedwaitReal,
     Trywait,
     Getvalue,
     Post,
@@ -136,7 +140,10 @@ pub enum SemCall {
 pub enum TimeCall {
     Nanosleep,
     ClockNanosleep,
+    ClockNanosleepReal,
     Gettime,
+    RealGettime,
+    ClockSettime,
     TimerSettimeRel,
     TimerSettimeAbs,
     TimerGettime,
@@ -160,7 +167,9 @@ pub enum SignalCall {
 pub enum MessageCall {
     Send,
     Timedsend,
+    TimedsendReal,
     Receive,
     Timedreceive,
+    TimedreceiveReal,
     Notify,
 }

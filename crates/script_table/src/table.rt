@@ -32,7 +32,7 @@ macro_rules! pattern {
 }
 
 // Those of strict servers stand last: version 1 does not have them.
-static DECLARATIONS: [Pattern; 24] = [
+static DECLARATIONS: [Pattern; 25] = [
     pattern!(Form::Quantum, Nowhere => b"quantum" (in 1, GREATEST_NUMBER)),
     pattern!(Form::Body(BodyForm::FifoAt), Nowhere => b"thread" (new Thread) b"fifo" P b"at" N),
     pattern!(Form::Body(BodyForm::FifoDormant), Nowhere => b"thread" (new Thread) b"fifo" P b"dormant"),
@@ -53,6 +53,7 @@ static DECLARATIONS: [Pattern; 24] = [
     pattern!(Form::Object(ObjectForm::Queue), Nowhere => b"queue" (new Queue) (in 1, 64) (in 1, 65_536)),
     pattern!(Form::Object(ObjectForm::QueueNonblock), Nowhere => b"queue" (new Queue) (in 1, 64) (in 1, 65_536) b"nonblock"),
     pattern!(Form::Object(ObjectForm::Timer), Nowhere => b"timer" (new Timer) SIG N),
+    pattern!(Form::Object(ObjectForm::TimerReal), Nowhere => b"timer" (new Timer) SIG N b"real"),
     pattern!(Form::Action(ActionForm::Ignore), Nowhere => b"action" ACT b"ignore"),
     pattern!(Form::Action(ActionForm::Run), Nowhere => b"action" ACT b"run" (of Handler)),
     pattern!(Form::Body(BodyForm::StrictAt), Nowhere => b"thread" (new Thread) b"strict" P P N N N b"at" N),
@@ -75,7 +76,7 @@ static STEPS: [Pattern; 12] = [
 ];
 
 // As above.
-static CALLS: [Pattern; 46] = [
+static CALLS: [Pattern; 54] = [
     pattern!(Form::Call(CallForm::Thread(ThreadCall::Yield)), Nowhere => b"yield"),
     pattern!(Form::Call(CallForm::Thread(ThreadCall::Create)), Nowhere => b"create" (of Thread)),
     pattern!(Form::Call(CallForm::Thread(ThreadCall::Join)), HandlersAndCleanups => b"join" (of Thread)),
@@ -90,20 +91,26 @@ static CALLS: [Pattern; 46] = [
     pattern!(Form::Call(CallForm::Thread(ThreadCall::SetschedSporadic)), Nowhere => b"setsched" (of Thread) b"sporadic" P P N N N),
     pattern!(Form::Call(CallForm::Mutex(MutexCall::Lock)), HandlersAndCleanups => b"lock" (of Mutex)),
     pattern!(Form::Call(CallForm::Mutex(MutexCall::Timedlock)), HandlersAndCleanups => b"timedlock" (of Mutex) V),
+    pattern!(Form::Call(CallForm::Mutex(MutexCall::TimedlockReal)), HandlersAndCleanups => b"timedlock" (of Mutex) V b"real"),
     pattern!(Form::Call(CallForm::Mutex(MutexCall::Trylock)), Nowhere => b"trylock" (of Mutex)),
     pattern!(Form::Call(CallForm::Mutex(MutexCall::Unlock)), Nowhere => b"unlock" (of Mutex)),
     pattern!(Form::Call(CallForm::Mutex(MutexCall::Wait)), HandlersAndCleanups => b"wait" (of Cond) (of Mutex)),
     pattern!(Form::Call(CallForm::Mutex(MutexCall::Timedwait)), HandlersAndCleanups => b"timedwait" (of Cond) (of Mutex) V),
+    pattern!(Form::Call(CallForm::Mutex(MutexCall::TimedwaitReal)), HandlersAndCleanups => b"timedwait" (of Cond) (of Mutex) V b"real"),
     pattern!(Form::Call(CallForm::Mutex(MutexCall::Signal)), Nowhere => b"signal" (of Cond)),
     pattern!(Form::Call(CallForm::Mutex(MutexCall::Broadcast)), Nowhere => b"broadcast" (of Cond)),
     pattern!(Form::Call(CallForm::Sem(SemCall::Wait)), HandlersAndCleanups => b"sem_wait" (of Sem)),
     pattern!(Form::Call(CallForm::Sem(SemCall::Timedwait)), HandlersAndCleanups => b"sem_timedwait" (of Sem) V),
+    pattern!(Form::Call(CallForm::Sem(SemCall::TimedwaitReal)), HandlersAndCleanups => b"sem_timedwait" (of Sem) V b"real"),
     pattern!(Form::Call(CallForm::Sem(SemCall::Trywait)), Nowhere => b"sem_trywait" (of Sem)),
     pattern!(Form::Call(CallForm::Sem(SemCall::Getvalue)), Nowhere => b"sem_getvalue" (of Sem)),
     pattern!(Form::Call(CallForm::Sem(SemCall::Post)), Nowhere => b"sem_post" (of Sem)),
     pattern!(Form::Call(CallForm::Time(TimeCall::Nanosleep)), HandlersAndCleanups => b"nanosleep" N),
     pattern!(Form::Call(CallForm::Time(TimeCall::ClockNanosleep)), HandlersAndCleanups => b"clock_nanosleep" V),
+    pattern!(Form::Call(CallForm::Time(TimeCall::ClockNanosleepReal)), HandlersAndCleanups => b"clock_nanosleep" V b"real"),
     pattern!(Form::Call(CallForm::Time(TimeCall::Gettime)), Nowhere => b"gettime"),
+    pattern!(Form::Call(CallForm::Time(TimeCall::RealGettime)), Nowhere => b"real_gettime"),
+    pattern!(Form::Call(CallForm::Time(TimeCall::ClockSettime)), Nowhere => b"clock_settime" V),
     pattern!(Form::Call(CallForm::Time(TimeCall::TimerSettimeRel)), Nowhere => b"timer_settime" (of Timer) b"rel" N N),
     pattern!(Form::Call(CallForm::Time(TimeCall::TimerSettimeAbs)), Nowhere => b"timer_settime" (of Timer) b"abs" V N),
     pattern!(Form::Call(CallForm::Time(TimeCall::TimerGettime)), Nowhere => b"timer_gettime" (of Timer)),
@@ -118,8 +125,10 @@ static CALLS: [Pattern; 46] = [
     pattern!(Form::Call(CallForm::Signal(SignalCall::Sigtimedwait)), HandlersAndCleanups => b"sigtimedwait" SET N),
     pattern!(Form::Call(CallForm::Message(MessageCall::Send)), HandlersAndCleanups => b"mq_send" (of Queue) (in 0, 65_536) (in 0, 31) V),
     pattern!(Form::Call(CallForm::Message(MessageCall::Timedsend)), HandlersAndCleanups => b"mq_timedsend" (of Queue) (in 0, 65_536) (in 0, 31) V V),
+    pattern!(Form::Call(CallForm::Message(MessageCall::TimedsendReal)), HandlersAndCleanups => b"mq_timedsend" (of Queue) (in 0, 65_536) (in 0, 31) V V b"real"),
     pattern!(Form::Call(CallForm::Message(MessageCall::Receive)), HandlersAndCleanups => b"mq_receive" (of Queue)),
     pattern!(Form::Call(CallForm::Message(MessageCall::Timedreceive)), HandlersAndCleanups => b"mq_timedreceive" (of Queue) V),
+    pattern!(Form::Call(CallForm::Message(MessageCall::TimedreceiveReal)), HandlersAndCleanups => b"mq_timedreceive" (of Queue) V b"real"),
     pattern!(Form::Call(CallForm::Message(MessageCall::Notify)), Nowhere => b"mq_notify" (of Queue) SIG V),
     pattern!(Form::Call(CallForm::Thread(ThreadCall::SetschedStrict)), Nowhere => b"setsched" (of Thread) b"strict" P P N N N),
 ];
@@ -128,7 +137,7 @@ static CALLS: [Pattern; 46] = [
 fn declarations() -> &'static [Pattern]
     ensures { map row_of result.now ≡ declaration_patterns }
 {
-    &DECLARATIONS[..22]
+    &DECLARATIONS[..23]
 }
 
 #[tactic(auto, unfolding(crate::specs::Table::declaration_patterns, crate::specs::Table::strict_declarations))]
@@ -149,7 +158,7 @@ fn steps() -> &'static [Pattern]
 fn calls() -> &'static [Pattern]
     ensures { map row_of result.now ≡ call_patterns }
 {
-    &CALLS[..45]
+    &CALLS[..53]
 }
 
 #[tactic(auto, unfolding(crate::specs::Table::call_patterns, crate::specs::Table::strict_calls))]

@@ -60,7 +60,7 @@ one_kind decls name (kind.Mutex protocol recursive) e = refl
 one_kind decls name kind.Cond e = refl
 one_kind decls name (kind.Sem value) e = refl
 one_kind decls name (kind.Queue depth max_len nonblock) e = refl
-one_kind decls name (kind.Timer sig value) e = refl
+one_kind decls name (kind.Timer sig value real) e = refl
 
 pub block_kind : (decls : List Decl) (name : List ℕ) (k : Kind) (b : Block) → Some b ≡ body_in k →
     line_text (named_words name k) ++ (text_of (block_lines decls b) ++ line_text end_words) ≡ text_of (kind_lines decls name k)
@@ -71,4 +71,4 @@ block_kind decls name (kind.Mutex protocol recursive) b e = some_none b e
 block_kind decls name kind.Cond b e = some_none b e
 block_kind decls name (kind.Sem value) b e = some_none b e
 block_kind decls name (kind.Queue depth max_len nonblock) b e = some_none b e
-block_kind decls name (kind.Timer sig value) b e = some_none b e
+block_kind decls name (kind.Timer sig value real) b e = some_none b e

@@ -17,7 +17,7 @@ use Rattle.words_script.specs.Block.{Block, Nothing, Running, Making, Setting, A
 use Rattle.script_lex.specs.Joined.{joined_words, joined_lines}
 use Rattle.words_script.specs.declared.name_kind.NameKind.TheVariants as name_kind
 use Rattle.script_writer.specs.Names.{name_of}
-use Rattle.script_writer.specs.Words.{operand_word, signal_word, set_word}
+use Rattle.script_writer.specs.Words.{moment_words, operand_word, signal_word, set_word}
 
 -- a line, as its words
 abbrev pub Words : Type 0
@@ -50,21 +50,23 @@ call_words decls (call.Exit v) = codes "exit" ∷ operand_word v ∷ []
 call_words decls (call.Setprio t p) = codes "setprio" ∷ name_of decls name_kind.Thread t ∷ decimal p ∷ []
 call_words decls (call.Setsched t p) = codes "setsched" ∷ name_of decls name_kind.Thread t ∷ policy_words p
 call_words decls (call.Lock m) = codes "lock" ∷ name_of decls name_kind.Mutex m ∷ []
-call_words decls (call.Timedlock m at) = codes "timedlock" ∷ name_of decls name_kind.Mutex m ∷ operand_word at ∷ []
+call_words decls (call.Timedlock m at) = codes "timedlock" ∷ name_of decls name_kind.Mutex m ∷ moment_words at
 call_words decls (call.Trylock m) = codes "trylock" ∷ name_of decls name_kind.Mutex m ∷ []
 call_words decls (call.Unlock m) = codes "unlock" ∷ name_of decls name_kind.Mutex m ∷ []
 call_words decls (call.Wait c m) = codes "wait" ∷ name_of decls name_kind.Cond c ∷ name_of decls name_kind.Mutex m ∷ []
-call_words decls (call.Timedwait c m at) = codes "timedwait" ∷ name_of decls name_kind.Cond c ∷ name_of decls name_kind.Mutex m ∷ operand_word at ∷ []
+call_words decls (call.Timedwait c m at) = codes "timedwait" ∷ name_of decls name_kind.Cond c ∷ name_of decls name_kind.Mutex m ∷ moment_words at
 call_words decls (call.Signal c) = codes "signal" ∷ name_of decls name_kind.Cond c ∷ []
 call_words decls (call.Broadcast c) = codes "broadcast" ∷ name_of decls name_kind.Cond c ∷ []
 call_words decls (call.SemWait s) = codes "sem_wait" ∷ name_of decls name_kind.Sem s ∷ []
-call_words decls (call.SemTimedwait s at) = codes "sem_timedwait" ∷ name_of decls name_kind.Sem s ∷ operand_word at ∷ []
+call_words decls (call.SemTimedwait s at) = codes "sem_timedwait" ∷ name_of decls name_kind.Sem s ∷ moment_words at
 call_words decls (call.SemTrywait s) = codes "sem_trywait" ∷ name_of decls name_kind.Sem s ∷ []
 call_words decls (call.SemGetvalue s) = codes "sem_getvalue" ∷ name_of decls name_kind.Sem s ∷ []
 call_words decls (call.SemPost s) = codes "sem_post" ∷ name_of decls name_kind.Sem s ∷ []
 call_words decls (call.Nanosleep n) = codes "nanosleep" ∷ decimal n ∷ []
-call_words decls (call.ClockNanosleep at) = codes "clock_nanosleep" ∷ operand_word at ∷ []
+call_words decls (call.ClockNanosleep at) = codes "clock_nanosleep" ∷ moment_words at
 call_words decls call.Gettime = codes "gettime" ∷ []
+call_words decls call.RealGettime = codes "real_gettime" ∷ []
+call_words decls (call.ClockSettime at) = codes "clock_settime" ∷ operand_word at ∷ []
 call_words decls (call.TimerSettimeRel k first every) = codes "timer_settime" ∷ name_of decls name_kind.Timer k ∷ codes "rel" ∷ decimal first ∷ decimal every ∷ []
 call_words decls (call.TimerSettimeAbs k at every) = codes "timer_settime" ∷ name_of decls name_kind.Timer k ∷ codes "abs" ∷ operand_word at ∷ decimal every ∷ []
 call_words decls (call.TimerGettime k) = codes "timer_gettime" ∷ name_of decls name_kind.Timer k ∷ []
@@ -78,9 +80,9 @@ call_words decls (call.SigmaskSet set) = codes "sigmask" ∷ codes "set" ∷ set
 call_words decls (call.Sigwaitinfo set) = codes "sigwaitinfo" ∷ set_word set ∷ []
 call_words decls (call.Sigtimedwait set n) = codes "sigtimedwait" ∷ set_word set ∷ decimal n ∷ []
 call_words decls (call.MqSend q len prio v) = codes "mq_send" ∷ name_of decls name_kind.Queue q ∷ decimal len ∷ decimal prio ∷ operand_word v ∷ []
-call_words decls (call.MqTimedsend q len prio v at) = codes "mq_timedsend" ∷ name_of decls name_kind.Queue q ∷ decimal len ∷ decimal prio ∷ operand_word v ∷ operand_word at ∷ []
+call_words decls (call.MqTimedsend q len prio v at) = codes "mq_timedsend" ∷ name_of decls name_kind.Queue q ∷ decimal len ∷ decimal prio ∷ operand_word v ∷ moment_words at
 call_words decls (call.MqReceive q) = codes "mq_receive" ∷ name_of decls name_kind.Queue q ∷ []
-call_words decls (call.MqTimedreceive q at) = codes "mq_timedreceive" ∷ name_of decls name_kind.Queue q ∷ operand_word at ∷ []
+call_words decls (call.MqTimedreceive q at) = codes "mq_timedreceive" ∷ name_of decls name_kind.Queue q ∷ moment_words at
 call_words decls (call.MqNotify q sig v) = codes "mq_notify" ∷ name_of decls name_kind.Queue q ∷ signal_word sig ∷ operand_word v ∷ []
 
 -- the lines of steps that have no block
@@ -148,7 +150,7 @@ kind_lines decls name (kind.Mutex protocol recursive) = (codes "mutex" ∷ name 
 kind_lines decls name kind.Cond = (codes "cond" ∷ name ∷ []) ∷ []
 kind_lines decls name (kind.Sem value) = (codes "sem" ∷ name ∷ decimal value ∷ []) ∷ []
 kind_lines decls name (kind.Queue depth max_len nonblock) = (codes "queue" ∷ name ∷ decimal depth ∷ decimal max_len ∷ flag_words (codes "nonblock") nonblock) ∷ []
-kind_lines decls name (kind.Timer sig value) = (codes "timer" ∷ name ∷ signal_word sig ∷ decimal value ∷ []) ∷ []
+kind_lines decls name (kind.Timer sig value real) = (codes "timer" ∷ name ∷ signal_word sig ∷ decimal value ∷ flag_words (codes "real") real) ∷ []
 
 -- what a signal does
 abbrev pub action_words : List Decl → ℕ → Option ℕ → Words

@@ -37,7 +37,7 @@ named_words name (kind.Mutex protocol recursive) = codes "mutex" ∷ name ∷ (p
 named_words name kind.Cond = codes "cond" ∷ name ∷ []
 named_words name (kind.Sem value) = codes "sem" ∷ name ∷ decimal value ∷ []
 named_words name (kind.Queue depth max_len nonblock) = codes "queue" ∷ name ∷ decimal depth ∷ decimal max_len ∷ flag_words (codes "nonblock") nonblock
-named_words name (kind.Timer sig value) = codes "timer" ∷ name ∷ signal_word sig ∷ decimal value ∷ []
+named_words name (kind.Timer sig value real) = codes "timer" ∷ name ∷ signal_word sig ∷ decimal value ∷ flag_words (codes "real") real
 
 abbrev pub body_in : Kind → Option Block
 body_in (kind.Thread policy start body) = Some body

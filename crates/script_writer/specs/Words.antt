@@ -2,6 +2,8 @@
 use Rattle.std.specs.Prelude.{ℕ, ◌==◌, Bool, true, false, if◌then◌else◌, List, [], ◌∷◌, ◌++◌, map, filter, codes, decimal}
 use Rattle.std.specs.List.{range_with_len}
 use Rattle.words_numbers.specs.Signals.{every_signal, has_signal}
+use Rattle.words_script.specs.declared.call.Moment.{Moment}
+use Rattle.words_script.specs.declared.call.Moment.TheVariants.{Monotonic, Realtime}
 use Rattle.words_script.specs.declared.call.Operand.{Operand}
 use Rattle.words_script.specs.declared.call.Operand.TheVariants.{Num, Reg}
 
@@ -9,6 +11,11 @@ use Rattle.words_script.specs.declared.call.Operand.TheVariants.{Num, Reg}
 abbrev pub operand_word : Operand → List ℕ
 operand_word (Num n) = decimal n
 operand_word Reg = codes "reg"
+
+-- an absolute time, and the word of its clock where it is CLOCK_REALTIME
+abbrev pub moment_words : Moment → List (List ℕ)
+moment_words (Monotonic at) = operand_word at ∷ []
+moment_words (Realtime at) = operand_word at ∷ codes "real" ∷ []
 
 abbrev pub signal_word : ℕ → List ℕ
 signal_word sig = codes "rt" ++ decimal sig

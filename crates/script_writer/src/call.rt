@@ -13,7 +13,8 @@ ghost use Rattle.script_writer.specs.Canon.{call_words};
 use crate::line::LineText;
 use conditions::{timedwait, wait};
 use operands::{
-    bare, on_object, on_object_with, on_thread, two_keywords, with_number, with_operand,
+    bare, on_object, on_object_until, on_thread, two_keywords, with_moment, with_number,
+    with_operand,
 };
 use queues::{mq_notify, mq_send, mq_timedsend};
 use signals::{kill, sigmask, sigqueue, sigtimedwait, sigwaitinfo, tkill};
@@ -41,7 +42,7 @@ pub(crate) fn call_line(decls: &[Decl], call: &Call) -> LineText
         Call::Setsched(t, policy) => setsched(decls, *t, *policy),
         Call::Lock(m) => on_object(decls, b"lock", NameKind::Mutex, *m),
         Call::Timedlock { mutex, at } => {
-            on_object_with(decls, b"timedlock", NameKind::Mutex, *mutex, *at)
+            on_object_until(decls, b"timedlock", NameKind::Mutex, *mutex, *at)
         }
         Call::Trylock(m) => on_object(decls, b"trylock", NameKind::Mutex, *m),
         Call::Unlock(m) => on_object(decls, b"unlock", NameKind::Mutex, *m),
@@ -51,14 +52,16 @@ pub(crate) fn call_line(decls: &[Decl], call: &Call) -> LineText
         Call::Broadcast(c) => on_object(decls, b"broadcast", NameKind::Cond, *c),
         Call::SemWait(s) => on_object(decls, b"sem_wait", NameKind::Sem, *s),
         Call::SemTimedwait { sem, at } => {
-            on_object_with(decls, b"sem_timedwait", NameKind::Sem, *sem, *at)
+            on_object_until(decls, b"sem_timedwait", NameKind::Sem, *sem, *at)
         }
         Call::SemTrywait(s) => on_object(decls, b"sem_trywait", NameKind::Sem, *s),
         Call::SemGetvalue(s) => on_object(decls, b"sem_getvalue", NameKind::Sem, *s),
         Call::SemPost(s) => on_object(decls, b"sem_post", NameKind::Sem, *s),
         Call::Nanosleep(ticks) => with_number(b"nanosleep", *ticks),
-        Call::ClockNanosleep { at } => with_operand(b"clock_nanosleep", *at),
+        Call::ClockNanosleep { at } => with_moment(b"clock_nanosleep", *at),
         Call::Gettime => bare(b"gettime"),
+        Call::RealGettime => bare(b"real_gettime"),
+        Call::ClockSettime(at) => with_operand(b"clock_settime", *at),
         Call::TimerSettimeRel(k, first, interval) => settime_rel(decls, *k, *first, *interval),
         Call::TimerSettimeAbs(k, at, interval) => settime_abs(decls, *k, *at, *interval),
         Call::TimerGettime(k) => on_object(decls, b"timer_gettime", NameKind::Timer, *k),
@@ -81,7 +84,7 @@ pub(crate) fn call_line(decls: &[Decl], call: &Call) -> LineText
         } => mq_timedsend(decls, *queue, *len, *prio, *value, *at),
         Call::MqReceive(q) => on_object(decls, b"mq_receive", NameKind::Queue, *q),
         Call::MqTimedreceive { queue, at } => {
-            on_object_with(decls, b"mq_timedreceive", NameKind::Queue, *queue, *at)
+            on_object_until(decls, b"mq_timedreceive", NameKind::Queue, *queue, *at)
         }
         Call::MqNotify(q, sig, value) => mq_notify(decls, *q, *sig, *value),
     }

@@ -2,6 +2,7 @@
 ghost use Rattle.std.specs.Prelude.{◌≡◌, ◌≤◌, ◌∷◌, ◌++◌, [], length, codes, decimal, true, false};
 ghost use Rattle.script_writer.specs.Line.{line_text};
 ghost use Rattle.script_writer.specs.Names.{name_of};
+ghost use Rattle.script_writer.specs.Words.{signal_word};
 ghost use Rattle.script_writer.specs.Canon.{block_lines, policy_words, start_words, protocol_words, flag_words, kind_lines, action_words, decl_lines, text_of, end_words};
 ghost use Rattle.std.specs.Option.{option_map};
 ghost use Rattle.script_writer.specs.Firsts.{named_words, body_in};
@@ -144,6 +145,24 @@ fn recursive_mutex_line(name: &[u8], protocol: Protocol) -> LineText
     }
 }
 
+fn timer_line(name: &[u8], sig: u8, value: u64, real: bool) -> LineText
+    requires { length name.now ≤ 32 }
+    ensures { result.items ≡ line_text (codes "timer" ∷ name.now ∷ signal_word sig ∷ decimal value ∷ flag_words (codes "real") real) }
+{
+    let timer = Keyword(b"timer");
+    if real {
+        line_of(&[
+            timer,
+            Name(name),
+            Signal(sig),
+            Number(value),
+            Keyword(b"real"),
+        ])
+    } else {
+        line_of(&[timer, Name(name), Signal(sig), Number(value)])
+    }
+}
+
 fn queue_line(name: &[u8], depth: u32, max_len: u32, nonblock: bool) -> LineText
     requires { length name.now ≤ 32 }
     ensures { result.items
@@ -199,9 +218,7 @@ pub(crate) fn named_line(name: &[u8], kind: &Kind) -> LineText
             max_len,
             nonblock,
         } => queue_line(name, *depth, *max_len, *nonblock),
-        Kind::Timer { sig, value } => {
-            line_of(&[Keyword(b"timer"), Name(name), Signal(*sig), Number(*value)])
-        }
+        Kind::Timer { sig, value, real } => timer_line(name, *sig, *value, *real),
     }
 }
 

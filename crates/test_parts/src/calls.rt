@@ -1,11 +1,13 @@
 //! What is known of a call.
 use rules_machine::{call_name, is_cancellation_point};
-use words_script::{Call, Operand};
+use words_script::{Call, Moment, Operand};
 use words_trace::CallName;
 
 #[test]
 fn names_and_points_of_two_calls(rt: HostRuntime) {
-    let sleep = Call::ClockNanosleep { at: Operand::Reg };
+    let sleep = Call::ClockNanosleep {
+        at: Moment::Monotonic(Operand::Reg),
+    };
     assert_eq!(rt; call_name(&sleep), CallName::ClockNanosleep);
     assert!(rt; is_cancellation_point(&sleep));
 

@@ -15,7 +15,14 @@ fn one_timer(alloc: Global) -> Result<Script, Fail>
 {
     let name = Name::try_new(b"k".as_slice()).ok_or("no name")?;
     let mut decls = Vec::new(alloc);
-    decls.push(Decl::Named(name, Kind::Timer { sig: 3, value: 9 }))?;
+    decls.push(Decl::Named(
+        name,
+        Kind::Timer {
+            sig: 3,
+            value: 9,
+            real: false,
+        },
+    ))?;
     Ok(Script {
         version: 1,
         quantum: 10,
@@ -108,7 +115,7 @@ fn a_timer_is_due_again_after_its_interval(rt: HostRuntime) -> Result<(), Fail> 
     assert!(rt; (k.get() as usize) < table.timer_count());
     assert_eq!(rt; table.timer(k).signal(), 3);
     assert_eq!(rt; table.timer(k).value(), 9);
-    table.set_timer(k, Some(tick(5)), 4);
+    table.set_timer(k, Some(tick(5)), false, 4);
     assert_eq!(rt; table.next_due(), Some(tick(5)));
     assert_eq!(rt; table.timer(k).ticks_left(tick(2)), 3);
     assert_eq!(rt; table.first_due(tick(5)), Some(Item::Timer(k)));

@@ -1,5 +1,5 @@
 //! A timer of signal 5.
-ghost use Rattle.std.specs.Prelude.{◌≡◌, ◌∷◌, [], None, IfOk};
+ghost use Rattle.std.specs.Prelude.{◌≡◌, ◌∷◌, [], false, None, IfOk};
 ghost use Rattle.rules_machine.specs.Declarations.{timers_of};
 
 use crate::numbers::{object, tick};
@@ -9,11 +9,18 @@ use std::test::Fail;
 use words_script::{Decl, Decls, Kind, Name, Script};
 
 fn script(alloc: Global) -> Result<Script, AllocError>
-    ensures { IfOk result (λ s. timers_of s ≡ record { signal = 5; value = 77; due = None; interval = 0; extra = 0; overrun = 0 } ∷ []) }
+    ensures { IfOk result (λ s. timers_of s ≡ record { signal = 5; value = 77; is_real = false; due = None; is_reading = false; interval = 0; extra = 0; overrun = 0 } ∷ []) }
 {
     let mut decls = Vec::new(alloc);
     let name = Name::try_new(b"beat").unwrap();
-    decls.push(Decl::Named(name, Kind::Timer { sig: 5, value: 77 }))?;
+    decls.push(Decl::Named(
+        name,
+        Kind::Timer {
+            sig: 5,
+            value: 77,
+            real: false,
+        },
+    ))?;
     Ok(Script {
         version: 1,
         quantum: 1,
@@ -31,7 +38,7 @@ fn a_timer_expires_again_and_again(rt: HostRuntime) -> Result<(), Fail> {
     assert_eq!(rt; timers.get(k).value(), 77);
     assert_eq!(rt; timers.get(k).due(), None);
 
-    timers.settime(k, Some(tick(10)), 4);
+    timers.settime(k, Some(tick(10)), false, 4);
     assert_eq!(rt; timers.get(k).due(), Some(tick(10)));
     assert_eq!(rt; timers.get(k).ticks_left(tick(7)), 3);
     timers.arm_again(k, tick(10));
@@ -42,7 +49,7 @@ fn a_timer_expires_again_and_again(rt: HostRuntime) -> Result<(), Fail> {
     assert_eq!(rt; timers.get(k).overrun(), 0);
     timers.accepted(k);
     assert_eq!(rt; timers.get(k).overrun(), 2);
-    timers.settime(k, None, 0);
+    timers.settime(k, None, false, 0);
     assert_eq!(rt; timers.get(k).ticks_left(tick(12)), 0);
     Ok(())
 }

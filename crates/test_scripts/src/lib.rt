@@ -10,6 +10,8 @@ mod bodies;
 #[cfg(test)]
 mod canonical;
 #[cfg(test)]
+mod clock;
+#[cfg(test)]
 mod printed;
 #[cfg(test)]
 mod refused;

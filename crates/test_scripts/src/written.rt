@@ -4,7 +4,9 @@ use script_writer::write_script;
 use std::alloc::Global;
 use std::test::Fail;
 use words_numbers::{ObjId, Params, Prio, Res, SigSet, Tid};
-use words_script::{Body, Call, Decl, Decls, Kind, Name, Operand, Policy, Protocol, Script, Step};
+use words_script::{
+    Body, Call, Decl, Decls, Kind, Moment, Name, Operand, Policy, Protocol, Script, Step,
+};
 
 fn declare(decls: &mut Vec<Decl>, name: &str, kind: Kind) -> Result<(), Fail> {
     let name = Name::try_new(name.as_bytes()).ok_or("no name")?;
@@ -91,7 +93,8 @@ fn declare_pairs(decls: &mut Vec<Decl>) -> Result<(), Fail> {
         };
         declare(decls, mutex, kind)?;
         declare(decls, sem, Kind::Sem { value: 0 })?;
-        declare(decls, timer, Kind::Timer { sig: 0, value: 0 })?;
+        let (sig, value, real) = (0, 0, false);
+        declare(decls, timer, Kind::Timer { sig, value, real })?;
     }
     Ok(())
 }
@@ -165,14 +168,23 @@ fn calls_that_cancel(rt: HostRuntime) -> Result<(), Fail> {
 #[test]
 fn calls_on_mutexes_and_conditions(rt: HostRuntime) -> Result<(), Fail> {
     let (zero, one) = (ObjId::try_new(0).ok_or("0")?, ObjId::try_new(1).ok_or("1")?);
-    let (cond, mutex, at) = (one, zero, Operand::Num(70));
+    let (cond, mutex) = (one, zero);
+    let at = Moment::Monotonic(Operand::Num(70));
+    let real = Moment::Realtime(Operand::Num(70));
+    let timedwait_real = Call::Timedwait {
+        cond,
+        mutex,
+        at: real,
+    };
     for (call, line) in [
         (Call::Lock(one), "lock m1"),
         (Call::Timedlock { mutex, at }, "timedlock m0 70"),
+        (Call::Timedlock { mutex, at: real }, "timedlock m0 70 real"),
         (Call::Trylock(one), "trylock m1"),
         (Call::Unlock(zero), "unlock m0"),
         (Call::Wait(zero, one), "wait c0 m1"),
         (Call::Timedwait { cond, mutex, at }, "timedwait c1 m0 70"),
+        (timedwait_real, "timedwait c1 m0 70 real"),
         (Call::Signal(one), "signal c1"),
         (Call::Broadcast(zero), "broadcast c0"),
     ] {
@@ -184,10 +196,15 @@ fn calls_on_mutexes_and_conditions(rt: HostRuntime) -> Result<(), Fail> {
 #[test]
 fn calls_on_semaphores(rt: HostRuntime) -> Result<(), Fail> {
     let (sem, one) = (ObjId::try_new(0).ok_or("0")?, ObjId::try_new(1).ok_or("1")?);
-    let at = Operand::Reg;
+    let at = Moment::Monotonic(Operand::Reg);
+    let real = Moment::Realtime(Operand::Reg);
     for (call, line) in [
         (Call::SemWait(one), "sem_wait s1"),
         (Call::SemTimedwait { sem, at }, "sem_timedwait s0 reg"),
+        (
+            Call::SemTimedwait { sem, at: real },
+            "sem_timedwait s0 reg real",
+        ),
         (Call::SemTrywait(one), "sem_trywait s1"),
         (Call::SemGetvalue(sem), "sem_getvalue s0"),
         (Call::SemPost(one), "sem_post s1"),
@@ -200,11 +217,16 @@ fn calls_on_semaphores(rt: HostRuntime) -> Result<(), Fail> {
 #[test]
 fn calls_on_time(rt: HostRuntime) -> Result<(), Fail> {
     let (zero, one) = (ObjId::try_new(0).ok_or("0")?, ObjId::try_new(1).ok_or("1")?);
-    let at = Operand::Num(70);
+    let at = Moment::Monotonic(Operand::Num(70));
+    let real = Moment::Realtime(Operand::Num(70));
     for (call, line) in [
         (Call::Nanosleep(0), "nanosleep 0"),
         (Call::ClockNanosleep { at }, "clock_nanosleep 70"),
+        (Call::ClockNanosleep { at: real }, "clock_nanosleep 70 real"),
         (Call::Gettime, "gettime"),
+        (Call::RealGettime, "real_gettime"),
+        (Call::ClockSettime(Operand::Num(9)), "clock_settime 9"),
+        (Call::ClockSettime(Operand::Reg), "clock_settime reg"),
         (Call::TimerSettimeRel(one, 7, 8), "timer_settime k1 rel 7 8"),
         (
             Call::TimerSettimeAbs(zero, Operand::Reg, 9),
@@ -244,7 +266,8 @@ fn calls_on_signals(rt: HostRuntime) -> Result<(), Fail> {
 #[test]
 fn calls_on_queues(rt: HostRuntime) -> Result<(), Fail> {
     let (queue, one) = (ObjId::try_new(0).ok_or("0")?, ObjId::try_new(1).ok_or("1")?);
-    let (len, prio, value, at) = (1, 2, Operand::Num(70), Operand::Reg);
+    let (len, prio, value) = (1, 2, Operand::Num(70));
+    let at = Moment::Monotonic(Operand::Reg);
     let timedsend = Call::MqTimedsend {
         queue,
         len,
@@ -252,11 +275,27 @@ fn calls_on_queues(rt: HostRuntime) -> Result<(), Fail> {
         value,
         at,
     };
+    let real = Moment::Realtime(Operand::Reg);
+    let timedsend_real = Call::MqTimedsend {
+        queue,
+        len,
+        prio,
+        value,
+        at: real,
+    };
     for (call, line) in [
-        (Call::MqSend(one, 65536, 31, at), "mq_send q1 65536 31 reg"),
+        (
+            Call::MqSend(one, 65536, 31, Operand::Reg),
+            "mq_send q1 65536 31 reg",
+        ),
         (timedsend, "mq_timedsend q0 1 2 70 reg"),
+        (timedsend_real, "mq_timedsend q0 1 2 70 reg real"),
         (Call::MqReceive(one), "mq_receive q1"),
         (Call::MqTimedreceive { queue, at }, "mq_timedreceive q0 reg"),
+        (
+            Call::MqTimedreceive { queue, at: real },
+            "mq_timedreceive q0 reg real",
+        ),
         (Call::MqNotify(one, 30, value), "mq_notify q1 rt30 70"),
     ] {
         assert!(rt; is_call_written(rt.alloc(), call, line)?);
@@ -364,11 +403,14 @@ fn timers_and_actions(rt: HostRuntime) -> Result<(), Fail> {
         let body = Body::new(Vec::new(alloc));
         declare(&mut decls, name, Kind::Handler { body })?;
     }
-    declare(&mut decls, "k", Kind::Timer { sig: 5, value: 9 })?;
+    for (name, real) in [("k", false), ("l", true)] {
+        let (sig, value) = (5, 9);
+        declare(&mut decls, name, Kind::Timer { sig, value, real })?;
+    }
     decls.push(Decl::Action(3, Some(ObjId::try_new(1).ok_or("h")?)))?;
     decls.push(Decl::Action(31, None))?;
     let wanted = b"quantum 10\nhandler g\nend\nhandler h\nend\n\
-        timer k rt5 9\naction rt3 run h\naction rt31 ignore\n";
+        timer k rt5 9\ntimer l rt5 9 real\naction rt3 run h\naction rt31 ignore\n";
     assert!(rt; is_written(alloc, 10, decls, wanted)?);
     Ok(())
 }

@@ -145,6 +145,8 @@ call_known call.SemPost = record { known = refl; word = refl }
 call_known call.Nanosleep = record { known = refl; word = refl }
 call_known call.ClockNanosleep = record { known = refl; word = refl }
 call_known call.Gettime = record { known = refl; word = refl }
+call_known call.RealGettime = record { known = refl; word = refl }
+call_known call.ClockSettime = record { known = refl; word = refl }
 call_known call.TimerSettime = record { known = refl; word = refl }
 call_known call.TimerGettime = record { known = refl; word = refl }
 call_known call.TimerGetoverrun = record { known = refl; word = refl }

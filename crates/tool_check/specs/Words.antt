@@ -38,7 +38,7 @@ every_call =
     call.Yield ∷ call.Create ∷ call.Join ∷ call.Cancel ∷ call.Testcancel ∷ call.Setcancel ∷ call.Push ∷ call.Pop ∷ call.Exit ∷ call.Setprio
     ∷ call.Setsched ∷ call.Lock ∷ call.Timedlock ∷ call.Trylock ∷ call.Unlock ∷ call.Wait ∷ call.Timedwait ∷ call.Signal ∷ call.Broadcast
     ∷ call.SemWait ∷ call.SemTimedwait ∷ call.SemTrywait ∷ call.SemGetvalue ∷ call.SemPost ∷ call.Nanosleep ∷ call.ClockNanosleep
-    ∷ call.Gettime ∷ call.TimerSettime ∷ call.TimerGettime ∷ call.TimerGetoverrun ∷ call.Kill ∷ call.Tkill ∷ call.Sigqueue ∷ call.Sigmask
+    ∷ call.Gettime ∷ call.RealGettime ∷ call.ClockSettime ∷ call.TimerSettime ∷ call.TimerGettime ∷ call.TimerGetoverrun ∷ call.Kill ∷ call.Tkill ∷ call.Sigqueue ∷ call.Sigmask
     ∷ call.Sigwaitinfo ∷ call.Sigtimedwait ∷ call.MqSend ∷ call.MqTimedsend ∷ call.MqReceive ∷ call.MqTimedreceive ∷ call.MqNotify ∷ []
 
 -- the first word of a call

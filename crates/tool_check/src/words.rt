@@ -109,7 +109,7 @@ pub(crate) fn is_name(word: &[u8]) -> bool
     Name::try_new(word).is_some()
 }
 
-static CALLS: [CallName; 41] = [
+static CALLS: [CallName; 43] = [
     CallName::Yield,
     CallName::Create,
     CallName::Join,
@@ -137,6 +137,8 @@ static CALLS: [CallName; 41] = [
     CallName::Nanosleep,
     CallName::ClockNanosleep,
     CallName::Gettime,
+    CallName::RealGettime,
+    CallName::ClockSettime,
     CallName::TimerSettime,
     CallName::TimerGettime,
     CallName::TimerGetoverrun,

@@ -28,4 +28,4 @@ kind_of (said.Mutex protocol recursive) = kind.Mutex
 kind_of said.Cond = kind.Cond
 kind_of (said.Sem value) = kind.Sem
 kind_of (said.Queue depth max_len nonblock) = kind.Queue
-kind_of (said.Timer sig value) = kind.Timer
+kind_of (said.Timer sig value real) = kind.Timer

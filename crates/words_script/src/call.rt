@@ -9,6 +9,15 @@ pub enum Operand {
     Reg,
 }
 
+/// An absolute time, with the clock that reads it.
+#[derive(Clone, Copy)]
+pub enum Moment {
+    /// On CLOCK_MONOTONIC, which cannot be set.
+    Monotonic(Operand),
+    /// On CLOCK_REALTIME.
+    Realtime(Operand),
+}
+
 /// A call with its operands, in the order of its line. Times are in ticks; `at` is an absolute time.
 #[derive(Clone, Copy)]
 pub enum Call {
@@ -32,7 +41,7 @@ pub enum Call {
     Lock(ObjId),
     Timedlock {
         mutex: ObjId,
-        at: Operand,
+        at: Moment,
     },
     Trylock(ObjId),
     Unlock(ObjId),
@@ -41,7 +50,7 @@ pub enum Call {
     Timedwait {
         cond: ObjId,
         mutex: ObjId,
-        at: Operand,
+        at: Moment,
     },
     Signal(ObjId),
     Broadcast(ObjId),
@@ -50,7 +59,7 @@ pub enum Call {
     SemWait(ObjId),
     SemTimedwait {
         sem: ObjId,
-        at: Operand,
+        at: Moment,
     },
     SemTrywait(ObjId),
     SemGetvalue(ObjId),
@@ -59,9 +68,13 @@ pub enum Call {
     // time
     Nanosleep(u64),
     ClockNanosleep {
-        at: Operand,
+        at: Moment,
     },
     Gettime,
+    /// The reading of CLOCK_REALTIME.
+    RealGettime,
+    /// The time that CLOCK_REALTIME is set to.
+    ClockSettime(Operand),
     /// The timer, the ticks to its first expiry, and its interval.
     TimerSettimeRel(ObjId, u64, u64),
     /// The timer, the time of its first expiry, and its interval.
@@ -88,12 +101,12 @@ pub enum Call {
         len: u32,
         prio: u8,
         value: Operand,
-        at: Operand,
+        at: Moment,
     },
     MqReceive(ObjId),
     MqTimedreceive {
         queue: ObjId,
-        at: Operand,
+        at: Moment,
     },
     /// The queue, the signal of the notification and its value.
     MqNotify(ObjId, u8, Operand),

@@ -40,6 +40,8 @@ pub enum Kind {
     Timer {
         sig: u8,
         value: u64,
+        /// Whether its clock is CLOCK_REALTIME.
+        real: bool,
     },
 }
 

@@ -11,7 +11,7 @@ mod names;
 mod policy;
 
 pub use body::{Body, Step};
-pub use call::{Call, Operand};
+pub use call::{Call, Moment, Operand};
 pub use decl::{Decl, Decls, Kind, Script};
 pub use name_kind::NameKind;
 pub use names::Name;

@@ -62,6 +62,8 @@ pub enum CallName {
     Nanosleep,
     ClockNanosleep,
     Gettime,
+    RealGettime,
+    ClockSettime,
     TimerSettime,
     TimerGettime,
     TimerGetoverrun,

@@ -17,7 +17,7 @@ syntax match pse52Call /^\s*\zs\%(sem_wait\|sem_timedwait\|sem_trywait\|sem_getv
 syntax match pse52Call /^\s*\zs\%(nanosleep\|clock_nanosleep\|gettime\|clock_settime\|real_gettime\|timer_settime\|timer_gettime\|timer_getoverrun\)\>/
 syntax match pse52Call /^\s*\zs\%(kill\|tkill\|sigqueue\|sigmask\|sigwaitinfo\|sigtimedwait\)\>/
 syntax match pse52Call /^\s*\zs\%(mq_send\|mq_timedsend\|mq_receive\|mq_timedreceive\|mq_notify\)\>/
-syntax keyword pse52Word fifo rr sporadic strict at dormant none inherit protect recursive nonblock ignore rel abs all reg enable disable block unblock
+syntax keyword pse52Word fifo rr sporadic strict at dormant none inherit protect recursive nonblock ignore rel abs real all reg enable disable block unblock
 syntax keyword pse52Result EAGAIN EBUSY EDEADLK EINTR EINVAL EMSGSIZE EOVERFLOW EPERM ESRCH ETIMEDOUT
 
 highlight default link pse52Comment Comment

@@ -53,6 +53,14 @@ CASES = [
     (BODY.format("version 2"), 2, 1, "UnknownWord", "first line"),
     ("thread s strict 9 2 10 3 4 at 0\nend\n", 1, 10, "UnknownWord", "policy of version 2"),
     ("version 2\nthread s strict 9 2 10 30 4 at 0\nend\n", 2, 24, "ServerRange", "budget 30 is above the period, 10"),
+    (BODY.format("clock_nanosleep 5 CLOCK_REALTIME"), 2, 19, "WordCount", "write `real`"),
+    (BODY.format("clock_nanosleep real"), 2, 17, "BadNumber", "`real` behind it"),
+    (BODY.format("nanosleep 5 real"), 2, 13, "WordCount", "behind an absolute time"),
+    (BODY.format("clock_nanosleep 5 real real"), 2, 24, "WordCount", "stands once"),
+    (BODY.format("clock_nanosleep 5 monotonic"), 2, 19, "WordCount", "without `real`"),
+    (BODY.format("gettime real"), 2, 9, "WordCount", "`real_gettime`"),
+    ("timer k rt1 0\n" + BODY.format("timer_settime k abs 5 0 real"), 3, 25, "WordCount", "`timer NAME SIG N real`"),
+    (BODY.format("settimeofday 5"), 2, 1, "UnknownWord", "`clock_settime` is what does it here"),
     ("quantum 5\nquantum 5\n" + BODY.format("run 1"), 2, 1, "TooMany", "said twice"),
 ]
 

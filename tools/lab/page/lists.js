@@ -18,15 +18,22 @@ function readyRows(point) {
   return lists.map(([priority, changes]) => [priority, factAt(changes, point)]).filter(([, members]) => members)
     .map(([priority, members]) => { const [head, ...tail] = members.split(" "); return ["priority " + priority, bold(head), tail.length ? " " + tail.join(" ") : ""]; });
 }
+// Where the wait of a stretch began: a setting of the clock moves its end, and begins another stretch.
+function beginOf(thread, span) {
+  let at = thread.spans.indexOf(span);
+  const goesOn = (before) => before && before[1] === thread.spans[at][0] && before[2] === WAITING && before[5] === span[5] && before[7] === span[7];
+  while (goesOn(thread.spans[at - 1])) at -= 1;
+  return thread.spans[at][0];
+}
 function waitingRows(point) {
   const rows = [];
   for (const thread of data.threads) {
     const span = spanOf(thread, point);
     if (!span || span[2] !== WAITING) continue;
-    const [from, , , , , call, kind, what, until] = span;
+    const [, , , , , call, kind, what, until] = span;
     const owner = kind === "mutex" && what ? saidAt("mutex", what, point).split(" ")[0] : "";
     const whom = kind === "join" ? " for " + what : owner ? " for " + owner + ", the owner of " + what : what ? " for the " + kind + " " + what : "";
-    rows.push([thread.name, "in " + call + whom + ", since " + ticks[from] + (until ? ", until " + until : "")]);
+    rows.push([thread.name, "in " + call + whom + ", since " + ticks[beginOf(thread, span)] + (until ? ", until " + until : "")]);
   }
   return rows;
 }

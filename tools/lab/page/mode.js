@@ -6,7 +6,7 @@ const STEPS = words("run set add take yield create join exit cancel testcancel s
   + "signal broadcast sem_wait sem_timedwait sem_trywait sem_getvalue sem_post nanosleep clock_nanosleep gettime clock_settime real_gettime "
   + "timer_settime timer_gettime timer_getoverrun kill tkill sigqueue sigmask sigwaitinfo sigtimedwait "
   + "mq_send mq_timedsend mq_receive mq_timedreceive mq_notify");
-const OTHERS = words("fifo rr sporadic strict at dormant none inherit protect recursive nonblock ignore run rel abs all reg enable disable block unblock "
+const OTHERS = words("fifo rr sporadic strict at dormant none inherit protect recursive nonblock ignore run rel abs real all reg enable disable block unblock "
   + "EAGAIN EBUSY EDEADLK EINTR EINVAL EMSGSIZE EOVERFLOW EPERM ESRCH ETIMEDOUT");
 
 function styleOf(word, isFirst) {

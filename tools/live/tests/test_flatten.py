@@ -72,8 +72,13 @@ class UnfitScripts(unittest.TestCase):
         self.assertEqual(self.why("thread a fifo 98 at 0", "sigmask block all", "kill rt30", "end"), [])
 
     def test_a_keyword_that_came_to_the_language_after_the_rig(self) -> None:
-        entry = Entry(3, Form(Role.STEP, Stage.WHOLE, ("clock_settime", "<number>")), ("5",))
-        self.assertEqual(list(reasons(entry)), ["clock_settime: the rig does not know it"])
+        entry = Entry(3, Form(Role.STEP, Stage.WHOLE, ("aio_read", "<number>")), ("5",))
+        self.assertEqual(list(reasons(entry)), ["aio_read: the rig does not know it"])
+
+    def test_the_clock_of_the_machine_is_left_alone(self) -> None:
+        told = self.why("timer k rt1 0 real", "thread a fifo 5 at 0", "clock_nanosleep 5", "clock_nanosleep 5 real", "clock_settime 5",
+                        "real_gettime", "end")
+        self.assertEqual([line.split(": ")[:2] for line in told], [[f"line {line}", "CLOCK_REALTIME"] for line in (1, 4, 5, 6)])
 
     def test_each_keyword_that_is_known_is_one_of_the_language(self) -> None:
         words = {word for form in FORMS for word in form.words if not is_place(word)}

@@ -25,7 +25,7 @@ from reader import read  # noqa: E402
 from state import FrameKind, ThreadState, WaitKind  # noqa: E402
 
 SVG = "{http://www.w3.org/2000/svg}"
-SCRIPTS = 28
+SCRIPTS = 32
 KINDS = {WaitKind.MUTEX: "mutex", WaitKind.CONTENTION: "mutex", WaitKind.COND: "condition", WaitKind.SEM: "semaphore", WaitKind.SEND: "queue",
          WaitKind.RECEIVE: "queue", WaitKind.JOIN: "join", WaitKind.SIGNAL: "signal", WaitKind.SLEEP: "sleep"}
 
@@ -136,6 +136,11 @@ class Lessons(unittest.TestCase):
         self.assertEqual((wait.start, wait.end, wait.kind, wait.what), (18, 32, "mutex", "bus"))
         self.assertEqual((ready.start, ready.end, ready.state), (16, 32, State.READY))
         self.assertEqual(seen.mutexes[0].bars[-1], (18, 32, "weather", 1))
+
+    def test_a_setting_of_the_clock_moves_the_end_of_a_sleep(self) -> None:
+        path = TOP / "tests" / "worked" / "facts_of_times_that_a_setting_moves.detail"
+        self.assertEqual([(s.start, s.end, s.until) for s in spans(seen_of(path.read_bytes()), "a") if s.state is State.WAITING],
+                         [(2, 3, 40), (3, 6, 13), (6, 7, 46)])
 
     def test_the_handler_in_a_sleep(self) -> None:
         seen = example("18_signal_in_sleep")

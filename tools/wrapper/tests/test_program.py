@@ -2,6 +2,7 @@
 from __future__ import annotations
 
 import os
+import re
 import shutil
 import subprocess
 import tempfile
@@ -228,6 +229,35 @@ esac
     def test_a_lock_of_a_run_that_is_gone(self) -> None:
         self.checkout.write("crates/pse52/out/proving/pid", "999999999\n")
         self.assertEqual(self.checkout.run("--prove", **self.more).status, 0)
+
+
+class Releases(unittest.TestCase):
+    """What `make_release.sh --check` says of a release and a program of the same code."""
+
+    def setUp(self) -> None:
+        self.folder = tempfile.TemporaryDirectory()
+        self.addCleanup(self.folder.cleanup)
+        self.checkout = Checkout.make(Path(self.folder.name))
+        self.checkout.put_built()
+        self.checkout.put_release()
+
+    def check(self, toolchain: str) -> tuple[int, str]:
+        """Status and text, where the program was built by this toolchain; that of the release is t."""
+        record = self.checkout.top / "crates/pse52/out/pse52.record"
+        record.write_text(re.sub("(?m)^toolchain.*", f"toolchain {toolchain}", record.read_text()))
+        words = ["bash", str(self.checkout.top / "tools/make_release.sh"), "--check"]
+        ended = subprocess.run(words, capture_output=True, text=True, check=False)
+        return ended.returncode, ended.stdout
+
+    def test_another_toolchain_is_told_and_its_bytes_are_not_compared(self) -> None:
+        status, said = self.check("u")
+        self.assertEqual(status, 3)
+        self.assertIn("WARNING: release: it was built by t, and the program here by u", said)
+
+    def test_another_program_of_the_same_toolchain_is_a_fault(self) -> None:
+        status, said = self.check("t")
+        self.assertEqual(status, 1)
+        self.assertIn("is not the one that the release was made of", said)
 
 
 if __name__ == "__main__":

@@ -1,11 +1,11 @@
 -- A thread that a call brought to run has a direct move.
-use Rattle.std.proofs.Common.{ℕ, ◌∷◌, refl}
+use Rattle.std.proofs.Common.{ℕ, ◌∷◌, false, refl}
 use Rattle.std.specs.Prelude.{None, Some, ◌+◌, ◌==◌, ◌&&◌, length, not, pred}
 use Rattle.words_numbers.specs.declared.res.Res.TheVariants as res
 use Rattle.words_script.specs.declared.call.Call.{Call}
 use Rattle.words_script.specs.declared.call.Call.TheVariants as call
 use Rattle.rules_machine.specs.Bodies.{Bodies}
-use Rattle.rules_machine.specs.Threads.{can_run, is_dormant, lives, number_of, semaphore_at, thread_at, timer_at}
+use Rattle.rules_machine.specs.Threads.{can_run, is_dormant, lives, moment_of, number_of, real_time, semaphore_at, thread_at, timer_at}
 use Rattle.rules_machine.specs.Turns.{Caller, Turn, changes, changes_semaphore, changes_timer, has_passed, moves, returns}
 use Rattle.rules_machine.specs.Servers.{activates_if}
 use Rattle.rules_machine.specs.Waking.{cancelled_value, ending_with}
@@ -17,8 +17,9 @@ use Rattle.rules_machine.specs.Conditions.{signals_best, signals_best_times, wai
 use Rattle.rules_machine.specs.Semaphores.{waits_on_semaphore}
 use Rattle.rules_machine.specs.Waiters.{best_waiter, waiters}
 use Rattle.rules_machine.specs.Calls.{call_effect, makes_call}
-use Rattle.rules_machine.specs.Timers.{armed, first_expiry, ticks_to}
+use Rattle.rules_machine.specs.Timers.{armed, first_expiry, ticks_to, timer_moment}
 use Rattle.rules_machine.specs.Signals.{record_of_kill, record_of_sigqueue, with_signals, without_signals}
+use Rattle.calls_table.proofs.Coming.Clock.{sets_clock_come}
 use Rattle.calls_table.proofs.Coming.Signals.{sends_signal_come, sets_mask_come, waits_signal_come}
 use Rattle.calls_table.proofs.Coming.Queues.{asks_notification_come, receives_message_come, sends_message_come}
 use Rattle.calls_table.proofs.Coming.Steps.{fewer_come, changes_fewer, returns_fewer, Comes, if_come, returns_come, creates_come, setprio_come, setsched_come, sleeps_come, returned_come, changed_come}
@@ -49,25 +50,27 @@ calls_come bodies b (call.Setsched u policy) s =
     if_come (lives s.machine u) _ _ s (setsched_come b u policy s.machine.now (can_run s.machine u) (not (owns_boosting x.machine u)) s) (returns_come b res.Srch 0 s)
 calls_come bodies b (call.Lock k) s = locks_on_come (lock_answer s.machine b.thread k None) b k None s
 calls_come bodies b (call.Timedlock k at) s =
-    let due = Some (number_of s.machine b.thread at) in locks_on_come (lock_answer s.machine b.thread k due) b k due s
+    let due = Some (moment_of s.machine b.thread at) in locks_on_come (lock_answer s.machine b.thread k due) b k due s
 calls_come bodies b (call.Trylock k) s = locks_on_come (trylock_answer s.machine b.thread k) b k None s
 calls_come bodies b (call.Unlock k) s = unlocks_come b k s
 calls_come bodies b (call.Wait c k) s = waits_come b c k None s
-calls_come bodies b (call.Timedwait c k at) s = waits_come b c k (Some (number_of s.machine b.thread at)) s
+calls_come bodies b (call.Timedwait c k at) s = waits_come b c k (Some (moment_of s.machine b.thread at)) s
 calls_come bodies b (call.Signal c) s = returned_come b res.Zero 0 (signals_best c) s (signals_best_come c (returns b res.Zero 0 s))
 calls_come bodies b (call.Broadcast c) s =
     returned_come b res.Zero 0 (signals_best_times (length (waiters s.machine (waits_on_condition c))) c) s (signals_best_of_come (length (waiters s.machine (waits_on_condition c))) c (returns b res.Zero 0 s))
 calls_come bodies b (call.SemWait k) s = waits_semaphore_come b k None s
-calls_come bodies b (call.SemTimedwait k at) s = waits_semaphore_come b k (Some (number_of s.machine b.thread at)) s
+calls_come bodies b (call.SemTimedwait k at) s = waits_semaphore_come b k (Some (moment_of s.machine b.thread at)) s
 calls_come bodies b (call.SemTrywait k) s = if_come (semaphore_at s.machine k == 0) _ _ s (returns_come b res.Again 0 s) (returns_come b res.Zero 0 (changes_semaphore k pred s))
 calls_come bodies b (call.SemGetvalue k) s = returns_come b res.Zero (semaphore_at s.machine k) s
 calls_come bodies b (call.SemPost k) s = posts_come (best_waiter s.machine (waits_on_semaphore k)) b k s
 calls_come bodies b (call.ClockNanosleep at) s = if_come (has_passed _ s.machine) _ _ s (returns_come b res.Zero 0 s) (sleeps_come b _ s)
 calls_come bodies b (call.Nanosleep k) s = if_come (has_passed _ s.machine) _ _ s (returns_come b res.Zero 0 s) (sleeps_come b _ s)
 calls_come bodies b call.Gettime s = returns_come b res.Zero s.machine.now s
-calls_come bodies b (call.TimerSettimeRel k n interval) s = returns_come b res.Zero 0 (changes_timer k (armed (first_expiry n (s.machine.now + n)) interval) s)
+calls_come bodies b call.RealGettime s = returns_come b res.Zero (real_time s.machine) s
+calls_come bodies b (call.ClockSettime at) s = sets_clock_come b (number_of s.machine b.thread at) s
+calls_come bodies b (call.TimerSettimeRel k n interval) s = returns_come b res.Zero 0 (changes_timer k (armed (first_expiry n (s.machine.now + n)) false interval) s)
 calls_come bodies b (call.TimerSettimeAbs k at interval) s =
-    let v = number_of s.machine b.thread at in returns_come b res.Zero 0 (changes_timer k (armed (first_expiry v v) interval) s)
+    let v = number_of s.machine b.thread at in returns_come b res.Zero 0 (changes_timer k (armed (first_expiry v (timer_moment s.machine k v)) (timer_at s.machine k).is_real interval) s)
 calls_come bodies b (call.TimerGettime k) s = returns_come b res.Zero (ticks_to (timer_at s.machine k).due s.machine.now) s
 calls_come bodies b (call.TimerGetoverrun k) s = returns_come b res.Zero (timer_at s.machine k).overrun s
 calls_come bodies b (call.Kill signal) s = sends_signal_come b (record_of_kill signal None) s
@@ -80,9 +83,9 @@ calls_come bodies b (call.Sigwaitinfo set) s = waits_signal_come None b set s
 calls_come bodies b (call.Sigtimedwait set n) s = waits_signal_come (Some n) b set s
 calls_come bodies b (call.MqSend q len p v) s = sends_message_come b q len (record { priority = p; value = number_of s.machine b.thread v }) None s
 calls_come bodies b (call.MqTimedsend q len p v at) s =
-    sends_message_come b q len (record { priority = p; value = number_of s.machine b.thread v }) (Some (number_of s.machine b.thread at)) s
+    sends_message_come b q len (record { priority = p; value = number_of s.machine b.thread v }) (Some (moment_of s.machine b.thread at)) s
 calls_come bodies b (call.MqReceive q) s = receives_message_come b q None s
-calls_come bodies b (call.MqTimedreceive q at) s = receives_message_come b q (Some (number_of s.machine b.thread at)) s
+calls_come bodies b (call.MqTimedreceive q at) s = receives_message_come b q (Some (moment_of s.machine b.thread at)) s
 calls_come bodies b (call.MqNotify q signal v) s = asks_notification_come b q (record { signal = signal; value = number_of s.machine b.thread v }) s
 
 -- a request in place of a call wakes nobody

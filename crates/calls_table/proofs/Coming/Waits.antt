@@ -9,7 +9,7 @@ use Rattle.rules_machine.specs.declared.thread.CondEnd.TheVariants as cond_end
 use Rattle.rules_machine.specs.Threads.{mutex_at, semaphore_at, waiting_of}
 use Rattle.rules_machine.specs.Turns.{Caller, Turn, changes_mutex, changes_semaphore, is_late, returns}
 use Rattle.rules_machine.specs.CallNames.{name_of}
-use Rattle.rules_machine.specs.Waking.{blocks, call_in, cancelled_value, ending_with, wakes, wakes_cancelled, wakes_telling}
+use Rattle.rules_machine.specs.Waking.{blocks, call_in, cancelled_value, ending_with, last_result, last_value, wakes, wakes_cancelled, wakes_telling}
 use Rattle.rules_machine.specs.Mutexes.{LockAnswer, counted_up, counts, hands_over, is_free, carries_out_lock, must_wait, owned_by, owns, refused, releases, returns_from_wait, taken_by, takes, unlocks, waits_for_mutex, wakes_owner}
 use Rattle.rules_machine.specs.Conditions.{contends, reacquires_or_waits, released_mutex, signals_best, signals_best_times, signals_waiter, waits, waits_on_condition, waits_with_other_mutex}
 use Rattle.rules_machine.specs.Semaphores.{wakes_waiter_or_raises_value, semaphore_limit, waits_semaphore}
@@ -26,8 +26,8 @@ locks_on_come must_wait b k due s = blocks_come b (for_mutex k) due s
 
 pub cancelled_come : {P : Type 0} (t : ℕ) (s : Turn P) → Comes s (wakes_cancelled t s)
 cancelled_come t s =
-    let x = wakes_telling (event.Cancel t) t res.Zero 0 s in
-    λ u off runs. wakes_telling_come (event.Cancel t) t res.Zero 0 s u off (changes_fewer t (ending_with cancelled_value) x (λ h. h) u runs)
+    let x = wakes_telling (event.Cancel t) t (last_result t s.machine) (last_value t s.machine) s in
+    λ u off runs. wakes_telling_come (event.Cancel t) t (last_result t s.machine) (last_value t s.machine) s u off (changes_fewer t (ending_with cancelled_value) x (λ h. h) u runs)
 
 returns_from_wait_come : {P : Type 0} (how : CondEnd) (t : ℕ) (s : Turn P) → Comes s (returns_from_wait how t s)
 returns_from_wait_come cond_end.Signalled t s = wakes_come t res.Zero 0 s
@@ -83,7 +83,7 @@ signals_best_come c s = signals_waiter_come (best_waiter s.machine (waits_on_con
 returned_keeps : {P : Type 0} (how : CondEnd) (t : ℕ) (s : Turn P) → KeepsMoves s (returns_from_wait how t s)
 returned_keeps cond_end.Signalled t s u h = woken_keeps (event.Return t (name_of (call_in (waiting_of s.machine t))) res.Zero 0) t res.Zero 0 s u h
 returned_keeps cond_end.Timedout t s u h = woken_keeps (event.Return t (name_of (call_in (waiting_of s.machine t))) res.Timedout 0) t res.Timedout 0 s u h
-returned_keeps cond_end.Cancelled t s u h = woken_keeps (event.Cancel t) t res.Zero 0 s u h
+returned_keeps cond_end.Cancelled t s u h = woken_keeps (event.Cancel t) t (last_result t s.machine) (last_value t s.machine) s u h
 
 contends_keeps : {P : Type 0} (o : Option ℕ) (t : ℕ) (how : CondEnd) (s : Turn P) → KeepsMoves s (reacquires_or_waits o t how s)
 contends_keeps None t how s = λ u h. h

@@ -27,6 +27,7 @@ use Rattle.rules_machine.specs.DueItems.{has_come}
 use Rattle.rules_machine.proofs.Reading.{changed-length, thread-other, thread-same}
 use Rattle.rules_moves.specs.Moves.{Core, MayAwake, Move, alters, begins, blocks_for, blocks_plainly, does, drops, ends_with, enters_frame, is_plain, is_quiet, leaves_frame, lives_no_more, prices, pushed, pushes, recasts, refills_one, rejoins, renews_with, tells_of, wakes_with}
 use Rattle.rules_moves.proofs.Waiters.Best.{blocked_within}
+use Rattle.rules_moves.proofs.Cores.{runnable_seen, same_read}
 use Rattle.rules_moves.proofs.Waiters.OfThreads.{changed_is}
 use Rattle.laws_machine.proofs.Servers.OfThreads.{ThreadRight, none_consumed, only}
 use Rattle.laws_machine.proofs.Servers.Right.{ServerIn, not_strict}
@@ -340,7 +341,8 @@ module _ {P : Type 0} (bodies : Bodies P) (t : ℕ) (pre : List Entry) (acc : Li
 
   pub posted_keep : (who : Option ℕ) (move : Move P) (s : Turn P) → MayAwake who move s → Awake bodies who s → Threads bodies who s → Recorded s → Recorded (does bodies move s)
   posted_keep who (alters v f) s may awake all q =
-      same_server v f s (ap (λ (c : Core P). c.server) (may (thread_at s.machine v))) (λ runs. ap (λ (c : Core P). is_runnable c.status) (sym (may (thread_at s.machine v))) ∙ runs) q
+      let th = thread_at s.machine v in
+      same_server v f s (ap (λ (c : Core P). c.server) (may th)) (λ runs. same_read is_runnable runnable_seen th (f th) (sym (may th)) ∙ runs) q
   posted_keep who (tells_of e) s may awake all q = told_plainly Booked e s (quiet_plain e may) q
   posted_keep who (ends_with v n) s may awake all q = same_server v (ending_with n) s refl (λ runs. runs) q
   posted_keep who (enters_frame v f) s may awake all q = same_server v (on_top f) s refl (λ runs. runs) q

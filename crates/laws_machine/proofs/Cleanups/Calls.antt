@@ -16,7 +16,7 @@ use Rattle.rules_machine.specs.declared.frame.BodyOf.TheVariants as body_of
 use Rattle.rules_machine.specs.declared.thread.CondEnd.TheVariants as cond_end
 use Rattle.rules_machine.specs.Bodies.{Bodies}
 use Rattle.rules_machine.specs.State.{Joiner, Message, Registration, SignalRecord, Status, Thread, Wait, Waiting, blocked, dormant, ended, for_condition, for_end, for_message, for_mutex, for_mutex_again, for_room, for_semaphore, for_signal, for_time, has_joined, nobody, runnable, waits_to_join}
-use Rattle.rules_machine.specs.Threads.{can_run, is_dormant, lives, mutex_at, number_of, queue_at, semaphore_at, thread_at, timer_at, waiting_of}
+use Rattle.rules_machine.specs.Threads.{can_run, is_dormant, lives, moment_of, mutex_at, number_of, queue_at, real_time, semaphore_at, thread_at, timer_at, waiting_of}
 use Rattle.rules_machine.specs.Waiters.{Waiter, best_waiter, somebody_waits, waiters}
 use Rattle.rules_machine.specs.Turns.{Caller, Turn, changes, changes_pending, changes_queue, changes_timer, has_passed, is_late, moves, moves_if, returns, tells}
 use Rattle.rules_machine.specs.Servers.{activates_if, amount_of, plans_server, refills_server, regains_high, with_server, at_once}
@@ -25,7 +25,7 @@ use Rattle.rules_machine.specs.Mutexes.{LockAnswer, counts, lock_answer, carries
 use Rattle.rules_machine.specs.Conditions.{signals_best_times, waits, waits_on_condition, waits_with_other_mutex}
 use Rattle.rules_machine.specs.Semaphores.{blocks_unless_late, wakes_waiter_or_raises_value, semaphore_limit, tries_semaphore, waits_on_semaphore, waits_semaphore}
 use Rattle.rules_machine.specs.Signals.{delivers, generates, may_go_to, has_no_room, record_of_kill, record_of_sigqueue, selected, sends_signal, sets_mask, takes_signal_or_waits, blocks_for_signal, with_signals, without_record, without_signals}
-use Rattle.rules_machine.specs.Timers.{armed, expires, first_expiry, is_pending_from, overrun_once_more, record_of_timer, sleeps_until, ticks_to}
+use Rattle.rules_machine.specs.Timers.{armed, expires, first_expiry, is_pending_from, overrun_once_more, record_of_timer, sleeps_until, ticks_to, timer_moment}
 use Rattle.rules_machine.specs.Queues.{asks_notification, blocks_unless_nonblock, enters, fired_by_message, has_room, is_notifying, message_of, next_message, notifies, takes_message_or_blocks, record_of_notification, registered, sends_message, reaches_receiver_or_queue, takes_over, value_at, waits_to_receive, waits_to_send, with_message, without_message}
 use Rattle.rules_machine.specs.Lives.{creates, inherited_mask, is_nobody, joins, wakes_joiner, with_joiner}
 use Rattle.rules_machine.specs.Cancellation.{cancels, is_cancellation_point, leaves, leaves_wait, request_acts, requested}
@@ -41,7 +41,7 @@ use Rattle.rules_machine.specs.Threads.{no_thread, thread_in}
 use Rattle.rules_machine.specs.WellFormed.{is_guarding}
 use Rattle.laws_machine.specs.GuardedBodies.{BodiesGuarded}
 use Rattle.rules_moves.proofs.Waiters.OfThreads.{changed_is}
-use Rattle.laws_machine.proofs.Cleanups.Frames.{Clean, Keeps, activated, activated_if, cancelled_same, change, contend_same, deliver_same, doze_same, ending_clean, generate_same, if_same, release_same, returned, signals_same, sleep_same, wakes_same}
+use Rattle.laws_machine.proofs.Cleanups.Frames.{Clean, Keeps, activated, activated_if, cancelled_same, change, clock_same, contend_same, deliver_same, doze_same, ending_clean, generate_same, if_same, release_same, returned, signals_same, sleep_same, wakes_same}
 
 module _ {P : Type 0} (bodies : Bodies P) (guards : BodyOf → P → List ℕ) (guarded : BodiesGuarded bodies guards) where
   abbrev Same : Turn P → Turn P → Type 0
@@ -245,24 +245,26 @@ module _ {P : Type 0} (bodies : Bodies P) (guards : BodyOf → P → List ℕ) (
   call_same by (call.Setsched u policy) s plain = policy_same by u policy s
   call_same by (call.Lock k) s plain = lock_same (lock_answer s.machine by.thread k None) by k None s
   call_same by (call.Timedlock k at) s plain =
-      let due = Some (number_of s.machine by.thread at) in lock_same (lock_answer s.machine by.thread k due) by k due s
+      let due = Some (moment_of s.machine by.thread at) in lock_same (lock_answer s.machine by.thread k due) by k due s
   call_same by (call.Trylock k) s plain = lock_same (trylock_answer s.machine by.thread k) by k None s
   call_same by (call.Unlock k) s plain = unlock_same by k s
   call_same by (call.Wait c k) s plain = condition_same by c k None s
-  call_same by (call.Timedwait c k at) s plain = condition_same by c k (Some (number_of s.machine by.thread at)) s
+  call_same by (call.Timedwait c k at) s plain = condition_same by c k (Some (moment_of s.machine by.thread at)) s
   call_same by (call.Signal c) s plain = signalled_same by 1 c s
   call_same by (call.Broadcast c) s plain = signalled_same by (length (waiters s.machine (waits_on_condition c))) c s
   call_same by (call.SemWait k) s plain = semaphore_same by k None s
-  call_same by (call.SemTimedwait k at) s plain = semaphore_same by k (Some (number_of s.machine by.thread at)) s
+  call_same by (call.SemTimedwait k at) s plain = semaphore_same by k (Some (moment_of s.machine by.thread at)) s
   call_same by (call.SemTrywait k) s plain = try_same by k s
   call_same by (call.SemGetvalue k) s plain = reply_same by res.Zero (semaphore_at s.machine k) s
   call_same by (call.SemPost k) s plain = post_same (best_waiter s.machine (waits_on_semaphore k)) by k s
   call_same by (call.Nanosleep n) s plain = nap_same by (s.machine.now + n) s
-  call_same by (call.ClockNanosleep at) s plain = nap_same by (number_of s.machine by.thread at) s
+  call_same by (call.ClockNanosleep at) s plain = nap_same by (moment_of s.machine by.thread at) s
   call_same by call.Gettime s plain = reply_same by res.Zero s.machine.now s
-  call_same by (call.TimerSettimeRel k n interval) s plain = reply_same by res.Zero 0 (changes_timer k (armed (first_expiry n (s.machine.now + n)) interval) s)
+  call_same by call.RealGettime s plain = reply_same by res.Zero (real_time s.machine) s
+  call_same by (call.ClockSettime at) s plain = clock_same guards by (number_of s.machine by.thread at) s
+  call_same by (call.TimerSettimeRel k n interval) s plain = reply_same by res.Zero 0 (changes_timer k (armed (first_expiry n (s.machine.now + n)) false interval) s)
   call_same by (call.TimerSettimeAbs k at interval) s plain =
-      reply_same by res.Zero 0 (changes_timer k (armed (first_expiry (number_of s.machine by.thread at) (number_of s.machine by.thread at)) interval) s)
+      reply_same by res.Zero 0 (changes_timer k (armed (first_expiry (number_of s.machine by.thread at) (timer_moment s.machine k (number_of s.machine by.thread at))) (timer_at s.machine k).is_real interval) s)
   call_same by (call.TimerGettime k) s plain = reply_same by res.Zero (ticks_to (timer_at s.machine k).due s.machine.now) s
   call_same by (call.TimerGetoverrun k) s plain = reply_same by res.Zero (timer_at s.machine k).overrun s
   call_same by (call.Kill signal) s plain = send_same by (record_of_kill signal None) s
@@ -274,9 +276,9 @@ module _ {P : Type 0} (bodies : Bodies P) (guards : BodyOf → P → List ℕ) (
   call_same by (call.Sigwaitinfo set) s plain = accept_same (selected s.machine (λ (r : SignalRecord). has_signal set r.signal && may_go_to by.thread r.target)) None by set s
   call_same by (call.Sigtimedwait set n) s plain = accept_same (selected s.machine (λ (r : SignalRecord). has_signal set r.signal && may_go_to by.thread r.target)) (Some n) by set s
   call_same by (call.MqSend q len p v) s plain = message_same by q len (record { priority = p; value = number_of s.machine by.thread v }) None s
-  call_same by (call.MqTimedsend q len p v at) s plain = message_same by q len (record { priority = p; value = number_of s.machine by.thread v }) (Some (number_of s.machine by.thread at)) s
+  call_same by (call.MqTimedsend q len p v at) s plain = message_same by q len (record { priority = p; value = number_of s.machine by.thread v }) (Some (moment_of s.machine by.thread at)) s
   call_same by (call.MqReceive q) s plain = receive_same (next_message (queue_at s.machine q).messages) by q None s
-  call_same by (call.MqTimedreceive q at) s plain = receive_same (next_message (queue_at s.machine q).messages) by q (Some (number_of s.machine by.thread at)) s
+  call_same by (call.MqTimedreceive q at) s plain = receive_same (next_message (queue_at s.machine q).messages) by q (Some (moment_of s.machine by.thread at)) s
   call_same by (call.MqNotify q signal v) s plain = ask_same by q (record { signal = signal; value = number_of s.machine by.thread v }) s
 
   pub made_same : (by : Caller) (s : Turn P) → is_guarding by.call ≡ false → Same s (makes_call bodies by s)

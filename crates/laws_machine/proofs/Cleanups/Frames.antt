@@ -15,15 +15,19 @@ use Rattle.rules_machine.specs.Waiters.{Waiter, best_waiter}
 use Rattle.rules_machine.specs.CallNames.{name_of}
 use Rattle.rules_machine.specs.Turns.{Caller, Turn, answered, changes, changes_mutex, frames_answered, moves, returns, tells}
 use Rattle.rules_machine.specs.Servers.{activates_if, activates_server, at_once, high_server, with_server}
-use Rattle.rules_machine.specs.Waking.{blocks, call_in, cancelled_value, ending_with, put_to_wait, wakes, wakes_cancelled, wakes_telling, woken}
+use Rattle.rules_machine.specs.Waking.{blocks, call_in, cancelled_value, ending_with, last_result, last_value, put_to_wait, wakes, wakes_cancelled, wakes_telling, woken}
 use Rattle.rules_machine.specs.Mutexes.{hands_over, is_free, releases, returns_from_wait, taken_by, waits_for_mutex, wakes_owner}
 use Rattle.rules_machine.specs.Conditions.{contends, reacquires_or_waits, released_mutex, signals_best_times, signals_waiter, waits_on_condition}
 use Rattle.rules_machine.specs.Signals.{acceptor, becomes_pending, delivers, generates, is_accepted_or_pends, is_ignore, tells_overrun}
 use Rattle.rules_machine.specs.declared.frame.BodyOf.{BodyOf}
 use Rattle.rules_machine.specs.declared.frame.BodyOf.TheVariants as body_of
+use Rattle.rules_machine.specs.Clock.{sets_real_clock, thread_moved}
 use Rattle.rules_machine.specs.Lists.{changed_at}
 use Rattle.rules_machine.specs.GoodState.{main_guards}
+use Rattle.rules_moves.proofs.Cores.{dormant_seen, same_read}
 use Rattle.rules_moves.proofs.Waiters.Best.{Each}
+use Rattle.rules_moves.proofs.Calls.Commuting.{moved_core}
+use Rattle.rules_moves.proofs.Calls.Clock.{EachLeads, sets_real_clock_leads}
 use Rattle.rules_moves.proofs.Waiters.OfThreads.{changed_is}
 
 abbrev pub is_thread : BodyOf → Bool
@@ -71,6 +75,9 @@ module _ {P : Type 0} (guards : BodyOf → P → List ℕ) where
   woken_clean : (r : Res) (v : ℕ) (th : Thread P) → Clean guards th → Clean guards (woken r v th)
   woken_clean r v th q = (λ e. q.0 e ∙ answered_guards r v th.frames, λ e. absurd (grind arith), answered_fit r v th.frames q.2)
 
+  moved_clean : (move : ℕ → ℕ) (th : Thread P) → Clean guards th → Clean guards (thread_moved move th)
+  moved_clean move th q = (q.0, λ e. q.1 (sym (same_read is_dormant dormant_seen (thread_moved move th) th (moved_core move th)) ∙ e), q.2)
+
   blocked_clean : (w : Waiting) (th : Thread P) → Clean guards th → Clean guards (put_to_wait w th)
   blocked_clean w th q = (q.0, λ e. absurd (grind arith), q.2)
 
@@ -79,6 +86,19 @@ module _ {P : Type 0} (guards : BodyOf → P → List ℕ) where
 
   pub returned : (by : Caller) (r : Res) (v : ℕ) (s : Turn P) → Same s (returns by r v s)
   returned by r v s = change by.thread (answered r v) s (answered_clean r v)
+
+  clock_sames : EachLeads Same
+  clock_sames = record {
+    stays = λ s i q. q;
+    goes_on = λ s x y a b i q. b i (a i q);
+    clock = λ clock s i q. q;
+    thread = λ move t s. change t (thread_moved move) s (moved_clean move);
+    timer = λ move k s i q. q;
+    answer = returned;
+  }
+
+  pub clock_same : (by : Caller) (reading : ℕ) (s : Turn P) → Same s (sets_real_clock by reading s)
+  clock_same = sets_real_clock_leads Same clock_sames
 
   pub activated : (t : ℕ) (o : Option ServerState) (s : Turn P) → Same s (activates_server t o s)
   activated t None s = λ i q. q
@@ -97,7 +117,10 @@ module _ {P : Type 0} (guards : BodyOf → P → List ℕ) where
   wakes_same t r v s = woke (event.Return t (name_of (call_in (waiting_of s.machine t))) r v) t r v s
 
   pub cancelled_same : (t : ℕ) (s : Turn P) → Same s (wakes_cancelled t s)
-  cancelled_same t s = λ i q. (change t (ending_with cancelled_value) (wakes_telling (event.Cancel t) t res.Zero 0 s) (ending_clean cancelled_value)) i ((woke (event.Cancel t) t res.Zero 0 s) i q)
+  cancelled_same t s =
+      let result = last_result t s.machine in
+      let value = last_value t s.machine in
+      λ i q. (change t (ending_with cancelled_value) (wakes_telling (event.Cancel t) t result value s) (ending_clean cancelled_value)) i ((woke (event.Cancel t) t result value s) i q)
 
   pub back_same : (how : CondEnd) (t : ℕ) (s : Turn P) → Same s (returns_from_wait how t s)
   back_same cond_end.Signalled t s = wakes_same t res.Zero 0 s

@@ -16,7 +16,8 @@ use Rattle.rules_machine.specs.Lives.{with_joiner, without_life, without_top}
 use Rattle.rules_machine.specs.Cancellation.{without_cleanup}
 use Rattle.rules_machine.specs.Scheduling.{with_policy, with_priority}
 use Rattle.rules_machine.specs.Ticks.{TickEnd, ends_tick, exhausting, nothing, planning, slicing, without_slice}
-use Rattle.rules_moves.specs.Moves.{Core, KeepsRenewing, Sleeps, alters, begins, blocks_for, blocks_plainly, directs, drops, ends_with, enters_frame, leaves_frame, lives_no_more, prices, pushed, pushes, recasts, refills_one, rejoins, renews_with, wakes_with}
+use Rattle.rules_moves.specs.Moves.{KeepsRenewing, Sleeps, alters, begins, blocks_for, blocks_plainly, directs, drops, ends_with, enters_frame, leaves_frame, lives_no_more, prices, pushed, pushes, recasts, refills_one, rejoins, renews_with, wakes_with}
+use Rattle.rules_moves.proofs.Cores.{runnable_seen, same_read}
 use Rattle.rules_moves.proofs.Waiters.OfThreads.{changed_is}
 use Rattle.laws_machine.proofs.Lists.Places.{HaveCome}
 
@@ -99,7 +100,8 @@ module _ {P : Type 0} (before : Machine P) where
 
   module _ (bodies : Bodies P) (who : Option ℕ) where
     pub come_keep : KeepsRenewing bodies who (Come before)
-    come_keep (alters t f) s may q = kept_come t f s (λ th. ap (λ (c : Core P). c.status) (may th)) q
+    come_keep (alters t f) s may q =
+        let th = thread_at s.machine t in changed_come t f s (λ runs. same_read is_runnable runnable_seen th (f th) (sym (may th)) ∙ runs) q
     come_keep (directs t) s may q = moved_come t s q
     come_keep (ends_with t v) s may q = kept_come t (ending_with v) s (λ th. refl) q
     come_keep (enters_frame t f) s may q = kept_come t (on_top f) s (λ th. refl) q

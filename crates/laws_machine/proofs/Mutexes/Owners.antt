@@ -1,7 +1,7 @@
 -- Owners, counts and waiters agree, and no chain of them comes back: every move keeps it.
 use Rattle.std.proofs.Common.{Bool, List, None, Option, Some, [], ap, arith, false, inl, inr, length, refl, suc, sym, true, zero, ℕ, ◌<◌, ◌≤◌, ◌∷◌, ◌≡◌, ◌⊎◌}
 use Rattle.std.specs.Prelude.{filter, is_none, option_and_then, slice_index_or, ◌==◌, ◌&&◌, ◌||◌}
-use Rattle.std.specs.Option.{option_map_or}
+use Rattle.std.specs.Option.{option_map, option_map_or}
 use mathlib.Core.Path.{subst, ◌∙◌}
 use Rattle.words_trace.specs.declared.event.Event.TheVariants as event
 use Rattle.rules_server.specs.Server.{ServerState, activate, oldest_pending, refill}
@@ -21,6 +21,7 @@ use Rattle.rules_machine.specs.Scheduling.{with_policy, with_priority}
 use Rattle.rules_machine.specs.GoodState.{MutexesAreRight, OwnerIsRight, is_in_condition_wait}
 use Rattle.rules_machine.proofs.Reading.{changed-length}
 use Rattle.rules_moves.specs.Moves.{Keeps, May, MayWait, Move, alters, begins, blocks_for, blocks_plainly, counts_down, counts_up, does, drops, ends_with, enters_frame, frees, leaves_frame, lives_no_more, prices, pushed, pushes, recasts, refills_one, rejoins, renews_with, takes_for, wakes_with}
+use Rattle.rules_moves.proofs.Cores.{wait_in}
 use Rattle.rules_moves.proofs.Waiters.Best.{running_within}
 use Rattle.rules_moves.proofs.Calls.Commuting.{wakes_telling_part}
 use Rattle.rules_moves.proofs.Waiters.AfterMoves.{part_begun, part_refill, part_renewed, wait_begun, waited_before}
@@ -56,6 +57,18 @@ awaits_by th k e = by_wait (waiting_in th.status) refl e
     by_wait : (o : Option Waiting) → waiting_in th.status ≡ o → option_and_then (λ (w : Waiting). mutex_waited w.wait) o ≡ Some k → (w : Waiting) × (waiting_in th.status ≡ Some w) × (mutex_waited w.wait ≡ Some k)
     by_wait None h f = absurd (grind arith)
     by_wait (Some w) h f = (w, h, f)
+
+-- what is read of a wait is read of what is waited for
+abbrev wait_of : Option Waiting → Option Wait
+wait_of o = option_map (λ (w : Waiting). w.wait) o
+
+passed_in : (passes : Wait → Bool) (o : Option Waiting) → option_map_or (λ (w : Waiting). passes w.wait) o false ≡ option_map_or passes (wait_of o) false
+passed_in passes None = refl
+passed_in passes (Some w) = refl
+
+awaited_in : (o : Option Waiting) → option_and_then (λ (w : Waiting). mutex_waited w.wait) o ≡ option_and_then mutex_waited (wait_of o)
+awaited_in None = refl
+awaited_in (Some w) = refl
 
 runs_awaits_none : {P : Type 0} (th : Thread P) → is_runnable th.status ≡ true → waiting_in th.status ≡ None
 runs_awaits_none th e = by_status th.status e
@@ -164,10 +177,10 @@ module _ {P : Type 0} (bodies : Bodies P) (who : Option ℕ) where
     where
       of_wait : ((w : Waiting) × (waiting_in (thread_at (does bodies move s).machine u).status ≡ Some w) × (mutex_waited w.wait ≡ Some k)) →
           (aw_of s.machine u ≡ Some k) ⊎ ((w : Waiting) × (BeginsToWait move u w) × (mutex_waited w.wait ≡ Some k))
-      of_wait h = of_two (waited u h.0 bodies who move s may h.1)
+      of_wait h = of_two (waited u h.0 bodies who move s may (ap wait_of h.1))
         where
-          of_two : (waiting_of s.machine u ≡ Some h.0) ⊎ (BeginsToWait move u h.0) → (aw_of s.machine u ≡ Some k) ⊎ ((w : Waiting) × (BeginsToWait move u w) × (mutex_waited w.wait ≡ Some k))
-          of_two (inl g) = inl (ap (option_and_then (λ (w : Waiting). mutex_waited w.wait)) g ∙ h.2)
+          of_two : (wait_in (thread_at s.machine u).status ≡ Some h.0.wait) ⊎ (BeginsToWait move u h.0) → (aw_of s.machine u ≡ Some k) ⊎ ((w : Waiting) × (BeginsToWait move u w) × (mutex_waited w.wait ≡ Some k))
+          of_two (inl g) = inl (awaited_in (waiting_of s.machine u) ∙ ap (option_and_then mutex_waited) g ∙ h.2)
           of_two (inr g) = inr (h.0, g, h.2)
 
   -- a thread in a condition wait after a move
@@ -177,10 +190,10 @@ module _ {P : Type 0} (bodies : Bodies P) (who : Option ℕ) where
     where
       of_wait : ((w : Waiting) × (waiting_in (thread_at (does bodies move s).machine u).status ≡ Some w) × (is_in_condition_wait w.wait ≡ true)) →
           (waits_so is_in_condition_wait (thread_at s.machine u) ≡ true) ⊎ ((w : Waiting) × (BeginsToWait move u w) × (is_in_condition_wait w.wait ≡ true))
-      of_wait h = of_two (waited u h.0 bodies who move s may h.1)
+      of_wait h = of_two (waited u h.0 bodies who move s may (ap wait_of h.1))
         where
-          of_two : (waiting_of s.machine u ≡ Some h.0) ⊎ (BeginsToWait move u h.0) → (waits_so is_in_condition_wait (thread_at s.machine u) ≡ true) ⊎ ((w : Waiting) × (BeginsToWait move u w) × (is_in_condition_wait w.wait ≡ true))
-          of_two (inl g) = inl (ap (λ (o : Option Waiting). option_map_or (λ (w : Waiting). is_in_condition_wait w.wait) o false) g ∙ h.2)
+          of_two : (wait_in (thread_at s.machine u).status ≡ Some h.0.wait) ⊎ (BeginsToWait move u h.0) → (waits_so is_in_condition_wait (thread_at s.machine u) ≡ true) ⊎ ((w : Waiting) × (BeginsToWait move u w) × (is_in_condition_wait w.wait ≡ true))
+          of_two (inl g) = inl (passed_in is_in_condition_wait (waiting_of s.machine u) ∙ ap (λ (o : Option Wait). option_map_or is_in_condition_wait o false) g ∙ h.2)
           of_two (inr g) = inr (h.0, g, h.2)
 
   -- an owner stays right where it stays, where nobody more waits and no thread is gone

@@ -81,7 +81,7 @@ module _ {P : Type 0} (bodies : Bodies P) (who : Option ℕ) where
   -- a thread changes in neither status nor joiner
   pub recast : (t : ℕ) (f : Thread P → Thread P) (s : Turn P) → (f (thread_at s.machine t)).status ≡ (thread_at s.machine t).status → (f (thread_at s.machine t)).joiner ≡ (thread_at s.machine t).joiner →
       Law s → Law (changes t f s)
-  recast t f s h j q = by_status (recasts t f) s h (changed_joiners bodies who t f s (λ u e. sym j ∙ e) (λ w v e g x. ap waiting_in h ∙ e) q.joiners) q
+  recast t f s h j q = by_status (recasts t f) s h (changed_joiners bodies who t f s (λ u e. sym j ∙ e) (λ w v e g never x. ap waiting_in h ∙ e) q.joiners) q
 
   asleep : (by : Caller) (w : Waiting) (s : Turn P) → Runs who s.machine by.thread → JoinersWait s → JoinersWait (changes by.thread (put_to_wait w) s)
   asleep by w s runs j = idle bodies who by.thread (put_to_wait w) s (λ th. refl) (running_idle bodies who (thread_at s.machine by.thread).status runs.0) j

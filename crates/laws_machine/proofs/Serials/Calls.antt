@@ -20,7 +20,7 @@ use Rattle.rules_machine.specs.declared.frame.FrameKind.TheVariants as frame
 use Rattle.rules_machine.specs.declared.thread.CondEnd.TheVariants as cond_end
 use Rattle.rules_machine.specs.Bodies.{Bodies}
 use Rattle.rules_machine.specs.State.{Joiner, Message, Registration, SignalRecord, Status, Wait, Waiting, blocked, dormant, ended, for_condition, for_end, for_message, for_mutex, for_mutex_again, for_room, for_semaphore, for_signal, for_time, has_joined, nobody, runnable, waits_to_join}
-use Rattle.rules_machine.specs.Threads.{can_run, is_dormant, is_live, is_signal, lives, mutex_at, number_of, queue_at, semaphore_at, thread_at, timer_at, top_kind, waiting_of}
+use Rattle.rules_machine.specs.Threads.{can_run, is_dormant, is_live, is_signal, lives, moment_of, mutex_at, number_of, queue_at, real_time, semaphore_at, thread_at, timer_at, top_kind, waiting_of}
 use Rattle.rules_machine.specs.Waiters.{Waiter, best_waiter, somebody_waits, waiters}
 use Rattle.rules_machine.specs.Turns.{Caller, Turn, changes, changes_pending, changes_queue, changes_timer, has_passed, is_late, moves, moves_if, returns, tells}
 use Rattle.rules_machine.specs.Servers.{activates_if, amount_of, at_once, plans_server, refills_server, regains_high, with_server}
@@ -29,7 +29,7 @@ use Rattle.rules_machine.specs.Mutexes.{LockAnswer, counts, lock_answer, carries
 use Rattle.rules_machine.specs.Conditions.{signals_best_times, waits, waits_on_condition, waits_with_other_mutex}
 use Rattle.rules_machine.specs.Semaphores.{blocks_unless_late, wakes_waiter_or_raises_value, semaphore_limit, tries_semaphore, waits_on_semaphore, waits_semaphore}
 use Rattle.rules_machine.specs.Signals.{delivers, generates, may_go_to, has_no_room, record_of_kill, record_of_sigqueue, selected, sends_signal, sets_mask, takes_signal_or_waits, blocks_for_signal, with_signals, without_record, without_signals}
-use Rattle.rules_machine.specs.Timers.{armed, expires, first_expiry, is_pending_from, overrun_once_more, record_of_timer, sleeps_until, ticks_to}
+use Rattle.rules_machine.specs.Timers.{armed, expires, first_expiry, is_pending_from, overrun_once_more, record_of_timer, sleeps_until, ticks_to, timer_moment}
 use Rattle.rules_machine.specs.Queues.{asks_notification, blocks_unless_nonblock, enters, fired_by_message, has_room, is_notifying, message_of, next_message, notifies, takes_message_or_blocks, record_of_notification, registered, sends_message, reaches_receiver_or_queue, takes_over, value_at, waits_to_receive, waits_to_send, with_message, without_message}
 use Rattle.rules_machine.specs.Lives.{creates, ends, ends_frame, inherited_mask, is_nobody, joins, wakes_joiner, with_joiner, without_life, without_target, without_top}
 use Rattle.rules_machine.specs.Cancellation.{cancels, is_cancellation_point, leaves, leaves_wait, request_acts, requested, runs_cleanup_if, without_cleanup}
@@ -41,7 +41,7 @@ use Rattle.rules_machine.proofs.ItemsEnd.{is_due}
 use Rattle.rules_moves.proofs.Waiters.Best.{Each}
 use Rattle.rules_moves.proofs.Calls.Objects.{answered_status}
 use Rattle.laws_machine.proofs.Serials.Distinct.{one_if, pends}
-use Rattle.laws_machine.proofs.Serials.Costs.{Costs, IsPlain, activated, activated_if, cancelled_cost, change, contend_cost, deliver_cost, doze_cost, generate_cost, if_costs, one_small, out_cost, release_cost, returned, same, signals_cost, sleep_cost, sources_untargeted, wakes_cost}
+use Rattle.laws_machine.proofs.Serials.Costs.{Costs, IsPlain, activated, activated_if, cancelled_cost, change, clock_cost, contend_cost, deliver_cost, doze_cost, generate_cost, if_costs, one_small, out_cost, release_cost, returned, same, signals_cost, sleep_cost, sources_untargeted, wakes_cost}
 
 module _ {P : Type 0} (bodies : Bodies P) where
   moved : (b : Bool) (t : ℕ) (s : Turn P) → Costs 0 s (moves_if b t s)
@@ -263,24 +263,26 @@ module _ {P : Type 0} (bodies : Bodies P) where
   call_cost by (call.Setsched u policy) s plain once = policy_cost by u policy s
   call_cost by (call.Lock k) s plain once = lock_cost (lock_answer s.machine by.thread k None) by k None s
   call_cost by (call.Timedlock k at) s plain once =
-      let due = Some (number_of s.machine by.thread at) in lock_cost (lock_answer s.machine by.thread k due) by k due s
+      let due = Some (moment_of s.machine by.thread at) in lock_cost (lock_answer s.machine by.thread k due) by k due s
   call_cost by (call.Trylock k) s plain once = lock_cost (trylock_answer s.machine by.thread k) by k None s
   call_cost by (call.Unlock k) s plain once = unlock_cost by k s
   call_cost by (call.Wait c k) s plain once = condition_cost by c k None s
-  call_cost by (call.Timedwait c k at) s plain once = condition_cost by c k (Some (number_of s.machine by.thread at)) s
+  call_cost by (call.Timedwait c k at) s plain once = condition_cost by c k (Some (moment_of s.machine by.thread at)) s
   call_cost by (call.Signal c) s plain once = signalled_cost by 1 c s
   call_cost by (call.Broadcast c) s plain once = signalled_cost by (length (waiters s.machine (waits_on_condition c))) c s
   call_cost by (call.SemWait k) s plain once = semaphore_cost by k None s
-  call_cost by (call.SemTimedwait k at) s plain once = semaphore_cost by k (Some (number_of s.machine by.thread at)) s
+  call_cost by (call.SemTimedwait k at) s plain once = semaphore_cost by k (Some (moment_of s.machine by.thread at)) s
   call_cost by (call.SemTrywait k) s plain once = try_cost by k s
   call_cost by (call.SemGetvalue k) s plain once = reply_cost by res.Zero (semaphore_at s.machine k) s
   call_cost by (call.SemPost k) s plain once = post_cost (best_waiter s.machine (waits_on_semaphore k)) by k s
   call_cost by (call.Nanosleep n) s plain once = nap_cost by (s.machine.now + n) s
-  call_cost by (call.ClockNanosleep at) s plain once = nap_cost by (number_of s.machine by.thread at) s
+  call_cost by (call.ClockNanosleep at) s plain once = nap_cost by (moment_of s.machine by.thread at) s
   call_cost by call.Gettime s plain once = reply_cost by res.Zero s.machine.now s
-  call_cost by (call.TimerSettimeRel k n interval) s plain once = reply_cost by res.Zero 0 (changes_timer k (armed (first_expiry n (s.machine.now + n)) interval) s)
+  call_cost by call.RealGettime s plain once = reply_cost by res.Zero (real_time s.machine) s
+  call_cost by (call.ClockSettime at) s plain once = let h = clock_cost by (number_of s.machine by.thread at) s in omega arith
+  call_cost by (call.TimerSettimeRel k n interval) s plain once = reply_cost by res.Zero 0 (changes_timer k (armed (first_expiry n (s.machine.now + n)) false interval) s)
   call_cost by (call.TimerSettimeAbs k at interval) s plain once =
-      reply_cost by res.Zero 0 (changes_timer k (armed (first_expiry (number_of s.machine by.thread at) (number_of s.machine by.thread at)) interval) s)
+      reply_cost by res.Zero 0 (changes_timer k (armed (first_expiry (number_of s.machine by.thread at) (timer_moment s.machine k (number_of s.machine by.thread at))) (timer_at s.machine k).is_real interval) s)
   call_cost by (call.TimerGettime k) s plain once = reply_cost by res.Zero (ticks_to (timer_at s.machine k).due s.machine.now) s
   call_cost by (call.TimerGetoverrun k) s plain once = reply_cost by res.Zero (timer_at s.machine k).overrun s
   call_cost by (call.Kill signal) s plain once = send_cost by (record_of_kill signal None) s
@@ -292,9 +294,9 @@ module _ {P : Type 0} (bodies : Bodies P) where
   call_cost by (call.Sigwaitinfo set) s plain once = accept_cost (selected s.machine (λ (r : SignalRecord). has_signal set r.signal && may_go_to by.thread r.target)) None by set s plain once
   call_cost by (call.Sigtimedwait set n) s plain once = accept_cost (selected s.machine (λ (r : SignalRecord). has_signal set r.signal && may_go_to by.thread r.target)) (Some n) by set s plain once
   call_cost by (call.MqSend q len p v) s plain once = message_cost by q len (record { priority = p; value = number_of s.machine by.thread v }) None s
-  call_cost by (call.MqTimedsend q len p v at) s plain once = message_cost by q len (record { priority = p; value = number_of s.machine by.thread v }) (Some (number_of s.machine by.thread at)) s
+  call_cost by (call.MqTimedsend q len p v at) s plain once = message_cost by q len (record { priority = p; value = number_of s.machine by.thread v }) (Some (moment_of s.machine by.thread at)) s
   call_cost by (call.MqReceive q) s plain once = receive_cost (next_message (queue_at s.machine q).messages) by q None s
-  call_cost by (call.MqTimedreceive q at) s plain once = receive_cost (next_message (queue_at s.machine q).messages) by q (Some (number_of s.machine by.thread at)) s
+  call_cost by (call.MqTimedreceive q at) s plain once = receive_cost (next_message (queue_at s.machine q).messages) by q (Some (moment_of s.machine by.thread at)) s
   call_cost by (call.MqNotify q signal v) s plain once = ask_cost by q (record { signal = signal; value = number_of s.machine by.thread v }) s
 
   made_cost : (by : Caller) (s : Turn P) → Each IsPlain s.machine.pending → ((n : ℕ) → pends n s.machine.pending ≤ 1) → Costs 2 s (makes_call bodies by s)

@@ -10,6 +10,7 @@ use Rattle.rules_server.specs.Server.{ServerState, activate}
 use Rattle.rules_machine.specs.declared.frame.FrameKind.{FrameKind}
 use Rattle.rules_machine.specs.declared.thread.CondEnd.{CondEnd}
 use Rattle.rules_machine.specs.declared.thread.CondEnd.TheVariants as cond_end
+use Rattle.rules_machine.specs.Clock.{sets_real_clock, thread_moved}
 use Rattle.rules_machine.specs.Lists.{changed_at}
 use Rattle.rules_machine.specs.State.{Frame, Machine, SignalRecord, Status, Thread, Wait, Waiting, blocked, dormant, ended, for_condition, for_mutex_again, runnable}
 use Rattle.rules_machine.specs.Threads.{action_of, is_live, is_signal, no_thread, thread_at, thread_in, top_kind, waiting_in, waiting_of}
@@ -17,14 +18,17 @@ use Rattle.rules_machine.specs.Waiters.{Waiter, best_waiter}
 use Rattle.rules_machine.specs.CallNames.{name_of}
 use Rattle.rules_machine.specs.Turns.{Caller, Turn, answered, changes, changes_mutex, changes_pending, frames_answered, moves, returns, tells}
 use Rattle.rules_machine.specs.Servers.{activates_if, activates_server, at_once, high_server, with_server}
-use Rattle.rules_machine.specs.Waking.{blocks, call_in, cancelled_value, ending_with, put_to_wait, wakes, wakes_cancelled, wakes_telling, woken}
+use Rattle.rules_machine.specs.Waking.{blocks, call_in, cancelled_value, ending_with, last_result, last_value, put_to_wait, wakes, wakes_cancelled, wakes_telling, woken}
 use Rattle.rules_machine.specs.Mutexes.{hands_over, is_free, releases, returns_from_wait, taken_by, waits_for_mutex, wakes_owner}
 use Rattle.rules_machine.specs.Conditions.{contends, reacquires_or_waits, released_mutex, signals_best_times, signals_waiter, waits_on_condition}
 use Rattle.rules_machine.specs.Signals.{acceptor, becomes_pending, delivers, generates, is_accepted_or_pends, is_ignore, tells_overrun, without_record}
 use Rattle.rules_machine.specs.Lives.{without_target}
 use Rattle.rules_machine.specs.GoodState.{waits_on_any_condition}
 use Rattle.rules_machine.specs.Lists.{is}
+use Rattle.rules_moves.proofs.Cores.{live_seen, same_of_wait, same_read}
 use Rattle.rules_moves.proofs.Waiters.Best.{Each}
+use Rattle.rules_moves.proofs.Calls.Commuting.{moved_core}
+use Rattle.rules_moves.proofs.Calls.Clock.{EachLeads, sets_real_clock_leads}
 use Rattle.laws_machine.proofs.Serials.Distinct.{one_if, pends}
 
 -- ---- what counts
@@ -181,10 +185,36 @@ module _ {P : Type 0} where
   pub wakes_cost : (t : ℕ) (r : Res) (v : ℕ) (s : Turn P) → Costs 0 s (wakes t r v s)
   wakes_cost t r v s = woke (event.Return t (name_of (call_in (waiting_of s.machine t))) r v) t r v s
 
+  -- ---- the clock
+
+  time_cost : (move : ℕ → ℕ) (t : ℕ) (s : Turn P) → Costs 0 s (changes t (thread_moved move) s)
+  time_cost move t s = change 0 t (thread_moved move) s (kept (thread_at s.machine t))
+    where
+      kept : (th : Thread P) → CostsOf 0 th (thread_moved move th)
+      kept th =
+          let same = moved_core move th in
+          let a = same_of_wait (λ (o : Option Waiting). one_if (option_map_or (λ (w : Waiting). waits_on_any_condition w.wait) o false)) (λ w. refl) (thread_moved move th) th same in
+          let b = ap (λ (live : Bool). one_if (live && is_signal (top_kind th.frames))) (same_read is_live live_seen (thread_moved move th) th same) in omega arith
+
+  clock_costs : EachLeads (λ (s x : Turn P). Costs 0 s x)
+  clock_costs = record {
+    stays = λ s. omega arith;
+    goes_on = λ s x y a b. omega (arith, a, b);
+    clock = λ clock s. omega arith;
+    thread = time_cost;
+    timer = λ move k s. omega arith;
+    answer = returned;
+  }
+
+  pub clock_cost : (by : Caller) (reading : ℕ) (s : Turn P) → Costs 0 s (sets_real_clock by reading s)
+  clock_cost = sets_real_clock_leads (λ (s x : Turn P). Costs 0 s x) clock_costs
+
   pub cancelled_cost : (t : ℕ) (s : Turn P) → Costs 0 s (wakes_cancelled t s)
   cancelled_cost t s =
-      let up = wakes_telling (event.Cancel t) t res.Zero 0 s in
-      let a = woke (event.Cancel t) t res.Zero 0 s in let b = same t (ending_with cancelled_value) up (λ th. refl) (λ th. refl) in omega arith
+      let result = last_result t s.machine in
+      let value = last_value t s.machine in
+      let up = wakes_telling (event.Cancel t) t result value s in
+      let a = woke (event.Cancel t) t result value s in let b = same t (ending_with cancelled_value) up (λ th. refl) (λ th. refl) in omega arith
 
   pub back_cost : (how : CondEnd) (t : ℕ) (s : Turn P) → Costs 0 s (returns_from_wait how t s)
   back_cost cond_end.Signalled t s = wakes_cost t res.Zero 0 s

@@ -21,7 +21,8 @@ use Rattle.rules_machine.specs.GoodState.{is_ordered, serial_of, serials}
 use Rattle.rules_machine.specs.Units.{in_unit}
 use Rattle.rules_machine.specs.Ticks.{TickEnd, ends_tick, exhausting, nothing, planning, slicing, tick_charged, without_slice}
 use Rattle.rules_lists.specs.Threads.{times}
-use Rattle.rules_moves.specs.Moves.{Core, MayRenewing, MayWaitPlainly, Move, alters, begins, blocks_for, blocks_plainly, does, drops, ends_with, enters_frame, fires, leaves_frame, lives_no_more, prices, pushed, pushes, recasts, record_in, record_out, records_of_ended, refills_one, rejoins, renews_with, wakes_with}
+use Rattle.rules_moves.specs.Moves.{MayRenewing, MayWaitPlainly, Move, alters, begins, blocks_for, blocks_plainly, does, drops, ends_with, enters_frame, fires, leaves_frame, lives_no_more, prices, pushed, pushes, recasts, record_in, record_out, records_of_ended, refills_one, rejoins, renews_with, wakes_with}
+use Rattle.rules_moves.proofs.Cores.{same_of_wait}
 use Rattle.rules_moves.proofs.Runs.Ticks.{in_unit_status}
 use Rattle.rules_moves.proofs.Runs.MachineLaws.{MachineLaw}
 
@@ -120,7 +121,8 @@ module _ {P : Type 0} (bodies : Bodies P) (who : Option ℕ) where
   fewer keep s q n = let less = pends_fewer n keep s.machine.pending in let before = q n in omega arith
 
   pub serials_keep : (move : Move P) (s : Turn P) → MayRenewing who move s → Serials s.machine → Serials (does bodies move s).machine
-  serials_keep (alters t f) s may q = same t f s (λ th. ap (λ (c : Core P). c.status) (may th)) q
+  serials_keep (alters t f) s may q =
+      let th = thread_at s.machine t in one t f s (λ n. (let e = same_of_wait (λ (o : Option Waiting). one_if (is (serial_of o) n)) (λ w. refl) (f th) th (may th) in omega arith)) q
   serials_keep (ends_with t v) s may q = same t (ending_with v) s (λ th. refl) q
   serials_keep (enters_frame t f) s may q = same t (on_top f) s (λ th. refl) q
   serials_keep (leaves_frame t) s may q = same t without_top s (λ th. refl) q

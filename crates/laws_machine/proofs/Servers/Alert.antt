@@ -20,6 +20,7 @@ use Rattle.rules_machine.specs.Cancellation.{without_cleanup}
 use Rattle.rules_machine.specs.Scheduling.{with_policy, with_priority}
 use Rattle.rules_machine.specs.GoodState.{is_in_condition_wait}
 use Rattle.rules_moves.specs.Moves.{Core, KeepsAwake, alters, begins, blocks_for, blocks_plainly, drops, ends_with, enters_frame, leaves_frame, lives_no_more, prices, pushed, pushes, recasts, refills_one, rejoins, renews_with, wakes_with}
+use Rattle.rules_moves.proofs.Cores.{blocked_seen, same_read}
 use Rattle.rules_moves.proofs.Waiters.OfThreads.{changed_is}
 use Rattle.laws_machine.proofs.Servers.OfThreads.{only}
 use Rattle.laws_machine.proofs.Servers.Moves.{Awake}
@@ -85,7 +86,8 @@ module _ {P : Type 0} (bodies : Bodies P) (tolled : Bool) (t : ℕ) where
   alert_renewed active v new s q = alert_activated_if active v (changes v (with_policy new s.machine.now) s) (alert_one v (with_policy new s.machine.now) s (λ th h. (h.0, λ c. none_of_new new s.machine.now)) q)
 
   pub alert_keep : KeepsAwake bodies (Some t) AlertAt
-  alert_keep (alters v f) s may q = alert_one v f s (λ th h. subst (λ (c : Core P). (is_blocked c.status ≡ false) × (tolled ≡ false → NoneOf c.server)) (sym (may th)) h) q
+  alert_keep (alters v f) s may q =
+      alert_one v f s (λ th h. (same_read is_blocked blocked_seen (f th) th (may th) ∙ h.0, subst (λ (c : Core P). tolled ≡ false → NoneOf c.server) (sym (may th)) h.1)) q
   alert_keep (ends_with v x) s may q = alert_one v (ending_with x) s (λ th h. h) q
   alert_keep (enters_frame v f) s may q = alert_one v (on_top f) s (λ th h. h) q
   alert_keep (leaves_frame v) s may q = alert_one v without_top s (λ th h. h) q

@@ -14,7 +14,7 @@ use Rattle.rules_server.specs.Server.{ServerState, activate, is_high, new_server
 use Rattle.rules_machine.specs.Lists.{changed_at, is}
 use Rattle.rules_machine.specs.Bodies.{Bodies}
 use Rattle.rules_machine.specs.State.{Status, Thread, Waiting, blocked, dormant, ended, for_mutex_again, runnable}
-use Rattle.rules_machine.specs.Threads.{can_run, is_blocked, is_dormant, is_live, no_thread, thread_at, thread_in, waiting_in}
+use Rattle.rules_machine.specs.Threads.{can_run, is_blocked, is_dormant, is_live, is_runnable, no_thread, thread_at, thread_in, waiting_in}
 use Rattle.rules_machine.specs.Turns.{Turn, changes, moves, tells}
 use Rattle.rules_machine.specs.Servers.{activates_if, activates_server, amount_of, at_once, at_once_as, high_server, refills_server, regains_high, server_of, with_server}
 use Rattle.rules_machine.specs.Waking.{ending_with, on_top, put_to_wait, started, wakes_telling, woken}
@@ -24,6 +24,7 @@ use Rattle.rules_machine.specs.Scheduling.{with_policy, with_priority}
 use Rattle.rules_machine.specs.GoodState.{HasParameters, is_in_condition_wait, is_sporadic}
 use Rattle.rules_machine.proofs.Reading.{changed-length, changed-twice, thread-other, thread-same}
 use Rattle.rules_moves.specs.Moves.{Core, MayAwake, Move, alters, begins, blocks_for, blocks_plainly, core_of, does, drops, ends_with, enters_frame, leaves_frame, lives_no_more, prices, pushed, pushes, recasts, refills_one, rejoins, renews_with, wakes_with}
+use Rattle.rules_moves.proofs.Cores.{live_seen, runnable_seen, same_read}
 use Rattle.rules_moves.proofs.Waiters.Best.{blocked_within}
 use Rattle.rules_moves.proofs.Waiters.OfThreads.{changed_is}
 use Rattle.laws_machine.proofs.Servers.Changed.{activated_as, activated_in, refill_kind, refill_params, refilled_in, refilled_of}
@@ -243,8 +244,27 @@ module _ {P : Type 0} (bodies : Bodies P) (who : Option ℕ) where
       live (blocked v) p = refl
       live ended p = absurd (grind arith)
 
+  -- another status, which lives and runs as the old one
+  status_in : (own : Bool) (now : ℕ) (old new : Status) (rule : Policy) (server : Option ServerState) → is_live new ≡ is_live old → is_runnable new ≡ is_runnable old →
+      ThreadIn own now old rule server → ThreadIn own now new rule server
+  status_in own now old new rule server lives runs h = record {
+    having = h.having ∙ ap (λ (live : Bool). live && is_sporadic rule) (sym lives);
+    serves = h.serves;
+    parameters = h.parameters;
+    each = λ x k. let g = h.each x k in
+        record {
+          sound = g.sound;
+          consumed = λ some. let c = g.consumed some in
+              record { fresh = c.fresh; before = c.before; room = c.room; unbroken = c.unbroken; runs = λ mine. (runs ∙ (c.runs mine).0, (c.runs mine).1) };
+          ready = λ sort r high. g.ready sort (sym runs ∙ r) high;
+        };
+  }
+
   of_core : (own : Bool) (now : ℕ) (a b : Thread P) → core_of a ≡ core_of b → ThreadRight own now b → ThreadRight own now a
-  of_core own now a b e h = subst (λ (c : Core P). ThreadIn own now c.status c.policy c.server) (sym e) h
+  of_core own now a b e h =
+      let lives = same_read is_live live_seen a b e in
+      let runs = same_read is_runnable runnable_seen a b e in
+      subst (λ (c : Core P). ThreadIn own now a.status c.policy c.server) (sym e) (status_in own now b.status a.status b.policy b.server lives runs h)
 
   begun_none : (t mask : ℕ) (s : Turn P) → t < length s.machine.threads → (x : ServerState) → (thread_at (changes t (started bodies t mask s.machine.now) s).machine t).server ≡ Some x → x.consumed ≡ 0
   begun_none t mask s there x e =

@@ -18,6 +18,7 @@ use Rattle.rules_machine.specs.Cancellation.{without_cleanup}
 use Rattle.rules_machine.specs.Scheduling.{with_policy, with_priority}
 use Rattle.rules_machine.specs.GoodState.{is_in_condition_wait}
 use Rattle.rules_moves.specs.Moves.{Core, KeepsAwake, Unawaited, alters, begins, blocks_for, blocks_plainly, drops, ends_with, enters_frame, is_for_end, leaves_frame, lives_no_more, prices, pushed, pushes, recasts, refills_one, rejoins, renews_with, wakes_with}
+use Rattle.rules_moves.proofs.Cores.{endless_same}
 use Rattle.rules_moves.proofs.Waiters.OfThreads.{changed_is}
 use Rattle.rules_moves.proofs.Calls.Table.{JoinersWait}
 
@@ -31,7 +32,7 @@ only {a} {b} p = ap out p
 module _ {P : Type 0} (bodies : Bodies P) (who : Option ℕ) where
   -- a change of a thread that leaves its joiner, and either its status or a thread that waits for no end
   pub changed_joiners : (t : ℕ) (f : Thread P → Thread P) (s : Turn P) → ((u : ℕ) → (f (thread_at s.machine t)).joiner ≡ waits_to_join u → (thread_at s.machine t).joiner ≡ waits_to_join u) →
-      ((w : Waiting) (v : ℕ) → waiting_of s.machine t ≡ Some w → w.wait ≡ for_end v → (thread_at s.machine v).joiner ≡ waits_to_join t → waiting_in (f (thread_at s.machine t)).status ≡ Some w) → JoinersWait s → JoinersWait (changes t f s)
+      ((w : Waiting) (v : ℕ) → waiting_of s.machine t ≡ Some w → w.wait ≡ for_end v → w.due ≡ None → (thread_at s.machine v).joiner ≡ waits_to_join t → waiting_in (f (thread_at s.machine t)).status ≡ Some w) → JoinersWait s → JoinersWait (changes t f s)
   changed_joiners t f s hj hw joined v u e = (old.0, still (changed_is no_thread t u f s.machine.threads), old.2, old.3)
     where
       before : (thread_at s.machine v).joiner ≡ waits_to_join u
@@ -46,11 +47,11 @@ module _ {P : Type 0} (bodies : Bodies P) (who : Option ℕ) where
 
       still : ((t ≡ u) × (thread_in (changed_at no_thread t f s.machine.threads) u ≡ f (thread_at s.machine t))) ⊎ (thread_in (changed_at no_thread t f s.machine.threads) u ≡ thread_at s.machine u) → waiting_of (changes t f s).machine u ≡ Some old.0
       still (inl k) = ap (λ (th : Thread P). waiting_in th.status) k.1
-          ∙ hw old.0 v (subst (λ (i : ℕ). waiting_of s.machine i ≡ Some old.0) (sym k.0) old.1) old.2 (subst (λ (i : ℕ). (thread_at s.machine v).joiner ≡ waits_to_join i) (sym k.0) before)
+          ∙ hw old.0 v (subst (λ (i : ℕ). waiting_of s.machine i ≡ Some old.0) (sym k.0) old.1) old.2 old.3 (subst (λ (i : ℕ). (thread_at s.machine v).joiner ≡ waits_to_join i) (sym k.0) before)
       still (inr k) = ap (λ (th : Thread P). waiting_in th.status) k ∙ old.1
 
   kept : (t : ℕ) (f : Thread P → Thread P) (s : Turn P) → ((th : Thread P) → (f th).joiner ≡ th.joiner) → ((th : Thread P) → (f th).status ≡ th.status) → JoinersWait s → JoinersWait (changes t f s)
-  kept t f s hj hs = changed_joiners t f s (λ u e. sym (hj (thread_at s.machine t)) ∙ e) (λ w v e h j. ap waiting_in (hs (thread_at s.machine t)) ∙ e)
+  kept t f s hj hs = changed_joiners t f s (λ u e. sym (hj (thread_at s.machine t)) ∙ e) (λ w v e h never j. ap waiting_in (hs (thread_at s.machine t)) ∙ e)
 
   activated_keep : (t : ℕ) (o : Option ServerState) (s : Turn P) → JoinersWait s → JoinersWait (activates_server t o s)
   activated_keep t None s j = j
@@ -68,7 +69,7 @@ module _ {P : Type 0} (bodies : Bodies P) (who : Option ℕ) where
 
   -- a thread whose status says that it does not wait
   pub idle : (t : ℕ) (f : Thread P → Thread P) (s : Turn P) → ((th : Thread P) → (f th).joiner ≡ th.joiner) → waiting_of s.machine t ≡ None → JoinersWait s → JoinersWait (changes t f s)
-  idle t f s hj none = changed_joiners t f s (λ u e. sym (hj (thread_at s.machine t)) ∙ e) (λ w v e h j. absurd (grind arith))
+  idle t f s hj none = changed_joiners t f s (λ u e. sym (hj (thread_at s.machine t)) ∙ e) (λ w v e h never j. absurd (grind arith))
 
   dormant_idle : (status : Status) → is_dormant status ≡ true → waiting_in status ≡ None
   dormant_idle (dormant at) e = refl
@@ -94,7 +95,9 @@ module _ {P : Type 0} (bodies : Bodies P) (who : Option ℕ) where
   joiners_renewed active t new s j = activated_if_keep active t (changes t (with_policy new s.machine.now) s) (kept t (with_policy new s.machine.now) s (λ th. refl) (λ th. refl) j)
 
   pub joiners_keep : KeepsAwake bodies who JoinersWait
-  joiners_keep (alters t f) s may j = kept t f s (λ th. ap (λ (c : Core P). c.joiner) (may th)) (λ th. ap (λ (c : Core P). c.status) (may th)) j
+  joiners_keep (alters t f) s may j =
+      let th = thread_at s.machine t in
+      changed_joiners t f s (λ u e. sym (ap (λ (c : Core P). c.joiner) (may th)) ∙ e) (λ w v e h never k. endless_same (f th) th w (may th) e never) j
   joiners_keep (ends_with t v) s may j = kept t (ending_with v) s (λ th. refl) (λ th. refl) j
   joiners_keep (enters_frame t f) s may j = kept t (on_top f) s (λ th. refl) (λ th. refl) j
   joiners_keep (leaves_frame t) s may j = kept t without_top s (λ th. refl) (λ th. refl) j
@@ -104,10 +107,10 @@ module _ {P : Type 0} (bodies : Bodies P) (who : Option ℕ) where
   joiners_keep (renews_with active t new) s may j = absurd may
   joiners_keep (wakes_with t ev r v) s may j =
       let up = tells ev (moves t (changes t (woken r v) s)) in
-      activated_keep t (at_once (high_server (thread_at up.machine t).server)) up (changed_joiners t (woken r v) s (λ u e. e) (λ w x e h k. absurd (no_end t s may.2 w x e h k)) j)
+      activated_keep t (at_once (high_server (thread_at up.machine t).server)) up (changed_joiners t (woken r v) s (λ u e. e) (λ w x e h never k. absurd (no_end t s may.2 w x e h k)) j)
   joiners_keep (blocks_for by (for_mutex_again k how) due) s may j =
       changed_joiners by.thread (put_to_wait (record { wait = for_mutex_again k how; serial = s.machine.next_serial; due = due; call = by.call })) s (λ u e. e)
-      (λ w v e h x. absurd (in_condition (waiting_of s.machine by.thread) may.0 w v e h)) j
+      (λ w v e h never x. absurd (in_condition (waiting_of s.machine by.thread) may.0 w v e h)) j
   joiners_keep (blocks_for by wait due) s may j = absurd may
   joiners_keep (blocks_plainly by wait due) s may j = absurd may
   joiners_keep (begins t mask) s may j =
@@ -115,6 +118,6 @@ module _ {P : Type 0} (bodies : Bodies P) (who : Option ℕ) where
       activated_keep t (at_once (thread_at up.machine t).server) up (idle t (started bodies t mask s.machine.now) s (λ th. refl) (dormant_idle (thread_at s.machine t).status may) j)
   joiners_keep (lives_no_more t) s may j = idle t without_life s (λ th. refl) (running_idle (thread_at s.machine t).status may.0) j
   joiners_keep (recasts t f) s may j = absurd may
-  joiners_keep (rejoins t x) s may j = changed_joiners t (with_joiner x) s (λ u e. absurd (may u e)) (λ w v e h k. e) j
+  joiners_keep (rejoins t x) s may j = changed_joiners t (with_joiner x) s (λ u e. absurd (may u e)) (λ w v e h never k. e) j
   joiners_keep (refills_one t) s may j = refilled_keep t (thread_at s.machine t).server s j
   joiners_keep move s may j = j

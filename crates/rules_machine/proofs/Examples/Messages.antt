@@ -2,6 +2,7 @@
 use Rattle.std.specs.Prelude.{[], ◌∷◌, ◌≡◌, Some, None, false, codes, refl}
 use Rattle.std.specs.Fmt.{digits}
 use Rattle.words_script.specs.declared.call.Call.TheVariants as call
+use Rattle.words_script.specs.declared.call.Moment.TheVariants as moment
 use Rattle.words_script.specs.declared.call.Operand.TheVariants as operand
 use Rattle.words_script.specs.declared.policy.Policy.TheVariants as policy
 use Rattle.words_script.specs.declared.decl.Decl.TheVariants as decl
@@ -56,7 +57,7 @@ full_queue_hands_over_from_its_sender_script = record {
   decls =
       decl.Named (codes "q") (kind.Queue 1 8 false)
       ∷ decl.Named (codes "w") (kind.Thread (policy.Fifo 6) (Some 0) (Making (call.MqSend 0 1 0 (operand.Num 1)) (Making (call.MqSend 0 9 0 (operand.Num 9)) (Making (call.MqSend 0 1 3 (operand.Num 2)) Nothing))))
-      ∷ decl.Named (codes "r") (kind.Thread (policy.Fifo 5) (Some 0) (Making (call.MqReceive 0) (Making (call.MqReceive 0) (Making (call.MqTimedreceive 0 (operand.Num 3)) Nothing))))
+      ∷ decl.Named (codes "r") (kind.Thread (policy.Fifo 5) (Some 0) (Making (call.MqReceive 0) (Making (call.MqReceive 0) (Making (call.MqTimedreceive 0 (moment.Monotonic (operand.Num 3))) Nothing))))
       ∷ [];
 }
 

@@ -2,6 +2,7 @@
 use Rattle.std.specs.Prelude.{[], ◌∷◌, ◌≡◌, Some, true, false, codes, refl}
 use Rattle.std.specs.Fmt.{digits}
 use Rattle.words_script.specs.declared.call.Call.TheVariants as call
+use Rattle.words_script.specs.declared.call.Moment.TheVariants as moment
 use Rattle.words_script.specs.declared.call.Operand.TheVariants as operand
 use Rattle.words_script.specs.declared.policy.Policy.TheVariants as policy
 use Rattle.words_script.specs.declared.policy.Protocol.TheVariants as protocol
@@ -23,7 +24,7 @@ inheritance_along_a_chain_of_owners_script = record {
       ∷ decl.Named (codes "m2") (kind.Mutex protocol.Inherit false)
       ∷ decl.Named (codes "m3") (kind.Mutex protocol.Inherit false)
       ∷ decl.Named (codes "a") (kind.Thread (policy.Fifo 1) (Some 0) (Making (call.Lock 0) (Running 30 Nothing)))
-      ∷ decl.Named (codes "b") (kind.Thread (policy.Fifo 2) (Some 1) (Making (call.Lock 1) (Making (call.Timedlock 0 (operand.Num 20)) (Making (call.Unlock 1) Nothing))))
+      ∷ decl.Named (codes "b") (kind.Thread (policy.Fifo 2) (Some 1) (Making (call.Lock 1) (Making (call.Timedlock 0 (moment.Monotonic (operand.Num 20))) (Making (call.Unlock 1) Nothing))))
       ∷ decl.Named (codes "c") (kind.Thread (policy.Fifo 3) (Some 3) (Making (call.Lock 2) (Making (call.Lock 1) (Making (call.Unlock 2) Nothing))))
       ∷ decl.Named (codes "d") (kind.Thread (policy.Fifo 9) (Some 5) (Making (call.Lock 2) Nothing))
       ∷ [];

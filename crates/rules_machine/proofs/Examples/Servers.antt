@@ -106,7 +106,7 @@ blocking_plans_what_was_consumed_script = record {
   version = 1;
   quantum = 10;
   decls =
-      decl.Named (codes "tm") (kind.Timer 1 5)
+      decl.Named (codes "tm") (kind.Timer 1 5 false)
       ∷ decl.Named (codes "s") (kind.Thread (policy.Sporadic (record { high = 8; low = 2; period = 6; budget = 3; max = 4 })) (Some 2) (Running 1 (Making (call.Nanosleep 3) (Making (call.Nanosleep 4) (Running 1 Nothing)))))
       ∷ decl.Named (codes "u") (kind.Thread (policy.Fifo 9) (Some 0) (Making (call.TimerSettimeAbs 0 (operand.Num 8) 0) (Making (call.Sigwaitinfo 2) Nothing)))
       ∷ [];

@@ -1,5 +1,5 @@
 -- Worked examples. Signals and timers.
-use Rattle.std.specs.Prelude.{[], ◌∷◌, ◌≡◌, Some, codes, refl}
+use Rattle.std.specs.Prelude.{[], ◌∷◌, ◌≡◌, Some, codes, refl, false}
 use Rattle.std.specs.Fmt.{digits}
 use Rattle.words_script.specs.declared.call.Call.TheVariants as call
 use Rattle.words_script.specs.declared.policy.Policy.TheVariants as policy
@@ -68,7 +68,7 @@ expiries_while_pending_are_overruns_script = record {
   version = 1;
   quantum = 10;
   decls =
-      decl.Named (codes "t") (kind.Timer 2 9)
+      decl.Named (codes "t") (kind.Timer 2 9 false)
       ∷ decl.Named (codes "a") (kind.Thread (policy.Fifo 5) (Some 0) (Making (call.SigmaskBlock 4) (Making (call.TimerSettimeRel 0 1 1) (Running 5 (Making (call.Sigwaitinfo 4) (Making (call.TimerGetoverrun 0) Nothing))))))
       ∷ [];
 }

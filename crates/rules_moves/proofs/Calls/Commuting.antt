@@ -1,5 +1,6 @@
 -- What a waking leaves as it is, and changes that may come in either order.
-use Rattle.std.proofs.Common.{List, None, Option, Some, [], ap, arith, false, length, refl, suc, true, zero, ℕ, ◌+◌, ◌<◌, ◌∷◌, ◌≡◌}
+use Rattle.std.proofs.Common.{Bool, List, None, Option, Some, [], ap, arith, false, length, refl, suc, true, zero, ℕ, ◌+◌, ◌<◌, ◌∷◌, ◌≡◌}
+use Rattle.std.specs.Option.{option_map}
 use Rattle.std.specs.Prelude.{map, ◌==◌}
 use mathlib.Core.Path.{◌∙◌}
 use Rattle.words_numbers.specs.declared.res.Res.{Res}
@@ -9,16 +10,17 @@ use Rattle.words_trace.specs.declared.event.Event.TheVariants as event
 use Rattle.rules_server.specs.Server.{ServerState, activate}
 use Rattle.rules_machine.specs.declared.thread.CondEnd.{CondEnd}
 use Rattle.rules_machine.specs.declared.thread.CondEnd.TheVariants as cond_end
+use Rattle.rules_machine.specs.Clock.{moved_if, status_moved, thread_moved, waits_on_real}
 use Rattle.rules_machine.specs.Lists.{changed_at}
-use Rattle.rules_machine.specs.State.{Frame, Machine, Mutex, Thread, Wait, for_mutex_again}
-use Rattle.rules_machine.specs.Threads.{can_run, is_blocked, is_runnable, no_thread, thread_at, waiting_in, waiting_of}
+use Rattle.rules_machine.specs.State.{Frame, Machine, Mutex, Status, Thread, Wait, blocked, dormant, ended, for_mutex_again, runnable}
+use Rattle.rules_machine.specs.Threads.{can_run, is_blocked, is_runnable, no_thread, thread_at, top_result, top_value, waiting_in, waiting_of}
 use Rattle.rules_machine.specs.CallNames.{name_of}
 use Rattle.rules_machine.specs.Turns.{Caller, Turn, answered, changes, changes_mutex, frames_answered, moves, tells}
 use Rattle.rules_machine.specs.Servers.{activates_if_high, activates_server, at_once, high_server, with_server}
-use Rattle.rules_machine.specs.Waking.{blocks, call_in, cancelled_value, ending_with, put_to_wait, wakes, wakes_telling, woken}
+use Rattle.rules_machine.specs.Waking.{blocks, call_in, cancelled_value, ending_with, last_result, last_value, put_to_wait, wakes, wakes_telling, woken}
 use Rattle.rules_machine.specs.Mutexes.{returns_from_wait, wakes_owner}
 use Rattle.rules_machine.proofs.Reading.{changed-keeps, thread-other, thread-same}
-use Rattle.rules_moves.specs.Moves.{core_of, shape_of, Shape}
+use Rattle.rules_moves.specs.Moves.{at_some_time, core_of, shape_of, Shape}
 use Rattle.rules_moves.proofs.Waiters.Best.{blocked_within}
 
 -- ---- an answer changes nothing that others go by
@@ -29,6 +31,21 @@ answered_shapes r v (f ∷ fs) = refl
 
 pub answered_core : {P : Type 0} (r : Res) (v : ℕ) (th : Thread P) → core_of (answered r v th) ≡ core_of th
 answered_core {P} r v th = ap (λ (shapes : List (Shape P)). record (core_of th) { shapes = shapes }) (answered_shapes r v th.frames)
+
+-- and neither does the time of a wait
+pub moved_core : {P : Type 0} (move : ℕ → ℕ) (th : Thread P) → core_of (thread_moved move th) ≡ core_of th
+moved_core {P} move th = by_status th.status
+  where
+    same_time : (b : Bool) (due : Option ℕ) → option_map {U = ℕ} (λ (due : ℕ). 0) (moved_if b move due) ≡ option_map {U = ℕ} (λ (due : ℕ). 0) due
+    same_time true None = refl
+    same_time true (Some due) = refl
+    same_time false due = refl
+
+    by_status : (status : Status) → record (core_of th) { status = at_some_time (status_moved move status) } ≡ record (core_of th) { status = at_some_time status }
+    by_status (dormant at) = refl
+    by_status runnable = refl
+    by_status (blocked w) = ap (λ (due : Option ℕ). record (core_of th) { status = blocked (record w { due = due }) }) (same_time (waits_on_real w.call) w.due)
+    by_status ended = refl
 
 -- a change that leaves what others go by leaves the status
 pub status_kept : {P : Type 0} (t u : ℕ) (f : Thread P → Thread P) → ((th : Thread P) → (f th).status ≡ th.status) → (s : Turn P) →
@@ -72,7 +89,7 @@ module _ {P : Type 0} (k : ℕ) (f : Mutex → Mutex) where
   pub returns_from_wait_passes : (how : CondEnd) (t : ℕ) → PassesMutex (returns_from_wait how t)
   returns_from_wait_passes cond_end.Signalled t s = wakes_telling_passes _ t res.Zero 0 s
   returns_from_wait_passes cond_end.Timedout t s = wakes_telling_passes _ t res.Timedout 0 s
-  returns_from_wait_passes cond_end.Cancelled t s = ap (changes t (ending_with cancelled_value)) (wakes_telling_passes (event.Cancel t) t res.Zero 0 s)
+  returns_from_wait_passes cond_end.Cancelled t s = ap (changes t (ending_with cancelled_value)) (wakes_telling_passes (event.Cancel t) t (last_result t s.machine) (last_value t s.machine) s)
 
   pub wakes_owner_passes : (wait : Wait) (t : ℕ) → PassesMutex (wakes_owner wait t)
   wakes_owner_passes (for_mutex_again j how) t s = returns_from_wait_passes how t s
@@ -122,7 +139,13 @@ module _ {P : Type 0} (by : Caller) (wait : Wait) (due : Option ℕ) (t : ℕ) (
   returns_from_wait_swap cond_end.Signalled s = named_swap res.Zero s
   returns_from_wait_swap cond_end.Timedout s = named_swap res.Timedout s
   returns_from_wait_swap cond_end.Cancelled s =
-      ap (changes t (ending_with cancelled_value)) (wakes_telling_swap (event.Cancel t) res.Zero 0 s) ∙ changes_swap (ending_with cancelled_value) (wakes_telling (event.Cancel t) t res.Zero 0 s)
+      let other : (by.thread == t) ≡ false = grind arith in
+      let result = last_result t s.machine in
+      let value = last_value t s.machine in
+      ap (λ (th : Thread P). changes t (ending_with cancelled_value) (wakes_telling (event.Cancel t) t (top_result th.frames) (top_value th.frames) (blocking s)))
+      (thread-other s.machine by.thread t (waiting_now s) other)
+      ∙ ap (changes t (ending_with cancelled_value)) (wakes_telling_swap (event.Cancel t) result value s)
+      ∙ changes_swap (ending_with cancelled_value) (wakes_telling (event.Cancel t) t result value s)
 
   pub wakes_owner_swap : (wait : Wait) (s : Turn P) → wakes_owner wait t (blocking s) ≡ blocking (wakes_owner wait t s)
   wakes_owner_swap (for_mutex_again k how) s = returns_from_wait_swap how s
@@ -148,7 +171,8 @@ module _ {P : Type 0} {X : Type 0} (part : Machine P → X) where
   returns_from_wait_part h cond_end.Signalled t s = wakes_telling_part h _ t res.Zero 0 s
   returns_from_wait_part h cond_end.Timedout t s = wakes_telling_part h _ t res.Timedout 0 s
   returns_from_wait_part h cond_end.Cancelled t s =
-      let up = wakes_telling (event.Cancel t) t res.Zero 0 s in h up.machine _ ∙ wakes_telling_part h (event.Cancel t) t res.Zero 0 s
+      let up = wakes_telling (event.Cancel t) t (last_result t s.machine) (last_value t s.machine) s in
+      h up.machine _ ∙ wakes_telling_part h (event.Cancel t) t (last_result t s.machine) (last_value t s.machine) s
 
   pub wakes_owner_part : OfNoThread → (wait : Wait) (t : ℕ) (s : Turn P) → part (wakes_owner wait t s).machine ≡ part s.machine
   wakes_owner_part h (for_mutex_again k how) t s = returns_from_wait_part h how t s
@@ -159,7 +183,8 @@ module _ {P : Type 0} (t u : ℕ) (h : (t == u) ≡ false) where
   returns_from_wait_other cond_end.Signalled s = woken_other _ t u res.Zero 0 s h
   returns_from_wait_other cond_end.Timedout s = woken_other _ t u res.Timedout 0 s h
   returns_from_wait_other cond_end.Cancelled s =
-      status_kept t u (ending_with cancelled_value) (λ th. refl) (wakes_telling (event.Cancel t) t res.Zero 0 s) ∙ woken_other (event.Cancel t) t u res.Zero 0 s h
+      status_kept t u (ending_with cancelled_value) (λ th. refl) (wakes_telling (event.Cancel t) t (last_result t s.machine) (last_value t s.machine) s)
+      ∙ woken_other (event.Cancel t) t u (last_result t s.machine) (last_value t s.machine) s h
 
   pub wakes_owner_other : (wait : Wait) (s : Turn P) → (thread_at (wakes_owner wait t s).machine u).status ≡ (thread_at s.machine u).status
   wakes_owner_other (for_mutex_again k how) s = returns_from_wait_other how s

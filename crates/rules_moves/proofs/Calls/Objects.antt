@@ -14,7 +14,7 @@ use Rattle.rules_machine.specs.Threads.{can_run, is_blocked, is_runnable, mutex_
 use Rattle.rules_machine.specs.Waiters.{Waiter, best_waiter, somebody_waits}
 use Rattle.rules_machine.specs.CallNames.{name_of}
 use Rattle.rules_machine.specs.Turns.{Caller, Turn, answered, changes, is_late, returns}
-use Rattle.rules_machine.specs.Waking.{call_in, cancelled_value, ending_with, wakes, wakes_cancelled, wakes_telling}
+use Rattle.rules_machine.specs.Waking.{call_in, cancelled_value, ending_with, last_result, last_value, wakes, wakes_cancelled, wakes_telling}
 use Rattle.rules_machine.specs.Mutexes.{LockAnswer, counts, hands_over, is_free, lock_answer, locks, carries_out_lock, must_wait, owns, refused, releases, returns_from_wait, taken_by, takes, tries_lock, trylock_answer, unlocks, waits_for_mutex, wakes_owner}
 use Rattle.rules_machine.specs.Conditions.{contends, reacquires_or_waits, released_mutex, signals_best_times, signals_waiter, waits_on_condition}
 use Rattle.rules_machine.specs.Semaphores.{blocks_unless_late, posts, wakes_waiter_or_raises_value, semaphore_limit, tries_semaphore, waits_on_semaphore, waits_semaphore}
@@ -91,7 +91,8 @@ module _ {P : Type 0} (bodies : Bodies P) (who : Option ℕ) (Law Done : Turn P 
 
   pub wakes_cancelled_keep : (t : ℕ) (s : Turn P) → MayWake s.machine t → Law s → Law (wakes_cancelled t s)
   wakes_cancelled_keep t s b q =
-      keeps (ends_with t cancelled_value) (wakes_telling (event.Cancel t) t res.Zero 0 s) tt (keeps (wakes_with t (event.Cancel t) res.Zero 0) s (b.0, refl, b.1) q)
+      keeps (ends_with t cancelled_value) (wakes_telling (event.Cancel t) t (last_result t s.machine) (last_value t s.machine) s) tt
+      (keeps (wakes_with t (event.Cancel t) (last_result t s.machine) (last_value t s.machine)) s (b.0, refl, b.1) q)
 
   pub answers_done : (by : Caller) (r : Res) (v : ℕ) (s : Turn P) → Law s → Done (returns by r v s)
   answers_done by r v s q = stops.done (returns by r v s) (returns_keep by r v s q)
@@ -119,7 +120,8 @@ module _ {P : Type 0} (bodies : Bodies P) (who : Option ℕ) (Law Done : Turn P 
   returned_runs cond_end.Signalled t s b = woken_runs _ t res.Zero 0 s b
   returned_runs cond_end.Timedout t s b = woken_runs _ t res.Timedout 0 s b
   returned_runs cond_end.Cancelled t s b =
-      ap is_runnable (status_kept t t (ending_with cancelled_value) (λ th. refl) (wakes_telling (event.Cancel t) t res.Zero 0 s)) ∙ woken_runs (event.Cancel t) t res.Zero 0 s b
+      ap is_runnable (status_kept t t (ending_with cancelled_value) (λ th. refl) (wakes_telling (event.Cancel t) t (last_result t s.machine) (last_value t s.machine) s))
+      ∙ woken_runs (event.Cancel t) t (last_result t s.machine) (last_value t s.machine) s b
 
   owner_keeps : (wait : Wait) (t : ℕ) (s : Turn P) → MayWake s.machine t → Law s → Law (wakes_owner wait t s)
   owner_keeps (for_mutex_again k how) t s b q = returns_from_wait_keep how t s b q

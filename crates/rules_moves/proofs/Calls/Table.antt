@@ -1,6 +1,6 @@
 -- What every move keeps, every call of the table keeps, and so every unit, every timeout and every sweep.
 use Rattle.std.proofs.Common.{Bool, List, None, Option, Some, [], ap, arith, false, inl, inr, length, refl, suc, sym, true, zero, ℕ, ◌+◌, ◌∷◌, ◌≡◌, ◌⊎◌}
-use Rattle.std.specs.Prelude.{filter, not, option_and_then, ◌==◌, ◌&&◌, ◌||◌, if◌then◌else◌}
+use Rattle.std.specs.Prelude.{filter, nat_lt, not, option_and_then, ◌==◌, ◌&&◌, ◌||◌, if◌then◌else◌}
 use mathlib.Core.Path.{subst, ◌∙◌}
 use Rattle.words_numbers.specs.declared.res.Res.{Res}
 use Rattle.words_numbers.specs.declared.res.Res.TheVariants as res
@@ -19,30 +19,32 @@ use Rattle.rules_machine.specs.declared.signal.SigAction.TheVariants as action
 use Rattle.rules_machine.specs.declared.thread.CondEnd.TheVariants as cond_end
 use Rattle.std.specs.Option.{option_map_or}
 use Rattle.words_numbers.specs.Signals.{has_signal}
-use Rattle.rules_machine.specs.Lists.{changed_at}
+use Rattle.rules_machine.specs.Lists.{changed_at, numbers}
 use Rattle.rules_machine.specs.Bodies.{Bodies}
+use Rattle.rules_machine.specs.Clock.{changes_each, clock_at, clock_limit, due_as_set, moves_times, sets_real_clock, thread_moved, timer_moved}
 use Rattle.rules_machine.specs.State.{Joiner, Machine, SignalRecord, Thread, Wait, Waiting, for_condition, for_end, for_mutex, for_mutex_again, for_signal, for_time, has_joined, nobody, waits_to_join}
-use Rattle.rules_machine.specs.Threads.{action_of, can_run, is_dormant, is_live, is_runnable, lives, no_thread, number_of, thread_at, thread_in, top_kind, waiting_of}
+use Rattle.rules_machine.specs.Threads.{action_of, can_run, is_dormant, is_live, is_runnable, lives, moment_of, no_thread, number_of, real_time, thread_at, thread_in, thread_numbers, timer_at, top_kind, waiting_of}
 use Rattle.rules_machine.specs.Waiters.{waiters}
-use Rattle.rules_machine.specs.Turns.{Caller, Turn, changes, changes_pending, moves_if, returns, tells}
+use Rattle.rules_machine.specs.Turns.{Caller, Turn, changes, changes_pending, changes_timer, moves_if, returns, tells}
 use Rattle.rules_machine.specs.Waking.{cancelled_value, new_frame}
 use Rattle.rules_machine.specs.Mutexes.{owns_boosting}
 use Rattle.rules_machine.specs.Conditions.{waits_on_condition}
 use Rattle.rules_machine.specs.Signals.{may_go_to, is_kill, is_selected_before, selected, record_of_kill, record_of_sigqueue, sets_mask, with_signals, without_record, without_signals}
-use Rattle.rules_machine.specs.Timers.{armed, first_expiry}
+use Rattle.rules_machine.specs.Timers.{armed, first_expiry, timer_moment}
 use Rattle.rules_machine.specs.Lives.{creates, ends, ends_frame, inherited_mask, is_nobody, joins, wakes_joiner, with_joiner, without_life, without_target}
 use Rattle.rules_machine.specs.Cancellation.{cancels, is_cancellation_point, leaves, leaves_wait, request_acts, requested, runs_cleanup_if}
 use Rattle.rules_machine.specs.Budget.{renews}
+use Rattle.rules_machine.specs.GoodState.{ClockFits}
 use Rattle.rules_machine.specs.Scheduling.{sets_policy, sets_priority, takes_priority}
 use Rattle.rules_machine.specs.Calls.{call_effect, makes_call, unit_effect}
 use Rattle.rules_machine.specs.Delivery.{can_take, defers_handlers, may_be_interrupted, may_run_handler, acts, interrupts, sweeps_all, sweeps_thread, taken_by_sweep, takes_record, ticks_left}
 use Rattle.rules_machine.specs.DueItems.{has_come, times_out, wait_times_out}
 use Rattle.rules_machine.proofs.Reading.{changed-keeps, thread-other}
-use Rattle.rules_moves.specs.Moves.{KeepsAwake, Stops, is_for_end, rejoins, Runs, alters, begins, core_of, directs, does, drops, ends_process, ends_with, enters_frame, leaves_frame, lives_no_more, prices, pushes, record_out, records_of_ended, renews_with, sets_timer_by, tells_of}
+use Rattle.rules_moves.specs.Moves.{KeepsAwake, Stops, is_for_end, rejoins, Runs, alters, begins, core_of, directs, does, drops, ends_process, ends_with, enters_frame, leaves_frame, lives_no_more, prices, pushes, record_out, records_of_ended, renews_with, sets_clock_to, sets_timer_by, tells_of}
 use Rattle.rules_machine.specs.WellFormed.{CallFits, IsPriority, PolicyFits}
 use Rattle.rules_moves.specs.UnitRanges.{UnitFits}
 use Rattle.rules_moves.proofs.Waiters.Best.{Each, first_one}
-use Rattle.rules_moves.proofs.Calls.Commuting.{status_kept}
+use Rattle.rules_moves.proofs.Calls.Commuting.{moved_core, status_kept}
 use Rattle.rules_moves.proofs.Calls.Answers.{waits_blocked}
 use Rattle.rules_moves.proofs.Calls.Objects.{answered_status, wait_may, answers_done, branch, contends_keep, either, locks_keep, posts_keep, returns_keep, signals_best_of_keep, still_blocked, tries_lock_keep, tries_semaphore_keep, unlocks_keep, waits_semaphore_keep, wakes_cancelled_keep, wakes_keep}
 use Rattle.rules_moves.proofs.Calls.ConditionWaits.{waits_keep}
@@ -126,6 +128,10 @@ take_may m t r e k = last_of (may_go_to t r.target && not (has_signal (thread_at
   where
     last_of : (a b c : Bool) → (a && (b || c)) ≡ true → b ≡ false → c ≡ true
     last_of a b c e k = grind arith
+
+-- a reading that the clock takes leaves it in its range
+clock_set : (reading now : ℕ) → nat_lt clock_limit reading ≡ false → ClockFits now (clock_at reading now)
+clock_set reading now e = record { behind = omega arith; ahead = grind arith }
 
 module _ {P : Type 0} (bodies : Bodies P) (who : Option ℕ) (Law Done : Turn P → Type 0) (keeps : KeepsAwake bodies who Law) (stops : Stops who Law Done) (joined : (s : Turn P) → Law s → JoinersWait s) where
   either' : (b : Bool) (x y : Turn P) → (b ≡ true → Law x) → (b ≡ false → Law y) → Law (if b then x else y)
@@ -238,6 +244,22 @@ module _ {P : Type 0} (bodies : Bodies P) (who : Option ℕ) (Law Done : Turn P 
   sets_mask_keep : (by : Caller) (change : ℕ → ℕ) (s : Turn P) → Law s → Law (sets_mask by change s)
   sets_mask_keep by change s q = answer by res.Zero 0 _ (same by.thread (λ th. record th { mask = change th.mask }) (λ th. refl) s q)
 
+  -- ---- the clock
+
+  each_keep : (change : ℕ → Turn P → Turn P) → ((n : ℕ) (s : Turn P) → Law s → Law (change n s)) → (ns : List ℕ) (s : Turn P) → Law s → Law (changes_each change ns s)
+  each_keep change each [] s q = q
+  each_keep change each (n ∷ ns) s q = each_keep change each ns (change n s) (each n s q)
+
+  moves_times_keep : (move : ℕ → ℕ) (s : Turn P) → Law s → Law (moves_times move s)
+  moves_times_keep move s q =
+      each_keep (λ k. changes_timer k (timer_moved move)) (λ k s q. keeps (sets_timer_by k (timer_moved move)) s tt q) (numbers s.machine.timers) _
+      (each_keep (λ t. changes t (thread_moved move)) (λ t s q. same t (thread_moved move) (moved_core move) s q) (thread_numbers s.machine) s q)
+
+  sets_real_clock_keep : (by : Caller) (reading : ℕ) (s : Turn P) → Law s → Law (sets_real_clock by reading s)
+  sets_real_clock_keep by reading s q =
+      either' (nat_lt clock_limit reading) _ _ (λ e. answer by res.Inval 0 s q)
+      (λ e. answer by res.Zero 0 _ (moves_times_keep (due_as_set s.machine.now (real_time s.machine) reading) _ (keeps (sets_clock_to (clock_at reading s.machine.now)) s (clock_set reading s.machine.now e) q)))
+
   -- ---- the table
 
   itself : (u : ℕ) → (u == u) ≡ true
@@ -260,24 +282,26 @@ module _ {P : Type 0} (bodies : Bodies P) (who : Option ℕ) (Law Done : Turn P 
   call_keep by (call.Setprio u p) s known runs fits q = stops.done _ (sets_priority_keep by u p s known q)
   call_keep by (call.Setsched u policy) s known runs fits q = stops.done _ (sets_policy_keep by u policy s known (fits u (itself u)) q)
   call_keep by (call.Lock k) s known runs fits q = locks_keep bodies who Law Done keeps stops by k None s runs q
-  call_keep by (call.Timedlock k at) s known runs fits q = locks_keep bodies who Law Done keeps stops by k (Some (number_of s.machine by.thread at)) s runs q
+  call_keep by (call.Timedlock k at) s known runs fits q = locks_keep bodies who Law Done keeps stops by k (Some (moment_of s.machine by.thread at)) s runs q
   call_keep by (call.Trylock k) s known runs fits q = tries_lock_keep bodies who Law Done keeps stops by k s runs q
   call_keep by (call.Unlock k) s known runs fits q = stops.done _ (unlocks_keep bodies who Law Done keeps stops by k s q)
   call_keep by (call.Wait c k) s known runs fits q = waits_keep bodies who Law Done keeps stops by c k None s runs q
-  call_keep by (call.Timedwait c k at) s known runs fits q = waits_keep bodies who Law Done keeps stops by c k (Some (number_of s.machine by.thread at)) s runs q
+  call_keep by (call.Timedwait c k at) s known runs fits q = waits_keep bodies who Law Done keeps stops by c k (Some (moment_of s.machine by.thread at)) s runs q
   call_keep by (call.Signal c) s known runs fits q = stops.done _ (signals_best_of_keep bodies who Law Done keeps stops 1 c (returns by res.Zero 0 s) (answer by res.Zero 0 s q))
   call_keep by (call.Broadcast c) s known runs fits q = stops.done _ (signals_best_of_keep bodies who Law Done keeps stops (length (waiters s.machine (waits_on_condition c))) c (returns by res.Zero 0 s) (answer by res.Zero 0 s q))
   call_keep by (call.SemWait k) s known runs fits q = waits_semaphore_keep bodies who Law Done keeps stops by k None s runs q
-  call_keep by (call.SemTimedwait k at) s known runs fits q = waits_semaphore_keep bodies who Law Done keeps stops by k (Some (number_of s.machine by.thread at)) s runs q
+  call_keep by (call.SemTimedwait k at) s known runs fits q = waits_semaphore_keep bodies who Law Done keeps stops by k (Some (moment_of s.machine by.thread at)) s runs q
   call_keep by (call.SemTrywait k) s known runs fits q = stops.done _ (tries_semaphore_keep bodies who Law Done keeps stops by k s q)
   call_keep by (call.SemGetvalue k) s known runs fits q = stops.done _ (answer by res.Zero _ s q)
   call_keep by (call.SemPost k) s known runs fits q = stops.done _ (posts_keep bodies who Law Done keeps stops by k s q)
   call_keep by (call.Nanosleep n) s known runs fits q = sleeps_until_keep bodies who Law Done keeps stops by (s.machine.now + n) s runs q
-  call_keep by (call.ClockNanosleep at) s known runs fits q = sleeps_until_keep bodies who Law Done keeps stops by (number_of s.machine by.thread at) s runs q
+  call_keep by (call.ClockNanosleep at) s known runs fits q = sleeps_until_keep bodies who Law Done keeps stops by (moment_of s.machine by.thread at) s runs q
   call_keep by call.Gettime s known runs fits q = stops.done _ (answer by res.Zero _ s q)
-  call_keep by (call.TimerSettimeRel k n interval) s known runs fits q = stops.done _ (answer by res.Zero 0 _ (keeps (sets_timer_by k (armed (first_expiry n (s.machine.now + n)) interval)) s tt q))
+  call_keep by call.RealGettime s known runs fits q = stops.done _ (answer by res.Zero _ s q)
+  call_keep by (call.ClockSettime at) s known runs fits q = stops.done _ (sets_real_clock_keep by (number_of s.machine by.thread at) s q)
+  call_keep by (call.TimerSettimeRel k n interval) s known runs fits q = stops.done _ (answer by res.Zero 0 _ (keeps (sets_timer_by k (armed (first_expiry n (s.machine.now + n)) false interval)) s tt q))
   call_keep by (call.TimerSettimeAbs k at interval) s known runs fits q =
-      stops.done _ (answer by res.Zero 0 _ (keeps (sets_timer_by k (armed (first_expiry (number_of s.machine by.thread at) (number_of s.machine by.thread at)) interval)) s tt q))
+      stops.done _ (answer by res.Zero 0 _ (keeps (sets_timer_by k (armed (first_expiry (number_of s.machine by.thread at) (timer_moment s.machine k (number_of s.machine by.thread at))) (timer_at s.machine k).is_real interval)) s tt q))
   call_keep by (call.TimerGettime k) s known runs fits q = stops.done _ (answer by res.Zero _ s q)
   call_keep by (call.TimerGetoverrun k) s known runs fits q = stops.done _ (answer by res.Zero _ s q)
   call_keep by (call.Kill signal) s known runs fits q = stops.done _ (sends_signal_keep bodies who Law Done keeps stops by (record_of_kill signal None) s (record { timer = refl; queue = refl }) q)
@@ -291,9 +315,9 @@ module _ {P : Type 0} (bodies : Bodies P) (who : Option ℕ) (Law Done : Turn P 
   call_keep by (call.Sigwaitinfo set) s known runs fits q = waits_signal_keep bodies who Law Done keeps stops None by set s runs q
   call_keep by (call.Sigtimedwait set n) s known runs fits q = waits_signal_keep bodies who Law Done keeps stops (Some n) by set s runs q
   call_keep by (call.MqSend q' len p v) s known runs fits q = sends_message_keep bodies who Law Done keeps stops by q' len _ None s runs q
-  call_keep by (call.MqTimedsend q' len p v at) s known runs fits q = sends_message_keep bodies who Law Done keeps stops by q' len _ (Some (number_of s.machine by.thread at)) s runs q
+  call_keep by (call.MqTimedsend q' len p v at) s known runs fits q = sends_message_keep bodies who Law Done keeps stops by q' len _ (Some (moment_of s.machine by.thread at)) s runs q
   call_keep by (call.MqReceive q') s known runs fits q = receives_message_keep bodies who Law Done keeps stops by q' None s runs q
-  call_keep by (call.MqTimedreceive q' at) s known runs fits q = receives_message_keep bodies who Law Done keeps stops by q' (Some (number_of s.machine by.thread at)) s runs q
+  call_keep by (call.MqTimedreceive q' at) s known runs fits q = receives_message_keep bodies who Law Done keeps stops by q' (Some (moment_of s.machine by.thread at)) s runs q
   call_keep by (call.MqNotify q' signal v) s known runs fits q = stops.done _ (asks_notification_keep bodies who Law Done keeps stops by q' _ s q)
 
   makes_call_keep : (by : Caller) (s : Turn P) → CallFits by.call → Runs who s.machine by.thread → Fits (unit.Make by.call) → Law s → Done (makes_call bodies by s)

@@ -17,7 +17,8 @@ use Rattle.rules_machine.specs.Lives.{with_joiner, without_life, without_top}
 use Rattle.rules_machine.specs.Cancellation.{without_cleanup}
 use Rattle.rules_machine.specs.Scheduling.{with_policy, with_priority}
 use Rattle.rules_server.specs.Server.{oldest_pending}
-use Rattle.rules_moves.specs.Moves.{Core, May, Move, alters, begins, blocks_for, blocks_plainly, does, drops, ends_with, enters_frame, leaves_frame, lives_no_more, prices, pushed, pushes, recasts, refills_one, rejoins, renews_with, wakes_with}
+use Rattle.rules_moves.specs.Moves.{May, Move, alters, begins, blocks_for, blocks_plainly, does, drops, ends_with, enters_frame, leaves_frame, lives_no_more, prices, pushed, pushes, recasts, refills_one, rejoins, renews_with, wakes_with}
+use Rattle.rules_moves.proofs.Cores.{same_of_wait}
 use Rattle.rules_moves.proofs.Calls.Commuting.{OfNoThread, activates_part}
 use Rattle.rules_moves.proofs.Waiters.Best.{any_before, any_kept, any_same}
 
@@ -31,9 +32,9 @@ module _ {P : Type 0} (passes : Wait → Bool) where
   abbrev somebody : Turn P → Bool
   somebody s = somebody_waits s.machine passes
 
-  -- a change that leaves the status
-  kept_by : (t : ℕ) (f : Thread P → Thread P) → ((th : Thread P) → (f th).status ≡ th.status) → (s : Turn P) → somebody (changes t f s) ≡ somebody s
-  kept_by t f h s = any_kept no_thread t f (waits_so passes) (λ th. ap (λ (status : Status). option_map_or (λ (w : Waiting). passes w.wait) (waiting_in status) false) (h th)) s.machine.threads
+  -- a change that leaves what its thread waits for
+  kept_by : (t : ℕ) (f : Thread P → Thread P) → ((th : Thread P) → waits_so passes (f th) ≡ waits_so passes th) → (s : Turn P) → somebody (changes t f s) ≡ somebody s
+  kept_by t f h s = any_kept no_thread t f (waits_so passes) h s.machine.threads
 
   pub activated_same : (t : ℕ) (o : Option ServerState) (s : Turn P) → somebody (activates_server t o s) ≡ somebody s
   activated_same t None s = refl
@@ -54,7 +55,7 @@ module _ {P : Type 0} (passes : Wait → Bool) where
   before_change t f s h e = any_before no_thread t f (waits_so passes) s.machine.threads e h
 
   pub waited_before : (bodies : Bodies P) (who : Option ℕ) (move : Move P) (s : Turn P) → May who move s → wait_begun passes move ≡ false → somebody (does bodies move s) ≡ true → somebody s ≡ true
-  waited_before bodies who (alters t f) s may h e = sym (kept_by t f (λ th. ap (λ (c : Core P). c.status) (may th)) s) ∙ e
+  waited_before bodies who (alters t f) s may h e = sym (kept_by t f (λ th. same_of_wait (λ (o : Option Waiting). option_map_or (λ (w : Waiting). passes w.wait) o false) (λ w. refl) (f th) th (may th)) s) ∙ e
   waited_before bodies who (ends_with t v) s may h e = sym (kept_by t (ending_with v) (λ th. refl) s) ∙ e
   waited_before bodies who (enters_frame t f) s may h e = sym (kept_by t (on_top f) (λ th. refl) s) ∙ e
   waited_before bodies who (leaves_frame t) s may h e = sym (kept_by t without_top (λ th. refl) s) ∙ e

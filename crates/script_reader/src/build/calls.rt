@@ -5,8 +5,8 @@ ghost use Rattle.script_table.specs.Calls.{thread_call, mutex_call, sem_call, ti
 use crate::Call;
 use crate::names::NameIndex;
 use crate::operands::{
-    amount, fifo, number_in, object, operand, priority, rr, signal, signals, sporadic, strict,
-    thread,
+    amount, fifo, moment, number_in, object, operand, priority, real, rr, signal, signals,
+    sporadic, strict, thread,
 };
 use crate::structure::statement::LineWords;
 use script_table::{
@@ -40,7 +40,11 @@ fn mutex_call(names: &NameIndex<'_>, form: MutexCall, words: &LineWords<'_>) -> 
         MutexCall::Lock => Call::Lock(object(NameKind::Mutex, names, 1, words)?),
         MutexCall::Timedlock => Call::Timedlock {
             mutex: object(NameKind::Mutex, names, 1, words)?,
-            at: operand(2, words)?,
+            at: moment(2, words)?,
+        },
+        MutexCall::TimedlockReal => Call::Timedlock {
+            mutex: object(NameKind::Mutex, names, 1, words)?,
+            at: real(2, words)?,
         },
         MutexCall::Trylock => Call::Trylock(object(NameKind::Mutex, names, 1, words)?),
         MutexCall::Unlock => Call::Unlock(object(NameKind::Mutex, names, 1, words)?),
@@ -51,7 +55,12 @@ fn mutex_call(names: &NameIndex<'_>, form: MutexCall, words: &LineWords<'_>) -> 
         MutexCall::Timedwait => Call::Timedwait {
             cond: object(NameKind::Cond, names, 1, words)?,
             mutex: object(NameKind::Mutex, names, 2, words)?,
-            at: operand(3, words)?,
+            at: moment(3, words)?,
+        },
+        MutexCall::TimedwaitReal => Call::Timedwait {
+            cond: object(NameKind::Cond, names, 1, words)?,
+            mutex: object(NameKind::Mutex, names, 2, words)?,
+            at: real(3, words)?,
         },
         MutexCall::Signal => Call::Signal(object(NameKind::Cond, names, 1, words)?),
         MutexCall::Broadcast => Call::Broadcast(object(NameKind::Cond, names, 1, words)?),
@@ -66,7 +75,11 @@ fn sem_call(names: &NameIndex<'_>, form: SemCall, words: &LineWords<'_>) -> Opti
         SemCall::Wait => Call::SemWait(sem),
         SemCall::Timedwait => Call::SemTimedwait {
             sem,
-            at: operand(2, words)?,
+            at: moment(2, words)?,
+        },
+        SemCall::TimedwaitReal => Call::SemTimedwait {
+            sem,
+            at: real(2, words)?,
         },
         SemCall::Trywait => Call::SemTrywait(sem),
         SemCall::Getvalue => Call::SemGetvalue(sem),
@@ -80,9 +93,14 @@ fn time_call(names: &NameIndex<'_>, form: TimeCall, words: &LineWords<'_>) -> Op
     Some(match form {
         TimeCall::Nanosleep => Call::Nanosleep(amount(1, words)?),
         TimeCall::ClockNanosleep => Call::ClockNanosleep {
-            at: operand(1, words)?,
+            at: moment(1, words)?,
+        },
+        TimeCall::ClockNanosleepReal => Call::ClockNanosleep {
+            at: real(1, words)?,
         },
         TimeCall::Gettime => Call::Gettime,
+        TimeCall::RealGettime => Call::RealGettime,
+        TimeCall::ClockSettime => Call::ClockSettime(operand(1, words)?),
         TimeCall::TimerSettimeRel => Call::TimerSettimeRel(
             object(NameKind::Timer, names, 1, words)?,
             amount(3, words)?,
@@ -134,12 +152,23 @@ fn message_call(names: &NameIndex<'_>, form: MessageCall, words: &LineWords<'_>)
             len: number_in(0, 65_536, 2, words)? as u32,
             prio: number_in(0, 31, 3, words)? as u8,
             value: operand(4, words)?,
-            at: operand(5, words)?,
+            at: moment(5, words)?,
+        },
+        MessageCall::TimedsendReal => Call::MqTimedsend {
+            queue,
+            len: number_in(0, 65_536, 2, words)? as u32,
+            prio: number_in(0, 31, 3, words)? as u8,
+            value: operand(4, words)?,
+            at: real(5, words)?,
         },
         MessageCall::Receive => Call::MqReceive(queue),
         MessageCall::Timedreceive => Call::MqTimedreceive {
             queue,
-            at: operand(2, words)?,
+            at: moment(2, words)?,
+        },
+        MessageCall::TimedreceiveReal => Call::MqTimedreceive {
+            queue,
+            at: real(2, words)?,
         },
         MessageCall::Notify => Call::MqNotify(queue, signal(2, words)?, operand(3, words)?),
     })

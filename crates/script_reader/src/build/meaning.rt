@@ -57,6 +57,12 @@ fn kind_of_object(form: ObjectForm, words: &LineWords<'_>) -> Option<Kind>
         ObjectForm::Timer => Kind::Timer {
             sig: signal(2, words)?,
             value: amount(3, words)?,
+            real: false,
+        },
+        ObjectForm::TimerReal => Kind::Timer {
+            sig: signal(2, words)?,
+            value: amount(3, words)?,
+            real: true,
         },
     })
 }

@@ -18,6 +18,7 @@ fn object_kind(form: ObjectForm) -> NameKind
         ObjectForm::Queue => NameKind::Queue,
         ObjectForm::QueueNonblock => NameKind::Queue,
         ObjectForm::Timer => NameKind::Timer,
+        ObjectForm::TimerReal => NameKind::Timer,
         _ => NameKind::Mutex,
     }
 }

@@ -2,14 +2,14 @@
 ghost use Rattle.std.specs.Prelude.{◌≡◌, ◌≤◌, ◌∷◌, [], length, decimal};
 ghost use Rattle.script_writer.specs.Line.{line_text};
 ghost use Rattle.script_writer.specs.Names.{name_of};
-ghost use Rattle.script_writer.specs.Words.{operand_word};
+ghost use Rattle.script_writer.specs.Words.{moment_words, operand_word};
 ghost use Rattle.words_script.specs.declared.name_kind.NameKind.TheVariants as name_kind;
 
 use crate::line::Word::{Keyword, Name, Number, Value};
 use crate::line::{LineText, line_of};
 use crate::names::{object, thread};
 use words_numbers::{ObjId, Tid};
-use words_script::{Decl, NameKind, Operand};
+use words_script::{Decl, Moment, NameKind, Operand};
 
 pub(super) fn bare(word: &[u8]) -> LineText
     requires { length word.now ≤ 16 }
@@ -54,15 +54,29 @@ pub(super) fn on_object(decls: &[Decl], word: &[u8], of: NameKind, k: ObjId) -> 
     line_of(&[Keyword(word), Name(object(decls, of, k))])
 }
 
-pub(super) fn on_object_with<'a>(
+pub(super) fn with_moment(word: &[u8], at: Moment) -> LineText
+    requires { length word.now ≤ 16 }
+    ensures { result.items ≡ line_text (word.now ∷ moment_words at) }
+{
+    match at {
+        Moment::Monotonic(time) => line_of(&[Keyword(word), Value(time)]),
+        Moment::Realtime(time) => line_of(&[Keyword(word), Value(time), Keyword(b"real")]),
+    }
+}
+
+pub(super) fn on_object_until<'a>(
     decls: &'a [Decl],
     word: &'a [u8],
     of: NameKind,
     k: ObjId,
-    operand: Operand,
+    at: Moment,
 ) -> LineText
     requires { length word.now ≤ 16 }
-    ensures { result.items ≡ line_text (word.now ∷ name_of decls.now of k ∷ operand_word operand ∷ []) }
+    ensures { result.items ≡ line_text (word.now ∷ name_of decls.now of k ∷ moment_words at) }
 {
-    line_of(&[Keyword(word), Name(object(decls, of, k)), Value(operand)])
+    let name = Name(object(decls, of, k));
+    match at {
+        Moment::Monotonic(time) => line_of(&[Keyword(word), name, Value(time)]),
+        Moment::Realtime(time) => line_of(&[Keyword(word), name, Value(time), Keyword(b"real")]),
+    }
 }

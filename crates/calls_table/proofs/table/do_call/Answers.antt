@@ -17,7 +17,7 @@ returns-in-Timedwait g c =
     let p = c.args.p.now in
     let q = c.cond_wait-in-Timedwait.new in
     let waits_until = λ (at : ℕ). waits (caller c.args.by.now) c.in-Timedwait.cond c.in-Timedwait.mutex (Some at) in
-    let does = subst (λ (at : ℕ). Does g.K.Sink.text g.K.Sink.faults (waits_until at) p q.p c.args.out.now q.out) c.moment-in-Timedwait.ensures c.cond_wait-in-Timedwait.ensures in
+    let does = subst (λ (at : ℕ). Does g.K.Sink.text g.K.Sink.faults (waits_until at) p q.p c.args.out.now q.out) c.moment-in-Timedwait.ensures.value c.cond_wait-in-Timedwait.ensures in
     subst (λ (x : Call). Does g.K.Sink.text g.K.Sink.faults (call_effect (flat_bodies p.code) (caller c.args.by.now) x) p q.p c.args.out.now q.out) (sym c.in-Timedwait.is)
     (record { state = does.state; told = does.told })
 

@@ -12,4 +12,4 @@ returns g c =
     let differ : bytes_eq (behind_subject about c.args.before.now) (behind_subject about c.args.line.now) ≡ false =
     grind (arith, c.behind_subject.ensures, c.behind_subject-2.ensures, c.eq.ensures, c.if-eq.false) in
     puts_as _ _ _ _ _ _ (line_changes c.args.now about c.args.before.now c.args.line.now differ)
-    (puts_both _ _ _ _ _ _ _ (puts_both _ _ _ _ _ _ _ (rw c.get.ensures.value at c.begin.ensures.text) c.text.ensures) c.put_line_or_subject.ensures)
+    (puts_both _ _ _ _ _ _ _ (puts_both _ _ _ _ _ _ _ c.begin.ensures.text c.text.ensures) c.put_line_or_subject.ensures)

@@ -5,7 +5,7 @@ use Rattle.kernel_facts.specs.Kept.{KeptIn}
 use Rattle.kernel_facts.specs.Subjects.{subjects_of, thread_subjects}
 use Rattle.kernel_facts.specs.Modest.{NamesAreShort}
 use Rattle.kernel_facts.proofs.Keeping.{kept_both}
-use Rattle.kernel_facts.proofs.Roomy.{still_rooms, subjects_fit}
+use Rattle.kernel_facts.proofs.Roomy.{still_rooms, subjects_fit, subjects_number}
 use Rattle.kernel_facts.proofs.KeptSubjects.{subjects_kept}
 use Rattle.kernel_facts.proofs.subjects.keep_subjects.Goals as goal
 
@@ -26,4 +26,8 @@ returns c =
       roomy = λ has none h. still_rooms c.args.script.now c.args.next.now.room c.keep_signal_subjects.new.next.room c.args.texts.now c.keep_signal_subjects.new.texts h all.same_room
           (all.same_rooms (all.roomy (subjects_fit c.args.script.now m names c.know_rows.ensures.lists c.know_rows.ensures.signals c.know_few.ensures has c.args.next.now.room c.args.texts.now none h)))
           (all.roomy (subjects_fit c.args.script.now m names c.know_rows.ensures.lists c.know_rows.ensures.signals c.know_few.ensures has c.args.next.now.room c.args.texts.now none h));
+      fit = λ has none h. record {
+        number = subjects_number c.args.script.now m names c.know_rows.ensures.lists c.know_rows.ensures.signals c.know_few.ensures has c.args.next.now.room c.args.texts.now none h;
+        short = (subjects_fit c.args.script.now m names c.know_rows.ensures.lists c.know_rows.ensures.signals c.know_few.ensures has c.args.next.now.room c.args.texts.now none h).each;
+      };
     }

@@ -31,7 +31,6 @@ use Rattle.kernel_leaps.proofs.Telling.{m, p, q}
 use Rattle.kernel_leaps.proofs.TellingPieces.{ends_written, is_handled, is_top, lives, ticked_is}
 use Rattle.kernel_leaps.proofs.TellingRooms.{objects_here}
 use Rattle.kernel_leaps.proofs.TellingSpan.{changes_stop, dispatch_stops, handled_now, items_end, items_stop, leap_goes, leap_stops, prepared_now, prepared_quiet, prepared_stands, runs, start_now, there}
-use Rattle.kernel_leaps.proofs.TellingTexts.{as_many_before, as_many_lines}
 use Rattle.kernel_leaps.proofs.TellingTick.{ends}
 use Rattle.kernel_leaps.proofs.detail.tell_leap.Goals as goal
 
@@ -134,6 +133,9 @@ look-requires-clause-objects g c =
     let state = c.write_items.ensures.state in
     subst (λ (x : Kernel). HasObjectsOf s x.machine) (sym (is_handled s f at.done start in_run handled state)) (objects_here s c.requires.runnable f at.done)
 
+pub look-requires-clause-ready : goal.look-requires-clause-ready
+look-requires-clause-ready g c = c.requires.before.ready
+
 pub write_dispatch-to-requires-clause-latest : goal.write_dispatch-to-requires-clause-latest
 write_dispatch-to-requires-clause-latest g c u run =
     let start = c.is_calm-calm.new.p in
@@ -180,30 +182,6 @@ returns-then-failed-clause-stopped g c none =
     let faults = g.K.Sink.faults in
     dispatch_stops s f at start in_run living handled state alive_now stands still prepared given text faults c.requires.some c.args.sink.now c.write_items.new.sink c.write_dispatch-to.new.sink c.write_items.result c.write_dispatch-to.result.1 c.if-write_items.false c.write_items.ensures.told c.write_dispatch-to.ensures.told c.if-failed.true
 
-pub write_changed-requires-clause-before : goal.write_changed-requires-clause-before
-write_changed-requires-clause-before g c =
-    let s = c.args.script.now in
-    let f = c.requires.well_formed in
-    let at = c.args.reached in
-    let start = c.is_calm-calm.new.p in
-    let same = c.is_calm-calm.ensures.same in
-    let in_run = same ∙ c.requires.in_run in
-    let handled = c.write_items.new.p in
-    let state = c.write_items.ensures.state in
-    as_many_before s c.requires.runnable f at.done c.args.texts.now c.look.new.self handled (is_handled s f at.done start in_run handled state) c.look.ensures.signals c.look.ensures.lines c.look.ensures.subjects c.look.ensures.before c.requires.before c.look.ensures.rooms
-
-pub write_changed-requires-clause-lines : goal.write_changed-requires-clause-lines
-write_changed-requires-clause-lines g c =
-    let s = c.args.script.now in
-    let f = c.requires.well_formed in
-    let at = c.args.reached in
-    let start = c.is_calm-calm.new.p in
-    let same = c.is_calm-calm.ensures.same in
-    let in_run = same ∙ c.requires.in_run in
-    let handled = c.write_items.new.p in
-    let state = c.write_items.ensures.state in
-    as_many_lines s c.requires.runnable f at.done c.args.texts.now c.look.new.self handled (is_handled s f at.done start in_run handled state) c.look.ensures.signals c.look.ensures.lines c.look.ensures.subjects c.look.ensures.before c.requires.before c.look.ensures.rooms
-
 pub returns-then-write_changed-clause-stopped : goal.returns-then-write_changed-clause-stopped
 returns-then-write_changed-clause-stopped g c none =
     let s = c.args.script.now in
@@ -222,7 +200,7 @@ returns-then-write_changed-clause-stopped g c none =
     let given = c.write_dispatch-to.ensures.state in
     let text = g.K.Sink.text in
     let faults = g.K.Sink.faults in
-    changes_stop s f at start in_run living handled state alive_now stands still prepared given text faults c.requires.some c.args.sink.now c.write_items.new.sink c.write_dispatch-to.new.sink c.write_items.result c.write_dispatch-to.result.1 c.if-write_items.false c.write_items.ensures.told c.write_dispatch-to.ensures.told c.requires.runnable c.if-failed.false c.write_changed.new.sink c.write_changed.result c.instant.result c.instant.ensures c.args.texts.now c.look.new.self c.write_changed.ensures c.look.ensures.signals c.look.ensures.lines c.look.ensures.subjects c.look.ensures.before c.requires.before c.look.ensures.rooms c.if-write_changed.true
+    changes_stop s f at start in_run living handled state alive_now stands still prepared given text faults c.requires.some c.args.sink.now c.write_items.new.sink c.write_dispatch-to.new.sink c.write_items.result c.write_dispatch-to.result.1 c.if-write_items.false c.write_items.ensures.told c.write_dispatch-to.ensures.told c.requires.runnable c.if-failed.false c.write_changed.new.sink c.write_changed.result c.args.texts.now c.look.new.self c.write_changed.ensures c.look.ensures.signals c.look.ensures.told c.look.ensures.subjects c.look.ensures.lines c.requires.before c.look.ensures.ready c.if-write_changed.true
 
 -- ---- where nobody runs
 
@@ -323,9 +301,9 @@ returns-in_default-clause-on g c =
     let nothing : ends s f at.done j ≡ [] = ap (λ (o : Option ℕ). lines (names_of s) (told (leap_runs (q s f at.done) j o) (p s f at.done))) (sym whom) in
     let d = c.write_changed.new.sink in
     let fourth : Writes text faults d d false (ends s f at.done j) = put_same (printer.outlet text faults false d) (printer.outlet text faults false d) [] (ends s f at.done j) (sym nothing) (put_nothing (printer.outlet text faults false d)) in
-    subst (λ (r : Reached). HasGoneOn text faults s at r c.leap.new.self c.go_on.new.self c.args.sink.now d) (sym c.after-in_default.ensures)
-    (leap_goes s f at start in_run living handled state alive_now stands still prepared given text faults c.requires.some c.args.sink.now c.write_items.new.sink c.write_dispatch-to.new.sink c.write_items.result c.write_dispatch-to.result.1 c.if-write_items.false c.write_items.ensures.told c.write_dispatch-to.ensures.told c.requires.runnable c.if-failed.false c.write_changed.new.sink c.write_changed.result c.instant.result c.instant.ensures c.args.texts.now c.look.new.self c.write_changed.ensures c.look.ensures.signals c.look.ensures.lines c.look.ensures.subjects c.look.ensures.before c.requires.before c.look.ensures.rooms c.is_calm-calm.result (λ e. c.requires.after_quiet (c.is_calm-calm.ensures.after e)) (λ e. ap (λ (x : Kernel). next_item x.machine) same ∙ c.is_calm-calm.ensures.idle e) c.if-write_changed.false j (omega (arith, idle)) (omega (arith, is_near, near_most, within, some_most, idle)) long single d fourth c.leap.new.self
-    (ticked_is s f at.done start in_run handled state prepared given None top j c.leap.new.self leap) (ap (λ (x : Kernel). x.direct) leap ∙ prepared_quiet s f at start in_run living handled state alive_now stands still prepared given) stood c.go_on.new.self c.go_on.ensures
+    subst (λ (r : Reached). HasGoneOn text faults s at r c.leap.new.self c.look.new.self c.args.sink.now d) (sym c.after-in_default.ensures)
+    (leap_goes s f at start in_run living handled state alive_now stands still prepared given text faults c.requires.some c.args.sink.now c.write_items.new.sink c.write_dispatch-to.new.sink c.write_items.result c.write_dispatch-to.result.1 c.if-write_items.false c.write_items.ensures.told c.write_dispatch-to.ensures.told c.requires.runnable c.if-failed.false c.write_changed.new.sink c.write_changed.result c.args.texts.now c.look.new.self c.write_changed.ensures c.look.ensures.signals c.look.ensures.told c.look.ensures.subjects c.look.ensures.lines c.requires.before c.look.ensures.ready c.is_calm-calm.result (λ e. c.requires.after_quiet (c.is_calm-calm.ensures.after e)) (λ e. ap (λ (x : Kernel). next_item x.machine) same ∙ c.is_calm-calm.ensures.idle e) c.if-write_changed.false j (omega (arith, idle)) (omega (arith, is_near, near_most, within, some_most, idle)) long single d fourth c.leap.new.self
+    (ticked_is s f at.done start in_run handled state prepared given None top j c.leap.new.self leap) (ap (λ (x : Kernel). x.direct) leap ∙ prepared_quiet s f at start in_run living handled state alive_now stands still prepared given) stood
     (not c.is_calm-calm.result) (λ e. single (not_so c.is_calm-calm.result e)) (λ e. after_idle s f at.done going (sym whom)))
 
 -- ---- where a thread does
@@ -437,7 +415,7 @@ returns-then-failed-2-clause-stopped g c none =
     let long = long_by_thread s f at.done going t (sym whom) short most j (lasts ∙ ap (leap_of short t) at_head) reach in
     let single : c.is_calm-calm.result ≡ false → j ≡ 1 = λ e. (let one = c.most_at_once-most.ensures.one e in omega (arith, is_near, near_most, fewer, lasts, one)) in
     let fourth = ends_written s f at.done start in_run handled state prepared given (Some t) top text faults j c.write_changed.new.sink c.write_ticks-failed.new.sink c.write_ticks-failed.result.1 c.write_ticks-failed.ensures.told in
-    leap_stops s f at start in_run living handled state alive_now stands still prepared given text faults c.requires.some c.args.sink.now c.write_items.new.sink c.write_dispatch-to.new.sink c.write_items.result c.write_dispatch-to.result.1 c.if-write_items.false c.write_items.ensures.told c.write_dispatch-to.ensures.told c.requires.runnable c.if-failed.false c.write_changed.new.sink c.write_changed.result c.instant.result c.instant.ensures c.args.texts.now c.look.new.self c.write_changed.ensures c.look.ensures.signals c.look.ensures.lines c.look.ensures.subjects c.look.ensures.before c.requires.before c.look.ensures.rooms c.is_calm-calm.result (λ e. c.requires.after_quiet (c.is_calm-calm.ensures.after e)) (λ e. ap (λ (x : Kernel). next_item x.machine) same ∙ c.is_calm-calm.ensures.idle e) c.if-write_changed.false j (omega (arith, lasts)) (omega (arith, few, fewer, is_near, near_most, within, some_most)) long single c.write_ticks-failed.new.sink c.write_ticks-failed.result.1 c.if-failed-2.true fourth
+    leap_stops s f at start in_run living handled state alive_now stands still prepared given text faults c.requires.some c.args.sink.now c.write_items.new.sink c.write_dispatch-to.new.sink c.write_items.result c.write_dispatch-to.result.1 c.if-write_items.false c.write_items.ensures.told c.write_dispatch-to.ensures.told c.requires.runnable c.if-failed.false c.write_changed.new.sink c.write_changed.result c.args.texts.now c.look.new.self c.write_changed.ensures c.look.ensures.signals c.look.ensures.told c.look.ensures.subjects c.look.ensures.lines c.requires.before c.look.ensures.ready c.is_calm-calm.result (λ e. c.requires.after_quiet (c.is_calm-calm.ensures.after e)) (λ e. ap (λ (x : Kernel). next_item x.machine) same ∙ c.is_calm-calm.ensures.idle e) c.if-write_changed.false j (omega (arith, lasts)) (omega (arith, few, fewer, is_near, near_most, within, some_most)) long single c.write_ticks-failed.new.sink c.write_ticks-failed.result.1 c.if-failed-2.true fourth
 
 pub after-requires-2-clause-within : goal.after-requires-2-clause-within
 after-requires-2-clause-within g c =
@@ -494,10 +472,10 @@ returns-clause-on g c =
     λ e. (let so = both_so c.write_ticks-failed.result.0.is_quiet c.is_calm-calm.result (sym c.is_quiet_tick.ensures ∙ e) in
     let one = c.most_at_once-most.ensures.one so.1 in
     after_thread s f at.done going t (sym whom) (subst (λ (x : Kernel). IsQuietTick (flat_bodies x.code) x.machine.quantum (thread_at x.machine t)) at_head (c.write_ticks-failed.ensures.quiet_tick so.0 (omega (arith, is_near, near_most, fewer, one))))) in
-    subst (λ (r : Reached). HasGoneOn text faults s at r c.write_ticks-failed.new.p c.go_on.new.self c.args.sink.now c.write_ticks-failed.new.sink) (sym c.after-2.ensures)
-    (leap_goes s f at start in_run living handled state alive_now stands still prepared given text faults c.requires.some c.args.sink.now c.write_items.new.sink c.write_dispatch-to.new.sink c.write_items.result c.write_dispatch-to.result.1 c.if-write_items.false c.write_items.ensures.told c.write_dispatch-to.ensures.told c.requires.runnable c.if-failed.false c.write_changed.new.sink c.write_changed.result c.instant.result c.instant.ensures c.args.texts.now c.look.new.self c.write_changed.ensures c.look.ensures.signals c.look.ensures.lines c.look.ensures.subjects c.look.ensures.before c.requires.before c.look.ensures.rooms c.is_calm-calm.result (λ e. c.requires.after_quiet (c.is_calm-calm.ensures.after e)) (λ e. ap (λ (x : Kernel). next_item x.machine) same ∙ c.is_calm-calm.ensures.idle e) c.if-write_changed.false j (omega (arith, lasts)) (omega (arith, few, fewer, is_near, near_most, within, some_most)) long single c.write_ticks-failed.new.sink
+    subst (λ (r : Reached). HasGoneOn text faults s at r c.write_ticks-failed.new.p c.look.new.self c.args.sink.now c.write_ticks-failed.new.sink) (sym c.after-2.ensures)
+    (leap_goes s f at start in_run living handled state alive_now stands still prepared given text faults c.requires.some c.args.sink.now c.write_items.new.sink c.write_dispatch-to.new.sink c.write_items.result c.write_dispatch-to.result.1 c.if-write_items.false c.write_items.ensures.told c.write_dispatch-to.ensures.told c.requires.runnable c.if-failed.false c.write_changed.new.sink c.write_changed.result c.args.texts.now c.look.new.self c.write_changed.ensures c.look.ensures.signals c.look.ensures.told c.look.ensures.subjects c.look.ensures.lines c.requires.before c.look.ensures.ready c.is_calm-calm.result (λ e. c.requires.after_quiet (c.is_calm-calm.ensures.after e)) (λ e. ap (λ (x : Kernel). next_item x.machine) same ∙ c.is_calm-calm.ensures.idle e) c.if-write_changed.false j (omega (arith, lasts)) (omega (arith, few, fewer, is_near, near_most, within, some_most)) long single c.write_ticks-failed.new.sink
     (subst (λ (b : Bool). Writes text faults c.write_changed.new.sink c.write_ticks-failed.new.sink b (ends s f at.done j)) c.if-failed-2.false fourth) c.write_ticks-failed.new.p
-    (ticked_is s f at.done start in_run handled state prepared given (Some t) top j c.write_ticks-failed.new.p c.write_ticks-failed.ensures.state) c.write_ticks-failed.ensures.quiet c.write_ticks-failed.ensures.stood c.go_on.new.self c.go_on.ensures
+    (ticked_is s f at.done start in_run handled state prepared given (Some t) top j c.write_ticks-failed.new.p c.write_ticks-failed.ensures.state) c.write_ticks-failed.ensures.quiet c.write_ticks-failed.ensures.stood
     is_quiet (λ e. single (both_so c.write_ticks-failed.result.0.is_quiet c.is_calm-calm.result (sym c.is_quiet_tick.ensures ∙ e)).1) tick)
 
 -- ---- the steps

@@ -1,4 +1,4 @@
-use Rattle.std.proofs.Common.{ap}
+use Rattle.std.proofs.Common.{ap, refl}
 use Rattle.parts_texts.specs.Texts.{Next}
 use Rattle.kernel_leaps.proofs.TellingRooms.{few_of_each, opened_rooms}
 use Rattle.kernel_leaps.proofs.fact_texts.FactTexts.open.Goals as goal
@@ -8,5 +8,4 @@ rooms_of-rooms-requires c = few_of_each c.args.script.now c.requires.runnable c.
 
 pub returns : goal.returns
 returns c =
-    opened_rooms c.args.script.now c.rooms_of-rooms.result c.rooms_of-rooms.ensures.rooms _ c.in_ok-open.ensures c.in_ok-open-2.ensures c.in_ok-open-3.ensures
-    (ap (λ (x : Next). x.room) c.in_ok-open-4.ensures)
+    opened_rooms c.args.script.now c.rooms_of-rooms.result c.rooms_of-rooms.ensures.rooms _ _ refl c.in_ok-open.ensures c.in_ok-nothing_seen.ensures (ap (λ (x : Next). x.room) c.in_ok-open-2.ensures)

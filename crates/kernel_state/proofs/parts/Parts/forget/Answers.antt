@@ -11,4 +11,5 @@ invariant_of-self c =
     record {
       tied = c.self.invariant.tied;
       stand = forgotten s.named.bits c.remove.new.self.bits s.table s.ready.lists c.args.t c.self.invariant.stand c.remove.ensures right;
+      modest = c.self.invariant.modest;
     }

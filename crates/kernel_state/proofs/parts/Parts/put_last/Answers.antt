@@ -12,4 +12,5 @@ invariant_of-self c =
       tied = rw c.to_tail.ensures c.self.invariant.tied;
       stand = rw c.to_tail.ensures (put_tail s.named.bits c.remove.new.self.bits s.table s.ready.lists c.args.t c.self.invariant.stand c.remove.ensures c.exec-p.result c.exec-p.ensures
           (omega (arith, c.get.ensures)) (omega (arith, c.get.ensures)) runs);
+      modest = c.self.invariant.modest;
     }

@@ -3,6 +3,7 @@ use Rattle.rules_machine.specs.State.{Thread}
 use Rattle.rules_machine.specs.Servers.{with_server}
 use Rattle.rules_server.specs.Server.{refill}
 use Rattle.kernel_state.proofs.Carried.{as_many, fit, tied_again, told_there, told_thread}
+use Rattle.kernel_state.proofs.StillModest.{still_modest}
 use Rattle.kernel_state.proofs.parts.Parts.refill_thread.Goals as goal
 
 pub invariant_of-self : goal.invariant_of-self
@@ -13,6 +14,7 @@ invariant_of-self c =
     record {
       tied = tied_again s.names s.code s.ready.threads s.table.threads w.new.self.threads s.direct (as_many s.table w.new.self c.args.t f w.ensures.change.table) c.self.invariant.tied;
       stand = told_thread s.table w.new.self s.ready.lists s.named.bits c.args.t f w.ensures.change.table c.self.invariant.stand c.take_in.new.self.bits w.result.1 (λ th h. h) c.take_in.ensures w.ensures.change.moved;
+      modest = still_modest s.instant s.clock s.table w.new.self c.args.t f w.ensures.change.table (λ th at h. h) c.self.invariant.modest;
     }
 
 pub take_in-requires : goal.take_in-requires

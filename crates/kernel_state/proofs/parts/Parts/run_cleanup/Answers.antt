@@ -5,6 +5,7 @@ use Rattle.rules_machine.specs.declared.frame.FrameKind.TheVariants as kind
 use Rattle.rules_machine.specs.Waking.{new_frame, on_top}
 use Rattle.rules_flat_code.specs.FlatBodies.{flat_bodies}
 use Rattle.kernel_state.proofs.Carried.{as_many, none_thread, tied_again}
+use Rattle.kernel_state.proofs.StillModest.{still_modest}
 use Rattle.kernel_state.proofs.parts.Parts.run_cleanup.Goals as goal
 
 pub invariant_of-self : goal.invariant_of-self
@@ -15,4 +16,5 @@ invariant_of-self c =
     record {
       tied = tied_again s.names s.code s.ready.threads s.table.threads w.new.self.threads s.direct (as_many s.table w.new.self c.args.t f w.ensures.table) c.self.invariant.tied;
       stand = none_thread s.table w.new.self s.ready.lists s.named.bits c.args.t f w.ensures.table c.self.invariant.stand (λ th h. h) w.ensures.same;
+      modest = still_modest s.instant s.clock s.table w.new.self c.args.t f w.ensures.table (λ th at h. h) c.self.invariant.modest;
     }

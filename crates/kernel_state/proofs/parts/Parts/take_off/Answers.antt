@@ -7,4 +7,5 @@ invariant_of-self c =
     record {
       tied = rw c.remove-2.ensures c.self.invariant.tied;
       stand = rw c.remove-2.ensures (taken_off s.named.bits c.remove.new.self.bits s.table s.ready.lists c.args.t c.self.invariant.stand c.remove.ensures);
+      modest = c.self.invariant.modest;
     }

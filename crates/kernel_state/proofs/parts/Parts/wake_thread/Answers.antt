@@ -3,6 +3,7 @@ use Rattle.rules_bodies.specs.declared.cursor.Cursor.{Cursor}
 use Rattle.rules_machine.specs.State.{Thread}
 use Rattle.rules_machine.specs.Waking.{woken}
 use Rattle.kernel_state.proofs.Carried.{as_many, fit, tied_again, told_there, told_thread}
+use Rattle.kernel_state.proofs.StillModest.{still_modest}
 use Rattle.kernel_state.proofs.parts.Parts.wake_thread.Goals as goal
 
 pub invariant_of-self : goal.invariant_of-self
@@ -13,6 +14,7 @@ invariant_of-self c =
     record {
       tied = tied_again s.names s.code s.ready.threads s.table.threads w.new.self.threads s.direct (as_many s.table w.new.self c.args.t f w.ensures.table) c.self.invariant.tied;
       stand = told_thread s.table w.new.self s.ready.lists s.named.bits c.args.t f w.ensures.table c.self.invariant.stand c.take_in.new.self.bits w.result (λ th h. refl) c.take_in.ensures w.ensures.moved;
+      modest = still_modest s.instant s.clock s.table w.new.self c.args.t f w.ensures.table (λ th at h. absurd cc) c.self.invariant.modest;
     }
 
 pub take_in-requires : goal.take_in-requires

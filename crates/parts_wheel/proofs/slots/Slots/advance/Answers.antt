@@ -8,7 +8,7 @@ use Rattle.parts_wheel.proofs.slots.Slots.advance.Goals as goal
 pub refile-requires-clause-sized : goal.refile-requires-clause-sized
 refile-requires-clause-sized c =
     let s = c.self.inside in let to = c.args.to in let i = c.self.invariant in
-    let asked = subst (λ (p : Placed). IsLeastLater p.base p.dues to × (to ≤ 2 * 10 ^ 18)) (sym c.self.view_is) c.requires in
+    let asked = subst (λ (p : Placed). IsLeastLater p.base p.dues to × (to ≤ 3 * 10 ^ 18)) (sym c.self.view_is) c.requires in
     let t = target_is s.base to c.in-Some.target s.dues.items s.links.lists s.occupied s.passed i.filed i.marked asked.0 asked.1 c.in-Some.ensures.0 in
     let l = list_small s.base to (goes_on s.base to c.in-Some.target s.dues.items s.links.lists s.occupied s.passed i.filed i.marked asked.0 asked.1) asked.1 in
     (i.sized, i.set, omega (arith, t, l))
@@ -16,7 +16,7 @@ refile-requires-clause-sized c =
 pub refile-requires-clause-nodes : goal.refile-requires-clause-nodes
 refile-requires-clause-nodes c =
     let s = c.self.inside in let to = c.args.to in let i = c.self.invariant in let target = c.in-Some.target in
-    let asked = subst (λ (p : Placed). IsLeastLater p.base p.dues to × (to ≤ 2 * 10 ^ 18)) (sym c.self.view_is) c.requires in
+    let asked = subst (λ (p : Placed). IsLeastLater p.base p.dues to × (to ≤ 3 * 10 ^ 18)) (sym c.self.view_is) c.requires in
     let t = target_is s.base to target s.dues.items s.links.lists s.occupied s.passed i.filed i.marked asked.0 asked.1 c.in-Some.ensures.0 in
     let lt = goes_on s.base to target s.dues.items s.links.lists s.occupied s.passed i.filed i.marked asked.0 asked.1 in
     let empty = empty_below s.base to target s.dues.items s.links.lists s.occupied s.passed i.filed i.marked asked.0 asked.1 c.in-Some.ensures.0 in
@@ -28,7 +28,7 @@ refile-requires-clause-nodes c =
 pub invariant_of-self : goal.invariant_of-self
 invariant_of-self c =
     let s = c.self.inside in let to = c.args.to in let i = c.self.invariant in let target = c.in-Some.target in
-    let asked = subst (λ (p : Placed). IsLeastLater p.base p.dues to × (to ≤ 2 * 10 ^ 18)) (sym c.self.view_is) c.requires in
+    let asked = subst (λ (p : Placed). IsLeastLater p.base p.dues to × (to ≤ 3 * 10 ^ 18)) (sym c.self.view_is) c.requires in
     let t = target_is s.base to target s.dues.items s.links.lists s.occupied s.passed i.filed i.marked asked.0 asked.1 c.in-Some.ensures.0 in
     let lt = goes_on s.base to target s.dues.items s.links.lists s.occupied s.passed i.filed i.marked asked.0 asked.1 in
     let empty = empty_below s.base to target s.dues.items s.links.lists s.occupied s.passed i.filed i.marked asked.0 asked.1 c.in-Some.ensures.0 in
@@ -46,5 +46,5 @@ invariant_of-self c =
 pub invariant_of-self-in_default : goal.invariant_of-self-in_default
 invariant_of-self-in_default c =
     let s = c.self.inside in let to = c.args.to in let i = c.self.invariant in
-    let asked = subst (λ (p : Placed). IsLeastLater p.base p.dues to × (to ≤ 2 * 10 ^ 18)) (sym c.self.view_is) c.requires in
+    let asked = subst (λ (p : Placed). IsLeastLater p.base p.dues to × (to ≤ 3 * 10 ^ 18)) (sym c.self.view_is) c.requires in
     absurd (some_held s.base to 0 s.dues.items s.links.lists s.occupied s.passed i.filed i.marked asked.0 asked.1 c.in_default.ensures)

@@ -31,7 +31,7 @@ invariant_of-self c =
       gone = λ le. absurd (omega (arith, le, c.if-tick-self.true));
       later = λ l. subst (λ k. ChangesBit k true s.occupied c.put.new.occupied) (sym at) c.put.ensures.bit;
     } in
-    let small : d ≤ 2 * 10 ^ 18 = omega (arith, c.get-tick.ensures.range, c.get-tick.ensures.value) in
+    let small : d ≤ 3 * 10 ^ 18 = omega (arith, c.get-tick.ensures.range, c.get-tick.ensures.value) in
     let inside : s.base < d → list_for s.base d < length s.links.lists = λ lt. let l = list_small s.base d lt small in omega (arith, l, i.sized.lists) in
     record {
       sized = c.put.ensures.sized;

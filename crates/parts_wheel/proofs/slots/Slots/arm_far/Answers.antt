@@ -23,7 +23,7 @@ invariant_of-self c =
     let asked = subst (λ (p : Placed). (c.args.id < length p.dues) × (due_of c.args.id p.dues ≡ None)) (sym c.self.view_is) c.requires in
     let filed = subst (λ e. IsFiled s.base c.args.id e s.links.lists c.file.new.links.lists s.passed c.file.new.passed) c.get.ensures.value c.file.ensures.filed in
     let noted = subst (λ e. IsNoted s.base e s.occupied c.file.new.occupied) c.get.ensures.value c.file.ensures.noted in
-    let small : d ≤ 2 * 10 ^ 18 = omega (arith, c.get.ensures.range, c.get.ensures.value) in
+    let small : d ≤ 3 * 10 ^ 18 = omega (arith, c.get.ensures.range, c.get.ensures.value) in
     record {
       sized = c.file.ensures.sized.0;
       set = c.file.ensures.sized.1;

@@ -1,6 +1,0 @@
-use Rattle.std.proofs.Common.{[], false, true, ◌∷◌, ◌++◌}
-use Rattle.kernel_facts.specs.Kept.{KeptIn, kept_below, waiters_text}
-use Rattle.kernel_facts.proofs.kept.keep_queue_waiters.Given as goal
-
-abbrev pub invariant-loop-number : goal.invariant-loop-number
-invariant-loop-number l = KeptIn l.initial.next l.next l.initial.texts l.texts (kept_below (λ q. waiters_text l.decls true l.parts.machine q ∷ [] ++ waiters_text l.decls false l.parts.machine q ∷ []) l.number)

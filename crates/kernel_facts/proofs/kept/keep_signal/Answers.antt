@@ -1,5 +1,0 @@
-use Rattle.kernel_facts.proofs.Keeping.{kept_printed}
-use Rattle.kernel_facts.proofs.kept.keep_signal.Goals as goal
-
-pub returns-clause-kept : goal.returns-clause-kept
-returns-clause-kept c = kept_printed _ _ _ _ c.clear.ensures _ _ _ c.print_signal-failed.ensures.text c.keep.ensures

@@ -1,0 +1,22 @@
+use Rattle.std.proofs.Common.{subst, sym}
+use Rattle.words_script.specs.declared.name_kind.NameKind.TheVariants as kind
+use Rattle.kernel_facts.specs.Nothing.{TellNothing}
+use Rattle.kernel_facts.specs.Rows.{object_facts}
+use Rattle.kernel_facts.specs.declared.rows.ObjectRow.{ObjectRow}
+use Rattle.kernel_facts.proofs.NothingTold.{nobody_for}
+use Rattle.kernel_facts.proofs.nothing.object_tells_nothing.Goals as goal
+
+pub returns-in-MutexWaiters : goal.returns-in-MutexWaiters
+returns-in-MutexWaiters c e =
+    subst (λ (row : ObjectRow). TellNothing (object_facts row c.args.parts.now.machine c.args.k)) (sym c.in-MutexWaiters.is)
+    (nobody_for c.args.parts.now.machine c.args.k kind.Mutex _ (c.nobody_waits.ensures e))
+
+pub returns-in-ConditionWaiters : goal.returns-in-ConditionWaiters
+returns-in-ConditionWaiters c e =
+    subst (λ (row : ObjectRow). TellNothing (object_facts row c.args.parts.now.machine c.args.k)) (sym c.in-ConditionWaiters.is)
+    (nobody_for c.args.parts.now.machine c.args.k kind.Cond _ (c.nobody_waits-in-ConditionWaiters.ensures e))
+
+pub returns-in-SemaphoreWaiters : goal.returns-in-SemaphoreWaiters
+returns-in-SemaphoreWaiters c e =
+    subst (λ (row : ObjectRow). TellNothing (object_facts row c.args.parts.now.machine c.args.k)) (sym c.in-SemaphoreWaiters.is)
+    (nobody_for c.args.parts.now.machine c.args.k kind.Sem _ (c.nobody_waits-in-SemaphoreWaiters.ensures e))

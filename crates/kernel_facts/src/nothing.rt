@@ -1,0 +1,168 @@
+//! Whether a fact tells nothing, seen without its text.
+ghost use Rattle.std.specs.Prelude.{◌≡◌, ◌<◌, Bool, List, [], None, false, length, option_map, true};
+ghost use Rattle.rules_lists.specs.Lists.{list_of};
+ghost use Rattle.rules_facts.specs.Fact.{on_list};
+ghost use Rattle.rules_facts.specs.Objects.{in_service_order};
+ghost use Rattle.rules_facts.specs.Signals.{signal_fact};
+ghost use Rattle.rules_facts.specs.Threads.{inner_bodies, planned};
+ghost use Rattle.kernel_facts.specs.InLine.{stands_in};
+ghost use Rattle.kernel_facts.specs.Kept.{waiters_text};
+ghost use Rattle.kernel_facts.specs.Nothing.{IsBare, TellNothing, TellsNothing, is_status, wait_obj};
+ghost use Rattle.kernel_facts.specs.Picked.{left_in};
+ghost use Rattle.kernel_facts.specs.Rows.{object_count, object_facts, thread_fact_of};
+
+use crate::rows::{ObjectRow, ThreadRow};
+use crate::threads::is_main;
+use crate::waiters::Line;
+use kernel_state::Parts;
+use kernel_threads::{Frame, Thread};
+use parts_server::Server;
+use parts_waiters::WaitObj;
+use words_numbers::{ObjId, Prio, Tid};
+use words_script::Decl;
+
+/// Whether nobody stands on the list of this priority.
+pub(crate) fn list_tells_nothing(parts: &Parts, p: Prio) -> bool
+    ensures { result ≡ true → TellsNothing (on_list p (list_of p parts.now.machine.lists)) }
+{
+    match parts.thread_on_list(p, 0) {
+        None => true,
+        Some(_) => false,
+    }
+}
+
+// ---- threads
+
+// Whether a thread has no frame above the main one.
+fn is_at_main(frames: &[Frame]) -> bool
+    ensures { result ≡ true → inner_bodies frames.now ≡ [] }
+{
+    match frames {
+        [] => true,
+        [only] => is_main(only.kind()),
+        _ => false,
+    }
+}
+
+// Whether nothing is planned.
+fn is_unplanned(server: &Option<Server>) -> bool
+    ensures { result ≡ true → planned server.now ≡ [] }
+{
+    match server {
+        None => true,
+        Some(server) => server.pending().is_empty(),
+    }
+}
+
+// Whether nothing holds of the cancellation of a thread.
+fn is_plain(thread: &Thread) -> bool
+    ensures requested { result ≡ true → thread.now.is_requested ≡ false }
+    ensures enabled { result ≡ true → thread.now.is_enabled ≡ true }
+    ensures ending { result ≡ true → thread.now.is_ending ≡ false }
+{
+    if thread.is_requested() {
+        return false;
+    }
+    if thread.is_ending() {
+        return false;
+    }
+    thread.is_enabled()
+}
+
+// Whether a thread that lives has nothing that a row tells; false for the row of its status.
+fn is_bare(thread: &Thread, row: ThreadRow) -> bool
+    ensures { result ≡ true → IsBare row thread.now }
+{
+    match row {
+        ThreadRow::Status => false,
+        ThreadRow::Frames => is_at_main(thread.frames()),
+        ThreadRow::Mask => thread.mask().bits() == 0,
+        ThreadRow::Cancelability => is_plain(thread),
+        ThreadRow::Cleanups => thread.cleanups().is_empty(),
+        ThreadRow::Pending => is_unplanned(thread.server()),
+    }
+}
+
+fn is_status(row: ThreadRow) -> bool
+    ensures { result ≡ is_status row }
+{
+    match row {
+        ThreadRow::Status => true,
+        ThreadRow::Frames => false,
+        ThreadRow::Mask => false,
+        ThreadRow::Cancelability => false,
+        ThreadRow::Cleanups => false,
+        ThreadRow::Pending => false,
+    }
+}
+
+/// Whether a row tells nothing of a thread. Its status is told always.
+pub(crate) fn thread_tells_nothing(parts: &Parts, row: ThreadRow, t: Tid) -> bool
+    requires { t < length parts.now.names }
+    ensures { result ≡ true → TellsNothing (thread_fact_of row parts.now.machine t) }
+{
+    let thread = parts.thread(t);
+    if thread.is_live() {
+        return is_bare(thread, row);
+    }
+    !is_status(row)
+}
+
+// ---- who waits
+
+fn wait_obj(line: &Line) -> WaitObj
+    ensures { result ≡ wait_obj line.now }
+{
+    match line {
+        Line::Mutex(k) => WaitObj::Mutex(*k),
+        Line::Condition(c) => WaitObj::Cond(*c),
+        Line::Semaphore(k) => WaitObj::Sem(*k),
+        Line::Senders(q) => WaitObj::Sender(*q),
+        Line::Receivers(q) => WaitObj::Receiver(*q),
+    }
+}
+
+/// Whether nobody stands in a line.
+pub(crate) fn nobody_waits(parts: &Parts, line: &Line) -> bool
+    ensures { result ≡ true → in_service_order parts.now.machine (stands_in line.now) ≡ [] }
+{
+    match parts.best_waiter(wait_obj(line)) {
+        None => true,
+        Some(_) => false,
+    }
+}
+
+/// Whether nobody waits to send to a queue, or nobody for a message of it.
+pub(crate) fn queue_tells_nothing(parts: &Parts, q: ObjId, to_send: bool) -> bool
+    ensures { result ≡ true → (decls : List Decl) → waiters_text decls to_send parts.now.machine q ≡ [] }
+{
+    if to_send {
+        return nobody_waits(parts, &Line::Senders(q));
+    }
+    nobody_waits(parts, &Line::Receivers(q))
+}
+
+/// Whether no record is pending, of that signal or another.
+pub(crate) fn signal_tells_nothing(parts: &Parts, signal: u8, left_out: Option<u64>) -> bool
+    ensures { result ≡ true → TellsNothing (signal_fact (left_in left_out parts.now.machine) signal) }
+{
+    let _ = (signal, left_out);
+    parts.none_pending()
+}
+
+/// Whether a row tells nothing of an object, where that is seen at once.
+pub(crate) fn object_tells_nothing(parts: &Parts, row: ObjectRow, k: ObjId) -> bool
+    ensures { result ≡ true → TellNothing (object_facts row parts.now.machine k) }
+{
+    match row {
+        ObjectRow::Owner => false,
+        ObjectRow::MutexWaiters => nobody_waits(parts, &Line::Mutex(k)),
+        ObjectRow::ConditionWaiters => nobody_waits(parts, &Line::Condition(k)),
+        ObjectRow::SemaphoreWaiters => nobody_waits(parts, &Line::Semaphore(k)),
+        ObjectRow::Value => false,
+        ObjectRow::Messages => false,
+        ObjectRow::QueueWaiters => false,
+        ObjectRow::Registration => false,
+        ObjectRow::Arming => false,
+    }
+}

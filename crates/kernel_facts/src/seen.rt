@@ -1,0 +1,216 @@
+//! What the fact of a thread's status tells, as a value.
+ghost use Rattle.std.specs.Prelude.{ℕ, ◌≡◌, ◌<◌, ◌≤◌, ◌^◌, IfOk, List, None, Some, false, length, replicate, true};
+ghost use Rattle.words_script.specs.declared.decl.Decl.{Decl};
+ghost use Rattle.kernel_facts.specs.declared.seen.SeenWait.TheVariants as waits;
+ghost use Rattle.words_trace.specs.declared.event.CallName.TheVariants as calls;
+ghost use Rattle.kernel_threads.specs.Plain.{wait_of, waiting_of};
+ghost use Rattle.rules_facts.specs.Fact.{blocked_thread};
+ghost use Rattle.rules_facts.specs.Threads.{awaited, block_of, thread_fact};
+ghost use Rattle.kernel_facts.specs.Seen.{due_of, seen_fact, what_of};
+ghost use Rattle.kernel_facts.specs.Short.{HasShortText};
+
+use kernel_state::Parts;
+use kernel_threads::{Status, Wait, Waiting};
+use rules_machine::call_name;
+use std::alloc::{AllocError, Global};
+use words_numbers::{Tick, Tid};
+use words_trace::CallName;
+
+/// Whether a thread waits to start, may run, waits, or has ended.
+#[derive(Clone, Copy, PartialEq)]
+pub enum SeenStatus {
+    Dormant,
+    Ready,
+    Blocked,
+    Ended,
+}
+
+/// What a blocked thread waits for.
+#[derive(Clone, Copy, PartialEq)]
+pub enum SeenWait {
+    Nothing,
+    Mutex,
+    Condition,
+    Semaphore,
+    Queue,
+    Thread,
+    Signal,
+}
+
+/// What is told of the status of a thread; of what is not told there is a 0.
+#[derive(Clone, Copy)]
+pub struct Seen {
+    pub status: SeenStatus,
+    pub assigned: u8,
+    pub exec: u8,
+    pub call: CallName,
+    pub wait: SeenWait,
+    /// The number of what it waits for, or the set of signals.
+    pub which: u32,
+    pub has_due: bool,
+    pub due: u64,
+}
+
+// What a thread waits for, and its number.
+fn see_wait(wait: &Wait) -> (SeenWait, u32)
+    ensures { what_of result.0 result.1 ≡ awaited (wait_of wait.now) }
+{
+    match wait {
+        Wait::Mutex(k) => (SeenWait::Mutex, u32::from(k.get())),
+        Wait::MutexAgain(k, _) => (SeenWait::Mutex, u32::from(k.get())),
+        Wait::Condition(c, _) => (SeenWait::Condition, u32::from(c.get())),
+        Wait::End(t) => (SeenWait::Thread, u32::from(t.get())),
+        Wait::Semaphore(k) => (SeenWait::Semaphore, u32::from(k.get())),
+        Wait::Time => (SeenWait::Nothing, 0),
+        Wait::Room(q, _) => (SeenWait::Queue, u32::from(q.get())),
+        Wait::Message(q) => (SeenWait::Queue, u32::from(q.get())),
+        Wait::Signal(set) => (SeenWait::Signal, set.bits()),
+    }
+}
+
+// Whether a wait has a limit, and which.
+fn see_due(due: Option<Tick>) -> (bool, u64)
+    ensures due { due_of result.0 result.1 ≡ due }
+{
+    match due {
+        Some(at) => (true, at.get()),
+        None => (false, 0),
+    }
+}
+
+// A thread of that status and these priorities, that does not wait.
+fn unblocked(status: SeenStatus, assigned: u8, exec: u8) -> Seen
+    ensures { result ≡ record { status = status; assigned = assigned; exec = exec; call = calls.Yield; wait = waits.Nothing; which = 0; has_due = false; due = 0 } }
+{
+    Seen {
+        status,
+        assigned,
+        exec,
+        call: CallName::Yield,
+        wait: SeenWait::Nothing,
+        which: 0,
+        has_due: false,
+        due: 0,
+    }
+}
+
+// A thread of these priorities that waits.
+fn blocked(assigned: u8, exec: u8, waiting: &Waiting) -> Seen
+    ensures { (t : ℕ) → seen_fact t result ≡ blocked_thread t (record { assigned = assigned; exec = exec }) (block_of (waiting_of waiting.now)) }
+{
+    let (wait, which) = see_wait(&waiting.wait);
+    let (has_due, due) = see_due(waiting.due);
+    Seen {
+        status: SeenStatus::Blocked,
+        assigned,
+        exec,
+        call: call_name(&waiting.call),
+        wait,
+        which,
+        has_due,
+        due,
+    }
+}
+
+/// The status of a thread as it is told.
+pub(crate) fn see(parts: &Parts, t: Tid) -> Seen
+    requires { t < length parts.now.names }
+    ensures { seen_fact t result ≡ thread_fact parts.now.machine t }
+{
+    let assigned = parts.thread(t).assigned().get();
+    let exec = parts.exec(t).get();
+    match parts.thread(t).status() {
+        Status::Dormant(_) => unblocked(SeenStatus::Dormant, 0, 0),
+        Status::Runnable => unblocked(SeenStatus::Ready, assigned, exec),
+        Status::Blocked(waiting) => blocked(assigned, exec, &waiting),
+        Status::Ended => unblocked(SeenStatus::Ended, 0, 0),
+    }
+}
+
+// The numbers have 64 bits.
+fn know_numbers(seen: &Seen)
+    ensures assigned { seen.now.assigned < 2 ^ 64 }
+    ensures exec { seen.now.exec < 2 ^ 64 }
+    ensures due { seen.now.due < 2 ^ 64 }
+{
+    let _assigned = seen.assigned;
+    let _exec = seen.exec;
+    let _due = seen.due;
+}
+
+/// What is seen is told by a short text.
+pub(crate) fn know_seen(seen: &Seen)
+    ensures { (decls : List Decl) → (t : ℕ) → HasShortText decls (seen_fact t seen.now) }
+{
+    know_numbers(seen);
+}
+
+// Whether the parts that are numbers are the same.
+fn has_same_numbers(a: &Seen, b: &Seen) -> bool
+    ensures assigned { result ≡ true → a.now.assigned ≡ b.now.assigned }
+    ensures exec { result ≡ true → a.now.exec ≡ b.now.exec }
+    ensures which { result ≡ true → a.now.which ≡ b.now.which }
+    ensures has_due { result ≡ true → a.now.has_due ≡ b.now.has_due }
+    ensures due { result ≡ true → a.now.due ≡ b.now.due }
+{
+    a.assigned == b.assigned
+        && a.exec == b.exec
+        && a.which == b.which
+        && a.has_due == b.has_due
+        && a.due == b.due
+}
+
+fn is_same_status(a: SeenStatus, b: SeenStatus) -> bool
+    ensures { result ≡ true → a ≡ b }
+{
+    a == b
+}
+
+fn is_same_wait(a: SeenWait, b: SeenWait) -> bool
+    ensures { result ≡ true → a ≡ b }
+{
+    a == b
+}
+
+fn is_same_call(a: CallName, b: CallName) -> bool
+    ensures { result ≡ true → a ≡ b }
+{
+    a == b
+}
+
+fn is_same(a: &Seen, b: &Seen) -> bool
+    ensures { result ≡ true → a.now ≡ b.now }
+{
+    if !is_same_status(a.status, b.status) {
+        return false;
+    }
+    if !is_same_call(a.call, b.call) {
+        return false;
+    }
+    if !is_same_wait(a.wait, b.wait) {
+        return false;
+    }
+    has_same_numbers(a, b)
+}
+
+/// Whether that was seen last.
+pub(crate) fn was_seen(last: &Option<Seen>, now: &Seen) -> bool
+    ensures { result ≡ true → last.now ≡ Some now.now }
+{
+    match last {
+        None => false,
+        Some(seen) => is_same(seen, now),
+    }
+}
+
+/// Nothing, so many times. It takes all memory at once.
+pub fn nothing_seen(alloc: Global, count: usize) -> Result<Vec<Option<Seen>>, AllocError>
+    requires { count < 2 ^ 32 }
+    ensures { IfOk result (λ seen. seen.items ≡ replicate count None) }
+{
+    let mut seen = Vec::with_capacity(alloc, count)?;
+    for _ in 0..count {
+        seen.push(None)?;
+    }
+    Ok(seen)
+}

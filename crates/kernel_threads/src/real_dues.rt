@@ -1,0 +1,78 @@
+//! Waits for a time on CLOCK_REALTIME.
+ghost use Rattle.std.specs.Prelude.{◌≡◌, ℕ};
+ghost use Rattle.rules_machine.specs.Clock.{is_on_real, thread_moved, waits_on_real};
+ghost use Rattle.kernel_threads.specs.RealDues.{real_due, real_due_in};
+ghost use Rattle.kernel_threads.specs.Plain.{waiting_of};
+
+use crate::status::{Status, Waiting};
+use crate::thread::Thread;
+use words_numbers::Tick;
+use words_script::{Call, Moment};
+
+fn is_on_real(at: &Moment) -> bool
+    ensures { result ≡ is_on_real at.now }
+{
+    match at {
+        Moment::Monotonic(_) => false,
+        Moment::Realtime(_) => true,
+    }
+}
+
+// Whether a call waits for a time on CLOCK_REALTIME.
+fn waits_on_real(call: &Call) -> bool
+    ensures { result ≡ waits_on_real call.now }
+{
+    match call {
+        Call::Timedlock { at, .. } => is_on_real(at),
+        Call::Timedwait { at, .. } => is_on_real(at),
+        Call::SemTimedwait { at, .. } => is_on_real(at),
+        Call::ClockNanosleep { at } => is_on_real(at),
+        Call::MqTimedsend { at, .. } => is_on_real(at),
+        Call::MqTimedreceive { at, .. } => is_on_real(at),
+        _ => false,
+    }
+}
+
+impl Waiting {
+    // When it ends by itself, where that is a time on CLOCK_REALTIME.
+    fn real_due(&self) -> Option<Tick>
+        ensures { result ≡ real_due (waiting_of self.now) }
+    {
+        match self.due {
+            None => None,
+            Some(due) => {
+                if waits_on_real(&self.call) {
+                    Some(due)
+                } else {
+                    None
+                }
+            }
+        }
+    }
+}
+
+impl Thread {
+    /// When its wait ends by itself, where that is a time on CLOCK_REALTIME.
+    pub fn real_due(&self) -> Option<Tick>
+        ensures { result ≡ real_due_in self.now.status }
+    {
+        match &self.status {
+            Status::Blocked(w) => w.real_due(),
+            _ => None,
+        }
+    }
+
+    /// Its wait for a time on CLOCK_REALTIME ends by itself then; any other stays as it is.
+    pub fn move_real_due(&mut self, due: Tick)
+        ensures { self.new ≡ thread_moved (λ (at : ℕ). due) self.old }
+    {
+        if let Status::Blocked(w) = self.status {
+            if w.due.is_some() && waits_on_real(&w.call) {
+                self.status = Status::Blocked(Waiting {
+                    due: Some(due),
+                    ..w
+                });
+            }
+        }
+    }
+}
