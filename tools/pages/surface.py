@@ -15,7 +15,7 @@ from pages.wings import head_of
 TOP = Path(__file__).resolve().parents[2]
 PAGE = TOP / "docs" / "PUBLIC_CALLS.md"
 CRATES = ("script_reader", "script_writer", "script_generator", "kernel_leaps", "parts_tracer", "parts_io", "parts_steps", "tool_check",
-          "tool_audit", "tool_times", "tool_commands")
+          "tool_audit", "tool_times", "tool_answers", "tool_commands")
 MOST, WIDTH = 12, 128  # so many lines of clauses are shown
 
 HEAD = """# Public calls

@@ -13,7 +13,8 @@ use std::marker::Brand;
 use std::process::ExitCode;
 use std::sync::ledger::{Blank, Ledger};
 use std::{env, io};
-use tool_commands::{Status, run_tool};
+use tool_answers::Status;
+use tool_commands::run_tool;
 
 // How many bytes of the output are gathered before they are written.
 const HELD_BACK: usize = 65_536;

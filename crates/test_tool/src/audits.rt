@@ -3,7 +3,7 @@ use crate::commands::run_from;
 use parts_io::{MemSink, MemSource, SureSource};
 use std::alloc::{AllocError, Global};
 use std::test::Fail;
-use tool_commands::Status;
+use tool_answers::Status;
 
 // Inputs, and what is told of them.
 static AUDITED: [(&str, Status, &str); 9] = [

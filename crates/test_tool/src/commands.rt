@@ -7,7 +7,8 @@ use std::alloc::{AllocError, Global};
 use std::marker::Brand;
 use std::sync::ledger::{Blank, Ledger};
 use std::test::Fail;
-use tool_commands::{Status, run_tool};
+use tool_answers::Status;
+use tool_commands::run_tool;
 
 const ONE_THREAD: &str = "thread a fifo 5 at 0\nrun 3\nend\n";
 

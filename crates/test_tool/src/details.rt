@@ -3,7 +3,7 @@ use crate::commands::run_from;
 use parts_io::{MemSink, SureSource};
 use std::alloc::{AllocError, Global};
 use std::test::Fail;
-use tool_commands::Status;
+use tool_answers::Status;
 
 // A horizon, a script, and its detail, as they stand in tests/worked and as tools/reference tells them: a mutex with a ceiling that is
 // locked twice, and a run that a signal ends.

@@ -5,7 +5,7 @@ use std::alloc::{AllocError, Global};
 use std::io;
 use std::io::{ErrorKind, Read};
 use std::test::Fail;
-use tool_commands::Status;
+use tool_answers::Status;
 
 // A thread is cancelled in its condition wait, so that its cleanup handler runs as the owner of the mutex.
 const SCRIPT: &str =

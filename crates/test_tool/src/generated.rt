@@ -3,7 +3,7 @@ use crate::commands::run_from;
 use parts_io::{MemSink, MemSource};
 use std::alloc::{AllocError, Global};
 use std::test::Fail;
-use tool_commands::Status;
+use tool_answers::Status;
 
 // The canonical text of the script of number 0.
 const SCRIPT_0: &str =

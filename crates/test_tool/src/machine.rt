@@ -2,7 +2,7 @@
 use crate::commands::run_from;
 use parts_io::{MemSink, SureSource};
 use std::test::Fail;
-use tool_commands::Status;
+use tool_answers::Status;
 
 // A horizon, a script and its trace.
 static RUNS: [(&str, &str, &str); 6] = [

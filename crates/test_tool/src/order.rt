@@ -7,7 +7,7 @@ use std::io;
 use std::io::{ErrorKind, Read, Write};
 use std::rc::Rc;
 use std::test::Fail;
-use tool_commands::Status;
+use tool_answers::Status;
 
 // Gives at most `width` bytes a read, and counts the reads.
 #[derive(Drop)]

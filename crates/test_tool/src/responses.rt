@@ -2,7 +2,7 @@
 use crate::commands::run_from;
 use parts_io::{MemSink, SureSource};
 use std::test::Fail;
-use tool_commands::Status;
+use tool_answers::Status;
 
 // A bound, a text of tasks, and the lines that tell their response times.
 static TOLD: [(&str, &str, &str); 7] = [

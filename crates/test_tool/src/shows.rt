@@ -3,7 +3,7 @@ use crate::commands::run_from;
 use parts_io::{MemSink, MemSource, SureSource};
 use std::alloc::{AllocError, Global};
 use std::test::Fail;
-use tool_commands::Status;
+use tool_answers::Status;
 
 // An instant, a script, and what is shown of it: worked by hand, as they stand in tests/worked.
 static SHOWN: [(&str, &str, &str); 6] = [

@@ -5,23 +5,15 @@ use Rattle.tool_check.specs.Divided.{Divided, divided}
 use Rattle.tool_audit.specs.declared.server.NamedServer.{NamedServer}
 use Rattle.tool_audit.specs.declared.breach.Breach.{Breach}
 use Rattle.tool_audit.specs.Breach.{first_breach}
-use Rattle.tool_audit.specs.Ends.{IsOpened}
 use Rattle.tool_audit.specs.Faults as head
 use Rattle.tool_audit.specs.Head.{read_head}
-use Rattle.tool_audit.specs.Watch.{Watch, begun}
 use Rattle.tool_audit.proofs.Accepted.{accepted_keeps_law}
-use Rattle.tool_commands.specs.declared.status.Status.{Status}
-use Rattle.tool_commands.specs.declared.status.Status.TheVariants as status
-use Rattle.tool_commands.specs.declared.command.Command.TheVariants as command
-use Rattle.tool_commands.specs.Answer.{Answer, Told, answer, audit_answer, audited_answer, breach_answer, command_answer, too_long_line}
+use Rattle.tool_answers.specs.declared.status.Status.{Status}
+use Rattle.tool_answers.specs.declared.status.Status.TheVariants as status
+use Rattle.tool_answers.specs.declared.command.Command.TheVariants as command
+use Rattle.tool_answers.specs.Answer.{Answer, Told, answer, audit_answer, audited_answer, breach_answer, command_answer, too_long_line}
 use Rattle.tool_commands.specs.Audited.{BudgetsHold}
-use Rattle.tool_commands.specs.Command.{command as command_of_words}
-
--- an audit that was opened is about the servers of the head
-pub told_of_opened : (a : Watch) (found : Result (List NamedServer) head.Fault) (trace : List ℕ) (s : Status) (old new : Option (List ℕ)) → IsOpened a found
-    → ((servers : List NamedServer) → a ≡ begun servers → Told s (breach_answer (first_breach servers trace)) old new) → Told s (audited_answer found trace) old new
-told_of_opened a (Ok servers) trace s old new is told = told servers is
-told_of_opened a (Err f) trace s old new is told = absurd is
+use Rattle.tool_answers.specs.Command.{command as command_of_words}
 
 is_done : (a : Answer) (s : Status) (old new : Option (List ℕ)) → Told s a old new → s ≡ status.Done → a.status ≡ status.Done
 is_done a s old new told e = let done : Told status.Done a old new = subst (λ (x : Status). Told x a old new) e told in done.0

@@ -1,9 +1,5 @@
-pub mod Opened
 pub mod Promises
 pub mod Whole
-pub mod Worked
 pub mod Audits
 pub mod Serials
 pub mod Taken
-pub mod FewObjects
-pub mod SameScript

@@ -1,9 +1,9 @@
 -- Where no step is taken there are few.
 use Rattle.std.proofs.Common.{◌≡◌, ◌≤◌, ℕ, List, arith, false, true}
-use Rattle.tool_commands.specs.declared.command.Command.{Command}
-use Rattle.tool_commands.specs.declared.command.Command.TheVariants.{ResponseTimes, Run}
-use Rattle.tool_commands.specs.Command.{reads}
-use Rattle.tool_commands.specs.Few.{RoundsAreFew, StepsAreFew}
+use Rattle.tool_answers.specs.declared.command.Command.{Command}
+use Rattle.tool_answers.specs.declared.command.Command.TheVariants.{ResponseTimes, Run}
+use Rattle.tool_answers.specs.Command.{reads}
+use Rattle.tool_answers.specs.Few.{RoundsAreFew, StepsAreFew}
 
 pub no_steps : (n : ℕ) (bytes : List ℕ) (steps : ℕ) → StepsAreFew n bytes steps steps
 no_steps n bytes steps script is = omega arith

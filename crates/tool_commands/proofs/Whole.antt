@@ -2,11 +2,11 @@
 use Rattle.std.proofs.Common.{◌≡◌, ◌≤◌, ℕ, List, [], ◌++◌, length, ◌∙◌, refl, sym, ap, subst, rules, append-nil, Bool, true, false, Option, None, Some, IfSome}
 use Rattle.std.specs.Prelude.{◌&&◌, if◌then◌else◌, nat_lt}
 use Rattle.std.specs.Io.KnownBytes.{Consumes, IsAtEnd}
-use Rattle.tool_commands.specs.declared.status.Status.{Status}
-use Rattle.tool_commands.specs.declared.command.Command.{Command}
-use Rattle.tool_commands.specs.declared.command.Command.TheVariants.{Run, Show, Detail, Check, Audit, Upgrade, ResponseTimes, Gen, Soak}
-use Rattle.tool_commands.specs.Command.{command, limit_of, reads}
-use Rattle.tool_commands.specs.Answer.{Answer, Told, answer, command_answer, text_answer}
+use Rattle.tool_answers.specs.declared.status.Status.{Status}
+use Rattle.tool_answers.specs.declared.command.Command.{Command}
+use Rattle.tool_answers.specs.declared.command.Command.TheVariants.{Run, Show, Detail, Check, Audit, Upgrade, ResponseTimes, Gen, Soak}
+use Rattle.tool_answers.specs.Command.{command, limit_of, reads}
+use Rattle.tool_answers.specs.Answer.{Answer, Told, answer, command_answer, text_answer}
 
 not_above : (limit n : ℕ) → n ≤ limit → nat_lt limit n ≡ false
 not_above limit n h = search rules

@@ -3,12 +3,12 @@ use Rattle.std.specs.Prelude.{ℕ, ◌≡◌, ◌≤◌, ◌+◌, ◌⊎◌, Lis
 use Rattle.std.specs.Io.KnownBytes.{Consumes, IsAtEnd}
 use Rattle.parts_io.specs.Causes.{GrewBy}
 use Rattle.parts_io.specs.Whole.{TookAtMost}
-use Rattle.tool_commands.specs.declared.status.Status.{Status}
-use Rattle.tool_commands.specs.declared.status.Status.TheVariants.{Done, Usage, Refused, TooLong, ReadFault, WriteFault, OutOfMemory, Differs, NoTrace, Breach}
-use Rattle.tool_commands.specs.declared.command.Command.TheVariants.{ResponseTimes, Run}
-use Rattle.tool_commands.specs.Command.{command, words_limit}
-use Rattle.tool_commands.specs.Few.{RoundsAreFew, StepsAreFew}
-use Rattle.tool_commands.specs.Answer.{answer, Told}
+use Rattle.tool_answers.specs.declared.status.Status.{Status}
+use Rattle.tool_answers.specs.declared.status.Status.TheVariants.{Done, Usage, Refused, TooLong, ReadFault, WriteFault, OutOfMemory, Differs, NoTrace, Breach}
+use Rattle.tool_answers.specs.declared.command.Command.TheVariants.{ResponseTimes, Run}
+use Rattle.tool_answers.specs.Command.{command, words_limit}
+use Rattle.tool_answers.specs.Few.{RoundsAreFew, StepsAreFew}
+use Rattle.tool_answers.specs.Answer.{answer, Told}
 
 -- The status and the text are those of the answer to some bytes: as many as the source counted as taken, at most one more than
 -- the command allows, and those that it tells where it tells any. To the same bytes the steps of a run and the rounds of response
@@ -44,16 +44,3 @@ IsOfWhole TooLong = ⊥
 IsOfWhole ReadFault = ⊥
 IsOfWhole WriteFault = ⊥
 IsOfWhole OutOfMemory = ⊥
-
--- a status of a command that reads nothing
-abbrev pub IsWithoutSource : Status → Type 0
-IsWithoutSource Done = Unit {0}
-IsWithoutSource WriteFault = Unit {0}
-IsWithoutSource OutOfMemory = Unit {0}
-IsWithoutSource Refused = ⊥
-IsWithoutSource Differs = ⊥
-IsWithoutSource NoTrace = ⊥
-IsWithoutSource Breach = ⊥
-IsWithoutSource Usage = ⊥
-IsWithoutSource TooLong = ⊥
-IsWithoutSource ReadFault = ⊥

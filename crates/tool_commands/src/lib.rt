@@ -3,19 +3,7 @@
 //! Proved: `run_tool`: the theorem above.
 #![tactic(auto)]
 
-mod audit;
-mod check;
-mod command;
-mod detail;
-mod generated;
-mod message;
-mod responses;
-mod runs;
-mod show;
-mod status;
+mod answer;
 mod tool;
-mod upgrade;
 
-pub use command::Command;
-pub use status::Status;
 pub use tool::run_tool;

@@ -18,132 +18,22 @@ ghost use Rattle.rules_machine.specs.WellFormed.{IsWellFormed};
 ghost use Rattle.rules_flat_code.specs.Runnable.{IsRunnable};
 ghost use Rattle.script_generator.specs.Generated.{script_of};
 ghost use Rattle.words_script.specs.declared.decl.Script.{Script};
-ghost use Rattle.tool_commands.specs.Command.{command, limit_of, reads, words_limit, Audits, Compares, HasSecondLimit, Divides, Generates, IsWithinLimit, Reads};
+ghost use Rattle.tool_answers.specs.Command.{command, words_limit, Audits, Compares, HasSecondLimit, Divides, Generates, Reads};
 ghost use Rattle.rules_machine.specs.Promises.{RunKeepsBudgets, RunStaysGood, busy_between};
 ghost use Rattle.tool_commands.specs.Audited.{BreaksNoRule, BudgetsHold};
-ghost use Rattle.tool_commands.specs.Few.{DoubleStepsAreFew, RoundsAreFew, StepsAreFew};
+ghost use Rattle.tool_answers.specs.Few.{DoubleStepsAreFew, RoundsAreFew, StepsAreFew};
 ghost use Rattle.tool_commands.specs.Spelled.{LinesHaveOneReading, RunHasSmallNumbers};
 ghost use Rattle.laws_threads.specs.HeadRuns.{HeadRuns};
-ghost use Rattle.tool_commands.specs.Answer.{answer, run_answer, text_answer, usage_line, too_long_line, no_trace_line, Told, SinkFaults, HasText};
-ghost use Rattle.tool_commands.specs.Taken.{Answered, IsOfWhole, IsWithoutSource, ReadToItsEnd, ReadWhole};
+ghost use Rattle.tool_answers.specs.Answer.{answer, usage_line, too_long_line, no_trace_line, Told, SinkFaults};
+ghost use Rattle.tool_answers.specs.Statuses.{IsWithoutSource};
+ghost use Rattle.tool_commands.specs.Taken.{Answered, IsOfWhole, ReadToItsEnd, ReadWhole};
 
-use crate::Status;
-use crate::audit::audit_text;
-use crate::check::check_text;
-use crate::command::{Command, command_of_words};
-use crate::detail::detail_text;
-use crate::generated::{soak, tell_generated};
-use crate::message::refused_line;
-use crate::responses::tell_responses;
-use crate::runs::print_run;
-use crate::show::show_text;
-use crate::upgrade::upgrade_text;
+use crate::answer::answer_text;
 use parts_io::{ReadEnd, Sink, Source, read_whole};
 use parts_steps::Steps;
-use script_reader::{Script, ScriptEnd, read_script};
 use std::alloc::Global;
 use std::sync::ledger::Ledger;
-use words_numbers::Tick;
-
-// Runs a script and prints its trace.
-fn tell_trace<K: Sink, L: Ledger>(
-    alloc: Global,
-    script: &Script,
-    horizon: Tick,
-    sink: &mut K,
-    steps: &mut Steps<L>,
-) -> Status
-    requires runnable { IsRunnable script.now }
-    requires well_formed { IsWellFormed script.now }
-    requires limit { horizon ≤ 10 ^ 18 }
-    ensures told { Told result (record { status = Status.Done; text = trace script.now horizon })
-        (K.text sink.old) (K.text sink.new) }
-    ensures faults { SinkFaults result (K.faults sink.old) (K.faults sink.new) }
-    ensures read { result ≡ Status.ReadFault → ⊥ }
-    ensures unchanged { result ≡ Status.OutOfMemory → sink.new ≡ sink.old }
-    ensures busy { steps.new ≤ steps.old + busy_between script.now 0 horizon + 1 }
-{
-    match print_run(alloc, script, horizon, sink, steps) {
-        Ok(false) => Status::Done,
-        Ok(true) => Status::WriteFault,
-        Err(_) => Status::OutOfMemory,
-    }
-}
-
-/// Writes a text at once, and answers whether it was written.
-pub(crate) fn put_text<K: Sink>(sink: &mut K, text: &[u8], status: Status) -> Status
-    requires { HasText status }
-    ensures status { (result ≡ status) ⊎ (result ≡ Status.WriteFault) }
-    ensures told { Told result (record { status = status; text = text.now }) (K.text sink.old) (K.text sink.new) }
-    ensures faults { SinkFaults result (K.faults sink.old) (K.faults sink.new) }
-    ensures read { result ≡ Status.ReadFault → ⊥ }
-    ensures memory { result ≡ Status.OutOfMemory → ⊥ }
-{
-    match sink.write(text) {
-        Ok(()) => status,
-        Err(_) => Status::WriteFault,
-    }
-}
-
-// Reads a script, runs it and prints its trace.
-fn answer_run<K: Sink, L: Ledger>(
-    alloc: Global,
-    text: &[u8],
-    horizon: Tick,
-    sink: &mut K,
-    steps: &mut Steps<L>,
-) -> Status
-    requires short { length text.now ≤ 1_048_576 }
-    requires limit { horizon ≤ 10 ^ 18 }
-    ensures told { Told result (run_answer horizon (read patterns text.now)) (K.text sink.old) (K.text sink.new) }
-    ensures faults { SinkFaults result (K.faults sink.old) (K.faults sink.new) }
-    ensures read { result ≡ Status.ReadFault → ⊥ }
-    ensures unchanged { result ≡ Status.OutOfMemory → sink.new ≡ sink.old }
-    ensures busy { StepsAreFew horizon text.now steps.old steps.new }
-{
-    match read_script(alloc, text) {
-        Ok(script) => tell_trace(alloc, &script, horizon, sink, steps),
-        Err(ScriptEnd::Fault(line, kind)) => {
-            let message = refused_line(line, kind);
-            put_text(sink, message.as_slice(), Status::Refused)
-        }
-        Err(ScriptEnd::OutOfMemory) => Status::OutOfMemory,
-    }
-}
-
-// Carries out a command on a text that its limit allows, which is the empty one where it reads nothing.
-fn answer_text<K: Sink, L: Ledger>(
-    alloc: Global,
-    command: &Command,
-    text: &[u8],
-    sink: &mut K,
-    steps: &mut Steps<L>,
-) -> Status
-    requires short { length text.now ≤ limit_of command.now }
-    requires limit { IsWithinLimit command.now }
-    ensures told { Told result (text_answer command.now text.now) (K.text sink.old) (K.text sink.new) }
-    ensures faults { SinkFaults result (K.faults sink.old) (K.faults sink.new) }
-    ensures read { result ≡ Status.ReadFault → ⊥ }
-    ensures unchanged { result ≡ Status.OutOfMemory → sink.new ≡ sink.old }
-    ensures kind { reads command.now ≡ false → IsWithoutSource result }
-    ensures busy { (n : ℕ) → command.now ≡ Command.Run n → StepsAreFew n text.now steps.old steps.new }
-    ensures shows { (n : ℕ) → command.now ≡ Command.Show n → StepsAreFew n text.now steps.old steps.new }
-    ensures details { (n : ℕ) → command.now ≡ Command.Detail n → DoubleStepsAreFew n text.now steps.old steps.new }
-    ensures rounds { (n : ℕ) → command.now ≡ Command.ResponseTimes n → RoundsAreFew n text.now steps.old steps.new }
-    ensures soaks { (seed n : ℕ) → command.now ≡ Command.Soak seed n → steps.new ≤ steps.old + busy_between (script_of seed) 0 n + 1 }
-{
-    match *command {
-        Command::Run(horizon) => answer_run(alloc, text, horizon, sink, steps),
-        Command::Show(horizon) => show_text(alloc, text, horizon, sink, steps),
-        Command::Detail(horizon) => detail_text(alloc, text, horizon, sink, steps),
-        Command::Check(horizon) => check_text(alloc, text, horizon, sink, steps),
-        Command::Audit => audit_text(alloc, text, sink),
-        Command::Upgrade => upgrade_text(alloc, text, sink),
-        Command::ResponseTimes(bound) => tell_responses(alloc, text, bound, sink, steps),
-        Command::Gen(seed) => tell_generated(alloc, seed, sink),
-        Command::Soak(seed, horizon) => soak(alloc, seed, horizon, sink, steps),
-    }
-}
+use tool_answers::{Status, command_of_words, put_text};
 
 /// Carries out the command of the words: reads the source, and writes to the sink.
 ///

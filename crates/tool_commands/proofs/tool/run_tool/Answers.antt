@@ -1,9 +1,9 @@
 use Rattle.std.proofs.Common.{rules, ◌≡◌, ◌≤◌, ℕ, List, [], Option, None, Some, IfSome, length, map, string_bytes, arith, false, subst, sym, ◌∙◌, ap}
 use Rattle.parts_io.proofs.Known.{consumes_none}
-use Rattle.tool_commands.specs.declared.command.Command.{Command}
-use Rattle.tool_commands.specs.Answer.{Told, answer}
-use Rattle.tool_commands.specs.Command.{command, limit_of, reads, words_limit, words_limit_of}
-use Rattle.tool_commands.specs.Few.{DoubleStepsAreFew, RoundsAreFew, StepsAreFew}
+use Rattle.tool_answers.specs.declared.command.Command.{Command}
+use Rattle.tool_answers.specs.Answer.{Told, answer}
+use Rattle.tool_answers.specs.Command.{command, limit_of, reads, words_limit, words_limit_of}
+use Rattle.tool_answers.specs.Few.{DoubleStepsAreFew, RoundsAreFew, StepsAreFew}
 use Rattle.tool_commands.proofs.Audits.{holds_where_told}
 use Rattle.tool_commands.proofs.Promises.{reads_upgraded}
 use Rattle.tool_commands.proofs.Taken.{no_rounds, no_run, no_steps, no_times}

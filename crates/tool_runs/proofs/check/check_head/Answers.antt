@@ -1,0 +1,9 @@
+use Rattle.laws_bounds.proofs.Runnable.{accepted_can_be_run}
+use Rattle.laws_accepted.proofs.Reading.{accepted_is_well_formed}
+use Rattle.tool_runs.proofs.check.check_head.Goals as goal
+
+pub check_script-requires-clause-runnable : goal.check_script-requires-clause-runnable
+check_script-requires-clause-runnable g c = accepted_can_be_run c.args.head.now c.in-Ok.script c.in-Ok.ensures.script
+
+pub check_script-requires-clause-well_formed : goal.check_script-requires-clause-well_formed
+check_script-requires-clause-well_formed g c = accepted_is_well_formed c.args.head.now c.in-Ok.script c.in-Ok.ensures.script

@@ -1,0 +1,18 @@
+//! The commands that run the kernel: `run`, `show`, `detail`, `check` and `soak`.
+//!
+//! Proved: each writes the answer that is defined for it, or a part of it and then a write failed; want of memory comes before anything
+//! is written; the steps of all but `check` are few, by the eventful instants of their runs. Once the kernel is open nothing takes memory.
+#![tactic(auto)]
+
+mod check;
+mod detail;
+mod run;
+mod runs;
+mod show;
+mod soak;
+
+pub use check::check_text;
+pub use detail::detail_text;
+pub use run::run_text;
+pub use show::show_text;
+pub use soak::soak;
