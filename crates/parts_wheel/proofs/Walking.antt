@@ -1,13 +1,14 @@
 -- A walk along one list for the least due tick.
-use Rattle.std.proofs.Common.{◌≡◌, ◌≢◌, ◌⊎◌, inl, inr, ⊎_elim, ℕ, ◌^◌, ◌-◌, ◌<◌, ◌≤◌, true, false, Option, Some, None, is_some, List, [], ◌∷◌, if◌then◌else◌, slice_get, refl, sym, ap, subst, ◌∙◌, arith}
-use borrow.Author.Tests.{eq-eqb}
+use Rattle.std.proofs.Common.{◌≡◌, ◌≢◌, ◌⊎◌, inl, inr, ⊎_elim, ℕ, ◌^◌, ◌-◌, ◌<◌, ◌≤◌, min, true, false, Option, Some, None, is_some, List, [], ◌∷◌, if◌then◌else◌, slice_get, refl, sym, ap, subst, ◌∙◌, arith}
+use borrow.Author.Tests.{clash, eq-eqb}
 use Rattle.std.proofs.lemmas.Bool.Decides.{nat_tests}
 use Rattle.parts_links.specs.Links.{stands_in, follower, AreDistinct}
 use Rattle.parts_links.specs.Walks.{rest_of}
 use Rattle.parts_links.proofs.Walks.{rest_first, step}
 use Rattle.parts_wheel.specs.Dues.{due_of}
-use Rattle.parts_wheel.specs.Slots.{IsSooner}
+use Rattle.parts_wheel.specs.Slots.{IsSooner, IsLeastNode}
 use Rattle.parts_links.proofs.Chains.{equal}
+use Rattle.parts_wheel.proofs.Order.{lt_or}
 use Rattle.parts_wheel.proofs.Filing.{none_some}
 use Rattle.parts_wheel.proofs.Holding.{same_due}
 
@@ -80,3 +81,48 @@ alone_in n (x ∷ y ∷ xs) head last i h =
 pub not_some : (o : Option ℕ) → is_some o ≡ false → o ≡ None
 not_some None h = refl
 not_some (Some n) h = cc
+
+-- ---- a walk along one list for the least number
+
+-- of the nodes that the walk has passed none has a lower number than this one
+pub record IsLeastPassed (items : List ℕ) (at : Option ℕ) (least : ℕ) : Type 0 where
+  pub stands : stands_in least items ≡ true
+  pub passed : (i : ℕ) → stands_in i items ≡ true → (stands_in i (rest_of at items) ≡ true) ⊎ (least ≤ i)
+
+passed_on : (items : List ℕ) (next : Option ℕ) (n least now : ℕ) → AreDistinct items → stands_in n items ≡ true → next ≡ follower n items → stands_in now items ≡ true → now ≤ least → now ≤ n
+    → ((i : ℕ) → stands_in i items ≡ true → (stands_in i (rest_of (Some n) items) ≡ true) ⊎ (least ≤ i)) → IsLeastPassed items next now
+passed_on items next n least now distinct stands follows here under low before = record {
+  stands = here;
+  passed = λ i h. ⊎_elim
+      (λ s. let s' = subst (λ xs. stands_in i xs ≡ true) (step n items distinct stands) s in
+      ⊎_elim
+      (λ same. inr (omega (arith, same, low)))
+      (λ other. inl (subst (λ (a : Option ℕ). stands_in i (rest_of a items) ≡ true) (sym follows) (rest_or i n (rest_of (follower n items) items) other s')))
+      (equal i n))
+      (λ le. inr (omega (arith, le, under)))
+      (before i h);
+}
+
+pub passed_start : (items : List ℕ) (next : Option ℕ) (n : ℕ) → AreDistinct items → slice_get items 0 ≡ Some n → stands_in n items ≡ true → next ≡ follower n items → IsLeastPassed items next n
+passed_start items next n distinct head stands follows =
+    passed_on items next n n n distinct stands follows stands (omega arith) (omega arith)
+    (λ i h. inl (subst (λ xs. stands_in i xs ≡ true) (sym (ap (λ a. rest_of a items) (sym head) ∙ rest_first items)) h))
+
+pub passed_step : (items : List ℕ) (at next : Option ℕ) (n least now : ℕ) → AreDistinct items → at ≡ Some n → stands_in n items ≡ true → next ≡ follower n items → now ≡ min least n
+    → IsLeastPassed items at least → IsLeastPassed items next now
+passed_step items at next n least now distinct is stands follows low w =
+    let here : stands_in now items ≡ true = ⊎_elim
+    (λ l. let e : now ≡ least = omega (arith, l, low) in subst (λ m. stands_in m items ≡ true) (sym e) w.stands)
+    (λ l. let e : now ≡ n = omega (arith, l, low) in subst (λ m. stands_in m items ≡ true) (sym e) stands)
+    (lt_or least n) in
+    passed_on items next n least now distinct stands follows here (omega (arith, low)) (omega (arith, low))
+    (subst (λ (a : Option ℕ). (i : ℕ) → stands_in i items ≡ true → (stands_in i (rest_of a items) ≡ true) ⊎ (least ≤ i)) is w.passed)
+
+pub passed_all : (items : List ℕ) (at : Option ℕ) (least : ℕ) → at ≡ None → IsLeastPassed items at least → IsLeastNode items least
+passed_all items at least is w = record {
+  stands = w.stands;
+  least = λ i h. ⊎_elim
+      (λ s. let none : stands_in i [] ≡ true = subst (λ (a : Option ℕ). stands_in i (rest_of a items) ≡ true) is s in absurd (clash none))
+      (λ le. le)
+      (w.passed i h);
+}

@@ -54,6 +54,11 @@ IsLoneOf dues items tick n = n < 1024 → (stands_in n items ≡ true) × (due_o
 abbrev pub IsOnly : List ℕ → ℕ → Type 0
 IsOnly items n = n < 1024 → (stands_in n items ≡ true) × ((i : ℕ) → stands_in i items ≡ true → i ≡ n)
 
+-- the node stands in the list, and none with a lower number does
+pub record IsLeastNode (items : List ℕ) (n : ℕ) : Type 0 where
+  pub stands : stands_in n items ≡ true
+  pub least : (i : ℕ) → stands_in i items ≡ true → n ≤ i
+
 -- the least tick, and the number of the item that alone is due then, once an item is added to those before
 abbrev pub IsSooner : ℕ → ℕ → ℕ → Option ℕ → ℕ → ℕ → Type 0
 IsSooner tick lone node due now sole = MatchOption due ((now ≡ tick) × (sole ≡ lone))

@@ -21,11 +21,13 @@ mod dues;
 mod moves;
 mod places;
 mod slots;
+mod walks;
 
 use dues::{due_of, first_of, least_of};
-use slots::{NO_ITEM, Next, Slots};
+use slots::Slots;
 use std::alloc::{AllocError, Global};
 use std::marker::Model;
+use walks::{NO_ITEM, Next};
 use words_numbers::{ItemId, Tick};
 
 /// What is due first.
@@ -199,7 +201,7 @@ impl Wheel {
         ensures { self.new ≡ record self.old { dues = slice_set self.old.dues id.number None } }
     {
         let tick = due.get();
-        if tick == self.front.least && tick <= self.last {
+        if tick == self.front.least && tick <= self.last && !self.slots.is_near(tick) {
             self.slots.disarm_next(id.number, tick);
             self.front = front_of(&self.slots, self.slots.least_later(), self.front.early);
             return;
@@ -281,9 +283,26 @@ impl Wheel {
         self.search_due(now)
     }
 
-    // The first item that is due, where one may be.
+    // The first item that is due, where one may be. Of a few that are due now it is told without a move.
     #[inline(never)]
     fn search_due(&mut self, now: Tick) -> Option<ItemId>
+        requires { now ≤ self.old.last }
+        ensures item { MatchOption result (NoneIsDue now self.old.dues) (λ id. IsFirstDue now self.old.dues id.number) }
+        ensures same { self.new.dues ≡ self.old.dues }
+        ensures last { self.new.last ≡ self.old.last }
+    {
+        let Front { least, early, .. } = self.front;
+        if now.get() == least && least == early {
+            if let Some(number) = self.slots.first_of_next(least) {
+                return Some(ItemId { number });
+            }
+        }
+        self.search_due_in_full(now)
+    }
+
+    // The same, whatever has passed.
+    #[inline(never)]
+    fn search_due_in_full(&mut self, now: Tick) -> Option<ItemId>
         requires { now ≤ self.old.last }
         ensures item { MatchOption result (NoneIsDue now self.old.dues) (λ id. IsFirstDue now self.old.dues id.number) }
         ensures same { self.new.dues ≡ self.old.dues }

@@ -1,13 +1,14 @@
 //! The slots of a wheel.
-ghost use Rattle.std.specs.Prelude.{◌≡◌, ◌<◌, ◌≤◌, ◌*◌, ◌/◌, ◌^◌, ℕ, true, None, Some, length, replicate, slice_set, IfOk, MatchOption};
+ghost use Rattle.std.specs.Prelude.{◌≡◌, ◌<◌, ◌≤◌, ◌*◌, ◌/◌, ◌^◌, ℕ, true, None, Some, length, replicate, slice_set, IfOk, IfSome, MatchOption};
 ghost use Rattle.parts_links.specs.Links.{list_at, stands_in, stands_at};
 ghost use Rattle.parts_wheel.specs.Dues.{due_of, NoneIsArmed, IsLeastDue, NoneIsDue, IsFirstDue};
-ghost use Rattle.parts_wheel.specs.Slots.{IsLeastLater, IsLone, IsLeastOf, IsLoneOf, IsSooner, IsOnly, AreSmall};
+ghost use Rattle.parts_wheel.specs.Slots.{IsEarly, IsLeastLater, IsLone, AreSmall};
 ghost use Rattle.parts_wheel.specs.Moves.{IsDue};
 
 use crate::bits::Bits;
 use crate::moves::{file, put, refile, take, take_lone};
 use crate::places::is_near;
+use crate::walks::{NO_ITEM, Next, least_in, least_of_few, only_in};
 use parts_links::Links;
 use std::alloc::{AllocError, Global};
 use std::marker::Model;
@@ -34,69 +35,6 @@ impl Model for Slots {
     ghost view = { λ s. record { dues = s.dues.items; base = s.base } };
 
     ghost invariant = { λ s. AreHeld s.base s.dues.items s.links s.occupied s.passed };
-}
-
-/// No item's number.
-pub(crate) const NO_ITEM: u32 = u32::MAX;
-
-/// The least due tick of some items, the last number where there are none, and the number of the item that alone is due then, or no
-/// item's.
-#[derive(Clone, Copy)]
-pub struct Next {
-    pub(crate) tick: u64,
-    pub(crate) lone: u32,
-}
-
-/// What is due next of the items in one list.
-#[inline(always)]
-fn least_in(links: &Links, dues: &[Option<Tick>], list: u32) -> Next
-    requires list { list < length links.now.lists }
-    requires armed { (i : ℕ) → stands_at i list links.now.lists ≡ true → (d : ℕ) × IsDue dues.now i d }
-    ensures least { IsLeastOf dues.now (list_at links.now.lists list) result.tick }
-    ensures lone { IsLoneOf dues.now (list_at links.now.lists list) result.tick result.lone }
-{
-    links.stand_once();
-    let mut next = Next {
-        tick: u64::MAX,
-        lone: NO_ITEM,
-    };
-    let mut at = links.front(list);
-    while let Some(node) = at {
-        next = sooner(next, node, dues[node as usize]);
-        at = links.next(node);
-    }
-    next
-}
-
-/// What is due next, of one item more.
-#[inline(always)]
-fn sooner(next: Next, node: u32, due: Option<Tick>) -> Next
-    ensures { IsSooner next.tick next.lone node due result.tick result.lone }
-{
-    match due {
-        Some(tick) if tick.get() < next.tick => Next {
-            tick: tick.get(),
-            lone: node,
-        },
-        Some(tick) if tick.get() == next.tick => Next {
-            tick: next.tick,
-            lone: NO_ITEM,
-        },
-        _ => next,
-    }
-}
-
-/// The number of the node of the list that holds no other, or no node's.
-#[inline(always)]
-fn only_in(links: &Links, list: u32) -> u32
-    requires list { list < length links.now.lists }
-    ensures { IsOnly (list_at links.now.lists list) result }
-{
-    links.stand_once();
-    match links.front(list) {
-        Some(node) if links.next(node).is_none() => node,
-        _ => NO_ITEM,
-    }
 }
 
 impl Slots {
@@ -243,6 +181,21 @@ impl Slots {
         ensures { MatchOption result (NoneIsDue self.now.base self.now.dues) (λ i. IsFirstDue self.now.base self.now.dues i) }
     {
         self.passed.lowest()
+    }
+
+    /// Of the items that are due next, at that tick, where nothing is due before, the one with the least number. None where they are many,
+    /// or do not stand in the lowest level.
+    #[inline(always)]
+    pub(crate) fn first_of_next(&self, due: u64) -> Option<u32>
+        requires next { IsLeastLater self.now.base self.now.dues due × (due ≤ 3 * 10 ^ 18) }
+        requires early { IsEarly self.now.dues due }
+        ensures { IfSome result (λ i. IsFirstDue due self.now.dues i) }
+    {
+        if self.is_near(due) {
+            least_of_few(&self.links, (due % 2048) as u32)
+        } else {
+            None
+        }
     }
 
     /// Whether no armed item has passed.

@@ -2,7 +2,7 @@ use Rattle.std.proofs.Common.{not, sym, ap, ◌∙◌}
 use Rattle.parts_links.specs.Links.{list_at}
 use Rattle.parts_links.proofs.Walks.{head_stands, follows_in}
 use Rattle.parts_wheel.proofs.Walking.{alone_in, not_some}
-use Rattle.parts_wheel.proofs.slots.only_in.Goals as goal
+use Rattle.parts_wheel.proofs.walks.only_in.Goals as goal
 
 pub returns-in-Some : goal.returns-in-Some
 returns-in-Some c small =

@@ -6,7 +6,7 @@ use Rattle.parts_links.proofs.Standing.{on_at}
 use Rattle.parts_wheel.proofs.Filing.{armed_inside}
 use Rattle.parts_wheel.proofs.Holding.{read_at}
 use Rattle.parts_wheel.proofs.Walking.{walk_start, walk_on}
-use Rattle.parts_wheel.proofs.slots.least_in.Goals as goal
+use Rattle.parts_wheel.proofs.walks.least_in.Goals as goal
 
 pub loop-at-init : goal.loop-at-init
 loop-at-init c =

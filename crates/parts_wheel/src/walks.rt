@@ -1,0 +1,96 @@
+//! Walks along the lists of a wheel.
+ghost use Rattle.std.specs.Prelude.{◌≡◌, ◌<◌, ℕ, true, length, IfSome};
+ghost use Rattle.parts_links.specs.Links.{list_at, stands_in, stands_at};
+ghost use Rattle.parts_wheel.specs.Slots.{IsLeastOf, IsLoneOf, IsSooner, IsOnly, IsLeastNode};
+ghost use Rattle.parts_wheel.specs.Moves.{IsDue};
+
+use parts_links::Links;
+use words_numbers::Tick;
+
+/// No item's number.
+pub(crate) const NO_ITEM: u32 = u32::MAX;
+
+/// The least due tick of some items, the last number where there are none, and the number of the item that alone is due then, or no
+/// item's.
+#[derive(Clone, Copy)]
+pub struct Next {
+    pub(crate) tick: u64,
+    pub(crate) lone: u32,
+}
+
+/// What is due next of the items in one list.
+#[inline(always)]
+pub(crate) fn least_in(links: &Links, dues: &[Option<Tick>], list: u32) -> Next
+    requires list { list < length links.now.lists }
+    requires armed { (i : ℕ) → stands_at i list links.now.lists ≡ true → (d : ℕ) × IsDue dues.now i d }
+    ensures least { IsLeastOf dues.now (list_at links.now.lists list) result.tick }
+    ensures lone { IsLoneOf dues.now (list_at links.now.lists list) result.tick result.lone }
+{
+    links.stand_once();
+    let mut next = Next {
+        tick: u64::MAX,
+        lone: NO_ITEM,
+    };
+    let mut at = links.front(list);
+    while let Some(node) = at {
+        next = sooner(next, node, dues[node as usize]);
+        at = links.next(node);
+    }
+    next
+}
+
+/// What is due next, of one item more.
+#[inline(always)]
+fn sooner(next: Next, node: u32, due: Option<Tick>) -> Next
+    ensures { IsSooner next.tick next.lone node due result.tick result.lone }
+{
+    match due {
+        Some(tick) if tick.get() < next.tick => Next {
+            tick: tick.get(),
+            lone: node,
+        },
+        Some(tick) if tick.get() == next.tick => Next {
+            tick: next.tick,
+            lone: NO_ITEM,
+        },
+        _ => next,
+    }
+}
+
+/// The number of the node of the list that holds no other, or no node's.
+#[inline(always)]
+pub(crate) fn only_in(links: &Links, list: u32) -> u32
+    requires list { list < length links.now.lists }
+    ensures { IsOnly (list_at links.now.lists list) result }
+{
+    links.stand_once();
+    match links.front(list) {
+        Some(node) if links.next(node).is_none() => node,
+        _ => NO_ITEM,
+    }
+}
+
+/// How many nodes behind the first `least_of_few` looks at.
+const FEW: u32 = 7;
+
+/// The least number of a node in a list of few. None where there are more, or none at all.
+#[inline(always)]
+pub(crate) fn least_of_few(links: &Links, list: u32) -> Option<u32>
+    requires list { list < length links.now.lists }
+    ensures { IfSome result (λ n. IsLeastNode (list_at links.now.lists list) n) }
+{
+    links.stand_once();
+    let first = links.front(list)?;
+    let mut least = first;
+    let mut at = links.next(first);
+    let mut left = FEW;
+    while let Some(node) = at {
+        if left == 0 {
+            return None;
+        }
+        left -= 1;
+        least = least.min(node);
+        at = links.next(node);
+    }
+    Some(least)
+}
