@@ -233,7 +233,25 @@ impl Wheel {
 
     // The item, which was due before, falls due at that tick.
     #[inline(never)]
+    #[tactic(auto, using(crate::proofs::Holding::set_twice))]
     fn arm_anew(&mut self, id: ItemId, before: Tick, due: Tick)
+        requires { (id.number < length self.old.dues) × (due_of id.number self.old.dues ≡ Some before) }
+        ensures { self.new ≡ record self.old { dues = slice_set self.old.dues id.number (Some due) } }
+    {
+        let tick = before.get();
+        if tick == self.front.least && tick < due.get() && self.slots.is_near(tick) {
+            self.slots.disarm(id.number, before);
+            self.slots.arm(id.number, due);
+            self.front = front_of(&self.slots, self.slots.least_later(), self.front.early);
+        } else {
+            self.arm_anew_in_full(id, before, due);
+        }
+    }
+
+    // The same, whatever stands with the item.
+    #[inline(never)]
+    #[tactic(auto, using(crate::proofs::Holding::set_twice))]
+    fn arm_anew_in_full(&mut self, id: ItemId, before: Tick, due: Tick)
         requires { (id.number < length self.old.dues) × (due_of id.number self.old.dues ≡ Some before) }
         ensures { self.new ≡ record self.old { dues = slice_set self.old.dues id.number (Some due) } }
     {

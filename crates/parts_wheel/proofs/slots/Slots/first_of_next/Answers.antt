@@ -1,4 +1,4 @@
-use Rattle.std.proofs.Common.{◌≡◌, ◌≤◌, ◌*◌, ◌^◌, ◌/◌, Option, subst, sym, IfSome}
+use Rattle.std.proofs.Common.{◌≡◌, ◌≤◌, ◌*◌, ◌^◌, ◌/◌, subst, sym}
 use Rattle.parts_wheel.specs.Slots.{Placed, IsEarly, IsLeastLater}
 use Rattle.parts_wheel.proofs.Holding.{first_if_few}
 use Rattle.parts_wheel.proofs.slots.Slots.first_of_next.Goals as goal
