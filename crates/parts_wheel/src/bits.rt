@@ -35,6 +35,8 @@ impl Bits {
         Ok(Bits { words, used: 0 })
     }
 
+    /// The place is taken, or is not, afterwards.
+    #[inline(always)]
     pub(crate) fn set(&mut self, place: u32, taken: bool)
         requires { place < 64 * length self.old }
         ensures bit { ChangesBit place taken self.old self.new }

@@ -18,28 +18,19 @@ ghost use Rattle.parts_wheel.specs.Slots.{Placed, IsLeastLater, IsLone, IsEarly,
 
 mod bits;
 mod dues;
+mod front;
 mod moves;
 mod places;
 mod slots;
 mod walks;
 
 use dues::{due_of, first_of, least_of};
+use front::Front;
 use slots::Slots;
 use std::alloc::{AllocError, Global};
 use std::marker::Model;
 use walks::{NO_ITEM, Next};
 use words_numbers::{ItemId, Tick};
-
-/// What is due first.
-#[derive(Clone, Copy)]
-struct Front {
-    // the least due tick after that of the slots
-    least: u64,
-    // nothing is due before that tick
-    early: u64,
-    // the number of the item that alone is due then, and later than the slots' tick, or no item's
-    lone: u32,
-}
 
 /// Items and their due ticks.
 #[derive(Drop)]
@@ -81,57 +72,6 @@ fn caught_up(slots: &mut Slots, least: u64, now: u64) -> Next
     next
 }
 
-/// What is due first, from what is due next after the tick of the slots, where nothing is due before `early`.
-#[inline(always)]
-fn front_of(slots: &Slots, next: Next, early: u64) -> Front
-    requires next { IsLeastLater slots.now.base slots.now.dues next.tick × IsLone slots.now.dues next.tick next.lone }
-    requires early { IsEarly slots.now.dues early }
-    ensures { IsFront slots.now result.least result.early result.lone }
-{
-    if slots.none_passed() {
-        Front {
-            least: next.tick,
-            early: next.tick,
-            lone: next.lone,
-        }
-    } else {
-        Front {
-            least: next.tick,
-            early,
-            lone: NO_ITEM,
-        }
-    }
-}
-
-/// What is due first, once an item that was not armed falls due at that tick, which is no later than that of the slots.
-#[inline(always)]
-fn with_passed(front: Front, tick: u64) -> Front
-    ensures { (slots : Placed) → (id : ℕ) → tick ≤ slots.base → (id < length slots.dues) × (due_of id slots.dues ≡ None) → IsFront slots front.least front.early front.lone → IsFront (record slots { dues = slice_set slots.dues id (Some tick) }) result.least result.early result.lone }
-{
-    let early = front.early.min(tick);
-    Front {
-        early,
-        lone: NO_ITEM,
-        ..front
-    }
-}
-
-/// What is due first, once an item that was not armed falls due at that tick, which is later than that of the slots.
-#[inline(always)]
-fn with_later(front: Front, id: u32, tick: u64) -> Front
-    requires { tick ≤ 3 * 10 ^ 18 }
-    ensures { (slots : Placed) → slots.base < tick → (id < length slots.dues) × (due_of id slots.dues ≡ None) → IsFront slots front.least front.early front.lone → IsFront (record slots { dues = slice_set slots.dues id (Some tick) }) result.least result.early result.lone }
-{
-    // no item's number where the tick is no later than the least
-    let kept = front.lone | (((tick <= front.least) as u32) << 31);
-    let lone = if tick < front.early { id } else { kept };
-    Front {
-        least: front.least.min(tick),
-        early: front.early.min(tick),
-        lone,
-    }
-}
-
 impl Wheel {
     /// A wheel for items with numbers below `ids`, none of which is armed.
     pub fn open(alloc: Global, ids: u32) -> Result<Wheel, AllocError>
@@ -141,11 +81,7 @@ impl Wheel {
         let slots = Slots::open(alloc, ids)?;
         Ok(Wheel {
             slots,
-            front: Front {
-                least: u64::MAX,
-                early: u64::MAX,
-                lone: NO_ITEM,
-            },
+            front: Front::open(),
             last: 0,
         })
     }
@@ -158,10 +94,10 @@ impl Wheel {
     {
         let tick = due.get();
         if tick <= self.slots.base() {
-            self.front = with_passed(self.front, tick);
+            self.front = self.front.with_passed(tick);
             self.slots.arm_far(id.number, due);
         } else {
-            self.front = with_later(self.front, id.number, tick);
+            self.front = self.front.with_later(id.number, tick);
             self.slots.arm(id.number, due);
         }
     }
@@ -201,15 +137,20 @@ impl Wheel {
         ensures { self.new ≡ record self.old { dues = slice_set self.old.dues id.number None } }
     {
         let tick = due.get();
-        if tick == self.front.least && tick <= self.last && !self.slots.is_near(tick) {
+        if tick == self.front.least && self.slots.is_near(tick) {
+            self.slots.disarm_near(id.number, tick);
+            self.front.look(&self.slots);
+            return;
+        }
+        if tick == self.front.least && tick <= self.last {
             self.slots.disarm_next(id.number, tick);
-            self.front = front_of(&self.slots, self.slots.least_later(), self.front.early);
+            self.front.look(&self.slots);
             return;
         }
         let later = tick > self.slots.base();
         self.slots.disarm(id.number, due);
         if !later || tick == self.front.least {
-            self.front = front_of(&self.slots, self.slots.least_later(), self.front.early);
+            self.front.look(&self.slots);
         }
     }
 
@@ -240,9 +181,9 @@ impl Wheel {
     {
         let tick = before.get();
         if tick == self.front.least && tick < due.get() && self.slots.is_near(tick) {
-            self.slots.disarm(id.number, before);
-            self.slots.arm(id.number, due);
-            self.front = front_of(&self.slots, self.slots.least_later(), self.front.early);
+            self.slots.disarm_near(id.number, tick);
+            self.slots.arm_later(id.number, due);
+            self.front.look(&self.slots);
         } else {
             self.arm_anew_in_full(id, before, due);
         }
@@ -330,7 +271,7 @@ impl Wheel {
             return first_of(self.slots.dues(), now);
         }
         let next = caught_up(&mut self.slots, self.front.least, now.get());
-        self.front = front_of(&self.slots, next, self.front.early);
+        self.front = Front::of(&self.slots, next, self.front.early);
         let number = self.slots.first_passed()?;
         Some(ItemId { number })
     }

@@ -31,6 +31,22 @@ pub(crate) fn take(links: &mut Links, occupied: &mut Bits, node: u32) -> Option<
     None
 }
 
+/// Takes the node out of the list in which it stands.
+#[inline(always)]
+pub(crate) fn take_from(links: &mut Links, occupied: &mut Bits, list: u32, node: u32)
+    requires sized { IsSized links.old occupied.old × (list < 3840) }
+    requires marked { AreMarked links.old.lists occupied.old }
+    requires node { (node < 1024) × (stands_at node list links.old.lists ≡ true) }
+    ensures sized { IsSized links.new occupied.new }
+    ensures marked { AreMarked links.new.lists occupied.new }
+    ensures taken { IsTaken node links.old.lists links.new.lists }
+{
+    links.unlink(node);
+    if links.front(list).is_none() {
+        occupied.set(list, false);
+    }
+}
+
 /// Takes the only node of a list out of it.
 #[inline(always)]
 pub(crate) fn take_lone(links: &mut Links, occupied: &mut Bits, list: u32, node: u32)

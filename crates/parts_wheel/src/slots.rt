@@ -6,8 +6,8 @@ ghost use Rattle.parts_wheel.specs.Slots.{IsEarly, IsLeastLater, IsLone, AreSmal
 ghost use Rattle.parts_wheel.specs.Moves.{IsDue};
 
 use crate::bits::Bits;
-use crate::moves::{file, put, refile, take, take_lone};
-use crate::places::is_near;
+use crate::moves::{file, put, refile, take, take_from, take_lone};
+use crate::places::{is_near, list_for};
 use crate::walks::{NO_ITEM, Next, least_in, least_of_few, only_in};
 use parts_links::Links;
 use std::alloc::{AllocError, Global};
@@ -109,6 +109,18 @@ impl Slots {
         );
     }
 
+    /// The same, where the item falls due after the tick of the wheel.
+    #[inline(always)]
+    pub(crate) fn arm_later(&mut self, id: u32, due: Tick)
+        requires item { (id < length self.old.dues) × (due_of id self.old.dues ≡ None) }
+        requires later { self.old.base < due }
+        ensures { self.new ≡ record self.old { dues = slice_set self.old.dues id (Some due) } }
+    {
+        self.dues[id as usize] = Some(due);
+        let list = list_for(self.base, due.get());
+        put(&mut self.links, &mut self.occupied, list, id);
+    }
+
     /// The item, which is due then, is not armed afterwards.
     #[inline(always)]
     pub(crate) fn disarm(&mut self, id: u32, due: Tick)
@@ -121,6 +133,19 @@ impl Slots {
         } else {
             take(&mut self.links, &mut self.occupied, id);
         }
+    }
+
+    /// The same for an item that is due next, and stands in the lowest level.
+    #[inline(always)]
+    pub(crate) fn disarm_near(&mut self, id: u32, due: u64)
+        requires item { (id < length self.old.dues) × (due_of id self.old.dues ≡ Some due) }
+        requires next { IsLeastLater self.old.base self.old.dues due }
+        requires near { due / 2048 ≡ self.old.base / 2048 }
+        ensures dues { self.new ≡ record self.old { dues = slice_set self.old.dues id None } }
+        ensures later { self.old.base < due }
+    {
+        self.dues[id as usize] = None;
+        take_from(&mut self.links, &mut self.occupied, (due % 2048) as u32, id);
     }
 
     /// The item, which is due next, is not armed afterwards, and the wheel goes on to its tick.
@@ -214,19 +239,30 @@ impl Slots {
         is_near(self.base, tick)
     }
 
-    /// What is due next after the tick of the wheel.
+    /// What is due next after the tick of the wheel. None where that stands in no list of the lowest level.
+    #[inline(always)]
+    pub(crate) fn next_near(&self) -> Option<Next>
+        ensures { IfSome result (λ next. IsLeastLater self.now.base self.now.dues next.tick × IsLone self.now.dues next.tick next.lone) }
+    {
+        match self.occupied.lowest() {
+            // a list of the lowest level is for one tick
+            Some(list) if list < 2048 => Some(Next {
+                tick: self.base / 2048 * 2048 + list as u64,
+                lone: only_in(&self.links, list),
+            }),
+            _ => None,
+        }
+    }
+
+    /// The same, wherever it stands.
     #[inline(always)]
     pub(crate) fn least_later(&self) -> Next
         ensures later { IsLeastLater self.now.base self.now.dues result.tick }
         ensures lone { IsLone self.now.dues result.tick result.lone }
     {
-        match self.occupied.lowest() {
-            // a list of the lowest level is for one tick
-            Some(list) if list < 2048 => Next {
-                tick: self.base / 2048 * 2048 + list as u64,
-                lone: only_in(&self.links, list),
-            },
-            _ => self.least_far(),
+        match self.next_near() {
+            Some(next) => next,
+            None => self.least_far(),
         }
     }
 

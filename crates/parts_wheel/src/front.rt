@@ -1,0 +1,103 @@
+//! What is due first.
+ghost use Rattle.std.specs.Prelude.{◌≡◌, ◌≤◌, ◌<◌, ◌-◌, ◌*◌, ◌^◌, ℕ, None, Some, length, slice_set};
+ghost use Rattle.parts_wheel.specs.Dues.{due_of};
+ghost use Rattle.parts_wheel.specs.Slots.{Placed, IsLeastLater, IsLone, IsEarly, IsFront};
+
+use crate::slots::Slots;
+use crate::walks::{NO_ITEM, Next};
+
+/// What is due first.
+#[derive(Clone, Copy)]
+pub(crate) struct Front {
+    // the least due tick after that of the slots, or the last number where nothing is due later
+    pub(crate) least: u64,
+    // nothing is due before that tick
+    pub(crate) early: u64,
+    // the number of the item that alone is due then, and later than the slots' tick, or no item's
+    pub(crate) lone: u32,
+}
+
+impl Front {
+    /// Nothing is due.
+    pub(crate) fn open() -> Front
+        ensures { (result.least ≡ 2 ^ 64 - 1) × (result.early ≡ 2 ^ 64 - 1) × (result.lone ≡ 2 ^ 32 - 1) }
+    {
+        Front {
+            least: u64::MAX,
+            early: u64::MAX,
+            lone: NO_ITEM,
+        }
+    }
+
+    /// From what is due next after the tick of the slots, where nothing is due before `early`.
+    #[inline(always)]
+    pub(crate) fn of(slots: &Slots, next: Next, early: u64) -> Front
+        requires next { IsLeastLater slots.now.base slots.now.dues next.tick × IsLone slots.now.dues next.tick next.lone }
+        requires early { IsEarly slots.now.dues early }
+        ensures { IsFront slots.now result.least result.early result.lone }
+    {
+        if slots.none_passed() {
+            Front {
+                least: next.tick,
+                early: next.tick,
+                lone: next.lone,
+            }
+        } else {
+            Front {
+                least: next.tick,
+                early,
+                lone: NO_ITEM,
+            }
+        }
+    }
+
+    /// The slots are asked anew, in which nothing is due before it was.
+    #[inline(always)]
+    pub(crate) fn look(&mut self, slots: &Slots)
+        requires { IsEarly slots.now.dues self.old.early }
+        ensures { IsFront slots.now self.new.least self.new.early self.new.lone }
+    {
+        match slots.next_near() {
+            Some(next) => *self = Front::of(slots, next, self.early),
+            None => self.look_in_full(slots),
+        }
+    }
+
+    // The same, whatever is due next.
+    #[inline(never)]
+    fn look_in_full(&mut self, slots: &Slots)
+        requires { IsEarly slots.now.dues self.old.early }
+        ensures { IsFront slots.now self.new.least self.new.early self.new.lone }
+    {
+        *self = Front::of(slots, slots.least_later(), self.early);
+    }
+
+    /// Once an item that was not armed falls due at that tick, which is no later than that of the slots.
+    #[inline(always)]
+    pub(crate) fn with_passed(self, tick: u64) -> Front
+        ensures { (slots : Placed) → (id : ℕ) → tick ≤ slots.base → (id < length slots.dues) × (due_of id slots.dues ≡ None) → IsFront slots self.least self.early self.lone → IsFront (record slots { dues = slice_set slots.dues id (Some tick) }) result.least result.early result.lone }
+    {
+        let early = self.early.min(tick);
+        Front {
+            early,
+            lone: NO_ITEM,
+            ..self
+        }
+    }
+
+    /// Once an item that was not armed falls due at that tick, which is later than that of the slots.
+    #[inline(always)]
+    pub(crate) fn with_later(self, id: u32, tick: u64) -> Front
+        requires { tick ≤ 3 * 10 ^ 18 }
+        ensures { (slots : Placed) → slots.base < tick → (id < length slots.dues) × (due_of id slots.dues ≡ None) → IsFront slots self.least self.early self.lone → IsFront (record slots { dues = slice_set slots.dues id (Some tick) }) result.least result.early result.lone }
+    {
+        // no item's number where the tick is no later than the least
+        let kept = self.lone | (((tick <= self.least) as u32) << 31);
+        let lone = if tick < self.early { id } else { kept };
+        Front {
+            least: self.least.min(tick),
+            early: self.early.min(tick),
+            lone,
+        }
+    }
+}
