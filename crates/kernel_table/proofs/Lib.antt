@@ -15,3 +15,5 @@ pub mod Planning
 pub mod Runs
 pub mod LeftAlone
 pub mod SetTimes
+pub mod RealItems
+pub mod Passes

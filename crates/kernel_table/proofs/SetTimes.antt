@@ -1,5 +1,5 @@
 -- What a setting of CLOCK_REALTIME leaves of threads, timers and their ties.
-use Rattle.std.proofs.Common.{◌≡◌, ◌∙◌, ◌≤◌, ◌<◌, ◌≢◌, ℕ, zero, suc, List, [], ◌∷◌, Bool, true, false, None, Option, Some, ap, arith, inl, inr, length, refl, sym}
+use Rattle.std.proofs.Common.{◌≡◌, ◌∙◌, ◌≤◌, ◌<◌, ℕ, zero, suc, List, [], ◌∷◌, Bool, true, false, None, Option, Some, ap, arith, inl, inr, length, refl, sym}
 use Rattle.std.specs.Prelude.{nat_lt, option_and_then, slice_index_or, slice_set}
 use Rattle.std.specs.Option.{option_map}
 use Rattle.std.proofs.Math.Arith.{lt_of_le-ne}
@@ -144,7 +144,7 @@ timers_keep move (suc n) u table = timers_keep move n u table
 -- ---- what is then due
 
 -- of a thread or a timer that there is not
-beyond : {X : Type 0} (none : X) (xs : List X) (n : ℕ) → length xs ≤ n → slice_index_or xs n none ≡ none
+pub beyond : {X : Type 0} (none : X) (xs : List X) (n : ℕ) → length xs ≤ n → slice_index_or xs n none ≡ none
 beyond none [] n le = refl
 beyond none (x ∷ xs) zero le = absurd (omega arith)
 beyond none (x ∷ xs) (suc n) le = beyond none xs n (omega (arith, le))
@@ -179,7 +179,7 @@ due_then move None false = refl
 due_then move (Some due) true = refl
 due_then move (Some due) false = refl
 
-wait_then : (move : ℕ → ℕ) (s : Status) → real_due_in (status_moved move s) ≡ option_map move (real_due_in s)
+pub wait_then : (move : ℕ → ℕ) (s : Status) → real_due_in (status_moved move s) ≡ option_map move (real_due_in s)
 wait_then move (dormant at) = refl
 wait_then move runnable = refl
 wait_then move (blocked w) = due_then move w.due (waits_on_real w.call)

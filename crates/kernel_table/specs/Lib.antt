@@ -1,5 +1,7 @@
 pub mod Table
 pub mod Tied
+pub mod RareSets
+pub mod RealItems
 pub mod View
 pub mod Moves
 pub mod Opening

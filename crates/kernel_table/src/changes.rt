@@ -18,6 +18,7 @@ ghost use Rattle.kernel_table.specs.Movers.{KeepsPriorities, MovesPriority, Tell
 use crate::links::{reassign, reassign_changed, stands_nowhere, stop_waiting};
 use crate::movers::thread_of;
 use crate::plans::take_plan;
+use crate::real_items::drop_wait;
 use crate::table::Table;
 use crate::times::{end_sleep, retime_refill, time_refill, time_wait};
 use kernel_threads::{Ran, Refilled};
@@ -61,6 +62,7 @@ impl Table {
         let moved = stop_waiting(&mut self.chain, &mut self.waits, t);
         self.threads.get_mut(t).wake(res, value);
         time_wait(&mut self.wheel, t, None);
+        drop_wait(&mut self.real_waits, t);
         thread_of(moved)
     }
 
@@ -75,6 +77,7 @@ impl Table {
         stands_nowhere(&self.chain, &self.waits, t);
         self.threads.get_mut(t).wake(res, value);
         end_sleep(&mut self.wheel, t);
+        drop_wait(&mut self.real_waits, t);
     }
 
     /// Its priority is that one; of a sporadic thread the high priority. The answer is the one thread that stands among no waiters and

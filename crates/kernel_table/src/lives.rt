@@ -12,6 +12,7 @@ ghost use Rattle.kernel_table.specs.Movers.{MovesPriority, MovesPriorityBeside};
 
 use crate::links::{begin_waiting, reassign, stands_nowhere, stop_waiting};
 use crate::movers::{beside, thread_of};
+use crate::real_items::{drop_wait, keep_runner, keep_wait};
 use crate::table::Table;
 use crate::times::{retime, time_runner, time_wait};
 use kernel_threads::{Frame, Status, Waiting};
@@ -29,6 +30,7 @@ impl Table {
         let moved = stop_waiting(&mut self.chain, &mut self.waits, t);
         self.threads.get_mut(t).start(mask, now, main);
         retime(&self.threads, &mut self.wheel, t);
+        drop_wait(&mut self.real_waits, t);
         reassign(&self.threads, &mut self.chain, &mut self.waits, t);
         beside(t, thread_of(moved))
     }
@@ -43,6 +45,7 @@ impl Table {
         let moved = stop_waiting(&mut self.chain, &mut self.waits, t);
         self.threads.get_mut(t).end();
         retime(&self.threads, &mut self.wheel, t);
+        drop_wait(&mut self.real_waits, t);
         reassign(&self.threads, &mut self.chain, &mut self.waits, t);
         beside(t, thread_of(moved))
     }
@@ -61,6 +64,7 @@ impl Table {
         let moved = begin_waiting(&mut self.chain, &mut self.waits, t, &waiting);
         self.threads.get_mut(t).block(waiting);
         time_wait(&mut self.wheel, t, waiting.due);
+        keep_wait(&mut self.real_waits, t, &waiting);
         thread_of(moved)
     }
 
@@ -77,6 +81,7 @@ impl Table {
         self.threads.get_mut(t).block(waiting);
         let moved = begin_waiting(&mut self.chain, &mut self.waits, t, &waiting);
         time_runner(&mut self.wheel, t, waiting.due);
+        keep_runner(&mut self.real_waits, t, &waiting);
         thread_of(moved)
     }
 }

@@ -14,6 +14,7 @@ ghost use Rattle.kernel_table.specs.Movers.{KeepsExec, KeepsOthers, KeepsPriorit
 
 use crate::links::stop_waiting;
 use crate::movers::thread_of;
+use crate::real_items::drop_wait;
 use crate::table::Table;
 use crate::times::time_wait;
 use parts_waiters::WaitObj;
@@ -119,6 +120,7 @@ impl Table {
         self.chain.take(&mut self.waits, k, t);
         self.threads.get_mut(t).wake(res, value);
         time_wait(&mut self.wheel, t, None);
+        drop_wait(&mut self.real_waits, t);
         (thread_of(released), thread_of(woken))
     }
 

@@ -8,6 +8,7 @@ ghost use Rattle.kernel_table.specs.Opening.{AreAssigned, NoneWaits};
 ghost use Rattle.kernel_table.specs.Table as table;
 
 use crate::links::reassign;
+use crate::rare_set::RareSet;
 use crate::table::Table;
 use crate::times::time_all;
 use kernel_threads::Threads;
@@ -94,6 +95,8 @@ impl Table {
             waits,
             timers,
             wheel,
+            real_waits: RareSet::empty(),
+            real_expiries: RareSet::empty(),
         })
     }
 }

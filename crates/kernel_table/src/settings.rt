@@ -1,5 +1,5 @@
 //! CLOCK_REALTIME is set.
-ghost use Rattle.std.specs.Prelude.{◌≡◌, ◌<◌, ◌≤◌, ◌*◌, ◌^◌, ℕ, Some, length};
+ghost use Rattle.std.specs.Prelude.{◌≡◌, ◌<◌, ◌≤◌, ◌*◌, ◌^◌, ℕ, Some, is_some, length, true};
 ghost use Rattle.rules_machine.specs.Clock.{thread_moved, timer_moved};
 ghost use Rattle.rules_machine.specs.State as machine;
 ghost use Rattle.rules_machine.specs.Threads.{thread_in};
@@ -10,11 +10,10 @@ ghost use Rattle.kernel_table.specs.Table.{with_thread, with_timer};
 ghost use Rattle.kernel_table.specs.Movers.{KeepsPriorities};
 ghost use Rattle.kernel_table.specs.Settings.{EachModest, IsModest, TimersAreModest, WaitsAreModest, move_of, threads_moved, timer_real_due, timers_moved, times_moved};
 
-use crate::open::tid_of;
+use crate::real_items::real_due;
 use crate::table::Table;
 use crate::timers::reset;
 use crate::times::retime;
-use kernel_timers::Timer;
 use words_numbers::{ObjId, Tick, Tid};
 
 /// A setting of CLOCK_REALTIME: when, what the clock read before, and what it reads then.
@@ -36,26 +35,6 @@ impl Setting {
         let comes = due.get() + self.before;
         self.at
             .plus(comes.saturating_sub(self.at.get() + self.reading))
-    }
-}
-
-// When a timer expires next, where that is a time on its clock, which is CLOCK_REALTIME.
-fn real_due(timer: &Timer) -> Option<Tick>
-    ensures { result ≡ timer_real_due timer.now }
-{
-    match timer.due() {
-        Some(due) if timer.is_reading() => Some(due),
-        _ => None,
-    }
-}
-
-fn obj_of(number: u16) -> ObjId
-    requires { number < 256 }
-    ensures { result ≡ number }
-{
-    match ObjId::try_new(number) {
-        Some(k) => k,
-        None => unreachable!(),
     }
 }
 
@@ -82,20 +61,24 @@ impl Table {
         }
     }
 
+    // Only the threads that wait for such a time are looked at.
     fn move_waits(&mut self, set: &Setting)
         requires early { set.now.at ≤ 10 ^ 18 }
         requires reading { set.now.reading ≤ 10 ^ 18 }
         requires modest { WaitsAreModest set.now self.old }
         ensures { KeepsPriorities (threads_moved (move_of set.now) (length self.old.threads)) self.old self.new }
     {
-        for number in 0..self.count() {
-            self.move_wait(tid_of(number), set);
+        let mut from = 0;
+        while let Some(t) = self.first_real_wait(from) {
+            self.move_wait(t, set);
+            from = t.get() + 1;
         }
     }
 
-    // The next expiry of a timer is then.
+    // The next expiry of a timer, which is a time on the clock, is then.
     fn time_expiry(&mut self, k: ObjId, at: Tick)
-        requires { k < length self.old.timers }
+        requires known { k < length self.old.timers }
+        requires real { is_some (timer_real_due (timer_in self.old.timers k)) ≡ true }
         ensures { self.new ≡ with_timer k (λ (x : machine.Timer). record x { due = Some at }) self.old }
     {
         self.timers.set_due(k, at);
@@ -115,14 +98,17 @@ impl Table {
         }
     }
 
+    // Only the timers that expire at such a time are looked at.
     fn move_expiries(&mut self, set: &Setting)
         requires early { set.now.at ≤ 10 ^ 18 }
         requires reading { set.now.reading ≤ 10 ^ 18 }
         requires modest { TimersAreModest set.now self.old }
         ensures { self.new ≡ timers_moved (move_of set.now) (length self.old.timers) self.old }
     {
-        for number in 0..self.timer_count() as u16 {
-            self.move_expiry(obj_of(number), set);
+        let mut from = 0;
+        while let Some(k) = self.first_real_expiry(from) {
+            self.move_expiry(k, set);
+            from = k.get() + 1;
         }
     }
 

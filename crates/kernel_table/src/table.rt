@@ -1,6 +1,8 @@
-//! The threads, the chain of their claims, their places as waiters, the timers, and the wheel of what falls due of threads and timers.
+//! The threads, the chain of their claims, their places as waiters, the timers, the wheel of what falls due of threads and timers, and
+//! which of them hold a reading of CLOCK_REALTIME.
 ghost use Rattle.std.specs.Prelude.{◌≡◌, ◌<◌, ◌≤◌, length};
 
+use crate::rare_set::RareSet;
 use kernel_threads::Threads;
 use kernel_timers::Timers;
 use parts_owners::Chain;
@@ -16,6 +18,9 @@ pub struct Table {
     pub(crate) waits: Waits,
     pub(crate) timers: Timers,
     pub(crate) wheel: Wheel,
+    // the threads that wait, and the timers that expire next, when the clock reads a time
+    pub(crate) real_waits: RareSet,
+    pub(crate) real_expiries: RareSet,
 }
 
 impl Model for Table {

@@ -7,6 +7,7 @@ ghost use Rattle.kernel_table.specs.Table as table;
 ghost use Rattle.kernel_table.specs.Table.{with_timer};
 ghost use Rattle.kernel_table.specs.Tied.{expiring};
 
+use crate::real_items::{drop_expiry, keep_expiry};
 use crate::table::Table;
 use kernel_timers::{Timer, Timers};
 use parts_wheel::Wheel;
@@ -47,6 +48,7 @@ impl Table {
     {
         self.timers.settime(k, due, is_reading, interval);
         reset(&self.timers, &mut self.wheel, k);
+        keep_expiry(&self.timers, &mut self.real_expiries, k);
     }
 
     /// After an expiry now, at most at 10^18: the timer is due again after its interval, or disarmed where it has none.
@@ -57,6 +59,7 @@ impl Table {
     {
         self.timers.arm_again(k, now);
         reset(&self.timers, &mut self.wheel, k);
+        drop_expiry(&mut self.real_expiries, k);
     }
 
     /// The timer expired while its signal was pending. The count stops at 2,147,483,647.

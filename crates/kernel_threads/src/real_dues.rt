@@ -19,6 +19,7 @@ fn is_on_real(at: &Moment) -> bool
 }
 
 // Whether a call waits for a time on CLOCK_REALTIME.
+#[inline(always)]
 fn waits_on_real(call: &Call) -> bool
     ensures { result ≡ waits_on_real call.now }
 {
@@ -34,8 +35,9 @@ fn waits_on_real(call: &Call) -> bool
 }
 
 impl Waiting {
-    // When it ends by itself, where that is a time on CLOCK_REALTIME.
-    fn real_due(&self) -> Option<Tick>
+    /// When it ends by itself, where that is a time on CLOCK_REALTIME. Where it does not end by itself, its call is not looked at.
+    #[inline(always)]
+    pub fn real_due(&self) -> Option<Tick>
         ensures { result ≡ real_due (waiting_of self.now) }
     {
         match self.due {

@@ -5,6 +5,7 @@ use Rattle.kernel_table.proofs.Statuses.{activated_claim}
 use Rattle.kernel_table.proofs.Ties.{still_tied}
 use Rattle.kernel_table.proofs.ToldMoves.{claims_kept, table_with}
 use Rattle.kernel_table.proofs.Armed.{still_armed, activated_due}
+use Rattle.kernel_table.proofs.RealItems.{still_kept}
 use Rattle.kernel_table.proofs.table.Table.activate.Goals as goal
 
 pub invariant_of-self : goal.invariant_of-self
@@ -14,6 +15,9 @@ invariant_of-self c = record {
   armed = (let s = c.self.inside in
       rw (c.activate.ensures, c.get_mut.ensures.value)
       (still_armed s.threads s.timers s.wheel.dues c.args.t (with_server (activate c.args.now)) (λ th. activated_due c.args.now th.server) (λ th. refl) (λ th. refl) c.self.invariant.armed));
+  kept = (let s = c.self.inside in
+      rw (c.activate.ensures, c.get_mut.ensures.value)
+      (still_kept s.threads s.timers s.real_waits s.real_expiries c.args.t (with_server (activate c.args.now)) (λ th. refl) c.self.invariant.kept));
 }
 
 pub returns : goal.returns

@@ -7,6 +7,8 @@ use Rattle.kernel_table.proofs.Moved.{begun_tied}
 use Rattle.kernel_table.proofs.ToldMoves.{told}
 use Rattle.kernel_table.proofs.Armed.{armed_waiting}
 use Rattle.kernel_table.proofs.Runs.{runner_nowhere, runner_started, runner_untimed}
+use Rattle.kernel_table.specs.RealItems.{waits_for_reading}
+use Rattle.kernel_table.proofs.RealItems.{kept_after}
 use Rattle.kernel_table.proofs.table.Table.block_runner.Goals as goal
 
 pub stands_nowhere-requires-clause-nowhere : goal.stands_nowhere-requires-clause-nowhere
@@ -39,6 +41,9 @@ invariant_of-self c = record {
   armed = (let s = c.self.inside in
       let is = c.block.ensures ∙ ap (put_to_wait (waiting_of c.args.waiting)) c.get_mut.ensures.value in
       armed_waiting s.threads s.timers s.wheel.dues _ c.args.t c.block.new.self c.args.waiting.due c.self.invariant.tied.few (rw (← c.self.view_is) at c.requires.known) (ap refill_of is) (ap start_of is) (ap timeout_of is) c.time_runner.ensures c.self.invariant.armed);
+  kept = (let s = c.self.inside in
+      let is = c.block.ensures ∙ ap (put_to_wait (waiting_of c.args.waiting)) c.get_mut.ensures.value in
+      kept_after s.threads s.timers s.real_waits _ s.real_expiries c.args.t c.block.new.self _ (rw (← c.self.view_is) at c.requires.known) (ap waits_for_reading is) c.keep_runner.ensures c.self.invariant.kept);
 }
 
 pub returns : goal.returns

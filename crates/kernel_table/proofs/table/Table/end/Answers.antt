@@ -1,4 +1,4 @@
-use Rattle.std.proofs.Common.{None, ◌≡◌, ap, length, refl, slice_set, ◌∙◌, rules}
+use Rattle.std.proofs.Common.{false, None, ◌≡◌, ap, length, refl, slice_set, ◌∙◌, rules}
 use Rattle.rules_machine.specs.Lives.{without_life}
 use Rattle.kernel_table.proofs.Moved.{restated_tied}
 use Rattle.std.proofs.lemmas.List.{length-set}
@@ -6,6 +6,8 @@ use Rattle.rules_machine.proofs.Reading.{changed-length}
 use Rattle.parts_owners.specs.Chains.{Links, no_claim, waiting_for}
 use Rattle.kernel_table.proofs.ToldMoves.{awaits_nothing, told_beside}
 use Rattle.kernel_table.proofs.Armed.{armed_after}
+use Rattle.kernel_table.specs.RealItems.{waits_for_reading}
+use Rattle.kernel_table.proofs.RealItems.{kept_after}
 use Rattle.kernel_table.proofs.table.Table.end.Goals as goal
 
 pub invariant_of-self : goal.invariant_of-self
@@ -17,6 +19,10 @@ invariant_of-self c = record {
       (c.end.ensures ∙ ap f c.get_mut.ensures.value) refl c.stop_waiting-moved.ensures.links.chain c.stop_waiting-moved.ensures.links.waits c.reassign.ensures.links.chain c.reassign.ensures.links.waits c.self.invariant.tied);
   armed = (let s = c.self.inside in
       armed_after s.threads s.timers s.wheel.dues _ c.args.t c.end.new.self c.self.invariant.tied.few (rw (← c.self.view_is) at c.requires) c.retime.ensures c.self.invariant.armed);
+  kept = (let s = c.self.inside in
+      let f = without_life in
+      let is = c.end.ensures ∙ ap f c.get_mut.ensures.value in
+      kept_after s.threads s.timers s.real_waits _ s.real_expiries c.args.t c.end.new.self false (rw (← c.self.view_is) at c.requires) (ap waits_for_reading is) c.drop_wait.ensures c.self.invariant.kept);
 }
 
 pub returns : goal.returns

@@ -1,4 +1,4 @@
-use Rattle.std.proofs.Common.{List, None, ap, refl, subst, sym, ◌∙◌}
+use Rattle.std.proofs.Common.{false, List, None, ap, refl, subst, sym, ◌∙◌}
 use Rattle.std.specs.Prelude.{option_map}
 use Rattle.std.proofs.lemmas.List.{get_or-set_other}
 use Rattle.rules_machine.specs.Lists.{changed_at}
@@ -15,6 +15,8 @@ use Rattle.kernel_table.specs.Times.{refill_of, start_of, timeout_of}
 use Rattle.kernel_table.proofs.Moved.{moved_tied, mutex_tied, wait_set}
 use Rattle.kernel_table.proofs.ToldMoves.{handed_over, table_with, thread_alone, told}
 use Rattle.kernel_table.proofs.Armed.{armed_waiting}
+use Rattle.kernel_table.specs.RealItems.{waits_for_reading}
+use Rattle.kernel_table.proofs.RealItems.{kept_after}
 use Rattle.kernel_table.proofs.table.Table.hand_over.Goals.{After-thread_of-2}
 use Rattle.kernel_table.proofs.table.Table.hand_over.Goals as goal
 
@@ -59,6 +61,9 @@ invariant_of-self c = record {
   armed = (let s = c.self.inside in
       let is = c.wake.ensures ∙ ap (woken c.args.res c.args.value) c.get_mut.ensures.value in
       armed_waiting s.threads s.timers s.wheel.dues _ c.args.t c.wake.new.self None c.self.invariant.tied.few (rw (← c.self.view_is) at c.requires.known) (ap refill_of is) (ap start_of is) (ap timeout_of is) c.time_wait.ensures c.self.invariant.armed);
+  kept = (let s = c.self.inside in
+      let is = c.wake.ensures ∙ ap (woken c.args.res c.args.value) c.get_mut.ensures.value in
+      kept_after s.threads s.timers s.real_waits _ s.real_expiries c.args.t c.wake.new.self false (rw (← c.self.view_is) at c.requires.known) (ap waits_for_reading is) c.drop_wait.ensures c.self.invariant.kept);
 }
 
 pub returns-clause-table : goal.returns-clause-table

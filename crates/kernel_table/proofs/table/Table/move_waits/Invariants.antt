@@ -1,6 +1,10 @@
-use Rattle.kernel_table.specs.Movers.{KeepsPriorities}
-use Rattle.kernel_table.specs.Settings.{move_of, threads_moved}
+use Rattle.std.proofs.Common.{◌-◌}
+use Rattle.kernel_table.specs.Settings.{move_of}
+use Rattle.kernel_table.proofs.Passes.{MovedBelow}
 use Rattle.kernel_table.proofs.table.Table.move_waits.Given as goal
 
-abbrev pub invariant-loop-number : goal.invariant-loop-number
-invariant-loop-number l = KeepsPriorities (threads_moved (move_of l.set) l.number) l.initial.self l.self
+abbrev pub invariant-loop-t : goal.invariant-loop-t
+invariant-loop-t l = MovedBelow (move_of l.set) l.fn.self l.self l.from
+
+abbrev pub decreases-loop-t : goal.decreases-loop-t
+decreases-loop-t l = 256 - l.from

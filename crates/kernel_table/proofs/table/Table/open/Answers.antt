@@ -6,6 +6,7 @@ use Rattle.kernel_table.specs.Opening.{NoneWaits}
 use Rattle.kernel_table.proofs.Armed.{none_armed}
 use Rattle.kernel_table.proofs.Expiring.{all_disarmed, disarmed}
 use Rattle.kernel_table.proofs.Opening.{all_tied, none_waits}
+use Rattle.kernel_table.proofs.RealItems.{none_kept}
 use Rattle.kernel_table.proofs.table.Table.open.Goals as goal
 
 pub assign_all-requires-clause-none : goal.assign_all-requires-clause-none
@@ -20,6 +21,8 @@ invariant_of-result c = record {
       let none = subst (λ (ths : List (Thread Cursor)). NoneWaits ths) (sym c.in_ok-threads.ensures) (none_waits (threads_of c.args.script.now)) in
       all_tied c.in_ok-threads.threads _ c.assign_all.new.chain c.assign_all.new.waits few none c.assign_all.ensures);
   armed = rw c.in_ok-timers.ensures (disarmed c.in_ok-threads.threads _ c.time_all.new.wheel.dues c.requires.timers (all_disarmed c.args.script.now.decls) c.time_all.ensures);
+  kept = (let none = subst (λ (ths : List (Thread Cursor)). NoneWaits ths) (sym c.in_ok-threads.ensures) (none_waits (threads_of c.args.script.now)) in
+      rw c.in_ok-timers.ensures (none_kept c.in_ok-threads.threads _ _ _ none (all_disarmed c.args.script.now.decls) c.empty.ensures c.empty-2.ensures));
 }
 
 pub time_all-requires-clause-first : goal.time_all-requires-clause-first

@@ -12,6 +12,7 @@ use Rattle.kernel_table.proofs.Planning.{planned}
 use Rattle.std.proofs.lemmas.List.{get_or-set_same, length-set}
 use Rattle.kernel_table.proofs.ToldMoves.{claims_long, told}
 use Rattle.kernel_table.proofs.Armed.{armed_refilled}
+use Rattle.kernel_table.proofs.RealItems.{still_kept}
 use Rattle.kernel_table.proofs.table.Table.plan.Goals as goal
 
 pub invariant_of-self : goal.invariant_of-self
@@ -24,6 +25,9 @@ invariant_of-self c = record {
   armed = (let s = c.self.inside in
       let is = c.plan_next-planned.ensures.thread ∙ ap (with_server plan) c.get_mut.ensures.value in
       armed_refilled s.threads s.timers s.wheel.dues _ c.args.t c.plan_next-planned.new.self c.self.invariant.tied.few (rw (← c.self.view_is) at c.requires.known) (ap start_of is) (ap timeout_of is) c.take_plan-moved.ensures.dues c.self.invariant.armed);
+  kept = (let s = c.self.inside in
+      let is = c.plan_next-planned.ensures.thread ∙ ap (with_server plan) c.get_mut.ensures.value in
+      rw is (still_kept s.threads s.timers s.real_waits s.real_expiries c.args.t (with_server plan) (λ th. refl) c.self.invariant.kept));
 }
 
 pub take_plan-moved-requires-clause-can : goal.take_plan-moved-requires-clause-can

@@ -11,6 +11,7 @@ use Rattle.kernel_table.proofs.Moved.{reassigned_tied}
 use Rattle.std.proofs.lemmas.List.{get_or-set_same, length-set}
 use Rattle.kernel_table.proofs.ToldMoves.{claims_long, told}
 use Rattle.kernel_table.proofs.Armed.{armed_refilled}
+use Rattle.kernel_table.proofs.RealItems.{still_kept}
 use Rattle.kernel_table.proofs.table.Table.refill.Goals as goal
 use Rattle.kernel_table.proofs.table.Table.refill.Goals.{After-thread_of}
 
@@ -32,6 +33,9 @@ invariant_of-self c = record {
   armed = (let s = c.self.inside in
       let is = c.refill_oldest-next.ensures.thread ∙ ap (with_server refill) c.get_mut.ensures.value in
       armed_refilled s.threads s.timers s.wheel.dues _ c.args.t c.refill_oldest-next.new.self c.self.invariant.tied.few (rw (← c.self.view_is) at c.requires.known) (ap start_of is) (ap timeout_of is) (due_then c) c.self.invariant.armed);
+  kept = (let s = c.self.inside in
+      let is = c.refill_oldest-next.ensures.thread ∙ ap (with_server refill) c.get_mut.ensures.value in
+      rw is (still_kept s.threads s.timers s.real_waits s.real_expiries c.args.t (with_server refill) (λ th. refl) c.self.invariant.kept));
 }
 
 pub reassign_changed-moved-requires-clause-can : goal.reassign_changed-moved-requires-clause-can

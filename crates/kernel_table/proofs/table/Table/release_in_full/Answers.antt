@@ -10,4 +10,5 @@ invariant_of-self c =
     record {
       tied = mutex_tied s.threads s.chain c.release.new.self s.waits c.release.new.w (ap (λ (l : Links). l.claims) c.release.ensures.chain) (record { same = free.same; stand = free.placed.stand }) c.self.invariant.tied;
       armed = c.self.invariant.armed;
+      kept = c.self.invariant.kept;
     }

@@ -12,6 +12,8 @@ use Rattle.kernel_table.specs.Times.{refill_of, start_of, timeout_of}
 use Rattle.kernel_table.proofs.Charges.{run_past, runs_keep, stays_assigned}
 use Rattle.kernel_table.proofs.ToldMoves.{claims_long, told}
 use Rattle.kernel_table.proofs.Armed.{still_armed, charged_due}
+use Rattle.kernel_table.specs.RealItems.{waits_for_reading}
+use Rattle.kernel_table.proofs.RealItems.{still_kept}
 use Rattle.kernel_table.proofs.table.Table.run.Goals as goal
 
 pub invariant_of-self : goal.invariant_of-self
@@ -30,6 +32,8 @@ invariant_of-self g c =
           (λ th. runs_keep bodies refill_of (refill_of th) (λ x fs us. refl) (λ k x e. charged_due k x.server ∙ e) ran.units c.run-ran.result.ticks th refl)
           (λ th. runs_keep bodies start_of (start_of th) (λ x fs us. refl) (λ k x e. e) ran.units c.run-ran.result.ticks th refl)
           (λ th. runs_keep bodies timeout_of (timeout_of th) (λ x fs us. refl) (λ k x e. e) ran.units c.run-ran.result.ticks th refl) c.self.invariant.armed);
+      kept = rw is (still_kept s.threads s.timers s.real_waits s.real_expiries c.args.t f
+          (λ th. runs_keep bodies waits_for_reading (waits_for_reading th) (λ x fs us. refl) (λ k x e. e) ran.units c.run-ran.result.ticks th refl) c.self.invariant.kept);
     }
 
 pub reassign_changed-moved-requires-clause-can : goal.reassign_changed-moved-requires-clause-can

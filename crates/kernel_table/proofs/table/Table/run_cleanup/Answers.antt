@@ -6,6 +6,7 @@ use Rattle.rules_flat_code.specs.FlatBodies.{flat_bodies}
 use Rattle.kernel_table.proofs.Ties.{still_tied}
 use Rattle.kernel_table.proofs.ToldMoves.{claims_kept, table_with}
 use Rattle.kernel_table.proofs.Armed.{still_armed}
+use Rattle.kernel_table.proofs.RealItems.{still_kept}
 use Rattle.kernel_table.proofs.table.Table.run_cleanup.Goals as goal
 
 pub invariant_of-self : goal.invariant_of-self
@@ -15,6 +16,9 @@ invariant_of-self c = record {
   armed = (let s = c.self.inside in
       rw (c.run_cleanup.ensures, c.get_mut.ensures.value)
       (still_armed s.threads s.timers s.wheel.dues c.args.t (on_top (new_frame (flat_bodies c.args.code.now) frame.Cleanup (body_of.Cleanup c.args.u) 0)) (λ th. refl) (λ th. refl) (λ th. refl) c.self.invariant.armed));
+  kept = (let s = c.self.inside in
+      rw (c.run_cleanup.ensures, c.get_mut.ensures.value)
+      (still_kept s.threads s.timers s.real_waits s.real_expiries c.args.t (on_top (new_frame (flat_bodies c.args.code.now) frame.Cleanup (body_of.Cleanup c.args.u) 0)) (λ th. refl) c.self.invariant.kept));
 }
 
 pub returns : goal.returns

@@ -23,4 +23,5 @@ invariant_of-self c =
         };
       };
       armed = c.self.invariant.armed;
+      kept = c.self.invariant.kept;
     }

@@ -4,6 +4,7 @@ use Rattle.rules_machine.specs.State.{Thread}
 use Rattle.kernel_table.proofs.Ties.{still_tied}
 use Rattle.kernel_table.proofs.ToldMoves.{claims_kept, table_with}
 use Rattle.kernel_table.proofs.Armed.{still_armed}
+use Rattle.kernel_table.proofs.RealItems.{still_kept}
 use Rattle.kernel_table.proofs.table.Table.set_enabled.Goals as goal
 
 pub invariant_of-self : goal.invariant_of-self
@@ -13,6 +14,9 @@ invariant_of-self c = record {
   armed = (let s = c.self.inside in
       rw (c.set_enabled.ensures, c.get_mut.ensures.value)
       (still_armed s.threads s.timers s.wheel.dues c.args.t (λ (th : Thread Cursor). record th { is_enabled = c.args.on }) (λ th. refl) (λ th. refl) (λ th. refl) c.self.invariant.armed));
+  kept = (let s = c.self.inside in
+      rw (c.set_enabled.ensures, c.get_mut.ensures.value)
+      (still_kept s.threads s.timers s.real_waits s.real_expiries c.args.t (λ (th : Thread Cursor). record th { is_enabled = c.args.on }) (λ th. refl) c.self.invariant.kept));
 }
 
 pub returns : goal.returns

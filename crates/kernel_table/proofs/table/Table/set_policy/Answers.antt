@@ -6,6 +6,7 @@ use Rattle.kernel_table.proofs.Moved.{reassigned_tied}
 use Rattle.std.proofs.lemmas.List.{length-set}
 use Rattle.kernel_table.proofs.ToldMoves.{claims_long, told}
 use Rattle.kernel_table.proofs.Armed.{armed_refilled}
+use Rattle.kernel_table.proofs.RealItems.{still_kept}
 use Rattle.kernel_table.proofs.table.Table.set_policy.Goals as goal
 
 pub invariant_of-self : goal.invariant_of-self
@@ -18,6 +19,9 @@ invariant_of-self c = record {
   armed = (let s = c.self.inside in
       let is = c.set_policy.ensures ∙ ap (with_policy c.args.new c.args.now) c.get_mut.ensures.value in
       armed_refilled s.threads s.timers s.wheel.dues _ c.args.t c.set_policy.new.self c.self.invariant.tied.few (rw (← c.self.view_is) at c.requires.known) (ap start_of is) (ap timeout_of is) c.retime_refill.ensures c.self.invariant.armed);
+  kept = (let s = c.self.inside in
+      let is = c.set_policy.ensures ∙ ap (with_policy c.args.new c.args.now) c.get_mut.ensures.value in
+      rw is (still_kept s.threads s.timers s.real_waits s.real_expiries c.args.t (with_policy c.args.new c.args.now) (λ th. refl) c.self.invariant.kept));
 }
 
 pub reassign-requires-clause-can : goal.reassign-requires-clause-can

@@ -5,6 +5,7 @@ use Rattle.kernel_table.proofs.Ties.{placed}
 use Rattle.std.proofs.lemmas.List.{length-set}
 use Rattle.kernel_table.proofs.ToldMoves.{claims_long, told}
 use Rattle.kernel_table.proofs.Armed.{still_armed, raised_due}
+use Rattle.kernel_table.proofs.RealItems.{still_kept}
 use Rattle.kernel_table.proofs.table.Table.set_priority.Goals as goal
 
 pub invariant_of-self : goal.invariant_of-self
@@ -17,6 +18,9 @@ invariant_of-self c = record {
   armed = (let s = c.self.inside in
       rw (c.set_priority.ensures, c.get_mut.ensures.value)
       (still_armed s.threads s.timers s.wheel.dues c.args.t (with_priority c.args.p) (λ th. raised_due c.args.p th.server) (λ th. refl) (λ th. refl) c.self.invariant.armed));
+  kept = (let s = c.self.inside in
+      rw (c.set_priority.ensures, c.get_mut.ensures.value)
+      (still_kept s.threads s.timers s.real_waits s.real_expiries c.args.t (with_priority c.args.p) (λ th. refl) c.self.invariant.kept));
 }
 
 pub reassign-requires-clause-can : goal.reassign-requires-clause-can

@@ -1,4 +1,4 @@
-use Rattle.std.proofs.Common.{None, [], ◌∷◌, ◌≡◌, ap, length, refl, slice_set, ◌∙◌, rules}
+use Rattle.std.proofs.Common.{false, None, [], ◌∷◌, ◌≡◌, ap, length, refl, slice_set, ◌∙◌, rules}
 use Rattle.rules_bodies.specs.declared.cursor.Cursor.{Cursor}
 use Rattle.rules_machine.specs.Servers.{server_of}
 use Rattle.rules_machine.specs.State.{Thread, runnable}
@@ -8,6 +8,8 @@ use Rattle.rules_machine.proofs.Reading.{changed-length}
 use Rattle.parts_owners.specs.Chains.{Links, no_claim, waiting_for}
 use Rattle.kernel_table.proofs.ToldMoves.{awaits_nothing, told_beside}
 use Rattle.kernel_table.proofs.Armed.{armed_after}
+use Rattle.kernel_table.specs.RealItems.{waits_for_reading}
+use Rattle.kernel_table.proofs.RealItems.{kept_after}
 use Rattle.kernel_table.proofs.table.Table.start.Goals as goal
 
 pub invariant_of-self : goal.invariant_of-self
@@ -19,6 +21,10 @@ invariant_of-self c = record {
       (c.start.ensures ∙ ap f c.get_mut.ensures.value) refl c.stop_waiting-moved.ensures.links.chain c.stop_waiting-moved.ensures.links.waits c.reassign.ensures.links.chain c.reassign.ensures.links.waits c.self.invariant.tied);
   armed = (let s = c.self.inside in
       armed_after s.threads s.timers s.wheel.dues _ c.args.t c.start.new.self c.self.invariant.tied.few (rw (← c.self.view_is) at c.requires.known) c.retime.ensures c.self.invariant.armed);
+  kept = (let s = c.self.inside in
+      let f = λ (th : Thread Cursor). record th { status = runnable; slice = 0; mask = c.args.mask; frames = c.args.main ∷ []; server = server_of th.policy c.args.now } in
+      let is = c.start.ensures ∙ ap f c.get_mut.ensures.value in
+      kept_after s.threads s.timers s.real_waits _ s.real_expiries c.args.t c.start.new.self false (rw (← c.self.view_is) at c.requires.known) (ap waits_for_reading is) c.drop_wait.ensures c.self.invariant.kept);
 }
 
 pub returns : goal.returns

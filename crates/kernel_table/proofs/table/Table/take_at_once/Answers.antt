@@ -29,6 +29,7 @@ invariant_of-self c =
         };
       };
       armed = c.self.invariant.armed;
+      kept = c.self.invariant.kept;
     }
 
 pub take_at_once-requires-clause-placed : goal.take_at_once-requires-clause-placed

@@ -1,4 +1,4 @@
-use Rattle.std.proofs.Common.{None, ap, refl, slice_set, ◌∙◌, rules}
+use Rattle.std.proofs.Common.{false, None, ap, refl, slice_set, ◌∙◌, rules}
 use Rattle.rules_machine.specs.Waking.{woken}
 use Rattle.parts_owners.specs.Chains.{waiting_for}
 use Rattle.kernel_table.specs.Times.{refill_of, start_of, timeout_of}
@@ -6,6 +6,8 @@ use Rattle.kernel_table.proofs.Moved.{moved_tied, wait_set}
 use Rattle.std.proofs.lemmas.List.{length-set}
 use Rattle.kernel_table.proofs.ToldMoves.{told}
 use Rattle.kernel_table.proofs.Armed.{armed_waiting}
+use Rattle.kernel_table.specs.RealItems.{waits_for_reading}
+use Rattle.kernel_table.proofs.RealItems.{kept_after}
 use Rattle.kernel_table.proofs.table.Table.wake_in_full.Goals as goal
 
 pub invariant_of-self : goal.invariant_of-self
@@ -19,6 +21,9 @@ invariant_of-self c = record {
   armed = (let s = c.self.inside in
       let is = c.wake.ensures ∙ ap (woken c.args.res c.args.value) c.get_mut.ensures.value in
       armed_waiting s.threads s.timers s.wheel.dues _ c.args.t c.wake.new.self None c.self.invariant.tied.few (rw (← c.self.view_is) at c.requires) (ap refill_of is) (ap start_of is) (ap timeout_of is) c.time_wait.ensures c.self.invariant.armed);
+  kept = (let s = c.self.inside in
+      let is = c.wake.ensures ∙ ap (woken c.args.res c.args.value) c.get_mut.ensures.value in
+      kept_after s.threads s.timers s.real_waits _ s.real_expiries c.args.t c.wake.new.self false (rw (← c.self.view_is) at c.requires) (ap waits_for_reading is) c.drop_wait.ensures c.self.invariant.kept);
 }
 
 pub returns : goal.returns
