@@ -5,7 +5,7 @@ ghost use Rattle.parts_bits.specs.Sets.{HasNoneFrom, IsFirstFrom, Turns, has};
 use parts_bits::BitSet;
 use std::marker::Model;
 
-/// A set of numbers below 256, which is empty in most runs: that nothing goes out of it then is one comparison.
+/// A set of numbers below 256 that is empty in most runs: to take a number out of it is one comparison then.
 #[derive(Drop)]
 pub struct RareSet {
     numbers: BitSet,
@@ -54,7 +54,7 @@ impl RareSet {
         }
     }
 
-    // The same, where some number may be in it.
+    // Where it is not known to be empty.
     #[inline(never)]
     fn remove_in_full(&mut self, number: u16)
         requires { number < 256 }

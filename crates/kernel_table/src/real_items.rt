@@ -1,4 +1,4 @@
-//! The items that hold a reading of CLOCK_REALTIME, by their numbers.
+//! The threads and timers that hold a reading of CLOCK_REALTIME, by their numbers.
 ghost use Rattle.std.specs.Prelude.{◌≡◌, ◌<◌, IfSome, MatchOption, false, is_some, length};
 ghost use Rattle.kernel_threads.specs.Plain.{waiting_of};
 ghost use Rattle.kernel_threads.specs.RealDues.{real_due};
@@ -24,7 +24,7 @@ pub(crate) fn keep_wait(real_waits: &mut RareSet, t: Tid, waiting: &Waiting)
     real_waits.turn(t.get(), waiting.real_due().is_some());
 }
 
-/// The same of a thread that could run.
+/// The same of a thread that could run, and so is not in the set.
 #[inline(always)]
 pub(crate) fn keep_runner(real_waits: &mut RareSet, t: Tid, waiting: &Waiting)
     requires thread { t < 256 }
