@@ -5,4 +5,4 @@
 
 mod place;
 
-pub use place::{place_bytes, place_few, place_front, place_within, place_word};
+pub use place::{place_bytes, place_front, place_within, place_word};

@@ -60,20 +60,6 @@ pub fn place_word(buf: &mut [u8], at: usize, word: &[u8]) -> usize
     }
 }
 
-/// The first `len` bytes of a text, where 64 bytes can be read and written at once: by 32 or by 64.
-#[inline(always)]
-pub fn place_few(buf: &mut [u8], at: usize, text: &[u8], len: usize) -> usize
-    requires room { (64 ≤ length text.now) × (at + 64 ≤ length buf.old) }
-    requires few { len ≤ 64 }
-    ensures { Placed buf.old buf.new at (take len text.now) result }
-{
-    if len <= 32 {
-        place_within::<32>(buf, at, text, len)
-    } else {
-        place_within::<64>(buf, at, text, len)
-    }
-}
-
 /// Bytes, of which up to 64 are copied without a call.
 #[inline(always)]
 pub fn place_bytes(buf: &mut [u8], at: usize, bytes: &[u8]) -> usize

@@ -1,7 +1,8 @@
 //! Bytes that are held back, to be sent on together.
-ghost use Rattle.std.specs.Prelude.{◌≡◌, ◌≤◌, ◌++◌, [], drop, false, length, take, IfOk, IsTrue};
+ghost use Rattle.std.specs.Prelude.{◌≡◌, ◌≤◌, ◌++◌, [], drop, false, length, IfErr, IfOk, IsTrue};
 
-use parts_bytes::{place_bytes, place_few};
+use crate::{LINE_ROOM, Line};
+use parts_bytes::place_bytes;
 use std::alloc::{AllocError, Global};
 use std::marker::Model;
 
@@ -48,19 +49,18 @@ impl Held {
         true
     }
 
-    // Holds the first `len` bytes of a text too, where these are few and there is ample room behind the held ones, and
-    // answers whether it does.
+    // Holds a line too, which is made behind the held bytes. Where there is no room for any line it is given back.
     #[inline(always)]
-    pub(crate) fn put_front(&mut self, text: &[u8], len: usize) -> bool
-        requires { 64 ≤ length text.now }
-        ensures taken { IsTrue result → self.new ≡ self.old ++ take len text.now }
-        ensures kept { result ≡ false → self.new ≡ self.old }
+    pub(crate) fn put_line<L: Line>(&mut self, line: L) -> Result<(), L>
+        ensures taken { IfOk result (λ _. self.new ≡ self.old ++ L.bytes line) }
+        ensures short { IfOk result (λ _. length (L.bytes line) ≤ 256) }
+        ensures kept { IfErr result (λ back. (back ≡ line) × (self.new ≡ self.old)) }
     {
-        if len > 64 || self.end + 64 > self.bytes.len() {
-            return false;
+        if self.bytes.len() - self.end < LINE_ROOM {
+            return Err(line);
         }
-        self.end = place_few(self.bytes.as_mut_slice(), self.end, text, len);
-        true
+        self.end = line.place(self.bytes.as_mut_slice(), self.end);
+        Ok(())
     }
 
     // What is held.

@@ -7,10 +7,12 @@
 //!
 //! [`Source`] and [`Sink`] are the outside as the rest of the project sees it. A source and a sink in memory tell every
 //! byte, so that whole runs can be stated over them. The adapters over the readers and writers of std tell nothing of
-//! content and count their faults; the one over a writer has a buffer of its own, so that a short write is a copy.
+//! content and count their faults; the one over a writer has a buffer of its own, so that a short write is a copy, and a line
+//! is made in it.
 #![tactic(auto)]
 
 mod held;
+mod line;
 mod mem_sink;
 mod mem_source;
 mod null_sink;
@@ -18,6 +20,7 @@ mod outside;
 mod std_edge;
 mod whole;
 
+pub use line::{LINE_ROOM, Line};
 pub use mem_sink::MemSink;
 pub use mem_source::{MemSource, SureSource};
 pub use null_sink::NullSink;

@@ -1,10 +1,11 @@
 //! The outside as the project sees it.
-ghost use Rattle.std.specs.Prelude.{◌≡◌, ◌≤◌, List, ℕ, Option, None, IsTrue, MatchResult, false, length, take};
+ghost use Rattle.std.specs.Prelude.{◌≡◌, ◌≤◌, List, ℕ, Option, None, IsTrue, MatchResult, false, length};
 ghost use Rattle.std.specs.Io.{ReadsAtMost};
 ghost use Rattle.std.specs.Io.KnownBytes.{Appends, ReadConsumes};
 ghost use Rattle.parts_io.specs.Causes.{GrewBy, HasCause};
 ghost use Rattle.parts_io.specs.Bytes.{WritesAll};
 
+use crate::{LINE_ROOM, Line};
 use std::error::Error;
 use std::fmt;
 
@@ -64,18 +65,29 @@ pub trait Sink {
         ensures written { WritesAll (text self.old) (text self.new) result bytes.now }
         ensures cause { HasCause (faults self.old) (faults self.new) result };
 
-    /// Appends the first `len` bytes of `front` where a short copy is all that this takes, and answers whether it did.
-    ///
-    /// That never fails. Where it did not, nothing has changed, and they are still to be written.
+    /// Appends a line, as `write` appends its bytes.
     #[inline]
-    fn take_front(&mut self, front: &[u8], len: usize) -> bool
-        requires { 64 ≤ length front.now }
-        ensures taken { IsTrue result → Appends (text self.old) (text self.new) (take len front.now) }
+    fn write_line<L: Line>(&mut self, line: L) -> Result<(), Failed>
+        ensures written { WritesAll (text self.old) (text self.new) result (L.bytes line) }
+        ensures cause { HasCause (faults self.old) (faults self.new) result }
+        ensures short { length (L.bytes line) ≤ 256 }
+    {
+        let mut buf = [0; LINE_ROOM];
+        let len = line.place(&mut buf, 0);
+        self.write(&buf[..len])
+    }
+
+    /// Appends a line where it can be made at its place at once, and answers whether it did.
+    ///
+    /// That never fails. Where it did not, nothing has changed, and the line is still to be written.
+    #[inline]
+    fn take_line<L: Line + Drop>(&mut self, line: L) -> bool
+        ensures taken { IsTrue result → Appends (text self.old) (text self.new) (L.bytes line) }
+        ensures short { IsTrue result → length (L.bytes line) ≤ 256 }
         ensures kept { result ≡ false → self.new ≡ self.old }
         ensures no_fault { faults self.new ≡ faults self.old }
     {
-        let _ = front;
-        let _ = len;
+        let _ = line;
         false
     }
 

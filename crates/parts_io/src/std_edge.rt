@@ -6,7 +6,7 @@ ghost use Rattle.parts_io.specs.Causes.{HasCause};
 ghost use Rattle.parts_io.specs.Held.{with_held};
 
 use crate::held::Held;
-use crate::{Failed, Sink, Source};
+use crate::{Failed, LINE_ROOM, Line, Sink, Source};
 use std::alloc::{AllocError, Global};
 use std::io::{Read, Write};
 
@@ -129,6 +129,19 @@ impl<W: Write> StdSink<W> {
         Ok(())
     }
 
+    // Writes a line for which there is no room.
+    #[inline(never)]
+    fn write_line_behind<L: Line>(&mut self, line: L) -> Result<(), Failed>
+        ensures written { WritesAll (with_held (W.contents self.old.inner) self.old.held)
+            (with_held (W.contents self.new.inner) self.new.held) result (L.bytes line) }
+        ensures cause { HasCause self.old.faults self.new.faults result }
+        ensures short { length (L.bytes line) ≤ 256 }
+    {
+        let mut buf = [0; LINE_ROOM];
+        let len = line.place(&mut buf, 0);
+        self.write_behind(&buf[..len])
+    }
+
     // Counts a fault and answers it.
     fn fail(&mut self) -> Result<(), Failed>
         ensures failed { IsErr result }
@@ -171,9 +184,21 @@ impl<W: Write> Sink for StdSink<W> {
         self.write_behind(bytes)
     }
 
-    /// Holds them back, where there is room for 64 bytes and they are no more.
+    /// Holds the line back, as it is made, where there is room for any.
     #[inline(always)]
-    fn take_front(&mut self, front: &[u8], len: usize) -> bool {
-        self.held.put_front(front, len)
+    fn write_line<L: Line>(&mut self, line: L) -> Result<(), Failed> {
+        match self.held.put_line(line) {
+            Ok(()) => Ok(()),
+            Err(line) => self.write_line_behind(line),
+        }
+    }
+
+    /// Holds the line back, where there is room for any.
+    #[inline(always)]
+    fn take_line<L: Line + Drop>(&mut self, line: L) -> bool {
+        match self.held.put_line(line) {
+            Ok(()) => true,
+            Err(_) => false,
+        }
     }
 }

@@ -5,7 +5,8 @@
 #![tactic(auto)]
 
 mod call_name;
-mod head;
+mod common;
+mod hundred;
 mod line;
 mod names;
 mod place;

@@ -1,17 +1,14 @@
-//! The buffer of a line: words with one blank between them, and a line end.
-ghost use Rattle.std.specs.Prelude.{◌≡◌, ◌≤◌, ◌<◌, [], length, take, IsTrue};
+//! The lines of a trace, which are made where they are to stand.
+ghost use Rattle.std.specs.Prelude.{◌≡◌, ◌≤◌, ◌<◌, length};
 ghost use Rattle.words_trace.specs.Text.{IsNamed, line, report_line};
-ghost use Rattle.parts_tracer.specs.ShortLines.{AreWhole};
 
 use crate::Names;
-use crate::head::{HEAD, NO_HUNDRED, place_near, place_time};
-use crate::words::{place_common, place_event, place_report};
+use crate::hundred::Hundred;
+use crate::words::{place_event, place_report};
+use parts_io::{LINE_ROOM, Line};
 use std::marker::Model;
-use words_numbers::{Res, Tick, Tid};
+use words_numbers::{Tick, Tid};
 use words_trace::{Event, Report};
-
-// How long the buffer of a line is.
-const ROOM: usize = 256;
 
 /// How long the line of an event is, in bytes: at most 256, whatever its names and numbers.
 pub fn line_len(now: Tick, e: &Event, names: &Names) -> usize
@@ -19,109 +16,97 @@ pub fn line_len(now: Tick, e: &Event, names: &Names) -> usize
     ensures length { result ≡ length (line names.now now e.now) }
     ensures short { result ≤ 256 }
 {
-    let mut line = LineBuffer::new();
-    line.set_event(now, e, names);
-    line.len()
+    let hundred = Hundred::new();
+    let mut buf = [0; LINE_ROOM];
+    EventLine::new(&hundred, now, e, names).place(&mut buf, 0)
 }
 
-// A buffer of 256 bytes, whose line stands from `start` to `end`. It is seen as the bytes of the line.
+/// The line of an event. It is seen as its bytes.
 #[derive(Drop)]
-pub struct LineBuffer {
-    text: [u8; ROOM],
-    start: usize,
-    end: usize,
-    // the first of the hundred instants whose digits stand from `start`, all but the last two, so that instants that are near share them
-    hundred: u64,
+pub(crate) struct EventLine<'a> {
+    hundred: &'a Hundred,
+    time: Tick,
+    event: &'a Event,
+    names: &'a Names,
 }
 
-impl Model for LineBuffer {
-    ghost use Rattle.std.specs.Prelude.{List, ℕ, ◌≤◌, ◌<◌, ◌^◌, slice_range};
-    ghost use Rattle.parts_tracer.specs.Placed.{SharesDigits};
+impl<'a> Model for EventLine<'a> {
+    ghost use Rattle.std.specs.Prelude.{List, ℕ};
+    ghost use Rattle.words_trace.specs.Text.{IsNamed, line};
 
     ghost Value = { List ℕ };
 
-    ghost view = { λ l. slice_range l.text l.start l.end };
+    ghost view = { λ l. line l.names.now l.time l.event.now };
 
-    ghost invariant = { λ l. (l.start ≤ 20) × (20 ≤ l.end) × (l.end ≤ 256)
-        × (l.hundred ≤ 2 ^ 63) × (l.hundred < 2 ^ 63 → SharesDigits l.text l.start l.hundred) };
+    ghost invariant = { λ l. IsNamed l.names.now l.event.now };
 }
 
-impl LineBuffer {
-    pub(crate) fn new() -> LineBuffer
-        ensures { result ≡ [] }
+impl<'a> EventLine<'a> {
+    /// The line of an event at a time. Whichever the hundred is, the line is the same.
+    pub(crate) fn new(
+        hundred: &'a Hundred,
+        time: Tick,
+        event: &'a Event,
+        names: &'a Names,
+    ) -> EventLine<'a>
+        requires { IsNamed names.now event.now }
+        ensures { result ≡ line names.now time event.now }
     {
-        LineBuffer {
-            text: [0; ROOM],
-            start: HEAD,
-            end: HEAD,
-            hundred: NO_HUNDRED,
+        EventLine {
+            hundred,
+            time,
+            event,
+            names,
         }
     }
+}
 
-    // Becomes the line of an event, where it is one of the commonest and its time shares digits with the one before, and answers whether it does.
-    #[inline(always)]
-    pub(crate) fn set_common(&mut self, now: Tick, e: &Event, names: &Names) -> bool
-        requires { IsNamed names.now e.now }
-        ensures value { IsTrue result → self.new ≡ line names.now now e.now }
-        ensures whole { IsTrue result → AreWhole self.new }
+impl<'a> Line for EventLine<'a> {
+    ghost bytes = { λ l. l };
+
+    fn place(self, buf: &mut [u8], at: usize) -> usize {
+        let at = self.hundred.place(buf, at, self.time.get());
+        place_event(buf, at, self.event, self.names)
+    }
+}
+
+/// The closing line of a thread. It is seen as its bytes.
+#[derive(Drop)]
+pub(crate) struct ReportLine<'a> {
+    thread: Tid,
+    report: &'a Report,
+    names: &'a Names,
+}
+
+impl<'a> Model for ReportLine<'a> {
+    ghost use Rattle.std.specs.Prelude.{List, ℕ, ◌<◌, length};
+    ghost use Rattle.words_trace.specs.Text.{report_line};
+
+    ghost Value = { List ℕ };
+
+    ghost view = { λ l. report_line l.names.now l.thread l.report.now };
+
+    ghost invariant = { λ l. l.thread < length l.names.now };
+}
+
+impl<'a> ReportLine<'a> {
+    /// The closing line of a thread.
+    pub(crate) fn new(thread: Tid, report: &'a Report, names: &'a Names) -> ReportLine<'a>
+        requires { thread < length names.now }
+        ensures { result ≡ report_line names.now thread report.now }
     {
-        if !place_near(&mut self.text, self.hundred, now.get()) {
-            return false;
+        ReportLine {
+            thread,
+            report,
+            names,
         }
-        match place_common(&mut self.text, e, names) {
-            Some(end) => {
-                self.end = end;
-                true
-            }
-            None => false,
-        }
     }
+}
 
-    // Becomes the line of an event.
-    pub(crate) fn set_event(&mut self, now: Tick, e: &Event, names: &Names)
-        requires { IsNamed names.now e.now }
-        ensures value { self.new ≡ line names.now now e.now }
-        ensures whole { AreWhole self.new }
-    {
-        place_time(
-            &mut self.text,
-            &mut self.start,
-            &mut self.hundred,
-            now.get(),
-        );
-        self.end = place_event(&mut self.text, e, names);
-    }
+impl<'a> Line for ReportLine<'a> {
+    ghost bytes = { λ l. l };
 
-    // Becomes the closing line of a thread.
-    pub(crate) fn set_report(&mut self, t: Tid, report: &Report, names: &Names)
-        requires { t < length names.now }
-        ensures value { self.new ≡ report_line names.now t report.now }
-        ensures whole { AreWhole self.new }
-    {
-        self.start = HEAD;
-        self.hundred = NO_HUNDRED;
-        self.end = place_report(&mut self.text, t, report, names);
-    }
-
-    fn len(&self) -> usize
-        ensures value { result ≡ length self.now }
-        ensures fits { result ≤ 256 }
-    {
-        self.end - self.start
-    }
-
-    pub(crate) fn bytes(&self) -> &[u8]
-        ensures { result.now ≡ self.now }
-    {
-        &self.text[self.start..self.end]
-    }
-
-    // The buffer from the start of the line on, and how long the line is.
-    #[inline(always)]
-    pub(crate) fn front(&self) -> (&[u8], usize)
-        ensures line { take result.1 result.0.now ≡ self.now }
-        ensures room { 64 ≤ length result.0.now }
-    {
-        (&self.text[self.start..], self.end - self.start)
+    fn place(self, buf: &mut [u8], at: usize) -> usize {
+        place_report(buf, at, self.thread, self.report, self.names)
     }
 }

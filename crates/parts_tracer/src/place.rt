@@ -64,9 +64,9 @@ fn pair(n: u64) -> &'static [u8; 2]
     &PAIRS[n as usize]
 }
 
-// The digits of a number.
+/// The digits of a number.
 #[inline(never)]
-fn place_digits(buf: &mut [u8], at: usize, n: u64) -> usize
+pub(crate) fn place_digits(buf: &mut [u8], at: usize, n: u64) -> usize
     requires { at + 20 ≤ length buf.old }
     ensures placed { Placed buf.old buf.new at (decimal n) result }
     ensures within { result ≤ at + 20 }

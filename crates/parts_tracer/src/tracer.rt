@@ -1,13 +1,16 @@
 //! A tracer prints the lines of a run, one write a line.
-ghost use Rattle.std.specs.Prelude.{◌≡◌, ◌<◌, ◌∷◌, [], None, IsTrue, false, length};
+ghost use Rattle.std.specs.Prelude.{◌≡◌, ◌<◌, ◌≤◌, ◌∷◌, [], None, IsTrue, false, length};
 ghost use Rattle.words_trace.specs.Text.{IsNamed, line, report_line};
+ghost use Rattle.parts_tracer.specs.Printed.{Printed, outlet};
 ghost use Rattle.parts_tracer.specs.Prints.{Prints};
 ghost use Rattle.parts_tracer.specs.ShortLines.{AreWhole};
 ghost use Rattle.parts_tracer.specs.Tells.{Tells};
 
 use crate::Names;
-use crate::line::LineBuffer;
-use parts_io::Sink;
+use crate::common::take_common;
+use crate::hundred::Hundred;
+use crate::line::{EventLine, ReportLine};
+use parts_io::{Line, Sink};
 use words_numbers::{Tick, Tid};
 use words_trace::{Event, Report};
 
@@ -16,7 +19,7 @@ use words_trace::{Event, Report};
 pub struct Tracer<'a, K> {
     sink: &'a mut K,
     failed: bool,
-    line: LineBuffer,
+    hundred: Hundred,
 }
 
 impl<'a, K: Sink> Tracer<'a, K> {
@@ -29,7 +32,7 @@ impl<'a, K: Sink> Tracer<'a, K> {
         Tracer {
             sink,
             failed: false,
-            line: LineBuffer::new(),
+            hundred: Hundred::new(),
         }
     }
 
@@ -38,21 +41,6 @@ impl<'a, K: Sink> Tracer<'a, K> {
         ensures { result ≡ self.now.failed }
     {
         self.failed
-    }
-
-    // Writes the line at once, unless a write has failed.
-    #[inline(never)]
-    fn write_line(&mut self)
-        requires { AreWhole self.old.line }
-        ensures { Prints K.text K.faults self.old self.new self.old.line }
-    {
-        if self.failed {
-            return;
-        }
-        match self.sink.write(self.line.bytes()) {
-            Ok(()) => {}
-            Err(_) => self.failed = true,
-        }
     }
 
     // Whether nobody hears what is written.
@@ -72,23 +60,20 @@ impl<'a, K: Sink> Tracer<'a, K> {
         if self.is_unheard() {
             return;
         }
-        if self.failed || !self.line.set_common(now, e, names) {
-            return self.put_any(now, e, names);
-        }
-        let (front, len) = self.line.front();
-        if !self.sink.take_front(front, len) {
-            self.write_line();
+        if self.failed || !take_common(self.sink, &self.hundred, now, e, names) {
+            self.put_in_full(now, e, names);
         }
     }
 
     // Prints the line of any event, by one write.
     #[inline(never)]
-    fn put_any(&mut self, now: Tick, e: &Event, names: &Names)
+    fn put_in_full(&mut self, now: Tick, e: &Event, names: &Names)
         requires { IsNamed names.now e.now }
         ensures { Prints K.text K.faults self.old self.new (line names.now now e.now) }
     {
-        self.line.set_event(now, e, names);
-        self.write_line();
+        self.hundred.turn_to(now.get());
+        let line = EventLine::new(&self.hundred, now, e, names);
+        print(self.sink, &mut self.failed, line);
     }
 
     /// Prints the closing line of a thread, by one write.
@@ -96,7 +81,25 @@ impl<'a, K: Sink> Tracer<'a, K> {
         requires { t < length names.now }
         ensures { Prints K.text K.faults self.old self.new (report_line names.now t report.now) }
     {
-        self.line.set_report(t, report, names);
-        self.write_line();
+        print(
+            self.sink,
+            &mut self.failed,
+            ReportLine::new(t, report, names),
+        );
+    }
+}
+
+// Writes a line, unless a write has failed.
+#[inline(always)]
+fn print<K: Sink, L: Line + Drop>(sink: &mut K, failed: &mut bool, line: L)
+    requires whole { length (L.bytes line) ≤ 256 → AreWhole (L.bytes line) }
+    ensures { Printed (outlet K.text K.faults failed.old sink.old) (outlet K.text K.faults failed.new sink.new) (L.bytes line) }
+{
+    if *failed {
+        return;
+    }
+    match sink.write_line(line) {
+        Ok(()) => {}
+        Err(_) => *failed = true,
     }
 }

@@ -1,4 +1,4 @@
-//! The words of events and reports, which stand behind the head of a line.
+//! The words of events, which stand behind their times, and of reports.
 ghost use Rattle.std.specs.Prelude.{◌≡◌, ◌≤◌, ◌<◌, ◌+◌, ◌++◌, ◌∷◌, [], length, codes, decimal, IfSome, None, Some};
 ghost use Rattle.words_trace.specs.Text.{IsNamed, budget_words, event_words, name_at, report_line, signal_name};
 ghost use Rattle.parts_bytes.specs.Placed.{Placed};
@@ -7,148 +7,137 @@ ghost use Rattle.words_trace.specs.Calls.{call_word};
 
 use crate::Names;
 use crate::call_name::place_call_text;
-use crate::head::HEAD;
 use crate::place::{place_byte, place_number};
 use itoa::Buffer;
 use parts_bytes::place_word;
 use words_numbers::{Res, Tid};
 use words_trace::{BudgetView, CallName, Event, Report};
 
-/// Puts the words of an event and the line end behind the head, where it is one of the commonest.
+/// Puts the whole of a call that succeeded, with no value to tell.
 #[inline(always)]
-pub(crate) fn place_common(text: &mut [u8], e: &Event, names: &Names) -> Option<usize>
-    requires room { length text.old ≡ 256 }
-    requires named { IsNamed names.now e.now }
-    ensures placed { IfSome result (λ end.
-        Placed text.old text.new 20 (words_behind (event_words names.now e.now)) end × (end ≤ 256)) }
-    ensures kept { result ≡ None → text.new ≡ text.old }
-{
-    if let Event::Return(t, call, res, value) = e {
-        return match res {
-            Res::Zero if *value == 0 => Some(place_success(text, names, *t, *call)),
-            _ => None,
-        };
-    }
-    if let Event::Dispatch(t, prio) = e {
-        let level = prio.get() as u64;
-        if level < 100 {
-            return Some(place_with_number(text, b" dispatch ", names, *t, level));
-        }
-    }
-    None
-}
-
-// Puts the whole of a call that succeeded, with no value to tell, behind the head.
-#[inline(always)]
-fn place_success(text: &mut [u8], names: &Names, t: Tid, call: CallName) -> usize
-    requires room { length text.old ≡ 256 }
+pub(crate) fn place_success(
+    text: &mut [u8],
+    at: usize,
+    names: &Names,
+    t: Tid,
+    call: CallName,
+) -> usize
+    requires room { at + 236 ≤ length text.old }
     requires named { t < length names.now }
-    ensures placed { Placed text.old text.new 20
+    ensures placed { Placed text.old text.new at
         (codes " return " ++ (name_at names.now t ++ 32 ∷ (call_word call ++ codes " 0 0\n"))) result }
-    ensures within { result ≤ 84 }
+    ensures within { result ≤ at + 64 }
 {
-    let at = place_call(text, names, t, call);
+    let at = place_call(text, at, names, t, call);
     place_word(text, at, b" 0 0\n")
 }
 
-// Puts that a call returned behind the head, and the names of its thread and of itself.
+// Puts that a call returned, and the names of its thread and of itself.
 #[inline(always)]
-fn place_call(text: &mut [u8], names: &Names, t: Tid, call: CallName) -> usize
-    requires room { length text.old ≡ 256 }
+fn place_call(text: &mut [u8], at: usize, names: &Names, t: Tid, call: CallName) -> usize
+    requires room { at + 236 ≤ length text.old }
     requires named { t < length names.now }
-    ensures placed { Placed text.old text.new 20
+    ensures placed { Placed text.old text.new at
         (codes " return " ++ (name_at names.now t ++ 32 ∷ call_word call)) result }
-    ensures within { result ≤ 79 }
+    ensures within { result ≤ at + 59 }
 {
-    let at = place_of_thread(text, b" return ", names, t);
+    let at = place_of_thread(text, at, b" return ", names, t);
     let at = place_byte(text, at, b' ');
     place_call_text(call, text, at)
 }
 
-/// Puts the words of an event and the line end behind the head.
-pub(crate) fn place_event(text: &mut [u8], e: &Event, names: &Names) -> usize
-    requires room { length text.old ≡ 256 }
+/// Puts the words of an event and the line end.
+pub(crate) fn place_event(text: &mut [u8], at: usize, e: &Event, names: &Names) -> usize
+    requires room { at + 236 ≤ length text.old }
     requires named { IsNamed names.now e.now }
-    ensures placed { Placed text.old text.new 20 (words_behind (event_words names.now e.now)) result }
-    ensures within { result ≤ 256 }
+    ensures placed { Placed text.old text.new at (words_behind (event_words names.now e.now)) result }
+    ensures within { result ≤ at + 236 }
 {
     match e {
         Event::Dispatch(t, prio) => {
-            place_with_number(text, b" dispatch ", names, *t, prio.get() as u64)
+            place_with_number(text, at, b" dispatch ", names, *t, prio.get() as u64)
         }
-        Event::Idle => place_word(text, HEAD, b" idle\n"),
-        Event::Start(t) => place_alone(text, b" start ", names, *t),
+        Event::Idle => place_word(text, at, b" idle\n"),
+        Event::Start(t) => place_alone(text, at, b" start ", names, *t),
         Event::Return(t, call, res, value) => {
-            let at = place_call(text, names, *t, *call);
+            let at = place_call(text, at, names, *t, *call);
             place_outcome(text, at, res.text(), *value)
         }
         Event::Deliver(t, sig, code, value) => {
-            let at = place_of_thread(text, b" deliver ", names, *t);
+            let at = place_of_thread(text, at, b" deliver ", names, *t);
             let at = place_signal(text, at, *sig);
             place_outcome(text, at, code.text(), *value)
         }
         Event::Activate(t, capacity) => {
-            place_with_number(text, b" activate ", names, *t, *capacity)
+            place_with_number(text, at, b" activate ", names, *t, *capacity)
         }
-        Event::Exhaust(t) => place_alone(text, b" exhaust ", names, *t),
+        Event::Exhaust(t) => place_alone(text, at, b" exhaust ", names, *t),
         Event::Plan(t, amount, due) => {
-            place_with_numbers(text, b" plan ", names, *t, *amount, due.get())
+            place_with_numbers(text, at, b" plan ", names, *t, *amount, due.get())
         }
         Event::Refill(t, amount, capacity) => {
-            place_with_numbers(text, b" refill ", names, *t, *amount, *capacity)
+            place_with_numbers(text, at, b" refill ", names, *t, *amount, *capacity)
         }
-        Event::Cancel(t) => place_alone(text, b" cancel ", names, *t),
-        Event::Exit(t) => place_alone(text, b" exit ", names, *t),
-        Event::Killed(sig) => place_killed(text, *sig),
-        Event::End => place_word(text, HEAD, b" end\n"),
+        Event::Cancel(t) => place_alone(text, at, b" cancel ", names, *t),
+        Event::Exit(t) => place_alone(text, at, b" exit ", names, *t),
+        Event::Killed(sig) => place_killed(text, at, *sig),
+        Event::End => place_word(text, at, b" end\n"),
     }
 }
 
-// Puts the whole of an event that only has a thread behind the head.
+// Puts the whole of an event that only has a thread.
 #[inline(always)]
-fn place_alone(text: &mut [u8], what: &[u8], names: &Names, t: Tid) -> usize
-    requires room { length text.old ≡ 256 }
+fn place_alone(text: &mut [u8], at: usize, what: &[u8], names: &Names, t: Tid) -> usize
+    requires room { at + 236 ≤ length text.old }
     requires short { length what.now ≤ 10 }
     requires named { t < length names.now }
-    ensures placed { Placed text.old text.new 20 (what.now ++ (name_at names.now t ++ 10 ∷ [])) result }
-    ensures within { result ≤ 63 }
+    ensures placed { Placed text.old text.new at (what.now ++ (name_at names.now t ++ 10 ∷ [])) result }
+    ensures within { result ≤ at + 43 }
 {
-    let at = place_of_thread(text, what, names, t);
+    let at = place_of_thread(text, at, what, names, t);
     place_byte(text, at, b'\n')
 }
 
-// Puts the whole of an event that has a thread and a number behind the head.
+/// Puts the whole of an event that has a thread and a number.
 #[inline(always)]
-fn place_with_number(text: &mut [u8], what: &[u8], names: &Names, t: Tid, n: u64) -> usize
-    requires room { length text.old ≡ 256 }
+pub(crate) fn place_with_number(
+    text: &mut [u8],
+    at: usize,
+    what: &[u8],
+    names: &Names,
+    t: Tid,
+    n: u64,
+) -> usize
+    requires room { at + 236 ≤ length text.old }
     requires short { length what.now ≤ 10 }
     requires named { t < length names.now }
-    ensures placed { Placed text.old text.new 20
+    ensures placed { Placed text.old text.new at
         (what.now ++ (name_at names.now t ++ 32 ∷ decimal n ++ 10 ∷ [])) result }
-    ensures within { result ≤ 84 }
+    ensures within { result ≤ at + 64 }
 {
-    let at = place_of_thread(text, what, names, t);
+    let at = place_of_thread(text, at, what, names, t);
     let at = place_number(text, at, n);
     place_byte(text, at, b'\n')
 }
 
-// Puts the whole of an event that has a thread and two numbers behind the head.
+// Puts the whole of an event that has a thread and two numbers.
 fn place_with_numbers(
     text: &mut [u8],
+    at: usize,
     what: &[u8],
     names: &Names,
     t: Tid,
     first: u64,
     second: u64,
 ) -> usize
-    requires room { length text.old ≡ 256 }
+    requires room { at + 236 ≤ length text.old }
     requires short { length what.now ≤ 10 }
     requires named { t < length names.now }
-    ensures placed { Placed text.old text.new 20
+    ensures placed { Placed text.old text.new at
         (what.now ++ (name_at names.now t ++ 32 ∷ decimal first ++ 32 ∷ decimal second ++ 10 ∷ [])) result }
-    ensures within { result ≤ 105 }
+    ensures within { result ≤ at + 85 }
 {
-    let at = place_of_thread(text, what, names, t);
+    let at = place_of_thread(text, at, what, names, t);
     let at = place_number(text, at, first);
     let at = place_number(text, at, second);
     place_byte(text, at, b'\n')
@@ -167,27 +156,27 @@ fn place_outcome(text: &mut [u8], at: usize, word: &str, value: u64) -> usize
     place_byte(text, at, b'\n')
 }
 
-// Puts what happens behind the head, and the name of the thread to which it happens.
+// Puts what happens, and the name of the thread to which it happens.
 #[inline(always)]
-fn place_of_thread(text: &mut [u8], what: &[u8], names: &Names, t: Tid) -> usize
-    requires room { length text.old ≡ 256 }
+fn place_of_thread(text: &mut [u8], at: usize, what: &[u8], names: &Names, t: Tid) -> usize
+    requires room { at + 236 ≤ length text.old }
     requires short { length what.now ≤ 10 }
     requires named { t < length names.now }
-    ensures placed { Placed text.old text.new 20 (what.now ++ name_at names.now t) result }
-    ensures within { result ≤ 62 }
+    ensures placed { Placed text.old text.new at (what.now ++ name_at names.now t) result }
+    ensures within { result ≤ at + 42 }
 {
-    let at = place_word(text, HEAD, what);
+    let at = place_word(text, at, what);
     names.name(t).place(text, at)
 }
 
-// Puts the whole of the event that a signal ended the process behind the head.
+// Puts the whole of the event that a signal ended the process.
 #[inline(never)]
-fn place_killed(text: &mut [u8], sig: u8) -> usize
-    requires { length text.old ≡ 256 }
-    ensures placed { Placed text.old text.new 20 (words_behind (codes "killed" ∷ signal_name sig ∷ [])) result }
-    ensures within { result ≤ 256 }
+fn place_killed(text: &mut [u8], at: usize, sig: u8) -> usize
+    requires { at + 236 ≤ length text.old }
+    ensures placed { Placed text.old text.new at (words_behind (codes "killed" ∷ signal_name sig ∷ [])) result }
+    ensures within { result ≤ at + 236 }
 {
-    let at = place_word(text, HEAD, b" killed");
+    let at = place_word(text, at, b" killed");
     let at = place_signal(text, at, sig);
     place_byte(text, at, b'\n')
 }
@@ -203,14 +192,20 @@ fn place_signal(text: &mut [u8], at: usize, sig: u8) -> usize
     place_word(text, at, Buffer::new().format(sig).as_bytes())
 }
 
-/// Puts the closing line of a thread behind the head.
-pub(crate) fn place_report(text: &mut [u8], t: Tid, report: &Report, names: &Names) -> usize
-    requires room { length text.old ≡ 256 }
+/// Puts the closing line of a thread.
+pub(crate) fn place_report(
+    text: &mut [u8],
+    at: usize,
+    t: Tid,
+    report: &Report,
+    names: &Names,
+) -> usize
+    requires room { at + 236 ≤ length text.old }
     requires named { t < length names.now }
-    ensures placed { Placed text.old text.new 20 (report_line names.now t report.now) result }
-    ensures within { result ≤ 256 }
+    ensures placed { Placed text.old text.new at (report_line names.now t report.now) result }
+    ensures within { result ≤ at + 236 }
 {
-    let at = place_of_thread(text, b"thread ", names, t);
+    let at = place_of_thread(text, at, b"thread ", names, t);
     let at = place_word(text, at, b" ticks");
     let at = place_number(text, at, report.ticks);
     match &report.budget {

@@ -1,19 +1,18 @@
-use Rattle.std.proofs.Common.{refl, subst, sym, ◌∙◌}
-use Rattle.parts_tracer.specs.ShortLines.{AreWhole}
-use Rattle.parts_tracer.proofs.Prints.{printed_all, printed_same}
+use Rattle.std.proofs.Common.{◌∷◌, decimal, refl}
+use Rattle.words_trace.specs.Text.{event_words}
+use Rattle.parts_tracer.proofs.Placed.{line_is_whole}
+use Rattle.parts_tracer.proofs.Prints.{printed_all}
 use Rattle.parts_tracer.proofs.Tells.{tells_one}
 use Rattle.parts_tracer.proofs.tracer.Tracer.put.Goals as goal
 
-pub returns-else-not-take_front-clause-printed : goal.returns-else-not-take_front-clause-printed
-returns-else-not-take_front-clause-printed g c =
-    let made = c.if-not-set_common.ensures in
-    let taken = c.if-not-take_front.ensures in
-    let front = c.front-len.ensures.line in
+pub returns-else-not-take_common-clause-printed : goal.returns-else-not-take_common-clause-printed
+returns-else-not-take_common-clause-printed g c =
+    let taken = c.if-not-take_common.ensures in
+    let words = decimal c.args.now ∷ event_words c.args.names.now c.args.e.now in
     record {
       same_sink = refl;
-      printed = printed_same _ _ _ _ (front ∙ made.value refl)
-          (printed_all _ _ _ c.if-self.false c.if-self.false (subst AreWhole (sym front) (made.whole refl)) (taken.taken refl) taken.no_fault);
+      printed = printed_all _ _ _ c.if-self.false c.if-self.false (line_is_whole _ words refl (taken.short refl)) (taken.taken refl) taken.no_fault;
     }
 
-pub returns-else-not-take_front-clause-told : goal.returns-else-not-take_front-clause-told
-returns-else-not-take_front-clause-told g c = tells_one _ _ _ _ _ _ (returns-else-not-take_front-clause-printed g c)
+pub returns-else-not-take_common-clause-told : goal.returns-else-not-take_common-clause-told
+returns-else-not-take_common-clause-told g c = tells_one _ _ _ _ _ _ (returns-else-not-take_common-clause-printed g c)

@@ -1,0 +1,77 @@
+//! The time of an event, most of whose digits are those of the event before.
+ghost use Rattle.std.specs.Prelude.{◌≡◌, ◌≤◌, ◌<◌, ◌+◌, ◌-◌, ◌%◌, ◌^◌, decimal, length};
+ghost use Rattle.parts_bytes.specs.Placed.{Placed};
+
+use crate::place::{place_digits, place_pair};
+use itoa::Buffer;
+use parts_bytes::{place_within, place_word};
+use std::marker::Model;
+
+// Times from here on share no digits: there would be more than 16.
+const FAR: u64 = 1_000_000_000_000_000_000;
+
+/// A hundred instants that share all digits but the last two, and these digits. It is seen as the first of the instants.
+#[derive(Drop)]
+pub(crate) struct Hundred {
+    first: u64,
+    digits: [u8; 16],
+    len: usize,
+}
+
+impl Model for Hundred {
+    ghost use Rattle.std.specs.Prelude.{ℕ, ◌≤◌, ◌<◌, ◌^◌, take};
+    ghost use Rattle.parts_tracer.specs.Placed.{AreShared};
+
+    ghost Value = { ℕ };
+
+    ghost view = { λ h. h.first };
+
+    ghost invariant = { λ h. (h.len ≤ 16) × (h.first < 10 ^ 18) × AreShared (take h.len h.digits) h.first };
+}
+
+impl Hundred {
+    /// The first hundred whose instants have digits to share.
+    pub(crate) fn new() -> Hundred
+        ensures { result ≡ 100 }
+    {
+        Hundred {
+            first: 100,
+            digits: *b"1               ",
+            len: 1,
+        }
+    }
+
+    /// Whether a time is one of these instants.
+    #[inline(always)]
+    pub(crate) fn has(&self, now: u64) -> bool {
+        now.wrapping_sub(self.first) < 100
+    }
+
+    /// Becomes the hundred of a time, where its digits can be shared.
+    pub(crate) fn turn_to(&mut self, now: u64) {
+        if self.has(now) || now < 100 || now >= FAR {
+            return;
+        }
+        self.len = place_word(
+            &mut self.digits,
+            0,
+            Buffer::new().format(now / 100).as_bytes(),
+        );
+        self.first = now - now % 100;
+    }
+
+    /// Puts the digits of a time, without a call where it is one of this hundred.
+    #[inline(always)]
+    pub(crate) fn place(&self, buf: &mut [u8], at: usize, now: u64) -> usize
+        requires { at + 20 ≤ length buf.old }
+        ensures placed { Placed buf.old buf.new at (decimal now) result }
+        ensures within { result ≤ at + 20 }
+    {
+        let last = now.wrapping_sub(self.first);
+        if last >= 100 {
+            return place_digits(buf, at, now);
+        }
+        let at = place_within::<16>(buf, at, &self.digits, self.len);
+        place_pair(buf, at, last)
+    }
+}
