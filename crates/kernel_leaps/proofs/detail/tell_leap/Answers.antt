@@ -351,7 +351,7 @@ write_ticks-failed-requires-clause-may g c =
     let some_most = c.most_at_once-most.ensures.some in
     let fewer = c.ticks_in_unit-at_once.ensures in
     let limit = c.requires.limit in
-    may_within (record { sink = c.args.sink; failed = false; line = [] }) start fit (subst (λ (x : Kernel). StoodRight x.machine) (sym same) c.requires.stood) quiet_start handled prepared c.in-Some.t state stands still alive_now
+    may_within (record { sink = c.args.sink; failed = false; hundred = 100 }) start fit (subst (λ (x : Kernel). StoodRight x.machine) (sym same) c.requires.stood) quiet_start handled prepared c.in-Some.t state stands still alive_now
     (sym c.in-Some.is ∙ c.write_dispatch-to.ensures.top) given most c.ticks_to_next-near.result c.ticks_in_unit-at_once.result some_most is_near (omega (arith, is_near, near_most)) (omega (arith, fewer)) (λ lt. omega (arith, fewer, lt))
     (let here = start_now s f at start in_run living in omega (arith, here, within, limit))
 
