@@ -6,13 +6,13 @@
 
 mod check;
 mod detail;
+mod long_runs;
 mod run;
 mod runs;
 mod show;
-mod soak;
 
 pub use check::check_text;
 pub use detail::detail_text;
+pub use long_runs::soak;
 pub use run::run_text;
 pub use show::show_text;
-pub use soak::soak;
