@@ -1,7 +1,8 @@
 //! The adapters over readers and writers that fail in mid-stream.
-ghost use Rattle.std.specs.Prelude.{◌≤◌, length};
+ghost use Rattle.std.specs.Prelude.{◌≤◌, codes, length};
 
-use parts_io::{Failed, ReadEnd, Sink, StdSink, StdSource, read_whole};
+use parts_bytes::place_word;
+use parts_io::{Failed, Line, ReadEnd, Sink, StdSink, StdSource, read_whole};
 use std::io;
 use std::io::{ErrorKind, Read, Write};
 use std::test::Fail;
@@ -142,20 +143,49 @@ fn what_a_writer_does_not_take_stays_held(rt: HostRuntime) -> Result<(), Fail> {
     Ok(())
 }
 
+// The line "xx".
+#[derive(Drop)]
+struct TwoLetters {}
+
+impl Line for TwoLetters {
+    ghost bytes = { λ _. codes "xx\n" };
+
+    fn place(self, buf: &mut [u8], at: usize) -> usize {
+        place_word(buf, at, b"xx\n")
+    }
+}
+
 #[test]
-fn a_short_copy_is_taken_where_there_is_room(rt: HostRuntime) -> Result<(), Fail> {
-    let front = [b'x'; 80];
+fn a_line_is_taken_where_there_is_room_for_any(rt: HostRuntime) -> Result<(), Fail> {
     let narrow = Narrow {
-        due: b"xxx",
-        room: 5,
+        due: b"xx\nxx\n",
+        room: 9,
         refusals: 0,
         fails: false,
     };
-    let mut sink = StdSink::open(rt.alloc(), 66, narrow)?;
-    assert!(rt; sink.take_front(&front, 3));
-    assert!(rt; !sink.take_front(&front, 3), "63 bytes are left");
+    let mut sink = StdSink::open(rt.alloc(), 258, narrow)?;
+    assert!(rt; sink.take_line(TwoLetters {}));
+    assert!(rt; !sink.take_line(TwoLetters {}), "255 bytes are left");
+    assert_eq!(rt;
+        sink.write_line(TwoLetters {}),
+        Ok(()),
+        "the first line is sent, and the second held"
+    );
     assert_eq!(rt; sink.flush(), Ok(()));
-    assert!(rt; !sink.take_front(&front, 65), "too long");
-    assert_eq!(rt; sink.flush(), Ok(()));
+    Ok(())
+}
+
+#[test]
+fn a_line_is_written_where_no_line_has_room(rt: HostRuntime) -> Result<(), Fail> {
+    let narrow = Narrow {
+        due: b"xx\n",
+        room: 3,
+        refusals: 0,
+        fails: false,
+    };
+    let mut sink = StdSink::open(rt.alloc(), 0, narrow)?;
+    assert!(rt; !sink.take_line(TwoLetters {}));
+    assert_eq!(rt; sink.write_line(TwoLetters {}), Ok(()));
+    assert_eq!(rt; sink.write_line(TwoLetters {}), Err(Failed));
     Ok(())
 }
