@@ -49,6 +49,7 @@ build() {
 build "$earlier" "$work/before" list_bench lists "tick_num ready_lists" "$names_then"
 build "$top" "$work/after" list_bench lists "words_numbers parts_ready"
 build "$top" "$work/wheel" wheel_bench wheel "words_numbers parts_wheel"
+build "$top" "$work/expiries" expiry_bench expiries "words_numbers parts_wheel"
 
 for side in before after; do
     "$work/$side/crates/list_bench/out/list_bench" >"$work/$side.times" || exit 1
@@ -68,3 +69,5 @@ awk '
         if (answer["wheel"] != answer["search"]) { print "  the answers differ"; exit 1 }
         printf "  search %7.1f  wheel %6.1f  ratio %6.1f\n", time["search"] / 1e6, time["wheel"] / 1e6, time["search"] / time["wheel"]
     }' "$work/wheel.times"
+echo "expiries of items that are armed again, thirty-two and eight of them, nanoseconds each:"
+"$work/expiries/crates/expiry_bench/out/expiry_bench" | awk '{ printf "  %-8s %6.1f\n", $1, $2 / $4 }'
