@@ -22,5 +22,8 @@ pub mod Deep
 pub mod NothingTold
 pub mod Looking
 pub mod Ready
-pub mod SeenTexts
+pub mod FactsSeen
 pub mod SeenShort
+pub mod Runs
+pub mod BareRows
+pub mod EmptyLists

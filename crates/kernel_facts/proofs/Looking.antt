@@ -1,11 +1,11 @@
 -- A look over one fact, and over several, one after the other.
-use Rattle.std.proofs.Common.{◌≡◌, ◌∙◌, ◌+◌, ◌<◌, ◌≤◌, Bool, List, Option, Some, [], ◌∷◌, ◌++◌, ap, append-nil, append_assoc, arith, drop, false, length, length-append, refl, subst, suc, sym, take, true, zero, ℕ}
+use Rattle.std.proofs.Common.{◌≡◌, ◌∙◌, ◌+◌, ◌<◌, ◌≤◌, Bool, List, [], ◌∷◌, ◌++◌, ap, append-nil, append_assoc, arith, drop, false, length, length-append, refl, subst, suc, sym, take, true, zero, ℕ}
 use Rattle.std.specs.List.{AllByRecursion}
 use Rattle.std.specs.Prelude.{decimal, slice_index_or, slice_set, sum_by, ◌==◌, ◌&&◌, if◌then◌else◌}
 use Rattle.std.specs.Str.{bytes_eq}
 use Rattle.std.proofs.Math.Seq.{drop-cons}
 use Rattle.std.proofs.lemmas.Grind.{take-set_at}
-use Rattle.std.proofs.lemmas.List.{drop-drop, drop-set-lt, length-drop, length-set, length-take, set-get_or}
+use Rattle.std.proofs.lemmas.List.{drop-drop, drop-set-lt, length-set, length-take, set-get_or}
 use Rattle.std.proofs.lemmas.List.Sums.{sum_by-append, sum_by-cons}
 use Rattle.parts_texts.specs.Slots.{Held}
 use Rattle.parts_texts.specs.Texts.{Next, Told}

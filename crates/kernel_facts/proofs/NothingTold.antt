@@ -3,7 +3,6 @@ use Rattle.std.proofs.Common.{◌≡◌, ◌∙◌, ℕ, Bool, List, None, Optio
 use Rattle.std.specs.Prelude.{option_map, slice_get, ◌==◌}
 use Rattle.words_script.specs.declared.decl.Decl.{Decl}
 use Rattle.words_script.specs.declared.name_kind.NameKind.{NameKind}
-use Rattle.words_script.specs.declared.name_kind.NameKind.TheVariants as kind
 use Rattle.rules_server.specs.declared.Replenish.{Replenish}
 use Rattle.rules_machine.specs.declared.frame.BodyOf.{BodyOf}
 use Rattle.rules_machine.specs.Lists.{first_by}
@@ -11,7 +10,7 @@ use Rattle.rules_machine.specs.State.{Machine, SignalRecord, Thread, Wait, for_c
 use Rattle.rules_machine.specs.Threads.{is_live, no_thread, thread_at}
 use Rattle.rules_machine.specs.Waiters.{Waiter, best_waiter, is_served_before, waiters}
 use Rattle.parts_waiters.specs.Ties.{is_object, object_of}
-use Rattle.rules_facts.specs.Fact.{Cancelability, Fact, cancelability, inner_frames, masked, on_list, pending_signals, pushed_cleanups, receivers_of, replenishments, senders_of, waiters_of}
+use Rattle.rules_facts.specs.Fact.{Fact, cancelability, inner_frames, masked, on_list, pending_signals, pushed_cleanups, receivers_of, replenishments, senders_of, waiters_of}
 use Rattle.rules_facts.specs.Objects.{in_service_order}
 use Rattle.rules_facts.specs.Order.{in_order}
 use Rattle.rules_facts.specs.Signals.{pending_of, signal_fact}
@@ -21,10 +20,8 @@ use Rattle.kernel_facts.specs.Kept.{waiters_text}
 use Rattle.kernel_facts.specs.Lines.{fact_text, facts_text}
 use Rattle.kernel_facts.specs.Nothing.{IsBare, TellNothing, TellsNothing, is_status, told_of, wait_obj}
 use Rattle.kernel_facts.specs.Picked.{is_left_out, left_in}
-use Rattle.kernel_facts.specs.Rows.{object_facts, thread_fact_of}
+use Rattle.kernel_facts.specs.Rows.{thread_fact_of}
 use Rattle.kernel_facts.specs.Short.{HasShortText, HaveShortTexts}
-use Rattle.kernel_facts.specs.declared.rows.ObjectRow.{ObjectRow}
-use Rattle.kernel_facts.specs.declared.rows.ObjectRow.TheVariants as object
 use Rattle.kernel_facts.specs.declared.rows.ThreadRow.{ThreadRow}
 use Rattle.kernel_facts.specs.declared.rows.ThreadRow.TheVariants as thread
 use Rattle.kernel_facts.specs.declared.waiters.Line.{Line}

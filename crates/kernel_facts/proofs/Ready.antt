@@ -7,7 +7,8 @@ use Rattle.std.proofs.lemmas.List.Sums.{sum_by-cons}
 use Rattle.words_script.specs.declared.decl.Script.{Script}
 use Rattle.parts_texts.specs.Texts.{Next, Told}
 use Rattle.kernel_facts.specs.Changed.{changed_lines}
-use Rattle.kernel_facts.specs.Desk.{AreSubjects, HasDeskRooms, HasSpace, HaveSameSpace, IsReady, Looked, WentOn, line_room}
+use Rattle.kernel_facts.specs.Desk.{AreSubjects, HasSpace, HaveSameSpace, IsReady, Looked, WentOn, line_room}
+use Rattle.kernel_facts.specs.FactSeen.{IsMemoryOf}
 use Rattle.kernel_facts.specs.Rooms.{HasRooms, facts_told}
 use Rattle.kernel_facts.specs.declared.desk.Desk.{Desk}
 
@@ -41,7 +42,8 @@ pub record HasLooked (script : Script) (one_new : Next) (old new : Desk) (now : 
   pub ready : IsReady script one_new.room new
 
 module _ (script : Script) (one two : Next) (d after : Desk) (now : ℕ) (due : List (List ℕ)) (ready : IsReady script one.room d) (early : length (decimal now) ≤ 20)
-    (short : AllByRecursion (λ (text : List ℕ). length text < one.room) due) (all : length due ≡ facts_told script) (went : WentOn one two (begun now d) after due) where
+    (short : AllByRecursion (λ (text : List ℕ). length text < one.room) due) (all : length due ≡ facts_told script) (went : WentOn one two (begun now d) after due)
+    (memory : IsMemoryOf script.decls after.told.texts after.seen) where
   space : HasSpace one.room (begun now d) due
   space =
       let number = ready.rooms.number in
@@ -92,6 +94,7 @@ module _ (script : Script) (one two : Next) (d after : Desk) (now : ℕ) (due : 
           slots = omega (arith, slots, same_slots);
           number = same.number ∙ ready.rooms.number;
           lines = omega (arith, lines, same_lines);
+          seen = memory;
           subjects = subst (HasRooms script one.room) (sym looked.subjects) ready.rooms.subjects;
         };
         subjects = subst (λ (t : Told). AreSubjects script one.room t.texts) (sym looked.subjects) ready.subjects;

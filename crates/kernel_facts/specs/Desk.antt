@@ -2,10 +2,13 @@
 use Rattle.std.specs.Prelude.{Bool, List, decimal, drop, false, length, sum_by, take, ℕ, ◌+◌, ◌*◌, ◌<◌, ◌≤◌, ◌∷◌, [], ◌++◌, ◌≡◌}
 use Rattle.std.specs.List.{AllByRecursion}
 use Rattle.words_script.specs.declared.decl.Script.{Script}
+use Rattle.parts_texts.specs.Slots.{no_texts}
 use Rattle.parts_texts.specs.Texts.{Next}
 use Rattle.kernel_facts.specs.Changed.{changed_lines}
-use Rattle.kernel_facts.specs.Rooms.{HasRooms, facts_told, longest_text, members_told}
+use Rattle.kernel_facts.specs.FactSeen.{IsMemoryOf, no_memory}
+use Rattle.kernel_facts.specs.Rooms.{HasRooms, facts_told, longest_text, members_told, no_text}
 use Rattle.kernel_facts.specs.declared.desk.Desk.{Desk}
+use Rattle.kernel_facts.specs.declared.rooms.Rooms.{Rooms}
 
 -- what the look has still before it: what was told last, and the subjects of that
 abbrev pub told_left : Desk → List (List ℕ)
@@ -69,6 +72,16 @@ pub record WentOver (one : Next) (failed : Bool) (old new : Desk) : Type 0 where
   pub roomy : failed ≡ false → (room : ℕ) → HasSpace room old (one.text ∷ []) → new.is_full ≡ false
   pub used : 0 < one.faults → length one.text ≡ one.room
 
+-- ---- a desk that was opened
+
+-- Nothing was told, in rooms of these sizes.
+pub record IsOpened (rooms : Rooms) (bytes : ℕ) (d : Desk) : Type 0 where
+  pub subjects : d.subjects ≡ no_text rooms
+  pub told : d.told ≡ record { texts = no_texts rooms.most; room = rooms.longest }
+  pub seen : d.seen ≡ no_memory rooms.most
+  pub lines : d.lines ≡ record { text = []; room = bytes; faults = 0 }
+  pub is_full : d.is_full ≡ false
+
 -- ---- a desk of a run
 
 -- No text or line was without room, and the rooms are as large as the facts of the script's run need: one for each fact, one for their
@@ -79,6 +92,7 @@ pub record HasDeskRooms (script : Script) (one : ℕ) (d : Desk) : Type 0 where
   pub slots : one ≤ d.told.room
   pub number : length d.told.texts ≡ facts_told script
   pub lines : facts_told script * (one + 22) < d.lines.room
+  pub seen : IsMemoryOf script.decls d.told.texts d.seen
   pub subjects : HasRooms script one d.subjects
 
 -- there is a subject for each fact, with fewer bytes than the room for one

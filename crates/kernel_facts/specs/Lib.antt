@@ -12,3 +12,5 @@ pub mod Short
 pub mod Nothing
 pub mod Desk
 pub mod Seen
+pub mod FactSeen
+pub mod Blocks

@@ -1,11 +1,7 @@
 -- What is seen of the status of a thread, and the texts that tell it. This project's own.
-use Rattle.std.specs.Prelude.{Bool, List, None, Option, Some, [], false, slice_index_or, true, ℕ, ◌<◌, ◌≡◌}
-use Rattle.words_script.specs.declared.decl.Decl.{Decl}
+use Rattle.std.specs.Prelude.{Bool, None, Option, Some, false, true, ℕ}
 use Rattle.words_script.specs.declared.name_kind.NameKind.TheVariants as kind
-use Rattle.rules_machine.specs.State.{Machine}
 use Rattle.rules_facts.specs.Fact.{Awaited, Fact, blocked_thread, dormant_thread, ended_thread, nothing, one_signal_of, ready_thread, thing}
-use Rattle.rules_facts.specs.Threads.{thread_fact}
-use Rattle.kernel_facts.specs.Lines.{fact_text}
 use Rattle.kernel_facts.specs.declared.seen.Seen.{Seen}
 use Rattle.kernel_facts.specs.declared.seen.SeenStatus.{SeenStatus}
 use Rattle.kernel_facts.specs.declared.seen.SeenStatus.TheVariants as status
@@ -35,17 +31,3 @@ fact_of status.Ended t s = ended_thread t
 
 abbrev pub seen_fact : ℕ → Seen → Fact
 seen_fact t s = fact_of s.status t s
-
--- the text is that of what was seen, where anything was
-abbrev pub IsTextSeen : List Decl → ℕ → Option Seen → List ℕ → Type 0
-IsTextSeen decls t None text = Unit {0}
-IsTextSeen decls t (Some s) text = text ≡ fact_text decls (seen_fact t s)
-
--- what was seen of so many threads is told by these texts
-abbrev pub AreTextsSeen : List Decl → ℕ → List (Option Seen) → List (List ℕ) → Type 0
-AreTextsSeen decls count all texts = (t : ℕ) → t < count → IsTextSeen decls t (slice_index_or all t None) (slice_index_or texts t [])
-
--- what was seen of a thread is what is told of it
-abbrev pub IsSeen : {P : Type 0} → Machine P → ℕ → Option Seen → Type 0
-IsSeen m t None = Unit {0}
-IsSeen m t (Some s) = seen_fact t s ≡ thread_fact m t

@@ -1,12 +1,14 @@
 //! The texts of the facts as they were told last, through which a look at those of now goes.
-ghost use Rattle.std.specs.Prelude.{◌≡◌, ◌<◌, ◌≤◌, ◌^◌, ◌-◌, ◌∷◌, [], IfOk, false, length, slice_index_or, true};
-ghost use Rattle.parts_texts.specs.Slots.{no_texts};
+ghost use Rattle.std.specs.Prelude.{◌≡◌, ◌<◌, ◌≤◌, ◌^◌, ◌-◌, ◌∷◌, [], IfOk, List, false, is_some, length, slice_index_or, true};
+ghost use Rattle.words_script.specs.declared.decl.Decl.{Decl};
 ghost use Rattle.script_printer.specs.Puts.{Put, outlet};
 ghost use Rattle.kernel_facts.specs.Changed.{changed_line};
-ghost use Rattle.kernel_facts.specs.Desk.{Went, WentOver};
-ghost use Rattle.kernel_facts.specs.Rooms.{no_text};
+ghost use Rattle.kernel_facts.specs.Desk.{IsOpened, Went, WentOver};
+ghost use Rattle.kernel_facts.specs.FactSeen.{IsMemoryOf, TellsIfAny, fact_seen};
+ghost use Rattle.kernel_facts.specs.declared.fact_seen.FactSeen.TheVariants as variant;
 
 use crate::changes::put_changed_line;
+use crate::fact_seen::{FactSeen, SeenFacts};
 use crate::rooms::Rooms;
 use parts_io::Sink;
 use parts_texts::{NextText, Slots, Texts};
@@ -19,6 +21,7 @@ use std::alloc::{AllocError, Global};
 pub struct Desk {
     pub subjects: Texts,
     pub told: Slots,
+    pub seen: SeenFacts,
     pub lines: NextText,
     pub at: usize,
     pub instant: u64,
@@ -48,18 +51,12 @@ impl Desk {
         requires small { rooms.now.room < 2 ^ 40 }
         requires short { rooms.now.longest < 2 ^ 40 }
         requires lines { lines < 2 ^ 40 }
-        ensures { IfOk result (λ d. d ≡ record {
-          subjects = no_text rooms.now;
-          told = record { texts = no_texts rooms.now.most; room = rooms.now.longest };
-          lines = record { text = []; room = lines; faults = 0 };
-          at = 0;
-          instant = 0;
-          is_full = false;
-        }) }
+        ensures { IfOk result (λ d. IsOpened rooms.now lines d) }
     {
         Ok(Desk {
             subjects: Texts::open(alloc, rooms.most, rooms.room)?,
             told: Slots::open(alloc, rooms.most, rooms.longest)?,
+            seen: SeenFacts::open(alloc, rooms.most)?,
             lines: NextText::open(alloc, lines)?,
             at: 0,
             instant: 0,
@@ -89,9 +86,11 @@ impl Desk {
             || text.len() > self.told.room()
     }
 
-    // The look goes over a fact with this text.
-    fn go_over(&mut self, text: &[u8])
-        ensures { Went self.old self.new (text.now ∷ []) }
+    // The look goes over a fact with this text, of which that is seen.
+    fn go_over(&mut self, text: &[u8], seen: &FactSeen)
+        ensures went { Went self.old self.new (text.now ∷ []) }
+        ensures seen { (decls : List Decl) → IsMemoryOf decls self.old.told.texts self.old.seen
+            → TellsIfAny decls (fact_seen seen.now) text.now → IsMemoryOf decls self.new.told.texts self.new.seen }
     {
         if self.has_no_place(text) {
             self.is_full = true;
@@ -106,6 +105,7 @@ impl Desk {
             return;
         }
         self.told.put(self.at, text);
+        self.seen.put(self.at, seen);
         self.at += 1;
     }
 
@@ -124,18 +124,28 @@ impl Desk {
 
     /// The look goes over a fact that tells nothing.
     pub(crate) fn go_over_nothing(&mut self)
-        ensures { Went self.old self.new ([] ∷ []) }
+        ensures went { Went self.old self.new ([] ∷ []) }
+        ensures seen { (decls : List Decl) → IsMemoryOf decls self.old.told.texts self.old.seen → IsMemoryOf decls self.new.told.texts self.new.seen }
     {
         if self.was_empty() {
             self.at += 1;
             return;
         }
-        self.go_over(b"");
+        self.go_over(b"", &FactSeen::Unseen);
+    }
+
+    /// Whether that was seen last of the fact that comes; false where nothing was.
+    pub(crate) fn was_seen(&self, seen: &FactSeen) -> bool
+        ensures same { result ≡ true → slice_index_or self.now.seen.facts self.now.at variant.Unseen ≡ seen.now }
+        ensures some { result ≡ true → is_some (fact_seen seen.now) ≡ true }
+    {
+        self.seen.was_seen(self.at, seen)
     }
 
     /// The look goes over a fact of which the same is told as last.
     pub(crate) fn go_over_same(&mut self)
-        ensures { Went self.old self.new (slice_index_or self.old.told.texts self.old.at [] ∷ []) }
+        ensures went { Went self.old self.new (slice_index_or self.old.told.texts self.old.at [] ∷ []) }
+        ensures seen { (decls : List Decl) → IsMemoryOf decls self.old.told.texts self.old.seen → IsMemoryOf decls self.new.told.texts self.new.seen }
     {
         if self.has_no_place(b"") {
             self.is_full = true;
@@ -144,15 +154,17 @@ impl Desk {
         self.at += 1;
     }
 
-    /// The look goes over a fact with this text, unless a write of it failed.
-    pub(crate) fn keep(&mut self, next: &NextText, failed: bool)
-        ensures { WentOver next.now failed self.old self.new }
+    /// The look goes over a fact with this text, of which that is seen, unless a write of the text failed.
+    pub(crate) fn keep(&mut self, next: &NextText, failed: bool, seen: &FactSeen)
+        ensures over { WentOver next.now failed self.old self.new }
+        ensures seen { (decls : List Decl) → IsMemoryOf decls self.old.told.texts self.old.seen
+            → (failed ≡ false → TellsIfAny decls (fact_seen seen.now) next.now.text) → IsMemoryOf decls self.new.told.texts self.new.seen }
     {
         next.know_use();
         if failed {
             self.is_full = true;
             return;
         }
-        self.go_over(next.text());
+        self.go_over(next.text(), seen);
     }
 }

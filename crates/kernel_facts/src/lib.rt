@@ -5,20 +5,23 @@
 //! and leaves there the lines of those that change. In the rooms of `rooms_of` all have room, where the state has the threads and
 //! objects of the script. None takes memory.
 //!
-//! A look writes no text of a fact that tells nothing now and told nothing before, and none of a thread's status that is seen to be the
-//! same.
+//! A look writes no text of a fact that tells nothing now and told nothing before, and none of one that is seen to be the same as a value:
+//! the status of a thread, a list with one thread on it, one or two planned replenishments, an owner, the value of a semaphore.
 //!
 //! The state is read and not changed. Lists are written word by word, so that no room limits their length.
 #![tactic(auto)]
 
+mod blocks;
 mod changes;
 mod desk;
+mod fact_seen;
 mod in_line;
 mod kept;
 mod known;
 mod line;
 mod lists;
 mod look;
+mod look_lists;
 mod names;
 mod nothing;
 mod numbers;
@@ -35,8 +38,9 @@ mod threads;
 mod waiters;
 
 pub use desk::Desk;
+pub use fact_seen::{FactSeen, SeenFacts};
 pub use look::look_at_facts;
 pub use rooms::{Rooms, rooms_of};
-pub use seen::{Seen, nothing_seen};
+pub use seen::Seen;
 pub use state::write_state;
 pub use subjects::keep_subjects;

@@ -1,62 +1,37 @@
 //! A look at the facts of a state.
-ghost use Rattle.std.specs.Prelude.{ℕ, ◌≡◌, ◌∷◌, ◌<◌, ◌≤◌, [], None, drop, false, length, slice_index_or};
-ghost use Rattle.rules_lists.specs.Lists.{list_of};
-ghost use Rattle.rules_facts.specs.Fact.{on_list};
+ghost use Rattle.std.specs.Prelude.{ℕ, ◌≡◌, ◌∷◌, ◌<◌, ◌≤◌, [], length, true};
 ghost use Rattle.rules_facts.specs.Facts.{facts};
 ghost use Rattle.rules_facts.specs.Shown.{once_ended};
 ghost use Rattle.rules_facts.specs.Signals.{signal_fact};
-ghost use Rattle.rules_facts.specs.Threads.{thread_fact};
+ghost use Rattle.kernel_facts.specs.Blocks.{is_inner, inner_rows_kept};
 ghost use Rattle.kernel_facts.specs.Changed.{changed_lines};
-ghost use Rattle.kernel_facts.specs.Desk.{IsReady, WentOn, told_left};
-ghost use Rattle.kernel_facts.specs.Kept.{lists_kept, object_row_kept, objects_kept, queue_waiters_kept, signals_kept, texts_of, thread_row_kept, threads_kept, waiters_text};
+ghost use Rattle.kernel_facts.specs.Desk.{IsReady, WentOn};
+ghost use Rattle.kernel_facts.specs.FactSeen.{IsMemoryOf};
+ghost use Rattle.kernel_facts.specs.Kept.{object_row_kept, objects_kept, queue_waiters_kept, signals_kept, texts_of, thread_row_kept, threads_kept, waiters_text};
 ghost use Rattle.kernel_facts.specs.Lines.{fact_text, facts_text};
 ghost use Rattle.kernel_facts.specs.Numbered.{AreNumbered};
 ghost use Rattle.kernel_facts.specs.Picked.{left_in};
 ghost use Rattle.kernel_facts.specs.Rooms.{HasObjectsOf};
-ghost use Rattle.kernel_facts.specs.Seen.{AreTextsSeen, IsSeen, IsTextSeen, seen_fact};
 ghost use Rattle.kernel_facts.specs.Short.{HasShortText, HaveShortTexts};
 ghost use Rattle.kernel_facts.specs.declared.rows.ThreadRow.{ThreadRow};
-ghost use Rattle.kernel_facts.specs.declared.rows.ThreadRow.TheVariants as thread_row;
 ghost use Rattle.kernel_facts.specs.declared.rows.ObjectRow.{ObjectRow};
 ghost use Rattle.kernel_facts.specs.Rows.{left_out, object_count, object_facts, thread_fact_of};
 
 use crate::desk::Desk;
+use crate::fact_seen::{FactSeen, see_list, see_object, see_thread};
 use crate::known::{know_few, know_names, know_rows, know_timers};
+use crate::look_lists::look_at_lists;
 use crate::nothing::{
-    list_tells_nothing, object_tells_nothing, queue_tells_nothing, signal_tells_nothing,
+    are_bare_inside, object_tells_nothing, queue_tells_nothing, signal_tells_nothing,
     thread_tells_nothing,
 };
-use crate::printed::{
-    print_list, print_object_facts, print_signal, print_thread_fact, print_waiters,
-};
+use crate::printed::{print_object_facts, print_signal, print_thread_fact, print_waiters};
 use crate::rows::{ObjectRow, ThreadRow, object_count, object_of};
-use crate::seen::{Seen, know_seen, see, was_seen};
-use crate::state::{left_out, prio_of};
+use crate::state::left_out;
 use kernel_state::Parts;
 use parts_texts::NextText;
-use words_numbers::{ObjId, Prio, Tid};
+use words_numbers::{ObjId, Tid};
 use words_script::{Decl, Script};
-
-fn look_at_list(parts: &Parts, decls: &[Decl], p: Prio, next: &mut NextText, desk: &mut Desk)
-    ensures { WentOn next.old next.new desk.old desk.new (fact_text decls.now (on_list p (list_of p parts.now.machine.lists)) ∷ []) }
-{
-    if list_tells_nothing(parts, p) {
-        desk.go_over_nothing();
-        return;
-    }
-    next.clear();
-    let failed = print_list(parts, decls, p, next);
-    desk.keep(next, failed);
-}
-
-// Looks at the lists, that of the greatest priority first.
-fn look_at_lists(parts: &Parts, decls: &[Decl], next: &mut NextText, desk: &mut Desk)
-    ensures { WentOn next.old next.new desk.old desk.new (lists_kept decls.now parts.now.machine.lists) }
-{
-    for below in 0..255u8 {
-        look_at_list(parts, decls, prio_of(255 - below), next, desk);
-    }
-}
 
 fn look_at_thread_fact(
     parts: &Parts,
@@ -66,17 +41,24 @@ fn look_at_thread_fact(
     next: &mut NextText,
     desk: &mut Desk,
 )
-    requires { t < length parts.now.names }
+    requires known { t < length parts.now.names }
+    requires memory { IsMemoryOf decls.now desk.old.told.texts desk.old.seen }
     ensures kept { WentOn next.old next.new desk.old desk.new (fact_text decls.now (thread_fact_of row parts.now.machine t) ∷ []) }
     ensures short { HasShortText decls.now (thread_fact_of row parts.now.machine t) }
+    ensures memory { IsMemoryOf decls.now desk.new.told.texts desk.new.seen }
 {
     if thread_tells_nothing(parts, row, t) {
         desk.go_over_nothing();
         return;
     }
+    let seen = see_thread(parts, row, t);
+    if desk.was_seen(&seen) {
+        desk.go_over_same();
+        return;
+    }
     next.clear();
     let failed = print_thread_fact(parts, decls, row, t, next);
-    desk.keep(next, failed);
+    desk.keep(next, failed, &seen);
 }
 
 // Looks at a row of threads, by number.
@@ -87,7 +69,9 @@ fn look_at_thread_row(
     next: &mut NextText,
     desk: &mut Desk,
 )
+    requires memory { IsMemoryOf decls.now desk.old.told.texts desk.old.seen }
     ensures kept { WentOn next.old next.new desk.old desk.new (thread_row_kept decls.now row parts.now.machine) }
+    ensures memory { IsMemoryOf decls.now desk.new.told.texts desk.new.seen }
     ensures short { (t : ℕ) → t < length parts.now.machine.threads → HasShortText decls.now (thread_fact_of row parts.now.machine t) }
 {
     for number in 0..parts.count() {
@@ -95,73 +79,42 @@ fn look_at_thread_row(
     }
 }
 
-// Looks at the status of a thread, of which that was seen last, and answers what is seen now. Where it is the same, so is its text.
-fn look_at_status(
-    parts: &Parts,
-    decls: &[Decl],
-    t: Tid,
-    last: &Option<Seen>,
-    next: &mut NextText,
-    desk: &mut Desk,
-) -> Seen
-    requires known { t < length parts.now.names }
-    requires last { desk.old.is_full ≡ false → IsTextSeen decls.now t last.now (slice_index_or desk.old.told.texts desk.old.at []) }
-    ensures kept { WentOn next.old next.new desk.old desk.new (fact_text decls.now (thread_fact parts.now.machine t) ∷ []) }
-    ensures short { HasShortText decls.now (thread_fact parts.now.machine t) }
-    ensures seen { seen_fact t result ≡ thread_fact parts.now.machine t }
+// Looks at what threads have about them but for what their servers have planned.
+fn look_at_inner_rows_in_full(parts: &Parts, decls: &[Decl], next: &mut NextText, desk: &mut Desk)
+    requires memory { IsMemoryOf decls.now desk.old.told.texts desk.old.seen }
+    ensures kept { WentOn next.old next.new desk.old desk.new (inner_rows_kept decls.now parts.now.machine) }
+    ensures short { (row : ThreadRow) → is_inner row ≡ true → (t : ℕ) → t < length parts.now.machine.threads → HasShortText decls.now (thread_fact_of row parts.now.machine t) }
+    ensures memory { IsMemoryOf decls.now desk.new.told.texts desk.new.seen }
 {
-    let now = see(parts, t);
-    know_seen(&now);
-    if was_seen(last, &now) {
-        desk.go_over_same();
-        return now;
-    }
-    look_at_thread_fact(parts, decls, ThreadRow::Status, t, next, desk);
-    now
-}
-
-// Looks at the status of each thread, by number, and keeps what is seen of it.
-fn look_at_statuses(
-    parts: &Parts,
-    decls: &[Decl],
-    next: &mut NextText,
-    desk: &mut Desk,
-    seen: &mut [Option<Seen>],
-)
-    requires many { length parts.now.machine.threads ≤ length seen.old }
-    requires last { desk.old.is_full ≡ false → AreTextsSeen decls.now (length parts.now.machine.threads) seen.old (told_left desk.old) }
-    ensures kept { WentOn next.old next.new desk.old desk.new (thread_row_kept decls.now thread_row.Status parts.now.machine) }
-    ensures short { (t : ℕ) → t < length parts.now.machine.threads → HasShortText decls.now (thread_fact parts.now.machine t) }
-    ensures seen { (t : ℕ) → t < length parts.now.machine.threads → IsSeen parts.now.machine t (slice_index_or seen.new t None) }
-    ensures many { length seen.new ≡ length seen.old }
-{
-    for number in 0..parts.count() {
-        let last = seen[number as usize];
-        let now = look_at_status(parts, decls, parts.tid(number), &last, next, desk);
-        seen[number as usize] = Some(now);
-    }
-}
-
-// Looks at all rows of threads.
-fn look_at_threads(
-    parts: &Parts,
-    decls: &[Decl],
-    next: &mut NextText,
-    desk: &mut Desk,
-    seen: &mut [Option<Seen>],
-)
-    requires many { length parts.now.machine.threads ≤ length seen.old }
-    requires last { desk.old.is_full ≡ false → AreTextsSeen decls.now (length parts.now.machine.threads) seen.old (told_left desk.old) }
-    ensures seen { (t : ℕ) → t < length parts.now.machine.threads → IsSeen parts.now.machine t (slice_index_or seen.new t None) }
-    ensures many { length seen.new ≡ length seen.old }
-    ensures kept { WentOn next.old next.new desk.old desk.new (threads_kept decls.now parts.now.machine) }
-    ensures short { (row : ThreadRow) → (t : ℕ) → t < length parts.now.machine.threads → HasShortText decls.now (thread_fact_of row parts.now.machine t) }
-{
-    look_at_statuses(parts, decls, next, desk, seen);
     look_at_thread_row(parts, decls, ThreadRow::Frames, next, desk);
     look_at_thread_row(parts, decls, ThreadRow::Mask, next, desk);
     look_at_thread_row(parts, decls, ThreadRow::Cancelability, next, desk);
     look_at_thread_row(parts, decls, ThreadRow::Cleanups, next, desk);
+}
+
+// The same; where no thread has anything about it, no row is looked at by itself.
+fn look_at_inner_rows(parts: &Parts, decls: &[Decl], next: &mut NextText, desk: &mut Desk)
+    requires memory { IsMemoryOf decls.now desk.old.told.texts desk.old.seen }
+    ensures kept { WentOn next.old next.new desk.old desk.new (inner_rows_kept decls.now parts.now.machine) }
+    ensures short { (row : ThreadRow) → is_inner row ≡ true → (t : ℕ) → t < length parts.now.machine.threads → HasShortText decls.now (thread_fact_of row parts.now.machine t) }
+    ensures memory { IsMemoryOf decls.now desk.new.told.texts desk.new.seen }
+{
+    if are_bare_inside(parts) {
+        desk.go_over_nothings(4 * usize::from(parts.count()));
+        return;
+    }
+    look_at_inner_rows_in_full(parts, decls, next, desk);
+}
+
+// Looks at all rows of threads.
+fn look_at_threads(parts: &Parts, decls: &[Decl], next: &mut NextText, desk: &mut Desk)
+    requires memory { IsMemoryOf decls.now desk.old.told.texts desk.old.seen }
+    ensures kept { WentOn next.old next.new desk.old desk.new (threads_kept decls.now parts.now.machine) }
+    ensures short { (row : ThreadRow) → (t : ℕ) → t < length parts.now.machine.threads → HasShortText decls.now (thread_fact_of row parts.now.machine t) }
+    ensures memory { IsMemoryOf decls.now desk.new.told.texts desk.new.seen }
+{
+    look_at_thread_row(parts, decls, ThreadRow::Status, next, desk);
+    look_at_inner_rows(parts, decls, next, desk);
     look_at_thread_row(parts, decls, ThreadRow::Pending, next, desk);
 }
 
@@ -173,17 +126,24 @@ fn look_at_object_fact(
     next: &mut NextText,
     desk: &mut Desk,
 )
-    requires { k < object_count row decls.now parts.now.machine }
+    requires known { k < object_count row decls.now parts.now.machine }
+    requires memory { IsMemoryOf decls.now desk.old.told.texts desk.old.seen }
     ensures kept { WentOn next.old next.new desk.old desk.new (facts_text decls.now (object_facts row parts.now.machine k) ∷ []) }
     ensures short { HaveShortTexts decls.now (object_facts row parts.now.machine k) }
+    ensures memory { IsMemoryOf decls.now desk.new.told.texts desk.new.seen }
 {
     if object_tells_nothing(parts, row, k) {
         desk.go_over_nothing();
         return;
     }
+    let seen = see_object(parts, decls, row, k);
+    if desk.was_seen(&seen) {
+        desk.go_over_same();
+        return;
+    }
     next.clear();
     let failed = print_object_facts(parts, decls, row, k, next);
-    desk.keep(next, failed);
+    desk.keep(next, failed, &seen);
 }
 
 // Looks at a row of objects that has one fact for each, by number.
@@ -194,9 +154,11 @@ fn look_at_object_row(
     next: &mut NextText,
     desk: &mut Desk,
 )
-    requires { object_count row decls.now parts.now.machine ≤ 256 }
+    requires few { object_count row decls.now parts.now.machine ≤ 256 }
+    requires memory { IsMemoryOf decls.now desk.old.told.texts desk.old.seen }
     ensures kept { WentOn next.old next.new desk.old desk.new (object_row_kept decls.now row parts.now.machine) }
     ensures short { (k : ℕ) → k < object_count row decls.now parts.now.machine → HaveShortTexts decls.now (object_facts row parts.now.machine k) }
+    ensures memory { IsMemoryOf decls.now desk.new.told.texts desk.new.seen }
 {
     for number in 0..object_count(parts, decls, row) {
         look_at_object_fact(parts, decls, row, object_of(number), next, desk);
@@ -211,7 +173,9 @@ fn look_at_waiters(
     next: &mut NextText,
     desk: &mut Desk,
 )
-    ensures { WentOn next.old next.new desk.old desk.new (waiters_text decls.now to_send parts.now.machine q ∷ []) }
+    requires memory { IsMemoryOf decls.now desk.old.told.texts desk.old.seen }
+    ensures kept { WentOn next.old next.new desk.old desk.new (waiters_text decls.now to_send parts.now.machine q ∷ []) }
+    ensures memory { IsMemoryOf decls.now desk.new.told.texts desk.new.seen }
 {
     if queue_tells_nothing(parts, q, to_send) {
         desk.go_over_nothing();
@@ -219,13 +183,15 @@ fn look_at_waiters(
     }
     next.clear();
     let failed = print_waiters(parts, decls, q, to_send, next);
-    desk.keep(next, failed);
+    desk.keep(next, failed, &FactSeen::Unseen);
 }
 
 // Looks at who waits to send to each queue, and then who waits for a message of it.
 fn look_at_queue_waiters(parts: &Parts, decls: &[Decl], next: &mut NextText, desk: &mut Desk)
-    requires { length parts.now.machine.queues ≤ 256 }
-    ensures { WentOn next.old next.new desk.old desk.new (queue_waiters_kept decls.now parts.now.machine) }
+    requires few { length parts.now.machine.queues ≤ 256 }
+    requires memory { IsMemoryOf decls.now desk.old.told.texts desk.old.seen }
+    ensures kept { WentOn next.old next.new desk.old desk.new (queue_waiters_kept decls.now parts.now.machine) }
+    ensures memory { IsMemoryOf decls.now desk.new.told.texts desk.new.seen }
 {
     for number in 0..parts.queue_count() {
         look_at_waiters(parts, decls, object_of(number), true, next, desk);
@@ -235,9 +201,11 @@ fn look_at_queue_waiters(parts: &Parts, decls: &[Decl], next: &mut NextText, des
 
 // Looks at all rows of objects but that of signals.
 fn look_at_objects(parts: &Parts, script: &Script, next: &mut NextText, desk: &mut Desk)
-    requires { AreNumbered script.now parts.now.machine }
+    requires numbered { AreNumbered script.now parts.now.machine }
+    requires memory { IsMemoryOf script.now.decls desk.old.told.texts desk.old.seen }
     ensures kept { WentOn next.old next.new desk.old desk.new (objects_kept script.now.decls parts.now.machine) }
     ensures short { (row : ObjectRow) → (k : ℕ) → k < object_count row script.now.decls parts.now.machine → HaveShortTexts script.now.decls (object_facts row parts.now.machine k) }
+    ensures memory { IsMemoryOf script.now.decls desk.new.told.texts desk.new.seen }
 {
     let decls = script.decls.items();
     look_at_object_row(parts, decls, ObjectRow::Owner, next, desk);
@@ -260,8 +228,10 @@ fn look_at_signal(
     next: &mut NextText,
     desk: &mut Desk,
 )
+    requires memory { IsMemoryOf decls.now desk.old.told.texts desk.old.seen }
     ensures kept { WentOn next.old next.new desk.old desk.new (fact_text decls.now (signal_fact (left_in left_out parts.now.machine) signal) ∷ []) }
     ensures short { HasShortText decls.now (signal_fact (left_in left_out parts.now.machine) signal) }
+    ensures memory { IsMemoryOf decls.now desk.new.told.texts desk.new.seen }
 {
     if signal_tells_nothing(parts, signal, left_out) {
         desk.go_over_nothing();
@@ -269,13 +239,15 @@ fn look_at_signal(
     }
     next.clear();
     let failed = print_signal(parts, decls, signal, left_out, next);
-    desk.keep(next, failed);
+    desk.keep(next, failed, &FactSeen::Unseen);
 }
 
 // Looks at the pending signals, by number.
-fn look_at_signals(parts: &Parts, decls: &[Decl], next: &mut NextText, desk: &mut Desk)
+fn look_at_signals_in_full(parts: &Parts, decls: &[Decl], next: &mut NextText, desk: &mut Desk)
+    requires memory { IsMemoryOf decls.now desk.old.told.texts desk.old.seen }
     ensures kept { WentOn next.old next.new desk.old desk.new (signals_kept decls.now (left_in (left_out parts.now.machine) parts.now.machine) 32) }
     ensures short { (signal : ℕ) → signal < 32 → HasShortText decls.now (signal_fact (left_in (left_out parts.now.machine) parts.now.machine) signal) }
+    ensures memory { IsMemoryOf decls.now desk.new.told.texts desk.new.seen }
 {
     let out_of_it = left_out(parts);
     for signal in 0..32u8 {
@@ -283,27 +255,31 @@ fn look_at_signals(parts: &Parts, decls: &[Decl], next: &mut NextText, desk: &mu
     }
 }
 
+// The same; where no record is pending, no signal is looked at by itself.
+fn look_at_signals(parts: &Parts, decls: &[Decl], next: &mut NextText, desk: &mut Desk)
+    requires memory { IsMemoryOf decls.now desk.old.told.texts desk.old.seen }
+    ensures kept { WentOn next.old next.new desk.old desk.new (signals_kept decls.now (left_in (left_out parts.now.machine) parts.now.machine) 32) }
+    ensures short { (signal : ℕ) → signal < 32 → HasShortText decls.now (signal_fact (left_in (left_out parts.now.machine) parts.now.machine) signal) }
+    ensures memory { IsMemoryOf decls.now desk.new.told.texts desk.new.seen }
+{
+    if parts.none_pending() {
+        desk.go_over_nothings(32);
+        return;
+    }
+    look_at_signals_in_full(parts, decls, next, desk);
+}
+
 /// A look at the facts of the state. What was told of each last is replaced by what is told now, and the desk has the lines of those that
-/// change, each with the instant in front; and what is seen of the status of each thread is kept. Where the process has ended they are the facts of the state without the record that ended it.
+/// change, each with the instant in front. Where the process has ended they are the facts of the state without the record that ended it.
 /// It takes no memory.
-pub fn look_at_facts(
-    parts: &Parts,
-    script: &Script,
-    next: &mut NextText,
-    desk: &mut Desk,
-    seen: &mut [Option<Seen>],
-)
+pub fn look_at_facts(parts: &Parts, script: &Script, next: &mut NextText, desk: &mut Desk)
     requires numbered { AreNumbered script.now parts.now.machine }
     requires objects { HasObjectsOf script.now parts.now.machine }
     requires ready { IsReady script.now next.old.room desk.old }
-    requires many { length parts.now.machine.threads ≤ length seen.old }
-    requires last { AreTextsSeen script.now.decls (length parts.now.machine.threads) seen.old (drop 255 desk.old.told.texts) }
     ensures told { desk.new.told.texts ≡ texts_of script.now.decls (facts script.now (once_ended parts.now.machine.killed parts.now.machine)) }
     ensures lines { desk.new.lines.text ≡ changed_lines parts.now.machine.now desk.old.subjects.texts desk.old.told.texts desk.new.told.texts }
     ensures subjects { desk.new.subjects ≡ desk.old.subjects }
     ensures ready { IsReady script.now next.new.room desk.new }
-    ensures seen { AreTextsSeen script.now.decls (length parts.now.machine.threads) seen.new (drop 255 desk.new.told.texts) }
-    ensures many { length seen.new ≡ length seen.old }
 {
     desk.begin(parts.instant().get());
     let decls = script.decls.items();
@@ -311,7 +287,7 @@ pub fn look_at_facts(
     know_rows(parts);
     know_few(parts);
     look_at_lists(parts, decls, next, desk);
-    look_at_threads(parts, decls, next, desk, seen);
+    look_at_threads(parts, decls, next, desk);
     look_at_objects(parts, script, next, desk);
     look_at_signals(parts, decls, next, desk);
 }

@@ -1,15 +1,17 @@
 //! Whether a fact tells nothing, seen without its text.
-ghost use Rattle.std.specs.Prelude.{◌≡◌, ◌<◌, Bool, List, [], None, false, length, option_map, true};
+ghost use Rattle.std.specs.Prelude.{ℕ, ◌≡◌, ◌<◌, Bool, List, [], None, false, length, option_map, true};
 ghost use Rattle.rules_lists.specs.Lists.{list_of};
 ghost use Rattle.rules_facts.specs.Fact.{on_list};
 ghost use Rattle.rules_facts.specs.Objects.{in_service_order};
 ghost use Rattle.rules_facts.specs.Signals.{signal_fact};
 ghost use Rattle.rules_facts.specs.Threads.{inner_bodies, planned};
+ghost use Rattle.kernel_facts.specs.Blocks.{is_inner};
 ghost use Rattle.kernel_facts.specs.InLine.{stands_in};
 ghost use Rattle.kernel_facts.specs.Kept.{waiters_text};
 ghost use Rattle.kernel_facts.specs.Nothing.{IsBare, TellNothing, TellsNothing, is_status, wait_obj};
 ghost use Rattle.kernel_facts.specs.Picked.{left_in};
 ghost use Rattle.kernel_facts.specs.Rows.{object_count, object_facts, thread_fact_of};
+ghost use Rattle.kernel_facts.specs.declared.rows.ThreadRow.{ThreadRow};
 
 use crate::rows::{ObjectRow, ThreadRow};
 use crate::threads::is_main;
@@ -106,6 +108,46 @@ pub(crate) fn thread_tells_nothing(parts: &Parts, row: ThreadRow, t: Tid) -> boo
         return is_bare(thread, row);
     }
     !is_status(row)
+}
+
+// Whether a thread that lives has nothing that an inner row tells.
+fn is_bare_in_each(thread: &Thread) -> bool
+    ensures { result ≡ true → (row : ThreadRow) → is_inner row ≡ true → IsBare row thread.now }
+{
+    if !is_bare(thread, ThreadRow::Frames) {
+        return false;
+    }
+    if !is_bare(thread, ThreadRow::Mask) {
+        return false;
+    }
+    if !is_bare(thread, ThreadRow::Cancelability) {
+        return false;
+    }
+    is_bare(thread, ThreadRow::Cleanups)
+}
+
+// Whether nothing is told of a thread but its status and what its server has planned.
+fn is_bare_inside(parts: &Parts, t: Tid) -> bool
+    requires { t < length parts.now.names }
+    ensures { result ≡ true → (row : ThreadRow) → is_inner row ≡ true → TellsNothing (thread_fact_of row parts.now.machine t) }
+{
+    let thread = parts.thread(t);
+    if !thread.is_live() {
+        return true;
+    }
+    is_bare_in_each(thread)
+}
+
+/// Whether nothing is told of any thread but its status and what its server has planned.
+pub(crate) fn are_bare_inside(parts: &Parts) -> bool
+    ensures { result ≡ true → (row : ThreadRow) → is_inner row ≡ true → (t : ℕ) → t < length parts.now.machine.threads → TellsNothing (thread_fact_of row parts.now.machine t) }
+{
+    for number in 0..parts.count() {
+        if !is_bare_inside(parts, parts.tid(number)) {
+            return false;
+        }
+    }
+    true
 }
 
 // ---- who waits

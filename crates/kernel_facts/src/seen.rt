@@ -1,18 +1,15 @@
 //! What the fact of a thread's status tells, as a value.
-ghost use Rattle.std.specs.Prelude.{ℕ, ◌≡◌, ◌<◌, ◌≤◌, ◌^◌, IfOk, List, None, Some, false, length, replicate, true};
-ghost use Rattle.words_script.specs.declared.decl.Decl.{Decl};
+ghost use Rattle.std.specs.Prelude.{ℕ, ◌≡◌, ◌<◌, false, length, true};
 ghost use Rattle.kernel_facts.specs.declared.seen.SeenWait.TheVariants as waits;
 ghost use Rattle.words_trace.specs.declared.event.CallName.TheVariants as calls;
 ghost use Rattle.kernel_threads.specs.Plain.{wait_of, waiting_of};
 ghost use Rattle.rules_facts.specs.Fact.{blocked_thread};
 ghost use Rattle.rules_facts.specs.Threads.{awaited, block_of, thread_fact};
 ghost use Rattle.kernel_facts.specs.Seen.{due_of, seen_fact, what_of};
-ghost use Rattle.kernel_facts.specs.Short.{HasShortText};
 
 use kernel_state::Parts;
 use kernel_threads::{Status, Wait, Waiting};
 use rules_machine::call_name;
-use std::alloc::{AllocError, Global};
 use words_numbers::{Tick, Tid};
 use words_trace::CallName;
 
@@ -127,24 +124,6 @@ pub(crate) fn see(parts: &Parts, t: Tid) -> Seen
     }
 }
 
-// The numbers have 64 bits.
-fn know_numbers(seen: &Seen)
-    ensures assigned { seen.now.assigned < 2 ^ 64 }
-    ensures exec { seen.now.exec < 2 ^ 64 }
-    ensures due { seen.now.due < 2 ^ 64 }
-{
-    let _assigned = seen.assigned;
-    let _exec = seen.exec;
-    let _due = seen.due;
-}
-
-/// What is seen is told by a short text.
-pub(crate) fn know_seen(seen: &Seen)
-    ensures { (decls : List Decl) → (t : ℕ) → HasShortText decls (seen_fact t seen.now) }
-{
-    know_numbers(seen);
-}
-
 // Whether the parts that are numbers are the same.
 fn has_same_numbers(a: &Seen, b: &Seen) -> bool
     ensures assigned { result ≡ true → a.now.assigned ≡ b.now.assigned }
@@ -178,7 +157,8 @@ fn is_same_call(a: CallName, b: CallName) -> bool
     a == b
 }
 
-fn is_same(a: &Seen, b: &Seen) -> bool
+/// Whether the same status is seen.
+pub(crate) fn is_same(a: &Seen, b: &Seen) -> bool
     ensures { result ≡ true → a.now ≡ b.now }
 {
     if !is_same_status(a.status, b.status) {
@@ -191,26 +171,4 @@ fn is_same(a: &Seen, b: &Seen) -> bool
         return false;
     }
     has_same_numbers(a, b)
-}
-
-/// Whether that was seen last.
-pub(crate) fn was_seen(last: &Option<Seen>, now: &Seen) -> bool
-    ensures { result ≡ true → last.now ≡ Some now.now }
-{
-    match last {
-        None => false,
-        Some(seen) => is_same(seen, now),
-    }
-}
-
-/// Nothing, so many times. It takes all memory at once.
-pub fn nothing_seen(alloc: Global, count: usize) -> Result<Vec<Option<Seen>>, AllocError>
-    requires { count < 2 ^ 32 }
-    ensures { IfOk result (λ seen. seen.items ≡ replicate count None) }
-{
-    let mut seen = Vec::with_capacity(alloc, count)?;
-    for _ in 0..count {
-        seen.push(None)?;
-    }
-    Ok(seen)
 }

@@ -1,7 +1,6 @@
 -- The kernel of a script has the script's threads and objects at each instant of its run, and queues that are no deeper than it says.
-use Rattle.std.proofs.Common.{◌≡◌, ◌∙◌, ◌+◌, ◌*◌, ◌++◌, ◌≤◌, ℕ, List, None, Option, [], ap, arith, false, length, refl, subst, suc, sym, zero}
-use Rattle.std.specs.Prelude.{drop, replicate, slice_index_or}
-use Rattle.std.proofs.lemmas.List.{get_or-replicate, length-map, length-replicate}
+use Rattle.std.proofs.Common.{◌≡◌, ◌∙◌, ◌+◌, ◌*◌, ◌++◌, ℕ, List, [], ap, arith, length, refl, subst, suc, sym, zero}
+use Rattle.std.proofs.lemmas.List.{length-map}
 use Rattle.words_script.specs.declared.decl.Script.{Script}
 use Rattle.rules_bodies.specs.declared.cursor.Cursor.{Cursor}
 use Rattle.rules_machine.specs.Declarations.{queues_of, threads_of}
@@ -16,19 +15,19 @@ use Rattle.laws_detail.proofs.Depths.{depths_throughout}
 use Rattle.laws_kernel.specs.Counts.{Counts}
 use Rattle.laws_kernel.proofs.Ranges.{flat_bodies_fit}
 use Rattle.parts_texts.specs.Slots.{Held, no_texts}
-use Rattle.parts_texts.specs.Texts.{Told}
-use Rattle.kernel_facts.specs.Desk.{AreSubjects, HasDeskRooms, IsReady}
+use Rattle.parts_texts.specs.Texts.{Next, Told}
+use Rattle.kernel_facts.specs.Desk.{AreSubjects, HasDeskRooms, IsOpened, IsReady}
 use Rattle.kernel_facts.specs.Kept.{Kept}
-use Rattle.kernel_facts.specs.Rooms.{AreRooms, HasFewOfEach, HasObjectsOf, HasRooms, facts_told, no_text}
+use Rattle.kernel_facts.specs.Rooms.{AreRooms, HasFewOfEach, HasObjectsOf, HasRooms, facts_told}
 use Rattle.kernel_facts.specs.declared.desk.Desk.{Desk}
-use Rattle.kernel_facts.specs.Seen.{AreTextsSeen, IsTextSeen}
+use Rattle.kernel_facts.specs.FactSeen.{IsMemoryOf}
 use Rattle.kernel_facts.specs.declared.rooms.Rooms.{Rooms}
-use Rattle.kernel_facts.specs.declared.seen.Seen.{Seen}
+use Rattle.kernel_facts.proofs.FactsSeen.{memory_none}
 use Rattle.kernel_facts.proofs.Roomy.{rooms_hold}
 use Rattle.kernel_facts.proofs.Deep.{no_deeper}
 use Rattle.kernel_state.specs.Kernel.{Kernel, opened}
 use Rattle.calls_table.specs.Calls.{objects_in}
-use Rattle.kernel_leaps.specs.Detail.{HaveRoomsFor, SeesThreads}
+use Rattle.kernel_leaps.specs.Detail.{HaveRoomsFor}
 use Rattle.kernel_leaps.specs.Fits.{Fits}
 use Rattle.kernel_leaps.specs.Shown.{HasFewObjects}
 use Rattle.kernel_leaps.specs.declared.fact_texts.FactTexts.{FactTexts}
@@ -91,30 +90,24 @@ few_of_each script ok few =
     }
 
 pub opened_rooms : (script : Script) (rooms : Rooms) → AreRooms script rooms → (t : FactTexts) (lines : ℕ) → lines ≡ rooms.room + 22 * rooms.most + 1
-    → t.desk ≡ record { subjects = no_text rooms; told = record { texts = no_texts rooms.most; room = rooms.longest }; lines = record { text = []; room = lines; faults = 0 }; at = 0; instant = 0; is_full = false }
-    → t.seen.items ≡ replicate rooms.most None → t.next.room ≡ rooms.longest → HaveRoomsFor script t
-opened_rooms script rooms are t lines size is none one =
+    → IsOpened rooms lines t.desk → t.next.room ≡ rooms.longest → HaveRoomsFor script t
+opened_rooms script rooms are t lines size is one =
     let most = are.most in
     let long = are.longest in
     let whole : facts_told script * (rooms.longest + 22) ≡ rooms.room + 22 * rooms.most =
     by_parts (facts_told script) rooms.longest ∙ ap (λ (n : ℕ). n + 22 * facts_told script) (ap (λ (n : ℕ). facts_told script * n) long ∙ sym are.room) ∙ ap (λ (n : ℕ). rooms.room + 22 * n) (sym most) in
-    let opened : HasDeskRooms script rooms.longest (record { subjects = no_text rooms; told = record { texts = no_texts rooms.most; room = rooms.longest }; lines = record { text = []; room = lines; faults = 0 }; at = 0; instant = 0; is_full = false }) =
+    let room = ap (λ (h : Held). h.room) is.told in
+    let lines_room = ap (λ (n : Next). n.room) is.lines in
     record {
-      fresh = refl;
-      long = omega (arith, long);
-      slots = omega arith;
-      number = so_many rooms.most ∙ most;
-      lines = omega (arith, size, whole);
-      subjects = rooms_hold script rooms are;
-    } in
-    let places = ap length none ∙ length-replicate rooms.most None in
-    record {
-      desk = subst (λ (n : ℕ). HasDeskRooms script n t.desk) (sym one) (subst (HasDeskRooms script rooms.longest) (sym is) opened);
-      seen = record {
-        many = omega (arith, places, most);
-        told = λ u low. subst (λ (all : List (Option Seen)). IsTextSeen script.decls u (slice_index_or all u None) (slice_index_or (drop 255 t.desk.told.texts) u [])) (sym none)
-            (subst (λ (s : Option Seen). IsTextSeen script.decls u s (slice_index_or (drop 255 t.desk.told.texts) u [])) (sym (get_or-replicate rooms.most u None None (omega (arith, low, most)))) tt);
-      };
+      desk = subst (λ (n : ℕ). HasDeskRooms script n t.desk) (sym one) (record {
+        fresh = is.is_full;
+        long = omega (arith, long);
+        slots = omega (arith, room);
+        number = ap (λ (h : Held). length h.texts) is.told ∙ so_many rooms.most ∙ most;
+        lines = omega (arith, size, whole, lines_room);
+        seen = subst (IsMemoryOf script.decls t.desk.told.texts) (sym is.seen) (memory_none script.decls t.desk.told.texts rooms.most);
+        subjects = subst (HasRooms script rooms.longest) (sym is.subjects) (rooms_hold script rooms are);
+      });
     }
   where
     by_parts : (count one : ℕ) → count * (one + 22) ≡ count * one + 22 * count
@@ -146,18 +139,6 @@ pub begun_ready : (script : Script) (one next : ℕ) (old : Desk) (subjects : To
     → IsReady script next (record old { subjects = subjects })
 begun_ready script one next old subjects same h rooms are =
     subst (λ (n : ℕ). IsReady script n (record old { subjects = subjects })) (sym same) (record {
-      rooms = record { fresh = h.fresh; long = h.long; slots = h.slots; number = h.number; lines = h.lines; subjects = subst (λ (n : ℕ). HasRooms script n subjects) same rooms };
+      rooms = record { fresh = h.fresh; long = h.long; slots = h.slots; number = h.number; lines = h.lines; seen = h.seen; subjects = subst (λ (n : ℕ). HasRooms script n subjects) same rooms };
       subjects = are;
     })
-
--- what was seen of a script's threads, by their number in a state
-pub seen_by : (script : Script) (count : ℕ) (old : FactTexts) (all : List (Option Seen)) (told : Held) → count ≡ length (threads_of script) → length all ≡ length old.seen.items → length (threads_of script) ≤ length old.seen.items
-    → AreTextsSeen script.decls count all (drop 255 told.texts) → (new : FactTexts) → new.seen.items ≡ all → new.desk.told ≡ told → SeesThreads script new
-seen_by script count old all told same long many seen new is_all is_told =
-    let places = ap length is_all ∙ long in
-    record {
-      many = omega (arith, places, many);
-      told = subst (λ (xs : List (Option Seen)). AreTextsSeen script.decls (length (threads_of script)) xs (drop 255 new.desk.told.texts)) (sym is_all)
-          (subst (λ (h : Held). AreTextsSeen script.decls (length (threads_of script)) all (drop 255 h.texts)) (sym is_told)
-          (subst (λ (n : ℕ). AreTextsSeen script.decls n all (drop 255 told.texts)) same seen));
-    }

@@ -1,8 +1,8 @@
 -- What `detail` has told of a run, leap by leap. All of it is this project's own.
-use Rattle.std.specs.Prelude.{Bool, List, None, Option, drop, false, length, not, suc, true, ℕ, ◌+◌, ◌-◌, ◌*◌, ◌&&◌, ◌++◌, ◌<◌, ◌≤◌, ◌≡◌, if◌then◌else◌}
+use Rattle.std.specs.Prelude.{Bool, List, None, Option, false, length, not, suc, true, ℕ, ◌+◌, ◌-◌, ◌*◌, ◌&&◌, ◌++◌, ◌<◌, ◌≤◌, ◌≡◌, if◌then◌else◌}
 use Rattle.words_script.specs.declared.decl.Script.{Script}
 use Rattle.rules_bodies.specs.Next.{Place}
-use Rattle.rules_machine.specs.Declarations.{actions_of, threads_of}
+use Rattle.rules_machine.specs.Declarations.{actions_of}
 use Rattle.rules_machine.specs.Eventful.{has_item, next_tick_matters}
 use Rattle.rules_machine.specs.Machine.{run}
 use Rattle.rules_machine.specs.Runs.{opening, ticks}
@@ -15,7 +15,6 @@ use Rattle.script_printer.specs.Puts.{Put, outlet}
 use Rattle.kernel_facts.specs.Changed.{HaveSameSubjects}
 use Rattle.kernel_facts.specs.Desk.{HasDeskRooms, IsReady}
 use Rattle.kernel_facts.specs.Kept.{texts_of}
-use Rattle.kernel_facts.specs.Seen.{AreTextsSeen}
 use Rattle.kernel_facts.specs.Subjects.{subjects_of}
 use Rattle.kernel_state.specs.Kernel.{Kernel, opened}
 use Rattle.kernel_state.specs.Stood.{StoodRight}
@@ -45,20 +44,13 @@ pub record IsAfterQuietTick (script : Script) (n : ℕ) : Type 0 where
 
 -- ---- the texts of the facts
 
--- There is a place for each thread, and where something was seen of its status, its text tells it.
-pub record SeesThreads (script : Script) (t : FactTexts) : Type 0 where
-  pub many : length (threads_of script) ≤ length t.seen.items
-  pub told : AreTextsSeen script.decls (length (threads_of script)) t.seen.items (drop 255 t.desk.told.texts)
-
 -- No text was without room, and the rooms are as large as the facts of the script's run need.
 pub record HaveRoomsFor (script : Script) (t : FactTexts) : Type 0 where
   pub desk : HasDeskRooms script t.next.room t.desk
-  pub seen : SeesThreads script t
 
 -- and there is a subject for each of them
 pub record AreReady (script : Script) (t : FactTexts) : Type 0 where
   pub desk : IsReady script t.next.room t.desk
-  pub seen : SeesThreads script t
 
 -- The texts are those of the facts before an instant of a run, and of the subjects of all facts, in rooms for each later one.
 pub record AreBefore (script : Script) (n : ℕ) (t : FactTexts) : Type 0 where

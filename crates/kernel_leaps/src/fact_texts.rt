@@ -12,7 +12,7 @@ ghost use Rattle.rules_flat_code.specs.Runnable.{IsRunnable};
 ghost use Rattle.kernel_leaps.specs.Detail.{AreReady, HaveRoomsFor};
 ghost use Rattle.kernel_leaps.specs.Shown.{HasFewObjects};
 
-use kernel_facts::{Desk, Seen, keep_subjects, look_at_facts, nothing_seen, rooms_of};
+use kernel_facts::{Desk, keep_subjects, look_at_facts, rooms_of};
 use kernel_state::Parts;
 use parts_io::Sink;
 use parts_texts::NextText;
@@ -28,8 +28,6 @@ const MOST_BYTES: usize = 1 << 39;
 #[derive(Drop)]
 pub struct FactTexts {
     desk: Desk,
-    // what was seen last of the status of each thread
-    seen: Vec<Option<Seen>>,
     // one text, before it takes its place
     next: NextText,
 }
@@ -49,7 +47,6 @@ impl FactTexts {
         let lines = rooms.room + 22 * rooms.most + 1;
         Ok(FactTexts {
             desk: Desk::open(alloc, &rooms, lines)?,
-            seen: nothing_seen(alloc, rooms.most)?,
             next: NextText::open(alloc, rooms.longest)?,
         })
     }
@@ -67,8 +64,7 @@ impl FactTexts {
         let _signals = parts.signal_count();
         self.desk.subjects.clear();
         keep_subjects(parts, script, &mut self.next, &mut self.desk.subjects);
-        let seen = self.seen.as_mut_slice();
-        look_at_facts(parts, script, &mut self.next, &mut self.desk, seen);
+        look_at_facts(parts, script, &mut self.next, &mut self.desk);
     }
 
     /// Takes in what is told of a state, and the lines of the facts that tell something else now than was told before.
@@ -83,8 +79,7 @@ impl FactTexts {
         ensures ready { AreReady script.now self.new }
     {
         let _signals = parts.signal_count();
-        let seen = self.seen.as_mut_slice();
-        look_at_facts(parts, script, &mut self.next, &mut self.desk, seen);
+        look_at_facts(parts, script, &mut self.next, &mut self.desk);
     }
 
     /// Writes the lines of the facts that changed, and answers whether a write failed.

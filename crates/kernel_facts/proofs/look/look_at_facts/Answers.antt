@@ -1,12 +1,12 @@
-use Rattle.std.proofs.Common.{List, ap, append_assoc, arith, drop, length, refl, subst, sym, ◌<◌, ◌≡◌, ◌++◌, ◌∙◌, ℕ}
+use Rattle.std.proofs.Common.{List, ap, arith, length, refl, subst, sym, ◌<◌, ◌≡◌, ◌∙◌, ℕ}
 use Rattle.words_script.specs.declared.decl.Decl.{Decl}
 use Rattle.rules_facts.specs.Facts.{facts}
 use Rattle.rules_facts.specs.Shown.{once_ended}
-use Rattle.kernel_facts.specs.Desk.{WentOn, told_left}
-use Rattle.kernel_facts.specs.Seen.{AreTextsSeen}
-use Rattle.kernel_facts.specs.Kept.{lists_kept, objects_kept, signals_kept, texts_of, thread_row_kept, threads_kept}
+use Rattle.kernel_facts.specs.Desk.{WentOn}
+use Rattle.kernel_facts.specs.FactSeen.{IsMemoryOf}
+use Rattle.kernel_facts.specs.Kept.{lists_kept, signals_kept, texts_of, threads_kept}
 use Rattle.kernel_facts.specs.Picked.{left_in}
-use Rattle.kernel_facts.specs.Rows.{left_out, list_text, object_count, object_facts, thread_fact_of}
+use Rattle.kernel_facts.specs.Rows.{left_out, object_count, object_facts, thread_fact_of}
 use Rattle.kernel_facts.specs.Short.{HasShortText, HaveShortTexts}
 use Rattle.kernel_facts.specs.declared.rows.ObjectRow.{ObjectRow}
 use Rattle.kernel_facts.specs.declared.rows.ObjectRow.TheVariants as object
@@ -19,7 +19,6 @@ use Rattle.kernel_facts.specs.Modest.{NamesAreShort}
 use Rattle.kernel_facts.proofs.Looking.{went_both}
 use Rattle.kernel_facts.proofs.Modest.{number_len}
 use Rattle.kernel_facts.proofs.Ready.{begun, has_looked, is_roomy, roomy_list}
-use Rattle.kernel_facts.proofs.SeenTexts.{length_below, seen_left, six_rows, texts_seen}
 use Rattle.kernel_facts.proofs.Roomy.{facts_fit, facts_number}
 use Rattle.kernel_facts.specs.declared.desk.Desk.{Desk}
 use Rattle.kernel_facts.proofs.KeptFacts.{state_kept}
@@ -27,18 +26,18 @@ use Rattle.kernel_facts.proofs.ShortFacts.{each_object_row, each_thread_row, sta
 use Rattle.kernel_facts.proofs.Whole.{ended_state}
 use Rattle.kernel_facts.proofs.look.look_at_facts.Goals as goal
 
-pub look_at_threads-requires-clause-last : goal.look_at_threads-requires-clause-last
-look_at_threads-requires-clause-last c e =
-    let m = c.args.parts.now.machine in
-    subst (λ (ds : List Decl). AreTextsSeen ds (length m.threads) c.args.seen.now (told_left c.look_at_lists.new.desk)) (sym c.items-decls.ensures)
-    (seen_left c.args.script.now.decls (length m.threads) c.args.seen.now c.args.desk.now c.begin.new.self c.look_at_lists.new.desk _ (length_below (λ (i : ℕ). list_text c.items-decls.result.now 255 m.lists i) 255) (ap (λ (d : Desk). d.at) c.begin.ensures)
-    (ap (λ (d : Desk). d.told) c.begin.ensures) (c.look_at_lists.ensures.looked e) c.requires.last)
+pub look_at_lists-requires : goal.look_at_lists-requires
+look_at_lists-requires c = record {
+  memory =
+      subst (λ (d : Desk). IsMemoryOf c.items-decls.result.now d.told.texts d.seen) (sym c.begin.ensures)
+      (subst (λ (ds : List Decl). IsMemoryOf ds c.args.desk.now.told.texts c.args.desk.now.seen) (sym c.items-decls.ensures) c.requires.ready.rooms.seen);
+}
 
 pub returns : goal.returns
 returns c =
     let m = c.args.parts.now.machine in
     let same = c.items-decls.ensures in
-    let lists = subst (λ (ds : List Decl). WentOn c.args.next.now c.look_at_lists.new.next c.begin.new.self c.look_at_lists.new.desk (lists_kept ds m.lists)) same c.look_at_lists.ensures in
+    let lists = subst (λ (ds : List Decl). WentOn c.args.next.now c.look_at_lists.new.next c.begin.new.self c.look_at_lists.new.desk (lists_kept ds m.lists)) same c.look_at_lists.ensures.kept in
     let threads =
     subst (λ (ds : List Decl). WentOn c.look_at_lists.new.next c.look_at_threads.new.next c.look_at_lists.new.desk c.look_at_threads.new.desk (threads_kept ds m)) same c.look_at_threads.ensures.kept in
     let signals =
@@ -74,19 +73,8 @@ returns c =
     let range = c.get.ensures.range in
     let early = number_len m.now (omega (arith, value, range)) in
     let begins : c.begin.new.self ≡ begun m.now c.args.desk.now = c.begin.ensures ∙ ap (λ (n : ℕ). begun n c.args.desk.now) value in
+    let memory = subst (λ (ds : List Decl). IsMemoryOf ds c.look_at_signals.new.desk.told.texts c.look_at_signals.new.desk.seen) same c.look_at_signals.ensures.memory in
     let done = has_looked c.args.script.now c.args.next.now c.look_at_signals.new.next c.args.desk.now c.look_at_signals.new.desk m.now
     (texts_of c.args.script.now.decls (facts c.args.script.now (once_ended m.killed m))) ready early fit.each number
-    (subst (λ (d : Desk). WentOn c.args.next.now c.look_at_signals.new.next d c.look_at_signals.new.desk (texts_of c.args.script.now.decls (facts c.args.script.now (once_ended m.killed m)))) begins all) in
-    let ds = c.args.script.now.decls in
-    let behind = objects_kept ds m ++ signals_kept ds (left_in (left_out m) m) 32 in
-    let row = λ (r : ThreadRow). thread_row_kept ds r m in
-    let rows = done.told ∙ sym (state_kept c.args.script.now m c.know_rows.ensures.lists c.know_rows.ensures.signals)
-    ∙ ap (λ (ts : List (List ℕ)). lists_kept ds m.lists ++ ts) (six_rows (row thread.Status) (row thread.Frames) (row thread.Mask) (row thread.Cancelability) (row thread.Cleanups) (row thread.Pending) behind) in
-    record {
-      told = done.told;
-      lines = done.lines;
-      subjects = done.subjects;
-      ready = done.ready;
-      seen = texts_seen ds m c.look_at_threads.new.seen c.look_at_signals.new.desk.told.texts _ c.look_at_threads.ensures.seen rows;
-      many = c.look_at_threads.ensures.many;
-    }
+    (subst (λ (d : Desk). WentOn c.args.next.now c.look_at_signals.new.next d c.look_at_signals.new.desk (texts_of c.args.script.now.decls (facts c.args.script.now (once_ended m.killed m)))) begins all) memory in
+    record { told = done.told; lines = done.lines; subjects = done.subjects; ready = done.ready }

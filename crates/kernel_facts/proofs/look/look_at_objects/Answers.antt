@@ -14,7 +14,7 @@ returns-clause-kept c =
     subst (λ (decls : List Decl). WentOn c.args.next.now c.look_at_object_row-8.new.next c.args.desk.now c.look_at_object_row-8.new.desk (objects_kept decls c.args.parts.now.machine)) c.items-decls.ensures
     (went_both _ _ _ _ _ _ _ _ (went_both _ _ _ _ _ _ _ _ (went_both _ _ _ _ _ _ _ _ (went_both _ _ _ _ _ _ _ _ (went_both _ _ _ _ _ _ _ _ (went_both _ _ _ _ _ _ _ _ (went_both _ _ _ _ _ _ _ _ (went_both _ _ _ _ _ _ _ _
     c.look_at_object_row.ensures.kept c.look_at_object_row-2.ensures.kept) c.look_at_object_row-3.ensures.kept) c.look_at_object_row-4.ensures.kept) c.look_at_object_row-5.ensures.kept) c.look_at_object_row-6.ensures.kept)
-    c.look_at_queue_waiters.ensures) c.look_at_object_row-7.ensures.kept) c.look_at_object_row-8.ensures.kept)
+    c.look_at_queue_waiters.ensures.kept) c.look_at_object_row-7.ensures.kept) c.look_at_object_row-8.ensures.kept)
 
 pub returns-clause-short : goal.returns-clause-short
 returns-clause-short c =

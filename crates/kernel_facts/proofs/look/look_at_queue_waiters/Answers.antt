@@ -3,14 +3,17 @@ use Rattle.kernel_facts.proofs.Looking.{went_both, went_none}
 use Rattle.kernel_facts.proofs.look.look_at_queue_waiters.Goals as goal
 
 pub loop-number-init : goal.loop-number-init
-loop-number-init c = went_none _ _
+loop-number-init c = record { kept = went_none _ _; memory = c.requires.memory }
 
 pub loop-number-preserved : goal.loop-number-preserved
-loop-number-preserved c =
-    rw add-one (went_both _ _ _ _ _ _ _ _ c.loop-number.invariant
-    (went_both _ _ _ _ _ _ _ _ (rw c.object_of.ensures at c.look_at_waiters.ensures) (rw c.object_of-in-loop-number.ensures at c.look_at_waiters-in-loop-number.ensures)))
+loop-number-preserved c = record {
+  kept =
+      rw add-one (went_both _ _ _ _ _ _ _ _ c.loop-number.invariant.kept
+      (went_both _ _ _ _ _ _ _ _ (rw c.object_of.ensures at c.look_at_waiters.ensures.kept) (rw c.object_of-in-loop-number.ensures at c.look_at_waiters-in-loop-number.ensures.kept)));
+  memory = c.look_at_waiters-in-loop-number.ensures.memory;
+}
 
-pub returns : goal.returns
-returns c =
+pub returns-clause-kept : goal.returns-clause-kept
+returns-clause-kept c =
     let all : c.loop-number.number ≡ length c.args.parts.now.machine.queues = omega (arith, c.queue_count-number-end.ensures) in
-    rw all at c.loop-number.invariant
+    rw all at c.loop-number.invariant.kept

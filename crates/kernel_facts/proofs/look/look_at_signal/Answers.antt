@@ -3,10 +3,13 @@ use Rattle.kernel_facts.proofs.NothingTold.{nothing_short}
 use Rattle.kernel_facts.proofs.look.look_at_signal.Goals as goal
 
 pub returns-clause-kept : goal.returns-clause-kept
-returns-clause-kept c = went_printed _ _ _ _ c.clear.ensures _ _ _ c.print_signal-failed.ensures.text c.keep.ensures
+returns-clause-kept c = went_printed _ _ _ _ c.clear.ensures _ _ _ c.print_signal-failed.ensures.text c.keep.ensures.over
 
 pub returns-then-signal_tells_nothing-clause-kept : goal.returns-then-signal_tells_nothing-clause-kept
-returns-then-signal_tells_nothing-clause-kept c = went_nothing _ _ _ _ (c.signal_tells_nothing.ensures c.if-signal_tells_nothing.true c.args.decls.now) c.go_over_nothing.ensures
+returns-then-signal_tells_nothing-clause-kept c = went_nothing _ _ _ _ (c.signal_tells_nothing.ensures c.if-signal_tells_nothing.true c.args.decls.now) c.go_over_nothing.ensures.went
 
 pub returns-then-signal_tells_nothing-clause-short : goal.returns-then-signal_tells_nothing-clause-short
 returns-then-signal_tells_nothing-clause-short c = nothing_short c.args.decls.now _ (c.signal_tells_nothing.ensures c.if-signal_tells_nothing.true c.args.decls.now)
+
+pub returns-clause-memory : goal.returns-clause-memory
+returns-clause-memory c = c.keep.ensures.seen c.args.decls.now c.requires.memory (λ good. tt)

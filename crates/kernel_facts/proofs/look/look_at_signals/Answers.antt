@@ -1,34 +1,25 @@
-use Rattle.std.proofs.Common.{◌≡◌, [], ◌∷◌, ℕ, Option, add-one, arith, below_more, subst, ◌<◌}
+use Rattle.std.proofs.Common.{subst, sym, ℕ}
 use Rattle.rules_facts.specs.Signals.{signal_fact}
 use Rattle.kernel_facts.specs.Desk.{WentOn}
-use Rattle.kernel_facts.specs.Kept.{kept_below}
 use Rattle.kernel_facts.specs.Lines.{fact_text}
 use Rattle.kernel_facts.specs.Picked.{left_in}
-use Rattle.kernel_facts.specs.Short.{HasShortText}
-use Rattle.kernel_facts.proofs.Looking.{went_both, went_none}
+use Rattle.kernel_facts.specs.Rows.{left_out}
+use Rattle.kernel_facts.proofs.NothingTold.{nothing_short, signal_nothing}
+use Rattle.kernel_facts.proofs.Runs.{kept_nothing}
 use Rattle.kernel_facts.proofs.look.look_at_signals.Goals as goal
 
-pub loop-signal-init : goal.loop-signal-init
-loop-signal-init c = record { kept = went_none _ _; short = λ s low. absurd (omega (arith, low)) }
-
-pub loop-signal-preserved : goal.loop-signal-preserved
-loop-signal-preserved c =
-    let holds = λ (s : ℕ). HasShortText c.args.decls.now (signal_fact (left_in c.left_out-out_of_it.result c.args.parts.now.machine) s) in
-    record {
-      kept = rw add-one (went_both _ _ _ _ _ _ _ _ c.loop-signal.invariant.kept c.look_at_signal.ensures.kept);
-      short = below_more holds c.loop-signal.signal c.loop-signal.invariant.short c.look_at_signal.ensures.short;
-    }
-
-pub returns-clause-kept : goal.returns-clause-kept
-returns-clause-kept c =
+pub returns-then-none_pending-clause-kept : goal.returns-then-none_pending-clause-kept
+returns-then-none_pending-clause-kept c =
     let m = c.args.parts.now.machine in
-    let all : c.loop-signal.signal ≡ 32 = omega arith in
-    let kept = rw all at c.loop-signal.invariant.kept in
-    subst (λ (o : Option ℕ). WentOn c.args.next.now c.loop-signal.next c.args.desk.now c.loop-signal.desk (kept_below (λ (s : ℕ). fact_text c.args.decls.now (signal_fact (left_in o m) s) ∷ []) 32)) c.left_out-out_of_it.ensures kept
+    let ds = c.args.decls.now in
+    subst (WentOn c.args.next.now c.args.next.now c.args.desk.now c.go_over_nothings.new.self)
+    (sym (kept_nothing (λ (s : ℕ). fact_text ds (signal_fact (left_in (left_out m) m) s)) 32 (λ s low. signal_nothing m s (left_out m) (c.none_pending.ensures.0 c.if-none_pending.true) ds)))
+    (c.go_over_nothings.ensures.went ds c.requires.memory c.args.next.now)
 
-pub returns-clause-short : goal.returns-clause-short
-returns-clause-short c =
+pub returns-then-none_pending-clause-short : goal.returns-then-none_pending-clause-short
+returns-then-none_pending-clause-short c s low =
     let m = c.args.parts.now.machine in
-    let all : c.loop-signal.signal ≡ 32 = omega arith in
-    let short = rw all at c.loop-signal.invariant.short in
-    subst (λ (o : Option ℕ). (s : ℕ) → s < 32 → HasShortText c.args.decls.now (signal_fact (left_in o m) s)) c.left_out-out_of_it.ensures short
+    nothing_short c.args.decls.now _ (signal_nothing m s (left_out m) (c.none_pending.ensures.0 c.if-none_pending.true) c.args.decls.now)
+
+pub returns-then-none_pending-clause-memory : goal.returns-then-none_pending-clause-memory
+returns-then-none_pending-clause-memory c = c.go_over_nothings.ensures.seen c.args.decls.now c.requires.memory

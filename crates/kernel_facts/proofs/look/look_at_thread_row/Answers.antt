@@ -5,7 +5,7 @@ use Rattle.kernel_facts.proofs.Looking.{went_both, went_none}
 use Rattle.kernel_facts.proofs.look.look_at_thread_row.Goals as goal
 
 pub loop-number-init : goal.loop-number-init
-loop-number-init c = record { kept = went_none _ _; short = λ t low. absurd (omega (arith, low)) }
+loop-number-init c = record { kept = went_none _ _; short = λ t low. absurd (omega (arith, low)); memory = c.requires.memory }
 
 pub loop-number-preserved : goal.loop-number-preserved
 loop-number-preserved c =
@@ -13,6 +13,7 @@ loop-number-preserved c =
     record {
       kept = rw add-one (went_both _ _ _ _ _ _ _ _ c.loop-number.invariant.kept (rw c.tid.ensures at c.look_at_thread_fact.ensures.kept));
       short = below_more holds c.loop-number.number c.loop-number.invariant.short (rw c.tid.ensures at c.look_at_thread_fact.ensures.short);
+      memory = c.look_at_thread_fact.ensures.memory;
     }
 
 pub returns-clause-kept : goal.returns-clause-kept

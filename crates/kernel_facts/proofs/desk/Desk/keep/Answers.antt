@@ -1,9 +1,14 @@
-use Rattle.std.proofs.Common.{List, refl, subst, ℕ, []}
+use Rattle.std.proofs.Common.{refl, subst, sym}
+use Rattle.kernel_facts.specs.FactSeen.{TellsIfAny, fact_seen}
 use Rattle.kernel_facts.proofs.Looking.{over_failed, over_whole}
 use Rattle.kernel_facts.proofs.desk.Desk.keep.Goals as goal
 
-pub returns-then-failed : goal.returns-then-failed
-returns-then-failed c = over_failed c.args.next.now c.args.self.now _ refl c.know_use.ensures c.args.failed c.if-failed.true
+pub returns-then-failed-clause-over : goal.returns-then-failed-clause-over
+returns-then-failed-clause-over c = over_failed c.args.next.now c.args.self.now _ refl c.know_use.ensures c.args.failed c.if-failed.true
 
-pub returns : goal.returns
-returns c = over_whole c.args.next.now c.args.self.now _ (rw c.text.ensures at c.go_over.ensures) c.know_use.ensures c.args.failed c.if-failed.false
+pub returns-clause-over : goal.returns-clause-over
+returns-clause-over c = over_whole c.args.next.now c.args.self.now _ (rw c.text.ensures at c.go_over.ensures.went) c.know_use.ensures c.args.failed c.if-failed.false
+
+pub returns-clause-seen : goal.returns-clause-seen
+returns-clause-seen c decls h tells =
+    c.go_over.ensures.seen decls h (subst (TellsIfAny decls (fact_seen c.args.seen.now)) (sym c.text.ensures) (tells c.if-failed.false))

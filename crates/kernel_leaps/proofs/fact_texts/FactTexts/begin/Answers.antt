@@ -1,4 +1,4 @@
-use Rattle.std.proofs.Common.{List, ap, length, subst, sym, ◌<◌, ◌≡◌, ◌∙◌}
+use Rattle.std.proofs.Common.{ap, subst, sym, ◌∙◌}
 use Rattle.kernel_facts.specs.Desk.{AreSubjects}
 use Rattle.parts_texts.specs.Texts.{Told}
 use Rattle.kernel_leaps.proofs.TellingRooms.{begun_ready, cleared_rooms, kept_rooms, kept_texts}

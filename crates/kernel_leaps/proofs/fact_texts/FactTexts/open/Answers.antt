@@ -8,4 +8,4 @@ rooms_of-rooms-requires c = few_of_each c.args.script.now c.requires.runnable c.
 
 pub returns : goal.returns
 returns c =
-    opened_rooms c.args.script.now c.rooms_of-rooms.result c.rooms_of-rooms.ensures.rooms _ _ refl c.in_ok-open.ensures c.in_ok-nothing_seen.ensures (ap (λ (x : Next). x.room) c.in_ok-open-2.ensures)
+    opened_rooms c.args.script.now c.rooms_of-rooms.result c.rooms_of-rooms.ensures.rooms _ _ refl c.in_ok-open.ensures (ap (λ (x : Next). x.room) c.in_ok-open-2.ensures)

@@ -1,8 +1,0 @@
-use Rattle.std.proofs.Common.{[], ◌∷◌}
-use Rattle.kernel_facts.specs.Desk.{WentOn}
-use Rattle.kernel_facts.specs.Kept.{kept_below}
-use Rattle.kernel_facts.specs.Rows.{list_text}
-use Rattle.kernel_facts.proofs.look.look_at_lists.Given as goal
-
-abbrev pub invariant-loop-below : goal.invariant-loop-below
-invariant-loop-below l = WentOn l.initial.next l.next l.initial.desk l.desk (kept_below (λ i. list_text l.decls 255 l.parts.machine.lists i ∷ []) l.below)

@@ -1,0 +1,12 @@
+use Rattle.std.proofs.Common.{[], ◌*◌, ◌∷◌}
+use Rattle.kernel_facts.specs.Desk.{WentOn}
+use Rattle.kernel_facts.specs.FactSeen.{IsMemoryOf}
+use Rattle.kernel_facts.specs.Kept.{kept_below}
+use Rattle.kernel_facts.specs.Rows.{list_text}
+use Rattle.kernel_facts.proofs.look_lists.look_at_lists.Given as goal
+
+abbrev pub invariant-loop-block : goal.invariant-loop-block
+invariant-loop-block l = record {
+  kept : WentOn l.initial.next l.next l.initial.desk l.desk (kept_below (λ i. list_text l.decls 255 l.parts.machine.lists i ∷ []) (16 * l.block));
+  memory : IsMemoryOf l.decls l.desk.told.texts l.desk.seen;
+}

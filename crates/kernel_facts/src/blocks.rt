@@ -1,0 +1,88 @@
+//! A look goes over many facts that tell nothing, in blocks of 16.
+ghost use Rattle.std.specs.Prelude.{ℕ, ◌≡◌, ◌≤◌, ◌<◌, ◌+◌, ◌*◌, ◌/◌, ◌^◌, false, length, slice_index_or, true};
+ghost use Rattle.kernel_facts.specs.Blocks.{IsNoted, WentKnown, nothings};
+
+use crate::desk::Desk;
+
+// How many facts come before the next block begins, of so many.
+fn to_block(at: usize, count: usize) -> usize
+    ensures { result ≤ count }
+{
+    let over = at % 16;
+    if over == 0 {
+        return 0;
+    }
+    count.min(16 - over)
+}
+
+impl Desk {
+    // The look goes over so many facts that tell nothing, one by one.
+    fn go_over_each(&mut self, count: usize)
+        ensures { WentKnown self.old self.new (nothings count) }
+    {
+        for _ in 0..count {
+            self.go_over_nothing();
+        }
+    }
+
+    // Whether the 16 facts that come are a block in which nothing was told.
+    fn is_at_quiet_block(&self) -> bool
+        ensures quiet { result ≡ true → (i : ℕ) → i < 16 → slice_index_or self.now.seen.busy ((self.now.at + i) / 16) true ≡ false }
+        ensures small { result ≡ true → self.now.at + 16 < 2 ^ 64 }
+        ensures told { result ≡ true → self.now.at + 16 ≤ length self.now.told.texts }
+        ensures subjects { result ≡ true → self.now.at + 16 ≤ length self.now.subjects.texts }
+    {
+        if self.at % 16 != 0 || !self.seen.is_quiet(self.at / 16) {
+            return false;
+        }
+        self.told.count() >= 16
+            && self.subjects.count() >= 16
+            && self.at <= self.told.count() - 16
+            && self.at <= self.subjects.count() - 16
+    }
+
+    // The 16 facts from that number on tell nothing, as the look that went over them has seen.
+    fn note_quiet(&mut self, start: usize)
+        ensures seen { self.new ≡ record self.old { seen = self.new.seen } }
+        ensures facts { self.new.seen.facts ≡ self.old.seen.facts }
+        ensures quiet { (i : ℕ) → slice_index_or self.new.seen.busy (i / 16) true ≡ false → IsNoted self.old start i }
+    {
+        if self.is_full || start % 16 != 0 {
+            return;
+        }
+        self.seen.calm(start / 16);
+    }
+
+    // The look goes over 16 facts that tell nothing.
+    fn go_over_block(&mut self)
+        ensures { WentKnown self.old self.new (nothings 16) }
+    {
+        if self.is_at_quiet_block() {
+            self.at += 16;
+            return;
+        }
+        let start = self.at;
+        self.go_over_each(16);
+        self.note_quiet(start);
+    }
+
+    // The same, so many times.
+    fn go_over_blocks(&mut self, count: usize)
+        ensures { WentKnown self.old self.new (nothings (16 * count)) }
+    {
+        for _ in 0..count {
+            self.go_over_block();
+        }
+    }
+
+    /// The look goes over so many facts that tell nothing.
+    pub(crate) fn go_over_nothings(&mut self, count: usize)
+        ensures { WentKnown self.old self.new (nothings count) }
+    {
+        let front = to_block(self.at, count);
+        self.go_over_each(front);
+        let left = count - front;
+        self.go_over_blocks(left / 16);
+        self.go_over_each(left % 16);
+    }
+}

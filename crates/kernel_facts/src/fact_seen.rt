@@ -1,0 +1,308 @@
+//! What is seen of a fact as a value, so that no text is written of one that is the same as last.
+ghost use Rattle.std.specs.Prelude.{◌≡◌, ◌<◌, ◌^◌, ◌/◌, IfOk, Some, false, is_some, length, replicate, slice_get, slice_index_or, slice_set, true};
+ghost use Rattle.rules_lists.specs.Lists.{list_of};
+ghost use Rattle.rules_facts.specs.Fact.{on_list, replenishments};
+ghost use Rattle.rules_facts.specs.Objects.{owner_fact};
+ghost use Rattle.rules_facts.specs.Threads.{pending_fact};
+ghost use Rattle.kernel_facts.specs.FactSeen.{IsOf, IsOnlyOf, fact_seen, no_memory};
+ghost use Rattle.kernel_facts.specs.Rows.{object_count, object_facts, thread_fact_of};
+ghost use Rattle.kernel_facts.specs.declared.fact_seen.FactSeen.TheVariants as variant;
+
+use crate::rows::{ObjectRow, ThreadRow};
+use crate::seen::{Seen, is_same, see};
+use kernel_state::Parts;
+use parts_server::Replenish;
+use std::alloc::{AllocError, Global};
+use std::marker::Model;
+use words_numbers::{ObjId, Prio, Tid};
+use words_script::Decl;
+
+/// What is seen of one fact.
+#[derive(Clone, Copy)]
+pub enum FactSeen {
+    /// Nothing: its text alone tells it.
+    Unseen,
+    /// The status of a thread.
+    Status(Tid, Seen),
+    /// A thread that stands alone on the list of a priority.
+    Alone(Prio, Tid),
+    /// Who owns a mutex, and how often it has locked it.
+    Owner(ObjId, Tid, u16),
+    /// The value of a semaphore.
+    Value(ObjId, u16),
+    /// The one replenishment that the server of a thread has planned.
+    PlannedOnce(Tid, Replenish),
+    /// The two that it has planned, the oldest first.
+    PlannedTwice(Tid, Replenish, Replenish),
+}
+
+// ---- whether the same is seen
+
+fn is_status(a: &FactSeen, t: Tid, status: &Seen) -> bool
+    ensures { result ≡ true → a.now ≡ variant.Status t status.now }
+{
+    match a {
+        FactSeen::Status(u, other) => *u == t && is_same(other, status),
+        _ => false,
+    }
+}
+
+fn is_alone(a: &FactSeen, p: Prio, t: Tid) -> bool
+    ensures { result ≡ true → a.now ≡ variant.Alone p t }
+{
+    match a {
+        FactSeen::Alone(q, u) => *q == p && *u == t,
+        _ => false,
+    }
+}
+
+fn is_owner(a: &FactSeen, k: ObjId, t: Tid, count: u16) -> bool
+    ensures { result ≡ true → a.now ≡ variant.Owner k t count }
+{
+    match a {
+        FactSeen::Owner(j, u, other) => *j == k && *u == t && *other == count,
+        _ => false,
+    }
+}
+
+fn is_value(a: &FactSeen, k: ObjId, value: u16) -> bool
+    ensures { result ≡ true → a.now ≡ variant.Value k value }
+{
+    match a {
+        FactSeen::Value(j, other) => *j == k && *other == value,
+        _ => false,
+    }
+}
+
+fn is_same_plan(a: &Replenish, b: &Replenish) -> bool
+    ensures { result ≡ true → a.now ≡ b.now }
+{
+    a.amount == b.amount && a.due == b.due
+}
+
+fn is_planned_once(a: &FactSeen, t: Tid, plan: &Replenish) -> bool
+    ensures { result ≡ true → a.now ≡ variant.PlannedOnce t plan.now }
+{
+    match a {
+        FactSeen::PlannedOnce(u, other) => *u == t && is_same_plan(other, plan),
+        _ => false,
+    }
+}
+
+fn is_planned_twice(a: &FactSeen, t: Tid, first: &Replenish, second: &Replenish) -> bool
+    ensures { result ≡ true → a.now ≡ variant.PlannedTwice t first.now second.now }
+{
+    match a {
+        FactSeen::PlannedTwice(u, one, two) => {
+            *u == t && is_same_plan(one, first) && is_same_plan(two, second)
+        }
+        _ => false,
+    }
+}
+
+/// Whether the same fact is seen; false where none is.
+pub(crate) fn is_same_fact(a: &FactSeen, b: &FactSeen) -> bool
+    ensures same { result ≡ true → a.now ≡ b.now }
+    ensures some { result ≡ true → is_some (fact_seen b.now) ≡ true }
+{
+    match b {
+        FactSeen::Unseen => false,
+        FactSeen::Status(t, status) => is_status(a, *t, status),
+        FactSeen::Alone(p, t) => is_alone(a, *p, *t),
+        FactSeen::Owner(k, t, count) => is_owner(a, *k, *t, *count),
+        FactSeen::Value(k, value) => is_value(a, *k, *value),
+        FactSeen::PlannedOnce(t, plan) => is_planned_once(a, *t, plan),
+        FactSeen::PlannedTwice(t, one, two) => is_planned_twice(a, *t, one, two),
+    }
+}
+
+// ---- what is seen now
+
+// What is seen of the list of a priority, on which that thread is the first.
+fn see_first(parts: &Parts, p: Prio, t: Tid) -> FactSeen
+    requires { slice_get (list_of p parts.now.machine.lists) 0 ≡ Some t }
+    ensures { IsOf (on_list p (list_of p parts.now.machine.lists)) (fact_seen result) }
+{
+    match parts.thread_on_list(p, 1) {
+        None => FactSeen::Alone(p, t),
+        Some(_) => FactSeen::Unseen,
+    }
+}
+
+/// What is seen of the list of a priority.
+pub(crate) fn see_list(parts: &Parts, p: Prio) -> FactSeen
+    ensures list { IsOf (on_list p (list_of p parts.now.machine.lists)) (fact_seen result) }
+    ensures range { p < 2 ^ 64 }
+{
+    let _ = p.get();
+    match parts.thread_on_list(p, 0) {
+        None => FactSeen::Unseen,
+        Some(t) => see_first(parts, p, t),
+    }
+}
+
+fn see_planned(t: Tid, planned: &[Replenish]) -> FactSeen
+    ensures { IsOf (replenishments t planned.now) (fact_seen result) }
+{
+    match planned {
+        [plan] => FactSeen::PlannedOnce(t, *plan),
+        [one, two] => FactSeen::PlannedTwice(t, *one, *two),
+        _ => FactSeen::Unseen,
+    }
+}
+
+// What is seen of the replenishments of a thread.
+fn see_pending(parts: &Parts, t: Tid) -> FactSeen
+    requires { t < length parts.now.names }
+    ensures { IsOf (pending_fact parts.now.machine t) (fact_seen result) }
+{
+    if !parts.thread(t).is_live() {
+        return FactSeen::Unseen;
+    }
+    match parts.thread(t).server() {
+        None => FactSeen::Unseen,
+        Some(server) => see_planned(t, server.pending()),
+    }
+}
+
+/// What is seen of a thread in a row.
+pub(crate) fn see_thread(parts: &Parts, row: ThreadRow, t: Tid) -> FactSeen
+    requires { t < length parts.now.names }
+    ensures { IsOf (thread_fact_of row parts.now.machine t) (fact_seen result) }
+{
+    match row {
+        ThreadRow::Status => FactSeen::Status(t, see(parts, t)),
+        ThreadRow::Frames => FactSeen::Unseen,
+        ThreadRow::Mask => FactSeen::Unseen,
+        ThreadRow::Cancelability => FactSeen::Unseen,
+        ThreadRow::Cleanups => FactSeen::Unseen,
+        ThreadRow::Pending => see_pending(parts, t),
+    }
+}
+
+fn see_owner(parts: &Parts, k: ObjId) -> FactSeen
+    requires { k < length parts.now.machine.mutexes }
+    ensures { IsOf (owner_fact parts.now.machine k) (fact_seen result) }
+{
+    let mutex = parts.mutex(k);
+    match mutex.owner() {
+        None => FactSeen::Unseen,
+        Some(owner) => FactSeen::Owner(k, owner, mutex.count()),
+    }
+}
+
+/// What is seen of an object in a row.
+pub(crate) fn see_object(parts: &Parts, decls: &[Decl], row: ObjectRow, k: ObjId) -> FactSeen
+    requires { k < object_count row decls.now parts.now.machine }
+    ensures { IsOnlyOf (object_facts row parts.now.machine k) (fact_seen result) }
+{
+    let _ = decls;
+    match row {
+        ObjectRow::Owner => see_owner(parts, k),
+        ObjectRow::MutexWaiters => FactSeen::Unseen,
+        ObjectRow::ConditionWaiters => FactSeen::Unseen,
+        ObjectRow::SemaphoreWaiters => FactSeen::Unseen,
+        ObjectRow::Value => FactSeen::Value(k, parts.semaphore(k)),
+        ObjectRow::Messages => FactSeen::Unseen,
+        ObjectRow::QueueWaiters => FactSeen::Unseen,
+        ObjectRow::Registration => FactSeen::Unseen,
+        ObjectRow::Arming => FactSeen::Unseen,
+    }
+}
+
+// ---- what was seen last
+
+/// What was seen of facts by number, and which of the blocks of 16 may have a text that is not empty.
+#[derive(Drop)]
+pub struct SeenFacts {
+    facts: Vec<FactSeen>,
+    busy: Vec<bool>,
+}
+
+impl Model for SeenFacts {
+    ghost use Rattle.kernel_facts.specs.FactSeen.{Memory};
+
+    ghost Value = { Memory };
+
+    ghost view = { λ s. record { facts = s.facts.items; busy = s.busy.items } };
+}
+
+// Of so many facts nothing.
+fn nothing_seen(alloc: Global, count: usize) -> Result<Vec<FactSeen>, AllocError>
+    requires { count < 2 ^ 32 }
+    ensures { IfOk result (λ facts. facts.items ≡ replicate count variant.Unseen) }
+{
+    let mut facts = Vec::with_capacity(alloc, count)?;
+    for _ in 0..count {
+        facts.push(FactSeen::Unseen)?;
+    }
+    Ok(facts)
+}
+
+// So many blocks that may have a text that is not empty.
+fn all_busy(alloc: Global, count: usize) -> Result<Vec<bool>, AllocError>
+    requires { count < 2 ^ 32 }
+    ensures { IfOk result (λ busy. busy.items ≡ replicate count true) }
+{
+    let mut busy = Vec::with_capacity(alloc, count)?;
+    for _ in 0..count {
+        busy.push(true)?;
+    }
+    Ok(busy)
+}
+
+impl SeenFacts {
+    /// Of so many facts nothing. It takes all memory at once.
+    pub fn open(alloc: Global, count: usize) -> Result<SeenFacts, AllocError>
+        requires { count < 2 ^ 32 }
+        ensures { IfOk result (λ s. s ≡ no_memory count) }
+    {
+        Ok(SeenFacts {
+            facts: nothing_seen(alloc, count)?,
+            busy: all_busy(alloc, count)?,
+        })
+    }
+
+    /// Whether that was seen last of a fact; false where nothing was.
+    pub(crate) fn was_seen(&self, number: usize, seen: &FactSeen) -> bool
+        ensures same { result ≡ true → slice_index_or self.now.facts number variant.Unseen ≡ seen.now }
+        ensures some { result ≡ true → is_some (fact_seen seen.now) ≡ true }
+    {
+        if number >= self.facts.len() {
+            return false;
+        }
+        is_same_fact(&self.facts[number], seen)
+    }
+
+    /// That is seen of a fact whose text may not be empty.
+    pub(crate) fn put(&mut self, number: usize, seen: &FactSeen)
+        ensures facts { self.new.facts ≡ slice_set self.old.facts number seen.now }
+        ensures busy { self.new.busy ≡ slice_set self.old.busy (number / 16) true }
+    {
+        if number < self.facts.len() {
+            self.facts[number] = *seen;
+        }
+        if number / 16 < self.busy.len() {
+            self.busy[number / 16] = true;
+        }
+    }
+    /// Whether nothing was told in a block.
+    pub(crate) fn is_quiet(&self, block: usize) -> bool
+        ensures { result ≡ true → slice_index_or self.now.busy block true ≡ false }
+    {
+        if block >= self.busy.len() {
+            return false;
+        }
+        !self.busy[block]
+    }
+
+    /// Nothing is told in a block.
+    pub(crate) fn calm(&mut self, block: usize)
+        ensures facts { self.new.facts ≡ self.old.facts }
+        ensures busy { self.new.busy ≡ slice_set self.old.busy block false }
+    {
+        if block < self.busy.len() {
+            self.busy[block] = false;
+        }
+    }
+}
