@@ -33,7 +33,7 @@ use parts_io::{ReadEnd, Sink, Source, read_whole};
 use parts_steps::Steps;
 use std::alloc::Global;
 use std::sync::ledger::Ledger;
-use tool_answers::{Status, command_of_words, put_text};
+use tool_answers::{Command, Status, command_of_words, put_text};
 
 /// Carries out the command of the words: reads the source, and writes to the sink.
 ///
