@@ -1,5 +1,5 @@
 -- Where no step is taken there are few.
-use Rattle.std.proofs.Common.{◌≡◌, ◌≤◌, ℕ, List, arith, false, true}
+use Rattle.std.proofs.Common.{◌≡◌, ℕ, List, arith, false, true}
 use Rattle.tool_answers.specs.declared.command.Command.{Command}
 use Rattle.tool_answers.specs.declared.command.Command.TheVariants.{ResponseTimes, Run}
 use Rattle.tool_answers.specs.Command.{reads}

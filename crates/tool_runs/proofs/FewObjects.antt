@@ -1,5 +1,5 @@
 -- A script that is read has few objects of each kind.
-use Rattle.std.proofs.Common.{List, Ok, length, subst, ℕ, ◌≡◌, ◌≤◌}
+use Rattle.std.proofs.Common.{List, Ok, subst, ℕ, ◌≡◌, ◌≤◌}
 use Rattle.words_script.specs.declared.decl.Script.{Script}
 use Rattle.words_script.specs.declared.name_kind.NameKind.TheVariants as kind
 use Rattle.script_table.specs.Build.{script_of}
