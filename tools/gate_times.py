@@ -44,10 +44,10 @@ def words_of(process: Path) -> list[str]:
         return []
 
 
-def processor_time(process: Path) -> float:
-    """The seconds of processor time that a process and its ended children have taken."""
+def parent_and_time(process: Path) -> tuple[int, float]:
+    """The parent of a process, and the seconds of processor time that it and its ended children have taken."""
     fields = process.joinpath("stat").read_text().rpartition(")")[2].split()
-    return sum(map(int, fields[11:15])) / TICKS_PER_SECOND
+    return int(fields[1]), sum(map(int, fields[11:15])) / TICKS_PER_SECOND
 
 
 def kind_of(room: str, words: list[str]) -> str:
@@ -67,9 +67,11 @@ def look(seen: dict[tuple[int, str], Check], now: float) -> None:
             continue
         crate = words[words.index("--crate-name") + 1]
         try:
-            taken, room = processor_time(process), os.readlink(process / "cwd")
+            (parent, taken), room = parent_and_time(process), os.readlink(process / "cwd")
         except (OSError, IndexError, ValueError):
             continue
+        if crate in words_of(Path("/proc", str(parent))):
+            continue  # a job of a check, whose time that check tells when it has ended
         kind = kind_of(room, words)
         check = seen.setdefault((int(process.name), crate), Check(crate, kind, room, now, now, 0.0))
         check.ended, check.processor = now, taken
