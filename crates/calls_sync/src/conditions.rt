@@ -147,6 +147,7 @@ fn signal_all<K: Sink>(p: &mut Parts, c: ObjId, out: &mut Tracer<'_, K>)
     requires { CanBroadcast p.old }
     ensures { Does K.text K.faults (signals_best_times (length (waiters p.old.machine (waits_on_condition c))) c) p.old p.new out.old out.new }
 {
+    // so it is known that at most 256 wait
     let _ = p.count();
     while let Some(w) = p.best_waiter(WaitObj::Cond(c)) {
         contend(p, w, CondEnd::Signalled, out);

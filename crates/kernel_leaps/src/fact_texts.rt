@@ -61,6 +61,7 @@ impl FactTexts {
         ensures signals { length parts.now.machine.actions ≡ 32 }
         ensures ready { AreReady script.now self.new }
     {
+        // so it is known that there are 32
         let _signals = parts.signal_count();
         self.desk.subjects.clear();
         keep_subjects(parts, script, &mut self.next, &mut self.desk.subjects);
@@ -78,6 +79,7 @@ impl FactTexts {
         ensures signals { length parts.now.machine.actions ≡ 32 }
         ensures ready { AreReady script.now self.new }
     {
+        // so it is known that there are 32
         let _signals = parts.signal_count();
         look_at_facts(parts, script, &mut self.next, &mut self.desk);
     }

@@ -33,6 +33,7 @@ impl Parts {
         ensures { self.new ≡ with_lists (to_tail t (exec self.old.machine t)) self.old }
     {
         let p = self.table.exec(t);
+        // its range is known once it is read
         let _ = p.get();
         self.named.remove(t);
         self.ready.to_tail(t, p);
@@ -44,6 +45,7 @@ impl Parts {
         ensures { self.new ≡ with_lists (to_tail t (exec self.old.machine t)) self.old }
     {
         let p = self.table.exec(t);
+        // its range is known once it is read
         let _ = p.get();
         self.ready.to_tail(t, p);
     }
@@ -54,6 +56,7 @@ impl Parts {
         ensures { self.new ≡ with_lists (to_head t (exec self.old.machine t)) self.old }
     {
         let p = self.table.exec(t);
+        // its range is known once it is read
         let _ = p.get();
         self.named.remove(t);
         self.ready.to_head(t, p);
@@ -65,6 +68,7 @@ impl Parts {
         ensures known { IfSome result (λ t. t < length self.now.names) }
         ensures lists { AreReadyLists (record { threads = length self.now.machine.threads; lists = self.now.machine.lists }) }
     {
+        // so it is known which threads there are
         let _ = &self.names;
         self.ready.highest()
     }

@@ -82,6 +82,7 @@ impl Parts {
         ensures few { result ≤ 256 }
         ensures threads { result ≡ length self.now.machine.threads }
     {
+        // so it is known which threads there are
         let _ = &self.names;
         self.table.count()
     }
@@ -91,6 +92,7 @@ impl Parts {
         requires { number < length self.now.names }
         ensures { result ≡ number }
     {
+        // so it is known which threads there are
         let _ = &self.names;
         match Tid::try_new(number) {
             Some(t) => t,

@@ -42,6 +42,7 @@ impl Parts {
     pub fn real_time(&self) -> u64
         ensures { result ≡ real_time self.now.machine }
     {
+        // so it is known which threads there are
         let _ = &self.names;
         self.clock.reading(self.instant)
     }
@@ -69,6 +70,7 @@ impl Parts {
         ensures value { result ≡ has_run (thread_at self.now.machine t).server }
         ensures known { result ≡ true → t < length self.now.names }
     {
+        // so it is known which threads there are
         let _ = &self.names;
         self.table.has_run(t)
     }

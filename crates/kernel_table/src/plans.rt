@@ -51,6 +51,7 @@ fn arm_planned(threads: &Threads, wheel: &mut Wheel, t: Tid, planned: &Planned)
     requires later { planned.now.is_first ≡ false → due_of t wheel.old.dues ≡ refill_of (thread_in threads.now t) }
     ensures { wheel.new.dues ≡ refilling t (thread_in threads.now t) wheel.old.dues }
 {
+    // the clauses alone speak of them
     let _ = threads;
     if planned.is_first {
         wheel.arm(Item::Refill(t).number(), planned.replenish.due);

@@ -113,6 +113,7 @@ impl Table {
         ensures item { result ≡ next_item (machine_at now self.old) }
         ensures same { self.new ≡ self.old }
     {
+        // its range is known once it is read
         let _ = now.get();
         let id = self.wheel.first_due(now)?;
         Item::of(id)
@@ -124,6 +125,7 @@ impl Table {
         ensures { result ≡ in_time (least_due (agenda (machine_with self.now.threads self.now.mutexes self.now.timers))) }
     {
         let next = self.wheel.next()?;
+        // its range is known once it is read
         let _ = next.get();
         Some(next)
     }

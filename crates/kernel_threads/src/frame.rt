@@ -190,6 +190,7 @@ impl Frame {
 fn ticks_of(code: &Code, unit: &Fetched) -> u64
     ensures { result ≡ ticks_of (unit_of code.now unit.now) }
 {
+    // the clauses alone speak of it
     let _ = code;
     match unit {
         Fetched::Run(n) => *n,

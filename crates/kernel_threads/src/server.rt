@@ -252,6 +252,7 @@ fn refill_server(server: &mut Server) -> Refilled
     ensures after { server.new ≡ refill server.old }
     ensures stays { is_high server.old ≡ true → is_high server.new ≡ true }
 {
+    // what a server keeps to is known once it is read
     let _ = server.totals();
     let was_high = server.is_high();
     let amount = match server.refill() {

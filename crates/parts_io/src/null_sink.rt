@@ -27,6 +27,7 @@ impl Sink for NullSink {
         ensures cause { HasCause 0 0 result }
         ensures sure { IsOk result }
     {
+        // thrown away
         let _ = bytes;
         Ok(())
     }

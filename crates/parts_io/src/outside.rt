@@ -87,6 +87,7 @@ pub trait Sink {
         ensures kept { result ≡ false → self.new ≡ self.old }
         ensures no_fault { faults self.new ≡ faults self.old }
     {
+        // not taken
         let _ = line;
         false
     }

@@ -125,6 +125,7 @@ impl Links {
         ensures small { IfSome result (λ n. n < self.now.nodes) }
         ensures few { IfSome result (λ _. place < 65536) }
     {
+        // what the lists keep to is known once they are read
         let _nodes = self.nodes;
         self.stand_once();
         let mut node = self.front(list)?;
@@ -138,6 +139,7 @@ impl Links {
     pub fn stand_once(&self)
         ensures { StandOnce self.now }
     {
+        // what the lists keep to is known once they are read
         let _nodes = self.nodes;
     }
 

@@ -68,6 +68,7 @@ pub(crate) fn turn_alone(
     ensures moved { TellsMoved (length claims.now) (prio_in exec.old) (prio_in exec.new) w.now result }
     ensures alone { IfSome result (λ m. m.thread ≡ t) }
 {
+    // its range is known once it is read
     let _ = p.get();
     let before = exec[t.get() as usize];
     exec[t.get() as usize] = p;
@@ -127,6 +128,7 @@ fn walk_on(
     let mut at = start;
     for _ in 0..claims.len() {
         let wanted = asked(claims, mutexes, exec, w, at);
+        // its range is known once it is read
         let _ = wanted.get();
         let before = exec[at.get() as usize];
         if wanted == before {

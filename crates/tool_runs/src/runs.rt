@@ -33,6 +33,7 @@ fn run_and_report<K: Sink, L: Ledger>(
     ensures printed { Prints K.text K.faults out.old out.new (kernel_trace kernel.old horizon) }
     ensures busy { steps.new ≤ steps.old + busy (flat_bodies kernel.old.code) kernel.old.machine 0 horizon + 1 }
 {
+    // the tracer tells whether a write failed
     let _ = kernel.run_until(horizon, out, steps);
     if out.failed() {
         return;
@@ -93,6 +94,7 @@ pub(crate) fn soak_kernel<L: Ledger>(kernel: &mut Kernel, horizon: Tick, steps: 
 {
     let mut nothing = NullSink::new();
     let mut out = Tracer::new(&mut nothing);
+    // what is thrown away cannot fail
     let _ = kernel.run_until(horizon, &mut out, steps);
 }
 
