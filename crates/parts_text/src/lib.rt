@@ -13,7 +13,6 @@ pub fn add<const ROOM: usize>(text: &mut ArrayVec<u8, ROOM>, bytes: &[u8])
     requires { length text.old.items + length bytes.now ≤ ROOM }
     ensures { text.new.items ≡ text.old.items ++ bytes.now }
 {
-    // there is room
     let _ = text.try_extend_from_slice(bytes);
 }
 

@@ -29,7 +29,6 @@ fn name_bytes(number: u8) -> ArrayVec<u8, 32>
 {
     let mut text = ArrayVec::new();
     text.push(b't');
-    // there is room
     let _ = text.try_extend_from_slice(Buffer::new().format(number).as_bytes());
     text
 }

@@ -55,7 +55,6 @@ impl Name {
             return None;
         }
         let mut text = ArrayVec::new();
-        // there is room for any name
         let _ = text.try_extend_from_slice(bytes);
         Some(Name { text })
     }
