@@ -1,7 +1,7 @@
 -- Bytes that are told, and counts, through several reads or writes.
-use Rattle.std.proofs.Common.{ℕ, ◌+◌, ◌≤◌, List, [], ◌++◌, length, refl, sym, ◌∙◌, ap, append_assoc, append-nil, length-append, take, drop, subst, arith, Option, Some, None}
+use Rattle.std.proofs.Common.{ℕ, ◌+◌, ◌≤◌, List, [], ◌++◌, length, refl, sym, ◌≡◌, ◌∙◌, ap, append_assoc, append-nil, length-append, take, drop, subst, arith, Option, Some, None}
 use Rattle.std.proofs.Math.Seq.{take-add}
-use Rattle.std.specs.Io.KnownBytes.{Appends, Consumes}
+use Rattle.std.specs.Io.KnownBytes.{Appends, Consumes, Keeps}
 use Rattle.parts_io.specs.Causes.{GrewBy}
 use Rattle.parts_io.specs.Whole.{TookAtMost}
 
@@ -32,6 +32,21 @@ appends_more (Some p) (Some q) (Some r) xs ys first second = second ∙ (ap (λ 
 -- how far a count grew by two reads, one after the other
 pub grew_more : (m n before between now : ℕ) → GrewBy m before between → GrewBy n between now → GrewBy (m + n) before now
 grew_more m n before between now first second = record { at_least = omega arith; at_most = omega arith }
+
+-- what stays is as if no byte was taken
+pub keeps_none : (a b : Option (List ℕ)) → Keeps a b → Consumes a b []
+keeps_none None b kept = tt
+keeps_none (Some xs) None kept = absurd kept
+keeps_none (Some xs) (Some ys) kept = sym kept
+
+-- no byte was taken
+pub took_none : (a b : Option (List ℕ)) (before now : ℕ) → Keeps a b → now ≡ before → TookAtMost 0 a b before now
+took_none a b before now kept same = record {
+  bytes = [];
+  bound = omega arith;
+  moved = keeps_none a b kept;
+  count = record { at_least = omega arith; at_most = omega arith };
+}
 
 -- `xs` was taken, and then at most n bytes
 pub took_more : (a b c : Option (List ℕ)) (before between now m n : ℕ) (xs : List ℕ)
