@@ -1,14 +1,14 @@
 -- Where nodes stand after one was taken out, and which lists are not empty.
-use Rattle.std.proofs.Common.{◌≡◌, ◌≢◌, ⊎_elim, ℕ, ◌<◌, Bool, true, false, nat_lt, List, [], ◌∷◌, length, refl, sym, ap, subst, subst₂, ◌∙◌, arith}
+use Rattle.std.proofs.Common.{◌≡◌, ◌≢◌, ⊎_elim, ℕ, ◌<◌, Bool, true, false, nat_lt, is_some, List, [], ◌∷◌, length, map, slice_get, refl, sym, ap, subst, subst₂, ◌∙◌, arith}
 use Rattle.std.proofs.lemmas.Grind.{common_steps}
 use Rattle.std.proofs.lemmas.Bool.Decides.{nat_tests}
-use Rattle.parts_links.specs.Links.{list_at, stands_in, stands_at}
+use Rattle.parts_links.specs.Links.{Lists, OthersStay, list_at, on_a_list, stands_in, stands_at, without}
 use Rattle.parts_links.proofs.Chains.{equal}
 use Rattle.parts_links.proofs.Standing.{stays_in, shorter_without, at_map, off_at, length_without, put_there, put_other}
 use Rattle.parts_wheel.proofs.Order.{lt_or}
 use Rattle.parts_wheel.specs.Bits.{is_set, ChangesBit}
 use Rattle.parts_wheel.specs.Slots.{AreMarked, list_for}
-use Rattle.parts_wheel.specs.Moves.{IsTaken, IsFiled, IsNoted, with_last}
+use Rattle.parts_wheel.specs.Moves.{IsSized, IsTaken, IsFiled, IsNoted, with_last}
 
 pub taken_stays : (n i k : ℕ) (old new : List (List ℕ)) → IsTaken n old new → i ≢ n → stands_at i k new ≡ stands_at i k old
 taken_stays n i k old new t other = ap (λ (ls : List (List ℕ)). stands_at i k ls) t.lists ∙ ap (λ (xs : List ℕ). stands_in i xs) (at_map n k old) ∙ stays_in n i (list_at old k) other
@@ -29,6 +29,37 @@ taken_marks n k0 old new words now bit t h marked changes is k =
     (λ other. changes.others k other ∙ marked k ∙ ap (λ (xs : List ℕ). nat_lt 0 (length xs)) (sym (t.others k0 k h other)))
     (equal k k0)
 
+pub some_length : (i : ℕ) (xs : List ℕ) → stands_in i xs ≡ true → nat_lt 0 (length xs) ≡ true
+some_length i [] h = cc
+some_length i (x ∷ xs) h = grind (arith, nat_tests, common_steps)
+
+-- the same, where another node is left in the list
+pub taken_marks_kept : (n k0 : ℕ) (old new : List (List ℕ)) (words : List ℕ) → IsTaken n old new → stands_at n k0 old ≡ true → AreMarked old words
+    → nat_lt 0 (length (list_at new k0)) ≡ true → AreMarked new words
+taken_marks_kept n k0 old new words t h marked is k =
+    ⊎_elim
+    (λ same. rw same (marked k0 ∙ some_length n (list_at old k0) h ∙ sym is))
+    (λ other. marked k ∙ ap (λ (xs : List ℕ). nat_lt 0 (length xs)) (sym (t.others k0 k h other)))
+    (equal k k0)
+
+-- what a node that is unlinked leaves
+pub taken_by : (n : ℕ) (old new : Lists) → new ≡ record old { lists = map (without n) old.lists } → on_a_list n new.lists ≡ false → OthersStay n old.lists new.lists
+    → IsTaken n old.lists new.lists
+taken_by n old new is gone others = record { gone = gone; lists = ap (λ (l : Lists). l.lists) is; others = others }
+
+pub still_sized : (n : ℕ) (old new : Lists) (words now : List ℕ) → IsSized old words → new ≡ record old { lists = map (without n) old.lists } → length now ≡ length words
+    → IsSized new now
+still_sized n old new words now sized is same = record {
+  nodes = ap (λ (l : Lists). l.nodes) is ∙ sized.nodes;
+  lists = ap (λ (l : Lists). length l.lists) is ∙ length_without n old.lists ∙ sized.lists;
+  words = same ∙ sized.words;
+}
+
+-- a list with a first node is not empty
+pub some_head : (xs : List ℕ) → is_some (slice_get xs 0) ≡ true → nat_lt 0 (length xs) ≡ true
+some_head [] h = cc
+some_head (x ∷ xs) h = grind (arith, nat_tests, common_steps)
+
 pub none_in : (xs : List ℕ) → ((i : ℕ) → stands_in i xs ≡ true → ⊥) → xs ≡ []
 none_in [] h = refl
 none_in (x ∷ xs) h = absurd (h x (grind (arith, nat_tests)))
@@ -42,10 +73,6 @@ length_taken n old new t = ap length t.lists ∙ length_without n old
 
 pub shorter_at : (n k : ℕ) (old new : List (List ℕ)) → IsTaken n old new → stands_at n k old ≡ true → length (list_at new k) < length (list_at old k)
 shorter_at n k old new t h = let e = ap (λ (ls : List (List ℕ)). list_at ls k) t.lists ∙ at_map n k old in rw e (shorter_without n (list_at old k) h)
-
-pub some_length : (i : ℕ) (xs : List ℕ) → stands_in i xs ≡ true → nat_lt 0 (length xs) ≡ true
-some_length i [] h = cc
-some_length i (x ∷ xs) h = grind (arith, nat_tests, common_steps)
 
 -- ---- the bits of the lists as a node is filed
 
