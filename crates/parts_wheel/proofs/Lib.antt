@@ -2,6 +2,7 @@ mod Apart
 mod Filing
 mod Fronts
 mod Holding
+mod Leaving
 mod Least
 mod Moving
 mod Order
