@@ -60,13 +60,10 @@ pub(crate) fn place_event(text: &mut [u8], at: usize, e: &Event, names: &Names) 
         Event::Idle => place_word(text, at, b" idle\n"),
         Event::Start(t) => place_alone(text, at, b" start ", names, *t),
         Event::Return(t, call, res, value) => {
-            let at = place_call(text, at, names, *t, *call);
-            place_outcome(text, at, res.text(), *value)
+            place_return(text, at, names, *t, *call, res.text(), *value)
         }
         Event::Deliver(t, sig, code, value) => {
-            let at = place_of_thread(text, at, b" deliver ", names, *t);
-            let at = place_signal(text, at, *sig);
-            place_outcome(text, at, code.text(), *value)
+            place_delivery(text, at, names, *t, *sig, code.text(), *value)
         }
         Event::Activate(t, capacity) => {
             place_with_number(text, at, b" activate ", names, *t, *capacity)
@@ -83,6 +80,51 @@ pub(crate) fn place_event(text: &mut [u8], at: usize, e: &Event, names: &Names) 
         Event::Killed(sig) => place_killed(text, at, *sig),
         Event::End => place_word(text, at, b" end\n"),
     }
+}
+
+// Puts the whole of the event that a call returned.
+#[inline(always)]
+fn place_return(
+    text: &mut [u8],
+    at: usize,
+    names: &Names,
+    t: Tid,
+    call: CallName,
+    res: &str,
+    value: u64,
+) -> usize
+    requires room { at + 236 ≤ length text.old }
+    requires short { length res.now ≤ 32 }
+    requires named { t < length names.now }
+    ensures placed { Placed text.old text.new at
+        (words_behind (codes "return" ∷ name_at names.now t ∷ call_word call ∷ res.now ∷ decimal value ∷ [])) result }
+    ensures within { result ≤ at + 114 }
+{
+    let at = place_call(text, at, names, t, call);
+    place_outcome(text, at, res, value)
+}
+
+// Puts the whole of the event that a signal was delivered.
+#[inline(always)]
+fn place_delivery(
+    text: &mut [u8],
+    at: usize,
+    names: &Names,
+    t: Tid,
+    sig: u8,
+    code: &str,
+    value: u64,
+) -> usize
+    requires room { at + 236 ≤ length text.old }
+    requires short { length code.now ≤ 32 }
+    requires named { t < length names.now }
+    ensures placed { Placed text.old text.new at
+        (words_behind (codes "deliver" ∷ name_at names.now t ∷ signal_name sig ∷ code.now ∷ decimal value ∷ [])) result }
+    ensures within { result ≤ at + 121 }
+{
+    let at = place_of_thread(text, at, b" deliver ", names, t);
+    let at = place_signal(text, at, sig);
+    place_outcome(text, at, code, value)
 }
 
 // Puts the whole of an event that only has a thread.
