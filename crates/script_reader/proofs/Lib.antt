@@ -1,3 +1,4 @@
+mod FaultsHere
 pub mod Headings
 pub mod Least
 pub mod KindOrder
