@@ -74,7 +74,6 @@ fn read_piece<S: Source>(source: &mut S, bytes: &mut Vec<u8>, room: usize) -> Re
 /// Each turn of the loop but the last takes at least one byte, so there are at most `limit + 2` reads. `ReadFault` comes
 /// only where the source's faults rose, `TooLong` exactly where more than `limit` bytes came before a fault, and then
 /// `limit + 1` bytes were taken. `OutOfMemory` may come at any time; then at most `limit + 1` bytes were taken.
-#[tactic(auto, using(crate::proofs::Known::took_more))]
 pub fn read_whole<S: Source>(alloc: Global, source: &mut S, limit: u64) -> Result<Vec<u8>, ReadEnd>
     requires { limit < 2 ^ 40 }
 

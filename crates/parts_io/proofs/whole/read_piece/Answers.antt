@@ -7,12 +7,16 @@ pub returns-in_default : goal.returns-in_default
 returns-in_default g c =
     let failed = c.in_default.ensures in
     record {
-      bound = tt; grew = tt; end = tt; count = tt;
+      bound = tt;
+      grew = tt;
+      end = tt;
+      count = tt;
       fault = λ _. failed.cause.failed;
       no_fault = λ other. absurd (other refl);
       later = failed.cause.later;
       none = λ _. took_none _ _ _ _ failed.bytes failed.count;
-      lost = λ e. cc; not_long = λ e. cc;
+      lost = λ e. cc;
+      not_long = λ e. cc;
     }
 
 pub returns-then-is_err : goal.returns-then-is_err
@@ -20,7 +24,10 @@ returns-then-is_err g c =
     let read = c.in-Ok.ensures in
     let kept : length c.read.new.buf ≡ c.min-size.result = search rules in
     record {
-      bound = tt; grew = tt; end = tt; count = tt;
+      bound = tt;
+      grew = tt;
+      end = tt;
+      count = tt;
       fault = λ e. cc;
       no_fault = λ _. read.cause.ok;
       later = read.cause.later;
@@ -46,5 +53,7 @@ returns g c =
       fault = λ e. cc;
       no_fault = λ _. read.cause.ok;
       later = read.cause.later;
-      none = λ e. cc; lost = λ e. cc; not_long = λ e. cc;
+      none = λ e. cc;
+      lost = λ e. cc;
+      not_long = λ e. cc;
     }

@@ -1,8 +1,7 @@
-use Rattle.std.proofs.Common.{◌≡◌, ◌+◌, ◌∙◌, length, refl, ap, arith, rules, length-append, Err}
+use Rattle.std.proofs.Common.{◌≡◌, ◌∙◌, length, refl, ap, arith, rules, length-append, Err}
 use Rattle.std.proofs.lemmas.Grind.{common_steps}
 use Rattle.parts_io.proofs.Known.{consumes_none, consumes_more, took_more}
 use Rattle.parts_io.proofs.whole.read_whole.Goals as goal
-
 use Rattle.parts_io.proofs.whole.read_whole.Goals as goal
 
 pub loop-bytes-init : goal.loop-bytes-init
@@ -31,7 +30,10 @@ returns-in_err-read_piece g c =
     let read = c.in_err-read_piece.ensures in
     let same : c.from_residual.result ≡ Err c.in_err-read_piece.field-0.0 = search rules in
     rw same (record {
-      whole = tt; end = tt; short = tt; count = tt;
+      whole = tt;
+      end = tt;
+      short = tt;
+      count = tt;
       long = λ is. absurd (read.not_long cc);
       long_bytes = λ is. absurd (read.not_long cc);
       fault = λ is. let rose = read.fault cc in omega arith;
@@ -42,7 +44,7 @@ returns-in_err-read_piece g c =
     })
 
 pub returns-then-branch-eq0 : goal.returns-then-branch-eq0
-returns-then-branch-eq0 g c = 
+returns-then-branch-eq0 g c =
     let before = c.loop-bytes.invariant in
     let read = c.in_ok-read_piece.ensures in
     let longer = simp length-append at (ap length read.grew.2) in
@@ -51,7 +53,10 @@ returns-then-branch-eq0 g c =
       end = read.end c.if-branch-eq0.true;
       short = omega arith;
       count = record { at_least = omega arith; at_most = omega arith };
-      long = λ e. cc; long_bytes = λ e. cc; fault = λ e. cc; fault_bytes = λ e. cc;
+      long = λ e. cc;
+      long_bytes = λ e. cc;
+      fault = λ e. cc;
+      fault_bytes = λ e. cc;
       no_fault = λ _. read.no_fault (λ e. cc) ∙ before.faults;
       later = omega arith;
       memory_bytes = λ e. cc;
@@ -61,10 +66,14 @@ pub returns : goal.returns
 returns g c =
     let before = c.loop-bytes.invariant in
     record {
-      whole = tt; end = tt; short = tt; count = tt;
+      whole = tt;
+      end = tt;
+      short = tt;
+      count = tt;
       long = λ _. record { at_least = omega arith; at_most = omega arith };
       long_bytes = λ _. (c.loop-bytes.bytes.items, omega arith, before.bytes);
-      fault = λ e. cc; fault_bytes = λ e. cc;
+      fault = λ e. cc;
+      fault_bytes = λ e. cc;
       no_fault = λ _. before.faults;
       later = omega arith;
       memory_bytes = λ e. cc;
