@@ -1,5 +1,5 @@
 -- What is due first once an item is not armed.
-use Rattle.std.proofs.Common.{◌≡◌, ◌≢◌, inl, inr, ⊎_elim, ℕ, ◌^◌, ◌<◌, ◌≤◌, Option, Some, None, List, length, set, sym, ap, subst, ◌∙◌}
+use Rattle.std.proofs.Common.{◌≡◌, ◌≢◌, inl, inr, ⊎_elim, ℕ, ◌<◌, ◌≤◌, Option, Some, None, List, length, set, sym, ap, subst, ◌∙◌}
 use Rattle.parts_links.proofs.Chains.{equal}
 use Rattle.parts_wheel.specs.Dues.{Dues, due_of}
 use Rattle.parts_wheel.specs.Slots.{Placed, AreSmall, IsCached, IsEarly, IsFront}
@@ -44,7 +44,7 @@ module _ (slots new : Placed) (id base last : ℕ) (now : Dues) (left : new ≡ 
   left_front d least early lone front same due apart =
       let due_then : due_of id slots.dues ≡ Some d = subst (λ (n : Dues). due_of id n.dues ≡ Some d) (sym is) due in
       let stays : (i : ℕ) → due_of i slots.dues ≡ Some least → due_of i new.dues ≡ Some least =
-          λ i h. subst (λ ds. due_of i ds ≡ Some least) (sym dues_left) (due_after slots.dues id i d least due_then apart h) in
+      λ i h. subst (λ ds. due_of i ds ≡ Some least) (sym dues_left) (due_after slots.dues id i d least due_then apart h) in
       let stands : new.base ≡ slots.base = ap (λ (s : Placed). s.base) left ∙ same in
       record {
         later = record {

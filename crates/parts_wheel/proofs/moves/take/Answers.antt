@@ -1,4 +1,4 @@
-use Rattle.std.proofs.Common.{◌≡◌, true, false, not, nat_lt, is_some, List, [], ℕ, length, slice_get, refl, sym, ap, subst, ◌∙◌, arith}
+use Rattle.std.proofs.Common.{◌≡◌, true, false, nat_lt, is_some, List, [], ℕ, length, slice_get, refl, sym, ap, subst, ◌∙◌}
 use Rattle.parts_links.specs.Links.{list_at}
 use Rattle.parts_links.proofs.Standing.{no_head, within}
 use Rattle.parts_wheel.proofs.Stands.{some_head, still_sized, taken_by, taken_marks, taken_marks_kept}

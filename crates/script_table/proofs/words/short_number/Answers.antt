@@ -6,7 +6,7 @@ use Rattle.std.proofs.lemmas.List.{take_all}
 use Rattle.std.proofs.lemmas.List.Folds.{list_all_more}
 use Rattle.std.proofs.lemmas.List.Sums.{fold_more}
 use Rattle.words_script.specs.Names.{is_digit}
-use Rattle.script_table.specs.Words.{is_number, value_of}
+use Rattle.script_table.specs.Words.{is_number}
 use Rattle.script_table.proofs.words.short_number.Goals as goal
 
 small : (c : ℕ) → is_digit c ≡ true → c - 48 < 10

@@ -14,6 +14,6 @@ invariant_of-self c =
     let bytes = c.as_bytes.ensures.value ∙ c.format.ensures.text in
     let same : now / 100 ≡ (now - now % 100) / 100 = omega arith in
     let few : length (decimal (now / 100)) ≤ 16 =
-        length-decimal-le 16 (now / 100) (omega arith) (omega (arith, c.if-now-ge-FAR.false)) (omega (arith, c.ranges.now.fits)) in
+    length-decimal-le 16 (now / 100) (omega arith) (omega (arith, c.if-now-ge-FAR.false)) (omega (arith, c.ranges.now.fits)) in
     let end = rw bytes at c.place_word-self-inside.ensures.moved in
     (omega (arith, few, end), omega arith, (omega arith, omega arith, c.place_word-self-inside.ensures.front ∙ bytes ∙ ap decimal same))
