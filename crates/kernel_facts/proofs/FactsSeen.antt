@@ -1,6 +1,6 @@
 -- What was seen of facts last, and the texts that tell it.
 use Rattle.std.proofs.Common.{◌≡◌, ◌∙◌, ◌<◌, ◌≤◌, ◌⊎◌, Bool, List, None, Option, Some, [], ◌∷◌, ap, append-nil, arith, false, inl, inr, length, refl, subst, sym, true, ℕ}
-use Rattle.std.specs.Prelude.{is_some, replicate, slice_get, slice_index_or, slice_set, ◌/◌}
+use Rattle.std.specs.Prelude.{is_some, replicate, slice_index_or, slice_set, ◌/◌}
 use Rattle.std.proofs.lemmas.List.{get_or-replicate, get_or-set_other, get_or-set_same, get_or_past, length-replicate, set_past}
 use Rattle.words_script.specs.declared.decl.Decl.{Decl}
 use Rattle.parts_texts.specs.Texts.{Next}
@@ -12,14 +12,6 @@ use Rattle.kernel_facts.specs.Short.{HasShortText, HaveShortTexts}
 use Rattle.kernel_facts.specs.declared.desk.Desk.{Desk}
 use Rattle.kernel_facts.specs.declared.fact_seen.FactSeen.{FactSeen}
 use Rattle.kernel_facts.specs.declared.fact_seen.FactSeen.TheVariants as seen
-
--- ---- a list
-
--- with one member
-pub alone_is : (xs : List ℕ) (t : ℕ) → slice_get xs 0 ≡ Some t → slice_get xs 1 ≡ None → xs ≡ t ∷ []
-alone_is [] t first second = absurd (cc)
-alone_is (x ∷ []) t first second = cc
-alone_is (x ∷ y ∷ xs) t first second = absurd (cc)
 
 -- ---- one fact
 

@@ -22,6 +22,7 @@ pub mod Deep
 pub mod NothingTold
 pub mod Looking
 pub mod Ready
+pub mod FewSeen
 pub mod FactsSeen
 pub mod SeenShort
 pub mod Runs

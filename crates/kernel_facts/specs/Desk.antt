@@ -1,5 +1,5 @@
 -- A look at the facts of a state: what was told of each last goes, one by one, and what is told now takes its place. This project's own.
-use Rattle.std.specs.Prelude.{Bool, List, decimal, drop, false, length, sum_by, take, ℕ, ◌+◌, ◌*◌, ◌<◌, ◌≤◌, ◌∷◌, [], ◌++◌, ◌≡◌}
+use Rattle.std.specs.Prelude.{Bool, List, decimal, drop, false, length, slice_index_or, sum_by, take, ℕ, ◌+◌, ◌*◌, ◌<◌, ◌≤◌, ◌∷◌, [], ◌++◌, ◌≡◌}
 use Rattle.std.specs.List.{AllByRecursion}
 use Rattle.words_script.specs.declared.decl.Script.{Script}
 use Rattle.parts_texts.specs.Slots.{no_texts}
@@ -8,6 +8,8 @@ use Rattle.kernel_facts.specs.Changed.{changed_lines}
 use Rattle.kernel_facts.specs.FactSeen.{IsMemoryOf, no_memory}
 use Rattle.kernel_facts.specs.Rooms.{HasRooms, facts_told, longest_text, members_told, no_text}
 use Rattle.kernel_facts.specs.declared.desk.Desk.{Desk}
+use Rattle.kernel_facts.specs.declared.fact_seen.FactSeen.{FactSeen}
+use Rattle.kernel_facts.specs.declared.fact_seen.FactSeen.TheVariants as seen
 use Rattle.kernel_facts.specs.declared.rooms.Rooms.{Rooms}
 
 -- what the look has still before it: what was told last, and the subjects of that
@@ -16,6 +18,10 @@ told_left d = drop d.at d.told.texts
 
 abbrev pub subjects_left : Desk → List (List ℕ)
 subjects_left d = drop d.at d.subjects.texts
+
+-- what was seen last of the fact that comes
+abbrev pub last_seen : Desk → FactSeen
+last_seen d = slice_index_or d.seen.facts d.at seen.Unseen
 
 -- The look went on over the facts with these texts: they stand behind those that it had come to, in place of what was told, and the
 -- lines of those that change are behind the other lines.

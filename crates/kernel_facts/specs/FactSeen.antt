@@ -1,7 +1,10 @@
 -- What is seen of a fact as a value, and the texts that tell it. This project's own.
 use Rattle.std.specs.Prelude.{Bool, List, None, Option, Some, [], false, replicate, slice_index_or, true, ℕ, ◌/◌, ◌∷◌, ◌≡◌}
 use Rattle.words_script.specs.declared.decl.Decl.{Decl}
-use Rattle.rules_facts.specs.Fact.{Fact, on_list, owner, replenishments, semaphore_value}
+use Rattle.rules_facts.specs.Fact.{Fact, messages_of, on_list, owner, replenishments, semaphore_value}
+use Rattle.rules_facts.specs.Order.{in_order}
+use Rattle.rules_facts.specs.Queues.{is_received_before}
+use Rattle.kernel_facts.specs.FewSeen.{messages_in, threads_in}
 use Rattle.kernel_facts.specs.Lines.{fact_text}
 use Rattle.kernel_facts.specs.Seen.{seen_fact}
 use Rattle.kernel_facts.specs.Short.{HasShortText}
@@ -12,11 +15,12 @@ use Rattle.kernel_facts.specs.declared.fact_seen.FactSeen.TheVariants as seen
 abbrev pub fact_seen : FactSeen → Option Fact
 fact_seen seen.Unseen = None
 fact_seen (seen.Status t s) = Some (seen_fact t s)
-fact_seen (seen.Alone p t) = Some (on_list p (t ∷ []))
+fact_seen (seen.OnList p few) = Some (on_list p (threads_in few))
 fact_seen (seen.Owner k t count) = Some (owner k (Some (record { thread = t; count = count })))
 fact_seen (seen.Value k value) = Some (semaphore_value k value)
 fact_seen (seen.PlannedOnce t a) = Some (replenishments t (a ∷ []))
 fact_seen (seen.PlannedTwice t a b) = Some (replenishments t (a ∷ b ∷ []))
+fact_seen (seen.Messages q few) = Some (messages_of q (in_order is_received_before (messages_in few)))
 
 -- what is seen is this fact, where one is
 abbrev pub IsOf : Fact → Option Fact → Type 0

@@ -12,5 +12,6 @@ pub mod Short
 pub mod Nothing
 pub mod Desk
 pub mod Seen
+pub mod FewSeen
 pub mod FactSeen
 pub mod Blocks

@@ -1,5 +1,5 @@
 //! The texts of the facts as they were told last, through which a look at those of now goes.
-ghost use Rattle.std.specs.Prelude.{◌≡◌, ◌<◌, ◌≤◌, ◌^◌, ◌-◌, ◌∷◌, [], IfOk, List, false, is_some, length, slice_index_or, true};
+ghost use Rattle.std.specs.Prelude.{◌≡◌, ◌<◌, ◌≤◌, ◌^◌, ◌-◌, ◌∷◌, [], IfOk, List, false, length, slice_index_or, true};
 ghost use Rattle.words_script.specs.declared.decl.Decl.{Decl};
 ghost use Rattle.script_printer.specs.Puts.{Put, outlet};
 ghost use Rattle.kernel_facts.specs.Changed.{changed_line};
@@ -134,12 +134,19 @@ impl Desk {
         self.go_over(b"", &FactSeen::Unseen);
     }
 
-    /// Whether that was seen last of the fact that comes; false where nothing was.
-    pub(crate) fn was_seen(&self, seen: &FactSeen) -> bool
-        ensures same { result ≡ true → slice_index_or self.now.seen.facts self.now.at variant.Unseen ≡ seen.now }
-        ensures some { result ≡ true → is_some (fact_seen seen.now) ≡ true }
+    /// Whether there is a place for what is seen of the fact that comes.
+    pub(crate) fn has_seen(&self) -> bool
+        ensures { result ≡ true → self.now.at < length self.now.seen.facts }
     {
-        self.seen.was_seen(self.at, seen)
+        self.at < self.seen.count()
+    }
+
+    /// What was seen last of the fact that comes.
+    pub(crate) fn last_seen(&self) -> &FactSeen
+        requires { self.now.at < length self.now.seen.facts }
+        ensures { result.now ≡ slice_index_or self.now.seen.facts self.now.at variant.Unseen }
+    {
+        self.seen.last(self.at)
     }
 
     /// The look goes over a fact of which the same is told as last.

@@ -1,13 +1,15 @@
 //! What is seen of a fact as a value, so that no text is written of one that is the same as last.
-ghost use Rattle.std.specs.Prelude.{◌≡◌, ◌<◌, ◌^◌, ◌/◌, IfOk, Some, false, is_some, length, replicate, slice_get, slice_index_or, slice_set, true};
+ghost use Rattle.std.specs.Prelude.{◌≡◌, ◌<◌, ◌^◌, ◌/◌, IfOk, false, is_some, length, replicate, slice_index_or, slice_set, true};
 ghost use Rattle.rules_lists.specs.Lists.{list_of};
 ghost use Rattle.rules_facts.specs.Fact.{on_list, replenishments};
 ghost use Rattle.rules_facts.specs.Objects.{owner_fact};
-ghost use Rattle.rules_facts.specs.Threads.{pending_fact};
+ghost use Rattle.rules_facts.specs.Queues.{messages_fact};
+ghost use Rattle.rules_facts.specs.Threads.{pending_fact, thread_fact};
 ghost use Rattle.kernel_facts.specs.FactSeen.{IsOf, IsOnlyOf, fact_seen, no_memory};
 ghost use Rattle.kernel_facts.specs.Rows.{object_count, object_facts, thread_fact_of};
 ghost use Rattle.kernel_facts.specs.declared.fact_seen.FactSeen.TheVariants as variant;
 
+use crate::few::{FewMessages, FewThreads, are_held, see_messages, stand_on_list};
 use crate::rows::{ObjectRow, ThreadRow};
 use crate::seen::{Seen, is_same, see};
 use kernel_state::Parts;
@@ -24,8 +26,8 @@ pub enum FactSeen {
     Unseen,
     /// The status of a thread.
     Status(Tid, Seen),
-    /// A thread that stands alone on the list of a priority.
-    Alone(Prio, Tid),
+    /// The threads on the list of a priority, the head first.
+    OnList(Prio, FewThreads),
     /// Who owns a mutex, and how often it has locked it.
     Owner(ObjId, Tid, u16),
     /// The value of a semaphore.
@@ -34,27 +36,11 @@ pub enum FactSeen {
     PlannedOnce(Tid, Replenish),
     /// The two that it has planned, the oldest first.
     PlannedTwice(Tid, Replenish, Replenish),
+    /// The messages of a queue, in the order of arrival.
+    Messages(ObjId, FewMessages),
 }
 
 // ---- whether the same is seen
-
-fn is_status(a: &FactSeen, t: Tid, status: &Seen) -> bool
-    ensures { result ≡ true → a.now ≡ variant.Status t status.now }
-{
-    match a {
-        FactSeen::Status(u, other) => *u == t && is_same(other, status),
-        _ => false,
-    }
-}
-
-fn is_alone(a: &FactSeen, p: Prio, t: Tid) -> bool
-    ensures { result ≡ true → a.now ≡ variant.Alone p t }
-{
-    match a {
-        FactSeen::Alone(q, u) => *q == p && *u == t,
-        _ => false,
-    }
-}
 
 fn is_owner(a: &FactSeen, k: ObjId, t: Tid, count: u16) -> bool
     ensures { result ≡ true → a.now ≡ variant.Owner k t count }
@@ -100,46 +86,21 @@ fn is_planned_twice(a: &FactSeen, t: Tid, first: &Replenish, second: &Replenish)
     }
 }
 
-/// Whether the same fact is seen; false where none is.
-pub(crate) fn is_same_fact(a: &FactSeen, b: &FactSeen) -> bool
+// Whether the same fact is seen; false where none is, and of the facts that are seen where they stand.
+fn is_same_fact(a: &FactSeen, b: &FactSeen) -> bool
     ensures same { result ≡ true → a.now ≡ b.now }
     ensures some { result ≡ true → is_some (fact_seen b.now) ≡ true }
 {
     match b {
-        FactSeen::Unseen => false,
-        FactSeen::Status(t, status) => is_status(a, *t, status),
-        FactSeen::Alone(p, t) => is_alone(a, *p, *t),
         FactSeen::Owner(k, t, count) => is_owner(a, *k, *t, *count),
         FactSeen::Value(k, value) => is_value(a, *k, *value),
         FactSeen::PlannedOnce(t, plan) => is_planned_once(a, *t, plan),
         FactSeen::PlannedTwice(t, one, two) => is_planned_twice(a, *t, one, two),
+        _ => false,
     }
 }
 
 // ---- what is seen now
-
-// What is seen of the list of a priority, on which that thread is the first.
-fn see_first(parts: &Parts, p: Prio, t: Tid) -> FactSeen
-    requires { slice_get (list_of p parts.now.machine.lists) 0 ≡ Some t }
-    ensures { IsOf (on_list p (list_of p parts.now.machine.lists)) (fact_seen result) }
-{
-    match parts.thread_on_list(p, 1) {
-        None => FactSeen::Alone(p, t),
-        Some(_) => FactSeen::Unseen,
-    }
-}
-
-/// What is seen of the list of a priority.
-pub(crate) fn see_list(parts: &Parts, p: Prio) -> FactSeen
-    ensures list { IsOf (on_list p (list_of p parts.now.machine.lists)) (fact_seen result) }
-    ensures range { p < 2 ^ 64 }
-{
-    let _ = p.get();
-    match parts.thread_on_list(p, 0) {
-        None => FactSeen::Unseen,
-        Some(t) => see_first(parts, p, t),
-    }
-}
 
 fn see_planned(t: Tid, planned: &[Replenish]) -> FactSeen
     ensures { IsOf (replenishments t planned.now) (fact_seen result) }
@@ -203,10 +164,81 @@ pub(crate) fn see_object(parts: &Parts, decls: &[Decl], row: ObjectRow, k: ObjId
         ObjectRow::ConditionWaiters => FactSeen::Unseen,
         ObjectRow::SemaphoreWaiters => FactSeen::Unseen,
         ObjectRow::Value => FactSeen::Value(k, parts.semaphore(k)),
-        ObjectRow::Messages => FactSeen::Unseen,
+        ObjectRow::Messages => see_messages(parts, k),
         ObjectRow::QueueWaiters => FactSeen::Unseen,
         ObjectRow::Registration => FactSeen::Unseen,
         ObjectRow::Arming => FactSeen::Unseen,
+    }
+}
+
+// ---- whether what was seen last is still so
+
+/// Whether that is what the list of a priority tells.
+pub(crate) fn is_list(parts: &Parts, p: Prio, last: &FactSeen) -> bool
+    ensures same { result ≡ true → IsOf (on_list p (list_of p parts.now.machine.lists)) (fact_seen last.now) }
+    ensures some { result ≡ true → is_some (fact_seen last.now) ≡ true }
+{
+    match last {
+        FactSeen::OnList(q, few) => *q == p && stand_on_list(parts, p, few),
+        _ => false,
+    }
+}
+
+// Whether that is the status of a thread.
+fn is_status(parts: &Parts, t: Tid, last: &FactSeen) -> bool
+    requires { t < length parts.now.names }
+    ensures same { result ≡ true → IsOf (thread_fact parts.now.machine t) (fact_seen last.now) }
+    ensures some { result ≡ true → is_some (fact_seen last.now) ≡ true }
+{
+    match last {
+        FactSeen::Status(u, status) => *u == t && is_same(status, &see(parts, t)),
+        _ => false,
+    }
+}
+
+// Whether those are the messages of a queue.
+fn are_messages(parts: &Parts, q: ObjId, last: &FactSeen) -> bool
+    requires { q < length parts.now.machine.queues }
+    ensures same { result ≡ true → IsOf (messages_fact parts.now.machine q) (fact_seen last.now) }
+    ensures some { result ≡ true → is_some (fact_seen last.now) ≡ true }
+{
+    match last {
+        FactSeen::Messages(j, few) => *j == q && are_held(parts, q, few),
+        _ => false,
+    }
+}
+
+/// Whether that is what a row tells of a thread.
+pub(crate) fn is_of_thread(parts: &Parts, row: ThreadRow, t: Tid, last: &FactSeen) -> bool
+    requires { t < length parts.now.names }
+    ensures same { result ≡ true → IsOf (thread_fact_of row parts.now.machine t) (fact_seen last.now) }
+    ensures some { result ≡ true → is_some (fact_seen last.now) ≡ true }
+{
+    match row {
+        ThreadRow::Status => is_status(parts, t, last),
+        ThreadRow::Frames => false,
+        ThreadRow::Mask => false,
+        ThreadRow::Cancelability => false,
+        ThreadRow::Cleanups => false,
+        ThreadRow::Pending => is_same_fact(last, &see_pending(parts, t)),
+    }
+}
+
+/// Whether that is all that a row tells of an object.
+pub(crate) fn is_of_object(
+    parts: &Parts,
+    decls: &[Decl],
+    row: ObjectRow,
+    k: ObjId,
+    last: &FactSeen,
+) -> bool
+    requires { k < object_count row decls.now parts.now.machine }
+    ensures same { result ≡ true → IsOnlyOf (object_facts row parts.now.machine k) (fact_seen last.now) }
+    ensures some { result ≡ true → is_some (fact_seen last.now) ≡ true }
+{
+    match row {
+        ObjectRow::Messages => are_messages(parts, k, last),
+        _ => is_same_fact(last, &see_object(parts, decls, row, k)),
     }
 }
 
@@ -263,15 +295,19 @@ impl SeenFacts {
         })
     }
 
-    /// Whether that was seen last of a fact; false where nothing was.
-    pub(crate) fn was_seen(&self, number: usize, seen: &FactSeen) -> bool
-        ensures same { result ≡ true → slice_index_or self.now.facts number variant.Unseen ≡ seen.now }
-        ensures some { result ≡ true → is_some (fact_seen seen.now) ≡ true }
+    /// How many facts there are.
+    pub(crate) fn count(&self) -> usize
+        ensures { result ≡ length self.now.facts }
     {
-        if number >= self.facts.len() {
-            return false;
-        }
-        is_same_fact(&self.facts[number], seen)
+        self.facts.len()
+    }
+
+    /// What was seen last of a fact.
+    pub(crate) fn last(&self, number: usize) -> &FactSeen
+        requires { number < length self.now.facts }
+        ensures { result.now ≡ slice_index_or self.now.facts number variant.Unseen }
+    {
+        &self.facts[number]
     }
 
     /// That is seen of a fact whose text may not be empty.

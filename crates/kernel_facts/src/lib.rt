@@ -6,7 +6,8 @@
 //! objects of the script. None takes memory.
 //!
 //! A look writes no text of a fact that tells nothing now and told nothing before, and none of one that is seen to be the same as a value:
-//! the status of a thread, a list with one thread on it, one or two planned replenishments, an owner, the value of a semaphore.
+//! the status of a thread, a list with a few threads on it, one or two planned replenishments, an owner, the value of a semaphore, a few
+//! messages of a queue.
 //!
 //! The state is read and not changed. Lists are written word by word, so that no room limits their length.
 #![tactic(auto)]
@@ -15,6 +16,7 @@ mod blocks;
 mod changes;
 mod desk;
 mod fact_seen;
+mod few;
 mod in_line;
 mod kept;
 mod known;
@@ -39,6 +41,7 @@ mod waiters;
 
 pub use desk::Desk;
 pub use fact_seen::{FactSeen, SeenFacts};
+pub use few::{FewMessages, FewThreads};
 pub use look::look_at_facts;
 pub use rooms::{Rooms, rooms_of};
 pub use seen::Seen;

@@ -1,12 +1,12 @@
 //! A look at the facts of a state.
-ghost use Rattle.std.specs.Prelude.{ℕ, ◌≡◌, ◌∷◌, ◌<◌, ◌≤◌, [], length, true};
+ghost use Rattle.std.specs.Prelude.{ℕ, ◌≡◌, ◌∷◌, ◌<◌, ◌≤◌, [], is_some, length, true};
 ghost use Rattle.rules_facts.specs.Facts.{facts};
 ghost use Rattle.rules_facts.specs.Shown.{once_ended};
 ghost use Rattle.rules_facts.specs.Signals.{signal_fact};
 ghost use Rattle.kernel_facts.specs.Blocks.{is_inner, inner_rows_kept};
 ghost use Rattle.kernel_facts.specs.Changed.{changed_lines};
-ghost use Rattle.kernel_facts.specs.Desk.{IsReady, WentOn};
-ghost use Rattle.kernel_facts.specs.FactSeen.{IsMemoryOf};
+ghost use Rattle.kernel_facts.specs.Desk.{IsReady, WentOn, last_seen};
+ghost use Rattle.kernel_facts.specs.FactSeen.{IsMemoryOf, IsOf, IsOnlyOf, fact_seen};
 ghost use Rattle.kernel_facts.specs.Kept.{object_row_kept, objects_kept, queue_waiters_kept, signals_kept, texts_of, thread_row_kept, threads_kept, waiters_text};
 ghost use Rattle.kernel_facts.specs.Lines.{fact_text, facts_text};
 ghost use Rattle.kernel_facts.specs.Numbered.{AreNumbered};
@@ -18,7 +18,7 @@ ghost use Rattle.kernel_facts.specs.declared.rows.ObjectRow.{ObjectRow};
 ghost use Rattle.kernel_facts.specs.Rows.{left_out, object_count, object_facts, thread_fact_of};
 
 use crate::desk::Desk;
-use crate::fact_seen::{FactSeen, see_list, see_object, see_thread};
+use crate::fact_seen::{FactSeen, is_of_object, is_of_thread, see_object, see_thread};
 use crate::known::{know_few, know_names, know_rows, know_timers};
 use crate::look_lists::look_at_lists;
 use crate::nothing::{
@@ -32,6 +32,18 @@ use kernel_state::Parts;
 use parts_texts::NextText;
 use words_numbers::{ObjId, Tid};
 use words_script::{Decl, Script};
+
+// Whether a row tells of a thread what was seen last of the fact that comes.
+fn is_thread_as_seen(parts: &Parts, row: ThreadRow, t: Tid, desk: &Desk) -> bool
+    requires { t < length parts.now.names }
+    ensures same { result ≡ true → IsOf (thread_fact_of row parts.now.machine t) (fact_seen (last_seen desk.now)) }
+    ensures some { result ≡ true → is_some (fact_seen (last_seen desk.now)) ≡ true }
+{
+    if !desk.has_seen() {
+        return false;
+    }
+    is_of_thread(parts, row, t, desk.last_seen())
+}
 
 fn look_at_thread_fact(
     parts: &Parts,
@@ -47,18 +59,17 @@ fn look_at_thread_fact(
     ensures short { HasShortText decls.now (thread_fact_of row parts.now.machine t) }
     ensures memory { IsMemoryOf decls.now desk.new.told.texts desk.new.seen }
 {
+    if is_thread_as_seen(parts, row, t, desk) {
+        desk.go_over_same();
+        return;
+    }
     if thread_tells_nothing(parts, row, t) {
         desk.go_over_nothing();
         return;
     }
-    let seen = see_thread(parts, row, t);
-    if desk.was_seen(&seen) {
-        desk.go_over_same();
-        return;
-    }
     next.clear();
     let failed = print_thread_fact(parts, decls, row, t, next);
-    desk.keep(next, failed, &seen);
+    desk.keep(next, failed, &see_thread(parts, row, t));
 }
 
 // Looks at a row of threads, by number.
@@ -118,6 +129,18 @@ fn look_at_threads(parts: &Parts, decls: &[Decl], next: &mut NextText, desk: &mu
     look_at_thread_row(parts, decls, ThreadRow::Pending, next, desk);
 }
 
+// Whether a row tells of an object what was seen last of the fact that comes, and nothing else.
+fn is_object_as_seen(parts: &Parts, decls: &[Decl], row: ObjectRow, k: ObjId, desk: &Desk) -> bool
+    requires { k < object_count row decls.now parts.now.machine }
+    ensures same { result ≡ true → IsOnlyOf (object_facts row parts.now.machine k) (fact_seen (last_seen desk.now)) }
+    ensures some { result ≡ true → is_some (fact_seen (last_seen desk.now)) ≡ true }
+{
+    if !desk.has_seen() {
+        return false;
+    }
+    is_of_object(parts, decls, row, k, desk.last_seen())
+}
+
 fn look_at_object_fact(
     parts: &Parts,
     decls: &[Decl],
@@ -136,14 +159,13 @@ fn look_at_object_fact(
         desk.go_over_nothing();
         return;
     }
-    let seen = see_object(parts, decls, row, k);
-    if desk.was_seen(&seen) {
+    if is_object_as_seen(parts, decls, row, k, desk) {
         desk.go_over_same();
         return;
     }
     next.clear();
     let failed = print_object_facts(parts, decls, row, k, next);
-    desk.keep(next, failed, &seen);
+    desk.keep(next, failed, &see_object(parts, decls, row, k));
 }
 
 // Looks at a row of objects that has one fact for each, by number.

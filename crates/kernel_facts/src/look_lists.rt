@@ -1,15 +1,16 @@
 //! A look at the lists of runnable threads.
-ghost use Rattle.std.specs.Prelude.{ℕ, ◌≡◌, ◌≤◌, ◌<◌, ◌+◌, ◌-◌, ◌/◌, ◌∷◌, [], false, slice_index_or, true};
+ghost use Rattle.std.specs.Prelude.{ℕ, ◌≡◌, ◌≤◌, ◌<◌, ◌+◌, ◌-◌, ◌/◌, ◌∷◌, [], false, is_some, slice_index_or, true};
 ghost use Rattle.rules_lists.specs.Lists.{list_of};
 ghost use Rattle.rules_facts.specs.Fact.{on_list};
-ghost use Rattle.kernel_facts.specs.Desk.{WentOn};
-ghost use Rattle.kernel_facts.specs.FactSeen.{IsMemoryOf};
+ghost use Rattle.kernel_facts.specs.Desk.{WentOn, last_seen};
+ghost use Rattle.kernel_facts.specs.FactSeen.{IsMemoryOf, IsOf, fact_seen};
 ghost use Rattle.kernel_facts.specs.Kept.{lists_kept};
 ghost use Rattle.kernel_facts.specs.Lines.{fact_text};
 ghost use Rattle.kernel_facts.specs.Blocks.{lists_from};
 
 use crate::desk::Desk;
-use crate::fact_seen::see_list;
+use crate::fact_seen::is_list;
+use crate::few::see_list;
 use crate::nothing::list_tells_nothing;
 use crate::printed::print_list;
 use crate::state::prio_of;
@@ -17,6 +18,17 @@ use kernel_state::Parts;
 use parts_texts::NextText;
 use words_numbers::Prio;
 use words_script::Decl;
+
+// Whether the list of a priority tells what was seen last of the fact that comes.
+fn is_list_as_seen(parts: &Parts, p: Prio, desk: &Desk) -> bool
+    ensures same { result ≡ true → IsOf (on_list p (list_of p parts.now.machine.lists)) (fact_seen (last_seen desk.now)) }
+    ensures some { result ≡ true → is_some (fact_seen (last_seen desk.now)) ≡ true }
+{
+    if !desk.has_seen() {
+        return false;
+    }
+    is_list(parts, p, desk.last_seen())
+}
 
 fn look_at_list(parts: &Parts, decls: &[Decl], p: Prio, next: &mut NextText, desk: &mut Desk)
     requires memory { IsMemoryOf decls.now desk.old.told.texts desk.old.seen }
@@ -27,14 +39,13 @@ fn look_at_list(parts: &Parts, decls: &[Decl], p: Prio, next: &mut NextText, des
         desk.go_over_nothing();
         return;
     }
-    let seen = see_list(parts, p);
-    if desk.was_seen(&seen) {
+    if is_list_as_seen(parts, p, desk) {
         desk.go_over_same();
         return;
     }
     next.clear();
     let failed = print_list(parts, decls, p, next);
-    desk.keep(next, failed, &seen);
+    desk.keep(next, failed, &see_list(parts, p));
 }
 
 // Looks at so many lists behind some that were looked at, that of the greatest priority first.

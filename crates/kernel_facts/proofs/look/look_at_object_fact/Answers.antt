@@ -1,3 +1,5 @@
+use Rattle.std.proofs.Common.{refl}
+use Rattle.kernel_facts.specs.Desk.{last_seen}
 use Rattle.kernel_facts.specs.FactSeen.{fact_seen}
 use Rattle.kernel_facts.proofs.FactsSeen.{only_here, tells_only, went_on_same}
 use Rattle.kernel_facts.proofs.Keeping.{whole_text}
@@ -11,7 +13,7 @@ returns-clause-kept c = went_printed _ _ _ _ c.clear.ensures _ _ _ c.print_objec
 pub returns-clause-memory : goal.returns-clause-memory
 returns-clause-memory c =
     c.keep.ensures.seen c.args.decls.now c.requires.memory
-    (λ good. tells_only c.args.decls.now _ _ (fact_seen c.see_object-seen.result) c.see_object-seen.ensures
+    (λ good. tells_only c.args.decls.now _ _ (fact_seen c.see_object.result) c.see_object.ensures
     (whole_text c.args.next.now c.clear.new.self _ _ c.clear.ensures _ c.print_object_facts-failed.ensures.text good) c.print_object_facts-failed.ensures.short)
 
 pub returns-then-object_tells_nothing-clause-kept : goal.returns-then-object_tells_nothing-clause-kept
@@ -20,14 +22,14 @@ returns-then-object_tells_nothing-clause-kept c = went_nothing _ _ _ _ (c.object
 pub returns-then-object_tells_nothing-clause-short : goal.returns-then-object_tells_nothing-clause-short
 returns-then-object_tells_nothing-clause-short c = none_short c.args.decls.now _ (c.object_tells_nothing.ensures c.if-object_tells_nothing.true c.args.decls.now)
 
-pub returns-then-was_seen-clause-kept : goal.returns-then-was_seen-clause-kept
-returns-then-was_seen-clause-kept c =
-    let e = c.if-was_seen.true in
-    let told = only_here c.args.decls.now c.args.desk.now c.see_object-seen.result _ (c.was_seen.ensures.same e) (c.was_seen.ensures.some e) c.see_object-seen.ensures c.requires.memory in
+pub returns-then-is_object_as_seen-clause-kept : goal.returns-then-is_object_as_seen-clause-kept
+returns-then-is_object_as_seen-clause-kept c =
+    let e = c.if-is_object_as_seen.true in
+    let told = only_here c.args.decls.now c.args.desk.now (last_seen c.args.desk.now) _ refl (c.is_object_as_seen.ensures.some e) (c.is_object_as_seen.ensures.same e) c.requires.memory in
     went_on_same _ _ _ _ _ told.told c.go_over_same.ensures.went
 
-pub returns-then-was_seen-clause-short : goal.returns-then-was_seen-clause-short
-returns-then-was_seen-clause-short c =
-    let e = c.if-was_seen.true in
-    let told = only_here c.args.decls.now c.args.desk.now c.see_object-seen.result _ (c.was_seen.ensures.same e) (c.was_seen.ensures.some e) c.see_object-seen.ensures c.requires.memory in
+pub returns-then-is_object_as_seen-clause-short : goal.returns-then-is_object_as_seen-clause-short
+returns-then-is_object_as_seen-clause-short c =
+    let e = c.if-is_object_as_seen.true in
+    let told = only_here c.args.decls.now c.args.desk.now (last_seen c.args.desk.now) _ refl (c.is_object_as_seen.ensures.some e) (c.is_object_as_seen.ensures.same e) c.requires.memory in
     told.short

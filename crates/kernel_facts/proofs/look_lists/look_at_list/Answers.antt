@@ -1,3 +1,5 @@
+use Rattle.std.proofs.Common.{refl}
+use Rattle.kernel_facts.specs.Desk.{last_seen}
 use Rattle.kernel_facts.specs.FactSeen.{fact_seen}
 use Rattle.kernel_facts.proofs.FactsSeen.{tells_seen, told_here, went_on_same}
 use Rattle.kernel_facts.proofs.Keeping.{whole_text}
@@ -11,14 +13,14 @@ returns-clause-kept c = went_printed _ _ _ _ c.clear.ensures _ _ _ c.print_list-
 pub returns-clause-memory : goal.returns-clause-memory
 returns-clause-memory c =
     c.keep.ensures.seen c.args.decls.now c.requires.memory
-    (λ good. tells_seen c.args.decls.now _ _ (fact_seen c.see_list-seen.result) c.see_list-seen.ensures.list
-    (whole_text c.args.next.now c.clear.new.self _ _ c.clear.ensures _ c.print_list-failed.ensures good) (list_short c.args.decls.now c.args.p _ c.see_list-seen.ensures.range))
+    (λ good. tells_seen c.args.decls.now _ _ (fact_seen c.see_list.result) c.see_list.ensures.list
+    (whole_text c.args.next.now c.clear.new.self _ _ c.clear.ensures _ c.print_list-failed.ensures good) (list_short c.args.decls.now c.args.p _ c.see_list.ensures.range))
 
 pub returns-then-list_tells_nothing-clause-kept : goal.returns-then-list_tells_nothing-clause-kept
 returns-then-list_tells_nothing-clause-kept c = went_nothing _ _ _ _ (c.list_tells_nothing.ensures c.if-list_tells_nothing.true c.args.decls.now) c.go_over_nothing.ensures.went
 
-pub returns-then-was_seen-clause-kept : goal.returns-then-was_seen-clause-kept
-returns-then-was_seen-clause-kept c =
-    let e = c.if-was_seen.true in
-    let told = told_here c.args.decls.now c.args.desk.now c.see_list-seen.result _ (c.was_seen.ensures.same e) (c.was_seen.ensures.some e) c.see_list-seen.ensures.list c.requires.memory in
+pub returns-then-is_list_as_seen-clause-kept : goal.returns-then-is_list_as_seen-clause-kept
+returns-then-is_list_as_seen-clause-kept c =
+    let e = c.if-is_list_as_seen.true in
+    let told = told_here c.args.decls.now c.args.desk.now (last_seen c.args.desk.now) _ refl (c.is_list_as_seen.ensures.some e) (c.is_list_as_seen.ensures.same e) c.requires.memory in
     went_on_same _ _ _ _ _ told.told c.go_over_same.ensures.went
