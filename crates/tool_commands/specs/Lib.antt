@@ -1,3 +1,4 @@
 pub mod Taken
 pub mod Audited
 pub mod Spelled
+pub mod Ended

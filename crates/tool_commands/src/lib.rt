@@ -4,6 +4,8 @@
 #![tactic(auto)]
 
 mod answer;
+mod carried;
+mod read;
 mod tool;
 
 pub use tool::run_tool;

@@ -28,12 +28,23 @@ ghost use Rattle.tool_answers.specs.Answer.{answer, usage_line, too_long_line, n
 ghost use Rattle.tool_answers.specs.Statuses.{IsWithoutSource};
 ghost use Rattle.tool_commands.specs.Taken.{Answered, IsOfWhole, ReadToItsEnd, ReadWhole};
 
-use crate::answer::answer_text;
-use parts_io::{ReadEnd, Sink, Source, read_whole};
+use crate::carried::carry_out;
+use crate::read::read_for;
+use parts_io::{Sink, Source};
 use parts_steps::Steps;
 use std::alloc::Global;
 use std::sync::ledger::Ledger;
 use tool_answers::{Command, Status, command_of_words, put_text};
+
+// Writes the line that is told where the words are no command.
+fn put_usage<K: Sink>(sink: &mut K) -> Status
+    ensures status { (result ≡ Status.Usage) ⊎ (result ≡ Status.WriteFault) }
+    ensures told { Told result (record { status = Status.Usage; text = usage_line }) (K.text sink.old) (K.text sink.new) }
+    ensures faults { SinkFaults result (K.faults sink.old) (K.faults sink.new) }
+    ensures unchanged { (result ≡ Status.ReadFault) ⊎ (result ≡ Status.OutOfMemory) → sink.new ≡ sink.old }
+{
+    put_text(sink, b"usage: pse52 COMMAND NUMBERS\n", Status::Usage)
+}
 
 /// Carries out the command of the words: reads the source, and writes to the sink.
 ///
@@ -53,7 +64,6 @@ use tool_answers::{Command, Status, command_of_words, put_text};
 /// write more than 1,048,576 bytes; then the answer. `OutOfMemory` may come in place of any of these but `Usage`, before anything is
 /// written. A fault of the source or the sink is answered only where its count of faults rose in this call. Nothing is written before the
 /// source was read to its end, or to one byte more than the limit.
-#[tactic(auto, using(crate::proofs::Promises::head_runs, crate::proofs::Promises::stays_good, crate::proofs::Promises::keeps_budgets, crate::proofs::Promises::generated_stays_good, crate::proofs::Promises::generated_keeps_budgets, crate::proofs::Promises::numbers_small, crate::proofs::Promises::one_reading, crate::proofs::Promises::breaks_none, crate::proofs::Promises::keeps_windows, crate::proofs::Promises::reads_upgraded, crate::proofs::Promises::runs_alike, crate::proofs::Promises::runs_as_before))]
 pub fn run_tool<S: Source, K: Sink, L: Ledger>(
     alloc: Global,
     words: &[String],
@@ -174,15 +184,8 @@ pub fn run_tool<S: Source, K: Sink, L: Ledger>(
         ⊎ ((result ≡ Status.OutOfMemory) × IsSome (command (map string_bytes words.now)) × (sink.new ≡ sink.old)) }
 {
     let Some(command) = command_of_words(words) else {
-        return put_text(sink, b"usage: pse52 COMMAND NUMBERS\n", Status::Usage);
+        return put_usage(sink);
     };
-    if !command.reads() {
-        return answer_text(alloc, &command, b"", sink, steps);
-    }
-    match read_whole(alloc, source, command.limit()) {
-        Ok(bytes) => answer_text(alloc, &command, bytes.as_slice(), sink, steps),
-        Err(ReadEnd::ReadFault) => Status::ReadFault,
-        Err(ReadEnd::TooLong) => put_text(sink, b"too long\n", Status::TooLong),
-        Err(ReadEnd::OutOfMemory) => Status::OutOfMemory,
-    }
+    let read = read_for(alloc, &command, source);
+    carry_out(alloc, &command, read, sink, steps)
 }

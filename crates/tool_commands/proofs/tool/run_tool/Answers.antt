@@ -1,113 +1,162 @@
-use Rattle.std.proofs.Common.{rules, ◌≡◌, ◌≤◌, ℕ, List, [], Option, None, Some, IfSome, length, map, string_bytes, arith, false, subst, sym, ◌∙◌, ap}
-use Rattle.parts_io.proofs.Known.{consumes_none}
+use Rattle.std.proofs.Common.{rules, ◌≡◌, ◌∙◌, ℕ, List, Option, None, Some, IfSome, map, string_bytes, refl, subst, sym}
 use Rattle.tool_answers.specs.declared.command.Command.{Command}
+use Rattle.tool_answers.specs.Command.{Generates, command}
 use Rattle.tool_answers.specs.Answer.{Told, answer}
-use Rattle.tool_answers.specs.Command.{command, limit_of, reads, words_limit, words_limit_of}
-use Rattle.tool_answers.specs.Few.{DoubleStepsAreFew, RoundsAreFew, StepsAreFew}
 use Rattle.tool_commands.proofs.Audits.{holds_where_told}
-use Rattle.tool_commands.proofs.Promises.{reads_upgraded}
-use Rattle.tool_commands.proofs.Taken.{no_rounds, no_run, no_steps, no_times}
-use Rattle.tool_commands.proofs.Whole.{answer_to, answer_unread, read_whole, told_whole}
+use Rattle.tool_commands.proofs.Called as called
+use Rattle.tool_commands.proofs.CarriedOut.{Call, IsAnswered, IsCarriedOut, carried, no_command, reads_none, untouched}
+use Rattle.tool_commands.proofs.Promises as promises
 use Rattle.tool_commands.proofs.tool.run_tool.Goals as goal
-
-same_command : {a b : Command} → Some a ≡ Some b → a ≡ b
-same_command e = cc
 
 known : (P : List ℕ → Type 0) (o : Option (List ℕ)) (bytes : List ℕ) → o ≡ Some bytes → IfSome o P → P bytes
 known P o bytes e h = subst (λ (x : Option (List ℕ)). IfSome x P) e h
 
--- where the words are no command nothing was taken, and the answer is the usage line
-pub returns-in_default-clause-answered : goal.returns-in_default-clause-answered
-returns-in_default-clause-answered g c =
-    let none : command (map string_bytes c.args.words.now) ≡ None = search rules in
-    record {
-      bytes = [];
-      bound = omega arith;
-      moved = consumes_none _;
-      count = record { at_least = omega arith; at_most = omega arith };
-      told = rw none c.put_text.ensures.told;
-      busy = λ n run. no_steps n [] c.args.steps.now;
-      rounds = λ n run. no_rounds n [] c.args.steps.now;
-    }
-
--- a text that was read whole is the one that the source told
-pub returns-in-Ok-clause-told : goal.returns-in-Ok-clause-told
-returns-in-Ok-clause-told g c =
-    let is : command (map string_bytes c.args.words.now) ≡ Some c.in-Some.command = sym c.command_of_words.ensures.command ∙ c.in-Some.is in
-    let small : length c.in-Ok.bytes.items ≤ limit_of c.in-Some.command = rw (sym c.limit.ensures.limit) c.in-Ok.ensures.short in
-    told_whole (map string_bytes c.args.words.now) c.in-Some.command _ _ c.in-Ok.bytes.items _ _ _ is small c.in-Ok.ensures.whole c.in-Ok.ensures.end (rw c.as_slice.ensures.value at c.answer_text-in-Ok.ensures.told)
-
--- it is what was taken, whatever the source tells
-pub returns-in-Ok-clause-answered : goal.returns-in-Ok-clause-answered
-returns-in-Ok-clause-answered g c =
+-- where the words are no command the answer is the usage line
+pub returns-in_default : goal.returns-in_default
+returns-in_default g c =
     let words = map string_bytes c.args.words.now in
-    let bytes = c.in-Ok.bytes.items in
-    let is : command words ≡ Some c.in-Some.command = sym c.command_of_words.ensures.command ∙ c.in-Some.is in
-    let small : length bytes ≤ limit_of c.in-Some.command = rw (sym c.limit.ensures.limit) c.in-Ok.ensures.short in
-    let limit : words_limit words ≡ limit_of c.in-Some.command = ap words_limit_of is in
+    let none : command words ≡ None = search rules in
+    let s = c.put_usage.result in
+    let call = untouched (g.S.Source.rest c.args.source.now) (g.S.Source.taken c.args.source.now) (g.S.Source.faults c.args.source.now)
+        (g.K.Sink.text c.args.sink.now) (g.K.Sink.text c.put_usage.new.sink) (g.K.Sink.faults c.args.sink.now) (g.K.Sink.faults c.put_usage.new.sink)
+        c.args.steps.now in
+    let p : IsCarriedOut (command words) s call = subst (λ (o : Option Command). IsCarriedOut o s call) (sym none)
+        (no_command s _ _ _ _ _ _ _ _ c.put_usage.ensures.status c.put_usage.ensures.told c.put_usage.ensures.faults) in
     record {
-      bytes = bytes;
-      bound = omega (arith, small, limit);
-      moved = c.in-Ok.ensures.whole;
-      count = c.in-Ok.ensures.count;
-      told = subst (λ a. Told c.answer_text-in-Ok.result a (g.K.Sink.text c.args.sink.now) (g.K.Sink.text c.answer_text-in-Ok.new.sink))
-          (sym (answer_to words c.in-Some.command bytes is small)) (rw c.as_slice.ensures.value at c.answer_text-in-Ok.ensures.told);
-      busy = λ n run. rw c.as_slice.ensures.value at (c.answer_text-in-Ok.ensures.busy n (same_command (sym is ∙ run)));
-      rounds = λ n run. rw c.as_slice.ensures.value at (c.answer_text-in-Ok.ensures.rounds n (same_command (sym is ∙ run)));
+      told = called.told p;
+      answered = called.answered words p;
+      head_runs = promises.head_runs;
+      good = promises.stays_good;
+      budgets = promises.keeps_budgets;
+      generated_good = promises.generated_stays_good;
+      generated_budgets = promises.generated_keeps_budgets;
+      numbers = promises.numbers_small;
+      readings = promises.one_reading;
+      holds = λ bytes is rest done. holds_where_told words bytes s call.text_before call.text_now is (p.told bytes rest) done;
+      breaks_none = promises.breaks_none;
+      windows = promises.keeps_windows;
+      upgrades_read = promises.reads_upgraded;
+      upgrades_alike = promises.runs_alike;
+      first_versions = promises.runs_as_before;
+      busy = p.busy;
+      shows = p.shows;
+      details = p.details;
+      rounds = p.rounds;
+      soaks = p.soaks;
+      usage = called.usage p;
+      usage_text = called.usage_text p;
+      no_command = λ _. (c.put_usage.ensures.status, refl);
+      usage_part = called.usage_part p;
+      generates = p.generates;
+      unread = λ _. refl;
+      too_long = p.too_long;
+      too_long_text = called.too_long_text p;
+      checked = called.checked p;
+      audited = called.audited p;
+      divided = called.divided p;
+      no_trace_text = called.no_trace_text p;
+      read_whole = p.read_whole;
+      whole_bytes = p.whole_bytes;
+      fault_bytes = p.fault_bytes;
+      memory_bytes = p.memory_bytes;
+      write_fault = p.write_fault;
+      read_fault = p.read_fault;
+      source_faults = p.source_faults;
+      sink_faults = p.sink_faults;
+      unchanged = c.put_usage.ensures.unchanged;
+      complete = called.complete p c.put_usage.ensures.unchanged;
     }
 
--- so an audit of it that is done tells that the budgets hold
-pub returns-in-Ok-clause-holds : goal.returns-in-Ok-clause-holds
-returns-in-Ok-clause-holds g c bytes is rest done =
-    holds_where_told (map string_bytes c.args.words.now) bytes c.answer_text-in-Ok.result (g.K.Sink.text c.args.sink.now) (g.K.Sink.text c.answer_text-in-Ok.new.sink) is
-    (known (λ b. Told c.answer_text-in-Ok.result (answer (map string_bytes c.args.words.now) b) (g.K.Sink.text c.args.sink.now) (g.K.Sink.text c.answer_text-in-Ok.new.sink)) (g.S.Source.rest c.args.source.now) bytes rest (returns-in-Ok-clause-told g c)) done
-
--- of a text that was read whole the steps of its run are those of the call
-pub returns-in-Ok-clause-busy : goal.returns-in-Ok-clause-busy
-returns-in-Ok-clause-busy g c n bytes run rest =
-    let is : command (map string_bytes c.args.words.now) ≡ Some c.in-Some.command = sym c.command_of_words.ensures.command ∙ c.in-Some.is in
-    subst (λ (b : List ℕ). StepsAreFew n b c.args.steps.now c.answer_text-in-Ok.new.steps) (read_whole _ _ c.in-Ok.bytes.items bytes c.in-Ok.ensures.whole c.in-Ok.ensures.end rest)
-    (rw c.as_slice.ensures.value at (c.answer_text-in-Ok.ensures.busy n (same_command (sym is ∙ run))))
-
-pub returns-in-Ok-clause-shows : goal.returns-in-Ok-clause-shows
-returns-in-Ok-clause-shows g c n bytes run rest =
-    let is : command (map string_bytes c.args.words.now) ≡ Some c.in-Some.command = sym c.command_of_words.ensures.command ∙ c.in-Some.is in
-    subst (λ (b : List ℕ). StepsAreFew n b c.args.steps.now c.answer_text-in-Ok.new.steps) (read_whole _ _ c.in-Ok.bytes.items bytes c.in-Ok.ensures.whole c.in-Ok.ensures.end rest)
-    (rw c.as_slice.ensures.value at (c.answer_text-in-Ok.ensures.shows n (same_command (sym is ∙ run))))
-
-pub returns-in-Ok-clause-details : goal.returns-in-Ok-clause-details
-returns-in-Ok-clause-details g c n bytes run rest =
-    let is : command (map string_bytes c.args.words.now) ≡ Some c.in-Some.command = sym c.command_of_words.ensures.command ∙ c.in-Some.is in
-    subst (λ (b : List ℕ). DoubleStepsAreFew n b c.args.steps.now c.answer_text-in-Ok.new.steps) (read_whole _ _ c.in-Ok.bytes.items bytes c.in-Ok.ensures.whole c.in-Ok.ensures.end rest)
-    (rw c.as_slice.ensures.value at (c.answer_text-in-Ok.ensures.details n (same_command (sym is ∙ run))))
-
--- and so are those of its response times
-pub returns-in-Ok-clause-rounds : goal.returns-in-Ok-clause-rounds
-returns-in-Ok-clause-rounds g c n bytes run rest =
-    let is : command (map string_bytes c.args.words.now) ≡ Some c.in-Some.command = sym c.command_of_words.ensures.command ∙ c.in-Some.is in
-    subst (λ (b : List ℕ). RoundsAreFew n b c.args.steps.now c.answer_text-in-Ok.new.steps) (read_whole _ _ c.in-Ok.bytes.items bytes c.in-Ok.ensures.whole c.in-Ok.ensures.end rest)
-    (rw c.as_slice.ensures.value at (c.answer_text-in-Ok.ensures.rounds n (same_command (sym is ∙ run))))
-
--- what reads nothing took nothing, and its answer is that to any bytes
-pub returns-then-not-reads-clause-answered : goal.returns-then-not-reads-clause-answered
-returns-then-not-reads-clause-answered g c =
-    let is : command (map string_bytes c.args.words.now) ≡ Some c.in-Some.command = sym c.command_of_words.ensures.command ∙ c.in-Some.is in
-    let none : reads c.in-Some.command ≡ false = sym c.reads.ensures ∙ c.if-not-reads.true in
+-- else the command is carried out
+pub returns : goal.returns
+returns g c =
+    let words = map string_bytes c.args.words.now in
+    let order = c.in-Some.command in
+    let is : command words ≡ Some order = sym c.command_of_words.ensures.command ∙ c.in-Some.is in
+    let s = c.carry_out.result in
+    let call : Call = record {
+        rest_before = g.S.Source.rest c.args.source.now;
+        rest_now = g.S.Source.rest c.read_for-read.new.source;
+        taken_before = g.S.Source.taken c.args.source.now;
+        taken_now = g.S.Source.taken c.read_for-read.new.source;
+        faults_before = g.S.Source.faults c.args.source.now;
+        faults_now = g.S.Source.faults c.read_for-read.new.source;
+        text_before = g.K.Sink.text c.args.sink.now;
+        text_now = g.K.Sink.text c.carry_out.new.sink;
+        sink_faults_before = g.K.Sink.faults c.args.sink.now;
+        sink_faults_now = g.K.Sink.faults c.carry_out.new.sink;
+        steps_before = c.args.steps.now;
+        steps_now = c.carry_out.new.steps;
+    } in
+    let read = c.read_for-read.ensures in
+    let told = c.carry_out.ensures in
+    let h : IsAnswered (λ v. v.items) order c.read_for-read.result s call = record {
+        whole = read.whole;
+        end = read.end;
+        short = read.short;
+        count = read.count;
+        long = read.long;
+        long_bytes = read.long_bytes;
+        fault = read.fault;
+        fault_bytes = read.fault_bytes;
+        no_fault = read.no_fault;
+        memory_bytes = read.memory_bytes;
+        nothing = read.nothing;
+        told = told.told;
+        kind = told.kind;
+        no_read_fault = told.no_fault;
+        ended = told.ended;
+        end_told = told.end_told;
+        sink_faults = told.faults;
+        busy = told.busy;
+        shows = told.shows;
+        details = told.details;
+        rounds = told.rounds;
+        soaks = told.soaks;
+        idle = told.idle;
+    } in
+    let p : IsCarriedOut (command words) s call = subst (λ (o : Option Command). IsCarriedOut o s call) (sym is) (carried (λ v. v.items) order c.read_for-read.result s call h) in
     record {
-      bytes = [];
-      bound = omega arith;
-      moved = consumes_none _;
-      count = record { at_least = omega arith; at_most = omega arith };
-      told = subst (λ a. Told c.answer_text.result a (g.K.Sink.text c.args.sink.now) (g.K.Sink.text c.answer_text.new.sink))
-          (sym (answer_unread (map string_bytes c.args.words.now) c.in-Some.command [] is none)) c.answer_text.ensures.told;
-      busy = λ n run. absurd (no_run c.in-Some.command n none (same_command (sym is ∙ run)));
-      rounds = λ n run. absurd (no_times c.in-Some.command n none (same_command (sym is ∙ run)));
+      told = called.told p;
+      answered = called.answered words p;
+      head_runs = promises.head_runs;
+      good = promises.stays_good;
+      budgets = promises.keeps_budgets;
+      generated_good = promises.generated_stays_good;
+      generated_budgets = promises.generated_keeps_budgets;
+      numbers = promises.numbers_small;
+      readings = promises.one_reading;
+      holds = λ bytes is rest done. holds_where_told words bytes s call.text_before call.text_now is (p.told bytes rest) done;
+      breaks_none = promises.breaks_none;
+      windows = promises.keeps_windows;
+      upgrades_read = promises.reads_upgraded;
+      upgrades_alike = promises.runs_alike;
+      first_versions = promises.runs_as_before;
+      busy = p.busy;
+      shows = p.shows;
+      details = p.details;
+      rounds = p.rounds;
+      soaks = p.soaks;
+      usage = called.usage p;
+      usage_text = called.usage_text p;
+      no_command = λ none. absurd (let e : None ≡ Some order = sym none ∙ is in cc);
+      usage_part = called.usage_part p;
+      generates = p.generates;
+      unread = λ generates. read.unread (reads_none order (subst Generates is generates));
+      too_long = p.too_long;
+      too_long_text = called.too_long_text p;
+      checked = called.checked p;
+      audited = called.audited p;
+      divided = called.divided p;
+      no_trace_text = called.no_trace_text p;
+      read_whole = p.read_whole;
+      whole_bytes = p.whole_bytes;
+      fault_bytes = p.fault_bytes;
+      memory_bytes = p.memory_bytes;
+      write_fault = p.write_fault;
+      read_fault = p.read_fault;
+      source_faults = p.source_faults;
+      sink_faults = p.sink_faults;
+      unchanged = told.unchanged;
+      complete = called.complete p told.unchanged;
     }
-
-pub returns-then-not-reads-clause-soaks : goal.returns-then-not-reads-clause-soaks
-returns-then-not-reads-clause-soaks g c seed n run =
-    let is : command (map string_bytes c.args.words.now) ≡ Some c.in-Some.command = sym c.command_of_words.ensures.command ∙ c.in-Some.is in
-    c.answer_text.ensures.soaks seed n (same_command (sym is ∙ run))
-
-pub returns-then-not-reads-clause-upgrades_read : goal.returns-then-not-reads-clause-upgrades_read
-returns-then-not-reads-clause-upgrades_read g c bytes script read = reads_upgraded bytes script read
