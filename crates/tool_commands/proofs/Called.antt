@@ -7,7 +7,7 @@ use Rattle.parts_io.specs.Causes.{Rose}
 use Rattle.tool_answers.specs.declared.command.Command.{Command}
 use Rattle.tool_answers.specs.declared.status.Status.{Status}
 use Rattle.tool_answers.specs.declared.status.Status.TheVariants.{Done, Usage, Refused, TooLong, ReadFault, WriteFault, OutOfMemory, Differs, NoTrace, Breach}
-use Rattle.tool_answers.specs.Answer.{Answer, Told, answer, command_answer, no_trace_line, too_long_line, usage_line}
+use Rattle.tool_answers.specs.Answer.{Answer, Told, command_answer, no_trace_line, too_long_line, usage_line}
 use Rattle.tool_answers.specs.Command.{Audits, Compares, Divides, command}
 use Rattle.tool_commands.specs.Taken.{Answered}
 use Rattle.tool_commands.proofs.CarriedOut.{Call, IsCarriedOut}

@@ -1,8 +1,7 @@
 -- What follows for a call from what was read and what was answered to that.
-use Rattle.std.proofs.Common.{◌≡◌, ◌≤◌, ◌<◌, ◌+◌, ◌++◌, ◌∙◌, ℕ, List, [], Option, None, Some, Result, Ok, Err, Bool, true, false, IfSome, inl, inr, length, length-append, append-nil, refl, sym, ap, subst, arith}
+use Rattle.std.proofs.Common.{◌≡◌, ◌≤◌, ◌+◌, ◌∙◌, ℕ, List, [], Option, None, Some, Result, Ok, Err, Bool, true, false, inl, inr, length, refl, sym, ap, subst, arith}
 use Rattle.std.specs.Prelude.{◌⊎◌, IfErr, IfOk, IsOk, IsSome, IsTrue, OnOk, not}
-use Rattle.std.specs.Io.KnownBytes.{Appends, Consumes, IsAtEnd, Keeps}
-use Rattle.parts_io.specs.Bytes.{AppendsPart}
+use Rattle.std.specs.Io.KnownBytes.{Consumes, IsAtEnd}
 use Rattle.parts_io.specs.Causes.{GrewBy, Rose}
 use Rattle.parts_io.specs.Whole.{TookAtMost}
 use Rattle.parts_io.specs.declared.whole.ReadEnd.{ReadEnd}
@@ -14,7 +13,7 @@ use Rattle.tool_answers.specs.declared.command.Command.{Command}
 use Rattle.tool_answers.specs.declared.command.Command.TheVariants.{Run, Show, Detail, ResponseTimes, Soak}
 use Rattle.tool_answers.specs.declared.status.Status.{Status}
 use Rattle.tool_answers.specs.declared.status.Status.TheVariants.{Done, Usage, Refused, TooLong, ReadFault, WriteFault, OutOfMemory, Differs, NoTrace, Breach}
-use Rattle.tool_answers.specs.Answer.{Answer, SinkFaults, Told, command_answer, text_answer, usage_line}
+use Rattle.tool_answers.specs.Answer.{Answer, SinkFaults, Told, command_answer, text_answer}
 use Rattle.tool_answers.specs.Command.{Generates, HasSecondLimit, Reads, limit_of, reads, words_limit_of}
 use Rattle.tool_answers.specs.Few.{DoubleStepsAreFew, RoundsAreFew, StepsAreFew}
 use Rattle.tool_answers.specs.Statuses.{IsWithoutSource}

@@ -1,9 +1,7 @@
 -- What each status says of the command and the text.
-use Rattle.std.proofs.Common.{◌≡◌, ℕ, List, Option, None, Some, Result, Ok, Err, refl, subst, sym, Bool, true, false}
-use Rattle.std.specs.Prelude.{◌⊎◌, if◌then◌else◌, length, nat_lt}
+use Rattle.std.proofs.Common.{◌≡◌, ℕ, List, Option, None, Some, Result, Ok, Err, refl, subst, Bool, true, false}
+use Rattle.std.specs.Prelude.{if◌then◌else◌, length, nat_lt}
 use Rattle.std.specs.Io.KnownBytes.{Appends}
-use Rattle.parts_io.specs.declared.whole.ReadEnd.{ReadEnd}
-use Rattle.parts_io.specs.declared.whole.ReadEnd.TheVariants as read_end
 use Rattle.words_script.specs.declared.decl.Script.{Script}
 use Rattle.script_writer.specs.Canon.{canon}
 use Rattle.script_writer.specs.Upgraded.{upgraded}
@@ -25,9 +23,8 @@ use Rattle.tool_answers.specs.declared.command.Command.{Command}
 use Rattle.tool_answers.specs.declared.command.Command.TheVariants.{Run, Show, Detail, Check, Audit, Upgrade, ResponseTimes, Gen, Soak}
 use Rattle.tool_answers.specs.declared.status.Status.{Status}
 use Rattle.tool_answers.specs.declared.status.Status.TheVariants.{Done, Usage, Refused, TooLong, ReadFault, WriteFault, OutOfMemory, Differs, NoTrace, Breach}
-use Rattle.tool_answers.specs.Answer.{Answer, Told, audit_answer, audited_answer, breach_answer, compared_answer, detail_answer, divided_answer, head_answer, no_trace_line, responses_answer, run_answer, show_answer, text_answer, too_long_line, trace_answer, upgrade_answer, upgraded_answer, usage_line}
+use Rattle.tool_answers.specs.Answer.{Answer, Told, audit_answer, audited_answer, breach_answer, compared_answer, detail_answer, divided_answer, no_trace_line, responses_answer, run_answer, show_answer, text_answer, too_long_line, trace_answer, upgrade_answer, usage_line}
 use Rattle.tool_answers.specs.Command.{Audits, Compares, Divides, HasSecondLimit}
-use Rattle.tool_commands.specs.Ended.{IsOfEnd, end_answer}
 
 -- the status and the text of an answer that a command may have to a text
 abbrev pub Fits : Command → Status → List ℕ → Type 0

@@ -1,5 +1,5 @@
 -- The answer to what a command read, and to all that its source told.
-use Rattle.std.proofs.Common.{◌≡◌, ◌≤◌, ◌<◌, ◌+◌, ℕ, List, [], ◌++◌, length, length-append, ◌∙◌, refl, sym, ap, arith, rules, append-nil, Bool, true, false, Option, None, Some}
+use Rattle.std.proofs.Common.{◌≡◌, ◌≤◌, ◌<◌, ◌+◌, ℕ, List, ◌++◌, length, length-append, ◌∙◌, refl, sym, ap, arith, rules, append-nil, Bool, true, false, Option, None, Some}
 use Rattle.std.specs.Prelude.{◌&&◌, if◌then◌else◌, nat_lt}
 use Rattle.std.specs.Io.KnownBytes.{Consumes, IsAtEnd}
 use Rattle.parts_io.specs.declared.whole.ReadEnd.TheVariants as read_end

@@ -1,15 +1,11 @@
-use Rattle.std.proofs.Common.{rules, ◌≡◌, ◌∙◌, ℕ, List, Option, None, Some, IfSome, map, string_bytes, refl, subst, sym}
+use Rattle.std.proofs.Common.{rules, ◌≡◌, ◌∙◌, Option, None, Some, map, string_bytes, refl, subst, sym}
 use Rattle.tool_answers.specs.declared.command.Command.{Command}
 use Rattle.tool_answers.specs.Command.{Generates, command}
-use Rattle.tool_answers.specs.Answer.{Told, answer}
 use Rattle.tool_commands.proofs.Audits.{holds_where_told}
 use Rattle.tool_commands.proofs.Called as called
 use Rattle.tool_commands.proofs.CarriedOut.{Call, IsAnswered, IsCarriedOut, carried, no_command, reads_none, untouched}
 use Rattle.tool_commands.proofs.Promises as promises
 use Rattle.tool_commands.proofs.tool.run_tool.Goals as goal
-
-known : (P : List ℕ → Type 0) (o : Option (List ℕ)) (bytes : List ℕ) → o ≡ Some bytes → IfSome o P → P bytes
-known P o bytes e h = subst (λ (x : Option (List ℕ)). IfSome x P) e h
 
 -- where the words are no command the answer is the usage line
 pub returns-in_default : goal.returns-in_default
