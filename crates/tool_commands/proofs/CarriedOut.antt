@@ -243,7 +243,7 @@ of_fault items c s call h =
     let took = h.fault_bytes refl in
     let bound : length took.bytes ≤ limit_of c = took.bound in
     let kept : (a : Answer) → Told s a call.text_before call.text_now = λ a. subst (λ (x : Status). Told x a call.text_before call.text_now) (sym is)
-        (subst (λ (x : Status). Told x (end_answer read_end.ReadFault) call.text_before call.text_now) is h.end_told) in
+    (subst (λ (x : Status). Told x (end_answer read_end.ReadFault) call.text_before call.text_now) is h.end_told) in
     record {
       bytes = took.bytes;
       bound = omega arith;
@@ -278,7 +278,7 @@ of_memory items c s call h =
     let is : s ≡ OutOfMemory = h.ended in
     let took = h.memory_bytes refl in
     let kept : (a : Answer) → Told s a call.text_before call.text_now = λ a. subst (λ (x : Status). Told x a call.text_before call.text_now) (sym is)
-        (subst (λ (x : Status). Told x (end_answer read_end.OutOfMemory) call.text_before call.text_now) is h.end_told) in
+    (subst (λ (x : Status). Told x (end_answer read_end.OutOfMemory) call.text_before call.text_now) is h.end_told) in
     record {
       bytes = took.bytes;
       bound = took.bound;
@@ -346,9 +346,18 @@ usage_seen Breach old new is told = absurd is
 -- what a call found is left but for the sink
 abbrev pub untouched : Option (List ℕ) → ℕ → ℕ → Option (List ℕ) → Option (List ℕ) → ℕ → ℕ → ℕ → Call
 untouched rest taken faults text_before text_now sink_faults_before sink_faults_now steps = record {
-  rest_before = rest; rest_now = rest; taken_before = taken; taken_now = taken; faults_before = faults; faults_now = faults;
-  text_before = text_before; text_now = text_now; sink_faults_before = sink_faults_before; sink_faults_now = sink_faults_now;
-  steps_before = steps; steps_now = steps;
+  rest_before = rest;
+  rest_now = rest;
+  taken_before = taken;
+  taken_now = taken;
+  faults_before = faults;
+  faults_now = faults;
+  text_before = text_before;
+  text_now = text_now;
+  sink_faults_before = sink_faults_before;
+  sink_faults_now = sink_faults_now;
+  steps_before = steps;
+  steps_now = steps;
 }
 
 pub no_command : (s : Status) (rest : Option (List ℕ)) (taken faults : ℕ) (text_before text_now : Option (List ℕ)) (sink_faults_before sink_faults_now steps : ℕ)
@@ -357,7 +366,11 @@ pub no_command : (s : Status) (rest : Option (List ℕ)) (taken faults : ℕ) (t
 no_command s rest taken faults text_before text_now sink_faults_before sink_faults_now steps which told sink_faults =
     let is : IsUsage s = is_usage s which in
     let took : (most : ℕ) → TookAtMost most rest rest taken taken = λ most. record {
-        bytes = []; bound = omega arith; moved = consumes_none rest; count = record { at_least = omega arith; at_most = omega arith } } in
+      bytes = [];
+      bound = omega arith;
+      moved = consumes_none rest;
+      count = record { at_least = omega arith; at_most = omega arith };
+    } in
     record {
       bytes = [];
       bound = omega arith;

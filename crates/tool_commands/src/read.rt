@@ -10,7 +10,11 @@ use std::alloc::Global;
 use tool_answers::Command;
 
 /// The text that a command is about: the whole source, or none where the command reads nothing.
-pub(crate) fn read_for<S: Source>(alloc: Global, command: &Command, source: &mut S) -> Result<Vec<u8>, ReadEnd>
+pub(crate) fn read_for<S: Source>(
+    alloc: Global,
+    command: &Command,
+    source: &mut S,
+) -> Result<Vec<u8>, ReadEnd>
     // the bytes that were taken, which are all where the command reads
     ensures whole { IfOk result (λ bytes. Consumes (S.rest source.old) (S.rest source.new) bytes.items) }
     ensures end { reads command.now ≡ true → OnOk result (IsAtEnd (S.rest source.new)) }

@@ -14,10 +14,10 @@ returns-in_default g c =
     let none : command words ≡ None = search rules in
     let s = c.put_usage.result in
     let call = untouched (g.S.Source.rest c.args.source.now) (g.S.Source.taken c.args.source.now) (g.S.Source.faults c.args.source.now)
-        (g.K.Sink.text c.args.sink.now) (g.K.Sink.text c.put_usage.new.sink) (g.K.Sink.faults c.args.sink.now) (g.K.Sink.faults c.put_usage.new.sink)
-        c.args.steps.now in
+    (g.K.Sink.text c.args.sink.now) (g.K.Sink.text c.put_usage.new.sink) (g.K.Sink.faults c.args.sink.now) (g.K.Sink.faults c.put_usage.new.sink)
+    c.args.steps.now in
     let p : IsCarriedOut (command words) s call = subst (λ (o : Option Command). IsCarriedOut o s call) (sym none)
-        (no_command s _ _ _ _ _ _ _ _ c.put_usage.ensures.status c.put_usage.ensures.told c.put_usage.ensures.faults) in
+    (no_command s _ _ _ _ _ _ _ _ c.put_usage.ensures.status c.put_usage.ensures.told c.put_usage.ensures.faults) in
     record {
       told = called.told p;
       answered = called.answered words p;
@@ -71,45 +71,45 @@ returns g c =
     let is : command words ≡ Some order = sym c.command_of_words.ensures.command ∙ c.in-Some.is in
     let s = c.carry_out.result in
     let call : Call = record {
-        rest_before = g.S.Source.rest c.args.source.now;
-        rest_now = g.S.Source.rest c.read_for-read.new.source;
-        taken_before = g.S.Source.taken c.args.source.now;
-        taken_now = g.S.Source.taken c.read_for-read.new.source;
-        faults_before = g.S.Source.faults c.args.source.now;
-        faults_now = g.S.Source.faults c.read_for-read.new.source;
-        text_before = g.K.Sink.text c.args.sink.now;
-        text_now = g.K.Sink.text c.carry_out.new.sink;
-        sink_faults_before = g.K.Sink.faults c.args.sink.now;
-        sink_faults_now = g.K.Sink.faults c.carry_out.new.sink;
-        steps_before = c.args.steps.now;
-        steps_now = c.carry_out.new.steps;
+      rest_before = g.S.Source.rest c.args.source.now;
+      rest_now = g.S.Source.rest c.read_for-read.new.source;
+      taken_before = g.S.Source.taken c.args.source.now;
+      taken_now = g.S.Source.taken c.read_for-read.new.source;
+      faults_before = g.S.Source.faults c.args.source.now;
+      faults_now = g.S.Source.faults c.read_for-read.new.source;
+      text_before = g.K.Sink.text c.args.sink.now;
+      text_now = g.K.Sink.text c.carry_out.new.sink;
+      sink_faults_before = g.K.Sink.faults c.args.sink.now;
+      sink_faults_now = g.K.Sink.faults c.carry_out.new.sink;
+      steps_before = c.args.steps.now;
+      steps_now = c.carry_out.new.steps;
     } in
     let read = c.read_for-read.ensures in
     let told = c.carry_out.ensures in
     let h : IsAnswered (λ v. v.items) order c.read_for-read.result s call = record {
-        whole = read.whole;
-        end = read.end;
-        short = read.short;
-        count = read.count;
-        long = read.long;
-        long_bytes = read.long_bytes;
-        fault = read.fault;
-        fault_bytes = read.fault_bytes;
-        no_fault = read.no_fault;
-        memory_bytes = read.memory_bytes;
-        nothing = read.nothing;
-        told = told.told;
-        kind = told.kind;
-        no_read_fault = told.no_fault;
-        ended = told.ended;
-        end_told = told.end_told;
-        sink_faults = told.faults;
-        busy = told.busy;
-        shows = told.shows;
-        details = told.details;
-        rounds = told.rounds;
-        soaks = told.soaks;
-        idle = told.idle;
+      whole = read.whole;
+      end = read.end;
+      short = read.short;
+      count = read.count;
+      long = read.long;
+      long_bytes = read.long_bytes;
+      fault = read.fault;
+      fault_bytes = read.fault_bytes;
+      no_fault = read.no_fault;
+      memory_bytes = read.memory_bytes;
+      nothing = read.nothing;
+      told = told.told;
+      kind = told.kind;
+      no_read_fault = told.no_fault;
+      ended = told.ended;
+      end_told = told.end_told;
+      sink_faults = told.faults;
+      busy = told.busy;
+      shows = told.shows;
+      details = told.details;
+      rounds = told.rounds;
+      soaks = told.soaks;
+      idle = told.idle;
     } in
     let p : IsCarriedOut (command words) s call = subst (λ (o : Option Command). IsCarriedOut o s call) (sym is) (carried (λ v. v.items) order c.read_for-read.result s call h) in
     record {
