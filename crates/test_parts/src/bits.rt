@@ -3,24 +3,29 @@ use parts_bits::BitSet;
 use std::test::Fail;
 
 #[test]
-fn numbers_of_each_word(rt: HostRuntime) -> Result<(), Fail> {
+fn the_first_from_a_number(rt: HostRuntime) -> Result<(), Fail> {
     let mut set = BitSet::empty();
     assert_eq!(rt; set.first_from(0), None);
     set.add(255);
     set.add(64);
     set.add(63);
-    assert_eq!(rt; set.first_from(0), Some(63));
-    assert_eq!(rt; set.first_from(64), Some(64));
-    assert_eq!(rt; set.first_from(65), Some(255));
-    assert_eq!(rt; set.first_from(256), None);
-    set.remove(63);
+    let low = (set.first_from(0), set.first_from(64));
+    assert_eq!(rt; low, (Some(63), Some(64)));
+    let high = (set.first_from(65), set.first_from(256));
+    assert_eq!(rt; high, (Some(255), None));
+    Ok(())
+}
+
+#[test]
+fn a_number_is_alone(rt: HostRuntime) -> Result<(), Fail> {
+    let mut set = BitSet::empty();
+    set.add(255);
+    set.add(64);
     assert!(rt; !set.is_alone(64));
     set.remove(255);
-    assert!(rt; set.is_alone(64));
-    assert!(rt; !set.is_alone(0));
+    assert_eq!(rt; (set.is_alone(64), set.is_alone(0)), (true, false));
     set.remove(64);
-    assert!(rt; set.is_alone(0));
-    assert_eq!(rt; set.first_from(0), None);
+    assert_eq!(rt; (set.is_alone(0), set.first_from(0)), (true, None));
     Ok(())
 }
 

@@ -2,22 +2,27 @@
 use parts_links::Links;
 
 #[test]
-fn nodes_come_and_go(rt: HostRuntime) {
+fn nodes_come_in_order(rt: HostRuntime) {
     let mut links = Links::open(rt.alloc(), 4, 2).expect(&rt, "memory");
     links.push_back(0, 1);
     links.push_back(0, 2);
     links.push_front(0, 0);
     links.insert_before(2, 3);
-    assert_eq!(rt; links.front(0), Some(0));
-    assert_eq!(rt; links.next(0), Some(1));
-    assert_eq!(rt; links.next(1), Some(3));
-    assert_eq!(rt; links.nth(0, 2), Some(3));
-    assert_eq!(rt; links.nth(0, 4), None);
+    let first = (links.front(0), links.next(0), links.next(1));
+    assert_eq!(rt; first, (Some(0), Some(1), Some(3)));
+    assert_eq!(rt; (links.nth(0, 2), links.nth(0, 4)), (Some(3), None));
+}
+
+#[test]
+fn a_node_goes(rt: HostRuntime) {
+    let mut links = Links::open(rt.alloc(), 4, 2).expect(&rt, "memory");
+    links.push_back(0, 1);
+    links.push_back(0, 2);
+    links.push_front(0, 0);
+    links.insert_before(2, 3);
     links.unlink(1);
-    assert_eq!(rt; links.next(0), Some(3));
-    assert_eq!(rt; links.list_of(1), None);
-    assert_eq!(rt; links.next(3), Some(2));
-    assert_eq!(rt; links.next(2), None);
-    assert_eq!(rt; links.front(1), None);
+    let left = (links.next(0), links.next(3), links.next(2));
+    assert_eq!(rt; left, (Some(3), Some(2), None));
+    assert_eq!(rt; (links.list_of(1), links.front(1)), (None, None));
     assert_eq!(rt; links.list_of(3), Some(0));
 }
