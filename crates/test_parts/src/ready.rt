@@ -1,48 +1,89 @@
 //! Three threads, and a fourth that is given the highest priority.
+ghost use Rattle.std.specs.Prelude.{◌≡◌, ◌≤◌, ◌<◌};
+
 use crate::numbers::{prio, thread};
 use parts_ready::Ready;
 use std::test::Fail;
 
+fn to_tail(ready: &mut Ready, number: u16, priority: u8)
+    requires thread { number < 256 }
+    requires known { number < ready.old.threads }
+    requires priority { 1 ≤ priority }
+    ensures { ready.new.threads ≡ ready.old.threads }
+{
+    ready.to_tail(thread(number), prio(priority));
+}
+
+fn to_head(ready: &mut Ready, number: u16, priority: u8)
+    requires thread { number < 256 }
+    requires known { number < ready.old.threads }
+    requires priority { 1 ≤ priority }
+    ensures { ready.new.threads ≡ ready.old.threads }
+{
+    ready.to_head(thread(number), prio(priority));
+}
+
+// The number of the highest thread.
+fn highest(ready: &Ready) -> Option<u16> {
+    Some(ready.highest()?.get())
+}
+
+// The number of the thread at this place of the list of priority 5.
+fn fifth(ready: &Ready, place: u32) -> Option<u16> {
+    Some(ready.nth(prio(5), place)?.get())
+}
+
+// The priority of the thread of this number.
+fn prio_of(ready: &Ready, number: u16) -> Option<u8>
+    requires { number < 256 }
+{
+    Some(ready.prio_of(thread(number))?.get())
+}
+
+#[test]
+fn threads_of_one_priority(rt: HostRuntime) -> Result<(), Fail> {
+    let mut ready = Ready::open(rt.alloc(), 4)?;
+    assert_eq!(rt; highest(&ready), None);
+    to_tail(&mut ready, 0, 5);
+    to_tail(&mut ready, 1, 5);
+    to_head(&mut ready, 2, 5);
+    assert_eq!(rt; highest(&ready), Some(2));
+    let places = (fifth(&ready, 0), fifth(&ready, 2), fifth(&ready, 3));
+    assert_eq!(rt; places, (Some(2), Some(1), None));
+    Ok(())
+}
+
 #[test]
 fn threads_of_several_priorities(rt: HostRuntime) -> Result<(), Fail> {
     let mut ready = Ready::open(rt.alloc(), 4)?;
-    assert_eq!(rt; ready.highest(), None);
-
-    ready.to_tail(thread(0), prio(5));
-    ready.to_tail(thread(1), prio(5));
-    ready.to_head(thread(2), prio(5));
-    assert_eq!(rt; ready.highest(), Some(thread(2)));
-    assert_eq!(rt; ready.nth(prio(5), 0), Some(thread(2)));
-    assert_eq!(rt; ready.nth(prio(5), 2), Some(thread(1)));
-    assert_eq!(rt; ready.nth(prio(5), 3), None);
-
-    ready.to_tail(thread(3), prio(255));
-    assert_eq!(rt; ready.highest(), Some(thread(3)));
-    assert_eq!(rt; ready.prio_of(thread(3)), Some(prio(255)));
-
-    ready.to_head(thread(3), prio(1));
-    assert_eq!(rt; ready.highest(), Some(thread(2)));
+    to_tail(&mut ready, 0, 5);
+    to_tail(&mut ready, 1, 5);
+    to_head(&mut ready, 2, 5);
+    to_tail(&mut ready, 3, 255);
+    assert_eq!(rt; (highest(&ready), prio_of(&ready, 3)), (Some(3), Some(255)));
+    to_head(&mut ready, 3, 1);
+    assert_eq!(rt; highest(&ready), Some(2));
     ready.remove(thread(2));
-    assert_eq!(rt; ready.prio_of(thread(2)), None);
-    assert_eq!(rt; ready.highest(), Some(thread(0)));
-
-    ready.to_tail(thread(0), prio(64));
-    assert_eq!(rt; ready.highest(), Some(thread(0)));
+    assert_eq!(rt; (highest(&ready), prio_of(&ready, 2)), (Some(0), None));
+    to_tail(&mut ready, 0, 64);
+    assert_eq!(rt; highest(&ready), Some(0));
     Ok(())
 }
 
 #[test]
 fn as_many_threads_as_there_may_be(rt: HostRuntime) -> Result<(), Fail> {
     let mut ready = Ready::open(rt.alloc(), 256)?;
-    ready.to_tail(thread(255), prio(9));
-    ready.to_tail(thread(64), prio(9));
-    ready.to_tail(thread(0), prio(9));
-    assert_eq!(rt; ready.highest(), Some(thread(255)));
-    ready.to_tail(thread(255), prio(9));
-    assert_eq!(rt; ready.highest(), Some(thread(64)));
+    to_tail(&mut ready, 255, 9);
+    to_tail(&mut ready, 64, 9);
+    to_tail(&mut ready, 0, 9);
+    assert_eq!(rt; highest(&ready), Some(255));
+    to_tail(&mut ready, 255, 9);
+    assert_eq!(rt; highest(&ready), Some(64));
     ready.remove(thread(64));
     ready.remove(thread(0));
-    assert_eq!(rt; ready.highest(), Some(thread(255)));
-    assert_eq!(rt; ready.prio_of(thread(255)), Some(prio(9)));
+    assert_eq!(rt;
+        (highest(&ready), prio_of(&ready, 255)),
+        (Some(255), Some(9))
+    );
     Ok(())
 }
