@@ -155,7 +155,7 @@ fn look_at_object_fact(
     ensures short { HaveShortTexts decls.now (object_facts row parts.now.machine k) }
     ensures memory { IsMemoryOf decls.now desk.new.told.texts desk.new.seen }
 {
-    if object_tells_nothing(parts, row, k) {
+    if object_tells_nothing(parts, decls, row, k) {
         desk.go_over_nothing();
         return;
     }

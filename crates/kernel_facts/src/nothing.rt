@@ -1,8 +1,9 @@
 //! Whether a fact tells nothing, seen without its text.
-ghost use Rattle.std.specs.Prelude.{ℕ, ◌≡◌, ◌<◌, Bool, List, [], None, false, length, option_map, true};
+ghost use Rattle.std.specs.Prelude.{ℕ, ◌≡◌, ◌∷◌, ◌<◌, Bool, List, [], None, false, length, option_map, true};
 ghost use Rattle.rules_lists.specs.Lists.{list_of};
 ghost use Rattle.rules_facts.specs.Fact.{on_list};
-ghost use Rattle.rules_facts.specs.Objects.{in_service_order};
+ghost use Rattle.rules_facts.specs.Objects.{in_service_order, owner_fact, timer_fact};
+ghost use Rattle.rules_facts.specs.Queues.{registration_fact};
 ghost use Rattle.rules_facts.specs.Signals.{signal_fact};
 ghost use Rattle.rules_facts.specs.Threads.{inner_bodies, planned};
 ghost use Rattle.kernel_facts.specs.Blocks.{is_inner};
@@ -192,19 +193,48 @@ pub(crate) fn signal_tells_nothing(parts: &Parts, signal: u8, left_out: Option<u
     parts.none_pending()
 }
 
+// ---- objects
+
+// Whether nobody owns a mutex.
+fn is_unowned(parts: &Parts, k: ObjId) -> bool
+    requires { k < length parts.now.machine.mutexes }
+    ensures { result ≡ true → TellNothing (owner_fact parts.now.machine k ∷ []) }
+{
+    parts.mutex(k).owner().is_none()
+}
+
+// Whether nobody has registered with a queue.
+fn is_unregistered(parts: &Parts, q: ObjId) -> bool
+    requires { q < length parts.now.machine.queues }
+    ensures { result ≡ true → TellNothing (registration_fact parts.now.machine q ∷ []) }
+{
+    parts.queue(q).registration().is_none()
+}
+
+// Whether a timer is disarmed.
+fn is_disarmed(parts: &Parts, k: ObjId) -> bool
+    requires { k < length parts.now.machine.timers }
+    ensures { result ≡ true → TellNothing (timer_fact parts.now.machine k ∷ []) }
+{
+    parts.timer(k).due().is_none()
+}
+
 /// Whether a row tells nothing of an object, where that is seen at once.
-pub(crate) fn object_tells_nothing(parts: &Parts, row: ObjectRow, k: ObjId) -> bool
+pub(crate) fn object_tells_nothing(parts: &Parts, decls: &[Decl], row: ObjectRow, k: ObjId) -> bool
+    requires { k < object_count row decls.now parts.now.machine }
     ensures { result ≡ true → TellNothing (object_facts row parts.now.machine k) }
 {
+    // the clauses alone speak of them
+    let _ = decls;
     match row {
-        ObjectRow::Owner => false,
+        ObjectRow::Owner => is_unowned(parts, k),
         ObjectRow::MutexWaiters => nobody_waits(parts, &Line::Mutex(k)),
         ObjectRow::ConditionWaiters => nobody_waits(parts, &Line::Condition(k)),
         ObjectRow::SemaphoreWaiters => nobody_waits(parts, &Line::Semaphore(k)),
         ObjectRow::Value => false,
         ObjectRow::Messages => false,
         ObjectRow::QueueWaiters => false,
-        ObjectRow::Registration => false,
-        ObjectRow::Arming => false,
+        ObjectRow::Registration => is_unregistered(parts, k),
+        ObjectRow::Arming => is_disarmed(parts, k),
     }
 }

@@ -20,3 +20,15 @@ pub returns-in-SemaphoreWaiters : goal.returns-in-SemaphoreWaiters
 returns-in-SemaphoreWaiters c e =
     subst (λ (row : ObjectRow). TellNothing (object_facts row c.args.parts.now.machine c.args.k)) (sym c.in-SemaphoreWaiters.is)
     (nobody_for c.args.parts.now.machine c.args.k kind.Sem _ (c.nobody_waits-in-SemaphoreWaiters.ensures e))
+
+pub returns-in-Owner : goal.returns-in-Owner
+returns-in-Owner c e =
+    subst (λ (row : ObjectRow). TellNothing (object_facts row c.args.parts.now.machine c.args.k)) (sym c.in-Owner.is) (c.is_unowned.ensures e)
+
+pub returns-in-Registration : goal.returns-in-Registration
+returns-in-Registration c e =
+    subst (λ (row : ObjectRow). TellNothing (object_facts row c.args.parts.now.machine c.args.k)) (sym c.in-Registration.is) (c.is_unregistered.ensures e)
+
+pub returns-in-Arming : goal.returns-in-Arming
+returns-in-Arming c e =
+    subst (λ (row : ObjectRow). TellNothing (object_facts row c.args.parts.now.machine c.args.k)) (sym c.in-Arming.is) (c.is_disarmed.ensures e)
