@@ -9,6 +9,7 @@ pub mod Ending
 pub mod Whole
 pub mod Keeping
 pub mod KeptFacts
+pub mod KeptLines
 pub mod Changing
 pub mod KeptSubjects
 pub mod Roomy

@@ -1,10 +1,13 @@
 -- What is seen of a fact as a value, and the texts that tell it. This project's own.
-use Rattle.std.specs.Prelude.{Bool, List, None, Option, Some, [], false, replicate, slice_index_or, true, ℕ, ◌/◌, ◌∷◌, ◌≡◌}
+use Rattle.std.specs.Prelude.{Bool, List, None, Option, Some, [], false, map, replicate, slice_index_or, true, ℕ, ◌/◌, ◌∷◌, ◌≡◌}
 use Rattle.words_script.specs.declared.decl.Decl.{Decl}
 use Rattle.rules_facts.specs.Fact.{Fact, messages_of, on_list, owner, replenishments, semaphore_value}
 use Rattle.rules_facts.specs.Order.{in_order}
 use Rattle.rules_facts.specs.Queues.{is_received_before}
+use Rattle.parts_waiters.specs.declared.order.Candidate.{Candidate}
+use Rattle.parts_waiters.specs.Places.{comes_before}
 use Rattle.kernel_facts.specs.FewSeen.{messages_in, threads_in}
+use Rattle.kernel_facts.specs.KeptLines.{line_fact, waiters_in}
 use Rattle.kernel_facts.specs.Lines.{fact_text}
 use Rattle.kernel_facts.specs.Seen.{seen_fact}
 use Rattle.kernel_facts.specs.Short.{HasShortText}
@@ -21,6 +24,7 @@ fact_seen (seen.Value k value) = Some (semaphore_value k value)
 fact_seen (seen.PlannedOnce t a) = Some (replenishments t (a ∷ []))
 fact_seen (seen.PlannedTwice t a b) = Some (replenishments t (a ∷ b ∷ []))
 fact_seen (seen.Messages q few) = Some (messages_of q (in_order is_received_before (messages_in few)))
+fact_seen (seen.InLine l few) = Some (line_fact l (map (λ (c : Candidate). c.thread) (in_order comes_before (waiters_in few))))
 
 -- what is seen is this fact, where one is
 abbrev pub IsOf : Fact → Option Fact → Type 0

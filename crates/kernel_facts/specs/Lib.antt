@@ -4,6 +4,7 @@ pub mod Rows
 pub mod Picked
 pub mod InLine
 pub mod Kept
+pub mod KeptLines
 pub mod Changed
 pub mod Subjects
 pub mod Rooms

@@ -10,8 +10,10 @@ ghost use Rattle.kernel_facts.specs.Rows.{object_count, object_facts, thread_fac
 ghost use Rattle.kernel_facts.specs.declared.fact_seen.FactSeen.TheVariants as variant;
 
 use crate::few::{FewMessages, FewThreads, are_held, see_messages, stand_on_list};
+use crate::kept_line::{FewWaiters, is_line, see_line};
 use crate::rows::{ObjectRow, ThreadRow};
 use crate::seen::{Seen, is_same, see};
+use crate::waiters::Line;
 use kernel_state::Parts;
 use parts_server::Replenish;
 use std::alloc::{AllocError, Global};
@@ -38,6 +40,8 @@ pub enum FactSeen {
     PlannedTwice(Tid, Replenish, Replenish),
     /// The messages of a queue, in the order of arrival.
     Messages(ObjId, FewMessages),
+    /// Those who stand in a line.
+    InLine(Line, FewWaiters),
 }
 
 // ---- whether the same is seen
@@ -160,9 +164,9 @@ pub(crate) fn see_object(parts: &Parts, decls: &[Decl], row: ObjectRow, k: ObjId
     let _ = decls;
     match row {
         ObjectRow::Owner => see_owner(parts, k),
-        ObjectRow::MutexWaiters => FactSeen::Unseen,
-        ObjectRow::ConditionWaiters => FactSeen::Unseen,
-        ObjectRow::SemaphoreWaiters => FactSeen::Unseen,
+        ObjectRow::MutexWaiters => see_line(parts, &Line::Mutex(k)),
+        ObjectRow::ConditionWaiters => see_line(parts, &Line::Condition(k)),
+        ObjectRow::SemaphoreWaiters => see_line(parts, &Line::Semaphore(k)),
         ObjectRow::Value => FactSeen::Value(k, parts.semaphore(k)),
         ObjectRow::Messages => see_messages(parts, k),
         ObjectRow::QueueWaiters => FactSeen::Unseen,
@@ -237,6 +241,9 @@ pub(crate) fn is_of_object(
     ensures some { result ≡ true → is_some (fact_seen last.now) ≡ true }
 {
     match row {
+        ObjectRow::MutexWaiters => is_line(parts, &Line::Mutex(k), last),
+        ObjectRow::ConditionWaiters => is_line(parts, &Line::Condition(k), last),
+        ObjectRow::SemaphoreWaiters => is_line(parts, &Line::Semaphore(k), last),
         ObjectRow::Messages => are_messages(parts, k, last),
         _ => is_same_fact(last, &see_object(parts, decls, row, k)),
     }

@@ -7,7 +7,7 @@
 //!
 //! A look writes no text of a fact that tells nothing now and told nothing before, and none of one that is seen to be the same as a value:
 //! the status of a thread, a list with a few threads on it, one or two planned replenishments, an owner, the value of a semaphore, a few
-//! messages of a queue.
+//! messages of a queue, a few who wait in a line.
 //!
 //! The state is read and not changed. Lists are written word by word, so that no room limits their length.
 #![tactic(auto)]
@@ -19,6 +19,7 @@ mod fact_seen;
 mod few;
 mod in_line;
 mod kept;
+mod kept_line;
 mod known;
 mod line;
 mod lists;
@@ -42,8 +43,10 @@ mod waiters;
 pub use desk::Desk;
 pub use fact_seen::{FactSeen, SeenFacts};
 pub use few::{FewMessages, FewThreads};
+pub use kept_line::{FewWaiters, KeptWaiter};
 pub use look::look_at_facts;
 pub use rooms::{Rooms, rooms_of};
 pub use seen::Seen;
 pub use state::write_state;
 pub use subjects::keep_subjects;
+pub use waiters::Line;

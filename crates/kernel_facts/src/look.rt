@@ -1,13 +1,16 @@
 //! A look at the facts of a state.
 ghost use Rattle.std.specs.Prelude.{ℕ, ◌≡◌, ◌∷◌, ◌<◌, ◌≤◌, [], is_some, length, true};
 ghost use Rattle.rules_facts.specs.Facts.{facts};
+ghost use Rattle.rules_facts.specs.Objects.{in_service_order};
 ghost use Rattle.rules_facts.specs.Shown.{once_ended};
 ghost use Rattle.rules_facts.specs.Signals.{signal_fact};
 ghost use Rattle.kernel_facts.specs.Blocks.{is_inner, inner_rows_kept};
 ghost use Rattle.kernel_facts.specs.Changed.{changed_lines};
 ghost use Rattle.kernel_facts.specs.Desk.{IsReady, WentOn, last_seen};
 ghost use Rattle.kernel_facts.specs.FactSeen.{IsMemoryOf, IsOf, IsOnlyOf, fact_seen};
+ghost use Rattle.kernel_facts.specs.InLine.{stands_in};
 ghost use Rattle.kernel_facts.specs.Kept.{object_row_kept, objects_kept, queue_waiters_kept, signals_kept, texts_of, thread_row_kept, threads_kept, waiters_text};
+ghost use Rattle.kernel_facts.specs.KeptLines.{line_fact, queue_line};
 ghost use Rattle.kernel_facts.specs.Lines.{fact_text, facts_text};
 ghost use Rattle.kernel_facts.specs.Numbered.{AreNumbered};
 ghost use Rattle.kernel_facts.specs.Picked.{left_in};
@@ -19,6 +22,7 @@ ghost use Rattle.kernel_facts.specs.Rows.{left_out, object_count, object_facts, 
 
 use crate::desk::Desk;
 use crate::fact_seen::{FactSeen, is_of_object, is_of_thread, see_object, see_thread};
+use crate::kept_line::{is_line, see_line};
 use crate::known::{know_few, know_names, know_rows, know_timers};
 use crate::look_lists::look_at_lists;
 use crate::nothing::{
@@ -28,6 +32,7 @@ use crate::nothing::{
 use crate::printed::{print_object_facts, print_signal, print_thread_fact, print_waiters};
 use crate::rows::{ObjectRow, ThreadRow, object_count, object_of};
 use crate::state::left_out;
+use crate::waiters::Line;
 use kernel_state::Parts;
 use parts_texts::NextText;
 use words_numbers::{ObjId, Tid};
@@ -187,6 +192,28 @@ fn look_at_object_row(
     }
 }
 
+// The line of those who wait to send to a queue, or for a message of it.
+fn queue_line(q: ObjId, to_send: bool) -> Line
+    ensures { result ≡ queue_line to_send q }
+{
+    if to_send {
+        Line::Senders(q)
+    } else {
+        Line::Receivers(q)
+    }
+}
+
+// Whether what is told of the line is what was seen last of the fact that comes.
+fn is_line_as_seen(parts: &Parts, line: &Line, desk: &Desk) -> bool
+    ensures same { result ≡ true → IsOf (line_fact line.now (in_service_order parts.now.machine (stands_in line.now))) (fact_seen (last_seen desk.now)) }
+    ensures some { result ≡ true → is_some (fact_seen (last_seen desk.now)) ≡ true }
+{
+    if !desk.has_seen() {
+        return false;
+    }
+    is_line(parts, line, desk.last_seen())
+}
+
 fn look_at_waiters(
     parts: &Parts,
     decls: &[Decl],
@@ -203,9 +230,14 @@ fn look_at_waiters(
         desk.go_over_nothing();
         return;
     }
+    let line = queue_line(q, to_send);
+    if is_line_as_seen(parts, &line, desk) {
+        desk.go_over_same();
+        return;
+    }
     next.clear();
     let failed = print_waiters(parts, decls, q, to_send, next);
-    desk.keep(next, failed, &FactSeen::Unseen);
+    desk.keep(next, failed, &see_line(parts, &line));
 }
 
 // Looks at who waits to send to each queue, and then who waits for a message of it.
