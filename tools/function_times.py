@@ -16,7 +16,7 @@ from pathlib import Path
 # What the prover makes of each function; `Proof` and `Answers` are its proof, the rest is made whatever it does.
 MADE = {"Code", "Given", "Goals", "Key", "Kinds", "Layout", "Lts", "Met", "Mir", "Named", "Reads", "Statement", "Symbol", "TheLink", "Tie", "View"}
 PROVED = {"Answers", "Invariants", "Proof"}
-PAUSE = 120.0  # seconds: no file takes so long; a pause is one between two runs
+PAUSE = 600.0  # seconds: no file takes so long; a pause is one between two runs
 
 
 def checked(crate: Path) -> list[tuple[float, str]]:
