@@ -7,7 +7,7 @@ use Rattle.rules_facts.specs.Queues.{is_received_before}
 use Rattle.parts_waiters.specs.declared.order.Candidate.{Candidate}
 use Rattle.parts_waiters.specs.Places.{comes_before}
 use Rattle.kernel_facts.specs.FewSeen.{messages_in, threads_in}
-use Rattle.kernel_facts.specs.KeptLines.{line_fact, waiters_in}
+use Rattle.kernel_facts.specs.KeptLines.{line_fact, line_of, waiters_in}
 use Rattle.kernel_facts.specs.Lines.{fact_text}
 use Rattle.kernel_facts.specs.Seen.{seen_fact}
 use Rattle.kernel_facts.specs.Short.{HasShortText}
@@ -24,7 +24,7 @@ fact_seen (seen.Value k value) = Some (semaphore_value k value)
 fact_seen (seen.PlannedOnce t a) = Some (replenishments t (a ∷ []))
 fact_seen (seen.PlannedTwice t a b) = Some (replenishments t (a ∷ b ∷ []))
 fact_seen (seen.Messages q few) = Some (messages_of q (in_order is_received_before (messages_in few)))
-fact_seen (seen.InLine l few) = Some (line_fact l (map (λ (c : Candidate). c.thread) (in_order comes_before (waiters_in few))))
+fact_seen (seen.InLine sort k few) = Some (line_fact (line_of sort k) (map (λ (c : Candidate). c.thread) (in_order comes_before (waiters_in few))))
 
 -- what is seen is this fact, where one is
 abbrev pub IsOf : Fact → Option Fact → Type 0

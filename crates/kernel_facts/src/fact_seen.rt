@@ -13,7 +13,7 @@ use crate::few::{FewMessages, FewThreads, are_held, see_messages, stand_on_list}
 use crate::kept_line::{FewWaiters, is_line, see_line};
 use crate::rows::{ObjectRow, ThreadRow};
 use crate::seen::{Seen, is_same, see};
-use crate::waiters::Line;
+use crate::waiters::{Line, LineSort};
 use kernel_state::Parts;
 use parts_server::Replenish;
 use std::alloc::{AllocError, Global};
@@ -41,7 +41,7 @@ pub enum FactSeen {
     /// The messages of a queue, in the order of arrival.
     Messages(ObjId, FewMessages),
     /// Those who stand in a line.
-    InLine(Line, FewWaiters),
+    InLine(LineSort, ObjId, FewWaiters),
 }
 
 // ---- whether the same is seen

@@ -49,4 +49,4 @@ pub use rooms::{Rooms, rooms_of};
 pub use seen::Seen;
 pub use state::write_state;
 pub use subjects::keep_subjects;
-pub use waiters::Line;
+pub use waiters::LineSort;
