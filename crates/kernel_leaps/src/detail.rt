@@ -120,7 +120,7 @@ fn leap_in_unit<K: Sink, L: Ledger>(
         → IsQuietTick (flat_bodies p.old.code) p.old.machine.quantum (thread_at p.old.machine t) → result.is_quiet ≡ true }
     ensures step { steps.new ≡ steps.old + 1 }
 {
-    leap_thread(p, t, near, out, steps)
+    leap_thread::<K, L, 1>(p, t, near, out, steps)
 }
 
 // Writes the lines of what ends ticks of a thread. The second answer is whether a write failed.

@@ -52,7 +52,7 @@ fn ends_quietly(p: &Parts, t: Tid, ran: &Ran) -> bool
 
 /// Ticks of a thread, to the nearest due tick at most: the units that it passes, and a leap, each of them one step.
 #[inline(always)]
-pub(crate) fn leap_thread<K: Sink, L: Ledger>(
+pub(crate) fn leap_thread<K: Sink, L: Ledger, const WAY: usize>(
     p: &mut Parts,
     t: Tid,
     near: u64,
@@ -71,7 +71,7 @@ pub(crate) fn leap_thread<K: Sink, L: Ledger>(
 {
     let ran = run_thread(p, t, near, steps);
     let is_quiet = ends_quietly(p, t, &ran);
-    complete_at_end(p, t, &ran, out);
+    complete_at_end::<K, WAY>(p, t, &ran, out);
     p.settle();
     end_tick(p, ran.was_high, t, out);
     sweep(p, out);
@@ -115,5 +115,5 @@ pub(crate) fn leaps<K: Sink, L: Ledger>(
         p.leap(k, steps);
         return k;
     };
-    leap_thread(p, t, near, out, steps).ticks
+    leap_thread::<K, L, 0>(p, t, near, out, steps).ticks
 }

@@ -49,7 +49,12 @@ pub(crate) fn run_thread<L: Ledger>(p: &mut Parts, t: Tid, near: u64, steps: &mu
 
 // What a unit does once it is complete. The calls that are made most often are told by the unit itself, so that nothing is looked up.
 #[inline(always)]
-fn complete<K: Sink>(p: &mut Parts, t: Tid, unit: &Fetched, out: &mut Tracer<'_, K>)
+fn complete<K: Sink, const WAY: usize>(
+    p: &mut Parts,
+    t: Tid,
+    unit: &Fetched,
+    out: &mut Tracer<'_, K>,
+)
     requires caller { CanCall p.old t }
     requires can { CanComplete (objects_in p.old) (thread_at p.old.machine t) (unit_of p.old.code unit.now) }
     ensures { Does K.text K.faults (unit_effect (flat_bodies p.old.code) t (unit_of p.old.code unit.now)) p.old p.new out.old out.new }
@@ -71,13 +76,18 @@ fn complete<K: Sink>(p: &mut Parts, t: Tid, unit: &Fetched, out: &mut Tracer<'_,
 
 /// The effect of the unit, where no tick of it is left.
 #[inline(always)]
-pub(crate) fn complete_at_end<K: Sink>(p: &mut Parts, t: Tid, ran: &Ran, out: &mut Tracer<'_, K>)
+pub(crate) fn complete_at_end<K: Sink, const WAY: usize>(
+    p: &mut Parts,
+    t: Tid,
+    ran: &Ran,
+    out: &mut Tracer<'_, K>,
+)
     requires caller { CanCall p.old t }
     requires complete { ran.now.is_complete ≡ (top_left (thread_at p.old.machine t).frames == 0) }
     requires can { CanComplete (objects_in p.old) (thread_at p.old.machine t) (unit_of p.old.code ran.now.unit) }
     ensures { Does K.text K.faults (completes (flat_bodies p.old.code) t (unit_of p.old.code ran.now.unit)) p.old p.new out.old out.new }
 {
     if ran.is_complete {
-        complete(p, t, &ran.unit, out);
+        complete::<K, WAY>(p, t, &ran.unit, out);
     }
 }
