@@ -48,7 +48,7 @@ use words_script::Script;
 /// A kernel that runs a script. It stands for a state of the machine over the script's flat code, which contracts see.
 #[derive(Drop)]
 pub struct Kernel {
-    parts: Parts,
+    parts: Box<Parts>,
 }
 
 impl Model for Kernel {
@@ -58,9 +58,9 @@ impl Model for Kernel {
 
     ghost use Rattle.kernel_leaps.specs.Ready.{IsReady};
 
-    ghost view = { λ k. k.parts };
+    ghost view = { λ k. k.parts.value };
 
-    ghost invariant = { λ k. IsReady k.parts };
+    ghost invariant = { λ k. IsReady k.parts.value };
 }
 
 impl Kernel {
@@ -171,7 +171,7 @@ impl Kernel {
         self,
         script: &Script,
         horizon: Tick,
-        texts: FactTexts,
+        texts: &mut FactTexts,
         sink: &mut K,
         steps: &mut Steps<L>,
     ) -> Result<(), Failed>
@@ -180,14 +180,13 @@ impl Kernel {
         requires few { HasFewObjects script.now }
         requires opened { self ≡ opened script.now }
         requires limit { horizon ≤ 10 ^ 18 }
-        requires rooms { HaveRoomsFor script.now texts }
+        requires rooms { HaveRoomsFor script.now texts.old }
         ensures written { WritesAll (K.text sink.old) (K.text sink.new) result (detail script.now horizon) }
         ensures cause { HasCause (K.faults sink.old) (K.faults sink.new) result }
         ensures steps { steps.new ≤ steps.old + 2 * busy_between script.now 0 horizon + 2 }
     {
         let mut parts = self.parts;
-        let mut texts = texts;
-        if write_detail(&mut parts, script, horizon, &mut texts, sink, steps) {
+        if write_detail(&mut parts, script, horizon, texts, sink, steps) {
             return Err(Failed);
         }
         Ok(())
@@ -196,12 +195,12 @@ impl Kernel {
 
 // The parts of a script's kernel, all of whose threads stand right.
 #[tactic(auto, using(crate::proofs::Opened::script_fits))]
-fn open_parts(alloc: Global, script: &Script) -> Result<Parts, AllocError>
+fn open_parts(alloc: Global, script: &Script) -> Result<Box<Parts>, AllocError>
     requires runnable { IsRunnable script.now }
     requires well_formed { IsWellFormed script.now }
-    ensures kernel { IfOk result (λ k. k ≡ opened script.now) }
-    ensures stood { IfOk result (λ k. StoodRight k.machine) }
-    ensures fits { IfOk result (λ k. StaysFit k (objects_in k)) }
+    ensures kernel { IfOk result (λ k. k.value ≡ opened script.now) }
+    ensures stood { IfOk result (λ k. StoodRight k.value.machine) }
+    ensures fits { IfOk result (λ k. StaysFit k.value (objects_in k.value)) }
 {
     let parts = Parts::open(alloc, script)?;
     parts.know_priorities();

@@ -1,9 +1,11 @@
 //! The kernel of a script.
-ghost use Rattle.std.specs.Prelude.{◌≡◌, ◌≤◌, ◌<◌, ◌+◌, ◌++◌, map, length, option_to_list, IfOk};
-ghost use Rattle.rules_machine.specs.Declarations.{declared_thread, threads_of};
+ghost use Rattle.std.specs.Prelude.{◌≡◌, ◌≤◌, ◌<◌, ◌+◌, ◌++◌, [], map, length, option_to_list, IfOk};
+ghost use Rattle.rules_lists.specs.Lists.{empty_lists};
+ghost use Rattle.rules_machine.specs.Declarations.{declared_thread, queues_of, semaphores_of, threads_of};
 ghost use Rattle.rules_machine.specs.Machine.{names_of};
 ghost use Rattle.kernel_threads.specs.Opening.{with_name};
 ghost use Rattle.kernel_state.specs.Kernel.{Kernel, opened};
+ghost use Rattle.rules_flat_code.specs.FlatBodies.{code_of};
 ghost use Rattle.rules_flat_code.specs.Runnable.{IsRunnable};
 ghost use Rattle.kernel_state.specs.Settled.{HavePriorities};
 
@@ -63,27 +65,67 @@ fn open_names(alloc: Global, script: &Script, threads: u16) -> Result<Names, All
     Ok(names)
 }
 
+// What threads run by beside their table: their names, their code, and the lists that they stand on.
+#[derive(Drop)]
+struct RunBy {
+    names: Names,
+    code: Code,
+    ready: Ready,
+}
+
+// The objects that the table does not have.
+#[derive(Drop)]
+struct Objects {
+    semaphores: Semaphores,
+    queues: Queues,
+    pending: Pending,
+}
+
+fn open_run_by(alloc: Global, script: &Script, threads: u16) -> Result<RunBy, AllocError>
+    requires runnable { IsRunnable script.now }
+    requires all { threads ≡ length (threads_of script.now) }
+    requires few { threads ≤ 256 }
+    ensures names { IfOk result (λ r. r.names ≡ names_of script.now) }
+    ensures code { IfOk result (λ r. r.code ≡ code_of script.now) }
+    ensures ready { IfOk result (λ r. r.ready ≡ record { threads = threads; lists = empty_lists }) }
+{
+    Ok(RunBy {
+        names: open_names(alloc, script, threads)?,
+        code: Code::open(alloc, script)?,
+        ready: Ready::open(alloc, threads)?,
+    })
+}
+
+fn open_objects(alloc: Global, script: &Script) -> Result<Objects, AllocError>
+    requires { IsRunnable script.now }
+    ensures semaphores { IfOk result (λ o. o.semaphores ≡ semaphores_of script.now) }
+    ensures queues { IfOk result (λ o. o.queues ≡ queues_of script.now) }
+    ensures pending { IfOk result (λ o. o.pending ≡ []) }
+{
+    Ok(Objects {
+        semaphores: Semaphores::open(alloc, script)?,
+        queues: Queues::open(alloc, script)?,
+        pending: Pending::open(alloc)?,
+    })
+}
+
 impl Parts {
     /// The kernel of a script, before the first tick. It takes all memory that the run needs.
-    pub fn open(alloc: Global, script: &Script) -> Result<Parts, AllocError>
+    pub fn open(alloc: Global, script: &Script) -> Result<Box<Parts>, AllocError>
         requires { IsRunnable script.now }
-        ensures { IfOk result (λ k. k ≡ opened script.now) }
+        ensures { IfOk result (λ k. k.value ≡ opened script.now) }
     {
         let table = Table::open(alloc, script)?;
-        let names = open_names(alloc, script, table.count())?;
-        let code = Code::open(alloc, script)?;
-        let ready = Ready::open(alloc, table.count())?;
-        let semaphores = Semaphores::open(alloc, script)?;
-        let queues = Queues::open(alloc, script)?;
-        let pending = Pending::open(alloc)?;
-        Ok(Parts {
-            code,
-            names,
+        let by = open_run_by(alloc, script, table.count())?;
+        let objects = open_objects(alloc, script)?;
+        let parts = Parts {
+            code: by.code,
+            names: by.names,
             table,
-            ready,
-            semaphores,
-            queues,
-            pending,
+            ready: by.ready,
+            semaphores: objects.semaphores,
+            queues: objects.queues,
+            pending: objects.pending,
             actions: Actions::open(script),
             quantum: script.quantum,
             instant: Tick::default(),
@@ -93,7 +135,8 @@ impl Parts {
             killed: None,
             direct: Direct::empty(),
             named: Named::none(),
-        })
+        };
+        Ok(Box::new(alloc, parts)?)
     }
 
     /// Costs nothing when it runs: all priorities are in their range.

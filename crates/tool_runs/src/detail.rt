@@ -42,10 +42,10 @@ fn tell_detail<K: Sink, L: Ledger>(
     let Ok(kernel) = Kernel::open(alloc, script) else {
         return Status::OutOfMemory;
     };
-    let Ok(texts) = FactTexts::open(alloc, script) else {
+    let Ok(mut texts) = FactTexts::open(alloc, script) else {
         return Status::OutOfMemory;
     };
-    match kernel.detail(script, horizon, texts, sink, steps) {
+    match kernel.detail(script, horizon, &mut texts, sink, steps) {
         Ok(()) => Status::Done,
         Err(_) => Status::WriteFault,
     }
