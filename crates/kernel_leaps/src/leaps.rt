@@ -51,6 +51,8 @@ fn ends_quietly(p: &Parts, t: Tid, ran: &Ran) -> bool
 }
 
 /// Ticks of a thread, to the nearest due tick at most: the units that it passes, and a leap, each of them one step.
+///
+/// Nothing asks for `WAY`, 0 for `run` and 1 for `detail`: by it each command has a function of its own, which is inlined there.
 #[inline(always)]
 pub(crate) fn leap_thread<K: Sink, L: Ledger, const WAY: usize>(
     p: &mut Parts,
