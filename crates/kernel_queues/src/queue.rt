@@ -1,5 +1,5 @@
 //! One message queue.
-ghost use Rattle.std.specs.Prelude.{◌≡◌, ◌≤◌, ◌<◌, ◌==◌, [], None, true, not, nat_lt, length, replicate, slice_get, IfOk, IfSome};
+ghost use Rattle.std.specs.Prelude.{◌≡◌, ◌≤◌, ◌<◌, ◌==◌, [], None, true, not, nat_lt, length, slice_get, IfOk, IfSome};
 ghost use Rattle.std.specs.List.{AllByRecursion};
 ghost use Rattle.rules_machine.specs.State.{Message};
 ghost use Rattle.rules_machine.specs.Queues.{has_room, registered, with_message};
@@ -8,6 +8,7 @@ ghost use Rattle.kernel_queues.specs.Queues.{next_value, without_next};
 use crate::message::HeldMessage;
 use crate::registration::Registration;
 use parts_arrivals::Arrivals;
+use parts_filled::filled;
 use std::alloc::{AllocError, Global};
 use std::marker::Model;
 
@@ -35,16 +36,6 @@ impl Model for MessageQueue {
     ghost invariant = { λ q. (q.arrivals.nodes ≡ q.depth) × (length q.values.items ≡ q.depth) };
 }
 
-fn no_values(alloc: Global, count: u32) -> Result<Vec<u64>, AllocError>
-    ensures { IfOk result (λ v. v.items ≡ replicate count 0) }
-{
-    let mut values = Vec::with_capacity(alloc, count as usize)?;
-    for _ in 0..count {
-        values.push(0)?;
-    }
-    Ok(values)
-}
-
 impl MessageQueue {
     // An empty queue without a registration; there is no memory for more than 65,536 messages.
     pub(crate) fn open(
@@ -59,7 +50,7 @@ impl MessageQueue {
             return Err(AllocError);
         }
         let arrivals = Arrivals::open(alloc, depth)?;
-        let values = no_values(alloc, depth)?;
+        let values = filled(alloc, depth as usize, 0)?;
         Ok(MessageQueue {
             depth,
             longest,

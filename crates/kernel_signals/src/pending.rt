@@ -1,5 +1,5 @@
 //! The pending records.
-ghost use Rattle.std.specs.Prelude.{◌≡◌, ◌↔◌, IsTrue, ◌≤◌, ◌<◌, ◌&&◌, ◌||◌, not, ℕ, ◌++◌, ◌∷◌, [], All, Contains, nat_le, length, replicate, slice_get, IfOk, IfSome};
+ghost use Rattle.std.specs.Prelude.{◌≡◌, ◌↔◌, IsTrue, ◌≤◌, ◌<◌, ◌&&◌, ◌||◌, not, ℕ, ◌++◌, ◌∷◌, [], All, Contains, nat_le, length, slice_get, IfOk, IfSome};
 ghost use Rattle.words_numbers.specs.Signals.{has_signal};
 ghost use Rattle.std.specs.List.{list_any};
 ghost use Rattle.rules_machine.specs.Lists.{is};
@@ -14,6 +14,7 @@ use crate::choice::{Wanted, first_wanted, lowest};
 use crate::record::SignalRecord;
 use crate::timed::Timed;
 use parts_arrivals::Arrivals;
+use parts_filled::filled;
 use std::alloc::{AllocError, Global};
 use std::marker::Model;
 use words_numbers::{ObjId, SigSet, Tid};
@@ -58,23 +59,13 @@ fn let_through(mask: SigSet, kills: SigSet, runs_handlers: bool) -> SigSet
     }
 }
 
-fn no_records(alloc: Global) -> Result<Vec<SignalRecord>, AllocError>
-    ensures { IfOk result (λ v. v.items ≡ replicate room no_record) }
-{
-    let mut records = Vec::with_capacity(alloc, ROOM as usize)?;
-    for _ in 0..ROOM {
-        records.push(SignalRecord::of_kill(0, None))?;
-    }
-    Ok(records)
-}
-
 impl Pending {
     /// Nothing is pending.
     pub fn open(alloc: Global) -> Result<Pending, AllocError>
         ensures { IfOk result (λ pending. pending ≡ []) }
     {
         let arrivals = Arrivals::open(alloc, ROOM)?;
-        let records = no_records(alloc)?;
+        let records = filled(alloc, ROOM as usize, SignalRecord::of_kill(0, None))?;
         Ok(Pending {
             arrivals,
             records,

@@ -1,10 +1,11 @@
 //! The order of arrival, and that within each rank.
-ghost use Rattle.std.specs.Prelude.{◌≡◌, ◌==◌, ◌++◌, ◌∷◌, [], ◌<◌, ◌≤◌, false, true, not, nat_lt, ℕ, is_some, IfOk, IfSome, length, option_map, replicate, slice_get};
+ghost use Rattle.std.specs.Prelude.{◌≡◌, ◌==◌, ◌++◌, ◌∷◌, [], ◌<◌, ◌≤◌, false, true, not, nat_lt, ℕ, is_some, IfOk, IfSome, length, option_map, slice_get};
 ghost use Rattle.parts_arrivals.specs.Arrivals.{AreArrivals, has_come, without_node, first_of_rank, next_of_rank, oldest, next_in_order, highest_rank};
 ghost use Rattle.parts_arrivals.specs.Held.{first_nodes, is_marked};
 ghost use Rattle.parts_arrivals.specs.Nth.{arrival_of};
 
 use crate::marks::{highest_mark, with_mark};
+use parts_filled::filled;
 use parts_links::Links;
 use std::alloc::{AllocError, Global};
 use std::marker::Model;
@@ -50,16 +51,6 @@ fn all_free(alloc: Global, nodes: u32) -> Result<Links, AllocError>
     Ok(arrived)
 }
 
-fn no_ranks(alloc: Global, nodes: u32) -> Result<Vec<u8>, AllocError>
-    ensures { IfOk result (λ v. v.items ≡ replicate nodes 0) }
-{
-    let mut ranks = Vec::with_capacity(alloc, nodes as usize)?;
-    for _ in 0..nodes {
-        ranks.push(0)?;
-    }
-    Ok(ranks)
-}
-
 impl Arrivals {
     /// So many nodes, of which none has come.
     pub fn open(alloc: Global, nodes: u32) -> Result<Arrivals, AllocError>
@@ -68,7 +59,7 @@ impl Arrivals {
     {
         let arrived = all_free(alloc, nodes)?;
         let ranked = Links::open(alloc, nodes, 32)?;
-        let ranks = no_ranks(alloc, nodes)?;
+        let ranks = filled(alloc, nodes as usize, 0)?;
         arrived.stand_once();
         ranked.stand_once();
         Ok(Arrivals {

@@ -6,6 +6,7 @@ ghost use Rattle.rules_machine.specs.Threads.{no_mutex};
 ghost use Rattle.parts_owners.specs.Fresh.{free_mutex, fresh_claim};
 ghost use Rattle.parts_owners.specs.Chains.{OwnersAreThreads, counted, closes_cycle_in, assigned_to, no_claim, waiting_for, next_in};
 
+use parts_filled::filled;
 use std::alloc::{AllocError, Global};
 use std::marker::Model;
 use words_numbers::{ObjId, Prio, Tid};
@@ -236,11 +237,7 @@ pub(crate) fn fresh_claims(alloc: Global, threads: u16) -> Result<Vec<ThreadClai
 pub(crate) fn lowest(alloc: Global, threads: u16) -> Result<Vec<Prio>, AllocError>
     ensures { IfOk result (λ v. v.items ≡ replicate threads 1) }
 {
-    let mut exec = Vec::with_capacity(alloc, threads as usize)?;
-    for _ in 0..threads {
-        exec.push(Prio::default())?;
-    }
-    Ok(exec)
+    filled(alloc, usize::from(threads), Prio::default())
 }
 
 /// Free mutexes of these kinds.

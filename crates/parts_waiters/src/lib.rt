@@ -18,6 +18,7 @@ mod order;
 mod signal_sets;
 
 use order::{Candidate, first_awaiting, stand};
+use parts_filled::filled;
 use parts_links::Links;
 pub use signal_sets::SignalSets;
 use std::alloc::{AllocError, Global};
@@ -84,30 +85,13 @@ impl WaitObj {
     }
 }
 
-fn filled<T: Copy>(alloc: Global, count: u16, value: T) -> Result<Vec<T>, AllocError>
-    ensures { IfOk result (λ v. v.items ≡ replicate count value) }
-{
-    let mut items = Vec::with_capacity(alloc, count as usize)?;
-    for _ in 0..count {
-        items.push(value)?;
-    }
-    Ok(items)
-}
-
-// Places for so many threads.
-fn nowhere(alloc: Global, threads: u16) -> Result<Vec<Option<Place>>, AllocError>
-    ensures { IfOk result (λ places. places.items ≡ replicate threads None) }
-{
-    filled(alloc, threads, None)
-}
-
 impl Waits {
     /// Places for so many threads, none of which waits.
     pub fn open(alloc: Global, threads: u16) -> Result<Waits, AllocError>
         requires { threads ≤ 256 }
         ensures { IfOk result (λ w. w ≡ replicate threads None) }
     {
-        let places = nowhere(alloc, threads)?;
+        let places = filled(alloc, usize::from(threads), None)?;
         let links = Links::open(alloc, 256, 1281)?;
         Ok(Waits { places, links })
     }

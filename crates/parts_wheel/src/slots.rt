@@ -9,6 +9,7 @@ use crate::bits::Bits;
 use crate::moves::{file, put, refile, take, take_from, take_lone};
 use crate::places::{is_near, list_for};
 use crate::walks::{NO_ITEM, Next, least_in, least_of_few, only_in};
+use parts_filled::filled;
 use parts_links::Links;
 use std::alloc::{AllocError, Global};
 use std::marker::Model;
@@ -43,10 +44,7 @@ impl Slots {
         requires { ids ≤ 1024 }
         ensures { IfOk result (λ s. s ≡ record { dues = replicate ids None; base = 0 }) }
     {
-        let mut dues = Vec::with_capacity(alloc, ids as usize)?;
-        for _ in 0..ids {
-            dues.push(None)?;
-        }
+        let dues = filled(alloc, ids as usize, None)?;
         let links = Links::open(alloc, 1024, 3840)?;
         let occupied = Bits::open(alloc, 60)?;
         let passed = Bits::open(alloc, 16)?;

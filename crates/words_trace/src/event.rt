@@ -2,7 +2,7 @@
 use words_numbers::{Prio, Res, SigCode, Tick, Tid};
 
 /// What happens at an instant of a run. Each event is a line of the trace.
-#[derive(Clone, Copy, Debug, PartialEq, Eq)]
+#[derive(Clone, Copy)]
 pub enum Event {
     /// The processor was given to a thread, which stands at the head of the list of this priority.
     Dispatch(Tid, Prio),
@@ -33,7 +33,7 @@ pub enum Event {
 }
 
 /// The name of a call: the first word of its line.
-#[derive(Clone, Copy, Debug, PartialEq, Eq)]
+#[derive(Clone, Copy, PartialEq, Eq)]
 pub enum CallName {
     Yield,
     Create,

@@ -1,7 +1,7 @@
 //! What the closing line of a thread tells.
 
 /// The totals of a thread at the end of a run.
-#[derive(Clone, Copy, Debug, PartialEq, Eq)]
+#[derive(Clone, Copy)]
 pub struct Report {
     /// How many ticks the thread has run.
     pub ticks: u64,
@@ -10,7 +10,7 @@ pub struct Report {
 }
 
 /// The budget of a sporadic server, in ticks. `high` equals `init` plus `refilled` minus `capacity`.
-#[derive(Clone, Copy, Debug, PartialEq, Eq)]
+#[derive(Clone, Copy)]
 pub struct BudgetView {
     /// How many ticks the thread has run at its high priority.
     pub high: u64,

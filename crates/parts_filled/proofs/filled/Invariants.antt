@@ -1,5 +1,5 @@
 use Rattle.std.proofs.Common.{◌≡◌, replicate}
-use Rattle.parts_waiters.proofs.filled.Given as goal
+use Rattle.parts_filled.proofs.filled.Given as goal
 
 abbrev pub invariant-loop : goal.invariant-loop
 invariant-loop g l = l.items.items ≡ replicate l.counter l.value
