@@ -1,5 +1,5 @@
 //! The pending records.
-ghost use Rattle.std.specs.Prelude.{◌≡◌, ◌↔◌, IsTrue, ◌≤◌, ◌<◌, ◌&&◌, ◌||◌, not, ℕ, ◌++◌, ◌∷◌, [], All, Contains, nat_le, length, slice_get, IfOk, IfSome};
+ghost use Rattle.std.specs.Prelude.{◌≡◌, ◌↔◌, IsTrue, ◌≤◌, ◌<◌, ◌&&◌, ◌||◌, not, ℕ, ◌++◌, ◌∷◌, [], All, Contains, nat_le, length, replicate, slice_get, IfOk, IfSome};
 ghost use Rattle.words_numbers.specs.Signals.{has_signal};
 ghost use Rattle.std.specs.List.{list_any};
 ghost use Rattle.rules_machine.specs.Lists.{is};
@@ -59,13 +59,19 @@ fn let_through(mask: SigSet, kills: SigSet, runs_handlers: bool) -> SigSet
     }
 }
 
+fn no_records(alloc: Global) -> Result<Vec<SignalRecord>, AllocError>
+    ensures { IfOk result (λ v. v.items ≡ replicate room no_record) }
+{
+    filled(alloc, ROOM as usize, SignalRecord::of_kill(0, None))
+}
+
 impl Pending {
     /// Nothing is pending.
     pub fn open(alloc: Global) -> Result<Pending, AllocError>
         ensures { IfOk result (λ pending. pending ≡ []) }
     {
         let arrivals = Arrivals::open(alloc, ROOM)?;
-        let records = filled(alloc, ROOM as usize, SignalRecord::of_kill(0, None))?;
+        let records = no_records(alloc)?;
         Ok(Pending {
             arrivals,
             records,

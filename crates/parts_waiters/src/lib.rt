@@ -85,13 +85,20 @@ impl WaitObj {
     }
 }
 
+// Places for so many threads.
+fn nowhere(alloc: Global, threads: u16) -> Result<Vec<Option<Place>>, AllocError>
+    ensures { IfOk result (λ places. places.items ≡ replicate threads None) }
+{
+    filled(alloc, usize::from(threads), None)
+}
+
 impl Waits {
     /// Places for so many threads, none of which waits.
     pub fn open(alloc: Global, threads: u16) -> Result<Waits, AllocError>
         requires { threads ≤ 256 }
         ensures { IfOk result (λ w. w ≡ replicate threads None) }
     {
-        let places = filled(alloc, usize::from(threads), None)?;
+        let places = nowhere(alloc, threads)?;
         let links = Links::open(alloc, 256, 1281)?;
         Ok(Waits { places, links })
     }
