@@ -7,7 +7,7 @@ ghost use Rattle.words_trace.specs.Text.{IsNamed, line};
 
 use crate::Names;
 use crate::hundred::Hundred;
-use crate::words::{place_success, place_with_number};
+use crate::words::{place_return, place_success, place_with_number};
 use parts_io::{Line, Sink};
 use std::marker::Model;
 use words_numbers::{Prio, Res, Tick, Tid};
@@ -37,7 +37,12 @@ pub(crate) fn take_common<K: Sink>(
             Res::Zero if *value == 0 => {
                 sink.take_line(SuccessLine::new(hundred, now, *t, *call, names))
             }
-            _ => false,
+            _ => {
+                if *value >= 100 {
+                    return false;
+                }
+                sink.take_line(ReturnLine::new(hundred, now, *t, *call, *res, *value, names))
+            }
         },
         Event::Dispatch(t, prio) => {
             if prio.get() >= 100 {
@@ -101,6 +106,74 @@ impl<'a> Line for SuccessLine<'a> {
     fn place(self, buf: &mut [u8], at: usize) -> usize {
         let at = self.hundred.place(buf, at, self.time.get());
         place_success(buf, at, self.names, self.thread, self.call)
+    }
+}
+
+// The line of a call that returned. It is seen as its bytes.
+#[derive(Drop)]
+struct ReturnLine<'a> {
+    hundred: &'a Hundred,
+    time: Tick,
+    thread: Tid,
+    call: CallName,
+    res: Res,
+    value: u64,
+    names: &'a Names,
+}
+
+impl<'a> Model for ReturnLine<'a> {
+    ghost use Rattle.std.specs.Prelude.{List, ℕ, ◌<◌, length};
+    ghost use Rattle.words_trace.specs.declared.event.Event.TheVariants as event;
+    ghost use Rattle.words_trace.specs.Text.{line};
+
+    ghost Value = { List ℕ };
+
+    ghost view = { λ l. line l.names.now l.time (event.Return l.thread l.call l.res l.value) };
+
+    ghost invariant = { λ l. l.thread < length l.names.now };
+}
+
+impl<'a> ReturnLine<'a> {
+    #[inline(always)]
+    fn new(
+        hundred: &'a Hundred,
+        time: Tick,
+        thread: Tid,
+        call: CallName,
+        res: Res,
+        value: u64,
+        names: &'a Names,
+    ) -> ReturnLine<'a>
+        requires { thread < length names.now }
+        ensures { result ≡ line names.now time (event.Return thread call res value) }
+    {
+        ReturnLine {
+            hundred,
+            time,
+            thread,
+            call,
+            res,
+            value,
+            names,
+        }
+    }
+}
+
+impl<'a> Line for ReturnLine<'a> {
+    ghost bytes = { λ l. l };
+
+    #[inline(always)]
+    fn place(self, buf: &mut [u8], at: usize) -> usize {
+        let at = self.hundred.place(buf, at, self.time.get());
+        place_return(
+            buf,
+            at,
+            self.names,
+            self.thread,
+            self.call,
+            self.res,
+            self.value,
+        )
     }
 }
 

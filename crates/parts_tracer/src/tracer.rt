@@ -65,14 +65,26 @@ impl<'a, K: Sink> Tracer<'a, K> {
         }
     }
 
-    // Prints the line of any event, by one write.
+    // Prints the line of any event, by one write, which mostly the sink takes at once.
     #[inline(never)]
     fn put_in_full(&mut self, now: Tick, e: &Event, names: &Names)
         requires { IsNamed names.now e.now }
         ensures { Prints K.text K.faults self.old self.new (line names.now now e.now) }
     {
         self.hundred.turn_to(now.get());
-        let line = EventLine::new(&self.hundred, now, e, names);
+        let line = EventLine::<0>::new(&self.hundred, now, e, names);
+        if self.failed || !self.sink.take_line(line) {
+            self.put_whenever(now, e, names);
+        }
+    }
+
+    // Prints the line of any event, by one write, whether or not the sink takes it at once.
+    #[inline(never)]
+    fn put_whenever(&mut self, now: Tick, e: &Event, names: &Names)
+        requires { IsNamed names.now e.now }
+        ensures { Prints K.text K.faults self.old self.new (line names.now now e.now) }
+    {
+        let line = EventLine::<1>::new(&self.hundred, now, e, names);
         print(self.sink, &mut self.failed, line);
     }
 
