@@ -1,5 +1,5 @@
 -- All that waits for a time on CLOCK_REALTIME is due modestly, through every change.
-use Rattle.std.proofs.Common.{◌≡◌, ◌≤◌, ◌∙◌, ℕ, zero, suc, List, [], ◌∷◌, None, Option, Some, ap, arith, refl, subst, sym}
+use Rattle.std.proofs.Common.{◌≡◌, ◌∙◌, ℕ, zero, suc, List, [], ◌∷◌, None, Option, Some, ap, arith, refl, subst, sym}
 use Rattle.std.specs.Prelude.{Bool, false, map, slice_index_or}
 use Rattle.words_script.specs.declared.decl.Script.{Script}
 use Rattle.rules_bodies.specs.declared.cursor.Cursor.{Cursor}
