@@ -4,7 +4,7 @@ use Rattle.std.specs.Prelude.{option_map, ◌==◌, ◌&&◌, if◌then◌else�
 use Rattle.rules_server.specs.declared.ServerKind.{ServerKind}
 use Rattle.rules_server.specs.declared.ServerKind.TheVariants as kind
 use Rattle.rules_server.specs.Server.{ServerState, is_high}
-use Rattle.rules_machine.specs.Servers.{at_once, at_once_as, high_server, is_strict, may_open, opening_server}
+use Rattle.rules_machine.specs.Servers.{at_once, at_once_as, high_server, is_strict, opening_server}
 use Rattle.rules_machine.specs.Ticks.{consumed_in}
 use Rattle.kernel_threads.specs.Unused.{IsUnused, IsUnusedAs}
 

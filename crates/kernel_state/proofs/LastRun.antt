@@ -1,21 +1,19 @@
 -- Closing the runs of all but the head is a plan of the thread of the last tick, or nothing.
-use Rattle.std.proofs.Common.{Bool, List, None, Option, Some, [], ap, arith, false, refl, subst, suc, sym, true, zero, ℕ, ◌+◌, ◌<◌, ◌≤◌, ◌≡◌, ◌∙◌, ◌∷◌}
-use Rattle.std.specs.Prelude.{length, nat_lt, not, ◌==◌, ◌&&◌}
+use Rattle.std.proofs.Common.{Bool, List, None, Option, Some, [], ap, arith, false, refl, suc, sym, true, zero, ℕ, ◌<◌, ◌≤◌, ◌≡◌, ◌∙◌, ◌∷◌}
+use Rattle.std.specs.Prelude.{length, not, ◌==◌, ◌&&◌}
 use Rattle.rules_bodies.specs.declared.cursor.Cursor.{Cursor}
 use Rattle.words_trace.specs.declared.event.Event.{Event}
 use Rattle.rules_server.specs.Server.{ServerState}
-use Rattle.rules_server.specs.declared.ServerKind.{ServerKind}
-use Rattle.rules_server.specs.declared.ServerKind.TheVariants as kind
 use Rattle.rules_machine.specs.declared.dispatch.LastDispatch.{LastDispatch}
 use Rattle.rules_machine.specs.declared.dispatch.LastDispatch.TheVariants as last
 use Rattle.rules_machine.specs.Dispatch.{dispatch_event, dispatch_of, dispatches, is_same, tells_unless}
 use Rattle.rules_machine.specs.Lists.{is}
-use Rattle.rules_machine.specs.Servers.{closes, closes_of, has_run, is_strict, plans, plans_if, plans_server}
+use Rattle.rules_machine.specs.Servers.{closes, closes_of, has_run, plans_if, plans_server}
 use Rattle.rules_machine.specs.State.{Machine, Thread}
 use Rattle.rules_machine.specs.Threads.{thread_at, thread_in, thread_numbers}
 use Rattle.rules_machine.specs.Ticks.{consumed_in}
 use Rattle.rules_machine.specs.Turns.{Turn, becomes}
-use Rattle.rules_moves.proofs.Runs.Closing.{closes_last, closes_latest, closes_one}
+use Rattle.rules_moves.proofs.Runs.Closing.{closes_last, closes_latest}
 use Rattle.kernel_state.specs.Kernel.{Kernel, after, ran, turn}
 
 -- what is known of the runs

@@ -18,7 +18,6 @@ use parts_tracer::Tracer;
 use rules_machine::call_name;
 use words_numbers::{Res, Tick, Tid};
 use words_script::Call;
-use words_trace::Event;
 
 /// A thread, and the call that it makes.
 #[derive(Clone, Copy)]
@@ -40,10 +39,7 @@ impl Parts {
         ensures { Does K.text K.faults (returns (caller by.now) res value) self.old self.new out.old out.new }
     {
         self.answer_thread(by.thread, res, value);
-        self.tell(
-            &Event::Return(by.thread, call_name(by.call), res, value),
-            out,
-        );
+        self.tell_return::<K, 0>(by.thread, call_name(by.call), res, value, out);
     }
 
     /// The caller blocks; its wait takes the next serial. A mutex that it waits for is owned, and to wait for it closes no cycle.

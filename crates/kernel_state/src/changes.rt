@@ -70,8 +70,8 @@ impl Parts {
         requires modest { MayWaitUntil self.old.machine waiting.call waiting.due }
         ensures { self.new ≡ after (changes t (put_to_wait (waiting_of waiting))) self.old }
     {
-        self.named.add(t);
         let moved = self.table.block_runner(t, waiting);
+        self.named.add(t);
         self.named.take_in(&moved);
     }
 

@@ -25,7 +25,7 @@ impl Parts {
     {
         match to {
             None => self.tell(&Event::Idle, out),
-            Some(t) => self.tell(&Event::Dispatch(*t, self.exec(*t)), out),
+            Some(t) => out.put_dispatch(self.instant, *t, self.exec(*t), &self.names),
         }
     }
 

@@ -22,7 +22,6 @@ use parts_waiters::WaitObj;
 use rules_machine::call_name;
 use words_numbers::{ObjId, Res, Tid};
 use words_script::Protocol;
-use words_trace::Event;
 
 impl Parts {
     /// A mutex as it stands.
@@ -123,9 +122,9 @@ impl Parts {
         requires owner { IsOwner self.old.machine k owner }
         ensures { Does K.text K.faults (λ s. s ▷ changes_mutex k (taken_by t) ▷ wakes t res 0) self.old self.new out.old out.new }
     {
-        let call = self.thread(t).waiting_call();
+        let call = call_name(&self.thread(t).waiting_call());
         self.hand_over(k, owner, t, res, 0);
-        self.rise(&Event::Return(t, call_name(&call), res, 0), t, out);
+        self.rise_answered::<K, 2>(call, t, res, 0, out);
     }
 
     /// The thread that is served first of those that wait for the object; `None` exactly where nobody does.

@@ -1,5 +1,6 @@
 //! All parts of the kernel, and the smallest changes of them.
 ghost use Rattle.std.specs.Prelude.{◌≡◌, ◌≤◌, ◌<◌, ◌^◌, [], length, slice_index, false};
+ghost use Rattle.words_trace.specs.declared.event.Event.TheVariants as event;
 ghost use Rattle.words_trace.specs.Text.{IsNamed};
 ghost use Rattle.parts_tracer.specs.Tells.{Tells};
 ghost use Rattle.rules_machine.specs.Dispatch.{dispatch_of, is_same};
@@ -20,8 +21,8 @@ use parts_tracer::{Names, Tracer};
 use rules_machine::LastDispatch;
 use script_code::Code;
 use std::marker::Model;
-use words_numbers::{Tick, Tid};
-use words_trace::Event;
+use words_numbers::{Res, Tick, Tid};
+use words_trace::{CallName, Event};
 
 /// All parts of the kernel.
 #[derive(Drop)]
@@ -66,6 +67,22 @@ impl Parts {
         ensures { Tells K.text K.faults self.now.names out.old out.new (told (tells e.now) self.now) }
     {
         out.put(self.instant, e, &self.names);
+    }
+
+    /// A call of a thread returns now. Each way to it has its own functions.
+    #[inline(always)]
+    pub(crate) fn tell_return<K: Sink, const WAY: usize>(
+        &self,
+        t: Tid,
+        call: CallName,
+        res: Res,
+        value: u64,
+        out: &mut Tracer<'_, K>,
+    )
+        requires { t < length self.now.names }
+        ensures { Tells K.text K.faults self.now.names out.old out.new (told (tells (event.Return t call res value)) self.now) }
+    {
+        out.put_return::<WAY>(self.instant, t, call, res, value, &self.names);
     }
 
     /// The thread becomes the tail of its list at the next settling.

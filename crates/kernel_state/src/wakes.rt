@@ -17,7 +17,7 @@ use parts_io::Sink;
 use parts_tracer::Tracer;
 use rules_machine::call_name;
 use words_numbers::{Res, SigSet, Tid};
-use words_trace::Event;
+use words_trace::{CallName, Event};
 
 impl Parts {
     /// A thread that is runnable again becomes the tail of its list, with that line, and is activated where it has the high priority.
@@ -28,6 +28,24 @@ impl Parts {
     {
         self.move_later(t);
         self.tell(e, out);
+        self.activate_if_high(t, out);
+    }
+
+    /// The same of a thread whose call returns. Each way to it has its own functions.
+    #[inline(always)]
+    pub(crate) fn rise_answered<K: Sink, const WAY: usize>(
+        &mut self,
+        call: CallName,
+        t: Tid,
+        res: Res,
+        value: u64,
+        out: &mut Tracer<'_, K>,
+    )
+        requires { CanRise self.old t }
+        ensures { Does K.text K.faults (λ s. s ▷ moves t ▷ tells (event.Return t call res value) ▷ activates_if_high t) self.old self.new out.old out.new }
+    {
+        self.move_later(t);
+        self.tell_return::<K, WAY>(t, call, res, value, out);
         self.activate_if_high(t, out);
     }
 
@@ -54,14 +72,9 @@ impl Parts {
         requires { CanRise self.old t }
         ensures { Does K.text K.faults (wakes t res value) self.old self.new out.old out.new }
     {
-        let call = self.thread(t).waiting_call();
-        self.wake_telling(
-            &Event::Return(t, call_name(&call), res, value),
-            t,
-            res,
-            value,
-            out,
-        );
+        let call = call_name(&self.thread(t).waiting_call());
+        self.wake_thread(t, res, value);
+        self.rise_answered::<K, 1>(call, t, res, value, out);
     }
 
     // A dormant thread is runnable at the beginning of its body.

@@ -48,8 +48,17 @@ impl Hundred {
     }
 
     /// Becomes the hundred of a time, where its digits can be shared.
+    #[inline(always)]
     pub(crate) fn turn_to(&mut self, now: u64) {
-        if self.has(now) || now < 100 || now >= FAR {
+        if !self.has(now) {
+            self.turn_in_full(now);
+        }
+    }
+
+    // The same of a time of another hundred.
+    #[inline(never)]
+    fn turn_in_full(&mut self, now: u64) {
+        if now < 100 || now >= FAR {
             return;
         }
         self.len = place_word(

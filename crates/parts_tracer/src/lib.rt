@@ -9,6 +9,7 @@ mod common;
 mod hundred;
 mod line;
 mod names;
+mod outcome_name;
 mod place;
 mod tracer;
 mod words;

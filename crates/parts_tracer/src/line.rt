@@ -18,19 +18,20 @@ pub fn line_len(now: Tick, e: &Event, names: &Names) -> usize
 {
     let hundred = Hundred::new();
     let mut buf = [0; LINE_ROOM];
-    EventLine::new(&hundred, now, e, names).place(&mut buf, 0)
+    EventLine::<1>::new(&hundred, now, e, names).place(&mut buf, 0)
 }
 
-/// The line of an event. It is seen as its bytes.
+/// The line of an event. It is seen as its bytes. Each way to make it has its own functions, by a number in its type, so that what is done
+/// most often is inlined.
 #[derive(Drop)]
-pub(crate) struct EventLine<'a> {
+pub(crate) struct EventLine<'a, const WAY: usize> {
     hundred: &'a Hundred,
     time: Tick,
     event: &'a Event,
     names: &'a Names,
 }
 
-impl<'a> Model for EventLine<'a> {
+impl<'a, const WAY: usize> Model for EventLine<'a, WAY> {
     ghost use Rattle.std.specs.Prelude.{List, ℕ};
     ghost use Rattle.words_trace.specs.Text.{IsNamed, line};
 
@@ -41,14 +42,14 @@ impl<'a> Model for EventLine<'a> {
     ghost invariant = { λ l. IsNamed l.names.now l.event.now };
 }
 
-impl<'a> EventLine<'a> {
+impl<'a, const WAY: usize> EventLine<'a, WAY> {
     /// The line of an event at a time. Whichever the hundred is, the line is the same.
     pub(crate) fn new(
         hundred: &'a Hundred,
         time: Tick,
         event: &'a Event,
         names: &'a Names,
-    ) -> EventLine<'a>
+    ) -> EventLine<'a, WAY>
         requires { IsNamed names.now event.now }
         ensures { result ≡ line names.now time event.now }
     {
@@ -61,12 +62,13 @@ impl<'a> EventLine<'a> {
     }
 }
 
-impl<'a> Line for EventLine<'a> {
+impl<'a, const WAY: usize> Line for EventLine<'a, WAY> {
     ghost bytes = { λ l. l };
 
+    #[inline(always)]
     fn place(self, buf: &mut [u8], at: usize) -> usize {
         let at = self.hundred.place(buf, at, self.time.get());
-        place_event(buf, at, self.event, self.names)
+        place_event::<WAY>(buf, at, self.event, self.names)
     }
 }
 

@@ -36,6 +36,16 @@ pub(crate) fn place_number(buf: &mut [u8], at: usize, n: u64) -> usize
     ensures within { result ≤ at + 21 }
 {
     let at = place_byte(buf, at, b' ');
+    place_numeral(buf, at, n)
+}
+
+// A number, without a call where it has one or two digits.
+#[inline(always)]
+pub(crate) fn place_numeral(buf: &mut [u8], at: usize, n: u64) -> usize
+    requires { at + 20 ≤ length buf.old }
+    ensures placed { Placed buf.old buf.new at (decimal n) result }
+    ensures within { result ≤ at + 20 }
+{
     if n < 10 {
         place_byte(buf, at, b'0' + n as u8)
     } else if n < 100 {

@@ -4,13 +4,14 @@ ghost use Rattle.words_trace.specs.Text.{IsNamed, budget_words, event_words, nam
 ghost use Rattle.parts_bytes.specs.Placed.{Placed};
 ghost use Rattle.parts_tracer.specs.Placed.{blanks_before, words_behind};
 ghost use Rattle.words_trace.specs.Calls.{call_word};
+ghost use Rattle.words_numbers.specs.Words.{res_text, sig_code_text};
 
 use crate::Names;
 use crate::call_name::place_call_text;
-use crate::place::{place_byte, place_number};
-use itoa::Buffer;
+use crate::outcome_name::{place_code_text, place_result_text};
+use crate::place::{place_byte, place_number, place_numeral};
 use parts_bytes::place_word;
-use words_numbers::{Res, Tid};
+use words_numbers::{Res, SigCode, Tid};
 use words_trace::{BudgetView, CallName, Event, Report};
 
 /// Puts the whole of a call that succeeded, with no value to tell.
@@ -47,7 +48,13 @@ fn place_call(text: &mut [u8], at: usize, names: &Names, t: Tid, call: CallName)
 }
 
 /// Puts the words of an event and the line end.
-pub(crate) fn place_event(text: &mut [u8], at: usize, e: &Event, names: &Names) -> usize
+#[inline(always)]
+pub(crate) fn place_event<const WAY: usize>(
+    text: &mut [u8],
+    at: usize,
+    e: &Event,
+    names: &Names,
+) -> usize
     requires room { at + 236 ≤ length text.old }
     requires named { IsNamed names.now e.now }
     ensures placed { Placed text.old text.new at (words_behind (event_words names.now e.now)) result }
@@ -60,10 +67,10 @@ pub(crate) fn place_event(text: &mut [u8], at: usize, e: &Event, names: &Names) 
         Event::Idle => place_word(text, at, b" idle\n"),
         Event::Start(t) => place_alone(text, at, b" start ", names, *t),
         Event::Return(t, call, res, value) => {
-            place_return(text, at, names, *t, *call, res.text(), *value)
+            place_return(text, at, names, *t, *call, *res, *value)
         }
         Event::Deliver(t, sig, code, value) => {
-            place_delivery(text, at, names, *t, *sig, code.text(), *value)
+            place_delivery(text, at, names, *t, *sig, *code, *value)
         }
         Event::Activate(t, capacity) => {
             place_with_number(text, at, b" activate ", names, *t, *capacity)
@@ -82,26 +89,28 @@ pub(crate) fn place_event(text: &mut [u8], at: usize, e: &Event, names: &Names) 
     }
 }
 
-// Puts the whole of the event that a call returned.
+/// Puts the whole of the event that a call returned.
 #[inline(always)]
-fn place_return(
+pub(crate) fn place_return(
     text: &mut [u8],
     at: usize,
     names: &Names,
     t: Tid,
     call: CallName,
-    res: &str,
+    res: Res,
     value: u64,
 ) -> usize
     requires room { at + 236 ≤ length text.old }
-    requires short { length res.now ≤ 32 }
     requires named { t < length names.now }
     ensures placed { Placed text.old text.new at
-        (words_behind (codes "return" ∷ name_at names.now t ∷ call_word call ∷ res.now ∷ decimal value ∷ [])) result }
-    ensures within { result ≤ at + 114 }
+        (words_behind (codes "return" ∷ name_at names.now t ∷ call_word call ∷ res_text res ∷ decimal value ∷ [])) result }
+    ensures within { result ≤ at + 98 }
 {
     let at = place_call(text, at, names, t, call);
-    place_outcome(text, at, res, value)
+    let at = place_byte(text, at, b' ');
+    let at = place_result_text(res, text, at);
+    let at = place_number(text, at, value);
+    place_byte(text, at, b'\n')
 }
 
 // Puts the whole of the event that a signal was delivered.
@@ -112,19 +121,21 @@ fn place_delivery(
     names: &Names,
     t: Tid,
     sig: u8,
-    code: &str,
+    code: SigCode,
     value: u64,
 ) -> usize
     requires room { at + 236 ≤ length text.old }
-    requires short { length code.now ≤ 32 }
     requires named { t < length names.now }
     ensures placed { Placed text.old text.new at
-        (words_behind (codes "deliver" ∷ name_at names.now t ∷ signal_name sig ∷ code.now ∷ decimal value ∷ [])) result }
-    ensures within { result ≤ at + 121 }
+        (words_behind (codes "deliver" ∷ name_at names.now t ∷ signal_name sig ∷ sig_code_text code ∷ decimal value ∷ [])) result }
+    ensures within { result ≤ at + 104 }
 {
     let at = place_of_thread(text, at, b" deliver ", names, t);
     let at = place_signal(text, at, sig);
-    place_outcome(text, at, code, value)
+    let at = place_byte(text, at, b' ');
+    let at = place_code_text(code, text, at);
+    let at = place_number(text, at, value);
+    place_byte(text, at, b'\n')
 }
 
 // Puts the whole of an event that only has a thread.
@@ -185,19 +196,6 @@ fn place_with_numbers(
     place_byte(text, at, b'\n')
 }
 
-// Puts the last two words of a line, of which the second is a number, and the line end.
-fn place_outcome(text: &mut [u8], at: usize, word: &str, value: u64) -> usize
-    requires room { at + 55 ≤ length text.old }
-    requires short { length word.now ≤ 32 }
-    ensures placed { Placed text.old text.new at (32 ∷ word.now ++ 32 ∷ decimal value ++ 10 ∷ []) result }
-    ensures within { result ≤ at + 55 }
-{
-    let at = place_byte(text, at, b' ');
-    let at = place_word(text, at, word.as_bytes());
-    let at = place_number(text, at, value);
-    place_byte(text, at, b'\n')
-}
-
 // Puts what happens, and the name of the thread to which it happens.
 #[inline(always)]
 fn place_of_thread(text: &mut [u8], at: usize, what: &[u8], names: &Names, t: Tid) -> usize
@@ -224,14 +222,14 @@ fn place_killed(text: &mut [u8], at: usize, sig: u8) -> usize
 }
 
 // Puts a blank and a signal.
-#[inline(never)]
+#[inline(always)]
 fn place_signal(text: &mut [u8], at: usize, sig: u8) -> usize
     requires { at + 24 ≤ length text.old }
     ensures placed { Placed text.old text.new at (32 ∷ signal_name sig) result }
     ensures within { result ≤ at + 24 }
 {
     let at = place_word(text, at, b" rt");
-    place_word(text, at, Buffer::new().format(sig).as_bytes())
+    place_numeral(text, at, sig as u64)
 }
 
 /// Puts the closing line of a thread.

@@ -1,4 +1,4 @@
-use Rattle.std.proofs.Common.{rules, ◌≡◌, ◌≤◌, ◌+◌, ◌-◌, ◌^◌, None, Some, subst, sym, ◌∙◌}
+use Rattle.std.proofs.Common.{rules, ◌≡◌, ◌≤◌, ◌+◌, ◌^◌, None, Some, subst, sym, ◌∙◌}
 use Rattle.rules_machine.specs.Agenda.{agenda}
 use Rattle.rules_leaps.specs.Leap.{ticks_to_next}
 use Rattle.kernel_state.specs.Kernel.{Kernel}

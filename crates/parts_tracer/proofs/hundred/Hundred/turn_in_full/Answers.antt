@@ -1,7 +1,7 @@
 use Rattle.std.proofs.Common.{◌≡◌, ◌≤◌, ◌-◌, ◌/◌, ◌%◌, length, ap, ◌∙◌, arith}
 use Rattle.std.specs.Prelude.{decimal}
 use Rattle.std.proofs.lemmas.Fmt.{length-decimal-le}
-use Rattle.parts_tracer.proofs.hundred.Hundred.turn_to.Goals as goal
+use Rattle.parts_tracer.proofs.hundred.Hundred.turn_in_full.Goals as goal
 
 pub place_word-self-inside-requires-clause-fits : goal.place_word-self-inside-requires-clause-fits
 place_word-self-inside-requires-clause-fits c =
