@@ -30,6 +30,18 @@ fn is_list_as_seen(parts: &Parts, p: Prio, desk: &Desk) -> bool
     is_list(parts, p, desk.last_seen())
 }
 
+// The text of the list of a priority comes.
+#[inline(never)]
+fn tell_list(parts: &Parts, decls: &[Decl], p: Prio, next: &mut NextText, desk: &mut Desk)
+    requires memory { IsMemoryOf decls.now desk.old.told.texts desk.old.seen }
+    ensures kept { WentOn next.old next.new desk.old desk.new (fact_text decls.now (on_list p (list_of p parts.now.machine.lists)) ∷ []) }
+    ensures memory { IsMemoryOf decls.now desk.new.told.texts desk.new.seen }
+{
+    next.clear();
+    let failed = print_list(parts, decls, p, next);
+    desk.keep(next, failed, &see_list(parts, p));
+}
+
 fn look_at_list(parts: &Parts, decls: &[Decl], p: Prio, next: &mut NextText, desk: &mut Desk)
     requires memory { IsMemoryOf decls.now desk.old.told.texts desk.old.seen }
     ensures kept { WentOn next.old next.new desk.old desk.new (fact_text decls.now (on_list p (list_of p parts.now.machine.lists)) ∷ []) }
@@ -43,9 +55,7 @@ fn look_at_list(parts: &Parts, decls: &[Decl], p: Prio, next: &mut NextText, des
         desk.go_over_same();
         return;
     }
-    next.clear();
-    let failed = print_list(parts, decls, p, next);
-    desk.keep(next, failed, &see_list(parts, p));
+    tell_list(parts, decls, p, next, desk);
 }
 
 // Looks at so many lists behind some that were looked at, that of the greatest priority first.
