@@ -1,5 +1,5 @@
 -- A look over facts that tell the same as last.
-use Rattle.std.proofs.Common.{◌≡◌, ◌∙◌, ◌+◌, ◌<◌, ℕ, List, [], ◌∷◌, ◌++◌, ap, arith, subst, sym, refl}
+use Rattle.std.proofs.Common.{◌≡◌, ◌∙◌, ◌+◌, ◌<◌, ℕ, List, [], ◌∷◌, ap, arith, subst, sym, refl}
 use Rattle.std.specs.Prelude.{slice_index_or}
 use Rattle.words_script.specs.declared.decl.Decl.{Decl}
 use Rattle.parts_texts.specs.Texts.{Next}
