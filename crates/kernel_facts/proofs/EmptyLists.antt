@@ -1,6 +1,6 @@
 -- Lists on which no thread stands.
 use Rattle.std.proofs.Common.{◌≡◌, ◌∙◌, ◌+◌, ◌<◌, ◌≤◌, ◌⊎◌, Bool, List, None, Some, [], ◌∷◌, ◌++◌, ap, append-nil, append_assoc, arith, false, inl, inr, length, refl, subst, suc, sym, true, zero, ℕ}
-use Rattle.std.specs.Prelude.{slice_index_or, slice_set, ◌-◌, ◌/◌}
+use Rattle.std.specs.Prelude.{slice_index_or, slice_set, ◌-◌}
 use Rattle.std.proofs.lemmas.List.{get_or-set_other, get_or-set_same}
 use Rattle.rules_lists.specs.Threads.{stands_in, times}
 use Rattle.rules_lists.specs.Lists.{AreReadyLists, list_of, prio_from, prio_of, times_in_all}
@@ -43,19 +43,19 @@ none_on count p lists (t ∷ rest) low is ready nowhere =
     let back : 1 + (p - 1) ≡ p = omega (arith, low) in
     absurd (nowhere t (ready.known t (counted t (p - 1) lists rest is)) (there 1 t (p - 1) lists rest (ready.once t) is ∙ ap (λ (n : ℕ). Some n) back))
 
--- ---- blocks
+-- ---- places
 
--- the blocks of the lists on which some threads stand are taken
-abbrev pub AreTaken : List Bool → List (List ℕ) → ℕ → Type 0
-AreTaken taken lists count = (t : ℕ) → t < count → (p : ℕ) → prio_of t lists ≡ Some p → slice_index_or taken ((255 - p) / 16) true ≡ true
+-- the places of the lists on which some threads stand are taken
+abbrev pub AreTaken : (ℕ → ℕ) → List Bool → List (List ℕ) → ℕ → Type 0
+AreTaken place taken lists count = (t : ℕ) → t < count → (p : ℕ) → prio_of t lists ≡ Some p → slice_index_or taken (place p) false ≡ true
 
 clash : (v : Bool) → v ≡ true → v ≡ false → ⊥
 clash v on off = cc
 
-pub free_block : (taken : List Bool) (lists : List (List ℕ)) (count : ℕ) → AreTaken taken lists count → AreReadyLists (record { threads = count; lists = lists })
-    → (p : ℕ) → 1 ≤ p → p ≤ 255 → slice_index_or taken ((255 - p) / 16) true ≡ false → list_of p lists ≡ []
-free_block taken lists count all ready p low high free =
-    none_on count p lists (list_of p lists) low refl ready (λ t known at. clash (slice_index_or taken ((255 - p) / 16) true) (all t known p at) free)
+pub free_place : (place : ℕ → ℕ) (taken : List Bool) (lists : List (List ℕ)) (count : ℕ) → AreTaken place taken lists count → AreReadyLists (record { threads = count; lists = lists })
+    → (p : ℕ) → 1 ≤ p → p ≤ 255 → slice_index_or taken (place p) false ≡ false → list_of p lists ≡ []
+free_place place taken lists count all ready p low high free =
+    none_on count p lists (list_of p lists) low refl ready (λ t known at. clash (slice_index_or taken (place p) false) (all t known p at) free)
 
 some_same : {X : Type 0} {x y : X} → Some x ≡ Some y → x ≡ y
 some_same e = cc
@@ -67,39 +67,40 @@ none_some : {X : Type 0} (x : X) → None ≡ Some x → ⊥
 none_some x e = cc
 
 -- one thread more, that stands on no list
-pub taken_none : (taken : List Bool) (lists : List (List ℕ)) (k : ℕ) → AreTaken taken lists k → prio_of k lists ≡ None → AreTaken taken lists (k + 1)
-taken_none taken lists k before off t low p at = by_place (place_of t k low)
+pub taken_none : (place : ℕ → ℕ) (taken : List Bool) (lists : List (List ℕ)) (k : ℕ) → AreTaken place taken lists k → prio_of k lists ≡ None → AreTaken place taken lists (k + 1)
+taken_none place taken lists k before off t low p at = by_place (place_of t k low)
   where
-    by_place : (t < k) ⊎ (t ≡ k) → slice_index_or taken ((255 - p) / 16) true ≡ true
+    by_place : (t < k) ⊎ (t ≡ k) → slice_index_or taken (place p) false ≡ true
     by_place (inl less) = before t less p at
     by_place (inr is) = absurd (none_some p (sym off ∙ ap (λ (u : ℕ). prio_of u lists) (sym is) ∙ at))
 
-set_true : (taken : List Bool) (b c : ℕ) → b < length taken → (c ≡ b) ⊎ ((c < b) ⊎ (b < c)) → (slice_index_or (slice_set taken b true) c true ≡ true) ⊎ (slice_index_or (slice_set taken b true) c true ≡ slice_index_or taken c true)
-set_true taken b c low (inl is) = inl (ap (λ (j : ℕ). slice_index_or (slice_set taken b true) j true) is ∙ get_or-set_same taken b true true low)
-set_true taken b c low (inr (inl less)) = inr (get_or-set_other taken b c true true (λ e. omega (arith, e, less)))
-set_true taken b c low (inr (inr more)) = inr (get_or-set_other taken b c true true (λ e. omega (arith, e, more)))
+set_true : (taken : List Bool) (b c : ℕ) → b < length taken → (c ≡ b) ⊎ ((c < b) ⊎ (b < c)) → (slice_index_or (slice_set taken b true) c false ≡ true) ⊎ (slice_index_or (slice_set taken b true) c false ≡ slice_index_or taken c false)
+set_true taken b c low (inl is) = inl (ap (λ (j : ℕ). slice_index_or (slice_set taken b true) j false) is ∙ get_or-set_same taken b true false low)
+set_true taken b c low (inr (inl less)) = inr (get_or-set_other taken b c true false (λ e. omega (arith, e, less)))
+set_true taken b c low (inr (inr more)) = inr (get_or-set_other taken b c true false (λ e. omega (arith, e, more)))
 
 apart : (i k : ℕ) → (i ≡ k) ⊎ ((i < k) ⊎ (k < i))
 apart i k = grind arith
 
 -- one that stands on the list of a priority
-pub taken_one : (taken : List Bool) (lists : List (List ℕ)) (k q b : ℕ) → b < length taken → b ≡ (255 - q) / 16 → AreTaken taken lists k → prio_of k lists ≡ Some q → AreTaken (slice_set taken b true) lists (k + 1)
-taken_one taken lists k q b low is before on t below p at = by_place (place_of t k below)
+pub taken_one : (place : ℕ → ℕ) (taken : List Bool) (lists : List (List ℕ)) (k q b : ℕ) → b < length taken → b ≡ place q → AreTaken place taken lists k → prio_of k lists ≡ Some q
+    → AreTaken place (slice_set taken b true) lists (k + 1)
+taken_one place taken lists k q b low is before on t below p at = by_place (place_of t k below)
   where
-    kept : slice_index_or taken ((255 - p) / 16) true ≡ true → slice_index_or (slice_set taken b true) ((255 - p) / 16) true ≡ true
-    kept e = by_set (set_true taken b ((255 - p) / 16) low (apart ((255 - p) / 16) b))
+    kept : slice_index_or taken (place p) false ≡ true → slice_index_or (slice_set taken b true) (place p) false ≡ true
+    kept e = by_set (set_true taken b (place p) low (apart (place p) b))
       where
-        by_set : (slice_index_or (slice_set taken b true) ((255 - p) / 16) true ≡ true) ⊎ (slice_index_or (slice_set taken b true) ((255 - p) / 16) true ≡ slice_index_or taken ((255 - p) / 16) true)
-            → slice_index_or (slice_set taken b true) ((255 - p) / 16) true ≡ true
+        by_set : (slice_index_or (slice_set taken b true) (place p) false ≡ true) ⊎ (slice_index_or (slice_set taken b true) (place p) false ≡ slice_index_or taken (place p) false)
+            → slice_index_or (slice_set taken b true) (place p) false ≡ true
         by_set (inl on) = on
         by_set (inr same) = same ∙ e
 
-    by_place : (t < k) ⊎ (t ≡ k) → slice_index_or (slice_set taken b true) ((255 - p) / 16) true ≡ true
+    by_place : (t < k) ⊎ (t ≡ k) → slice_index_or (slice_set taken b true) (place p) false ≡ true
     by_place (inl less) = kept (before t less p at)
     by_place (inr here) =
         let same : q ≡ p = some_same (sym on ∙ ap (λ (u : ℕ). prio_of u lists) (sym here) ∙ at) in
-        let there : (255 - p) / 16 ≡ b = ap (λ (n : ℕ). (255 - n) / 16) (sym same) ∙ sym is in
-        ap (λ (j : ℕ). slice_index_or (slice_set taken b true) j true) there ∙ get_or-set_same taken b true true low
+        let there : place p ≡ b = ap place (sym same) ∙ sym is in
+        ap (λ (j : ℕ). slice_index_or (slice_set taken b true) j false) there ∙ get_or-set_same taken b true false low
 
 -- ---- one row behind another
 

@@ -1,5 +1,5 @@
 -- A few members of a list, kept as values.
-use Rattle.std.proofs.Common.{◌≡◌, ◌∙◌, ◌<◌, ℕ, zero, suc, List, None, Some, [], ◌∷◌, ap, arith, length, map, refl, slice_get, sym, take}
+use Rattle.std.proofs.Common.{◌≡◌, ◌<◌, ℕ, zero, suc, List, None, Some, [], ◌∷◌, ap, arith, length, map, refl, slice_get, take}
 use Rattle.std.specs.Prelude.{slice_index_or, slice_set}
 
 -- where there is no next member, these are all

@@ -25,7 +25,7 @@ pub mod Looking
 pub mod Ready
 pub mod FewSeen
 pub mod FactsSeen
-pub mod SeenShort
 pub mod Runs
 pub mod BareRows
+pub mod SameRuns
 pub mod EmptyLists

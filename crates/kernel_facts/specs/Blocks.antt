@@ -2,6 +2,7 @@
 use Rattle.std.specs.Prelude.{Bool, List, [], false, slice_index_or, true, ℕ, ◌+◌, ◌/◌, ◌<◌, ◌≡◌, ◌∷◌, ◌++◌, ◌≤◌, ◌⊎◌}
 use Rattle.words_script.specs.declared.decl.Decl.{Decl}
 use Rattle.parts_texts.specs.Texts.{Next}
+use Rattle.rules_lists.specs.Lists.{list_of}
 use Rattle.rules_machine.specs.State.{Machine}
 use Rattle.kernel_facts.specs.Desk.{WentOn}
 use Rattle.kernel_facts.specs.FactSeen.{IsMemoryOf}
@@ -40,3 +41,7 @@ inner_rows_kept decls m =
 -- so many lists behind some, that of the greatest priority first
 abbrev pub lists_from : List Decl → List (List ℕ) → ℕ → ℕ → List (List ℕ)
 lists_from decls lists from count = kept_below (λ (i : ℕ). list_text decls 255 lists (from + i) ∷ []) count
+
+-- where the place of a priority is not taken, its list is empty
+abbrev pub AreEmptyElse : (ℕ → ℕ) → List Bool → List (List ℕ) → Type 0
+AreEmptyElse place taken lists = (p : ℕ) → 1 ≤ p → p ≤ 255 → slice_index_or taken (place p) false ≡ false → list_of p lists ≡ []

@@ -16,3 +16,4 @@ pub mod Seen
 pub mod FewSeen
 pub mod FactSeen
 pub mod Blocks
+pub mod Ahead

@@ -1,7 +1,8 @@
 //! The texts of the facts as they were told last, through which a look at those of now goes.
-ghost use Rattle.std.specs.Prelude.{◌≡◌, ◌<◌, ◌≤◌, ◌^◌, ◌-◌, ◌∷◌, [], IfOk, List, false, length, slice_index_or, true};
+ghost use Rattle.std.specs.Prelude.{◌≡◌, ◌<◌, ◌≤◌, ◌^◌, ◌+◌, ◌-◌, ◌∷◌, [], IfOk, List, false, length, slice_index_or, true};
 ghost use Rattle.words_script.specs.declared.decl.Decl.{Decl};
 ghost use Rattle.script_printer.specs.Puts.{Put, outlet};
+ghost use Rattle.kernel_facts.specs.Ahead.{HavePlaces};
 ghost use Rattle.kernel_facts.specs.Changed.{changed_line};
 ghost use Rattle.kernel_facts.specs.Desk.{IsOpened, Went, WentOver};
 ghost use Rattle.kernel_facts.specs.FactSeen.{IsMemoryOf, TellsIfAny, fact_seen};
@@ -147,6 +148,46 @@ impl Desk {
         ensures { result.now ≡ slice_index_or self.now.seen.facts self.now.at variant.Unseen }
     {
         self.seen.last(self.at)
+    }
+
+    /// How many facts from here on have a place each.
+    pub(crate) fn places(&self) -> usize
+        ensures { HavePlaces self.now result }
+    {
+        let count = self
+            .seen
+            .count()
+            .min(self.told.count())
+            .min(self.subjects.count());
+        count.saturating_sub(self.at)
+    }
+
+    /// What was seen last of the fact so many places ahead.
+    pub(crate) fn seen_ahead(&self, ahead: usize) -> &FactSeen
+        requires { self.now.at + ahead < length self.now.seen.facts }
+        ensures { result.now ≡ slice_index_or self.now.seen.facts (self.now.at + ahead) variant.Unseen }
+    {
+        // so it is known that there are fewer than 2^64
+        let _count = self.seen.count();
+        self.seen.last(self.at + ahead)
+    }
+
+    /// Whether nothing was told of the fact so many places ahead.
+    pub(crate) fn is_empty_ahead(&self, ahead: usize) -> bool
+        requires { self.now.at + ahead < length self.now.told.texts }
+        ensures { result ≡ true → slice_index_or self.now.told.texts (self.now.at + ahead) [] ≡ [] }
+    {
+        // so it is known that there are fewer than 2^64
+        let _count = self.told.count();
+        self.told.text(self.at + ahead).is_empty()
+    }
+
+    /// The look goes over so many facts, of which what was told stays.
+    pub(crate) fn go_on(&mut self, count: usize)
+        requires { self.old.at + count < 2 ^ 64 }
+        ensures { self.new ≡ record self.old { at = self.old.at + count } }
+    {
+        self.at += count;
     }
 
     /// The look goes over a fact of which the same is told as last.

@@ -12,7 +12,7 @@ ghost use Rattle.kernel_facts.specs.declared.fact_seen.FactSeen.TheVariants as v
 use crate::few::{FewMessages, FewThreads, are_held, see_messages, stand_on_list};
 use crate::kept_line::{FewWaiters, is_line, see_line};
 use crate::rows::{ObjectRow, ThreadRow};
-use crate::seen::{Seen, is_same, see};
+use crate::seen::{Seen, is_as_seen, see};
 use crate::waiters::{Line, LineSort};
 use kernel_state::Parts;
 use parts_server::Replenish;
@@ -90,16 +90,14 @@ fn is_planned_twice(a: &FactSeen, t: Tid, first: &Replenish, second: &Replenish)
     }
 }
 
-// Whether the same fact is seen; false where none is, and of the facts that are seen where they stand.
-fn is_same_fact(a: &FactSeen, b: &FactSeen) -> bool
-    ensures same { result ≡ true → a.now ≡ b.now }
-    ensures some { result ≡ true → is_some (fact_seen b.now) ≡ true }
+// Whether those are the replenishments of a thread.
+fn are_planned(t: Tid, planned: &[Replenish], last: &FactSeen) -> bool
+    ensures same { result ≡ true → IsOf (replenishments t planned.now) (fact_seen last.now) }
+    ensures some { result ≡ true → is_some (fact_seen last.now) ≡ true }
 {
-    match b {
-        FactSeen::Owner(k, t, count) => is_owner(a, *k, *t, *count),
-        FactSeen::Value(k, value) => is_value(a, *k, *value),
-        FactSeen::PlannedOnce(t, plan) => is_planned_once(a, *t, plan),
-        FactSeen::PlannedTwice(t, one, two) => is_planned_twice(a, *t, one, two),
+    match planned {
+        [plan] => is_planned_once(last, t, plan),
+        [one, two] => is_planned_twice(last, t, one, two),
         _ => false,
     }
 }
@@ -188,14 +186,14 @@ pub(crate) fn is_list(parts: &Parts, p: Prio, last: &FactSeen) -> bool
     }
 }
 
-// Whether that is the status of a thread.
-fn is_status(parts: &Parts, t: Tid, last: &FactSeen) -> bool
+/// Whether that is the status of a thread.
+pub(crate) fn is_status(parts: &Parts, t: Tid, last: &FactSeen) -> bool
     requires { t < length parts.now.names }
     ensures same { result ≡ true → IsOf (thread_fact parts.now.machine t) (fact_seen last.now) }
     ensures some { result ≡ true → is_some (fact_seen last.now) ≡ true }
 {
     match last {
-        FactSeen::Status(u, status) => *u == t && is_same(status, &see(parts, t)),
+        FactSeen::Status(u, status) => *u == t && is_as_seen(parts, t, status),
         _ => false,
     }
 }
@@ -212,19 +210,31 @@ fn are_messages(parts: &Parts, q: ObjId, last: &FactSeen) -> bool
     }
 }
 
-/// Whether that is what a row tells of a thread.
-pub(crate) fn is_of_thread(parts: &Parts, row: ThreadRow, t: Tid, last: &FactSeen) -> bool
+/// Whether that is what the server of a thread has planned.
+pub(crate) fn is_pending(parts: &Parts, t: Tid, last: &FactSeen) -> bool
     requires { t < length parts.now.names }
-    ensures same { result ≡ true → IsOf (thread_fact_of row parts.now.machine t) (fact_seen last.now) }
+    ensures same { result ≡ true → IsOf (pending_fact parts.now.machine t) (fact_seen last.now) }
     ensures some { result ≡ true → is_some (fact_seen last.now) ≡ true }
 {
-    match row {
-        ThreadRow::Status => is_status(parts, t, last),
-        ThreadRow::Frames => false,
-        ThreadRow::Mask => false,
-        ThreadRow::Cancelability => false,
-        ThreadRow::Cleanups => false,
-        ThreadRow::Pending => is_same_fact(last, &see_pending(parts, t)),
+    if !parts.thread(t).is_live() {
+        return false;
+    }
+    match parts.thread(t).server() {
+        None => false,
+        Some(server) => are_planned(t, server.pending(), last),
+    }
+}
+
+// Whether that is the owner of a mutex.
+fn is_owned(parts: &Parts, k: ObjId, last: &FactSeen) -> bool
+    requires { k < length parts.now.machine.mutexes }
+    ensures same { result ≡ true → IsOf (owner_fact parts.now.machine k) (fact_seen last.now) }
+    ensures some { result ≡ true → is_some (fact_seen last.now) ≡ true }
+{
+    let mutex = parts.mutex(k);
+    match mutex.owner() {
+        None => false,
+        Some(owner) => is_owner(last, k, owner, mutex.count()),
     }
 }
 
@@ -240,12 +250,17 @@ pub(crate) fn is_of_object(
     ensures same { result ≡ true → IsOnlyOf (object_facts row parts.now.machine k) (fact_seen last.now) }
     ensures some { result ≡ true → is_some (fact_seen last.now) ≡ true }
 {
+    let _ = decls;
     match row {
+        ObjectRow::Owner => is_owned(parts, k, last),
         ObjectRow::MutexWaiters => is_line(parts, &Line::Mutex(k), last),
         ObjectRow::ConditionWaiters => is_line(parts, &Line::Condition(k), last),
         ObjectRow::SemaphoreWaiters => is_line(parts, &Line::Semaphore(k), last),
+        ObjectRow::Value => is_value(last, k, parts.semaphore(k)),
         ObjectRow::Messages => are_messages(parts, k, last),
-        _ => is_same_fact(last, &see_object(parts, decls, row, k)),
+        ObjectRow::QueueWaiters => false,
+        ObjectRow::Registration => false,
+        ObjectRow::Arming => false,
     }
 }
 

@@ -12,6 +12,7 @@
 //! The state is read and not changed. Lists are written word by word, so that no room limits their length.
 #![tactic(auto)]
 
+mod ahead;
 mod blocks;
 mod changes;
 mod desk;
@@ -25,6 +26,7 @@ mod line;
 mod lists;
 mod look;
 mod look_lists;
+mod look_threads;
 mod names;
 mod nothing;
 mod numbers;

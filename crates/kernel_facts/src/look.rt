@@ -21,10 +21,11 @@ ghost use Rattle.kernel_facts.specs.declared.rows.ObjectRow.{ObjectRow};
 ghost use Rattle.kernel_facts.specs.Rows.{left_out, object_count, object_facts, thread_fact_of};
 
 use crate::desk::Desk;
-use crate::fact_seen::{FactSeen, is_of_object, is_of_thread, see_object, see_thread};
+use crate::fact_seen::{FactSeen, is_of_object, see_object};
 use crate::kept_line::{is_line, see_line};
 use crate::known::{know_few, know_names, know_rows, know_timers};
 use crate::look_lists::look_at_lists;
+use crate::look_threads::look_at_threads;
 use crate::nothing::{
     are_bare_inside, object_tells_nothing, queue_tells_nothing, signal_tells_nothing,
     thread_tells_nothing,
@@ -38,102 +39,6 @@ use parts_texts::NextText;
 use words_numbers::{ObjId, Tid};
 use words_script::{Decl, Script};
 
-// Whether a row tells of a thread what was seen last of the fact that comes.
-fn is_thread_as_seen(parts: &Parts, row: ThreadRow, t: Tid, desk: &Desk) -> bool
-    requires { t < length parts.now.names }
-    ensures same { result ≡ true → IsOf (thread_fact_of row parts.now.machine t) (fact_seen (last_seen desk.now)) }
-    ensures some { result ≡ true → is_some (fact_seen (last_seen desk.now)) ≡ true }
-{
-    if !desk.has_seen() {
-        return false;
-    }
-    is_of_thread(parts, row, t, desk.last_seen())
-}
-
-fn look_at_thread_fact(
-    parts: &Parts,
-    decls: &[Decl],
-    row: ThreadRow,
-    t: Tid,
-    next: &mut NextText,
-    desk: &mut Desk,
-)
-    requires known { t < length parts.now.names }
-    requires memory { IsMemoryOf decls.now desk.old.told.texts desk.old.seen }
-    ensures kept { WentOn next.old next.new desk.old desk.new (fact_text decls.now (thread_fact_of row parts.now.machine t) ∷ []) }
-    ensures short { HasShortText decls.now (thread_fact_of row parts.now.machine t) }
-    ensures memory { IsMemoryOf decls.now desk.new.told.texts desk.new.seen }
-{
-    if is_thread_as_seen(parts, row, t, desk) {
-        desk.go_over_same();
-        return;
-    }
-    if thread_tells_nothing(parts, row, t) {
-        desk.go_over_nothing();
-        return;
-    }
-    next.clear();
-    let failed = print_thread_fact(parts, decls, row, t, next);
-    desk.keep(next, failed, &see_thread(parts, row, t));
-}
-
-// Looks at a row of threads, by number.
-fn look_at_thread_row(
-    parts: &Parts,
-    decls: &[Decl],
-    row: ThreadRow,
-    next: &mut NextText,
-    desk: &mut Desk,
-)
-    requires memory { IsMemoryOf decls.now desk.old.told.texts desk.old.seen }
-    ensures kept { WentOn next.old next.new desk.old desk.new (thread_row_kept decls.now row parts.now.machine) }
-    ensures memory { IsMemoryOf decls.now desk.new.told.texts desk.new.seen }
-    ensures short { (t : ℕ) → t < length parts.now.machine.threads → HasShortText decls.now (thread_fact_of row parts.now.machine t) }
-{
-    for number in 0..parts.count() {
-        look_at_thread_fact(parts, decls, row, parts.tid(number), next, desk);
-    }
-}
-
-// Looks at what threads have about them but for what their servers have planned.
-fn look_at_inner_rows_in_full(parts: &Parts, decls: &[Decl], next: &mut NextText, desk: &mut Desk)
-    requires memory { IsMemoryOf decls.now desk.old.told.texts desk.old.seen }
-    ensures kept { WentOn next.old next.new desk.old desk.new (inner_rows_kept decls.now parts.now.machine) }
-    ensures short { (row : ThreadRow) → is_inner row ≡ true → (t : ℕ) → t < length parts.now.machine.threads → HasShortText decls.now (thread_fact_of row parts.now.machine t) }
-    ensures memory { IsMemoryOf decls.now desk.new.told.texts desk.new.seen }
-{
-    look_at_thread_row(parts, decls, ThreadRow::Frames, next, desk);
-    look_at_thread_row(parts, decls, ThreadRow::Mask, next, desk);
-    look_at_thread_row(parts, decls, ThreadRow::Cancelability, next, desk);
-    look_at_thread_row(parts, decls, ThreadRow::Cleanups, next, desk);
-}
-
-// The same; where no thread has anything about it, no row is looked at by itself.
-fn look_at_inner_rows(parts: &Parts, decls: &[Decl], next: &mut NextText, desk: &mut Desk)
-    requires memory { IsMemoryOf decls.now desk.old.told.texts desk.old.seen }
-    ensures kept { WentOn next.old next.new desk.old desk.new (inner_rows_kept decls.now parts.now.machine) }
-    ensures short { (row : ThreadRow) → is_inner row ≡ true → (t : ℕ) → t < length parts.now.machine.threads → HasShortText decls.now (thread_fact_of row parts.now.machine t) }
-    ensures memory { IsMemoryOf decls.now desk.new.told.texts desk.new.seen }
-{
-    if are_bare_inside(parts) {
-        desk.go_over_nothings(4 * usize::from(parts.count()));
-        return;
-    }
-    look_at_inner_rows_in_full(parts, decls, next, desk);
-}
-
-// Looks at all rows of threads.
-fn look_at_threads(parts: &Parts, decls: &[Decl], next: &mut NextText, desk: &mut Desk)
-    requires memory { IsMemoryOf decls.now desk.old.told.texts desk.old.seen }
-    ensures kept { WentOn next.old next.new desk.old desk.new (threads_kept decls.now parts.now.machine) }
-    ensures short { (row : ThreadRow) → (t : ℕ) → t < length parts.now.machine.threads → HasShortText decls.now (thread_fact_of row parts.now.machine t) }
-    ensures memory { IsMemoryOf decls.now desk.new.told.texts desk.new.seen }
-{
-    look_at_thread_row(parts, decls, ThreadRow::Status, next, desk);
-    look_at_inner_rows(parts, decls, next, desk);
-    look_at_thread_row(parts, decls, ThreadRow::Pending, next, desk);
-}
-
 // Whether a row tells of an object what was seen last of the fact that comes, and nothing else.
 fn is_object_as_seen(parts: &Parts, decls: &[Decl], row: ObjectRow, k: ObjId, desk: &Desk) -> bool
     requires { k < object_count row decls.now parts.now.machine }
@@ -144,6 +49,27 @@ fn is_object_as_seen(parts: &Parts, decls: &[Decl], row: ObjectRow, k: ObjId, de
         return false;
     }
     is_of_object(parts, decls, row, k, desk.last_seen())
+}
+
+// The text of what a row tells of an object comes.
+#[inline(never)]
+fn tell_object_facts(
+    parts: &Parts,
+    decls: &[Decl],
+    row: ObjectRow,
+    k: ObjId,
+    next: &mut NextText,
+    desk: &mut Desk,
+)
+    requires known { k < object_count row decls.now parts.now.machine }
+    requires memory { IsMemoryOf decls.now desk.old.told.texts desk.old.seen }
+    ensures kept { WentOn next.old next.new desk.old desk.new (facts_text decls.now (object_facts row parts.now.machine k) ∷ []) }
+    ensures short { HaveShortTexts decls.now (object_facts row parts.now.machine k) }
+    ensures memory { IsMemoryOf decls.now desk.new.told.texts desk.new.seen }
+{
+    next.clear();
+    let failed = print_object_facts(parts, decls, row, k, next);
+    desk.keep(next, failed, &see_object(parts, decls, row, k));
 }
 
 fn look_at_object_fact(
@@ -168,9 +94,7 @@ fn look_at_object_fact(
         desk.go_over_same();
         return;
     }
-    next.clear();
-    let failed = print_object_facts(parts, decls, row, k, next);
-    desk.keep(next, failed, &see_object(parts, decls, row, k));
+    tell_object_facts(parts, decls, row, k, next, desk);
 }
 
 // Looks at a row of objects that has one fact for each, by number.
@@ -214,6 +138,26 @@ fn is_line_as_seen(parts: &Parts, line: &Line, desk: &Desk) -> bool
     is_line(parts, line, desk.last_seen())
 }
 
+// The text of who waits to send to a queue comes, or of who waits for a message of it.
+#[inline(never)]
+fn tell_waiters(
+    parts: &Parts,
+    decls: &[Decl],
+    q: ObjId,
+    to_send: bool,
+    next: &mut NextText,
+    desk: &mut Desk,
+)
+    requires memory { IsMemoryOf decls.now desk.old.told.texts desk.old.seen }
+    ensures kept { WentOn next.old next.new desk.old desk.new (waiters_text decls.now to_send parts.now.machine q ∷ []) }
+    ensures memory { IsMemoryOf decls.now desk.new.told.texts desk.new.seen }
+{
+    let line = queue_line(q, to_send);
+    next.clear();
+    let failed = print_waiters(parts, decls, q, to_send, next);
+    desk.keep(next, failed, &see_line(parts, &line));
+}
+
 fn look_at_waiters(
     parts: &Parts,
     decls: &[Decl],
@@ -235,9 +179,7 @@ fn look_at_waiters(
         desk.go_over_same();
         return;
     }
-    next.clear();
-    let failed = print_waiters(parts, decls, q, to_send, next);
-    desk.keep(next, failed, &see_line(parts, &line));
+    tell_waiters(parts, decls, q, to_send, next, desk);
 }
 
 // Looks at who waits to send to each queue, and then who waits for a message of it.

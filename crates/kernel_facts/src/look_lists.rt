@@ -1,13 +1,15 @@
 //! A look at the lists of runnable threads.
-ghost use Rattle.std.specs.Prelude.{ℕ, ◌≡◌, ◌≤◌, ◌<◌, ◌+◌, ◌-◌, ◌/◌, ◌∷◌, [], false, is_some, slice_index_or, true};
+ghost use Rattle.std.specs.Prelude.{ℕ, ◌≡◌, ◌≤◌, ◌<◌, ◌+◌, ◌-◌, ◌/◌, ◌%◌, ◌∷◌, [], false, true};
 ghost use Rattle.rules_lists.specs.Lists.{list_of};
 ghost use Rattle.rules_facts.specs.Fact.{on_list};
-ghost use Rattle.kernel_facts.specs.Desk.{WentOn, last_seen};
-ghost use Rattle.kernel_facts.specs.FactSeen.{IsMemoryOf, IsOf, fact_seen};
+ghost use Rattle.kernel_facts.specs.Ahead.{IsRun, IsToldAhead, past};
+ghost use Rattle.kernel_facts.specs.Desk.{WentOn};
+ghost use Rattle.kernel_facts.specs.FactSeen.{IsMemoryOf};
 ghost use Rattle.kernel_facts.specs.Kept.{lists_kept};
 ghost use Rattle.kernel_facts.specs.Lines.{fact_text};
-ghost use Rattle.kernel_facts.specs.Blocks.{lists_from};
+ghost use Rattle.kernel_facts.specs.Blocks.{AreEmptyElse, lists_from};
 
+use crate::ahead::Run;
 use crate::desk::Desk;
 use crate::fact_seen::is_list;
 use crate::few::see_list;
@@ -19,18 +21,32 @@ use parts_texts::NextText;
 use words_numbers::Prio;
 use words_script::Decl;
 
-// Whether the list of a priority tells what was seen last of the fact that comes.
-fn is_list_as_seen(parts: &Parts, p: Prio, desk: &Desk) -> bool
-    ensures same { result ≡ true → IsOf (on_list p (list_of p parts.now.machine.lists)) (fact_seen (last_seen desk.now)) }
-    ensures some { result ≡ true → is_some (fact_seen (last_seen desk.now)) ≡ true }
-{
-    if !desk.has_seen() {
-        return false;
-    }
-    is_list(parts, p, desk.last_seen())
+// On which lists a thread stands, that of the greatest priority first, and in which blocks of 16 of them.
+#[derive(Clone, Copy)]
+struct Taken {
+    lists: [bool; 256],
+    blocks: [bool; 16],
 }
 
-fn look_at_list(parts: &Parts, decls: &[Decl], p: Prio, next: &mut NextText, desk: &mut Desk)
+// Whether the list of a priority is what was seen last of the fact behind the run, or empty as it was.
+fn is_list_ahead(parts: &Parts, p: Prio, is_taken: bool, run: &Run, desk: &Desk) -> bool
+    requires run { IsRun run.now desk.now }
+    requires empty { is_taken ≡ false → list_of p parts.now.machine.lists ≡ [] }
+    ensures next { result ≡ true → run.now.same < run.now.places }
+    ensures told { result ≡ true → IsToldAhead run.now desk.now (on_list p (list_of p parts.now.machine.lists)) }
+{
+    if !run.has_next() {
+        return false;
+    }
+    if !is_taken {
+        return desk.is_empty_ahead(run.same);
+    }
+    is_list(parts, p, desk.seen_ahead(run.same))
+}
+
+// The text of the list of a priority comes, where a thread stands on it.
+#[inline(never)]
+fn tell_list(parts: &Parts, decls: &[Decl], p: Prio, next: &mut NextText, desk: &mut Desk)
     requires memory { IsMemoryOf decls.now desk.old.told.texts desk.old.seen }
     ensures kept { WentOn next.old next.new desk.old desk.new (fact_text decls.now (on_list p (list_of p parts.now.machine.lists)) ∷ []) }
     ensures memory { IsMemoryOf decls.now desk.new.told.texts desk.new.seen }
@@ -39,13 +55,35 @@ fn look_at_list(parts: &Parts, decls: &[Decl], p: Prio, next: &mut NextText, des
         desk.go_over_nothing();
         return;
     }
-    if is_list_as_seen(parts, p, desk) {
-        desk.go_over_same();
-        return;
-    }
     next.clear();
     let failed = print_list(parts, decls, p, next);
     desk.keep(next, failed, &see_list(parts, p));
+}
+
+// A look at the fact behind the run, which is the list of a priority.
+fn look_at_list(
+    parts: &Parts,
+    decls: &[Decl],
+    p: Prio,
+    is_taken: bool,
+    run: &mut Run,
+    next: &mut NextText,
+    desk: &mut Desk,
+)
+    requires run { IsRun run.old desk.old }
+    requires empty { is_taken ≡ false → list_of p parts.now.machine.lists ≡ [] }
+    requires memory { IsMemoryOf decls.now desk.old.told.texts desk.old.seen }
+    ensures run { IsRun run.new desk.new }
+    ensures kept { WentOn next.old next.new (past run.old desk.old) (past run.new desk.new) (fact_text decls.now (on_list p (list_of p parts.now.machine.lists)) ∷ []) }
+    ensures memory { IsMemoryOf decls.now desk.new.told.texts desk.new.seen }
+{
+    if is_list_ahead(parts, p, is_taken, run, desk) {
+        run.go_on();
+        return;
+    }
+    desk.go_on(run.same);
+    tell_list(parts, decls, p, next, desk);
+    *run = Run::begin(desk);
 }
 
 // Looks at so many lists behind some that were looked at, that of the greatest priority first.
@@ -54,40 +92,61 @@ fn look_at_each_list(
     decls: &[Decl],
     from: u8,
     count: u8,
+    taken: &Taken,
     next: &mut NextText,
     desk: &mut Desk,
 )
     requires within { from + count ≤ 255 }
+    requires taken { AreEmptyElse (λ (p : ℕ). 255 - p) taken.now.lists parts.now.machine.lists }
     requires memory { IsMemoryOf decls.now desk.old.told.texts desk.old.seen }
     ensures kept { WentOn next.old next.new desk.old desk.new (lists_from decls.now parts.now.machine.lists from count) }
     ensures memory { IsMemoryOf decls.now desk.new.told.texts desk.new.seen }
 {
+    let mut run = Run::begin(desk);
     for below in 0..count {
-        look_at_list(parts, decls, prio_of(255 - (from + below)), next, desk);
+        let place = from + below;
+        let is_taken = taken.lists[usize::from(place)];
+        look_at_list(
+            parts,
+            decls,
+            prio_of(255 - place),
+            is_taken,
+            &mut run,
+            next,
+            desk,
+        );
     }
+    desk.go_on(run.same);
 }
 
-// The block of 16 lists that the list of a priority is in, that of the greatest priorities first.
-fn block_of(p: Prio) -> usize
-    ensures block { result ≡ (255 - p) / 16 }
-    ensures few { result < 16 }
+// The place of the list of a priority among the lists, that of the greatest first.
+fn place_of(p: Prio) -> usize
+    ensures place { result ≡ 255 - p }
+    ensures few { result < 256 }
 {
     let p = p.get();
-    usize::from((255 - p) / 16)
+    usize::from(255 - p)
 }
 
-// In which of these blocks a thread stands.
-fn taken_blocks(parts: &Parts) -> [bool; 16]
-    ensures { (p : ℕ) → 1 ≤ p → p ≤ 255 → slice_index_or result ((255 - p) / 16) true ≡ false → list_of p parts.now.machine.lists ≡ [] }
+// On which lists a thread stands.
+fn taken_lists(parts: &Parts) -> Taken
+    ensures lists { AreEmptyElse (λ (p : ℕ). 255 - p) result.lists parts.now.machine.lists }
+    ensures blocks { AreEmptyElse (λ (p : ℕ). (255 - p) / 16) result.blocks parts.now.machine.lists }
 {
     let _head = parts.head();
-    let mut taken = [false; 16];
+    let mut on_list = [false; 256];
+    let mut in_block = [false; 16];
     for number in 0..parts.count() {
         if let Some(p) = parts.stands_at(parts.tid(number)) {
-            taken[block_of(p)] = true;
+            let place = place_of(p);
+            on_list[place] = true;
+            in_block[place / 16] = true;
         }
     }
-    taken
+    Taken {
+        lists: on_list,
+        blocks: in_block,
+    }
 }
 
 // The same as to look at each; where no thread stands on any of them, none is looked at by itself.
@@ -96,21 +155,23 @@ fn look_at_some_lists(
     decls: &[Decl],
     from: u8,
     count: u8,
-    is_taken: bool,
+    taken: &Taken,
     next: &mut NextText,
     desk: &mut Desk,
 )
     requires within { from + count ≤ 255 }
-    requires empty { is_taken ≡ false → (i : ℕ) → i < count → list_of (255 - (from + i)) parts.now.machine.lists ≡ [] }
+    requires block { from % 16 + count ≤ 16 }
+    requires lists { AreEmptyElse (λ (p : ℕ). 255 - p) taken.now.lists parts.now.machine.lists }
+    requires blocks { AreEmptyElse (λ (p : ℕ). (255 - p) / 16) taken.now.blocks parts.now.machine.lists }
     requires memory { IsMemoryOf decls.now desk.old.told.texts desk.old.seen }
     ensures kept { WentOn next.old next.new desk.old desk.new (lists_from decls.now parts.now.machine.lists from count) }
     ensures memory { IsMemoryOf decls.now desk.new.told.texts desk.new.seen }
 {
-    if !is_taken {
+    if !taken.blocks[usize::from(from / 16)] {
         desk.go_over_nothings(usize::from(count));
         return;
     }
-    look_at_each_list(parts, decls, from, count, next, desk);
+    look_at_each_list(parts, decls, from, count, taken, next, desk);
 }
 
 /// Looks at the lists, that of the greatest priority first.
@@ -119,10 +180,9 @@ pub(crate) fn look_at_lists(parts: &Parts, decls: &[Decl], next: &mut NextText, 
     ensures kept { WentOn next.old next.new desk.old desk.new (lists_kept decls.now parts.now.machine.lists) }
     ensures memory { IsMemoryOf decls.now desk.new.told.texts desk.new.seen }
 {
-    let taken = taken_blocks(parts);
+    let taken = taken_lists(parts);
     for block in 0..15u8 {
-        let is_taken = taken[usize::from(block)];
-        look_at_some_lists(parts, decls, 16 * block, 16, is_taken, next, desk);
+        look_at_some_lists(parts, decls, 16 * block, 16, &taken, next, desk);
     }
-    look_at_some_lists(parts, decls, 240, 15, taken[15], next, desk);
+    look_at_some_lists(parts, decls, 240, 15, &taken, next, desk);
 }

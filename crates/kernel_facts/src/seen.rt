@@ -4,7 +4,7 @@ ghost use Rattle.kernel_facts.specs.declared.seen.SeenWait.TheVariants as waits;
 ghost use Rattle.words_trace.specs.declared.event.CallName.TheVariants as calls;
 ghost use Rattle.kernel_threads.specs.Plain.{wait_of, waiting_of};
 ghost use Rattle.rules_facts.specs.Fact.{blocked_thread};
-ghost use Rattle.rules_facts.specs.Threads.{awaited, block_of, thread_fact};
+ghost use Rattle.rules_facts.specs.Threads.{awaited, block_of, priorities_of, thread_fact};
 ghost use Rattle.kernel_facts.specs.Seen.{due_of, seen_fact, what_of};
 
 use kernel_state::Parts;
@@ -124,26 +124,7 @@ pub(crate) fn see(parts: &Parts, t: Tid) -> Seen
     }
 }
 
-// Whether the parts that are numbers are the same.
-fn has_same_numbers(a: &Seen, b: &Seen) -> bool
-    ensures assigned { result ≡ true → a.now.assigned ≡ b.now.assigned }
-    ensures exec { result ≡ true → a.now.exec ≡ b.now.exec }
-    ensures which { result ≡ true → a.now.which ≡ b.now.which }
-    ensures has_due { result ≡ true → a.now.has_due ≡ b.now.has_due }
-    ensures due { result ≡ true → a.now.due ≡ b.now.due }
-{
-    a.assigned == b.assigned
-        && a.exec == b.exec
-        && a.which == b.which
-        && a.has_due == b.has_due
-        && a.due == b.due
-}
-
-fn is_same_status(a: SeenStatus, b: SeenStatus) -> bool
-    ensures { result ≡ true → a ≡ b }
-{
-    a == b
-}
+// ---- whether the same is told
 
 fn is_same_wait(a: SeenWait, b: SeenWait) -> bool
     ensures { result ≡ true → a ≡ b }
@@ -157,18 +138,66 @@ fn is_same_call(a: CallName, b: CallName) -> bool
     a == b
 }
 
-/// Whether the same status is seen.
-pub(crate) fn is_same(a: &Seen, b: &Seen) -> bool
-    ensures { result ≡ true → a.now ≡ b.now }
+// Whether the thread has the priorities that were seen.
+fn has_priorities(parts: &Parts, t: Tid, seen: &Seen) -> bool
+    requires { t < length parts.now.names }
+    ensures assigned { result ≡ true → (priorities_of parts.now.machine t).assigned ≡ seen.now.assigned }
+    ensures exec { result ≡ true → (priorities_of parts.now.machine t).exec ≡ seen.now.exec }
 {
-    if !is_same_status(a.status, b.status) {
+    parts.exec(t).get() == seen.exec && parts.thread(t).assigned().get() == seen.assigned
+}
+
+// Whether it is what was seen that a thread waits for.
+fn is_wait(wait: &Wait, seen: &Seen) -> bool
+    ensures { result ≡ true → what_of seen.now.wait seen.now.which ≡ awaited (wait_of wait.now) }
+{
+    let (sort, which) = see_wait(wait);
+    is_same_wait(sort, seen.wait) && which == seen.which
+}
+
+// Whether it is the limit of a wait that was seen.
+fn is_due(due: Option<Tick>, seen: &Seen) -> bool
+    ensures { result ≡ true → due_of seen.now.has_due seen.now.due ≡ due }
+{
+    match due {
+        Some(at) => seen.has_due && at.get() == seen.due,
+        None => !seen.has_due,
+    }
+}
+
+// Whether it is the wait that was seen.
+fn is_waiting(waiting: &Waiting, seen: &Seen) -> bool
+    ensures { result ≡ true → record { call = seen.now.call; awaited = what_of seen.now.wait seen.now.which; due = due_of seen.now.has_due seen.now.due } ≡ block_of (waiting_of waiting.now) }
+{
+    if !is_due(waiting.due, seen) {
         return false;
     }
-    if !is_same_call(a.call, b.call) {
+    if !is_wait(&waiting.wait, seen) {
         return false;
     }
-    if !is_same_wait(a.wait, b.wait) {
-        return false;
+    is_same_call(call_name(&waiting.call), seen.call)
+}
+
+// Whether that status was seen.
+fn has_status(seen: &Seen, status: SeenStatus) -> bool
+    ensures { result ≡ true → seen.now.status ≡ status }
+{
+    seen.status == status
+}
+
+/// Whether that is what is told of the status of a thread.
+pub(crate) fn is_as_seen(parts: &Parts, t: Tid, seen: &Seen) -> bool
+    requires { t < length parts.now.names }
+    ensures { result ≡ true → seen_fact t seen.now ≡ thread_fact parts.now.machine t }
+{
+    match parts.thread(t).status() {
+        Status::Dormant(_) => has_status(seen, SeenStatus::Dormant),
+        Status::Runnable => has_status(seen, SeenStatus::Ready) && has_priorities(parts, t, seen),
+        Status::Blocked(waiting) => {
+            has_status(seen, SeenStatus::Blocked)
+                && is_waiting(&waiting, seen)
+                && has_priorities(parts, t, seen)
+        }
+        Status::Ended => has_status(seen, SeenStatus::Ended),
     }
-    has_same_numbers(a, b)
 }

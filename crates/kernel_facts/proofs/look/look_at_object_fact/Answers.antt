@@ -1,20 +1,9 @@
 use Rattle.std.proofs.Common.{refl}
 use Rattle.kernel_facts.specs.Desk.{last_seen}
-use Rattle.kernel_facts.specs.FactSeen.{fact_seen}
-use Rattle.kernel_facts.proofs.FactsSeen.{only_here, tells_only, went_on_same}
-use Rattle.kernel_facts.proofs.Keeping.{whole_text}
-use Rattle.kernel_facts.proofs.Looking.{went_nothing, went_printed}
+use Rattle.kernel_facts.proofs.FactsSeen.{only_here, went_on_same}
+use Rattle.kernel_facts.proofs.Looking.{went_nothing}
 use Rattle.kernel_facts.proofs.NothingTold.{none_short}
 use Rattle.kernel_facts.proofs.look.look_at_object_fact.Goals as goal
-
-pub returns-clause-kept : goal.returns-clause-kept
-returns-clause-kept c = went_printed _ _ _ _ c.clear.ensures _ _ _ c.print_object_facts-failed.ensures.text c.keep.ensures.over
-
-pub returns-clause-memory : goal.returns-clause-memory
-returns-clause-memory c =
-    c.keep.ensures.seen c.args.decls.now c.requires.memory
-    (λ good. tells_only c.args.decls.now _ _ (fact_seen c.see_object.result) c.see_object.ensures
-    (whole_text c.args.next.now c.clear.new.self _ _ c.clear.ensures _ c.print_object_facts-failed.ensures.text good) c.print_object_facts-failed.ensures.short)
 
 pub returns-then-object_tells_nothing-clause-kept : goal.returns-then-object_tells_nothing-clause-kept
 returns-then-object_tells_nothing-clause-kept c = went_nothing _ _ _ _ (c.object_tells_nothing.ensures c.if-object_tells_nothing.true c.args.decls.now) c.go_over_nothing.ensures.went

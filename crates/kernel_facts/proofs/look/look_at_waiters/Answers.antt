@@ -1,30 +1,14 @@
-use Rattle.std.proofs.Common.{◌∙◌, ap, refl, subst, sym}
+use Rattle.std.proofs.Common.{◌∙◌, ap, refl}
 use Rattle.rules_facts.specs.Objects.{in_service_order}
 use Rattle.kernel_facts.specs.Desk.{last_seen}
-use Rattle.kernel_facts.specs.FactSeen.{fact_seen}
 use Rattle.kernel_facts.specs.InLine.{stands_in}
 use Rattle.kernel_facts.specs.KeptLines.{line_fact}
 use Rattle.kernel_facts.specs.Lines.{fact_text}
-use Rattle.kernel_facts.specs.Short.{HasShortText}
 use Rattle.kernel_facts.specs.declared.waiters.Line.{Line}
-use Rattle.kernel_facts.proofs.FactsSeen.{tells_seen, told_here, went_on_same}
-use Rattle.kernel_facts.proofs.Keeping.{whole_text}
-use Rattle.kernel_facts.proofs.KeptLines.{waiters_are_short, waiters_told}
-use Rattle.kernel_facts.proofs.Looking.{went_nothing, went_printed}
+use Rattle.kernel_facts.proofs.FactsSeen.{told_here, went_on_same}
+use Rattle.kernel_facts.proofs.KeptLines.{waiters_told}
+use Rattle.kernel_facts.proofs.Looking.{went_nothing}
 use Rattle.kernel_facts.proofs.look.look_at_waiters.Goals as goal
-
-pub returns-clause-kept : goal.returns-clause-kept
-returns-clause-kept c = went_printed _ _ _ _ c.clear.ensures _ _ _ c.print_waiters-failed.ensures c.keep.ensures.over
-
-pub returns-clause-memory : goal.returns-clause-memory
-returns-clause-memory c =
-    let decls = c.args.decls.now in
-    let m = c.args.parts.now.machine in
-    let told = ap (λ (l : Line). fact_text decls (line_fact l (in_service_order m (stands_in l)))) c.queue_line-line.ensures ∙ waiters_told decls m c.args.q c.args.to_send in
-    c.keep.ensures.seen decls c.requires.memory
-    (λ good. tells_seen decls _ _ (fact_seen c.see_line.result) c.see_line.ensures
-    (whole_text c.args.next.now c.clear.new.self _ _ c.clear.ensures _ c.print_waiters-failed.ensures good ∙ sym told)
-    (subst (λ (l : Line). HasShortText decls (line_fact l (in_service_order m (stands_in l)))) (sym c.queue_line-line.ensures) (waiters_are_short decls m c.args.q c.args.to_send)))
 
 pub returns-then-queue_tells_nothing-clause-kept : goal.returns-then-queue_tells_nothing-clause-kept
 returns-then-queue_tells_nothing-clause-kept c = went_nothing _ _ _ _ (c.queue_tells_nothing.ensures c.if-queue_tells_nothing.true c.args.decls.now) c.go_over_nothing.ensures.went

@@ -1,26 +1,16 @@
-use Rattle.std.proofs.Common.{refl}
-use Rattle.kernel_facts.specs.Desk.{last_seen}
-use Rattle.kernel_facts.specs.FactSeen.{fact_seen}
-use Rattle.kernel_facts.proofs.FactsSeen.{tells_seen, told_here, went_on_same}
-use Rattle.kernel_facts.proofs.Keeping.{whole_text}
-use Rattle.kernel_facts.proofs.Looking.{went_nothing, went_printed}
-use Rattle.kernel_facts.proofs.Modest.{list_short}
+use Rattle.kernel_facts.proofs.SameRuns.{ahead_other, ahead_same, past_memory, run_more}
 use Rattle.kernel_facts.proofs.look_lists.look_at_list.Goals as goal
 
+pub returns-then-is_list_ahead-clause-run : goal.returns-then-is_list_ahead-clause-run
+returns-then-is_list_ahead-clause-run c = run_more c.args.desk.now c.args.run.now c.go_on.new.self c.requires.run (c.is_list_ahead.ensures.next c.if-is_list_ahead.true) c.go_on.ensures
+
+pub returns-then-is_list_ahead-clause-kept : goal.returns-then-is_list_ahead-clause-kept
+returns-then-is_list_ahead-clause-kept c =
+    let e = c.if-is_list_ahead.true in
+    ahead_same c.args.desk.now c.args.run.now c.go_on.new.self c.requires.run (c.is_list_ahead.ensures.next e) c.go_on.ensures c.args.next.now c.args.decls.now _ (c.is_list_ahead.ensures.told e c.args.decls.now c.requires.memory)
+
+pub tell_list-requires : goal.tell_list-requires
+tell_list-requires c = record { memory = past_memory c.args.decls.now c.args.desk.now c.go_on-2.new.self c.args.run.now c.go_on-2.ensures c.requires.memory }
+
 pub returns-clause-kept : goal.returns-clause-kept
-returns-clause-kept c = went_printed _ _ _ _ c.clear.ensures _ _ _ c.print_list-failed.ensures c.keep.ensures.over
-
-pub returns-clause-memory : goal.returns-clause-memory
-returns-clause-memory c =
-    c.keep.ensures.seen c.args.decls.now c.requires.memory
-    (λ good. tells_seen c.args.decls.now _ _ (fact_seen c.see_list.result) c.see_list.ensures.list
-    (whole_text c.args.next.now c.clear.new.self _ _ c.clear.ensures _ c.print_list-failed.ensures good) (list_short c.args.decls.now c.args.p _ c.see_list.ensures.range))
-
-pub returns-then-list_tells_nothing-clause-kept : goal.returns-then-list_tells_nothing-clause-kept
-returns-then-list_tells_nothing-clause-kept c = went_nothing _ _ _ _ (c.list_tells_nothing.ensures c.if-list_tells_nothing.true c.args.decls.now) c.go_over_nothing.ensures.went
-
-pub returns-then-is_list_as_seen-clause-kept : goal.returns-then-is_list_as_seen-clause-kept
-returns-then-is_list_as_seen-clause-kept c =
-    let e = c.if-is_list_as_seen.true in
-    let told = told_here c.args.decls.now c.args.desk.now (last_seen c.args.desk.now) _ refl (c.is_list_as_seen.ensures.some e) (c.is_list_as_seen.ensures.same e) c.requires.memory in
-    went_on_same _ _ _ _ _ told.told c.go_over_same.ensures.went
+returns-clause-kept c = ahead_other _ _ c.args.desk.now c.go_on-2.new.self _ c.args.run.now c.begin.result _ c.go_on-2.ensures c.begin.ensures.none c.tell_list.ensures.kept

@@ -3,7 +3,7 @@ use Rattle.kernel_facts.specs.Blocks.{nothings}
 use Rattle.kernel_facts.specs.Desk.{WentOn}
 use Rattle.kernel_facts.proofs.BareRows.{bare_rows}
 use Rattle.kernel_facts.proofs.NothingTold.{nothing_short}
-use Rattle.kernel_facts.proofs.look.look_at_inner_rows.Goals as goal
+use Rattle.kernel_facts.proofs.look_threads.look_at_inner_rows.Goals as goal
 
 pub returns-then-are_bare_inside-clause-kept : goal.returns-then-are_bare_inside-clause-kept
 returns-then-are_bare_inside-clause-kept c =

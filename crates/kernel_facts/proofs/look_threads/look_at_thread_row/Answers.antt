@@ -2,7 +2,7 @@ use Rattle.std.proofs.Common.{◌≡◌, add-one, arith, below_more, length, ℕ
 use Rattle.kernel_facts.specs.Rows.{thread_fact_of}
 use Rattle.kernel_facts.specs.Short.{HasShortText}
 use Rattle.kernel_facts.proofs.Looking.{went_both, went_none}
-use Rattle.kernel_facts.proofs.look.look_at_thread_row.Goals as goal
+use Rattle.kernel_facts.proofs.look_threads.look_at_thread_row.Goals as goal
 
 pub loop-number-init : goal.loop-number-init
 loop-number-init c = record { kept = went_none _ _; short = λ t low. absurd (omega (arith, low)); memory = c.requires.memory }

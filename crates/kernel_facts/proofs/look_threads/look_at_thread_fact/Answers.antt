@@ -1,11 +1,9 @@
-use Rattle.std.proofs.Common.{refl}
-use Rattle.kernel_facts.specs.Desk.{last_seen}
 use Rattle.kernel_facts.specs.FactSeen.{fact_seen}
-use Rattle.kernel_facts.proofs.FactsSeen.{tells_seen, told_here, went_on_same}
+use Rattle.kernel_facts.proofs.FactsSeen.{tells_seen}
 use Rattle.kernel_facts.proofs.Keeping.{whole_text}
 use Rattle.kernel_facts.proofs.Looking.{went_nothing, went_printed}
 use Rattle.kernel_facts.proofs.NothingTold.{nothing_short}
-use Rattle.kernel_facts.proofs.look.look_at_thread_fact.Goals as goal
+use Rattle.kernel_facts.proofs.look_threads.look_at_thread_fact.Goals as goal
 
 pub returns-clause-kept : goal.returns-clause-kept
 returns-clause-kept c = went_printed _ _ _ _ c.clear.ensures _ _ _ c.print_thread_fact-failed.ensures.text c.keep.ensures.over
@@ -21,15 +19,3 @@ returns-then-thread_tells_nothing-clause-kept c = went_nothing _ _ _ _ (c.thread
 
 pub returns-then-thread_tells_nothing-clause-short : goal.returns-then-thread_tells_nothing-clause-short
 returns-then-thread_tells_nothing-clause-short c = nothing_short c.args.decls.now _ (c.thread_tells_nothing.ensures c.if-thread_tells_nothing.true c.args.decls.now)
-
-pub returns-then-is_thread_as_seen-clause-kept : goal.returns-then-is_thread_as_seen-clause-kept
-returns-then-is_thread_as_seen-clause-kept c =
-    let e = c.if-is_thread_as_seen.true in
-    let told = told_here c.args.decls.now c.args.desk.now (last_seen c.args.desk.now) _ refl (c.is_thread_as_seen.ensures.some e) (c.is_thread_as_seen.ensures.same e) c.requires.memory in
-    went_on_same _ _ _ _ _ told.told c.go_over_same.ensures.went
-
-pub returns-then-is_thread_as_seen-clause-short : goal.returns-then-is_thread_as_seen-clause-short
-returns-then-is_thread_as_seen-clause-short c =
-    let e = c.if-is_thread_as_seen.true in
-    let told = told_here c.args.decls.now c.args.desk.now (last_seen c.args.desk.now) _ refl (c.is_thread_as_seen.ensures.some e) (c.is_thread_as_seen.ensures.same e) c.requires.memory in
-    told.short

@@ -4,7 +4,7 @@ use Rattle.kernel_facts.specs.Short.{HasShortText}
 use Rattle.kernel_facts.specs.declared.rows.ThreadRow.{ThreadRow}
 use Rattle.kernel_facts.proofs.BareRows.{each_inner}
 use Rattle.kernel_facts.proofs.Looking.{went_both}
-use Rattle.kernel_facts.proofs.look.look_at_inner_rows_in_full.Goals as goal
+use Rattle.kernel_facts.proofs.look_threads.look_at_inner_rows_in_full.Goals as goal
 
 pub returns-clause-kept : goal.returns-clause-kept
 returns-clause-kept c =

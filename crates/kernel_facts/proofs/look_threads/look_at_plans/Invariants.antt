@@ -1,0 +1,17 @@
+use Rattle.std.proofs.Common.{[], ◌∷◌, ◌<◌, ℕ}
+use Rattle.rules_facts.specs.Threads.{pending_fact}
+use Rattle.kernel_facts.specs.Ahead.{IsRun, past}
+use Rattle.kernel_facts.specs.Desk.{WentOn}
+use Rattle.kernel_facts.specs.FactSeen.{IsMemoryOf}
+use Rattle.kernel_facts.specs.Kept.{kept_below}
+use Rattle.kernel_facts.specs.Lines.{fact_text}
+use Rattle.kernel_facts.specs.Short.{HasShortText}
+use Rattle.kernel_facts.proofs.look_threads.look_at_plans.Given as goal
+
+abbrev pub invariant-loop-number : goal.invariant-loop-number
+invariant-loop-number l = record {
+  run : IsRun l.run l.desk;
+  kept : WentOn l.initial.next l.next l.initial.desk (past l.run l.desk) (kept_below (λ t. fact_text l.decls (pending_fact l.parts.machine t) ∷ []) l.number);
+  short : (t : ℕ) → t < l.number → HasShortText l.decls (pending_fact l.parts.machine t);
+  memory : IsMemoryOf l.decls l.desk.told.texts l.desk.seen;
+}

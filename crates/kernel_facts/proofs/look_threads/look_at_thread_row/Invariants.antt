@@ -1,0 +1,15 @@
+use Rattle.std.proofs.Common.{[], ◌∷◌, ◌<◌, ℕ}
+use Rattle.kernel_facts.specs.Desk.{WentOn}
+use Rattle.kernel_facts.specs.FactSeen.{IsMemoryOf}
+use Rattle.kernel_facts.specs.Kept.{kept_below}
+use Rattle.kernel_facts.specs.Lines.{fact_text}
+use Rattle.kernel_facts.specs.Rows.{thread_fact_of}
+use Rattle.kernel_facts.specs.Short.{HasShortText}
+use Rattle.kernel_facts.proofs.look_threads.look_at_thread_row.Given as goal
+
+abbrev pub invariant-loop-number : goal.invariant-loop-number
+invariant-loop-number l = record {
+  kept : WentOn l.initial.next l.next l.initial.desk l.desk (kept_below (λ t. fact_text l.decls (thread_fact_of l.row l.parts.machine t) ∷ []) l.number);
+  short : (t : ℕ) → t < l.number → HasShortText l.decls (thread_fact_of l.row l.parts.machine t);
+  memory : IsMemoryOf l.decls l.desk.told.texts l.desk.seen;
+}
