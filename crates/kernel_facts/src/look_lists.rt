@@ -1,5 +1,5 @@
 //! A look at the lists of runnable threads.
-ghost use Rattle.std.specs.Prelude.{ℕ, ◌≡◌, ◌≤◌, ◌<◌, ◌+◌, ◌-◌, ◌/◌, ◌%◌, ◌∷◌, [], false, true};
+ghost use Rattle.std.specs.Prelude.{ℕ, ◌≡◌, ◌≤◌, ◌<◌, ◌+◌, ◌-◌, ◌/◌, ◌%◌, ◌∷◌, [], false, slice_index_or, true};
 ghost use Rattle.rules_lists.specs.Lists.{list_of};
 ghost use Rattle.rules_facts.specs.Fact.{on_list};
 ghost use Rattle.kernel_facts.specs.Ahead.{IsRun, IsToldAhead, past};
@@ -86,6 +86,69 @@ fn look_at_list(
     *run = Run::begin(desk);
 }
 
+// How many lists from a place on, of so many, are empty as they were. Theirs are the facts behind the run.
+fn empty_ahead(taken: &Taken, from: u8, most: u8, run: &Run, desk: &Desk) -> u8
+    requires within { from + most ≤ 255 }
+    requires run { IsRun run.now desk.now }
+    ensures few { result ≤ most }
+    ensures places { run.now.same + result ≤ run.now.places }
+    ensures free { (k : ℕ) → k < result → slice_index_or taken.now.lists (from + k) false ≡ false }
+    ensures empty { (k : ℕ) → k < result → slice_index_or desk.now.told.texts (desk.now.at + (run.now.same + k)) [] ≡ [] }
+{
+    let most = run.left().min(usize::from(most)) as u8;
+    for k in 0..most {
+        if taken.lists[usize::from(from + k)] {
+            return k;
+        }
+        if !desk.is_empty_ahead(run.same + usize::from(k)) {
+            return k;
+        }
+    }
+    most
+}
+
+// Goes over lists from a place on that are empty as they were, and looks at the one behind them. It answers how many these are, of so
+// many.
+fn look_at_next_lists(
+    parts: &Parts,
+    decls: &[Decl],
+    from: u8,
+    most: u8,
+    taken: &Taken,
+    run: &mut Run,
+    next: &mut NextText,
+    desk: &mut Desk,
+) -> u8
+    requires some { 0 < most }
+    requires within { from + most ≤ 255 }
+    requires taken { AreEmptyElse (λ (p : ℕ). 255 - p) taken.now.lists parts.now.machine.lists }
+    requires run { IsRun run.old desk.old }
+    requires memory { IsMemoryOf decls.now desk.old.told.texts desk.old.seen }
+    ensures some { 0 < result }
+    ensures few { result ≤ most }
+    ensures run { IsRun run.new desk.new }
+    ensures kept { WentOn next.old next.new (past run.old desk.old) (past run.new desk.new) (lists_from decls.now parts.now.machine.lists from result) }
+    ensures memory { IsMemoryOf decls.now desk.new.told.texts desk.new.seen }
+{
+    let empty = empty_ahead(taken, from, most, run, desk);
+    run.skip(usize::from(empty));
+    if empty == most {
+        return most;
+    }
+    let place = from + empty;
+    let is_taken = taken.lists[usize::from(place)];
+    look_at_list(
+        parts,
+        decls,
+        prio_of(255 - place),
+        is_taken,
+        run,
+        next,
+        desk,
+    );
+    empty + 1
+}
+
 // Looks at so many lists behind some that were looked at, that of the greatest priority first.
 fn look_at_each_list(
     parts: &Parts,
@@ -103,18 +166,11 @@ fn look_at_each_list(
     ensures memory { IsMemoryOf decls.now desk.new.told.texts desk.new.seen }
 {
     let mut run = Run::begin(desk);
-    for below in 0..count {
+    let mut below = 0;
+    while below < count {
         let place = from + below;
-        let is_taken = taken.lists[usize::from(place)];
-        look_at_list(
-            parts,
-            decls,
-            prio_of(255 - place),
-            is_taken,
-            &mut run,
-            next,
-            desk,
-        );
+        let left = count - below;
+        below += look_at_next_lists(parts, decls, place, left, taken, &mut run, next, desk);
     }
     desk.go_on(run.same);
 }
