@@ -4,7 +4,13 @@ use Rattle.std.specs.Prelude.{slice_index_or, slice_set, ◌-◌}
 use Rattle.std.proofs.lemmas.List.{get_or-set_other, get_or-set_same}
 use Rattle.rules_lists.specs.Threads.{stands_in, times}
 use Rattle.rules_lists.specs.Lists.{AreReadyLists, list_of, prio_from, prio_of, times_in_all}
+use Rattle.words_script.specs.declared.decl.Decl.{Decl}
+use Rattle.rules_facts.specs.Fact.{on_list}
+use Rattle.kernel_facts.specs.Blocks.{AreEmptyElse, lists_from, nothings}
 use Rattle.kernel_facts.specs.Kept.{kept_below}
+use Rattle.kernel_facts.specs.Lines.{fact_text}
+use Rattle.kernel_facts.specs.Rows.{list_text}
+use Rattle.kernel_facts.proofs.Runs.{kept_nothing}
 
 stands_first : (t : ℕ) (rest : List ℕ) → stands_in t (t ∷ rest) ≡ true
 stands_first t rest = grind arith
@@ -109,3 +115,26 @@ kept_sum f a zero all is = let same : all ≡ a = omega (arith, is) in ap (kept_
 kept_sum f a (suc n) all is =
     let more : all ≡ suc (a + n) = omega (arith, is) in
     ap (kept_below f) more ∙ ap (λ (ts : List (List ℕ)). ts ++ f (a + n)) (kept_sum f a n (a + n) refl) ∙ append_assoc (kept_below f a) (kept_below (λ (i : ℕ). f (a + i)) n) (f (a + n))
+
+pub kept_like : (f g : ℕ → List (List ℕ)) (n : ℕ) → ((i : ℕ) → f i ≡ g i) → kept_below f n ≡ kept_below g n
+kept_like f g zero same = refl
+kept_like f g (suc n) same = ap (λ (ts : List (List ℕ)). ts ++ f n) (kept_like f g n same) ∙ ap (λ (t : List (List ℕ)). kept_below g n ++ t) (same n)
+
+-- ---- lists from a place on
+
+-- so many that are not taken
+pub lists_nothing : (decls : List Decl) (taken : List Bool) (lists : List (List ℕ)) (from n : ℕ) → AreEmptyElse (λ (p : ℕ). 255 - p) taken lists → from + n ≤ 255
+    → ((k : ℕ) → k < n → slice_index_or taken (from + k) false ≡ false) → lists_from decls lists from n ≡ nothings n
+lists_nothing decls taken lists from n empty within free =
+    kept_nothing (λ (i : ℕ). list_text decls 255 lists (from + i)) n
+    (λ i low. let here : 255 - (255 - (from + i)) ≡ from + i = omega (arith, low, within) in
+    ap (λ (xs : List ℕ). fact_text decls (on_list (255 - (from + i)) xs))
+    (empty (255 - (from + i)) (omega (arith, low, within)) (omega arith) (ap (λ (k : ℕ). slice_index_or taken k false) here ∙ free i low)))
+
+-- those behind some
+pub lists_behind : (decls : List Decl) (lists : List (List ℕ)) (from a n : ℕ) → lists_from decls lists from (a + n) ≡ lists_from decls lists from a ++ lists_from decls lists (from + a) n
+lists_behind decls lists from a n =
+    kept_sum (λ (i : ℕ). list_text decls 255 lists (from + i) ∷ []) a n (a + n) refl
+    ∙ ap (λ (ts : List (List ℕ)). lists_from decls lists from a ++ ts)
+    (kept_like (λ (i : ℕ). list_text decls 255 lists (from + (a + i)) ∷ []) (λ (i : ℕ). list_text decls 255 lists (from + a + i) ∷ []) n
+    (λ i. let here : from + (a + i) ≡ from + a + i = omega arith in ap (λ (k : ℕ). list_text decls 255 lists k ∷ []) here))

@@ -66,6 +66,14 @@ module _ {P : Type 0} (m : Machine P) (t : ℕ) where
   dead_nothing row dead other = λ decls.
       ap (fact_text decls) (told_living row other ∙ ap (told_of row t) (living_not (thread_at m t) dead)) ∙ none_told row decls
 
+  -- whether it lives or not
+  pub bare_anyway : (row : ThreadRow) → IsBare row (thread_at m t) → TellsNothing (thread_fact_of row m t)
+  bare_anyway row bare = by_life (is_live (thread_at m t).status) refl
+    where
+      by_life : (b : Bool) → is_live (thread_at m t).status ≡ b → TellsNothing (thread_fact_of row m t)
+      by_life true live = bare_nothing row live bare
+      by_life false dead = dead_nothing row dead bare.other
+
 module _ {P : Type 0} (th : Thread P) where
   pub bare_frames : inner_bodies th.frames ≡ [] → IsBare thread.Frames th
   bare_frames e = record { other = refl; nothing = λ t decls. ap (λ (bodies : List BodyOf). fact_text decls (inner_frames t bodies)) e }

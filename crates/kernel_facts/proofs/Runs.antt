@@ -79,7 +79,7 @@ known_one a b went seen = record { went = λ decls h one. on_one one a b ([] ∷
 -- ---- a quiet block
 
 -- so many empty texts were told
-run_on : (one : Next) (n : ℕ) (d e : Desk) → ((i : ℕ) → i < n → slice_index_or d.told.texts (d.at + i) [] ≡ []) → d.at + n ≤ length d.told.texts → d.at + n ≤ length d.subjects.texts
+pub run_on : (one : Next) (n : ℕ) (d e : Desk) → ((i : ℕ) → i < n → slice_index_or d.told.texts (d.at + i) [] ≡ []) → d.at + n ≤ length d.told.texts → d.at + n ≤ length d.subjects.texts
     → e ≡ record d { at = d.at + n } → WentOn one one d e (nothings n)
 run_on one zero d e none told subjects is =
     let here : d.at + 0 ≡ d.at = omega arith in

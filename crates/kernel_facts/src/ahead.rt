@@ -1,5 +1,5 @@
 //! A look goes over facts that tell the same as last at once, as soon as one comes that does not.
-ghost use Rattle.std.specs.Prelude.{◌≡◌, ◌<◌, ◌+◌, true};
+ghost use Rattle.std.specs.Prelude.{◌≡◌, ◌≤◌, ◌<◌, ◌+◌, true};
 ghost use Rattle.kernel_facts.specs.Ahead.{IsRun};
 
 use crate::desk::Desk;
@@ -36,5 +36,20 @@ impl Run {
         ensures { self.new ≡ record self.old { same = self.old.same + 1 } }
     {
         self.same += 1;
+    }
+    /// How many facts behind it have a place.
+    pub(crate) fn left(&self) -> usize
+        requires { self.now.same ≤ self.now.places }
+        ensures { self.now.same + result ≡ self.now.places }
+    {
+        self.places - self.same
+    }
+
+    /// With so many facts behind it.
+    pub(crate) fn skip(&mut self, count: usize)
+        requires { self.old.same + count ≤ self.old.places }
+        ensures { self.new ≡ record self.old { same = self.old.same + count } }
+    {
+        self.same += count;
     }
 }

@@ -53,17 +53,26 @@ impl Desk {
         self.seen.calm(start / 16);
     }
 
-    // The look goes over 16 facts that tell nothing.
-    fn go_over_block(&mut self)
+    // The look goes over 16 facts that tell nothing, where something may have been told.
+    #[inline(never)]
+    fn go_over_noisy_block(&mut self)
+        ensures { WentKnown self.old self.new (nothings 16) }
+    {
+        let start = self.at;
+        self.go_over_each(16);
+        self.note_quiet(start);
+    }
+
+    /// The look goes over 16 facts that tell nothing.
+    #[inline(always)]
+    pub(crate) fn go_over_block(&mut self)
         ensures { WentKnown self.old self.new (nothings 16) }
     {
         if self.is_at_quiet_block() {
             self.at += 16;
             return;
         }
-        let start = self.at;
-        self.go_over_each(16);
-        self.note_quiet(start);
+        self.go_over_noisy_block();
     }
 
     // The same, so many times.

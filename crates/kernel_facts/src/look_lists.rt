@@ -1,5 +1,5 @@
 //! A look at the lists of runnable threads.
-ghost use Rattle.std.specs.Prelude.{ℕ, ◌≡◌, ◌≤◌, ◌<◌, ◌+◌, ◌-◌, ◌/◌, ◌%◌, ◌∷◌, [], false, true};
+ghost use Rattle.std.specs.Prelude.{ℕ, ◌≡◌, ◌≤◌, ◌<◌, ◌+◌, ◌-◌, ◌/◌, ◌%◌, ◌∷◌, [], false, slice_index_or, true};
 ghost use Rattle.rules_lists.specs.Lists.{list_of};
 ghost use Rattle.rules_facts.specs.Fact.{on_list};
 ghost use Rattle.kernel_facts.specs.Ahead.{IsRun, IsToldAhead, past};
@@ -21,11 +21,11 @@ use parts_texts::NextText;
 use words_numbers::Prio;
 use words_script::Decl;
 
-// On which lists a thread stands, that of the greatest priority first, and in which blocks of 16 of them.
+// On which lists a thread stands, that of the greatest priority first, and in which groups of 16 of them.
 #[derive(Clone, Copy)]
 struct Taken {
     lists: [bool; 256],
-    blocks: [bool; 16],
+    groups: [bool; 16],
 }
 
 // Whether the list of a priority is what was seen last of the fact behind the run, or empty as it was.
@@ -86,7 +86,71 @@ fn look_at_list(
     *run = Run::begin(desk);
 }
 
+// How many lists from a place on, of so many, are empty as they were. Theirs are the facts behind the run.
+fn empty_ahead(taken: &Taken, from: u8, most: u8, run: &Run, desk: &Desk) -> u8
+    requires within { from + most ≤ 255 }
+    requires run { IsRun run.now desk.now }
+    ensures few { result ≤ most }
+    ensures places { run.now.same + result ≤ run.now.places }
+    ensures free { (k : ℕ) → k < result → slice_index_or taken.now.lists (from + k) false ≡ false }
+    ensures empty { (k : ℕ) → k < result → slice_index_or desk.now.told.texts (desk.now.at + (run.now.same + k)) [] ≡ [] }
+{
+    let most = run.left().min(usize::from(most)) as u8;
+    for k in 0..most {
+        if taken.lists[usize::from(from + k)] {
+            return k;
+        }
+        if !desk.is_empty_ahead(run.same + usize::from(k)) {
+            return k;
+        }
+    }
+    most
+}
+
+// Goes over lists from a place on that are empty as they were, and looks at the one behind them. It answers how many these are, of so
+// many.
+fn look_at_next_lists(
+    parts: &Parts,
+    decls: &[Decl],
+    from: u8,
+    most: u8,
+    taken: &Taken,
+    run: &mut Run,
+    next: &mut NextText,
+    desk: &mut Desk,
+) -> u8
+    requires some { 0 < most }
+    requires within { from + most ≤ 255 }
+    requires taken { AreEmptyElse (λ (p : ℕ). 255 - p) taken.now.lists parts.now.machine.lists }
+    requires run { IsRun run.old desk.old }
+    requires memory { IsMemoryOf decls.now desk.old.told.texts desk.old.seen }
+    ensures some { 0 < result }
+    ensures few { result ≤ most }
+    ensures run { IsRun run.new desk.new }
+    ensures kept { WentOn next.old next.new (past run.old desk.old) (past run.new desk.new) (lists_from decls.now parts.now.machine.lists from result) }
+    ensures memory { IsMemoryOf decls.now desk.new.told.texts desk.new.seen }
+{
+    let empty = empty_ahead(taken, from, most, run, desk);
+    run.skip(usize::from(empty));
+    if empty == most {
+        return most;
+    }
+    let place = from + empty;
+    let is_taken = taken.lists[usize::from(place)];
+    look_at_list(
+        parts,
+        decls,
+        prio_of(255 - place),
+        is_taken,
+        run,
+        next,
+        desk,
+    );
+    empty + 1
+}
+
 // Looks at so many lists behind some that were looked at, that of the greatest priority first.
+#[inline(never)]
 fn look_at_each_list(
     parts: &Parts,
     decls: &[Decl],
@@ -103,18 +167,11 @@ fn look_at_each_list(
     ensures memory { IsMemoryOf decls.now desk.new.told.texts desk.new.seen }
 {
     let mut run = Run::begin(desk);
-    for below in 0..count {
+    let mut below = 0;
+    while below < count {
         let place = from + below;
-        let is_taken = taken.lists[usize::from(place)];
-        look_at_list(
-            parts,
-            decls,
-            prio_of(255 - place),
-            is_taken,
-            &mut run,
-            next,
-            desk,
-        );
+        let left = count - below;
+        below += look_at_next_lists(parts, decls, place, left, taken, &mut run, next, desk);
     }
     desk.go_on(run.same);
 }
@@ -131,47 +188,45 @@ fn place_of(p: Prio) -> usize
 // On which lists a thread stands.
 fn taken_lists(parts: &Parts) -> Taken
     ensures lists { AreEmptyElse (λ (p : ℕ). 255 - p) result.lists parts.now.machine.lists }
-    ensures blocks { AreEmptyElse (λ (p : ℕ). (255 - p) / 16) result.blocks parts.now.machine.lists }
+    ensures blocks { AreEmptyElse (λ (p : ℕ). (255 - p) / 16) result.groups parts.now.machine.lists }
 {
     let _head = parts.head();
-    let mut on_list = [false; 256];
-    let mut in_block = [false; 16];
+    let mut taken = Taken {
+        lists: [false; 256],
+        groups: [false; 16],
+    };
     for number in 0..parts.count() {
         if let Some(p) = parts.stands_at(parts.tid(number)) {
             let place = place_of(p);
-            on_list[place] = true;
-            in_block[place / 16] = true;
+            taken.lists[place] = true;
+            taken.groups[place / 16] = true;
         }
     }
-    Taken {
-        lists: on_list,
-        blocks: in_block,
-    }
+    taken
 }
 
-// The same as to look at each; where no thread stands on any of them, none is looked at by itself.
-fn look_at_some_lists(
+// Looks at the block of 16 lists from a place on; where no thread stands on any of them, none is looked at by itself.
+fn look_at_block(
     parts: &Parts,
     decls: &[Decl],
     from: u8,
-    count: u8,
     taken: &Taken,
     next: &mut NextText,
     desk: &mut Desk,
 )
-    requires within { from + count ≤ 255 }
-    requires block { from % 16 + count ≤ 16 }
+    requires within { from + 16 ≤ 255 }
+    requires block { from % 16 ≡ 0 }
     requires lists { AreEmptyElse (λ (p : ℕ). 255 - p) taken.now.lists parts.now.machine.lists }
-    requires blocks { AreEmptyElse (λ (p : ℕ). (255 - p) / 16) taken.now.blocks parts.now.machine.lists }
+    requires blocks { AreEmptyElse (λ (p : ℕ). (255 - p) / 16) taken.now.groups parts.now.machine.lists }
     requires memory { IsMemoryOf decls.now desk.old.told.texts desk.old.seen }
-    ensures kept { WentOn next.old next.new desk.old desk.new (lists_from decls.now parts.now.machine.lists from count) }
+    ensures kept { WentOn next.old next.new desk.old desk.new (lists_from decls.now parts.now.machine.lists from 16) }
     ensures memory { IsMemoryOf decls.now desk.new.told.texts desk.new.seen }
 {
-    if !taken.blocks[usize::from(from / 16)] {
-        desk.go_over_nothings(usize::from(count));
+    if !taken.groups[usize::from(from / 16)] {
+        desk.go_over_block();
         return;
     }
-    look_at_each_list(parts, decls, from, count, taken, next, desk);
+    look_at_each_list(parts, decls, from, 16, taken, next, desk);
 }
 
 /// Looks at the lists, that of the greatest priority first.
@@ -182,7 +237,7 @@ pub(crate) fn look_at_lists(parts: &Parts, decls: &[Decl], next: &mut NextText, 
 {
     let taken = taken_lists(parts);
     for block in 0..15u8 {
-        look_at_some_lists(parts, decls, 16 * block, 16, &taken, next, desk);
+        look_at_block(parts, decls, 16 * block, &taken, next, desk);
     }
-    look_at_some_lists(parts, decls, 240, 15, &taken, next, desk);
+    look_at_each_list(parts, decls, 240, 15, &taken, next, desk);
 }

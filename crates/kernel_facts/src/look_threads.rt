@@ -14,7 +14,7 @@ ghost use Rattle.kernel_facts.specs.declared.rows.ThreadRow.{ThreadRow};
 use crate::ahead::Run;
 use crate::desk::Desk;
 use crate::fact_seen::{is_pending, is_status, see_thread};
-use crate::nothing::{are_bare_inside, thread_tells_nothing};
+use crate::nothing::{are_bare_inside, plans_nothing, thread_tells_nothing};
 use crate::printed::print_thread_fact;
 use crate::rows::ThreadRow;
 use kernel_state::Parts;
@@ -114,7 +114,7 @@ fn is_pending_ahead(parts: &Parts, t: Tid, run: &Run, desk: &Desk) -> bool
     if !run.has_next() {
         return false;
     }
-    if thread_tells_nothing(parts, ThreadRow::Pending, t) {
+    if plans_nothing(parts, t) {
         return desk.is_empty_ahead(run.same);
     }
     is_pending(parts, t, desk.seen_ahead(run.same))

@@ -5,7 +5,7 @@ ghost use Rattle.rules_facts.specs.Fact.{on_list};
 ghost use Rattle.rules_facts.specs.Objects.{in_service_order, owner_fact, timer_fact};
 ghost use Rattle.rules_facts.specs.Queues.{registration_fact};
 ghost use Rattle.rules_facts.specs.Signals.{signal_fact};
-ghost use Rattle.rules_facts.specs.Threads.{inner_bodies, planned};
+ghost use Rattle.rules_facts.specs.Threads.{inner_bodies, pending_fact, planned};
 ghost use Rattle.kernel_facts.specs.Blocks.{is_inner};
 ghost use Rattle.kernel_facts.specs.InLine.{stands_in};
 ghost use Rattle.kernel_facts.specs.Kept.{waiters_text};
@@ -111,6 +111,14 @@ pub(crate) fn thread_tells_nothing(parts: &Parts, row: ThreadRow, t: Tid) -> boo
     !is_status(row)
 }
 
+/// Whether the server of a thread has nothing planned, or it has none.
+pub(crate) fn plans_nothing(parts: &Parts, t: Tid) -> bool
+    requires { t < length parts.now.names }
+    ensures { result ≡ true → TellsNothing (pending_fact parts.now.machine t) }
+{
+    is_unplanned(parts.thread(t).server())
+}
+
 // Whether a thread that lives has nothing that an inner row tells.
 fn is_bare_in_each(thread: &Thread) -> bool
     ensures { result ≡ true → (row : ThreadRow) → is_inner row ≡ true → IsBare row thread.now }
@@ -133,10 +141,10 @@ fn is_bare_inside(parts: &Parts, t: Tid) -> bool
     ensures { result ≡ true → (row : ThreadRow) → is_inner row ≡ true → TellsNothing (thread_fact_of row parts.now.machine t) }
 {
     let thread = parts.thread(t);
-    if !thread.is_live() {
+    if is_bare_in_each(thread) {
         return true;
     }
-    is_bare_in_each(thread)
+    !thread.is_live()
 }
 
 /// Whether nothing is told of any thread but its status and what its server has planned.

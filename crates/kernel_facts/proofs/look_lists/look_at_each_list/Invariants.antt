@@ -1,11 +1,17 @@
+use Rattle.std.proofs.Common.{◌≤◌}
+use Rattle.std.specs.Prelude.{◌-◌}
 use Rattle.kernel_facts.specs.Ahead.{IsRun, past}
 use Rattle.kernel_facts.specs.Blocks.{lists_from}
 use Rattle.kernel_facts.specs.Desk.{WentOn}
 use Rattle.kernel_facts.specs.FactSeen.{IsMemoryOf}
 use Rattle.kernel_facts.proofs.look_lists.look_at_each_list.Given as goal
 
+abbrev pub decreases-loop-below : goal.decreases-loop-below
+decreases-loop-below l = l.count - l.below
+
 abbrev pub invariant-loop-below : goal.invariant-loop-below
 invariant-loop-below l = record {
+  few : l.below ≤ l.count;
   run : IsRun l.run l.desk;
   kept : WentOn l.initial.next l.next l.initial.desk (past l.run l.desk) (lists_from l.decls l.parts.machine.lists l.from l.below);
   memory : IsMemoryOf l.decls l.desk.told.texts l.desk.seen;

@@ -12,7 +12,7 @@ returns-clause-lists c p low high free =
     let count = length c.args.parts.now.machine.threads in
     let all : c.loop-number.number ≡ count = omega (arith, c.count-number-end.ensures.threads) in
     let place = λ (p : ℕ). 255 - p in
-    free_place place c.loop-number.on_list lists count (subst (AreTaken place c.loop-number.on_list lists) all c.loop-number.invariant.each) c.head-head.ensures.lists p low high free
+    free_place place c.loop-number.taken.lists lists count (subst (AreTaken place c.loop-number.taken.lists lists) all c.loop-number.invariant.each) c.head-head.ensures.lists p low high free
 
 pub returns-clause-blocks : goal.returns-clause-blocks
 returns-clause-blocks c p low high free =
@@ -20,4 +20,4 @@ returns-clause-blocks c p low high free =
     let count = length c.args.parts.now.machine.threads in
     let all : c.loop-number.number ≡ count = omega (arith, c.count-number-end.ensures.threads) in
     let place = λ (p : ℕ). (255 - p) / 16 in
-    free_place place c.loop-number.in_block lists count (subst (AreTaken place c.loop-number.in_block lists) all c.loop-number.invariant.all) c.head-head.ensures.lists p low high free
+    free_place place c.loop-number.taken.groups lists count (subst (AreTaken place c.loop-number.taken.groups lists) all c.loop-number.invariant.all) c.head-head.ensures.lists p low high free

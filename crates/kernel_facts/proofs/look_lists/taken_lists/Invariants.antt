@@ -5,8 +5,8 @@ use Rattle.kernel_facts.proofs.look_lists.taken_lists.Given as goal
 
 abbrev pub invariant-loop-number : goal.invariant-loop-number
 invariant-loop-number l = record {
-  each : AreTaken (λ (p : ℕ). 255 - p) l.on_list l.parts.machine.lists l.number;
-  all : AreTaken (λ (p : ℕ). (255 - p) / 16) l.in_block l.parts.machine.lists l.number;
-  long : length l.on_list ≡ 256;
-  many : length l.in_block ≡ 16;
+  each : AreTaken (λ (p : ℕ). 255 - p) l.taken.lists l.parts.machine.lists l.number;
+  all : AreTaken (λ (p : ℕ). (255 - p) / 16) l.taken.groups l.parts.machine.lists l.number;
+  long : length l.taken.lists ≡ 256;
+  many : length l.taken.groups ≡ 16;
 }

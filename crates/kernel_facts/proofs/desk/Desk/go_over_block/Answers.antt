@@ -1,11 +1,8 @@
 use Rattle.std.proofs.Common.{refl}
-use Rattle.kernel_facts.proofs.Runs.{known_noted, known_quiet}
+use Rattle.kernel_facts.proofs.Runs.{known_quiet}
 use Rattle.kernel_facts.proofs.desk.Desk.go_over_block.Goals as goal
 
 pub returns-then-is_at_quiet_block : goal.returns-then-is_at_quiet_block
 returns-then-is_at_quiet_block c =
     let e = c.if-is_at_quiet_block.true in
     known_quiet c.args.self.now _ (c.is_at_quiet_block.ensures.quiet e) (c.is_at_quiet_block.ensures.told e) (c.is_at_quiet_block.ensures.subjects e) refl
-
-pub returns : goal.returns
-returns c = known_noted c.args.self.now c.go_over_each.new.self _ c.go_over_each.ensures c.note_quiet.ensures.seen c.note_quiet.ensures.facts c.note_quiet.ensures.quiet
