@@ -9,6 +9,7 @@ ghost use Rattle.kernel_facts.specs.FactSeen.{IsOf, IsOnlyOf, fact_seen, no_memo
 ghost use Rattle.kernel_facts.specs.Rows.{object_count, object_facts, thread_fact_of};
 ghost use Rattle.kernel_facts.specs.declared.fact_seen.FactSeen.TheVariants as variant;
 
+use crate::declared::Declared;
 use crate::few::{FewMessages, FewThreads, are_held, see_messages, stand_on_list};
 use crate::kept_line::{FewWaiters, is_line, see_line};
 use crate::rows::{ObjectRow, ThreadRow};
@@ -19,7 +20,6 @@ use parts_server::Replenish;
 use std::alloc::{AllocError, Global};
 use std::marker::Model;
 use words_numbers::{ObjId, Prio, Tid};
-use words_script::Decl;
 
 /// What is seen of one fact.
 #[derive(Clone, Copy)]
@@ -155,7 +155,7 @@ fn see_owner(parts: &Parts, k: ObjId) -> FactSeen
 }
 
 /// What is seen of an object in a row.
-pub(crate) fn see_object(parts: &Parts, decls: &[Decl], row: ObjectRow, k: ObjId) -> FactSeen
+pub(crate) fn see_object(parts: &Parts, decls: &Declared<'_>, row: ObjectRow, k: ObjId) -> FactSeen
     requires { k < object_count row decls.now parts.now.machine }
     ensures { IsOnlyOf (object_facts row parts.now.machine k) (fact_seen result) }
 {
@@ -241,7 +241,7 @@ fn is_owned(parts: &Parts, k: ObjId, last: &FactSeen) -> bool
 /// Whether that is all that a row tells of an object.
 pub(crate) fn is_of_object(
     parts: &Parts,
-    decls: &[Decl],
+    decls: &Declared<'_>,
     row: ObjectRow,
     k: ObjId,
     last: &FactSeen,

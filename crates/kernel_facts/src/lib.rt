@@ -15,6 +15,7 @@
 mod ahead;
 mod blocks;
 mod changes;
+mod declared;
 mod desk;
 mod fact_seen;
 mod few;

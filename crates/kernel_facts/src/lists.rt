@@ -5,6 +5,7 @@ ghost use Rattle.rules_facts.specs.Fact.{on_list};
 ghost use Rattle.script_printer.specs.Puts.{Puts};
 ghost use Rattle.kernel_facts.specs.Lines.{fact_text};
 
+use crate::declared::Declared;
 use crate::line::{put_end, put_more};
 use crate::names::thread_name;
 use kernel_state::Parts;
@@ -12,10 +13,14 @@ use parts_io::Sink;
 use script_printer::Printer;
 use script_writer::Word::{Keyword, Name, Number};
 use words_numbers::Prio;
-use words_script::Decl;
 
 /// Prints the threads on the list of this priority, the head first.
-pub(crate) fn put_list<K: Sink>(out: &mut Printer<'_, K>, parts: &Parts, decls: &[Decl], p: Prio)
+pub(crate) fn put_list<K: Sink>(
+    out: &mut Printer<'_, K>,
+    parts: &Parts,
+    decls: &Declared<'_>,
+    p: Prio,
+)
     ensures { Puts K.text K.faults out.old out.new (fact_text decls.now (on_list p (list_of p parts.now.machine.lists))) }
 {
     let subject = [Keyword(b"list"), Number(u64::from(p.get()))];

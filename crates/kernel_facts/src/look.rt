@@ -1,4 +1,6 @@
 //! A look at the facts of a state.
+ghost use Rattle.words_script.specs.declared.name_kind.NameKind.TheVariants as kind;
+ghost use Rattle.script_writer.specs.Names.{names_of};
 ghost use Rattle.std.specs.Prelude.{ℕ, ◌≡◌, ◌∷◌, ◌<◌, ◌≤◌, [], is_some, length, true};
 ghost use Rattle.rules_facts.specs.Facts.{facts};
 ghost use Rattle.rules_facts.specs.Objects.{in_service_order};
@@ -20,6 +22,7 @@ ghost use Rattle.kernel_facts.specs.declared.rows.ThreadRow.{ThreadRow};
 ghost use Rattle.kernel_facts.specs.declared.rows.ObjectRow.{ObjectRow};
 ghost use Rattle.kernel_facts.specs.Rows.{left_out, object_count, object_facts, thread_fact_of};
 
+use crate::declared::Declared;
 use crate::desk::Desk;
 use crate::fact_seen::{FactSeen, is_of_object, see_object};
 use crate::kept_line::{is_line, see_line};
@@ -37,10 +40,16 @@ use crate::waiters::Line;
 use kernel_state::Parts;
 use parts_texts::NextText;
 use words_numbers::{ObjId, Tid};
-use words_script::{Decl, Script};
+use words_script::Script;
 
 // Whether a row tells of an object what was seen last of the fact that comes, and nothing else.
-fn is_object_as_seen(parts: &Parts, decls: &[Decl], row: ObjectRow, k: ObjId, desk: &Desk) -> bool
+fn is_object_as_seen(
+    parts: &Parts,
+    decls: &Declared<'_>,
+    row: ObjectRow,
+    k: ObjId,
+    desk: &Desk,
+) -> bool
     requires { k < object_count row decls.now parts.now.machine }
     ensures same { result ≡ true → IsOnlyOf (object_facts row parts.now.machine k) (fact_seen (last_seen desk.now)) }
     ensures some { result ≡ true → is_some (fact_seen (last_seen desk.now)) ≡ true }
@@ -55,7 +64,7 @@ fn is_object_as_seen(parts: &Parts, decls: &[Decl], row: ObjectRow, k: ObjId, de
 #[inline(never)]
 fn tell_object_facts(
     parts: &Parts,
-    decls: &[Decl],
+    decls: &Declared<'_>,
     row: ObjectRow,
     k: ObjId,
     next: &mut NextText,
@@ -74,7 +83,7 @@ fn tell_object_facts(
 
 fn look_at_object_fact(
     parts: &Parts,
-    decls: &[Decl],
+    decls: &Declared<'_>,
     row: ObjectRow,
     k: ObjId,
     next: &mut NextText,
@@ -100,7 +109,7 @@ fn look_at_object_fact(
 // Looks at a row of objects that has one fact for each, by number.
 fn look_at_object_row(
     parts: &Parts,
-    decls: &[Decl],
+    decls: &Declared<'_>,
     row: ObjectRow,
     next: &mut NextText,
     desk: &mut Desk,
@@ -142,7 +151,7 @@ fn is_line_as_seen(parts: &Parts, line: &Line, desk: &Desk) -> bool
 #[inline(never)]
 fn tell_waiters(
     parts: &Parts,
-    decls: &[Decl],
+    decls: &Declared<'_>,
     q: ObjId,
     to_send: bool,
     next: &mut NextText,
@@ -160,7 +169,7 @@ fn tell_waiters(
 
 fn look_at_waiters(
     parts: &Parts,
-    decls: &[Decl],
+    decls: &Declared<'_>,
     q: ObjId,
     to_send: bool,
     next: &mut NextText,
@@ -183,7 +192,7 @@ fn look_at_waiters(
 }
 
 // Looks at who waits to send to each queue, and then who waits for a message of it.
-fn look_at_queue_waiters(parts: &Parts, decls: &[Decl], next: &mut NextText, desk: &mut Desk)
+fn look_at_queue_waiters(parts: &Parts, decls: &Declared<'_>, next: &mut NextText, desk: &mut Desk)
     requires few { length parts.now.machine.queues ≤ 256 }
     requires memory { IsMemoryOf decls.now desk.old.told.texts desk.old.seen }
     ensures kept { WentOn next.old next.new desk.old desk.new (queue_waiters_kept decls.now parts.now.machine) }
@@ -198,12 +207,13 @@ fn look_at_queue_waiters(parts: &Parts, decls: &[Decl], next: &mut NextText, des
 // Looks at all rows of objects but that of signals.
 fn look_at_objects(parts: &Parts, script: &Script, next: &mut NextText, desk: &mut Desk)
     requires numbered { AreNumbered script.now parts.now.machine }
+    requires named { parts.now.names ≡ names_of kind.Thread script.now.decls }
     requires memory { IsMemoryOf script.now.decls desk.old.told.texts desk.old.seen }
     ensures kept { WentOn next.old next.new desk.old desk.new (objects_kept script.now.decls parts.now.machine) }
     ensures short { (row : ObjectRow) → (k : ℕ) → k < object_count row script.now.decls parts.now.machine → HaveShortTexts script.now.decls (object_facts row parts.now.machine k) }
     ensures memory { IsMemoryOf script.now.decls desk.new.told.texts desk.new.seen }
 {
-    let decls = script.decls.items();
+    let decls = &Declared::of(script.decls.items(), parts);
     look_at_object_row(parts, decls, ObjectRow::Owner, next, desk);
     look_at_object_row(parts, decls, ObjectRow::MutexWaiters, next, desk);
     look_at_object_row(parts, decls, ObjectRow::ConditionWaiters, next, desk);
@@ -218,7 +228,7 @@ fn look_at_objects(parts: &Parts, script: &Script, next: &mut NextText, desk: &m
 
 fn look_at_signal(
     parts: &Parts,
-    decls: &[Decl],
+    decls: &Declared<'_>,
     signal: u8,
     left_out: Option<u64>,
     next: &mut NextText,
@@ -239,7 +249,12 @@ fn look_at_signal(
 }
 
 // Looks at the pending signals, by number.
-fn look_at_signals_in_full(parts: &Parts, decls: &[Decl], next: &mut NextText, desk: &mut Desk)
+fn look_at_signals_in_full(
+    parts: &Parts,
+    decls: &Declared<'_>,
+    next: &mut NextText,
+    desk: &mut Desk,
+)
     requires memory { IsMemoryOf decls.now desk.old.told.texts desk.old.seen }
     ensures kept { WentOn next.old next.new desk.old desk.new (signals_kept decls.now (left_in (left_out parts.now.machine) parts.now.machine) 32) }
     ensures short { (signal : ℕ) → signal < 32 → HasShortText decls.now (signal_fact (left_in (left_out parts.now.machine) parts.now.machine) signal) }
@@ -252,7 +267,7 @@ fn look_at_signals_in_full(parts: &Parts, decls: &[Decl], next: &mut NextText, d
 }
 
 // The same; where no record is pending, no signal is looked at by itself.
-fn look_at_signals(parts: &Parts, decls: &[Decl], next: &mut NextText, desk: &mut Desk)
+fn look_at_signals(parts: &Parts, decls: &Declared<'_>, next: &mut NextText, desk: &mut Desk)
     requires memory { IsMemoryOf decls.now desk.old.told.texts desk.old.seen }
     ensures kept { WentOn next.old next.new desk.old desk.new (signals_kept decls.now (left_in (left_out parts.now.machine) parts.now.machine) 32) }
     ensures short { (signal : ℕ) → signal < 32 → HasShortText decls.now (signal_fact (left_in (left_out parts.now.machine) parts.now.machine) signal) }
@@ -270,6 +285,7 @@ fn look_at_signals(parts: &Parts, decls: &[Decl], next: &mut NextText, desk: &mu
 /// It takes no memory.
 pub fn look_at_facts(parts: &Parts, script: &Script, next: &mut NextText, desk: &mut Desk)
     requires numbered { AreNumbered script.now parts.now.machine }
+    requires named { parts.now.names ≡ names_of kind.Thread script.now.decls }
     requires objects { HasObjectsOf script.now parts.now.machine }
     requires ready { IsReady script.now next.old.room desk.old }
     ensures told { desk.new.told.texts ≡ texts_of script.now.decls (facts script.now (once_ended parts.now.machine.killed parts.now.machine)) }
@@ -278,8 +294,9 @@ pub fn look_at_facts(parts: &Parts, script: &Script, next: &mut NextText, desk: 
     ensures ready { IsReady script.now next.new.room desk.new }
 {
     desk.begin(parts.instant().get());
-    let decls = script.decls.items();
-    know_names(decls);
+    let items = script.decls.items();
+    know_names(items);
+    let decls = &Declared::of(items, parts);
     know_rows(parts);
     know_few(parts);
     look_at_lists(parts, decls, next, desk);

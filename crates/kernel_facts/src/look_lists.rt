@@ -10,6 +10,7 @@ ghost use Rattle.kernel_facts.specs.Lines.{fact_text};
 ghost use Rattle.kernel_facts.specs.Blocks.{AreEmptyElse, lists_from};
 
 use crate::ahead::Run;
+use crate::declared::Declared;
 use crate::desk::Desk;
 use crate::fact_seen::is_list;
 use crate::few::see_list;
@@ -19,7 +20,6 @@ use crate::state::prio_of;
 use kernel_state::Parts;
 use parts_texts::NextText;
 use words_numbers::Prio;
-use words_script::Decl;
 
 // On which lists a thread stands, that of the greatest priority first, and in which groups of 16 of them.
 #[derive(Clone, Copy)]
@@ -46,7 +46,7 @@ fn is_list_ahead(parts: &Parts, p: Prio, is_taken: bool, run: &Run, desk: &Desk)
 
 // The text of the list of a priority comes, where a thread stands on it.
 #[inline(never)]
-fn tell_list(parts: &Parts, decls: &[Decl], p: Prio, next: &mut NextText, desk: &mut Desk)
+fn tell_list(parts: &Parts, decls: &Declared<'_>, p: Prio, next: &mut NextText, desk: &mut Desk)
     requires memory { IsMemoryOf decls.now desk.old.told.texts desk.old.seen }
     ensures kept { WentOn next.old next.new desk.old desk.new (fact_text decls.now (on_list p (list_of p parts.now.machine.lists)) ∷ []) }
     ensures memory { IsMemoryOf decls.now desk.new.told.texts desk.new.seen }
@@ -63,7 +63,7 @@ fn tell_list(parts: &Parts, decls: &[Decl], p: Prio, next: &mut NextText, desk: 
 // A look at the fact behind the run, which is the list of a priority.
 fn look_at_list(
     parts: &Parts,
-    decls: &[Decl],
+    decls: &Declared<'_>,
     p: Prio,
     is_taken: bool,
     run: &mut Run,
@@ -111,7 +111,7 @@ fn empty_ahead(taken: &Taken, from: u8, most: u8, run: &Run, desk: &Desk) -> u8
 // many.
 fn look_at_next_lists(
     parts: &Parts,
-    decls: &[Decl],
+    decls: &Declared<'_>,
     from: u8,
     most: u8,
     taken: &Taken,
@@ -153,7 +153,7 @@ fn look_at_next_lists(
 #[inline(never)]
 fn look_at_each_list(
     parts: &Parts,
-    decls: &[Decl],
+    decls: &Declared<'_>,
     from: u8,
     count: u8,
     taken: &Taken,
@@ -208,7 +208,7 @@ fn taken_lists(parts: &Parts) -> Taken
 // Looks at the block of 16 lists from a place on; where no thread stands on any of them, none is looked at by itself.
 fn look_at_block(
     parts: &Parts,
-    decls: &[Decl],
+    decls: &Declared<'_>,
     from: u8,
     taken: &Taken,
     next: &mut NextText,
@@ -230,7 +230,12 @@ fn look_at_block(
 }
 
 /// Looks at the lists, that of the greatest priority first.
-pub(crate) fn look_at_lists(parts: &Parts, decls: &[Decl], next: &mut NextText, desk: &mut Desk)
+pub(crate) fn look_at_lists(
+    parts: &Parts,
+    decls: &Declared<'_>,
+    next: &mut NextText,
+    desk: &mut Desk,
+)
     requires memory { IsMemoryOf decls.now desk.old.told.texts desk.old.seen }
     ensures kept { WentOn next.old next.new desk.old desk.new (lists_kept decls.now parts.now.machine.lists) }
     ensures memory { IsMemoryOf decls.now desk.new.told.texts desk.new.seen }

@@ -12,6 +12,7 @@ ghost use Rattle.kernel_facts.specs.Short.{HasShortText};
 ghost use Rattle.kernel_facts.specs.declared.rows.ThreadRow.{ThreadRow};
 
 use crate::ahead::Run;
+use crate::declared::Declared;
 use crate::desk::Desk;
 use crate::fact_seen::{is_pending, is_status, see_thread};
 use crate::nothing::{are_bare_inside, plans_nothing, thread_tells_nothing};
@@ -20,13 +21,12 @@ use crate::rows::ThreadRow;
 use kernel_state::Parts;
 use parts_texts::NextText;
 use words_numbers::Tid;
-use words_script::Decl;
 
 // The text of what a row tells of a thread comes, where it tells anything.
 #[inline(never)]
 fn look_at_thread_fact(
     parts: &Parts,
-    decls: &[Decl],
+    decls: &Declared<'_>,
     row: ThreadRow,
     t: Tid,
     next: &mut NextText,
@@ -65,7 +65,7 @@ fn is_status_ahead(parts: &Parts, t: Tid, run: &Run, desk: &Desk) -> bool
 // A look at the fact behind the run, which is the status of a thread.
 fn look_at_status(
     parts: &Parts,
-    decls: &[Decl],
+    decls: &Declared<'_>,
     t: Tid,
     run: &mut Run,
     next: &mut NextText,
@@ -89,7 +89,7 @@ fn look_at_status(
 }
 
 // Looks at the statuses of the threads, by number.
-fn look_at_statuses(parts: &Parts, decls: &[Decl], next: &mut NextText, desk: &mut Desk)
+fn look_at_statuses(parts: &Parts, decls: &Declared<'_>, next: &mut NextText, desk: &mut Desk)
     requires memory { IsMemoryOf decls.now desk.old.told.texts desk.old.seen }
     ensures kept { WentOn next.old next.new desk.old desk.new (thread_row_kept decls.now ThreadRow.Status parts.now.machine) }
     ensures memory { IsMemoryOf decls.now desk.new.told.texts desk.new.seen }
@@ -123,7 +123,7 @@ fn is_pending_ahead(parts: &Parts, t: Tid, run: &Run, desk: &Desk) -> bool
 // A look at the fact behind the run, which is what the server of a thread has planned.
 fn look_at_pending(
     parts: &Parts,
-    decls: &[Decl],
+    decls: &Declared<'_>,
     t: Tid,
     run: &mut Run,
     next: &mut NextText,
@@ -147,7 +147,7 @@ fn look_at_pending(
 }
 
 // Looks at what the servers of the threads have planned, by number.
-fn look_at_plans(parts: &Parts, decls: &[Decl], next: &mut NextText, desk: &mut Desk)
+fn look_at_plans(parts: &Parts, decls: &Declared<'_>, next: &mut NextText, desk: &mut Desk)
     requires memory { IsMemoryOf decls.now desk.old.told.texts desk.old.seen }
     ensures kept { WentOn next.old next.new desk.old desk.new (thread_row_kept decls.now ThreadRow.Pending parts.now.machine) }
     ensures memory { IsMemoryOf decls.now desk.new.told.texts desk.new.seen }
@@ -165,7 +165,7 @@ fn look_at_plans(parts: &Parts, decls: &[Decl], next: &mut NextText, desk: &mut 
 // Looks at a row of threads, by number.
 fn look_at_thread_row(
     parts: &Parts,
-    decls: &[Decl],
+    decls: &Declared<'_>,
     row: ThreadRow,
     next: &mut NextText,
     desk: &mut Desk,
@@ -182,7 +182,12 @@ fn look_at_thread_row(
 
 // Looks at what threads have about them but for what their servers have planned.
 #[inline(never)]
-fn look_at_inner_rows_in_full(parts: &Parts, decls: &[Decl], next: &mut NextText, desk: &mut Desk)
+fn look_at_inner_rows_in_full(
+    parts: &Parts,
+    decls: &Declared<'_>,
+    next: &mut NextText,
+    desk: &mut Desk,
+)
     requires memory { IsMemoryOf decls.now desk.old.told.texts desk.old.seen }
     ensures kept { WentOn next.old next.new desk.old desk.new (inner_rows_kept decls.now parts.now.machine) }
     ensures short { (row : ThreadRow) → is_inner row ≡ true → (t : ℕ) → t < length parts.now.machine.threads → HasShortText decls.now (thread_fact_of row parts.now.machine t) }
@@ -195,7 +200,7 @@ fn look_at_inner_rows_in_full(parts: &Parts, decls: &[Decl], next: &mut NextText
 }
 
 // The same; where no thread has anything about it, no row is looked at by itself.
-fn look_at_inner_rows(parts: &Parts, decls: &[Decl], next: &mut NextText, desk: &mut Desk)
+fn look_at_inner_rows(parts: &Parts, decls: &Declared<'_>, next: &mut NextText, desk: &mut Desk)
     requires memory { IsMemoryOf decls.now desk.old.told.texts desk.old.seen }
     ensures kept { WentOn next.old next.new desk.old desk.new (inner_rows_kept decls.now parts.now.machine) }
     ensures short { (row : ThreadRow) → is_inner row ≡ true → (t : ℕ) → t < length parts.now.machine.threads → HasShortText decls.now (thread_fact_of row parts.now.machine t) }
@@ -209,7 +214,12 @@ fn look_at_inner_rows(parts: &Parts, decls: &[Decl], next: &mut NextText, desk: 
 }
 
 /// Looks at all rows of threads.
-pub(crate) fn look_at_threads(parts: &Parts, decls: &[Decl], next: &mut NextText, desk: &mut Desk)
+pub(crate) fn look_at_threads(
+    parts: &Parts,
+    decls: &Declared<'_>,
+    next: &mut NextText,
+    desk: &mut Desk,
+)
     requires memory { IsMemoryOf decls.now desk.old.told.texts desk.old.seen }
     ensures kept { WentOn next.old next.new desk.old desk.new (threads_kept decls.now parts.now.machine) }
     ensures short { (row : ThreadRow) → (t : ℕ) → t < length parts.now.machine.threads → HasShortText decls.now (thread_fact_of row parts.now.machine t) }

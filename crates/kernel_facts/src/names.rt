@@ -4,29 +4,30 @@ ghost use Rattle.words_script.specs.declared.name_kind.NameKind.TheVariants as k
 ghost use Rattle.script_writer.specs.Names.{name_of};
 ghost use Rattle.rules_facts.specs.Spelled.{body_name, thread_name};
 
+use crate::declared::Declared;
 use rules_machine::BodyOf;
 use script_writer::name_of;
 use words_numbers::{ObjId, Tid};
-use words_script::{Decl, NameKind};
+use words_script::NameKind;
 
 /// The name of a thread.
-pub(crate) fn thread_name(decls: &[Decl], t: Tid) -> &[u8]
+pub(crate) fn thread_name<'a>(decls: &'a Declared<'_>, t: Tid) -> &'a [u8]
     ensures name { result.now ≡ thread_name decls.now t }
     ensures short { length result.now ≤ 32 }
 {
-    name_of(decls, NameKind::Thread, t.get())
+    decls.thread(t)
 }
 
 /// The name of an object of this kind.
-pub(crate) fn object_name(decls: &[Decl], of: NameKind, k: ObjId) -> &[u8]
+pub(crate) fn object_name<'a>(decls: &'a Declared<'_>, of: NameKind, k: ObjId) -> &'a [u8]
     ensures name { result.now ≡ name_of decls.now of k }
     ensures short { length result.now ≤ 32 }
 {
-    name_of(decls, of, k.get())
+    name_of(decls.items(), of, k.get())
 }
 
 /// The name of the thread or the handler whose body it is.
-pub(crate) fn body_name(decls: &[Decl], body: BodyOf) -> &[u8]
+pub(crate) fn body_name<'a>(decls: &'a Declared<'_>, body: BodyOf) -> &'a [u8]
     ensures name { result.now ≡ body_name decls.now body }
     ensures short { length result.now ≤ 32 }
 {

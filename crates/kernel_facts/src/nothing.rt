@@ -1,5 +1,6 @@
 //! Whether a fact tells nothing, seen without its text.
 ghost use Rattle.std.specs.Prelude.{ℕ, ◌≡◌, ◌∷◌, ◌<◌, Bool, List, [], None, false, length, option_map, true};
+ghost use Rattle.words_script.specs.declared.decl.Decl.{Decl};
 ghost use Rattle.rules_lists.specs.Lists.{list_of};
 ghost use Rattle.rules_facts.specs.Fact.{on_list};
 ghost use Rattle.rules_facts.specs.Objects.{in_service_order, owner_fact, timer_fact};
@@ -14,6 +15,7 @@ ghost use Rattle.kernel_facts.specs.Picked.{left_in};
 ghost use Rattle.kernel_facts.specs.Rows.{object_count, object_facts, thread_fact_of};
 ghost use Rattle.kernel_facts.specs.declared.rows.ThreadRow.{ThreadRow};
 
+use crate::declared::Declared;
 use crate::rows::{ObjectRow, ThreadRow};
 use crate::threads::is_main;
 use crate::waiters::Line;
@@ -22,7 +24,6 @@ use kernel_threads::{Frame, Thread};
 use parts_server::Server;
 use parts_waiters::WaitObj;
 use words_numbers::{ObjId, Prio, Tid};
-use words_script::Decl;
 
 /// Whether nobody stands on the list of this priority.
 pub(crate) fn list_tells_nothing(parts: &Parts, p: Prio) -> bool
@@ -228,7 +229,12 @@ fn is_disarmed(parts: &Parts, k: ObjId) -> bool
 }
 
 /// Whether a row tells nothing of an object, where that is seen at once.
-pub(crate) fn object_tells_nothing(parts: &Parts, decls: &[Decl], row: ObjectRow, k: ObjId) -> bool
+pub(crate) fn object_tells_nothing(
+    parts: &Parts,
+    decls: &Declared<'_>,
+    row: ObjectRow,
+    k: ObjId,
+) -> bool
     requires { k < object_count row decls.now parts.now.machine }
     ensures { result ≡ true → TellNothing (object_facts row parts.now.machine k) }
 {

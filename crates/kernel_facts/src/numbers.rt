@@ -5,6 +5,7 @@ ghost use Rattle.rules_facts.specs.Numbers.{budget_numbers, frame_numbers, left_
 ghost use Rattle.script_printer.specs.Puts.{Puts};
 ghost use Rattle.kernel_facts.specs.Lines.{number_text};
 
+use crate::declared::Declared;
 use crate::names::thread_name;
 use kernel_state::Parts;
 use kernel_threads::{Frame, Thread};
@@ -13,10 +14,10 @@ use parts_server::Server;
 use script_printer::Printer;
 use script_writer::Word::{Keyword, Name, Number};
 use words_numbers::Tid;
-use words_script::{Decl, Policy};
+use words_script::Policy;
 
 // Prints the ticks that are left of a unit, where any are.
-fn put_left<K: Sink>(out: &mut Printer<'_, K>, decls: &[Decl], t: Tid, left: u64)
+fn put_left<K: Sink>(out: &mut Printer<'_, K>, decls: &Declared<'_>, t: Tid, left: u64)
     ensures { Puts K.text K.faults out.old out.new (flat_map (number_text decls.now) (left_numbers t left)) }
 {
     if left > 0 {
@@ -25,7 +26,13 @@ fn put_left<K: Sink>(out: &mut Printer<'_, K>, decls: &[Decl], t: Tid, left: u64
 }
 
 // Prints the ticks of a thread and the numbers of its top frame.
-fn put_top<K: Sink>(out: &mut Printer<'_, K>, decls: &[Decl], t: Tid, ticks: u64, frames: &[Frame])
+fn put_top<K: Sink>(
+    out: &mut Printer<'_, K>,
+    decls: &Declared<'_>,
+    t: Tid,
+    ticks: u64,
+    frames: &[Frame],
+)
     ensures { Puts K.text K.faults out.old out.new (flat_map (number_text decls.now) (frame_numbers t ticks frames.now)) }
 {
     if let [top, ..] = frames {
@@ -42,7 +49,13 @@ fn put_top<K: Sink>(out: &mut Printer<'_, K>, decls: &[Decl], t: Tid, ticks: u64
 }
 
 // Prints what a SCHED_RR thread has used of its interval.
-fn put_slice<K: Sink>(out: &mut Printer<'_, K>, decls: &[Decl], t: Tid, slice: u64, policy: Policy)
+fn put_slice<K: Sink>(
+    out: &mut Printer<'_, K>,
+    decls: &Declared<'_>,
+    t: Tid,
+    slice: u64,
+    policy: Policy,
+)
     ensures { Puts K.text K.faults out.old out.new (flat_map (number_text decls.now) (slice_numbers t slice policy)) }
 {
     match policy {
@@ -56,7 +69,12 @@ fn put_slice<K: Sink>(out: &mut Printer<'_, K>, decls: &[Decl], t: Tid, slice: u
 }
 
 // Prints the numbers of a server.
-fn put_budget<K: Sink>(out: &mut Printer<'_, K>, decls: &[Decl], t: Tid, server: &Option<Server>)
+fn put_budget<K: Sink>(
+    out: &mut Printer<'_, K>,
+    decls: &Declared<'_>,
+    t: Tid,
+    server: &Option<Server>,
+)
     ensures { Puts K.text K.faults out.old out.new (flat_map (number_text decls.now) (budget_numbers t server.now)) }
 {
     if let Some(server) = server {
@@ -73,7 +91,12 @@ fn put_budget<K: Sink>(out: &mut Printer<'_, K>, decls: &[Decl], t: Tid, server:
 }
 
 /// Prints the numbers of a thread, where it lives.
-pub(crate) fn put_numbers<K: Sink>(out: &mut Printer<'_, K>, parts: &Parts, decls: &[Decl], t: Tid)
+pub(crate) fn put_numbers<K: Sink>(
+    out: &mut Printer<'_, K>,
+    parts: &Parts,
+    decls: &Declared<'_>,
+    t: Tid,
+)
     requires { t < length parts.now.names }
     ensures { Puts K.text K.faults out.old out.new (flat_map (number_text decls.now) (thread_numbers_told parts.now.machine t)) }
 {

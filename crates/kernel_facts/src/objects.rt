@@ -5,16 +5,22 @@ ghost use Rattle.script_printer.specs.Puts.{Puts};
 ghost use Rattle.kernel_facts.specs.Lines.{fact_text};
 ghost use Rattle.kernel_facts.specs.Short.{HasShortText};
 
+use crate::declared::Declared;
 use crate::names::{object_name, thread_name};
 use kernel_state::Parts;
 use parts_io::Sink;
 use script_printer::Printer;
 use script_writer::Word::{Keyword, Name, Number};
 use words_numbers::ObjId;
-use words_script::{Decl, NameKind};
+use words_script::NameKind;
 
 /// Prints who owns a mutex, and how often it has locked it; nothing where it is free.
-pub(crate) fn put_owner<K: Sink>(out: &mut Printer<'_, K>, parts: &Parts, decls: &[Decl], k: ObjId)
+pub(crate) fn put_owner<K: Sink>(
+    out: &mut Printer<'_, K>,
+    parts: &Parts,
+    decls: &Declared<'_>,
+    k: ObjId,
+)
     requires { k < length parts.now.machine.mutexes }
     ensures text { Puts K.text K.faults out.old out.new (fact_text decls.now (owner_fact parts.now.machine k)) }
     ensures short { HasShortText decls.now (owner_fact parts.now.machine k) }
@@ -34,7 +40,7 @@ pub(crate) fn put_owner<K: Sink>(out: &mut Printer<'_, K>, parts: &Parts, decls:
 pub(crate) fn put_semaphore<K: Sink>(
     out: &mut Printer<'_, K>,
     parts: &Parts,
-    decls: &[Decl],
+    decls: &Declared<'_>,
     k: ObjId,
 )
     requires { k < length parts.now.machine.semaphores }
@@ -49,7 +55,12 @@ pub(crate) fn put_semaphore<K: Sink>(
 }
 
 /// Prints when an armed timer is due, and its interval.
-pub(crate) fn put_timer<K: Sink>(out: &mut Printer<'_, K>, parts: &Parts, decls: &[Decl], k: ObjId)
+pub(crate) fn put_timer<K: Sink>(
+    out: &mut Printer<'_, K>,
+    parts: &Parts,
+    decls: &Declared<'_>,
+    k: ObjId,
+)
     requires { k < length parts.now.machine.timers }
     ensures text { Puts K.text K.faults out.old out.new (fact_text decls.now (timer_fact parts.now.machine k)) }
     ensures short { HasShortText decls.now (timer_fact parts.now.machine k) }

@@ -10,6 +10,7 @@ ghost use Rattle.kernel_facts.specs.Picked.{left_in};
 ghost use Rattle.kernel_facts.specs.Rows.{object_count, object_facts, thread_fact_of};
 ghost use Rattle.kernel_facts.specs.Short.{HasShortText, HaveShortTexts};
 
+use crate::declared::Declared;
 use crate::lists::put_list;
 use crate::rows::{
     ObjectRow, ThreadRow, put_object_facts, put_receivers, put_senders, put_thread_fact,
@@ -19,10 +20,14 @@ use kernel_state::Parts;
 use parts_io::Sink;
 use script_printer::Printer;
 use words_numbers::{ObjId, Prio, Tid};
-use words_script::Decl;
 
 /// Prints a list to a sink, and answers whether a write failed.
-pub(crate) fn print_list<K: Sink>(parts: &Parts, decls: &[Decl], p: Prio, sink: &mut K) -> bool
+pub(crate) fn print_list<K: Sink>(
+    parts: &Parts,
+    decls: &Declared<'_>,
+    p: Prio,
+    sink: &mut K,
+) -> bool
     ensures { Put (outlet K.text K.faults false sink.old) (outlet K.text K.faults result sink.new) (fact_text decls.now (on_list p (list_of p parts.now.machine.lists))) }
 {
     let mut out = Printer::new(sink);
@@ -33,7 +38,7 @@ pub(crate) fn print_list<K: Sink>(parts: &Parts, decls: &[Decl], p: Prio, sink: 
 /// Prints a fact of a thread to a sink, and answers whether a write failed.
 pub(crate) fn print_thread_fact<K: Sink>(
     parts: &Parts,
-    decls: &[Decl],
+    decls: &Declared<'_>,
     row: ThreadRow,
     t: Tid,
     sink: &mut K,
@@ -50,7 +55,7 @@ pub(crate) fn print_thread_fact<K: Sink>(
 /// Prints the facts of an object to a sink, and answers whether a write failed.
 pub(crate) fn print_object_facts<K: Sink>(
     parts: &Parts,
-    decls: &[Decl],
+    decls: &Declared<'_>,
     row: ObjectRow,
     k: ObjId,
     sink: &mut K,
@@ -67,7 +72,7 @@ pub(crate) fn print_object_facts<K: Sink>(
 /// Prints the pending records of a signal to a sink, and answers whether a write failed.
 pub(crate) fn print_signal<K: Sink>(
     parts: &Parts,
-    decls: &[Decl],
+    decls: &Declared<'_>,
     signal: u8,
     left_out: Option<u64>,
     sink: &mut K,
@@ -83,7 +88,7 @@ pub(crate) fn print_signal<K: Sink>(
 /// Prints who waits to send to a queue, or who waits for a message of it, to a sink, and answers whether a write failed.
 pub(crate) fn print_waiters<K: Sink>(
     parts: &Parts,
-    decls: &[Decl],
+    decls: &Declared<'_>,
     q: ObjId,
     to_send: bool,
     sink: &mut K,

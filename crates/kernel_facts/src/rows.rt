@@ -1,4 +1,6 @@
 //! The rows of facts, each with a fact for each thread or for each object of a kind.
+ghost use Rattle.words_script.specs.declared.name_kind.NameKind.TheVariants as kind;
+ghost use Rattle.script_writer.specs.Names.{names_of};
 ghost use Rattle.std.specs.Prelude.{◌≡◌, ◌≤◌, ◌<◌, ◌++◌, length};
 ghost use Rattle.rules_machine.specs.Queues.{waits_to_receive, waits_to_send};
 ghost use Rattle.rules_facts.specs.Fact.{receivers_of, senders_of};
@@ -10,6 +12,7 @@ ghost use Rattle.kernel_facts.specs.Numbered.{AreNumbered};
 ghost use Rattle.kernel_facts.specs.Rows.{object_count, object_facts, object_row_text, objects_text, thread_fact_of, thread_row_text, threads_text};
 ghost use Rattle.kernel_facts.specs.Short.{HasShortText, HaveShortTexts};
 
+use crate::declared::Declared;
 use crate::known::know_timers;
 use crate::names::object_name;
 use crate::objects::{put_owner, put_semaphore, put_timer};
@@ -24,7 +27,7 @@ use script_printer::Printer;
 use script_writer::Word::{Keyword, Name};
 use script_writer::name_count;
 use words_numbers::{ObjId, Tid};
-use words_script::{Decl, NameKind, Script};
+use words_script::{NameKind, Script};
 
 // What is told of each thread in one row.
 #[derive(Clone, Copy)]
@@ -56,7 +59,7 @@ pub(crate) enum ObjectRow {
 pub(crate) fn put_thread_fact<K: Sink>(
     out: &mut Printer<'_, K>,
     parts: &Parts,
-    decls: &[Decl],
+    decls: &Declared<'_>,
     row: ThreadRow,
     t: Tid,
 )
@@ -75,7 +78,12 @@ pub(crate) fn put_thread_fact<K: Sink>(
 }
 
 // Prints a row of threads, by number.
-fn put_thread_row<K: Sink>(out: &mut Printer<'_, K>, parts: &Parts, decls: &[Decl], row: ThreadRow)
+fn put_thread_row<K: Sink>(
+    out: &mut Printer<'_, K>,
+    parts: &Parts,
+    decls: &Declared<'_>,
+    row: ThreadRow,
+)
     ensures { Puts K.text K.faults out.old out.new (thread_row_text decls.now row parts.now.machine) }
 {
     for number in 0..parts.count() {
@@ -84,7 +92,7 @@ fn put_thread_row<K: Sink>(out: &mut Printer<'_, K>, parts: &Parts, decls: &[Dec
 }
 
 /// Prints all rows of threads.
-pub(crate) fn put_threads<K: Sink>(out: &mut Printer<'_, K>, parts: &Parts, decls: &[Decl])
+pub(crate) fn put_threads<K: Sink>(out: &mut Printer<'_, K>, parts: &Parts, decls: &Declared<'_>)
     ensures { Puts K.text K.faults out.old out.new (threads_text decls.now parts.now.machine) }
 {
     put_thread_row(out, parts, decls, ThreadRow::Status);
@@ -97,7 +105,12 @@ pub(crate) fn put_threads<K: Sink>(out: &mut Printer<'_, K>, parts: &Parts, decl
 
 // ---- who waits
 
-fn put_mutex_waiters<K: Sink>(out: &mut Printer<'_, K>, parts: &Parts, decls: &[Decl], k: ObjId)
+fn put_mutex_waiters<K: Sink>(
+    out: &mut Printer<'_, K>,
+    parts: &Parts,
+    decls: &Declared<'_>,
+    k: ObjId,
+)
     ensures { Puts K.text K.faults out.old out.new (fact_text decls.now (mutex_waiters parts.now.machine k)) }
 {
     let subject = [
@@ -107,7 +120,12 @@ fn put_mutex_waiters<K: Sink>(out: &mut Printer<'_, K>, parts: &Parts, decls: &[
     put_line(out, parts, decls, &subject, &Line::Mutex(k));
 }
 
-fn put_condition_waiters<K: Sink>(out: &mut Printer<'_, K>, parts: &Parts, decls: &[Decl], c: ObjId)
+fn put_condition_waiters<K: Sink>(
+    out: &mut Printer<'_, K>,
+    parts: &Parts,
+    decls: &Declared<'_>,
+    c: ObjId,
+)
     ensures { Puts K.text K.faults out.old out.new (fact_text decls.now (condition_waiters parts.now.machine c)) }
 {
     let subject = [
@@ -117,7 +135,12 @@ fn put_condition_waiters<K: Sink>(out: &mut Printer<'_, K>, parts: &Parts, decls
     put_line(out, parts, decls, &subject, &Line::Condition(c));
 }
 
-fn put_semaphore_waiters<K: Sink>(out: &mut Printer<'_, K>, parts: &Parts, decls: &[Decl], k: ObjId)
+fn put_semaphore_waiters<K: Sink>(
+    out: &mut Printer<'_, K>,
+    parts: &Parts,
+    decls: &Declared<'_>,
+    k: ObjId,
+)
     ensures { Puts K.text K.faults out.old out.new (fact_text decls.now (semaphore_waiters parts.now.machine k)) }
 {
     let subject = [
@@ -131,7 +154,7 @@ fn put_semaphore_waiters<K: Sink>(out: &mut Printer<'_, K>, parts: &Parts, decls
 pub(crate) fn put_senders<K: Sink>(
     out: &mut Printer<'_, K>,
     parts: &Parts,
-    decls: &[Decl],
+    decls: &Declared<'_>,
     q: ObjId,
 )
     ensures { Puts K.text K.faults out.old out.new (fact_text decls.now (senders_of q (in_service_order parts.now.machine (waits_to_send q)))) }
@@ -147,7 +170,7 @@ pub(crate) fn put_senders<K: Sink>(
 pub(crate) fn put_receivers<K: Sink>(
     out: &mut Printer<'_, K>,
     parts: &Parts,
-    decls: &[Decl],
+    decls: &Declared<'_>,
     q: ObjId,
 )
     ensures { Puts K.text K.faults out.old out.new (fact_text decls.now (receivers_of q (in_service_order parts.now.machine (waits_to_receive q)))) }
@@ -160,7 +183,12 @@ pub(crate) fn put_receivers<K: Sink>(
 }
 
 // Prints who waits for room in a queue, and then who waits for a message of it.
-fn put_queue_waiters<K: Sink>(out: &mut Printer<'_, K>, parts: &Parts, decls: &[Decl], q: ObjId)
+fn put_queue_waiters<K: Sink>(
+    out: &mut Printer<'_, K>,
+    parts: &Parts,
+    decls: &Declared<'_>,
+    q: ObjId,
+)
     ensures { Puts K.text K.faults out.old out.new (facts_text decls.now (senders_and_receivers parts.now.machine q)) }
 {
     put_senders(out, parts, decls, q);
@@ -170,13 +198,13 @@ fn put_queue_waiters<K: Sink>(out: &mut Printer<'_, K>, parts: &Parts, decls: &[
 // ---- objects
 
 // How many objects a row tells of.
-pub(crate) fn object_count(parts: &Parts, decls: &[Decl], row: ObjectRow) -> usize
+pub(crate) fn object_count(parts: &Parts, decls: &Declared<'_>, row: ObjectRow) -> usize
     ensures { result ≡ object_count row decls.now parts.now.machine }
 {
     match row {
         ObjectRow::Owner => parts.mutex_count(),
         ObjectRow::MutexWaiters => parts.mutex_count(),
-        ObjectRow::ConditionWaiters => name_count(decls, NameKind::Cond),
+        ObjectRow::ConditionWaiters => name_count(decls.items(), NameKind::Cond),
         ObjectRow::SemaphoreWaiters => parts.semaphore_count(),
         ObjectRow::Value => parts.semaphore_count(),
         ObjectRow::Messages => parts.queue_count(),
@@ -189,7 +217,7 @@ pub(crate) fn object_count(parts: &Parts, decls: &[Decl], row: ObjectRow) -> usi
 pub(crate) fn put_object_facts<K: Sink>(
     out: &mut Printer<'_, K>,
     parts: &Parts,
-    decls: &[Decl],
+    decls: &Declared<'_>,
     row: ObjectRow,
     k: ObjId,
 )
@@ -221,7 +249,12 @@ pub(crate) fn object_of(number: usize) -> ObjId
 }
 
 // Prints a row of objects, by number.
-fn put_object_row<K: Sink>(out: &mut Printer<'_, K>, parts: &Parts, decls: &[Decl], row: ObjectRow)
+fn put_object_row<K: Sink>(
+    out: &mut Printer<'_, K>,
+    parts: &Parts,
+    decls: &Declared<'_>,
+    row: ObjectRow,
+)
     requires { object_count row decls.now parts.now.machine ≤ 256 }
     ensures { Puts K.text K.faults out.old out.new (object_row_text decls.now row parts.now.machine) }
 {
@@ -232,10 +265,11 @@ fn put_object_row<K: Sink>(out: &mut Printer<'_, K>, parts: &Parts, decls: &[Dec
 
 /// Prints all rows of objects but that of signals.
 pub(crate) fn put_objects<K: Sink>(out: &mut Printer<'_, K>, parts: &Parts, script: &Script)
-    requires { AreNumbered script.now parts.now.machine }
+    requires numbered { AreNumbered script.now parts.now.machine }
+    requires named { parts.now.names ≡ names_of kind.Thread script.now.decls }
     ensures { Puts K.text K.faults out.old out.new (objects_text script.now.decls parts.now.machine) }
 {
-    let decls = script.decls.items();
+    let decls = &Declared::of(script.decls.items(), parts);
     put_object_row(out, parts, decls, ObjectRow::Owner);
     put_object_row(out, parts, decls, ObjectRow::MutexWaiters);
     put_object_row(out, parts, decls, ObjectRow::ConditionWaiters);

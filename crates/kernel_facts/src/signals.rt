@@ -7,6 +7,7 @@ ghost use Rattle.kernel_facts.specs.Lines.{fact_text};
 ghost use Rattle.kernel_facts.specs.Picked.{is_left_out, is_told, left_in};
 ghost use Rattle.kernel_facts.specs.Short.{HasShortText};
 
+use crate::declared::Declared;
 use crate::line::{put_end, put_more};
 use crate::names::thread_name;
 use kernel_signals::SignalRecord;
@@ -15,7 +16,6 @@ use parts_io::Sink;
 use script_printer::Printer;
 use script_writer::Word::{Keyword, Name, Number, Signal};
 use words_numbers::Tid;
-use words_script::Decl;
 
 // Whether it is the serial of the record that is left out.
 fn is_left_out(out: Option<u64>, serial: u64) -> bool
@@ -35,7 +35,7 @@ fn is_told(out: Option<u64>, signal: u8, r: &SignalRecord) -> bool
 }
 
 // The thread that a signal is for, or a star where it is for the process.
-fn target_word(decls: &[Decl], target: Option<Tid>) -> &[u8]
+fn target_word<'a>(decls: &'a Declared<'_>, target: Option<Tid>) -> &'a [u8]
     ensures word { result.now ≡ target_word decls.now target }
     ensures short { length result.now ≤ 32 }
 {
@@ -49,7 +49,7 @@ fn target_word(decls: &[Decl], target: Option<Tid>) -> &[u8]
 pub(crate) fn put_signal<K: Sink>(
     out: &mut Printer<'_, K>,
     parts: &Parts,
-    decls: &[Decl],
+    decls: &Declared<'_>,
     signal: u8,
     left_out: Option<u64>,
 )

@@ -1,4 +1,6 @@
 //! The text of a state.
+ghost use Rattle.words_script.specs.declared.name_kind.NameKind.TheVariants as kind;
+ghost use Rattle.script_writer.specs.Names.{names_of};
 ghost use Rattle.std.specs.Prelude.{◌≡◌, ◌-◌, ◌≤◌, ◌<◌, false, length};
 ghost use Rattle.parts_io.specs.Bytes.{WritesAll};
 ghost use Rattle.parts_io.specs.Causes.{HasCause};
@@ -9,6 +11,7 @@ ghost use Rattle.kernel_facts.specs.Numbered.{AreNumbered};
 ghost use Rattle.kernel_facts.specs.Picked.{left_in};
 ghost use Rattle.kernel_facts.specs.Rows.{left_out, list_text, numbers_text, signals_text};
 
+use crate::declared::Declared;
 use crate::known::know_rows;
 use crate::lists::put_list;
 use crate::numbers::put_numbers;
@@ -19,7 +22,7 @@ use parts_io::{Failed, Sink};
 use script_printer::Printer;
 use script_writer::Word::{Keyword, Number, Signal};
 use words_numbers::Prio;
-use words_script::{Decl, Script};
+use words_script::Script;
 
 // Prints the instant.
 fn put_instant<K: Sink>(out: &mut Printer<'_, K>, parts: &Parts)
@@ -48,7 +51,7 @@ pub(crate) fn prio_of(level: u8) -> Prio
 }
 
 // Prints the lists, that of the greatest priority first.
-fn put_lists<K: Sink>(out: &mut Printer<'_, K>, parts: &Parts, decls: &[Decl])
+fn put_lists<K: Sink>(out: &mut Printer<'_, K>, parts: &Parts, decls: &Declared<'_>)
     ensures { Puts K.text K.faults out.old out.new (texts_below (list_text decls.now 255 parts.now.machine.lists) 255) }
 {
     for below in 0..255u8 {
@@ -72,7 +75,7 @@ pub(crate) fn left_out(parts: &Parts) -> Option<u64>
 }
 
 // Prints the pending signals, by number.
-fn put_signals<K: Sink>(out: &mut Printer<'_, K>, parts: &Parts, decls: &[Decl])
+fn put_signals<K: Sink>(out: &mut Printer<'_, K>, parts: &Parts, decls: &Declared<'_>)
     ensures { Puts K.text K.faults out.old out.new (signals_text decls.now (left_in (left_out parts.now.machine) parts.now.machine)) }
 {
     let out_of_it = left_out(parts);
@@ -83,7 +86,7 @@ fn put_signals<K: Sink>(out: &mut Printer<'_, K>, parts: &Parts, decls: &[Decl])
 }
 
 // Prints the numbers of the threads that live, by number.
-fn put_all_numbers<K: Sink>(out: &mut Printer<'_, K>, parts: &Parts, decls: &[Decl])
+fn put_all_numbers<K: Sink>(out: &mut Printer<'_, K>, parts: &Parts, decls: &Declared<'_>)
     ensures { Puts K.text K.faults out.old out.new (numbers_text decls.now parts.now.machine) }
 {
     for number in 0..parts.count() {
@@ -93,10 +96,11 @@ fn put_all_numbers<K: Sink>(out: &mut Printer<'_, K>, parts: &Parts, decls: &[De
 
 // Prints the whole state.
 fn put_state<K: Sink>(out: &mut Printer<'_, K>, parts: &Parts, script: &Script)
-    requires { AreNumbered script.now parts.now.machine }
+    requires numbered { AreNumbered script.now parts.now.machine }
+    requires named { parts.now.names ≡ names_of kind.Thread script.now.decls }
     ensures { Puts K.text K.faults out.old out.new (state_text script.now (once_ended parts.now.machine.killed parts.now.machine)) }
 {
-    let decls = script.decls.items();
+    let decls = &Declared::of(script.decls.items(), parts);
     know_rows(parts);
     put_instant(out, parts);
     put_killed(out, parts.killed());
@@ -109,7 +113,8 @@ fn put_state<K: Sink>(out: &mut Printer<'_, K>, parts: &Parts, script: &Script)
 
 // Prints the whole state to a sink, and answers whether a write failed.
 fn print_state<K: Sink>(parts: &Parts, script: &Script, sink: &mut K) -> bool
-    requires { AreNumbered script.now parts.now.machine }
+    requires numbered { AreNumbered script.now parts.now.machine }
+    requires named { parts.now.names ≡ names_of kind.Thread script.now.decls }
     ensures { Put (outlet K.text K.faults false sink.old) (outlet K.text K.faults result sink.new) (state_text script.now (once_ended parts.now.machine.killed parts.now.machine)) }
 {
     let mut out = Printer::new(sink);
@@ -123,6 +128,7 @@ fn print_state<K: Sink>(parts: &Parts, script: &Script, sink: &mut K) -> bool
 /// `Err` comes only where the sink's count of faults rose in this call, and then a part from the front of the text was appended.
 pub fn write_state<K: Sink>(parts: &Parts, script: &Script, sink: &mut K) -> Result<(), Failed>
     requires numbered { AreNumbered script.now parts.now.machine }
+    requires named { parts.now.names ≡ names_of kind.Thread script.now.decls }
     ensures written { WritesAll (K.text sink.old) (K.text sink.new) result (state_text script.now (once_ended parts.now.machine.killed parts.now.machine)) }
     ensures cause { HasCause (K.faults sink.old) (K.faults sink.new) result }
 {

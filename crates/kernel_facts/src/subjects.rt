@@ -1,4 +1,6 @@
 //! The subjects of the facts of a state as a list of texts.
+ghost use Rattle.words_script.specs.declared.name_kind.NameKind.TheVariants as kind;
+ghost use Rattle.script_writer.specs.Names.{names_of};
 ghost use Rattle.std.specs.Prelude.{◌≡◌, ◌∷◌, ◌≤◌, [], codes, decimal, false, length, map};
 ghost use Rattle.words_script.specs.declared.name_kind.NameKind.TheVariants as kind;
 ghost use Rattle.rules_facts.specs.Facts.{facts};
@@ -14,6 +16,7 @@ ghost use Rattle.kernel_facts.specs.Rooms.{HasObjectsOf, HasRooms};
 ghost use Rattle.kernel_facts.specs.Rows.{object_count};
 ghost use Rattle.kernel_facts.specs.Subjects.{about, list_subjects, lock_subjects, named_row, object_subjects, queue_subjects, signal_subjects, subjects_of, thread_subjects};
 
+use crate::declared::Declared;
 use crate::kept::keep;
 use crate::known::{know_few, know_names, know_rows, know_timers};
 use crate::names::{object_name, thread_name};
@@ -25,7 +28,7 @@ use script_printer::Printer;
 use script_writer::Word;
 use script_writer::Word::{Keyword, Name, Number, Signal};
 use words_numbers::{ObjId, Tid};
-use words_script::{Decl, NameKind, Script};
+use words_script::{NameKind, Script};
 
 // ---- one subject
 
@@ -55,7 +58,7 @@ fn keep_list_subject(level: u8, next: &mut NextText, texts: &mut Texts)
 }
 
 fn keep_thread_subject(
-    decls: &[Decl],
+    decls: &Declared<'_>,
     keyword: &[u8],
     t: Tid,
     next: &mut NextText,
@@ -72,7 +75,7 @@ fn keep_thread_subject(
 }
 
 fn keep_object_subject(
-    decls: &[Decl],
+    decls: &Declared<'_>,
     keyword: &[u8],
     of: NameKind,
     k: ObjId,
@@ -109,7 +112,7 @@ fn keep_list_subjects(next: &mut NextText, texts: &mut Texts)
 // Keeps the subjects of a row of threads, by number.
 fn keep_thread_row(
     parts: &Parts,
-    decls: &[Decl],
+    decls: &Declared<'_>,
     keyword: &[u8],
     next: &mut NextText,
     texts: &mut Texts,
@@ -123,7 +126,7 @@ fn keep_thread_row(
 }
 
 // Keeps the subjects of all rows of threads.
-fn keep_thread_subjects(parts: &Parts, decls: &[Decl], next: &mut NextText, texts: &mut Texts)
+fn keep_thread_subjects(parts: &Parts, decls: &Declared<'_>, next: &mut NextText, texts: &mut Texts)
     ensures { KeptIn next.old next.new texts.old texts.new (thread_subjects decls.now (length parts.now.machine.threads)) }
 {
     keep_thread_row(parts, decls, b"thread", next, texts);
@@ -137,7 +140,7 @@ fn keep_thread_subjects(parts: &Parts, decls: &[Decl], next: &mut NextText, text
 // Keeps the subjects of a row of objects that are of this kind, by number.
 fn keep_object_row(
     parts: &Parts,
-    decls: &[Decl],
+    decls: &Declared<'_>,
     row: ObjectRow,
     keyword: &[u8],
     of: NameKind,
@@ -154,7 +157,7 @@ fn keep_object_row(
 }
 
 // Keeps the subjects of who waits to send to each queue, and of who waits for a message of it.
-fn keep_queue_subjects(parts: &Parts, decls: &[Decl], next: &mut NextText, texts: &mut Texts)
+fn keep_queue_subjects(parts: &Parts, decls: &Declared<'_>, next: &mut NextText, texts: &mut Texts)
     requires { length parts.now.machine.queues ≤ 256 }
     ensures { KeptIn next.old next.new texts.old texts.new (queue_subjects decls.now (length parts.now.machine.queues)) }
 {
@@ -179,7 +182,7 @@ fn keep_queue_subjects(parts: &Parts, decls: &[Decl], next: &mut NextText, texts
 }
 
 // Keeps the subjects of the rows of mutexes, conditions and semaphores.
-fn keep_lock_subjects(parts: &Parts, decls: &[Decl], next: &mut NextText, texts: &mut Texts)
+fn keep_lock_subjects(parts: &Parts, decls: &Declared<'_>, next: &mut NextText, texts: &mut Texts)
     requires mutexes { length parts.now.machine.mutexes ≤ 256 }
     requires conditions { length (names_of kind.Cond decls.now) ≤ 256 }
     requires semaphores { length parts.now.machine.semaphores ≤ 256 }
@@ -219,10 +222,11 @@ fn keep_lock_subjects(parts: &Parts, decls: &[Decl], next: &mut NextText, texts:
 
 // Keeps the subjects of all rows of objects but that of signals.
 fn keep_object_subjects(parts: &Parts, script: &Script, next: &mut NextText, texts: &mut Texts)
-    requires { AreNumbered script.now parts.now.machine }
+    requires numbered { AreNumbered script.now parts.now.machine }
+    requires named { parts.now.names ≡ names_of kind.Thread script.now.decls }
     ensures { KeptIn next.old next.new texts.old texts.new (object_subjects script.now.decls parts.now.machine) }
 {
-    let decls = script.decls.items();
+    let decls = &Declared::of(script.decls.items(), parts);
     keep_lock_subjects(parts, decls, next, texts);
     keep_object_row(
         parts,
@@ -267,15 +271,17 @@ fn keep_signal_subjects(next: &mut NextText, texts: &mut Texts)
 /// Puts the text of the subject of each fact of the state behind the texts, in their order. They are the same for all states of a run.
 /// Where one has no room, the list is full from then on; in rooms as large as those of `rooms_of` each has room. It takes no memory.
 pub fn keep_subjects(parts: &Parts, script: &Script, next: &mut NextText, texts: &mut Texts)
-    requires { AreNumbered script.now parts.now.machine }
+    requires numbered { AreNumbered script.now parts.now.machine }
+    requires named { parts.now.names ≡ names_of kind.Thread script.now.decls }
     ensures kept { Kept texts.old texts.new (subjects_of script.now.decls (facts script.now parts.now.machine)) }
     ensures room { next.new.room ≡ next.old.room }
     ensures rooms { texts.new.is_full ≡ false → HaveSameRooms texts.old texts.new }
     ensures roomy { HasObjectsOf script.now parts.now.machine → texts.old.texts ≡ [] → HasRooms script.now next.old.room texts.old → HasRooms script.now next.new.room texts.new }
     ensures fit { HasObjectsOf script.now parts.now.machine → texts.old.texts ≡ [] → HasRooms script.now next.old.room texts.old → AreSubjects script.now next.old.room (subjects_of script.now.decls (facts script.now parts.now.machine)) }
 {
-    let decls = script.decls.items();
-    know_names(decls);
+    let items = script.decls.items();
+    know_names(items);
+    let decls = &Declared::of(items, parts);
     know_rows(parts);
     know_few(parts);
     keep_list_subjects(next, texts);

@@ -15,6 +15,7 @@ ghost use Rattle.script_printer.specs.Puts.{Puts};
 ghost use Rattle.kernel_facts.specs.Lines.{fact_text};
 ghost use Rattle.kernel_facts.specs.Short.{HasShortText};
 
+use crate::declared::Declared;
 use crate::line::{put_end, put_more};
 use crate::names::{body_name, object_name, thread_name};
 use kernel_state::Parts;
@@ -27,12 +28,12 @@ use script_printer::Printer;
 use script_writer::Word;
 use script_writer::Word::{Keyword, Name, Number, Signals};
 use words_numbers::{ObjId, SigSet, Tick, Tid};
-use words_script::{Decl, NameKind};
+use words_script::NameKind;
 
 // ---- its status
 
 // Prints what a blocked thread waits for.
-fn put_awaited<K: Sink>(out: &mut Printer<'_, K>, decls: &[Decl], wait: &Wait)
+fn put_awaited<K: Sink>(out: &mut Printer<'_, K>, decls: &Declared<'_>, wait: &Wait)
     ensures { Puts K.text K.faults out.old out.new (after_blanks (awaited_words decls.now (awaited (wait_of wait.now)))) }
 {
     match wait {
@@ -63,7 +64,7 @@ fn put_due<K: Sink>(out: &mut Printer<'_, K>, due: Option<Tick>)
 fn put_blocked<K: Sink>(
     out: &mut Printer<'_, K>,
     parts: &Parts,
-    decls: &[Decl],
+    decls: &Declared<'_>,
     t: Tid,
     waiting: &Waiting,
 )
@@ -85,7 +86,12 @@ fn put_blocked<K: Sink>(
 }
 
 /// Prints whether a thread runs or waits, and at which priorities.
-pub(crate) fn put_status<K: Sink>(out: &mut Printer<'_, K>, parts: &Parts, decls: &[Decl], t: Tid)
+pub(crate) fn put_status<K: Sink>(
+    out: &mut Printer<'_, K>,
+    parts: &Parts,
+    decls: &Declared<'_>,
+    t: Tid,
+)
     requires { t < length parts.now.names }
     ensures text { Puts K.text K.faults out.old out.new (fact_text decls.now (thread_fact parts.now.machine t)) }
     ensures short { HasShortText decls.now (thread_fact parts.now.machine t) }
@@ -118,7 +124,12 @@ pub(crate) fn is_main(kind: FrameKind) -> bool
 }
 
 // Prints whose bodies it runs above its own, the innermost first.
-fn put_inner_frames<K: Sink>(out: &mut Printer<'_, K>, decls: &[Decl], t: Tid, frames: &[Frame])
+fn put_inner_frames<K: Sink>(
+    out: &mut Printer<'_, K>,
+    decls: &Declared<'_>,
+    t: Tid,
+    frames: &[Frame],
+)
     ensures { Puts K.text K.faults out.old out.new (fact_text decls.now (inner_frames t (inner_bodies frames.now))) }
 {
     let subject = [Keyword(b"frames"), Name(thread_name(decls, t))];
@@ -138,7 +149,12 @@ fn put_inner_frames<K: Sink>(out: &mut Printer<'_, K>, decls: &[Decl], t: Tid, f
 }
 
 /// Prints the frames of a thread that lives.
-pub(crate) fn put_frames<K: Sink>(out: &mut Printer<'_, K>, parts: &Parts, decls: &[Decl], t: Tid)
+pub(crate) fn put_frames<K: Sink>(
+    out: &mut Printer<'_, K>,
+    parts: &Parts,
+    decls: &Declared<'_>,
+    t: Tid,
+)
     requires { t < length parts.now.names }
     ensures { Puts K.text K.faults out.old out.new (fact_text decls.now (frames_fact parts.now.machine t)) }
 {
@@ -148,7 +164,7 @@ pub(crate) fn put_frames<K: Sink>(out: &mut Printer<'_, K>, parts: &Parts, decls
 }
 
 // Prints a set of signals that a thread blocks, where it is not empty.
-fn put_masked<K: Sink>(out: &mut Printer<'_, K>, decls: &[Decl], t: Tid, set: SigSet)
+fn put_masked<K: Sink>(out: &mut Printer<'_, K>, decls: &Declared<'_>, t: Tid, set: SigSet)
     ensures { Puts K.text K.faults out.old out.new (fact_text decls.now (masked t set)) }
 {
     if set.bits() != 0 {
@@ -157,7 +173,12 @@ fn put_masked<K: Sink>(out: &mut Printer<'_, K>, decls: &[Decl], t: Tid, set: Si
 }
 
 /// Prints the own mask of a thread that lives.
-pub(crate) fn put_mask<K: Sink>(out: &mut Printer<'_, K>, parts: &Parts, decls: &[Decl], t: Tid)
+pub(crate) fn put_mask<K: Sink>(
+    out: &mut Printer<'_, K>,
+    parts: &Parts,
+    decls: &Declared<'_>,
+    t: Tid,
+)
     requires { t < length parts.now.names }
     ensures { Puts K.text K.faults out.old out.new (fact_text decls.now (mask_fact parts.now.machine t)) }
 {
@@ -179,7 +200,7 @@ fn put_flag<K: Sink>(out: &mut Printer<'_, K>, word: &[u8], holds: bool)
 // Prints what holds of the cancellation of a thread, where anything does.
 fn put_flags<K: Sink>(
     out: &mut Printer<'_, K>,
-    decls: &[Decl],
+    decls: &Declared<'_>,
     t: Tid,
     is_requested: bool,
     is_disabled: bool,
@@ -201,7 +222,7 @@ fn put_flags<K: Sink>(
 pub(crate) fn put_cancelability<K: Sink>(
     out: &mut Printer<'_, K>,
     parts: &Parts,
-    decls: &[Decl],
+    decls: &Declared<'_>,
     t: Tid,
 )
     requires { t < length parts.now.names }
@@ -221,7 +242,7 @@ pub(crate) fn put_cancelability<K: Sink>(
 }
 
 // Prints cleanup handlers, in their order.
-fn put_handlers<K: Sink>(out: &mut Printer<'_, K>, decls: &[Decl], t: Tid, handlers: &[ObjId])
+fn put_handlers<K: Sink>(out: &mut Printer<'_, K>, decls: &Declared<'_>, t: Tid, handlers: &[ObjId])
     ensures { Puts K.text K.faults out.old out.new (fact_text decls.now (pushed_cleanups t handlers.now)) }
 {
     let subject = [Keyword(b"cleanups"), Name(thread_name(decls, t))];
@@ -239,7 +260,12 @@ fn put_handlers<K: Sink>(out: &mut Printer<'_, K>, decls: &[Decl], t: Tid, handl
 }
 
 /// Prints the cleanup handlers of a thread that lives, the one that was pushed last first.
-pub(crate) fn put_cleanups<K: Sink>(out: &mut Printer<'_, K>, parts: &Parts, decls: &[Decl], t: Tid)
+pub(crate) fn put_cleanups<K: Sink>(
+    out: &mut Printer<'_, K>,
+    parts: &Parts,
+    decls: &Declared<'_>,
+    t: Tid,
+)
     requires { t < length parts.now.names }
     ensures { Puts K.text K.faults out.old out.new (fact_text decls.now (cleanups_fact parts.now.machine t)) }
 {
@@ -249,7 +275,12 @@ pub(crate) fn put_cleanups<K: Sink>(out: &mut Printer<'_, K>, parts: &Parts, dec
 }
 
 // Prints replenishments, in their order.
-fn put_planned<K: Sink>(out: &mut Printer<'_, K>, decls: &[Decl], t: Tid, planned: &[Replenish])
+fn put_planned<K: Sink>(
+    out: &mut Printer<'_, K>,
+    decls: &Declared<'_>,
+    t: Tid,
+    planned: &[Replenish],
+)
     ensures text { Puts K.text K.faults out.old out.new (fact_text decls.now (replenishments t planned.now)) }
     ensures short { HasShortText decls.now (replenishments t planned.now) }
 {
@@ -268,7 +299,12 @@ fn put_planned<K: Sink>(out: &mut Printer<'_, K>, decls: &[Decl], t: Tid, planne
 }
 
 /// Prints what the server of a thread that lives has planned, the oldest first.
-pub(crate) fn put_pending<K: Sink>(out: &mut Printer<'_, K>, parts: &Parts, decls: &[Decl], t: Tid)
+pub(crate) fn put_pending<K: Sink>(
+    out: &mut Printer<'_, K>,
+    parts: &Parts,
+    decls: &Declared<'_>,
+    t: Tid,
+)
     requires { t < length parts.now.names }
     ensures text { Puts K.text K.faults out.old out.new (fact_text decls.now (pending_fact parts.now.machine t)) }
     ensures short { HasShortText decls.now (pending_fact parts.now.machine t) }

@@ -1,7 +1,7 @@
 //! All parts of the kernel, and the smallest changes of them.
 ghost use Rattle.std.specs.Prelude.{◌≡◌, ◌≤◌, ◌<◌, ◌^◌, [], length, slice_index, false};
 ghost use Rattle.words_trace.specs.declared.event.Event.TheVariants as event;
-ghost use Rattle.words_trace.specs.Text.{IsNamed};
+ghost use Rattle.words_trace.specs.Text.{IsNamed, name_at};
 ghost use Rattle.parts_tracer.specs.Tells.{Tells};
 ghost use Rattle.rules_machine.specs.Dispatch.{dispatch_of, is_same};
 ghost use Rattle.rules_machine.specs.Turns.{becomes, moves, takes_serial, tells};
@@ -115,6 +115,15 @@ impl Parts {
             Some(t) => t,
             None => unreachable!(),
         }
+    }
+
+    /// The name of a thread.
+    pub fn name(&self, t: Tid) -> &[u8]
+        requires { t < length self.now.names }
+        ensures value { result.now ≡ name_at self.now.names t }
+        ensures short { length result.now ≤ 32 }
+    {
+        self.names.get(t)
     }
 
     pub fn direct_count(&self) -> usize

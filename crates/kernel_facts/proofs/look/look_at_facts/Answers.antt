@@ -29,14 +29,14 @@ use Rattle.kernel_facts.proofs.look.look_at_facts.Goals as goal
 pub look_at_lists-requires : goal.look_at_lists-requires
 look_at_lists-requires c = record {
   memory =
-      subst (λ (d : Desk). IsMemoryOf c.items-decls.result.now d.told.texts d.seen) (sym c.begin.ensures)
-      (subst (λ (ds : List Decl). IsMemoryOf ds c.args.desk.now.told.texts c.args.desk.now.seen) (sym c.items-decls.ensures) c.requires.ready.rooms.seen);
+      subst (λ (d : Desk). IsMemoryOf c.of.result d.told.texts d.seen) (sym c.begin.ensures)
+      (subst (λ (ds : List Decl). IsMemoryOf ds c.args.desk.now.told.texts c.args.desk.now.seen) (sym (c.of.ensures ∙ c.items-items.ensures)) c.requires.ready.rooms.seen);
 }
 
 pub returns : goal.returns
 returns c =
     let m = c.args.parts.now.machine in
-    let same = c.items-decls.ensures in
+    let same = (c.of.ensures ∙ c.items-items.ensures) in
     let lists = subst (λ (ds : List Decl). WentOn c.args.next.now c.look_at_lists.new.next c.begin.new.self c.look_at_lists.new.desk (lists_kept ds m.lists)) same c.look_at_lists.ensures.kept in
     let threads =
     subst (λ (ds : List Decl). WentOn c.look_at_lists.new.next c.look_at_threads.new.next c.look_at_lists.new.desk c.look_at_threads.new.desk (threads_kept ds m)) same c.look_at_threads.ensures.kept in
@@ -46,7 +46,7 @@ returns c =
     let all : WentOn c.args.next.now c.look_at_signals.new.next c.begin.new.self c.look_at_signals.new.desk (texts_of c.args.script.now.decls (facts c.args.script.now (once_ended m.killed m))) =
     subst (WentOn c.args.next.now c.look_at_signals.new.next c.begin.new.self c.look_at_signals.new.desk) (state_kept c.args.script.now m c.know_rows.ensures.lists c.know_rows.ensures.signals)
     (went_both _ _ _ _ _ _ _ _ lists (went_both _ _ _ _ _ _ _ _ threads (went_both _ _ _ _ _ _ _ _ c.look_at_objects.ensures.kept signals))) in
-    let names = subst NamesAreShort c.items-decls.ensures c.know_names.ensures in
+    let names = subst NamesAreShort c.items-items.ensures c.know_names.ensures in
     let lists_count = c.know_rows.ensures.lists in
     let signal_count = c.know_rows.ensures.signals in
     let rows = subst (λ (ds : List Decl). (row : ThreadRow) (t : ℕ) → t < length m.threads → HasShortText ds (thread_fact_of row m t)) same c.look_at_threads.ensures.short in

@@ -1,4 +1,4 @@
-use Rattle.std.proofs.Common.{◌≡◌, List, length, subst}
+use Rattle.std.proofs.Common.{◌≡◌, List, length, subst, ◌∙◌}
 use Rattle.words_script.specs.declared.decl.Decl.{Decl}
 use Rattle.script_printer.specs.Puts.{Puts}
 use Rattle.script_printer.proofs.Puts.{puts_both}
@@ -12,7 +12,7 @@ use Rattle.kernel_facts.proofs.state.put_state.Goals as goal
 pub returns : goal.returns
 returns g c =
     let m = c.args.parts.now.machine in
-    let same = c.items-decls.ensures in
+    let same = (c.of.ensures ∙ c.items.ensures) in
     let every : length m.lists ≡ 255 = c.know_rows.ensures.lists in
     let lists = subst (λ (ds : List Decl). Puts g.K.Sink.text g.K.Sink.faults c.put_killed.new.out c.put_lists.new.out (texts_below (list_text ds 255 m.lists) 255)) same c.put_lists.ensures in
     let threads = subst (λ (ds : List Decl). Puts g.K.Sink.text g.K.Sink.faults c.put_lists.new.out c.put_threads.new.out (threads_text ds m)) same c.put_threads.ensures in

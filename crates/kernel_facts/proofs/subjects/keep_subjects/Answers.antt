@@ -1,4 +1,4 @@
-use Rattle.std.proofs.Common.{List, length, subst}
+use Rattle.std.proofs.Common.{List, length, subst, ◌∙◌}
 use Rattle.words_script.specs.declared.decl.Decl.{Decl}
 use Rattle.rules_facts.specs.Facts.{facts}
 use Rattle.kernel_facts.specs.Kept.{KeptIn}
@@ -14,11 +14,11 @@ returns c =
     let m = c.args.parts.now.machine in
     let threads =
     subst (λ (ds : List Decl). KeptIn c.keep_list_subjects.new.next c.keep_thread_subjects.new.next c.keep_list_subjects.new.texts c.keep_thread_subjects.new.texts (thread_subjects ds (length m.threads)))
-    c.items-decls.ensures c.keep_thread_subjects.ensures in
+    (c.of.ensures ∙ c.items-items.ensures) c.keep_thread_subjects.ensures in
     let all : KeptIn c.args.next.now c.keep_signal_subjects.new.next c.args.texts.now c.keep_signal_subjects.new.texts (subjects_of c.args.script.now.decls (facts c.args.script.now m)) =
     subst (KeptIn c.args.next.now c.keep_signal_subjects.new.next c.args.texts.now c.keep_signal_subjects.new.texts) (subjects_kept c.args.script.now m c.know_rows.ensures.lists c.know_rows.ensures.signals)
     (kept_both _ _ _ _ _ _ _ _ c.keep_list_subjects.ensures (kept_both _ _ _ _ _ _ _ _ threads (kept_both _ _ _ _ _ _ _ _ c.keep_object_subjects.ensures c.keep_signal_subjects.ensures))) in
-    let names = subst NamesAreShort c.items-decls.ensures c.know_names.ensures in
+    let names = subst NamesAreShort c.items-items.ensures c.know_names.ensures in
     record {
       kept = all.kept;
       room = all.same_room;
