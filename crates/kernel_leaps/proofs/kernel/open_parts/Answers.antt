@@ -1,4 +1,4 @@
-use Rattle.std.proofs.Common.{subst, sym}
+use Rattle.std.proofs.Common.{subst, sym, ◌∙◌}
 use Rattle.kernel_state.specs.Kernel.{Kernel}
 use Rattle.kernel_state.specs.Settled.{HavePriorities}
 use Rattle.kernel_state.specs.Stood.{StoodRight}
@@ -11,7 +11,7 @@ use Rattle.kernel_leaps.proofs.kernel.open_parts.Goals as goal
 pub returns-clause-stood : goal.returns-clause-stood
 returns-clause-stood c =
     let e = c.in_ok-parts.ensures in
-    subst (λ (k : Kernel). StoodRight k.machine) (sym e) (stood_opening c.args.script.now (subst (λ (k : Kernel). HavePriorities k.machine) e c.know_priorities.ensures))
+    subst (λ (k : Kernel). StoodRight k.machine) (sym e) (stood_opening c.args.script.now (subst (λ (k : Kernel). HavePriorities k.machine) (c.deref.ensures ∙ e) c.know_priorities.ensures))
 
 pub returns-clause-fits : goal.returns-clause-fits
 returns-clause-fits c = subst (λ (k : Kernel). StaysFit k (objects_in k)) (sym c.in_ok-parts.ensures) (script_fits c.args.script.now c.requires.runnable c.requires.well_formed)

@@ -11,12 +11,12 @@ returns-clause-budgets g c script fits is n k = budgets_kept script fits c.args.
 
 -- the parts are what contracts see
 pub returns-clause-machine : goal.returns-clause-machine
-returns-clause-machine g c ended script is = machine_of script c.args.horizon c.self.inside.parts.value (c.self.view_is ∙ is) c.run_leaps.new.p (c.run_leaps.ensures.state ended)
+returns-clause-machine g c ended script is = machine_of script c.args.horizon c.deref_mut.result.now (c.deref_mut.ensures.value ∙ (c.self.view_is ∙ is)) c.run_leaps.new.p (c.run_leaps.ensures.state ended)
 
 pub returns-clause-events : goal.returns-clause-events
 returns-clause-events g c script is =
-    events_of script c.args.horizon c.self.inside.parts.value (c.self.view_is ∙ is) g.K.Sink.text g.K.Sink.faults c.args.out.now c.run_leaps.new.out c.run_leaps.ensures.told
+    events_of script c.args.horizon c.deref_mut.result.now (c.deref_mut.ensures.value ∙ (c.self.view_is ∙ is)) g.K.Sink.text g.K.Sink.faults c.args.out.now c.run_leaps.new.out c.run_leaps.ensures.told
 
 pub returns-clause-eventful : goal.returns-clause-eventful
 returns-clause-eventful g c script is =
-    busy_of script c.args.horizon c.self.inside.parts.value (c.self.view_is ∙ is) c.args.steps.now c.run_leaps.new.steps c.run_leaps.ensures.busy
+    busy_of script c.args.horizon c.deref_mut.result.now (c.deref_mut.ensures.value ∙ (c.self.view_is ∙ is)) c.args.steps.now c.run_leaps.new.steps c.run_leaps.ensures.busy
