@@ -6,6 +6,7 @@
 mod items;
 mod lives;
 mod scheduling;
+mod sending;
 mod table;
 mod time;
 

@@ -104,15 +104,15 @@ pub(crate) fn make_setsched<K: Sink>(
     p: &mut Parts,
     by: &Caller<'_>,
     u: Tid,
-    policy: Policy,
+    policy: &Policy,
     out: &mut Tracer<'_, K>,
 )
     requires { CanStart p.old by.now.thread u }
-    ensures { Does K.text K.faults (sets_policy (caller by.now) u policy) p.old p.new out.old out.new }
+    ensures { Does K.text K.faults (sets_policy (caller by.now) u policy.now) p.old p.new out.old out.new }
 {
     if !p.thread(u).is_live() {
         p.returns(by, Res::Srch, 0, out);
         return;
     }
-    set_policy(p, by, u, policy, out);
+    set_policy(p, by, u, *policy, out);
 }

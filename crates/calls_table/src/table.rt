@@ -12,8 +12,9 @@ ghost use Rattle.kernel_state.specs.Kernel.{by};
 
 use crate::lives::make_create;
 use crate::scheduling::{make_setprio, make_setsched, make_yield};
+use crate::sending::send;
 use crate::time::{end_of_sleep, sleep_until};
-use calls_queues::{Outgoing, mq_notify, mq_receive, mq_send};
+use calls_queues::{mq_notify, mq_receive};
 use calls_signals::{
     clock_settime, expiry_after, expiry_at, kill, sigmask_block, sigmask_set, sigmask_unblock,
     sigqueue, sigtimedwait, timer_getoverrun, timer_gettime, timer_settime, tkill,
@@ -51,7 +52,7 @@ fn do_call<K: Sink>(p: &mut Parts, by: &Caller<'_>, out: &mut Tracer<'_, K>)
         Call::Pop(runs) => pop_cleanup(p, by, *runs, out),
         Call::Exit(v) => exit(p, by, p.number(by.thread, v)),
         Call::Setprio(u, prio) => make_setprio(p, by, *u, *prio, out),
-        Call::Setsched(u, policy) => make_setsched(p, by, *u, *policy, out),
+        Call::Setsched(u, policy) => make_setsched(p, by, *u, policy, out),
         Call::Lock(k) => mutex_lock(p, by, *k, None, out),
         Call::Timedlock { mutex, at } => mutex_lock(
             p,
@@ -103,10 +104,7 @@ fn do_call<K: Sink>(p: &mut Parts, by: &Caller<'_>, out: &mut Tracer<'_, K>)
         Call::SigmaskSet(set) => sigmask_set(p, by, *set, out),
         Call::Sigwaitinfo(set) => sigtimedwait(p, by, *set, None, out),
         Call::Sigtimedwait(set, n) => sigtimedwait(p, by, *set, Some(*n), out),
-        Call::MqSend(q, len, prio, v) => {
-            let outgoing = Outgoing::new(*len, *prio, p.number(by.thread, v));
-            mq_send(p, by, *q, outgoing, None, out)
-        }
+        Call::MqSend(q, len, prio, v) => send(p, by, *q, *len, *prio, v, None, out),
         Call::MqTimedsend {
             queue,
             len,
@@ -114,8 +112,8 @@ fn do_call<K: Sink>(p: &mut Parts, by: &Caller<'_>, out: &mut Tracer<'_, K>)
             value,
             at,
         } => {
-            let outgoing = Outgoing::new(*len, *prio, p.number(by.thread, value));
-            mq_send(p, by, *queue, outgoing, Some(p.moment(by.thread, at)), out)
+            let due = Some(p.moment(by.thread, at));
+            send(p, by, *queue, *len, *prio, value, due, out)
         }
         Call::MqReceive(q) => mq_receive(p, by, *q, None, out),
         Call::MqTimedreceive { queue, at } => mq_receive(

@@ -39,6 +39,7 @@ impl Parts {
         self.table.answer(t, res, value);
     }
 
+    #[inline(always)]
     pub fn wake_thread(&mut self, t: Tid, res: Res, value: u64)
         requires { t < length self.old.names }
         ensures { self.new ≡ after (changes t (woken res value)) self.old }
