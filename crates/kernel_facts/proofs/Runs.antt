@@ -97,6 +97,14 @@ known_quiet d e quiet told subjects is = record {
   seen = λ decls h. subst (λ (x : Desk). IsMemoryOf decls x.told.texts x.seen) (sym is) (record { told = h.told; quiet = h.quiet });
 }
 
+-- so many told nothing
+pub known_empty : (d e : Desk) (n : ℕ) → ((i : ℕ) → i < n → slice_index_or d.told.texts (d.at + i) [] ≡ []) → d.at + n ≤ length d.told.texts → d.at + n ≤ length d.subjects.texts
+    → e ≡ record d { at = d.at + n } → WentKnown d e (nothings n)
+known_empty d e n none told subjects is = record {
+  went = λ decls h one. run_on one n d e none told subjects is;
+  seen = λ decls h. subst (λ (x : Desk). IsMemoryOf decls x.told.texts x.seen) (sym is) (record { told = h.told; quiet = h.quiet });
+}
+
 -- ---- a block that was gone over
 
 -- what was told stands in front
