@@ -40,6 +40,7 @@ use words_numbers::{ObjId, Tid};
 use words_script::{Decl, Script};
 
 // Whether a row tells of an object what was seen last of the fact that comes, and nothing else.
+#[inline(always)]
 fn is_object_as_seen(parts: &Parts, decls: &[Decl], row: ObjectRow, k: ObjId, desk: &Desk) -> bool
     requires { k < object_count row decls.now parts.now.machine }
     ensures same { result ≡ true → IsOnlyOf (object_facts row parts.now.machine k) (fact_seen (last_seen desk.now)) }
@@ -72,6 +73,7 @@ fn tell_object_facts(
     desk.keep(next, failed, &see_object(parts, decls, row, k));
 }
 
+#[inline(always)]
 fn look_at_object_fact(
     parts: &Parts,
     decls: &[Decl],
@@ -98,6 +100,7 @@ fn look_at_object_fact(
 }
 
 // Looks at a row of objects that has one fact for each, by number.
+#[inline(always)]
 fn look_at_object_row(
     parts: &Parts,
     decls: &[Decl],

@@ -63,6 +63,7 @@ fn is_status_ahead(parts: &Parts, t: Tid, run: &Run, desk: &Desk) -> bool
 }
 
 // A look at the fact behind the run, which is the status of a thread.
+#[inline(always)]
 fn look_at_status(
     parts: &Parts,
     decls: &[Decl],
@@ -121,6 +122,7 @@ fn is_pending_ahead(parts: &Parts, t: Tid, run: &Run, desk: &Desk) -> bool
 }
 
 // A look at the fact behind the run, which is what the server of a thread has planned.
+#[inline(always)]
 fn look_at_pending(
     parts: &Parts,
     decls: &[Decl],

@@ -228,6 +228,7 @@ fn is_disarmed(parts: &Parts, k: ObjId) -> bool
 }
 
 /// Whether a row tells nothing of an object, where that is seen at once.
+#[inline(always)]
 pub(crate) fn object_tells_nothing(parts: &Parts, decls: &[Decl], row: ObjectRow, k: ObjId) -> bool
     requires { k < object_count row decls.now parts.now.machine }
     ensures { result ≡ true → TellNothing (object_facts row parts.now.machine k) }

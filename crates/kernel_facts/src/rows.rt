@@ -170,6 +170,7 @@ fn put_queue_waiters<K: Sink>(out: &mut Printer<'_, K>, parts: &Parts, decls: &[
 // ---- objects
 
 // How many objects a row tells of.
+#[inline(always)]
 pub(crate) fn object_count(parts: &Parts, decls: &[Decl], row: ObjectRow) -> usize
     ensures { result ≡ object_count row decls.now parts.now.machine }
 {
