@@ -1,5 +1,5 @@
 //! Whether a fact tells nothing, seen without its text.
-ghost use Rattle.std.specs.Prelude.{ℕ, ◌≡◌, ◌∷◌, ◌<◌, Bool, List, [], None, false, length, option_map, true};
+ghost use Rattle.std.specs.Prelude.{ℕ, ◌≡◌, ◌∷◌, ◌<◌, List, [], None, false, length, true};
 ghost use Rattle.rules_lists.specs.Lists.{list_of};
 ghost use Rattle.rules_facts.specs.Fact.{on_list};
 ghost use Rattle.rules_facts.specs.Objects.{in_service_order, owner_fact, timer_fact};
