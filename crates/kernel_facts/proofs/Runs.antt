@@ -78,22 +78,35 @@ known_one a b went seen = record { went = λ decls h one. on_one one a b ([] ∷
 
 -- ---- a quiet block
 
+-- so many texts were told
+pub run_over : (one : Next) (f : ℕ → List ℕ) (n : ℕ) (d e : Desk) → ((i : ℕ) → i < n → slice_index_or d.told.texts (d.at + i) [] ≡ f i) → d.at + n ≤ length d.told.texts → d.at + n ≤ length d.subjects.texts
+    → e ≡ record d { at = d.at + n } → WentOn one one d e (kept_below (λ (i : ℕ). f i ∷ []) n)
+run_over one f zero d e same told subjects is =
+    let here : d.at + 0 ≡ d.at = omega arith in
+    subst (λ (x : Desk). WentOn one one d x []) (sym (is ∙ ap (λ (n : ℕ). record d { at = n }) here)) (went_none one d)
+run_over one f (suc n) d e same told subjects is =
+    let mid : Desk = record d { at = d.at + n } in
+    let more : d.at + suc n ≡ d.at + n + 1 = omega arith in
+    went_both one one one d mid e (kept_below (λ (i : ℕ). f i ∷ []) n) (f n ∷ []) (run_over one f n d mid (λ i low. same i (omega (arith, low))) (omega (arith, told)) (omega (arith, subjects)) refl)
+    (on_one one mid e (f n ∷ []) (went_same mid e (f n) (omega (arith, told)) (omega (arith, subjects)) (same n (omega arith)) (is ∙ ap (λ (k : ℕ). record d { at = k }) more)))
+
 -- so many empty texts were told
 pub run_on : (one : Next) (n : ℕ) (d e : Desk) → ((i : ℕ) → i < n → slice_index_or d.told.texts (d.at + i) [] ≡ []) → d.at + n ≤ length d.told.texts → d.at + n ≤ length d.subjects.texts
     → e ≡ record d { at = d.at + n } → WentOn one one d e (nothings n)
-run_on one zero d e none told subjects is =
-    let here : d.at + 0 ≡ d.at = omega arith in
-    subst (λ (x : Desk). WentOn one one d x []) (sym (is ∙ ap (λ (n : ℕ). record d { at = n }) here)) (went_none one d)
-run_on one (suc n) d e none told subjects is =
-    let mid : Desk = record d { at = d.at + n } in
-    let more : d.at + suc n ≡ d.at + n + 1 = omega arith in
-    went_both one one one d mid e (nothings n) ([] ∷ []) (run_on one n d mid (λ i low. none i (omega (arith, low))) (omega (arith, told)) (omega (arith, subjects)) refl)
-    (on_one one mid e ([] ∷ []) (went_same mid e [] (omega (arith, told)) (omega (arith, subjects)) (none n (omega arith)) (is ∙ ap (λ (k : ℕ). record d { at = k }) more)))
+run_on one n d e none told subjects is = run_over one (λ (i : ℕ). no_bytes) n d e none told subjects is
 
 pub known_quiet : (d e : Desk) → ((i : ℕ) → i < 16 → slice_index_or d.seen.busy ((d.at + i) / 16) true ≡ false) → d.at + 16 ≤ length d.told.texts → d.at + 16 ≤ length d.subjects.texts
     → e ≡ record d { at = d.at + 16 } → WentKnown d e (nothings 16)
 known_quiet d e quiet told subjects is = record {
   went = λ decls h one. run_on one 16 d e (λ i low. h.quiet (d.at + i) (quiet i low)) told subjects is;
+  seen = λ decls h. subst (λ (x : Desk). IsMemoryOf decls x.told.texts x.seen) (sym is) (record { told = h.told; quiet = h.quiet });
+}
+
+-- so many told nothing
+pub known_empty : (d e : Desk) (n : ℕ) → ((i : ℕ) → i < n → slice_index_or d.told.texts (d.at + i) [] ≡ []) → d.at + n ≤ length d.told.texts → d.at + n ≤ length d.subjects.texts
+    → e ≡ record d { at = d.at + n } → WentKnown d e (nothings n)
+known_empty d e n none told subjects is = record {
+  went = λ decls h one. run_on one n d e none told subjects is;
   seen = λ decls h. subst (λ (x : Desk). IsMemoryOf decls x.told.texts x.seen) (sym is) (record { told = h.told; quiet = h.quiet });
 }
 

@@ -8,6 +8,7 @@ use Rattle.kernel_facts.specs.Ahead.{IsRun, IsToldAhead, past}
 use Rattle.kernel_facts.specs.Blocks.{nothings}
 use Rattle.kernel_facts.specs.Desk.{WentOn}
 use Rattle.kernel_facts.specs.FactSeen.{IsMemoryOf, TellsShortly}
+use Rattle.kernel_facts.specs.Kept.{kept_below}
 use Rattle.kernel_facts.specs.Lines.{fact_text}
 use Rattle.kernel_facts.specs.Nothing.{TellsNothing}
 use Rattle.kernel_facts.specs.declared.ahead.Run.{Run}
@@ -15,7 +16,7 @@ use Rattle.kernel_facts.specs.declared.desk.Desk.{Desk}
 use Rattle.kernel_facts.proofs.FactsSeen.{went_on_same}
 use Rattle.kernel_facts.proofs.Looking.{went_none, went_same}
 use Rattle.kernel_facts.proofs.NothingTold.{nothing_short}
-use Rattle.kernel_facts.proofs.Runs.{run_on}
+use Rattle.kernel_facts.proofs.Runs.{run_over}
 
 -- a run with the fact behind it
 module _ (d : Desk) (r s : Run) (run : IsRun r d) (next : r.same < r.places) (is : s ≡ record r { same = r.same + 1 }) where
@@ -46,19 +47,24 @@ past_memory decls d m r is h = subst (λ (x : Desk). IsMemoryOf decls x.told.tex
 pub ahead_nothing : (d : Desk) (r : Run) (f : Fact) → TellsNothing f → slice_index_or d.told.texts (d.at + r.same) [] ≡ [] → IsToldAhead r d f
 ahead_nothing d r f none was decls h = record { told = was ∙ sym (none decls); short = nothing_short decls f (none decls) }
 
--- so many facts behind a run tell nothing, as they did
-pub skip_empty : (one : Next) (d : Desk) (r s : Run) (n : ℕ) → IsRun r d → r.same + n ≤ r.places → s ≡ record r { same = r.same + n }
-    → ((k : ℕ) → k < n → slice_index_or d.told.texts (d.at + (r.same + k)) [] ≡ []) → WentOn one one (past r d) (past s d) (nothings n)
-skip_empty one d r s zero run few is none =
+-- so many facts behind a run tell the same as last
+pub skip_told : (one : Next) (d : Desk) (r s : Run) (f : ℕ → List ℕ) (n : ℕ) → IsRun r d → r.same + n ≤ r.places → s ≡ record r { same = r.same + n }
+    → ((k : ℕ) → k < n → slice_index_or d.told.texts (d.at + (r.same + k)) [] ≡ f k) → WentOn one one (past r d) (past s d) (kept_below (λ (i : ℕ). f i ∷ []) n)
+skip_told one d r s f zero run few is same =
     let here : d.at + (r.same + 0) ≡ d.at + r.same = omega arith in
     subst (λ (x : Desk). WentOn one one (past r d) x []) (sym (ap (λ (q : Run). past q d) is ∙ ap (λ (n : ℕ). record d { at = n }) here)) (went_none one (past r d))
-skip_empty one d r s (suc n) run few is none =
+skip_told one d r s f (suc n) run few is same =
     let last = run.places.told (r.same + n) (omega (arith, few)) in
     let subject = run.places.subjects (r.same + n) (omega (arith, few)) in
     let there : d.at + (r.same + suc n) ≡ d.at + r.same + suc n = omega arith in
-    run_on one (suc n) (past r d) (past s d)
-    (λ i low. let at : d.at + r.same + i ≡ d.at + (r.same + i) = omega arith in ap (λ (k : ℕ). slice_index_or d.told.texts k []) at ∙ none i low)
+    run_over one f (suc n) (past r d) (past s d)
+    (λ i low. let at : d.at + r.same + i ≡ d.at + (r.same + i) = omega arith in ap (λ (k : ℕ). slice_index_or d.told.texts k []) at ∙ same i low)
     (omega (arith, last)) (omega (arith, subject)) (ap (λ (q : Run). past q d) is ∙ ap (λ (n : ℕ). record d { at = n }) there)
+
+-- so many facts behind a run tell nothing, as they did
+pub skip_empty : (one : Next) (d : Desk) (r s : Run) (n : ℕ) → IsRun r d → r.same + n ≤ r.places → s ≡ record r { same = r.same + n }
+    → ((k : ℕ) → k < n → slice_index_or d.told.texts (d.at + (r.same + k)) [] ≡ []) → WentOn one one (past r d) (past s d) (nothings n)
+skip_empty one d r s n run few is none = skip_told one d r s (λ (i : ℕ). []) n run few is none
 
 pub run_skipped : (d : Desk) (r s : Run) (n : ℕ) → IsRun r d → r.same + n ≤ r.places → s ≡ record r { same = r.same + n } → IsRun s d
 run_skipped d r s n run few is = subst (λ (q : Run). IsRun q d) (sym is) (record { within = few; places = run.places })

@@ -1,8 +1,12 @@
 -- Facts that tell the same as last, which a look goes over at once. This project's own.
-use Rattle.std.specs.Prelude.{List, [], length, slice_index_or, ℕ, ◌+◌, ◌^◌, ◌<◌, ◌≤◌}
+use Rattle.std.specs.Prelude.{List, [], length, slice_index_or, ℕ, ◌+◌, ◌^◌, ◌∷◌, ◌<◌, ◌≤◌}
 use Rattle.words_script.specs.declared.decl.Decl.{Decl}
+use Rattle.rules_machine.specs.State.{Machine}
 use Rattle.rules_facts.specs.Fact.{Fact}
+use Rattle.rules_facts.specs.Threads.{thread_fact}
 use Rattle.kernel_facts.specs.FactSeen.{IsMemoryOf, TellsShortly}
+use Rattle.kernel_facts.specs.Kept.{kept_below}
+use Rattle.kernel_facts.specs.Lines.{fact_text}
 use Rattle.kernel_facts.specs.declared.ahead.Run.{Run}
 use Rattle.kernel_facts.specs.declared.desk.Desk.{Desk}
 
@@ -25,3 +29,11 @@ past r d = record d { at = d.at + r.same }
 -- what was told last of the fact behind the run tells that fact
 abbrev pub IsToldAhead : Run → Desk → Fact → Type 0
 IsToldAhead r d f = (decls : List Decl) → IsMemoryOf decls d.told.texts d.seen → TellsShortly decls (slice_index_or d.told.texts (d.at + r.same) []) f
+
+-- the same of the fact at a number
+abbrev pub IsToldAt : ℕ → Desk → Fact → Type 0
+IsToldAt at d f = (decls : List Decl) → IsMemoryOf decls d.told.texts d.seen → TellsShortly decls (slice_index_or d.told.texts at []) f
+
+-- the statuses of so many threads from a number on
+abbrev pub statuses_from : {P : Type 0} → List Decl → Machine P → ℕ → ℕ → List (List ℕ)
+statuses_from decls m from count = kept_below (λ (k : ℕ). fact_text decls (thread_fact m (from + k)) ∷ []) count

@@ -1,5 +1,5 @@
 //! A look goes over many facts that tell nothing, in blocks of 16.
-ghost use Rattle.std.specs.Prelude.{ℕ, ◌≡◌, ◌≤◌, ◌<◌, ◌+◌, ◌*◌, ◌/◌, ◌^◌, false, length, slice_index_or, true};
+ghost use Rattle.std.specs.Prelude.{ℕ, [], ◌≡◌, ◌≤◌, ◌<◌, ◌+◌, ◌*◌, ◌/◌, ◌^◌, false, length, slice_index_or, true};
 ghost use Rattle.kernel_facts.specs.Blocks.{IsNoted, WentKnown, nothings};
 
 use crate::desk::Desk;
@@ -16,13 +16,64 @@ fn to_block(at: usize, count: usize) -> usize
 }
 
 impl Desk {
+    // How many facts from here on have a text and a subject, of so many.
+    fn told_ahead(&self, count: usize) -> usize
+        requires told { self.now.at ≤ length self.now.told.texts }
+        requires subjects { self.now.at ≤ length self.now.subjects.texts }
+        ensures few { result ≤ count }
+        ensures told { self.now.at + result ≤ length self.now.told.texts }
+        ensures subjects { self.now.at + result ≤ length self.now.subjects.texts }
+    {
+        let most = self.told.count().min(self.subjects.count());
+        count.min(most - self.at)
+    }
+
+    // How many facts from here on told nothing, of so many.
+    fn empty_ahead(&self, count: usize) -> usize
+        requires told { self.now.at ≤ length self.now.told.texts }
+        requires subjects { self.now.at ≤ length self.now.subjects.texts }
+        ensures few { result ≤ count }
+        ensures told { self.now.at + result ≤ length self.now.told.texts }
+        ensures subjects { self.now.at + result ≤ length self.now.subjects.texts }
+        ensures empty { (i : ℕ) → i < result → slice_index_or self.now.told.texts (self.now.at + i) [] ≡ [] }
+    {
+        let most = self.told_ahead(count);
+        for i in 0..most {
+            if !self.is_empty_ahead(i) {
+                return i;
+            }
+        }
+        most
+    }
+
+    // The look goes over facts that tell nothing, as they did, and answers how many these are, of so many.
+    fn go_over_empty(&mut self, count: usize) -> usize
+        ensures went { WentKnown self.old self.new (nothings result) }
+        ensures few { result ≤ count }
+    {
+        if self.at > self.told.count() || self.at > self.subjects.count() {
+            return 0;
+        }
+        let empty = self.empty_ahead(count);
+        self.at += empty;
+        empty
+    }
+
     // The look goes over so many facts that tell nothing, one by one.
-    fn go_over_each(&mut self, count: usize)
+    fn go_over_rest(&mut self, count: usize)
         ensures { WentKnown self.old self.new (nothings count) }
     {
         for _ in 0..count {
             self.go_over_nothing();
         }
+    }
+
+    // The look goes over so many facts that tell nothing; those that told nothing at once.
+    fn go_over_each(&mut self, count: usize)
+        ensures { WentKnown self.old self.new (nothings count) }
+    {
+        let empty = self.go_over_empty(count);
+        self.go_over_rest(count - empty);
     }
 
     // Whether the 16 facts that come are a block in which nothing was told.

@@ -187,6 +187,7 @@ pub(crate) fn is_list(parts: &Parts, p: Prio, last: &FactSeen) -> bool
 }
 
 /// Whether that is the status of a thread.
+#[inline(always)]
 pub(crate) fn is_status(parts: &Parts, t: Tid, last: &FactSeen) -> bool
     requires { t < length parts.now.names }
     ensures same { result ≡ true → IsOf (thread_fact parts.now.machine t) (fact_seen last.now) }
@@ -211,6 +212,7 @@ fn are_messages(parts: &Parts, q: ObjId, last: &FactSeen) -> bool
 }
 
 /// Whether that is what the server of a thread has planned.
+#[inline(always)]
 pub(crate) fn is_pending(parts: &Parts, t: Tid, last: &FactSeen) -> bool
     requires { t < length parts.now.names }
     ensures same { result ≡ true → IsOf (pending_fact parts.now.machine t) (fact_seen last.now) }
@@ -239,6 +241,7 @@ fn is_owned(parts: &Parts, k: ObjId, last: &FactSeen) -> bool
 }
 
 /// Whether that is all that a row tells of an object.
+#[inline(always)]
 pub(crate) fn is_of_object(
     parts: &Parts,
     decls: &Declared<'_>,

@@ -6,21 +6,19 @@ ghost use Rattle.rules_facts.specs.Facts.{facts};
 ghost use Rattle.rules_facts.specs.Objects.{in_service_order};
 ghost use Rattle.rules_facts.specs.Shown.{once_ended};
 ghost use Rattle.rules_facts.specs.Signals.{signal_fact};
-ghost use Rattle.kernel_facts.specs.Blocks.{is_inner, inner_rows_kept};
 ghost use Rattle.kernel_facts.specs.Changed.{changed_lines};
 ghost use Rattle.kernel_facts.specs.Desk.{IsReady, WentOn, last_seen};
 ghost use Rattle.kernel_facts.specs.FactSeen.{IsMemoryOf, IsOf, IsOnlyOf, fact_seen};
 ghost use Rattle.kernel_facts.specs.InLine.{stands_in};
-ghost use Rattle.kernel_facts.specs.Kept.{object_row_kept, objects_kept, queue_waiters_kept, signals_kept, texts_of, thread_row_kept, threads_kept, waiters_text};
+ghost use Rattle.kernel_facts.specs.Kept.{object_row_kept, objects_kept, queue_waiters_kept, signals_kept, texts_of, waiters_text};
 ghost use Rattle.kernel_facts.specs.KeptLines.{line_fact, queue_line};
 ghost use Rattle.kernel_facts.specs.Lines.{fact_text, facts_text};
 ghost use Rattle.kernel_facts.specs.Numbered.{AreNumbered};
 ghost use Rattle.kernel_facts.specs.Picked.{left_in};
 ghost use Rattle.kernel_facts.specs.Rooms.{HasObjectsOf};
 ghost use Rattle.kernel_facts.specs.Short.{HasShortText, HaveShortTexts};
-ghost use Rattle.kernel_facts.specs.declared.rows.ThreadRow.{ThreadRow};
 ghost use Rattle.kernel_facts.specs.declared.rows.ObjectRow.{ObjectRow};
-ghost use Rattle.kernel_facts.specs.Rows.{left_out, object_count, object_facts, thread_fact_of};
+ghost use Rattle.kernel_facts.specs.Rows.{left_out, object_count, object_facts};
 
 use crate::declared::Declared;
 use crate::desk::Desk;
@@ -29,20 +27,18 @@ use crate::kept_line::{is_line, see_line};
 use crate::known::{know_few, know_names, know_rows, know_timers};
 use crate::look_lists::look_at_lists;
 use crate::look_threads::look_at_threads;
-use crate::nothing::{
-    are_bare_inside, object_tells_nothing, queue_tells_nothing, signal_tells_nothing,
-    thread_tells_nothing,
-};
-use crate::printed::{print_object_facts, print_signal, print_thread_fact, print_waiters};
-use crate::rows::{ObjectRow, ThreadRow, object_count, object_of};
+use crate::nothing::{object_tells_nothing, queue_tells_nothing, signal_tells_nothing};
+use crate::printed::{print_object_facts, print_signal, print_waiters};
+use crate::rows::{ObjectRow, object_count, object_of};
 use crate::state::left_out;
 use crate::waiters::Line;
 use kernel_state::Parts;
 use parts_texts::NextText;
-use words_numbers::{ObjId, Tid};
+use words_numbers::ObjId;
 use words_script::Script;
 
 // Whether a row tells of an object what was seen last of the fact that comes, and nothing else.
+#[inline(always)]
 fn is_object_as_seen(
     parts: &Parts,
     decls: &Declared<'_>,
@@ -81,6 +77,7 @@ fn tell_object_facts(
     desk.keep(next, failed, &see_object(parts, decls, row, k));
 }
 
+#[inline(always)]
 fn look_at_object_fact(
     parts: &Parts,
     decls: &Declared<'_>,
@@ -107,6 +104,7 @@ fn look_at_object_fact(
 }
 
 // Looks at a row of objects that has one fact for each, by number.
+#[inline(always)]
 fn look_at_object_row(
     parts: &Parts,
     decls: &Declared<'_>,

@@ -61,6 +61,7 @@ fn tell_list(parts: &Parts, decls: &Declared<'_>, p: Prio, next: &mut NextText, 
 }
 
 // A look at the fact behind the run, which is the list of a priority.
+#[inline(always)]
 fn look_at_list(
     parts: &Parts,
     decls: &Declared<'_>,
@@ -206,6 +207,7 @@ fn taken_lists(parts: &Parts) -> Taken
 }
 
 // Looks at the block of 16 lists from a place on; where no thread stands on any of them, none is looked at by itself.
+#[inline(always)]
 fn look_at_block(
     parts: &Parts,
     decls: &Declared<'_>,

@@ -1,7 +1,7 @@
 //! A look at what is told of threads.
-ghost use Rattle.std.specs.Prelude.{ℕ, ◌≡◌, ◌∷◌, ◌<◌, [], length, true};
+ghost use Rattle.std.specs.Prelude.{ℕ, ◌≡◌, ◌≤◌, ◌+◌, ◌∷◌, ◌<◌, [], length, true};
 ghost use Rattle.rules_facts.specs.Threads.{pending_fact, thread_fact};
-ghost use Rattle.kernel_facts.specs.Ahead.{IsRun, IsToldAhead, past};
+ghost use Rattle.kernel_facts.specs.Ahead.{IsRun, IsToldAhead, IsToldAt, past, statuses_from};
 ghost use Rattle.kernel_facts.specs.Blocks.{is_inner, inner_rows_kept};
 ghost use Rattle.kernel_facts.specs.Desk.{WentOn};
 ghost use Rattle.kernel_facts.specs.FactSeen.{IsMemoryOf};
@@ -49,43 +49,64 @@ fn look_at_thread_fact(
 
 // ---- their statuses
 
-// Whether the status of a thread is what was seen last of the fact behind the run.
-fn is_status_ahead(parts: &Parts, t: Tid, run: &Run, desk: &Desk) -> bool
-    requires known { t < length parts.now.names }
+// How many threads from a number on, of so many, have the statuses that were seen last. Theirs are the facts behind the run.
+fn statuses_ahead(parts: &Parts, from: u16, most: u16, run: &Run, desk: &Desk) -> u16
+    requires within { from + most ≤ length parts.now.names }
+    requires few { from + most ≤ 256 }
     requires run { IsRun run.now desk.now }
-    ensures next { result ≡ true → run.now.same < run.now.places }
-    ensures told { result ≡ true → IsToldAhead run.now desk.now (thread_fact parts.now.machine t) }
+    ensures few { result ≤ most }
+    ensures places { run.now.same + result ≤ run.now.places }
+    ensures told { (k : ℕ) → k < result → IsToldAt (desk.now.at + (run.now.same + k)) desk.now (thread_fact parts.now.machine (from + k)) }
 {
-    if !run.has_next() {
-        return false;
+    let most = run.left().min(usize::from(most)) as u16;
+    for k in 0..most {
+        let last = desk.seen_ahead(run.same + usize::from(k));
+        if !is_status(parts, parts.tid(from + k), last) {
+            return k;
+        }
     }
-    is_status(parts, t, desk.seen_ahead(run.same))
+    most
 }
 
-// A look at the fact behind the run, which is the status of a thread.
-fn look_at_status(
+// Goes over threads from a number on that have the statuses that were seen last, and looks at the status of the one behind them. It
+// answers how many these are, of so many.
+fn look_at_next_statuses(
     parts: &Parts,
     decls: &Declared<'_>,
-    t: Tid,
+    from: u16,
+    most: u16,
     run: &mut Run,
     next: &mut NextText,
     desk: &mut Desk,
-)
-    requires known { t < length parts.now.names }
+) -> u16
+    requires some { 0 < most }
+    requires within { from + most ≤ length parts.now.names }
+    requires few { from + most ≤ 256 }
     requires run { IsRun run.old desk.old }
     requires memory { IsMemoryOf decls.now desk.old.told.texts desk.old.seen }
+    ensures some { 0 < result }
+    ensures few { result ≤ most }
     ensures run { IsRun run.new desk.new }
-    ensures kept { WentOn next.old next.new (past run.old desk.old) (past run.new desk.new) (fact_text decls.now (thread_fact parts.now.machine t) ∷ []) }
-    ensures short { HasShortText decls.now (thread_fact parts.now.machine t) }
+    ensures kept { WentOn next.old next.new (past run.old desk.old) (past run.new desk.new) (statuses_from decls.now parts.now.machine from result) }
+    ensures short { (k : ℕ) → k < result → HasShortText decls.now (thread_fact parts.now.machine (from + k)) }
     ensures memory { IsMemoryOf decls.now desk.new.told.texts desk.new.seen }
 {
-    if is_status_ahead(parts, t, run, desk) {
-        run.go_on();
-        return;
+    let same = statuses_ahead(parts, from, most, run, desk);
+    run.skip(usize::from(same));
+    if same == most {
+        return most;
     }
     desk.go_on(run.same);
-    look_at_thread_fact(parts, decls, ThreadRow::Status, t, next, desk);
+    look_at_thread_fact(
+        parts,
+        decls,
+        ThreadRow::Status,
+        parts.tid(from + same),
+        next,
+        desk,
+    );
     *run = Run::begin(desk);
+    same + 1
 }
 
 // Looks at the statuses of the threads, by number.
@@ -95,9 +116,12 @@ fn look_at_statuses(parts: &Parts, decls: &Declared<'_>, next: &mut NextText, de
     ensures memory { IsMemoryOf decls.now desk.new.told.texts desk.new.seen }
     ensures short { (t : ℕ) → t < length parts.now.machine.threads → HasShortText decls.now (thread_fact parts.now.machine t) }
 {
+    let count = parts.count();
     let mut run = Run::begin(desk);
-    for number in 0..parts.count() {
-        look_at_status(parts, decls, parts.tid(number), &mut run, next, desk);
+    let mut number = 0;
+    while number < count {
+        let left = count - number;
+        number += look_at_next_statuses(parts, decls, number, left, &mut run, next, desk);
     }
     desk.go_on(run.same);
 }
@@ -121,6 +145,7 @@ fn is_pending_ahead(parts: &Parts, t: Tid, run: &Run, desk: &Desk) -> bool
 }
 
 // A look at the fact behind the run, which is what the server of a thread has planned.
+#[inline(always)]
 fn look_at_pending(
     parts: &Parts,
     decls: &Declared<'_>,

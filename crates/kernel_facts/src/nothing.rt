@@ -1,5 +1,5 @@
 //! Whether a fact tells nothing, seen without its text.
-ghost use Rattle.std.specs.Prelude.{ℕ, ◌≡◌, ◌∷◌, ◌<◌, Bool, List, [], None, false, length, option_map, true};
+ghost use Rattle.std.specs.Prelude.{ℕ, ◌≡◌, ◌∷◌, ◌<◌, List, [], None, false, length, true};
 ghost use Rattle.words_script.specs.declared.decl.Decl.{Decl};
 ghost use Rattle.rules_lists.specs.Lists.{list_of};
 ghost use Rattle.rules_facts.specs.Fact.{on_list};
@@ -229,6 +229,7 @@ fn is_disarmed(parts: &Parts, k: ObjId) -> bool
 }
 
 /// Whether a row tells nothing of an object, where that is seen at once.
+#[inline(always)]
 pub(crate) fn object_tells_nothing(
     parts: &Parts,
     decls: &Declared<'_>,

@@ -198,6 +198,7 @@ fn put_queue_waiters<K: Sink>(
 // ---- objects
 
 // How many objects a row tells of.
+#[inline(always)]
 pub(crate) fn object_count(parts: &Parts, decls: &Declared<'_>, row: ObjectRow) -> usize
     ensures { result ≡ object_count row decls.now parts.now.machine }
 {

@@ -186,6 +186,7 @@ fn has_status(seen: &Seen, status: SeenStatus) -> bool
 }
 
 /// Whether that is what is told of the status of a thread.
+#[inline(always)]
 pub(crate) fn is_as_seen(parts: &Parts, t: Tid, seen: &Seen) -> bool
     requires { t < length parts.now.names }
     ensures { result ≡ true → seen_fact t seen.now ≡ thread_fact parts.now.machine t }

@@ -1,4 +1,5 @@
-use Rattle.std.proofs.Common.{[], ◌∷◌, ◌<◌, ℕ}
+use Rattle.std.proofs.Common.{[], ◌∷◌, ◌<◌, ◌≤◌, ℕ}
+use Rattle.std.specs.Prelude.{◌-◌}
 use Rattle.rules_facts.specs.Threads.{thread_fact}
 use Rattle.kernel_facts.specs.Ahead.{IsRun, past}
 use Rattle.kernel_facts.specs.Desk.{WentOn}
@@ -8,8 +9,12 @@ use Rattle.kernel_facts.specs.Lines.{fact_text}
 use Rattle.kernel_facts.specs.Short.{HasShortText}
 use Rattle.kernel_facts.proofs.look_threads.look_at_statuses.Given as goal
 
+abbrev pub decreases-loop-number : goal.decreases-loop-number
+decreases-loop-number l = l.count - l.number
+
 abbrev pub invariant-loop-number : goal.invariant-loop-number
 invariant-loop-number l = record {
+  few : l.number ≤ l.count;
   run : IsRun l.run l.desk;
   kept : WentOn l.initial.next l.next l.initial.desk (past l.run l.desk) (kept_below (λ t. fact_text l.decls (thread_fact l.parts.machine t) ∷ []) l.number);
   short : (t : ℕ) → t < l.number → HasShortText l.decls (thread_fact l.parts.machine t);

@@ -1,9 +1,13 @@
-use Rattle.std.proofs.Common.{add-one}
-use Rattle.kernel_facts.proofs.Runs.{known_both, known_none, known_one}
+use Rattle.std.proofs.Common.{arith, subst, sym, ◌+◌, ◌≡◌}
+use Rattle.std.specs.Prelude.{◌-◌}
+use Rattle.kernel_facts.specs.Blocks.{WentKnown}
+use Rattle.kernel_facts.proofs.Runs.{known_both, nothings_sum}
 use Rattle.kernel_facts.proofs.desk.Desk.go_over_each.Goals as goal
 
-pub loop-init : goal.loop-init
-loop-init c = known_none _
-
-pub loop-preserved : goal.loop-preserved
-loop-preserved c = rw add-one (known_both _ _ _ _ _ c.loop.invariant (known_one _ _ c.go_over_nothing.ensures.went c.go_over_nothing.ensures.seen))
+pub returns : goal.returns
+returns c =
+    let empty = c.go_over_empty-empty.result in
+    let few = c.go_over_empty-empty.ensures.few in
+    let all : c.args.count ≡ empty + (c.args.count - empty) = omega (arith, few) in
+    subst (WentKnown c.args.self.now c.go_over_rest.new.self) (sym (nothings_sum empty (c.args.count - empty) c.args.count all))
+    (known_both _ _ _ _ _ c.go_over_empty-empty.ensures.went c.go_over_rest.ensures)
