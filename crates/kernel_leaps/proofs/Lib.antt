@@ -23,6 +23,7 @@ pub mod Midway
 pub mod PastUnits
 pub mod TickTimes
 pub mod Pushing
+pub mod ThreadNames
 pub mod Ticking
 pub mod Landing
 pub mod Ending

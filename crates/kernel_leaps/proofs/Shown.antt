@@ -1,6 +1,8 @@
 -- What is shown of a script's kernel is what is shown of the script.
 use Rattle.std.proofs.Common.{List, ap, arith, subst, sym, ℕ, ◌∙◌, ◌≡◌, ◌≤◌}
 use Rattle.words_script.specs.declared.decl.Script.{Script}
+use Rattle.words_script.specs.declared.name_kind.NameKind.TheVariants as kind
+use Rattle.script_writer.specs.Names.{names_of}
 use Rattle.rules_machine.specs.DueItems.{instant, item_bound}
 use Rattle.rules_machine.specs.Runs.{opening, ticks}
 use Rattle.rules_machine.specs.WellFormed.{IsWellFormed}
@@ -15,6 +17,7 @@ use Rattle.calls_table.specs.Calls.{objects_in}
 use Rattle.kernel_leaps.specs.Ran.{ticked_by}
 use Rattle.kernel_leaps.specs.Shown.{HasFewObjects}
 use Rattle.kernel_leaps.proofs.Opened.{script_fits}
+use Rattle.kernel_leaps.proofs.ThreadNames.{thread_names}
 
 -- the kernel with the items of its instant handled
 abbrev with_items : Kernel → Kernel
@@ -46,3 +49,7 @@ module _ (script : Script) (n : ℕ) (k q : Kernel) (is : k ≡ ticked_by n (ope
         semaphores = subst (λ (c : Counts). c.semaphores ≤ 256) counts few.semaphores;
         queues = subst (λ (c : Counts). c.queues ≤ 256) counts (omega (arith, ok.few_queues));
       }
+
+  -- and its threads have the names of the script's
+  pub named : q.names ≡ names_of kind.Thread script.decls
+  named = ap (λ (x : Kernel). x.names) items_handled ∙ thread_names script.decls

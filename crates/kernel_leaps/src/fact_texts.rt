@@ -1,5 +1,7 @@
 //! The texts of the facts of a run, as they are told instant by instant.
 ghost use Rattle.std.specs.Prelude.{◌≡◌, IfOk, false, length};
+ghost use Rattle.words_script.specs.declared.name_kind.NameKind.TheVariants as kind;
+ghost use Rattle.script_writer.specs.Names.{names_of};
 ghost use Rattle.rules_facts.specs.Facts.{facts};
 ghost use Rattle.rules_facts.specs.Shown.{once_ended};
 ghost use Rattle.script_printer.specs.Puts.{Put, outlet};
@@ -55,6 +57,7 @@ impl FactTexts {
     pub(crate) fn begin(&mut self, parts: &Parts, script: &Script)
         requires numbered { AreNumbered script.now parts.now.machine }
         requires objects { HasObjectsOf script.now parts.now.machine }
+        requires named { parts.now.names ≡ names_of kind.Thread script.now.decls }
         requires rooms { HaveRoomsFor script.now self.old }
         ensures subjects { self.new.desk.subjects.texts ≡ subjects_of script.now.decls (facts script.now parts.now.machine) }
         ensures told { self.new.desk.told.texts ≡ texts_of script.now.decls (facts script.now (once_ended parts.now.machine.killed parts.now.machine)) }
@@ -72,6 +75,7 @@ impl FactTexts {
     pub(crate) fn look(&mut self, parts: &Parts, script: &Script)
         requires numbered { AreNumbered script.now parts.now.machine }
         requires objects { HasObjectsOf script.now parts.now.machine }
+        requires named { parts.now.names ≡ names_of kind.Thread script.now.decls }
         requires ready { AreReady script.now self.old }
         ensures told { self.new.desk.told.texts ≡ texts_of script.now.decls (facts script.now (once_ended parts.now.machine.killed parts.now.machine)) }
         ensures lines { self.new.desk.lines.text ≡ changed_lines parts.now.machine.now self.old.desk.subjects.texts self.old.desk.told.texts self.new.desk.told.texts }

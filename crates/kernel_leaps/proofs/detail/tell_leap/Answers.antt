@@ -25,7 +25,7 @@ use Rattle.kernel_leaps.proofs.InUnit.{most_near}
 use Rattle.kernel_leaps.proofs.MayTell.{may_within}
 use Rattle.kernel_leaps.proofs.Midst.{midst}
 use Rattle.kernel_leaps.proofs.Running.{items_fit}
-use Rattle.kernel_leaps.proofs.Shown.{numbered}
+use Rattle.kernel_leaps.proofs.Shown.{named, numbered}
 use Rattle.kernel_leaps.proofs.StepsLeft.{first_step, quiet_tick, rest_step}
 use Rattle.kernel_leaps.proofs.Telling.{m, p, q}
 use Rattle.kernel_leaps.proofs.TellingPieces.{ends_written, is_handled, is_top, lives, ticked_is}
@@ -120,6 +120,10 @@ look-requires-clause-numbered g c =
     let handled = c.write_items.new.p in
     let state = c.write_items.ensures.state in
     numbered s at.done start handled in_run state c.requires.runnable f c.requires.few
+
+pub look-requires-clause-named : goal.look-requires-clause-named
+look-requires-clause-named g c =
+    named c.args.script.now c.args.reached.done c.is_calm-calm.new.p c.write_items.new.p (c.is_calm-calm.ensures.same ∙ c.requires.in_run) c.write_items.ensures.state
 
 pub look-requires-clause-objects : goal.look-requires-clause-objects
 look-requires-clause-objects g c =

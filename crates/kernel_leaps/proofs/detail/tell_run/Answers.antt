@@ -8,12 +8,16 @@ use Rattle.kernel_leaps.proofs.Running.{still_fits}
 use Rattle.kernel_leaps.proofs.StepsLeft.{some_steps}
 use Rattle.kernel_leaps.proofs.TellingRooms.{objects_first}
 use Rattle.kernel_leaps.proofs.TellingSpan.{a_signal, no_signal}
+use Rattle.kernel_leaps.proofs.ThreadNames.{thread_names}
 use Rattle.kernel_leaps.proofs.TellingStart.{are_first, ends_dead, none_told, stops_short, tells_on, told_dead}
 use Rattle.kernel_leaps.proofs.detail.tell_run.Goals as goal
 
 -- nothing is left
 all_done : (done left total : ℕ) → left ≤ 0 → done + left ≡ total → done ≡ total
 all_done done left total none all = omega (arith, none, all)
+
+pub begin-requires-clause-named : goal.begin-requires-clause-named
+begin-requires-clause-named g c = ap (λ (x : Kernel). x.names) c.requires.opened ∙ thread_names c.args.script.now.decls
 
 pub begin-requires-clause-objects : goal.begin-requires-clause-objects
 begin-requires-clause-objects g c = objects_first c.args.script.now c.args.p.now c.requires.opened

@@ -1,7 +1,7 @@
 use Rattle.std.proofs.Common.{List, subst, ℕ, ◌∙◌}
 use Rattle.parts_io.specs.Bytes.{WritesAll}
 use Rattle.kernel_leaps.proofs.Running.{items_fit}
-use Rattle.kernel_leaps.proofs.Shown.{numbered, text_is}
+use Rattle.kernel_leaps.proofs.Shown.{named, numbered, text_is}
 use Rattle.kernel_leaps.proofs.kernel.Kernel.show.Goals as goal
 
 pub handle_items-requires-clause-fits : goal.handle_items-requires-clause-fits
@@ -12,6 +12,7 @@ pub write_state-requires : goal.write_state-requires
 write_state-requires g c = record {
   numbered = rw c.deref.ensures (numbered c.args.script.now c.requires.in_run.ticks c.deref_mut.result.now c.handle_items.new.p (c.deref_mut.ensures.value ∙ (c.self.view_is ∙ c.requires.in_run.is)) c.handle_items.ensures.state
       c.requires.runnable c.requires.well_formed c.requires.few);
+  named = rw c.deref.ensures (named c.args.script.now c.requires.in_run.ticks c.deref_mut.result.now c.handle_items.new.p (c.deref_mut.ensures.value ∙ (c.self.view_is ∙ c.requires.in_run.is)) c.handle_items.ensures.state);
 }
 
 pub returns-clause-written : goal.returns-clause-written
