@@ -37,6 +37,7 @@ impl Run {
     {
         self.same += 1;
     }
+
     /// How many facts behind it have a place.
     pub(crate) fn left(&self) -> usize
         requires { self.now.same ≤ self.now.places }

@@ -347,6 +347,7 @@ impl SeenFacts {
             self.busy[number / 16] = true;
         }
     }
+
     /// Whether nothing was told in a block.
     pub(crate) fn is_quiet(&self, block: usize) -> bool
         ensures { result ≡ true → slice_index_or self.now.busy block true ≡ false }
