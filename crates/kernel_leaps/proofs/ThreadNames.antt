@@ -9,7 +9,7 @@ use Rattle.words_script.specs.declared.name_kind.NameKind.TheVariants as kind
 use Rattle.script_writer.specs.Names.{names_of}
 use Rattle.rules_machine.specs.Declarations.{ThreadDecl, declared_thread}
 
-thread_names_of : List Decl → List (List ℕ)
+abbrev pub thread_names_of : List Decl → List (List ℕ)
 thread_names_of decls = map (λ (d : ThreadDecl). d.name) (filter_map declared_thread decls)
 
 -- with one declaration in front
