@@ -8,7 +8,7 @@ use Rattle.kernel_state.specs.Stood.{StoodRight}
 use Rattle.kernel_state.proofs.SettleIs.{settles_after}
 use Rattle.kernel_state.proofs.StoodAgain.{stood_again}
 use Rattle.calls_signals.proofs.Midway.{midway}
-use Rattle.calls_signals.proofs.sweeps.sweep_pending.Goals as goal
+use Rattle.calls_signals.proofs.sweeps.sweep_in_full.Goals as goal
 
 pub returns-clause-does : goal.returns-clause-does
 returns-clause-does g c = record {
