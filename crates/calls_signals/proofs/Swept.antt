@@ -1,5 +1,5 @@
 -- What a visit tells is told behind what was told before it.
-use Rattle.std.proofs.Common.{◌≡◌, ℕ, List, [], Bool, true, false, None, Option, Some, ap, refl, sym, ◌∙◌}
+use Rattle.std.proofs.Common.{◌≡◌, ◌<◌, length, ℕ, List, [], Bool, true, false, None, Option, Some, ap, refl, sym, ◌∙◌}
 use Rattle.std.specs.Prelude.{if◌then◌else◌, is_some}
 use Rattle.parts_tracer.specs.Tells.{Tells}
 use Rattle.words_trace.specs.declared.event.Event.TheVariants as event
@@ -109,8 +109,8 @@ module _ (bodies : Bodies Cursor) (t : ℕ) (k : Kernel) (b : Bool) (killed : b 
         Tells text faults k.names a c (told (visiting bodies t) k)
     told_some off r c taken h = same_told text faults (visiting bodies t) (acts bodies (action_of k.machine r.signal) t r) k a c (visit_some bodies t (turn k) b r killed off taken) h
 
--- ---- a sweep with nothing pending
+-- ---- a sweep in which nobody takes a record
 
-pub nothing_swept : {K : Type 0} {text : K → Option (List ℕ)} {faults : K → ℕ} (k : Kernel) (a : Tracer K) → k.machine.pending ≡ [] → k.direct ≡ [] → StoodRight k.machine →
-    Does text faults (sweeps (flat_bodies k.code)) k k a a
+pub nothing_swept : {K : Type 0} {text : K → Option (List ℕ)} {faults : K → ℕ} (k : Kernel) (a : Tracer K) → ((t : ℕ) → t < length k.machine.threads → taken_by_sweep k.machine t ≡ None) → k.direct ≡ [] →
+    StoodRight k.machine → Does text faults (sweeps (flat_bodies k.code)) k k a a
 nothing_swept k a none quiet stood = nothing_does (sweeps (flat_bodies k.code)) k a (sweeps_nothing (flat_bodies k.code) (turn k) none quiet stood)

@@ -46,9 +46,9 @@ fn visit_all<K: Sink>(p: &mut Parts, out: &mut Tracer<'_, K>)
     }
 }
 
-// A sweep with its moves. It stands apart, so that the test before it is inlined.
+// A sweep with its moves. It stands apart, so that the way past it is short.
 #[inline(never)]
-fn sweep_pending<K: Sink>(p: &mut Parts, out: &mut Tracer<'_, K>)
+fn sweep_in_full<K: Sink>(p: &mut Parts, out: &mut Tracer<'_, K>)
     requires quiet { p.old.direct ≡ [] }
     requires stood { StoodRight p.old.machine }
     requires can { CanSweep p.old }
@@ -59,6 +59,24 @@ fn sweep_pending<K: Sink>(p: &mut Parts, out: &mut Tracer<'_, K>)
 {
     visit_all(p, out);
     p.settle();
+}
+
+// The sweep where something is pending. Mostly each thread blocks it, and then nothing changes. It stands apart, so that the test before
+// it is inlined.
+#[inline(never)]
+fn sweep_pending<K: Sink>(p: &mut Parts, out: &mut Tracer<'_, K>)
+    requires quiet { p.old.direct ≡ [] }
+    requires stood { StoodRight p.old.machine }
+    requires can { CanSweep p.old }
+    requires early { p.old.machine.now ≤ 10 ^ 18 }
+    ensures does { Does K.text K.faults (sweeps (flat_bodies p.old.code)) p.old p.new out.old out.new }
+    ensures stood { StoodRight p.new.machine }
+    ensures quiet { p.new.direct ≡ [] }
+{
+    if p.no_thread_takes() {
+        return;
+    }
+    sweep_in_full(p, out);
 }
 
 /// The sweep. Where nothing is pending it is one comparison.

@@ -1,5 +1,6 @@
 mod Counting
 mod Asking
+mod Masking
 pub mod ByAge
 pub mod Keeping
 pub mod Selecting

@@ -1,5 +1,5 @@
 //! The pending records.
-ghost use Rattle.std.specs.Prelude.{◌≡◌, ◌↔◌, IsTrue, ◌≤◌, ◌<◌, ◌&&◌, ◌||◌, not, ℕ, ◌++◌, ◌∷◌, [], All, Contains, nat_le, length, replicate, slice_get, IfOk, IfSome};
+ghost use Rattle.std.specs.Prelude.{◌≡◌, ◌↔◌, IsTrue, ◌≤◌, ◌<◌, ◌&&◌, ◌||◌, not, ℕ, ◌++◌, ◌∷◌, [], All, Contains, nat_le, length, replicate, slice_get, true, IfOk, IfSome};
 ghost use Rattle.words_numbers.specs.Signals.{has_signal};
 ghost use Rattle.std.specs.List.{list_any};
 ghost use Rattle.rules_machine.specs.Lists.{is};
@@ -14,6 +14,7 @@ use crate::choice::{Wanted, first_wanted, lowest};
 use crate::record::SignalRecord;
 use crate::timed::Timed;
 use parts_arrivals::Arrivals;
+use parts_bits::words::has_no_bit;
 use parts_filled::filled;
 use std::alloc::{AllocError, Global};
 use std::marker::Model;
@@ -119,6 +120,15 @@ impl Pending {
         self.counted -= weight(taken.code());
         self.timed.remove(taken.timer());
         Some(taken)
+    }
+
+    /// Whether the mask has the signals of all that are pending.
+    #[inline(always)]
+    pub fn are_masked(&self, mask: SigSet) -> bool
+        ensures { IsTrue result ↔ All (λ (r : machine.SignalRecord). has_signal mask r.signal ≡ true) self.now }
+    {
+        let others = self.arrivals.ranks() & !mask.bits();
+        has_no_bit(others as u64)
     }
 
     /// Whether as many records of kill, tkill and sigqueue are pending as may be, 64.

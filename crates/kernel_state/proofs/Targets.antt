@@ -165,3 +165,24 @@ taken_is m t mask kills runs b o same_mask same_runs are small may on is =
     ∙ ap (λ (c : Bool). selected_in m.pending (may_take t (thread_at m t).mask kills c)) same_runs
     ∙ ap (first_by is_selected_before) (taken_alike m t kills are m.pending small)
     ∙ sym (ap (λ (c : Bool). if c then selected m (can_take m t) else None) (sym may ∙ on))
+
+-- ---- a thread that takes none
+
+not_gone : (go masked runs : Bool) → masked ≡ true → (go && not masked && runs) ≡ false
+not_gone true true runs e = refl
+not_gone false true runs e = refl
+not_gone go false runs e = absurd cc
+
+none_can : (m : Machine Cursor) (t : ℕ) (pending : List SignalRecord) → All (λ (r : SignalRecord). has_signal (thread_at m t).mask r.signal ≡ true) pending → filter (can_take m t) pending ≡ []
+none_can m t [] all = refl
+none_can m t (r ∷ pending) all =
+    let no : can_take m t r ≡ false = not_gone (may_go_to t r.target) (has_signal (thread_at m t).mask r.signal) (is_kill (action_of m r.signal) || may_run_handler m t) (all 0 r (omega arith)) in
+    ap (λ (b : Bool). if b then r ∷ filter (can_take m t) pending else filter (can_take m t) pending) no ∙ none_can m t pending (λ k d l. all (suc k) d (omega (arith, l)))
+
+-- its mask has the signals of all
+pub masked_takes_none : (m : Machine Cursor) (t : ℕ) → All (λ (r : SignalRecord). has_signal (thread_at m t).mask r.signal ≡ true) m.pending → taken_by_sweep m t ≡ None
+masked_takes_none m t all = by_case (may_be_interrupted (thread_at m t))
+  where
+    by_case : (b : Bool) → (if b then selected m (can_take m t) else None) ≡ None
+    by_case true = ap (first_by is_selected_before) (none_can m t m.pending all)
+    by_case false = refl

@@ -1,5 +1,5 @@
 //! Signals: what they do, and the pending ones.
-ghost use Rattle.std.specs.Prelude.{◌≡◌, ◌≤◌, ◌<◌, ◌^◌, ◌↔◌, ◌&&◌, [], Contains, IfSome, IsTrue, None, Some, length, option_map, true, if◌then◌else◌};
+ghost use Rattle.std.specs.Prelude.{◌≡◌, ◌≤◌, ◌<◌, ◌^◌, ◌↔◌, ◌&&◌, [], Contains, IfSome, IsTrue, None, Some, length, option_map, true, if◌then◌else◌, ℕ};
 ghost use Rattle.words_numbers.specs.Signals.{has_signal};
 ghost use Rattle.rules_bodies.specs.Next.{capped};
 ghost use Rattle.rules_machine.specs.declared.frame.BodyOf.{BodyOf};
@@ -66,6 +66,30 @@ impl Parts {
             self.actions.kills(),
             thread.runs_handlers(),
         )
+    }
+
+    // Whether a thread takes no pending record since its mask has their signals, or since it is in a handler or lives no more.
+    #[inline(always)]
+    fn takes_none(&self, t: Tid) -> bool
+        requires { t < length self.now.names }
+        ensures { IsTrue result → taken_by_sweep self.now.machine t ≡ None }
+    {
+        let thread = self.table.thread(t);
+        self.pending.are_masked(thread.mask()) || !thread.may_be_interrupted()
+    }
+
+    /// Whether no thread takes a pending record since each blocks their signals, is in a handler or lives no more.
+    #[inline(always)]
+    pub fn no_thread_takes(&self) -> bool
+        ensures { IsTrue result → (t : ℕ) → t < length self.now.machine.threads → taken_by_sweep self.now.machine t ≡ None }
+    {
+        for number in 0..self.count() {
+            let t = self.tid(number);
+            if !self.takes_none(t) {
+                return false;
+            }
+        }
+        true
     }
 
     /// The pending record that a thread takes which asks for one of a set; it stays. `None` exactly where there is none.
