@@ -22,12 +22,13 @@ ghost use Rattle.kernel_facts.specs.Rows.{left_out, object_count, object_facts};
 
 use crate::declared::Declared;
 use crate::desk::Desk;
-use crate::fact_seen::{FactSeen, is_of_object, see_object};
+use crate::fact_seen::FactSeen;
 use crate::kept_line::{is_line, see_line};
 use crate::known::{know_few, know_names, know_rows, know_timers};
 use crate::look_lists::look_at_lists;
 use crate::look_threads::look_at_threads;
 use crate::nothing::{object_tells_nothing, queue_tells_nothing, signal_tells_nothing};
+use crate::objects_seen::{is_of_object, see_object};
 use crate::printed::{print_object_facts, print_signal, print_waiters};
 use crate::rows::{ObjectRow, object_count, object_of};
 use crate::state::left_out;
