@@ -27,6 +27,7 @@ mod line;
 mod lists;
 mod look;
 mod look_lists;
+mod look_signals;
 mod look_threads;
 mod names;
 mod nothing;
