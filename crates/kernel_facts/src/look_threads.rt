@@ -187,7 +187,52 @@ fn look_at_plans(parts: &Parts, decls: &Declared<'_>, next: &mut NextText, desk:
 
 // ---- what else they have about them
 
+// Whether a row tells nothing of a thread, as was told last of the fact behind the run.
+fn is_told_ahead(parts: &Parts, row: ThreadRow, t: Tid, run: &Run, desk: &Desk) -> bool
+    requires known { t < length parts.now.names }
+    requires run { IsRun run.now desk.now }
+    ensures next { result ≡ true → run.now.same < run.now.places }
+    ensures told { result ≡ true → IsToldAhead run.now desk.now (thread_fact_of row parts.now.machine t) }
+{
+    if !run.has_next() {
+        return false;
+    }
+    if thread_tells_nothing(parts, row, t) {
+        return desk.is_empty_ahead(run.same);
+    }
+    false
+}
+
+// A look at the fact behind the run, which is what a row tells of a thread.
+#[inline(always)]
+fn look_at_row_fact(
+    parts: &Parts,
+    decls: &Declared<'_>,
+    row: ThreadRow,
+    t: Tid,
+    run: &mut Run,
+    next: &mut NextText,
+    desk: &mut Desk,
+)
+    requires known { t < length parts.now.names }
+    requires run { IsRun run.old desk.old }
+    requires memory { IsMemoryOf decls.now desk.old.told.texts desk.old.seen }
+    ensures run { IsRun run.new desk.new }
+    ensures kept { WentOn next.old next.new (past run.old desk.old) (past run.new desk.new) (fact_text decls.now (thread_fact_of row parts.now.machine t) ∷ []) }
+    ensures short { HasShortText decls.now (thread_fact_of row parts.now.machine t) }
+    ensures memory { IsMemoryOf decls.now desk.new.told.texts desk.new.seen }
+{
+    if is_told_ahead(parts, row, t, run, desk) {
+        run.go_on();
+        return;
+    }
+    desk.go_on(run.same);
+    look_at_thread_fact(parts, decls, row, t, next, desk);
+    *run = Run::begin(desk);
+}
+
 // Looks at a row of threads, by number.
+#[inline(always)]
 fn look_at_thread_row(
     parts: &Parts,
     decls: &Declared<'_>,
@@ -200,9 +245,11 @@ fn look_at_thread_row(
     ensures memory { IsMemoryOf decls.now desk.new.told.texts desk.new.seen }
     ensures short { (t : ℕ) → t < length parts.now.machine.threads → HasShortText decls.now (thread_fact_of row parts.now.machine t) }
 {
+    let mut run = Run::begin(desk);
     for number in 0..parts.count() {
-        look_at_thread_fact(parts, decls, row, parts.tid(number), next, desk);
+        look_at_row_fact(parts, decls, row, parts.tid(number), &mut run, next, desk);
     }
+    desk.go_on(run.same);
 }
 
 // Looks at what threads have about them but for what their servers have planned.
