@@ -2,7 +2,7 @@
 ghost use Rattle.std.specs.Prelude.{◌≡◌, ◌<◌, ◌^◌, ◌/◌, IfOk, false, is_some, length, replicate, slice_index_or, slice_set, true};
 ghost use Rattle.rules_lists.specs.Lists.{list_of};
 ghost use Rattle.rules_facts.specs.Fact.{on_list, replenishments};
-ghost use Rattle.rules_facts.specs.Threads.{pending_fact, thread_fact};
+ghost use Rattle.rules_facts.specs.Threads.{cancelability_fact, mask_fact, pending_fact, thread_fact};
 ghost use Rattle.kernel_facts.specs.FactSeen.{IsOf, fact_seen, no_memory};
 ghost use Rattle.kernel_facts.specs.Rows.{thread_fact_of};
 ghost use Rattle.kernel_facts.specs.declared.fact_seen.FactSeen.TheVariants as variant;
@@ -35,6 +35,10 @@ pub enum FactSeen {
     Registration(ObjId, u8, u64),
     /// When an armed timer is due, and its interval.
     Arming(ObjId, u64, u64),
+    /// The signals that a thread blocks.
+    Masked(Tid, u32),
+    /// Whether a thread is to be cancelled, is not to be, and is ending.
+    Cancelability(Tid, bool, bool, bool),
     /// The one replenishment that the server of a thread has planned.
     PlannedOnce(Tid, Replenish),
     /// The two that it has planned, the oldest first.
@@ -68,6 +72,26 @@ fn is_planned_twice(a: &FactSeen, t: Tid, first: &Replenish, second: &Replenish)
     match a {
         FactSeen::PlannedTwice(u, one, two) => {
             *u == t && is_same_plan(one, first) && is_same_plan(two, second)
+        }
+        _ => false,
+    }
+}
+
+fn is_masked(a: &FactSeen, t: Tid, set: u32) -> bool
+    ensures { result ≡ true → a.now ≡ variant.Masked t set }
+{
+    match a {
+        FactSeen::Masked(u, other) => *u == t && *other == set,
+        _ => false,
+    }
+}
+
+fn has_flags(a: &FactSeen, t: Tid, requested: bool, disabled: bool, ending: bool) -> bool
+    ensures { result ≡ true → a.now ≡ variant.Cancelability t requested disabled ending }
+{
+    match a {
+        FactSeen::Cancelability(u, r, d, e) => {
+            *u == t && *r == requested && *d == disabled && *e == ending
         }
         _ => false,
     }
@@ -111,6 +135,33 @@ fn see_pending(parts: &Parts, t: Tid) -> FactSeen
     }
 }
 
+fn see_mask(parts: &Parts, t: Tid) -> FactSeen
+    requires { t < length parts.now.names }
+    ensures { IsOf (mask_fact parts.now.machine t) (fact_seen result) }
+{
+    let thread = parts.thread(t);
+    if thread.is_live() {
+        return FactSeen::Masked(t, thread.mask().bits());
+    }
+    FactSeen::Unseen
+}
+
+fn see_cancelability(parts: &Parts, t: Tid) -> FactSeen
+    requires { t < length parts.now.names }
+    ensures { IsOf (cancelability_fact parts.now.machine t) (fact_seen result) }
+{
+    let thread = parts.thread(t);
+    if thread.is_live() {
+        return FactSeen::Cancelability(
+            t,
+            thread.is_requested(),
+            !thread.is_enabled(),
+            thread.is_ending(),
+        );
+    }
+    FactSeen::Unseen
+}
+
 /// What is seen of a thread in a row.
 pub(crate) fn see_thread(parts: &Parts, row: ThreadRow, t: Tid) -> FactSeen
     requires { t < length parts.now.names }
@@ -119,8 +170,8 @@ pub(crate) fn see_thread(parts: &Parts, row: ThreadRow, t: Tid) -> FactSeen
     match row {
         ThreadRow::Status => FactSeen::Status(t, see(parts, t)),
         ThreadRow::Frames => FactSeen::Unseen,
-        ThreadRow::Mask => FactSeen::Unseen,
-        ThreadRow::Cancelability => FactSeen::Unseen,
+        ThreadRow::Mask => see_mask(parts, t),
+        ThreadRow::Cancelability => see_cancelability(parts, t),
         ThreadRow::Cleanups => FactSeen::Unseen,
         ThreadRow::Pending => see_pending(parts, t),
     }
@@ -165,6 +216,50 @@ pub(crate) fn is_pending(parts: &Parts, t: Tid, last: &FactSeen) -> bool
     match parts.thread(t).server() {
         None => false,
         Some(server) => are_planned(t, server.pending(), last),
+    }
+}
+
+// Whether those are the signals that a thread blocks.
+fn is_mask(parts: &Parts, t: Tid, last: &FactSeen) -> bool
+    requires { t < length parts.now.names }
+    ensures same { result ≡ true → IsOf (mask_fact parts.now.machine t) (fact_seen last.now) }
+    ensures some { result ≡ true → is_some (fact_seen last.now) ≡ true }
+{
+    let thread = parts.thread(t);
+    if thread.is_live() {
+        return is_masked(last, t, thread.mask().bits());
+    }
+    false
+}
+
+// Whether that is what holds of the cancellation of a thread.
+fn is_cancelability(parts: &Parts, t: Tid, last: &FactSeen) -> bool
+    requires { t < length parts.now.names }
+    ensures same { result ≡ true → IsOf (cancelability_fact parts.now.machine t) (fact_seen last.now) }
+    ensures some { result ≡ true → is_some (fact_seen last.now) ≡ true }
+{
+    let thread = parts.thread(t);
+    if thread.is_live() {
+        let (requested, ending) = (thread.is_requested(), thread.is_ending());
+        return has_flags(last, t, requested, !thread.is_enabled(), ending);
+    }
+    false
+}
+
+/// Whether that is what a row tells of a thread.
+#[inline(always)]
+pub(crate) fn is_of_thread(parts: &Parts, row: ThreadRow, t: Tid, last: &FactSeen) -> bool
+    requires { t < length parts.now.names }
+    ensures same { result ≡ true → IsOf (thread_fact_of row parts.now.machine t) (fact_seen last.now) }
+    ensures some { result ≡ true → is_some (fact_seen last.now) ≡ true }
+{
+    match row {
+        ThreadRow::Status => is_status(parts, t, last),
+        ThreadRow::Frames => false,
+        ThreadRow::Mask => is_mask(parts, t, last),
+        ThreadRow::Cancelability => is_cancelability(parts, t, last),
+        ThreadRow::Cleanups => false,
+        ThreadRow::Pending => is_pending(parts, t, last),
     }
 }
 

@@ -14,7 +14,7 @@ ghost use Rattle.kernel_facts.specs.declared.rows.ThreadRow.{ThreadRow};
 use crate::ahead::Run;
 use crate::declared::Declared;
 use crate::desk::Desk;
-use crate::fact_seen::{is_pending, is_status, see_thread};
+use crate::fact_seen::{is_of_thread, is_pending, is_status, see_thread};
 use crate::nothing::{are_bare_inside, plans_nothing, thread_tells_nothing};
 use crate::printed::print_thread_fact;
 use crate::rows::ThreadRow;
@@ -187,7 +187,7 @@ fn look_at_plans(parts: &Parts, decls: &Declared<'_>, next: &mut NextText, desk:
 
 // ---- what else they have about them
 
-// Whether a row tells nothing of a thread, as was told last of the fact behind the run.
+// Whether what a row tells of a thread is what was seen last of the fact behind the run, or nothing as it was.
 fn is_told_ahead(parts: &Parts, row: ThreadRow, t: Tid, run: &Run, desk: &Desk) -> bool
     requires known { t < length parts.now.names }
     requires run { IsRun run.now desk.now }
@@ -200,7 +200,7 @@ fn is_told_ahead(parts: &Parts, row: ThreadRow, t: Tid, run: &Run, desk: &Desk) 
     if thread_tells_nothing(parts, row, t) {
         return desk.is_empty_ahead(run.same);
     }
-    false
+    is_of_thread(parts, row, t, desk.seen_ahead(run.same))
 }
 
 // A look at the fact behind the run, which is what a row tells of a thread.
