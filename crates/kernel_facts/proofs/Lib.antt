@@ -29,3 +29,4 @@ pub mod Runs
 pub mod BareRows
 pub mod SameRuns
 pub mod EmptyLists
+pub mod PendingSignals

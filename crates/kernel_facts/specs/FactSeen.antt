@@ -1,7 +1,7 @@
 -- What is seen of a fact as a value, and the texts that tell it. This project's own.
 use Rattle.std.specs.Prelude.{Bool, List, None, Option, Some, [], false, map, replicate, slice_index_or, true, ℕ, ◌/◌, ◌∷◌, ◌≡◌}
 use Rattle.words_script.specs.declared.decl.Decl.{Decl}
-use Rattle.rules_facts.specs.Fact.{Fact, messages_of, on_list, owner, replenishments, semaphore_value}
+use Rattle.rules_facts.specs.Fact.{Fact, arming_of, cancelability, masked, messages_of, on_list, owner, registration_of, replenishments, semaphore_value}
 use Rattle.rules_facts.specs.Order.{in_order}
 use Rattle.rules_facts.specs.Queues.{is_received_before}
 use Rattle.parts_waiters.specs.declared.order.Candidate.{Candidate}
@@ -21,6 +21,10 @@ fact_seen (seen.Status t s) = Some (seen_fact t s)
 fact_seen (seen.OnList p few) = Some (on_list p (threads_in few))
 fact_seen (seen.Owner k t count) = Some (owner k (Some (record { thread = t; count = count })))
 fact_seen (seen.Value k value) = Some (semaphore_value k value)
+fact_seen (seen.Registration q signal value) = Some (registration_of q (Some (record { signal = signal; value = value })))
+fact_seen (seen.Arming k due interval) = Some (arming_of k (Some (record { due = due; interval = interval })))
+fact_seen (seen.Masked t set) = Some (masked t set)
+fact_seen (seen.Cancelability t requested disabled ending) = Some (cancelability t (record { is_requested = requested; is_disabled = disabled; is_ending = ending }))
 fact_seen (seen.PlannedOnce t a) = Some (replenishments t (a ∷ []))
 fact_seen (seen.PlannedTwice t a b) = Some (replenishments t (a ∷ b ∷ []))
 fact_seen (seen.Messages q few) = Some (messages_of q (in_order is_received_before (messages_in few)))

@@ -11,6 +11,7 @@ pub mod Rooms
 pub mod Modest
 pub mod Short
 pub mod Nothing
+pub mod PendingSignals
 pub mod Desk
 pub mod Seen
 pub mod FewSeen

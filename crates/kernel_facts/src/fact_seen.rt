@@ -2,19 +2,16 @@
 ghost use Rattle.std.specs.Prelude.{◌≡◌, ◌<◌, ◌^◌, ◌/◌, IfOk, false, is_some, length, replicate, slice_index_or, slice_set, true};
 ghost use Rattle.rules_lists.specs.Lists.{list_of};
 ghost use Rattle.rules_facts.specs.Fact.{on_list, replenishments};
-ghost use Rattle.rules_facts.specs.Objects.{owner_fact};
-ghost use Rattle.rules_facts.specs.Queues.{messages_fact};
-ghost use Rattle.rules_facts.specs.Threads.{pending_fact, thread_fact};
-ghost use Rattle.kernel_facts.specs.FactSeen.{IsOf, IsOnlyOf, fact_seen, no_memory};
-ghost use Rattle.kernel_facts.specs.Rows.{object_count, object_facts, thread_fact_of};
+ghost use Rattle.rules_facts.specs.Threads.{cancelability_fact, mask_fact, pending_fact, thread_fact};
+ghost use Rattle.kernel_facts.specs.FactSeen.{IsOf, fact_seen, no_memory};
+ghost use Rattle.kernel_facts.specs.Rows.{thread_fact_of};
 ghost use Rattle.kernel_facts.specs.declared.fact_seen.FactSeen.TheVariants as variant;
 
-use crate::declared::Declared;
-use crate::few::{FewMessages, FewThreads, are_held, see_messages, stand_on_list};
-use crate::kept_line::{FewWaiters, is_line, see_line};
-use crate::rows::{ObjectRow, ThreadRow};
+use crate::few::{FewMessages, FewThreads, stand_on_list};
+use crate::kept_line::FewWaiters;
+use crate::rows::ThreadRow;
 use crate::seen::{Seen, is_as_seen, see};
-use crate::waiters::{Line, LineSort};
+use crate::waiters::LineSort;
 use kernel_state::Parts;
 use parts_server::Replenish;
 use std::alloc::{AllocError, Global};
@@ -34,6 +31,14 @@ pub enum FactSeen {
     Owner(ObjId, Tid, u16),
     /// The value of a semaphore.
     Value(ObjId, u16),
+    /// Whom a message of a queue tells: the signal, and its value.
+    Registration(ObjId, u8, u64),
+    /// When an armed timer is due, and its interval.
+    Arming(ObjId, u64, u64),
+    /// The signals that a thread blocks.
+    Masked(Tid, u32),
+    /// Whether a thread is to be cancelled, is not to be, and is ending.
+    Cancelability(Tid, bool, bool, bool),
     /// The one replenishment that the server of a thread has planned.
     PlannedOnce(Tid, Replenish),
     /// The two that it has planned, the oldest first.
@@ -45,24 +50,6 @@ pub enum FactSeen {
 }
 
 // ---- whether the same is seen
-
-fn is_owner(a: &FactSeen, k: ObjId, t: Tid, count: u16) -> bool
-    ensures { result ≡ true → a.now ≡ variant.Owner k t count }
-{
-    match a {
-        FactSeen::Owner(j, u, other) => *j == k && *u == t && *other == count,
-        _ => false,
-    }
-}
-
-fn is_value(a: &FactSeen, k: ObjId, value: u16) -> bool
-    ensures { result ≡ true → a.now ≡ variant.Value k value }
-{
-    match a {
-        FactSeen::Value(j, other) => *j == k && *other == value,
-        _ => false,
-    }
-}
 
 fn is_same_plan(a: &Replenish, b: &Replenish) -> bool
     ensures { result ≡ true → a.now ≡ b.now }
@@ -85,6 +72,26 @@ fn is_planned_twice(a: &FactSeen, t: Tid, first: &Replenish, second: &Replenish)
     match a {
         FactSeen::PlannedTwice(u, one, two) => {
             *u == t && is_same_plan(one, first) && is_same_plan(two, second)
+        }
+        _ => false,
+    }
+}
+
+fn is_masked(a: &FactSeen, t: Tid, set: u32) -> bool
+    ensures { result ≡ true → a.now ≡ variant.Masked t set }
+{
+    match a {
+        FactSeen::Masked(u, other) => *u == t && *other == set,
+        _ => false,
+    }
+}
+
+fn has_flags(a: &FactSeen, t: Tid, requested: bool, disabled: bool, ending: bool) -> bool
+    ensures { result ≡ true → a.now ≡ variant.Cancelability t requested disabled ending }
+{
+    match a {
+        FactSeen::Cancelability(u, r, d, e) => {
+            *u == t && *r == requested && *d == disabled && *e == ending
         }
         _ => false,
     }
@@ -128,6 +135,33 @@ fn see_pending(parts: &Parts, t: Tid) -> FactSeen
     }
 }
 
+fn see_mask(parts: &Parts, t: Tid) -> FactSeen
+    requires { t < length parts.now.names }
+    ensures { IsOf (mask_fact parts.now.machine t) (fact_seen result) }
+{
+    let thread = parts.thread(t);
+    if thread.is_live() {
+        return FactSeen::Masked(t, thread.mask().bits());
+    }
+    FactSeen::Unseen
+}
+
+fn see_cancelability(parts: &Parts, t: Tid) -> FactSeen
+    requires { t < length parts.now.names }
+    ensures { IsOf (cancelability_fact parts.now.machine t) (fact_seen result) }
+{
+    let thread = parts.thread(t);
+    if thread.is_live() {
+        return FactSeen::Cancelability(
+            t,
+            thread.is_requested(),
+            !thread.is_enabled(),
+            thread.is_ending(),
+        );
+    }
+    FactSeen::Unseen
+}
+
 /// What is seen of a thread in a row.
 pub(crate) fn see_thread(parts: &Parts, row: ThreadRow, t: Tid) -> FactSeen
     requires { t < length parts.now.names }
@@ -136,40 +170,10 @@ pub(crate) fn see_thread(parts: &Parts, row: ThreadRow, t: Tid) -> FactSeen
     match row {
         ThreadRow::Status => FactSeen::Status(t, see(parts, t)),
         ThreadRow::Frames => FactSeen::Unseen,
-        ThreadRow::Mask => FactSeen::Unseen,
-        ThreadRow::Cancelability => FactSeen::Unseen,
+        ThreadRow::Mask => see_mask(parts, t),
+        ThreadRow::Cancelability => see_cancelability(parts, t),
         ThreadRow::Cleanups => FactSeen::Unseen,
         ThreadRow::Pending => see_pending(parts, t),
-    }
-}
-
-fn see_owner(parts: &Parts, k: ObjId) -> FactSeen
-    requires { k < length parts.now.machine.mutexes }
-    ensures { IsOf (owner_fact parts.now.machine k) (fact_seen result) }
-{
-    let mutex = parts.mutex(k);
-    match mutex.owner() {
-        None => FactSeen::Unseen,
-        Some(owner) => FactSeen::Owner(k, owner, mutex.count()),
-    }
-}
-
-/// What is seen of an object in a row.
-pub(crate) fn see_object(parts: &Parts, decls: &Declared<'_>, row: ObjectRow, k: ObjId) -> FactSeen
-    requires { k < object_count row decls.now parts.now.machine }
-    ensures { IsOnlyOf (object_facts row parts.now.machine k) (fact_seen result) }
-{
-    let _ = decls;
-    match row {
-        ObjectRow::Owner => see_owner(parts, k),
-        ObjectRow::MutexWaiters => see_line(parts, &Line::Mutex(k)),
-        ObjectRow::ConditionWaiters => see_line(parts, &Line::Condition(k)),
-        ObjectRow::SemaphoreWaiters => see_line(parts, &Line::Semaphore(k)),
-        ObjectRow::Value => FactSeen::Value(k, parts.semaphore(k)),
-        ObjectRow::Messages => see_messages(parts, k),
-        ObjectRow::QueueWaiters => FactSeen::Unseen,
-        ObjectRow::Registration => FactSeen::Unseen,
-        ObjectRow::Arming => FactSeen::Unseen,
     }
 }
 
@@ -199,18 +203,6 @@ pub(crate) fn is_status(parts: &Parts, t: Tid, last: &FactSeen) -> bool
     }
 }
 
-// Whether those are the messages of a queue.
-fn are_messages(parts: &Parts, q: ObjId, last: &FactSeen) -> bool
-    requires { q < length parts.now.machine.queues }
-    ensures same { result ≡ true → IsOf (messages_fact parts.now.machine q) (fact_seen last.now) }
-    ensures some { result ≡ true → is_some (fact_seen last.now) ≡ true }
-{
-    match last {
-        FactSeen::Messages(j, few) => *j == q && are_held(parts, q, few),
-        _ => false,
-    }
-}
-
 /// Whether that is what the server of a thread has planned.
 #[inline(always)]
 pub(crate) fn is_pending(parts: &Parts, t: Tid, last: &FactSeen) -> bool
@@ -227,43 +219,47 @@ pub(crate) fn is_pending(parts: &Parts, t: Tid, last: &FactSeen) -> bool
     }
 }
 
-// Whether that is the owner of a mutex.
-fn is_owned(parts: &Parts, k: ObjId, last: &FactSeen) -> bool
-    requires { k < length parts.now.machine.mutexes }
-    ensures same { result ≡ true → IsOf (owner_fact parts.now.machine k) (fact_seen last.now) }
+// Whether those are the signals that a thread blocks.
+fn is_mask(parts: &Parts, t: Tid, last: &FactSeen) -> bool
+    requires { t < length parts.now.names }
+    ensures same { result ≡ true → IsOf (mask_fact parts.now.machine t) (fact_seen last.now) }
     ensures some { result ≡ true → is_some (fact_seen last.now) ≡ true }
 {
-    let mutex = parts.mutex(k);
-    match mutex.owner() {
-        None => false,
-        Some(owner) => is_owner(last, k, owner, mutex.count()),
+    let thread = parts.thread(t);
+    if thread.is_live() {
+        return is_masked(last, t, thread.mask().bits());
     }
+    false
 }
 
-/// Whether that is all that a row tells of an object.
-#[inline(always)]
-pub(crate) fn is_of_object(
-    parts: &Parts,
-    decls: &Declared<'_>,
-    row: ObjectRow,
-    k: ObjId,
-    last: &FactSeen,
-) -> bool
-    requires { k < object_count row decls.now parts.now.machine }
-    ensures same { result ≡ true → IsOnlyOf (object_facts row parts.now.machine k) (fact_seen last.now) }
+// Whether that is what holds of the cancellation of a thread.
+fn is_cancelability(parts: &Parts, t: Tid, last: &FactSeen) -> bool
+    requires { t < length parts.now.names }
+    ensures same { result ≡ true → IsOf (cancelability_fact parts.now.machine t) (fact_seen last.now) }
     ensures some { result ≡ true → is_some (fact_seen last.now) ≡ true }
 {
-    let _ = decls;
+    let thread = parts.thread(t);
+    if thread.is_live() {
+        let (requested, ending) = (thread.is_requested(), thread.is_ending());
+        return has_flags(last, t, requested, !thread.is_enabled(), ending);
+    }
+    false
+}
+
+/// Whether that is what a row tells of a thread.
+#[inline(always)]
+pub(crate) fn is_of_thread(parts: &Parts, row: ThreadRow, t: Tid, last: &FactSeen) -> bool
+    requires { t < length parts.now.names }
+    ensures same { result ≡ true → IsOf (thread_fact_of row parts.now.machine t) (fact_seen last.now) }
+    ensures some { result ≡ true → is_some (fact_seen last.now) ≡ true }
+{
     match row {
-        ObjectRow::Owner => is_owned(parts, k, last),
-        ObjectRow::MutexWaiters => is_line(parts, &Line::Mutex(k), last),
-        ObjectRow::ConditionWaiters => is_line(parts, &Line::Condition(k), last),
-        ObjectRow::SemaphoreWaiters => is_line(parts, &Line::Semaphore(k), last),
-        ObjectRow::Value => is_value(last, k, parts.semaphore(k)),
-        ObjectRow::Messages => are_messages(parts, k, last),
-        ObjectRow::QueueWaiters => false,
-        ObjectRow::Registration => false,
-        ObjectRow::Arming => false,
+        ThreadRow::Status => is_status(parts, t, last),
+        ThreadRow::Frames => false,
+        ThreadRow::Mask => is_mask(parts, t, last),
+        ThreadRow::Cancelability => is_cancelability(parts, t, last),
+        ThreadRow::Cleanups => false,
+        ThreadRow::Pending => is_pending(parts, t, last),
     }
 }
 

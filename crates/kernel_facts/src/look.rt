@@ -5,32 +5,30 @@ ghost use Rattle.std.specs.Prelude.{ℕ, ◌≡◌, ◌∷◌, ◌<◌, ◌≤�
 ghost use Rattle.rules_facts.specs.Facts.{facts};
 ghost use Rattle.rules_facts.specs.Objects.{in_service_order};
 ghost use Rattle.rules_facts.specs.Shown.{once_ended};
-ghost use Rattle.rules_facts.specs.Signals.{signal_fact};
 ghost use Rattle.kernel_facts.specs.Changed.{changed_lines};
 ghost use Rattle.kernel_facts.specs.Desk.{IsReady, WentOn, last_seen};
 ghost use Rattle.kernel_facts.specs.FactSeen.{IsMemoryOf, IsOf, IsOnlyOf, fact_seen};
 ghost use Rattle.kernel_facts.specs.InLine.{stands_in};
-ghost use Rattle.kernel_facts.specs.Kept.{object_row_kept, objects_kept, queue_waiters_kept, signals_kept, texts_of, waiters_text};
+ghost use Rattle.kernel_facts.specs.Kept.{object_row_kept, objects_kept, queue_waiters_kept, texts_of, waiters_text};
 ghost use Rattle.kernel_facts.specs.KeptLines.{line_fact, queue_line};
-ghost use Rattle.kernel_facts.specs.Lines.{fact_text, facts_text};
+ghost use Rattle.kernel_facts.specs.Lines.{facts_text};
 ghost use Rattle.kernel_facts.specs.Numbered.{AreNumbered};
-ghost use Rattle.kernel_facts.specs.Picked.{left_in};
 ghost use Rattle.kernel_facts.specs.Rooms.{HasObjectsOf};
-ghost use Rattle.kernel_facts.specs.Short.{HasShortText, HaveShortTexts};
+ghost use Rattle.kernel_facts.specs.Short.{HaveShortTexts};
 ghost use Rattle.kernel_facts.specs.declared.rows.ObjectRow.{ObjectRow};
-ghost use Rattle.kernel_facts.specs.Rows.{left_out, object_count, object_facts};
+ghost use Rattle.kernel_facts.specs.Rows.{object_count, object_facts};
 
 use crate::declared::Declared;
 use crate::desk::Desk;
-use crate::fact_seen::{FactSeen, is_of_object, see_object};
 use crate::kept_line::{is_line, see_line};
 use crate::known::{know_few, know_names, know_rows, know_timers};
 use crate::look_lists::look_at_lists;
+use crate::look_signals::look_at_signals;
 use crate::look_threads::look_at_threads;
-use crate::nothing::{object_tells_nothing, queue_tells_nothing, signal_tells_nothing};
-use crate::printed::{print_object_facts, print_signal, print_waiters};
+use crate::nothing::{object_tells_nothing, queue_tells_nothing};
+use crate::objects_seen::{is_of_object, see_object};
+use crate::printed::{print_object_facts, print_waiters};
 use crate::rows::{ObjectRow, object_count, object_of};
-use crate::state::left_out;
 use crate::waiters::Line;
 use kernel_state::Parts;
 use parts_texts::NextText;
@@ -222,60 +220,6 @@ fn look_at_objects(parts: &Parts, script: &Script, next: &mut NextText, desk: &m
     look_at_object_row(parts, decls, ObjectRow::Registration, next, desk);
     know_timers(parts);
     look_at_object_row(parts, decls, ObjectRow::Arming, next, desk);
-}
-
-fn look_at_signal(
-    parts: &Parts,
-    decls: &Declared<'_>,
-    signal: u8,
-    left_out: Option<u64>,
-    next: &mut NextText,
-    desk: &mut Desk,
-)
-    requires memory { IsMemoryOf decls.now desk.old.told.texts desk.old.seen }
-    ensures kept { WentOn next.old next.new desk.old desk.new (fact_text decls.now (signal_fact (left_in left_out parts.now.machine) signal) ∷ []) }
-    ensures short { HasShortText decls.now (signal_fact (left_in left_out parts.now.machine) signal) }
-    ensures memory { IsMemoryOf decls.now desk.new.told.texts desk.new.seen }
-{
-    if signal_tells_nothing(parts, signal, left_out) {
-        desk.go_over_nothing();
-        return;
-    }
-    next.clear();
-    let failed = print_signal(parts, decls, signal, left_out, next);
-    desk.keep(next, failed, &FactSeen::Unseen);
-}
-
-// Looks at the pending signals, by number.
-fn look_at_signals_in_full(
-    parts: &Parts,
-    decls: &Declared<'_>,
-    next: &mut NextText,
-    desk: &mut Desk,
-)
-    requires memory { IsMemoryOf decls.now desk.old.told.texts desk.old.seen }
-    ensures kept { WentOn next.old next.new desk.old desk.new (signals_kept decls.now (left_in (left_out parts.now.machine) parts.now.machine) 32) }
-    ensures short { (signal : ℕ) → signal < 32 → HasShortText decls.now (signal_fact (left_in (left_out parts.now.machine) parts.now.machine) signal) }
-    ensures memory { IsMemoryOf decls.now desk.new.told.texts desk.new.seen }
-{
-    let out_of_it = left_out(parts);
-    for signal in 0..32u8 {
-        look_at_signal(parts, decls, signal, out_of_it, next, desk);
-    }
-}
-
-// The same; where no record is pending, no signal is looked at by itself.
-fn look_at_signals(parts: &Parts, decls: &Declared<'_>, next: &mut NextText, desk: &mut Desk)
-    requires memory { IsMemoryOf decls.now desk.old.told.texts desk.old.seen }
-    ensures kept { WentOn next.old next.new desk.old desk.new (signals_kept decls.now (left_in (left_out parts.now.machine) parts.now.machine) 32) }
-    ensures short { (signal : ℕ) → signal < 32 → HasShortText decls.now (signal_fact (left_in (left_out parts.now.machine) parts.now.machine) signal) }
-    ensures memory { IsMemoryOf decls.now desk.new.told.texts desk.new.seen }
-{
-    if parts.none_pending() {
-        desk.go_over_nothings(32);
-        return;
-    }
-    look_at_signals_in_full(parts, decls, next, desk);
 }
 
 /// A look at the facts of the state. What was told of each last is replaced by what is told now, and the desk has the lines of those that

@@ -14,7 +14,7 @@ ghost use Rattle.kernel_facts.specs.declared.rows.ThreadRow.{ThreadRow};
 use crate::ahead::Run;
 use crate::declared::Declared;
 use crate::desk::Desk;
-use crate::fact_seen::{is_pending, is_status, see_thread};
+use crate::fact_seen::{is_of_thread, is_pending, is_status, see_thread};
 use crate::nothing::{are_bare_inside, plans_nothing, thread_tells_nothing};
 use crate::printed::print_thread_fact;
 use crate::rows::ThreadRow;
@@ -187,7 +187,52 @@ fn look_at_plans(parts: &Parts, decls: &Declared<'_>, next: &mut NextText, desk:
 
 // ---- what else they have about them
 
+// Whether what a row tells of a thread is what was seen last of the fact behind the run, or nothing as it was.
+fn is_told_ahead(parts: &Parts, row: ThreadRow, t: Tid, run: &Run, desk: &Desk) -> bool
+    requires known { t < length parts.now.names }
+    requires run { IsRun run.now desk.now }
+    ensures next { result ≡ true → run.now.same < run.now.places }
+    ensures told { result ≡ true → IsToldAhead run.now desk.now (thread_fact_of row parts.now.machine t) }
+{
+    if !run.has_next() {
+        return false;
+    }
+    if thread_tells_nothing(parts, row, t) {
+        return desk.is_empty_ahead(run.same);
+    }
+    is_of_thread(parts, row, t, desk.seen_ahead(run.same))
+}
+
+// A look at the fact behind the run, which is what a row tells of a thread.
+#[inline(always)]
+fn look_at_row_fact(
+    parts: &Parts,
+    decls: &Declared<'_>,
+    row: ThreadRow,
+    t: Tid,
+    run: &mut Run,
+    next: &mut NextText,
+    desk: &mut Desk,
+)
+    requires known { t < length parts.now.names }
+    requires run { IsRun run.old desk.old }
+    requires memory { IsMemoryOf decls.now desk.old.told.texts desk.old.seen }
+    ensures run { IsRun run.new desk.new }
+    ensures kept { WentOn next.old next.new (past run.old desk.old) (past run.new desk.new) (fact_text decls.now (thread_fact_of row parts.now.machine t) ∷ []) }
+    ensures short { HasShortText decls.now (thread_fact_of row parts.now.machine t) }
+    ensures memory { IsMemoryOf decls.now desk.new.told.texts desk.new.seen }
+{
+    if is_told_ahead(parts, row, t, run, desk) {
+        run.go_on();
+        return;
+    }
+    desk.go_on(run.same);
+    look_at_thread_fact(parts, decls, row, t, next, desk);
+    *run = Run::begin(desk);
+}
+
 // Looks at a row of threads, by number.
+#[inline(always)]
 fn look_at_thread_row(
     parts: &Parts,
     decls: &Declared<'_>,
@@ -200,9 +245,11 @@ fn look_at_thread_row(
     ensures memory { IsMemoryOf decls.now desk.new.told.texts desk.new.seen }
     ensures short { (t : ℕ) → t < length parts.now.machine.threads → HasShortText decls.now (thread_fact_of row parts.now.machine t) }
 {
+    let mut run = Run::begin(desk);
     for number in 0..parts.count() {
-        look_at_thread_fact(parts, decls, row, parts.tid(number), next, desk);
+        look_at_row_fact(parts, decls, row, parts.tid(number), &mut run, next, desk);
     }
+    desk.go_on(run.same);
 }
 
 // Looks at what threads have about them but for what their servers have planned.

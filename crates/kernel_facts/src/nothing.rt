@@ -5,13 +5,11 @@ ghost use Rattle.rules_lists.specs.Lists.{list_of};
 ghost use Rattle.rules_facts.specs.Fact.{on_list};
 ghost use Rattle.rules_facts.specs.Objects.{in_service_order, owner_fact, timer_fact};
 ghost use Rattle.rules_facts.specs.Queues.{registration_fact};
-ghost use Rattle.rules_facts.specs.Signals.{signal_fact};
 ghost use Rattle.rules_facts.specs.Threads.{inner_bodies, pending_fact, planned};
 ghost use Rattle.kernel_facts.specs.Blocks.{is_inner};
 ghost use Rattle.kernel_facts.specs.InLine.{stands_in};
 ghost use Rattle.kernel_facts.specs.Kept.{waiters_text};
 ghost use Rattle.kernel_facts.specs.Nothing.{IsBare, TellNothing, TellsNothing, is_status, wait_obj};
-ghost use Rattle.kernel_facts.specs.Picked.{left_in};
 ghost use Rattle.kernel_facts.specs.Rows.{object_count, object_facts, thread_fact_of};
 ghost use Rattle.kernel_facts.specs.declared.rows.ThreadRow.{ThreadRow};
 
@@ -192,14 +190,6 @@ pub(crate) fn queue_tells_nothing(parts: &Parts, q: ObjId, to_send: bool) -> boo
         return nobody_waits(parts, &Line::Senders(q));
     }
     nobody_waits(parts, &Line::Receivers(q))
-}
-
-/// Whether no record is pending, of that signal or another.
-pub(crate) fn signal_tells_nothing(parts: &Parts, signal: u8, left_out: Option<u64>) -> bool
-    ensures { result ≡ true → TellsNothing (signal_fact (left_in left_out parts.now.machine) signal) }
-{
-    let _ = (signal, left_out);
-    parts.none_pending()
 }
 
 // ---- objects

@@ -1,4 +1,5 @@
 use Rattle.std.proofs.Common.{[], ◌∷◌, ◌<◌, ℕ}
+use Rattle.kernel_facts.specs.Ahead.{IsRun, past}
 use Rattle.kernel_facts.specs.Desk.{WentOn}
 use Rattle.kernel_facts.specs.FactSeen.{IsMemoryOf}
 use Rattle.kernel_facts.specs.Kept.{kept_below}
@@ -9,7 +10,8 @@ use Rattle.kernel_facts.proofs.look_threads.look_at_thread_row.Given as goal
 
 abbrev pub invariant-loop-number : goal.invariant-loop-number
 invariant-loop-number l = record {
-  kept : WentOn l.initial.next l.next l.initial.desk l.desk (kept_below (λ t. fact_text l.decls (thread_fact_of l.row l.parts.machine t) ∷ []) l.number);
+  run : IsRun l.run l.desk;
+  kept : WentOn l.initial.next l.next l.initial.desk (past l.run l.desk) (kept_below (λ t. fact_text l.decls (thread_fact_of l.row l.parts.machine t) ∷ []) l.number);
   short : (t : ℕ) → t < l.number → HasShortText l.decls (thread_fact_of l.row l.parts.machine t);
   memory : IsMemoryOf l.decls l.desk.told.texts l.desk.seen;
 }

@@ -1,4 +1,5 @@
-use Rattle.std.proofs.Common.{◌≡◌, [], ◌∷◌, ℕ, Option, add-one, arith, below_more, subst, ◌<◌}
+use Rattle.std.proofs.Common.{◌≡◌, ◌∙◌, [], ◌∷◌, ℕ, Option, add-one, ap, arith, below_more, false, subst, sym, ◌<◌}
+use Rattle.std.specs.Prelude.{slice_index_or}
 use Rattle.rules_facts.specs.Signals.{signal_fact}
 use Rattle.kernel_facts.specs.Desk.{WentOn}
 use Rattle.kernel_facts.specs.Kept.{kept_below}
@@ -6,10 +7,17 @@ use Rattle.kernel_facts.specs.Lines.{fact_text}
 use Rattle.kernel_facts.specs.Picked.{left_in}
 use Rattle.kernel_facts.specs.Short.{HasShortText}
 use Rattle.kernel_facts.proofs.Looking.{went_both, went_none}
-use Rattle.kernel_facts.proofs.look.look_at_signals_in_full.Goals as goal
+use Rattle.kernel_facts.proofs.PendingSignals.{signal_silent}
+use Rattle.kernel_facts.proofs.look_signals.look_at_signals_in_full.Goals as goal
 
 pub loop-signal-init : goal.loop-signal-init
 loop-signal-init c = record { kept = went_none _ _; short = λ s low. absurd (omega (arith, low)); memory = c.requires.memory }
+
+pub look_at_signal-requires-clause-silent : goal.look_at_signal-requires-clause-silent
+look_at_signal-requires-clause-silent c off =
+    let pending = c.pending_signals-pending.result in
+    signal_silent pending c.loop-signal.signal (omega arith) (ap (λ (k : ℕ). slice_index_or pending k false) (sym c.from.ensures) ∙ off)
+    c.args.parts.now.machine c.left_out-out_of_it.result c.pending_signals-pending.ensures
 
 pub loop-signal-preserved : goal.loop-signal-preserved
 loop-signal-preserved c =

@@ -6,7 +6,7 @@ use Rattle.kernel_facts.specs.Picked.{left_in}
 use Rattle.kernel_facts.specs.Rows.{left_out}
 use Rattle.kernel_facts.proofs.NothingTold.{nothing_short, signal_nothing}
 use Rattle.kernel_facts.proofs.Runs.{kept_nothing}
-use Rattle.kernel_facts.proofs.look.look_at_signals.Goals as goal
+use Rattle.kernel_facts.proofs.look_signals.look_at_signals.Goals as goal
 
 pub returns-then-none_pending-clause-kept : goal.returns-then-none_pending-clause-kept
 returns-then-none_pending-clause-kept c =

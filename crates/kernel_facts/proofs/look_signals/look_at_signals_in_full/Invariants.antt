@@ -6,7 +6,7 @@ use Rattle.kernel_facts.specs.Kept.{kept_below}
 use Rattle.kernel_facts.specs.Lines.{fact_text}
 use Rattle.kernel_facts.specs.Picked.{left_in}
 use Rattle.kernel_facts.specs.Short.{HasShortText}
-use Rattle.kernel_facts.proofs.look.look_at_signals_in_full.Given as goal
+use Rattle.kernel_facts.proofs.look_signals.look_at_signals_in_full.Given as goal
 
 abbrev pub invariant-loop-signal : goal.invariant-loop-signal
 invariant-loop-signal l = record {
