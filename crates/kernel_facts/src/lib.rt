@@ -6,8 +6,8 @@
 //! objects of the script. None takes memory.
 //!
 //! A look writes no text of a fact that tells nothing now and told nothing before, and none of one that is seen to be the same as a value:
-//! the status of a thread, a list with a few threads on it, one or two planned replenishments, an owner, the value of a semaphore, a few
-//! messages of a queue, whom a message of it tells, when a timer is due, a few who wait in a line.
+//! the status of a thread, its mask, its cancelability, a list with a few threads on it, one or two planned replenishments, an owner, the
+//! value of a semaphore, a few messages of a queue, whom a message of it tells, when a timer is due, a few who wait in a line.
 //!
 //! The state is read and not changed. Lists are written word by word, so that no room limits their length.
 #![tactic(auto)]
