@@ -72,7 +72,7 @@ asked_with claims ms e t k y lt ceiling lends =
 
 -- ---- where the owner of a mutex changes
 
-set_back : (ms : List Mutex) (k : ℕ) (y z : Mutex) → z ≡ get_or ms k no_mutex → set (set ms k y) k z ≡ ms
+pub set_back : (ms : List Mutex) (k : ℕ) (y z : Mutex) → z ≡ get_or ms k no_mutex → set (set ms k y) k z ≡ ms
 set_back [] k y z is = refl
 set_back (m ∷ ms) zero y z is = ap (λ (x : Mutex). x ∷ ms) is
 set_back (m ∷ ms) (suc k) y z is = ap (λ (xs : List Mutex). m ∷ xs) (set_back ms k y z is)

@@ -13,6 +13,7 @@ use crate::claims::{
     MutexState, ThreadClaim, assign, become_owner, next, set_count, set_free, set_wait,
 };
 use crate::equations::{is_at_assigned, is_plainly_free, lends_nothing};
+use crate::rise::rise;
 use crate::walk::{Moved, turn_alone, walk};
 use parts_waiters::{WaitObj, Waits};
 use words_numbers::{ObjId, Prio, Tid};
@@ -73,7 +74,7 @@ pub(crate) fn raise_base(
     turn_alone(claims, mutexes, exec, w, t, p)
 }
 
-/// The thread begins to wait for the mutex, at its execution priority.
+/// The thread begins to wait for the mutex, at its execution priority. No priority falls.
 pub(crate) fn begin_wait(
     claims: &mut [ThreadClaim],
     mutexes: &[MutexState],
@@ -97,7 +98,7 @@ pub(crate) fn begin_wait(
     let at = exec[t.get() as usize];
     set_wait(claims, t, Some(k));
     w.enter(WaitObj::Mutex(k), t, at, serial);
-    walk(claims, mutexes, exec, w, owner)
+    rise(claims, mutexes, exec, w, k, owner)
 }
 
 /// The thread waits for its mutex no more.

@@ -7,6 +7,7 @@ ghost use Rattle.parts_waiters.specs.declared.WaitObj.TheVariants as wait_obj;
 ghost use Rattle.parts_waiters.specs.Places.{best_of};
 ghost use Rattle.parts_owners.specs.Chains.{asked_in, is_plainly_free, no_claim, prio_in, through_in, waiters_in};
 ghost use Rattle.parts_owners.specs.Moves.{StandsAt, WaitersStand};
+ghost use Rattle.parts_owners.specs.Rises.{RisesThrough};
 
 use crate::claims::{MutexState, ThreadClaim};
 use parts_waiters::{WaitObj, Waits};
@@ -174,4 +175,28 @@ pub(crate) fn asked(
         best = raised_through(claims, exec, w, m, k, t, best);
     }
     best
+}
+
+/// The same of an owner that is asked for what it has or for what it gets through this one mutex.
+#[inline(always)]
+pub(crate) fn asked_through(
+    claims: &[ThreadClaim],
+    mutexes: &[MutexState],
+    exec: &[Prio],
+    w: &Waits,
+    k: ObjId,
+    t: Tid,
+) -> Prio
+    requires known { t < length claims.now }
+    requires mutex { k < length mutexes.now }
+    requires each { length exec.now ≡ length claims.now }
+    requires counted { length w.now ≡ length claims.now }
+    requires stand { StandsAt (prio_in exec.now) w.now }
+    requires waiters { WaitersStand claims.now w.now }
+    requires rises { RisesThrough claims.now mutexes.now (prio_in exec.now) k t }
+    ensures { result ≡ asked_in claims.now mutexes.now (prio_in exec.now) t }
+{
+    let k = k.get() as usize;
+    let has = exec[t.get() as usize];
+    raised_through(claims, exec, w, &mutexes[k], k, t, has)
 }

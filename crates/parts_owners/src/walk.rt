@@ -17,9 +17,9 @@ pub struct Moved {
     pub after: Prio,
 }
 
-// Gives the thread its priority, and its new place where it waits.
+/// Gives the thread its priority, and its new place where it waits.
 #[tactic(auto, using(crate::proofs::Turns::stays))]
-fn give(exec: &mut [Prio], w: &mut Waits, t: Tid, p: Prio)
+pub(crate) fn give(exec: &mut [Prio], w: &mut Waits, t: Tid, p: Prio)
     requires known { t < length exec.old }
     requires each { length w.old ≡ length exec.old }
     ensures exec { exec.new ≡ slice_set exec.old t p }
@@ -31,8 +31,8 @@ fn give(exec: &mut [Prio], w: &mut Waits, t: Tid, p: Prio)
     }
 }
 
-// The change of the thread's priority, where it waits nowhere.
-fn told(w: &Waits, t: Tid, before: Prio, after: Prio) -> Option<Moved>
+/// The change of the thread's priority, where it waits nowhere.
+pub(crate) fn told(w: &Waits, t: Tid, before: Prio, after: Prio) -> Option<Moved>
     requires { t < length w.now }
     ensures { result
         ≡ (if is_none (place_in w.now t) then Some (record { thread = t; before = before; after = after }) else None) }
@@ -102,12 +102,12 @@ pub(crate) fn walk(
         return None;
     }
     if w.place_of(start).is_some() {
-        return walk_on(claims, mutexes, exec, w, start);
+        return walk_on(claims, mutexes, exec, w, start, wanted);
     }
     turn_alone(claims, mutexes, exec, w, start, wanted)
 }
 
-// The whole walk.
+// The whole walk, from the priority that the first thread is asked for.
 #[inline(never)]
 fn walk_on(
     claims: &[ThreadClaim],
@@ -115,8 +115,10 @@ fn walk_on(
     exec: &mut [Prio],
     w: &mut Waits,
     start: Tid,
+    first: Prio,
 ) -> Option<Moved>
-    requires { MayWalk (links_of claims.now mutexes.now) exec.old start w.old }
+    requires walks { MayWalk (links_of claims.now mutexes.now) exec.old start w.old }
+    requires asks { first ≡ asked_in claims.now mutexes.now (prio_in exec.old) start }
     ensures each { length exec.new ≡ length claims.now }
     ensures right { Solves claims.now mutexes.now (prio_in exec.new) }
     ensures fits { ArePriorities exec.new }
@@ -126,8 +128,8 @@ fn walk_on(
     ensures alone { next_in claims.now mutexes.now start ≡ None → IfSome result (λ m. m.thread ≡ start) }
 {
     let mut at = start;
+    let mut wanted = first;
     for _ in 0..claims.len() {
-        let wanted = asked(claims, mutexes, exec, w, at);
         // its range is known once it is read
         let _ = wanted.get();
         let before = exec[at.get() as usize];
@@ -139,6 +141,7 @@ fn walk_on(
             return told(w, at, before, wanted);
         };
         at = owner;
+        wanted = asked(claims, mutexes, exec, w, at);
     }
     None
 }
