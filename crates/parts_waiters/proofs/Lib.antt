@@ -1,4 +1,5 @@
 mod Best
+mod Elsewhere
 pub mod Firsts
 mod Objects
 pub mod Precedence

@@ -2,3 +2,4 @@ pub mod Held
 pub mod Places
 pub mod Service
 pub mod Ties
+pub mod Bound

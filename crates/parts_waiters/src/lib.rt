@@ -1,7 +1,8 @@
 //! Who waits for which object, with the priority and the serial that the order of service goes by.
 //!
 //! Proved: the place of each waiting thread; `best`, `next_waiter` and `best_for_signal` are the first by priority, then age, and
-//! with a machine's waits its best waiter and its acceptor of a signal for the process.
+//! with a machine's waits its best waiter and its acceptor of a signal for the process; `is_bound_elsewhere` is so exactly where a
+//! waiter of the condition waits with another mutex.
 //!
 //! Contracts see the place of each thread; the order of those that wait for one object follows from the places, and is that of
 //! `rules_machine`: the greatest priority first, and among equals the one that has waited longest. The waiters of each object stand
@@ -9,14 +10,18 @@
 //! takes memory.
 #![tactic(auto)]
 
-ghost use Rattle.std.specs.Prelude.{◌≡◌, ◌<◌, ◌≤◌, None, Some, IfOk, IsSome, length, replicate, slice_set, option_map};
+ghost use Rattle.std.specs.Prelude.{◌≡◌, ◌<◌, ◌≤◌, ℕ, None, Some, IfOk, IsSome, false, length, replicate, slice_set, option_map, true};
 ghost use Rattle.parts_waiters.specs.Places.{place_in, repriced, best_of, best_for, next_of};
+ghost use Rattle.parts_waiters.specs.Bound.{WaitsElsewhere};
 ghost use Rattle.parts_waiters.specs.Held.{id_of, number_of};
 ghost use Rattle.parts_waiters.specs.Ties.{BestsAreAcceptors, BestsAreWaiters};
 
+mod bound;
 mod order;
 mod signal_sets;
 
+pub use bound::ConditionWaits;
+use bound::has_one_elsewhere;
 use order::{Candidate, first_awaiting, stand};
 use parts_filled::filled;
 use parts_links::Links;
@@ -198,6 +203,16 @@ impl Waits {
             Some(node) => Tid::try_new(node as u16),
             None => None,
         }
+    }
+
+    /// Whether a thread waits for the condition with another mutex, where that is told of each thread. Only the waiters of the condition
+    /// are asked, up to the first of them that does.
+    pub fn is_bound_elsewhere<W: ConditionWaits>(&self, waits: &W, c: ObjId, k: ObjId) -> bool
+        requires { length self.now ≤ length (W.elsewhere waits.now c k) }
+        ensures found { result ≡ true → (t : ℕ) × WaitsElsewhere self.now (W.elsewhere waits.now c k) c t }
+        ensures none { result ≡ false → (t : ℕ) → WaitsElsewhere self.now (W.elsewhere waits.now c k) c t → ⊥ }
+    {
+        has_one_elsewhere(&self.links, waits, WaitObj::Cond(c).number(), c, k)
     }
 
     /// `best` and `best_for_signal` answer by the rules of the machine whose waits these are, over flat code.
