@@ -17,3 +17,4 @@ pub mod LeftAlone
 pub mod SetTimes
 pub mod RealItems
 pub mod Passes
+pub mod WaitsElsewhere

@@ -9,6 +9,7 @@
 #![tactic(auto)]
 
 mod changes;
+mod conditions;
 mod endings;
 mod links;
 mod lives;
