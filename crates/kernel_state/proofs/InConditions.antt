@@ -1,4 +1,4 @@
--- Who waits for a condition, looked at thread by thread.
+-- What a condition wait released, and how many wait.
 use Rattle.std.proofs.Common.{◌≡◌, ◌<◌, ◌+◌, ℕ, suc, Bool, true, false, List, [], ◌∷◌, Option, None, Some, ap, drop, get_or, length, refl}
 use Rattle.std.specs.Prelude.{option_and_then, option_map}
 use Rattle.std.specs.List.{filter_map, list_any}
@@ -18,22 +18,6 @@ use Rattle.kernel_threads.specs.declared.status.Wait as plain
 
 -- ---- one thread
 
-none_of : (passes : Wait → Bool) (o : Option Waiting) (x : Option plain.Wait) → x ≡ None → option_map wait_of x ≡ option_map (λ (w : Waiting). w.wait) o → false ≡ option_map_or (λ (w : Waiting). passes w.wait) o false
-none_of passes None x none is = refl
-none_of passes (Some w) x none is = absurd (let e : None ≡ Some w.wait = rw none at is in cc)
-
-some_of : (passes : Wait → Bool) (o : Option Waiting) (v : plain.Wait) → option_map wait_of (Some v) ≡ option_map (λ (w : Waiting). w.wait) o → passes (wait_of v) ≡ option_map_or (λ (w : Waiting). passes w.wait) o false
-some_of passes None v is = absurd cc
-some_of passes (Some w) v is = let e : wait_of v ≡ w.wait = cc in ap passes e
-
-pub none_waits : (passes : Wait → Bool) (m : Machine Cursor) (t : ℕ) (x : Option plain.Wait) → x ≡ None → option_map wait_of x ≡ option_map (λ (w : Waiting). w.wait) (waiting_of m t) →
-    false ≡ waits_so passes (thread_at m t)
-none_waits passes m t x none is = none_of passes (waiting_of m t) x none is
-
-pub some_waits : (passes : Wait → Bool) (m : Machine Cursor) (t : ℕ) (v : plain.Wait) → option_map wait_of (Some v) ≡ option_map (λ (w : Waiting). w.wait) (waiting_of m t) →
-    passes (wait_of v) ≡ waits_so passes (thread_at m t)
-some_waits passes m t v is = some_of passes (waiting_of m t) v is
-
 none_then : (o : Option Waiting) (x : Option plain.Wait) → x ≡ None → option_map wait_of x ≡ option_map (λ (w : Waiting). w.wait) o → None ≡ option_and_then (λ (w : Waiting). released_mutex w.wait) o
 none_then None x none is = refl
 none_then (Some w) x none is = absurd (let e : None ≡ Some w.wait = rw none at is in cc)
@@ -49,22 +33,6 @@ none_released m t x none is = none_then (waiting_of m t) x none is
 pub some_released : (m : Machine Cursor) (t : ℕ) (v : plain.Wait) → option_map wait_of (Some v) ≡ option_map (λ (w : Waiting). w.wait) (waiting_of m t) →
     released_mutex (wait_of v) ≡ option_and_then (λ (w : Waiting). released_mutex w.wait) (waiting_of m t)
 some_released m t v is = some_then (waiting_of m t) v is
-
--- ---- all of them
-
-any_first : (p : Thread Cursor → Bool) (b : Bool) (x : Thread Cursor) (xs : List (Thread Cursor)) → p x ≡ b → b ≡ false → list_any p xs ≡ list_any p (x ∷ xs)
-any_first p true x xs e h = absurd cc
-any_first p false x xs e h = rw e refl
-
-pub passed_by : (p : Thread Cursor → Bool) (threads : List (Thread Cursor)) (i : ℕ) → i < length threads → p (get_or threads i no_thread) ≡ false → list_any p (drop (i + 1) threads) ≡ list_any p (drop i threads)
-passed_by p threads i lt off =
-    let rest : drop i threads ≡ get_or threads i no_thread ∷ drop (i + 1) threads = drop_more threads i no_thread lt in
-    rw rest (any_first p (p (get_or threads i no_thread)) (get_or threads i no_thread) (drop (i + 1) threads) refl off)
-
-pub found : (p : Thread Cursor → Bool) (threads : List (Thread Cursor)) (i : ℕ) → i < length threads → p (get_or threads i no_thread) ≡ true → list_any p (drop i threads) ≡ true
-found p threads i lt on =
-    let rest : drop i threads ≡ get_or threads i no_thread ∷ drop (i + 1) threads = drop_more threads i no_thread lt in
-    rw (rest, on) refl
 
 -- ---- how many
 

@@ -6,7 +6,7 @@ ghost use Rattle.rules_machine.specs.Priorities.{mutex_awaited_by};
 ghost use Rattle.rules_machine.specs.State.{for_mutex_again};
 ghost use Rattle.rules_machine.specs.State as machine;
 ghost use Rattle.rules_machine.specs.Threads.{thread_at, waiting_of as waiting_at};
-ghost use Rattle.rules_machine.specs.Waiters.{somebody_waits, waits_so};
+ghost use Rattle.rules_machine.specs.Waiters.{somebody_waits};
 ghost use Rattle.rules_machine.specs.Waking.{blocks, call_in};
 ghost use Rattle.kernel_state.specs.Kernel.{after, by};
 ghost use Rattle.kernel_state.specs.Waits.{CanWait};
@@ -17,30 +17,11 @@ use rules_machine::CondEnd;
 use words_numbers::{ObjId, Tid};
 
 impl Parts {
-    // Whether a thread waits for the condition with another mutex.
-    #[tactic(auto, using(crate::proofs::InConditions::none_waits, crate::proofs::InConditions::some_waits))]
-    fn waits_elsewhere(&self, t: Tid, c: ObjId, k: ObjId) -> bool
-        requires { t < length self.now.names }
-        ensures { result ≡ waits_so (waits_with_other_mutex c k) (thread_at self.now.machine t) }
-    {
-        match self.thread(t).wait() {
-            None => false,
-            Some(w) => w.is_with_other_mutex(c, k),
-        }
-    }
-
     /// Whether somebody waits for the condition with another mutex.
-    #[tactic(auto, using(crate::proofs::InConditions::passed_by, crate::proofs::InConditions::found))]
     pub fn is_bound_elsewhere(&self, c: ObjId, k: ObjId) -> bool
         ensures { result ≡ somebody_waits self.now.machine (waits_with_other_mutex c k) }
     {
-        for number in 0..self.count() {
-            let t = self.tid(number);
-            if self.waits_elsewhere(t, c, k) {
-                return true;
-            }
-        }
-        false
+        self.table.is_bound_elsewhere(c, k)
     }
 
     /// The mutex that a thread's condition wait released; `None` exactly where it is in none.
