@@ -101,7 +101,7 @@ pub(crate) fn begin_wait(
     rise(claims, mutexes, exec, w, k, owner)
 }
 
-/// The thread waits for its mutex no more.
+/// The thread waits for its mutex no more. Where nobody owns that, no priority changes.
 pub(crate) fn end_wait(
     claims: &mut [ThreadClaim],
     mutexes: &[MutexState],
@@ -118,10 +118,13 @@ pub(crate) fn end_wait(
     ensures settled { Settled (links_of claims.new mutexes.now) exec.new }
     ensures changes { Changes (links_of claims.old mutexes.now) (links_of claims.new mutexes.now) (left t w.old) w.new result }
 {
-    let start = next(claims, mutexes, t).unwrap_or(t);
+    let owner = next(claims, mutexes, t);
     set_wait(claims, t, None);
     w.leave(t);
-    walk(claims, mutexes, exec, w, start)
+    match owner {
+        Some(owner) => walk(claims, mutexes, exec, w, owner),
+        None => None,
+    }
 }
 
 /// The thread, which waits for no mutex, owns the mutex, which was free. Mostly that raises nothing.

@@ -1,5 +1,5 @@
 use Rattle.std.proofs.Common.{None, Some, arith, ◌≡◌}
-use Rattle.parts_owners.specs.Chains.{asked_in, next_in, prio_in}
+use Rattle.parts_owners.specs.Chains.{next_in}
 use Rattle.parts_owners.proofs.Turns.{ends_last, turns_on}
 use Rattle.parts_owners.proofs.walk.walk_on.Goals as goal
 
