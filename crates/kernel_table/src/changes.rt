@@ -53,7 +53,7 @@ impl Table {
     }
 
     // Whatever it waits for.
-    #[inline(never)]
+    #[inline(always)]
     #[tactic(auto, using(crate::proofs::Ties::placed))]
     fn wake_in_full(&mut self, t: Tid, res: Res, value: u64) -> Option<Tid>
         requires { t < length self.old.threads }

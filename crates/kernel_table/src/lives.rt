@@ -78,10 +78,11 @@ impl Table {
         ensures { MovesPriority (with_thread t (put_to_wait (waiting_of waiting))) self.old self.new result }
     {
         stands_nowhere(&self.chain, &self.waits, t);
+        // first what asks for its call, which then is copied into the thread alone
+        keep_runner(&mut self.real_waits, t, &waiting);
         self.threads.get_mut(t).block(waiting);
         let moved = begin_waiting(&mut self.chain, &mut self.waits, t, &waiting);
         time_runner(&mut self.wheel, t, waiting.due);
-        keep_runner(&mut self.real_waits, t, &waiting);
         thread_of(moved)
     }
 }
