@@ -1,15 +1,13 @@
 -- What a condition wait released, and how many wait.
-use Rattle.std.proofs.Common.{◌≡◌, ◌<◌, ◌+◌, ℕ, suc, Bool, true, false, List, [], ◌∷◌, Option, None, Some, ap, drop, get_or, length, refl}
+use Rattle.std.proofs.Common.{◌≡◌, ℕ, suc, Bool, true, false, List, [], ◌∷◌, Option, None, Some, ap, length, refl}
 use Rattle.std.specs.Prelude.{option_and_then, option_map}
-use Rattle.std.specs.List.{filter_map, list_any}
-use Rattle.std.specs.Option.{option_map_or}
-use Rattle.std.proofs.lemmas.List.{drop_more}
+use Rattle.std.specs.List.{filter_map}
 use Rattle.rules_bodies.specs.declared.cursor.Cursor.{Cursor}
 use Rattle.rules_machine.specs.Conditions.{released_mutex}
 use Rattle.rules_machine.specs.Lists.{numbers_from}
 use Rattle.rules_machine.specs.Priorities.{exec}
-use Rattle.rules_machine.specs.State.{Machine, Thread, Wait, Waiting}
-use Rattle.rules_machine.specs.Threads.{no_thread, thread_at, waiting_of}
+use Rattle.rules_machine.specs.State.{Machine, Wait, Waiting}
+use Rattle.rules_machine.specs.Threads.{thread_at, waiting_of}
 use Rattle.rules_machine.specs.Waiters.{Waiter, waiter_of, waiters, waits_so}
 use Rattle.rules_moves.proofs.Waiters.Best.{Each}
 use Rattle.rules_moves.proofs.Waiters.Best.{all_pass}

@@ -61,10 +61,10 @@ impl Table {
         ensures { MovesPriority (with_thread t (put_to_wait (waiting_of waiting))) self.old self.new result }
     {
         stop_waiting(&mut self.chain, &mut self.waits, t);
-        let moved = begin_waiting(&mut self.chain, &mut self.waits, t, &waiting);
-        self.threads.get_mut(t).block(waiting);
-        time_wait(&mut self.wheel, t, waiting.due);
         keep_wait(&mut self.real_waits, t, &waiting);
+        self.threads.get_mut(t).block(waiting);
+        let moved = begin_waiting(&mut self.chain, &mut self.waits, t, &waiting);
+        time_wait(&mut self.wheel, t, waiting.due);
         thread_of(moved)
     }
 
