@@ -190,9 +190,9 @@ pub(crate) fn is_list(parts: &Parts, p: Prio, last: &FactSeen) -> bool
     }
 }
 
-/// Whether that is the status of a thread.
+// Whether that is the status of a thread.
 #[inline(always)]
-pub(crate) fn is_status(parts: &Parts, t: Tid, last: &FactSeen) -> bool
+fn is_status(parts: &Parts, t: Tid, last: &FactSeen) -> bool
     requires { t < length parts.now.names }
     ensures same { result ≡ true → IsOf (thread_fact parts.now.machine t) (fact_seen last.now) }
     ensures some { result ≡ true → is_some (fact_seen last.now) ≡ true }
@@ -203,9 +203,9 @@ pub(crate) fn is_status(parts: &Parts, t: Tid, last: &FactSeen) -> bool
     }
 }
 
-/// Whether that is what the server of a thread has planned.
+// Whether that is what the server of a thread has planned.
 #[inline(always)]
-pub(crate) fn is_pending(parts: &Parts, t: Tid, last: &FactSeen) -> bool
+fn is_pending(parts: &Parts, t: Tid, last: &FactSeen) -> bool
     requires { t < length parts.now.names }
     ensures same { result ≡ true → IsOf (pending_fact parts.now.machine t) (fact_seen last.now) }
     ensures some { result ≡ true → is_some (fact_seen last.now) ≡ true }
