@@ -1,6 +1,6 @@
 -- Lists on which no thread stands.
 use Rattle.std.proofs.Common.{◌≡◌, ◌∙◌, ◌+◌, ◌<◌, ◌≤◌, ◌⊎◌, Bool, List, None, Some, [], ◌∷◌, ◌++◌, ap, append-nil, append_assoc, arith, false, inl, inr, length, refl, subst, suc, sym, true, zero, ℕ}
-use Rattle.std.specs.Prelude.{slice_index_or, slice_set, ◌-◌}
+use Rattle.std.specs.Prelude.{slice_index_or, slice_set, ◌-◌, ◌/◌, ◌%◌}
 use Rattle.std.proofs.lemmas.List.{get_or-set_other, get_or-set_same}
 use Rattle.rules_lists.specs.Threads.{stands_in, times}
 use Rattle.rules_lists.specs.Lists.{AreReadyLists, list_of, prio_from, prio_of, times_in_all}
@@ -122,14 +122,14 @@ kept_like f g (suc n) same = ap (λ (ts : List (List ℕ)). ts ++ f n) (kept_lik
 
 -- ---- lists from a place on
 
--- so many that are not taken
-pub lists_nothing : (decls : List Decl) (taken : List Bool) (lists : List (List ℕ)) (from n : ℕ) → AreEmptyElse (λ (p : ℕ). 255 - p) taken lists → from + n ≤ 255
-    → ((k : ℕ) → k < n → slice_index_or taken (from + k) false ≡ false) → lists_from decls lists from n ≡ nothings n
-lists_nothing decls taken lists from n empty within free =
-    kept_nothing (λ (i : ℕ). list_text decls 255 lists (from + i)) n
-    (λ i low. let here : 255 - (255 - (from + i)) ≡ from + i = omega (arith, low, within) in
+-- a block of which none is taken
+pub block_nothing : (decls : List Decl) (taken : List Bool) (lists : List (List ℕ)) (from : ℕ) → AreEmptyElse (λ (p : ℕ). (255 - p) / 16) taken lists → from + 16 ≤ 255 → from % 16 ≡ 0
+    → slice_index_or taken (from / 16) false ≡ false → lists_from decls lists from 16 ≡ nothings 16
+block_nothing decls taken lists from empty within block free =
+    kept_nothing (λ (i : ℕ). list_text decls 255 lists (from + i)) 16
+    (λ i low. let here : (255 - (255 - (from + i))) / 16 ≡ from / 16 = omega (arith, low, within, block) in
     ap (λ (xs : List ℕ). fact_text decls (on_list (255 - (from + i)) xs))
-    (empty (255 - (from + i)) (omega (arith, low, within)) (omega arith) (ap (λ (k : ℕ). slice_index_or taken k false) here ∙ free i low)))
+    (empty (255 - (from + i)) (omega (arith, low, within)) (omega arith) (ap (λ (k : ℕ). slice_index_or taken k false) here ∙ free)))
 
 -- those behind some
 pub lists_behind : (decls : List Decl) (lists : List (List ℕ)) (from a n : ℕ) → lists_from decls lists from (a + n) ≡ lists_from decls lists from a ++ lists_from decls lists (from + a) n

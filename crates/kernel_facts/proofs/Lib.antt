@@ -27,6 +27,6 @@ pub mod FewSeen
 pub mod FactsSeen
 pub mod Runs
 pub mod BareRows
-pub mod SameRuns
+pub mod Stretches
 pub mod EmptyLists
 pub mod PendingSignals

@@ -1,8 +1,9 @@
 -- A look over many facts that tell nothing. This project's own.
-use Rattle.std.specs.Prelude.{Bool, List, [], false, slice_index_or, true, ℕ, ◌+◌, ◌/◌, ◌<◌, ◌≡◌, ◌∷◌, ◌++◌, ◌≤◌, ◌⊎◌}
+use Rattle.std.specs.Prelude.{Bool, List, [], false, slice_index_or, true, ℕ, ◌+◌, ◌-◌, ◌/◌, ◌<◌, ◌≡◌, ◌∷◌, ◌++◌, ◌≤◌, ◌⊎◌}
 use Rattle.words_script.specs.declared.decl.Decl.{Decl}
 use Rattle.parts_texts.specs.Texts.{Next}
 use Rattle.rules_lists.specs.Lists.{list_of}
+use Rattle.rules_facts.specs.Fact.{Fact, on_list}
 use Rattle.rules_machine.specs.State.{Machine}
 use Rattle.kernel_facts.specs.Desk.{WentOn}
 use Rattle.kernel_facts.specs.FactSeen.{IsMemoryOf}
@@ -37,6 +38,10 @@ is_inner thread.Pending = false
 abbrev pub inner_rows_kept : {P : Type 0} → List Decl → Machine P → List (List ℕ)
 inner_rows_kept decls m =
     ((thread_row_kept decls thread.Frames m ++ thread_row_kept decls thread.Mask m) ++ thread_row_kept decls thread.Cancelability m) ++ thread_row_kept decls thread.Cleanups m
+
+-- what is told of the list at a place, that of the greatest priority first
+abbrev pub list_at : List (List ℕ) → ℕ → Fact
+list_at lists i = on_list (255 - i) (list_of (255 - i) lists)
 
 -- so many lists behind some, that of the greatest priority first
 abbrev pub lists_from : List Decl → List (List ℕ) → ℕ → ℕ → List (List ℕ)

@@ -1,41 +1,26 @@
 //! A look goes over facts that tell the same as last at once, as soon as one comes that does not.
-ghost use Rattle.std.specs.Prelude.{◌≡◌, ◌≤◌, ◌<◌, ◌+◌, true};
-ghost use Rattle.kernel_facts.specs.Ahead.{IsRun};
+ghost use Rattle.std.specs.Prelude.{ℕ, ◌≡◌, ◌≤◌, ◌<◌, ◌+◌, ◌/◌, false, slice_index_or, true};
+ghost use Rattle.kernel_facts.specs.Ahead.{IsStretch};
 
 use crate::desk::Desk;
 
-/// A run of facts from the desk's place on that tell the same as last, and how many facts from there on have a place.
+/// A stretch of facts from the desk's place on that tell the same as last, and how many facts from there on have a place.
 #[derive(Clone, Copy)]
-pub(crate) struct Run {
+pub(crate) struct Stretch {
     pub(crate) same: usize,
     pub(crate) places: usize,
 }
 
-impl Run {
+impl Stretch {
     /// Of no fact so far.
-    pub(crate) fn begin(desk: &Desk) -> Run
-        ensures run { IsRun result desk.now }
+    pub(crate) fn begin(desk: &Desk) -> Stretch
+        ensures stretch { IsStretch result desk.now }
         ensures none { result.same ≡ 0 }
     {
-        Run {
+        Stretch {
             same: 0,
             places: desk.places(),
         }
-    }
-
-    /// Whether the fact behind it has a place.
-    pub(crate) fn has_next(&self) -> bool
-        ensures { result ≡ true → self.now.same < self.now.places }
-    {
-        self.same < self.places
-    }
-
-    /// With the fact behind it.
-    pub(crate) fn go_on(&mut self)
-        requires { self.old.same < self.old.places }
-        ensures { self.new ≡ record self.old { same = self.old.same + 1 } }
-    {
-        self.same += 1;
     }
 
     /// How many facts behind it have a place.
@@ -52,5 +37,19 @@ impl Run {
         ensures { self.new ≡ record self.old { same = self.old.same + count } }
     {
         self.same += count;
+    }
+
+    /// Whether the 16 facts behind it are a block in which nothing was told.
+    #[inline(always)]
+    pub(crate) fn is_quiet_behind(&self, desk: &Desk) -> bool
+        requires stretch { IsStretch self.now desk.now }
+        ensures places { result ≡ true → self.now.same + 16 ≤ self.now.places }
+        ensures quiet { result ≡ true → (i : ℕ) → i < 16 → slice_index_or desk.now.seen.busy ((desk.now.at + self.now.same + i) / 16) true ≡ false }
+    {
+        let at = desk.at + self.same;
+        if self.left() < 16 || at % 16 != 0 {
+            return false;
+        }
+        desk.seen.is_quiet(at / 16)
     }
 }

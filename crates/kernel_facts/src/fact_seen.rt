@@ -1,5 +1,5 @@
 //! What is seen of a fact as a value, so that no text is written of one that is the same as last.
-ghost use Rattle.std.specs.Prelude.{◌≡◌, ◌<◌, ◌^◌, ◌/◌, IfOk, false, is_some, length, replicate, slice_index_or, slice_set, true};
+ghost use Rattle.std.specs.Prelude.{◌≡◌, ◌<◌, ◌^◌, ◌/◌, IfOk, false, is_some, length, slice_index_or, slice_set, true};
 ghost use Rattle.rules_lists.specs.Lists.{list_of};
 ghost use Rattle.rules_facts.specs.Fact.{on_list, replenishments};
 ghost use Rattle.rules_facts.specs.Threads.{cancelability_fact, mask_fact, pending_fact, thread_fact};
@@ -13,6 +13,7 @@ use crate::rows::ThreadRow;
 use crate::seen::{Seen, is_as_seen, see};
 use crate::waiters::LineSort;
 use kernel_state::Parts;
+use parts_filled::filled;
 use parts_server::Replenish;
 use std::alloc::{AllocError, Global};
 use std::marker::Model;
@@ -190,9 +191,9 @@ pub(crate) fn is_list(parts: &Parts, p: Prio, last: &FactSeen) -> bool
     }
 }
 
-/// Whether that is the status of a thread.
+// Whether that is the status of a thread.
 #[inline(always)]
-pub(crate) fn is_status(parts: &Parts, t: Tid, last: &FactSeen) -> bool
+fn is_status(parts: &Parts, t: Tid, last: &FactSeen) -> bool
     requires { t < length parts.now.names }
     ensures same { result ≡ true → IsOf (thread_fact parts.now.machine t) (fact_seen last.now) }
     ensures some { result ≡ true → is_some (fact_seen last.now) ≡ true }
@@ -203,9 +204,9 @@ pub(crate) fn is_status(parts: &Parts, t: Tid, last: &FactSeen) -> bool
     }
 }
 
-/// Whether that is what the server of a thread has planned.
+// Whether that is what the server of a thread has planned.
 #[inline(always)]
-pub(crate) fn is_pending(parts: &Parts, t: Tid, last: &FactSeen) -> bool
+fn is_pending(parts: &Parts, t: Tid, last: &FactSeen) -> bool
     requires { t < length parts.now.names }
     ensures same { result ≡ true → IsOf (pending_fact parts.now.machine t) (fact_seen last.now) }
     ensures some { result ≡ true → is_some (fact_seen last.now) ≡ true }
@@ -280,30 +281,6 @@ impl Model for SeenFacts {
     ghost view = { λ s. record { facts = s.facts.items; busy = s.busy.items } };
 }
 
-// Of so many facts nothing.
-fn nothing_seen(alloc: Global, count: usize) -> Result<Vec<FactSeen>, AllocError>
-    requires { count < 2 ^ 32 }
-    ensures { IfOk result (λ facts. facts.items ≡ replicate count variant.Unseen) }
-{
-    let mut facts = Vec::with_capacity(alloc, count)?;
-    for _ in 0..count {
-        facts.push(FactSeen::Unseen)?;
-    }
-    Ok(facts)
-}
-
-// So many blocks that may have a text that is not empty.
-fn all_busy(alloc: Global, count: usize) -> Result<Vec<bool>, AllocError>
-    requires { count < 2 ^ 32 }
-    ensures { IfOk result (λ busy. busy.items ≡ replicate count true) }
-{
-    let mut busy = Vec::with_capacity(alloc, count)?;
-    for _ in 0..count {
-        busy.push(true)?;
-    }
-    Ok(busy)
-}
-
 impl SeenFacts {
     /// Of so many facts nothing. It takes all memory at once.
     pub fn open(alloc: Global, count: usize) -> Result<SeenFacts, AllocError>
@@ -311,8 +288,8 @@ impl SeenFacts {
         ensures { IfOk result (λ s. s ≡ no_memory count) }
     {
         Ok(SeenFacts {
-            facts: nothing_seen(alloc, count)?,
-            busy: all_busy(alloc, count)?,
+            facts: filled(alloc, count, FactSeen::Unseen)?,
+            busy: filled(alloc, count, true)?,
         })
     }
 

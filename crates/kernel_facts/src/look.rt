@@ -13,7 +13,7 @@ ghost use Rattle.kernel_facts.specs.Kept.{object_row_kept, objects_kept, queue_w
 ghost use Rattle.kernel_facts.specs.KeptLines.{line_fact, queue_line};
 ghost use Rattle.kernel_facts.specs.Lines.{facts_text};
 ghost use Rattle.kernel_facts.specs.Numbered.{AreNumbered};
-ghost use Rattle.kernel_facts.specs.Rooms.{HasObjectsOf};
+ghost use Rattle.kernel_facts.specs.Rooms.{HasObjectsOf, facts_told};
 ghost use Rattle.kernel_facts.specs.Short.{HaveShortTexts};
 ghost use Rattle.kernel_facts.specs.declared.rows.ObjectRow.{ObjectRow};
 ghost use Rattle.kernel_facts.specs.Rows.{object_count, object_facts};
@@ -21,14 +21,14 @@ ghost use Rattle.kernel_facts.specs.Rows.{object_count, object_facts};
 use crate::declared::Declared;
 use crate::desk::Desk;
 use crate::kept_line::{is_line, see_line};
-use crate::known::{know_few, know_names, know_rows, know_timers};
+use crate::known::{know_few, know_names, know_rows};
 use crate::look_lists::look_at_lists;
 use crate::look_signals::look_at_signals;
 use crate::look_threads::look_at_threads;
 use crate::nothing::{object_tells_nothing, queue_tells_nothing};
 use crate::objects_seen::{is_of_object, see_object};
 use crate::printed::{print_object_facts, print_waiters};
-use crate::rows::{ObjectRow, object_count, object_of};
+use crate::rows::{ObjectRow, object_of};
 use crate::waiters::Line;
 use kernel_state::Parts;
 use parts_texts::NextText;
@@ -101,22 +101,24 @@ fn look_at_object_fact(
     tell_object_facts(parts, decls, row, k, next, desk);
 }
 
-// Looks at a row of objects that has one fact for each, by number.
+// Looks at a row of so many objects that has one fact for each, by number.
 #[inline(always)]
 fn look_at_object_row(
     parts: &Parts,
     decls: &Declared<'_>,
     row: ObjectRow,
+    count: usize,
     next: &mut NextText,
     desk: &mut Desk,
 )
+    requires count { count ≡ object_count row decls.now parts.now.machine }
     requires few { object_count row decls.now parts.now.machine ≤ 256 }
     requires memory { IsMemoryOf decls.now desk.old.told.texts desk.old.seen }
     ensures kept { WentOn next.old next.new desk.old desk.new (object_row_kept decls.now row parts.now.machine) }
     ensures short { (k : ℕ) → k < object_count row decls.now parts.now.machine → HaveShortTexts decls.now (object_facts row parts.now.machine k) }
     ensures memory { IsMemoryOf decls.now desk.new.told.texts desk.new.seen }
 {
-    for number in 0..object_count(parts, decls, row) {
+    for number in 0..count {
         look_at_object_fact(parts, decls, row, object_of(number), next, desk);
     }
 }
@@ -200,8 +202,30 @@ fn look_at_queue_waiters(parts: &Parts, decls: &Declared<'_>, next: &mut NextTex
     }
 }
 
-// Looks at all rows of objects but that of signals.
-fn look_at_objects(parts: &Parts, script: &Script, next: &mut NextText, desk: &mut Desk)
+// How many conditions are declared: the desk has a subject for each fact, and the others are of lists, signals, threads and other objects.
+fn condition_count(parts: &Parts, script: &Script, desk: &Desk) -> usize
+    requires objects { HasObjectsOf script.now parts.now.machine }
+    requires subjects { length desk.now.subjects.texts ≡ facts_told script.now }
+    ensures { result ≡ length (names_of kind.Cond script.now.decls) }
+{
+    // the clauses alone speak of it
+    let _ = script;
+    let all = desk.subjects.count();
+    let threads = 6 * usize::from(parts.count());
+    let locks = 2 * parts.mutex_count() + 2 * parts.semaphore_count();
+    let others = 4 * parts.queue_count() + parts.timer_count();
+    all - 287 - threads - locks - others
+}
+
+// Looks at all rows of objects but that of signals; so many conditions are declared.
+fn look_at_objects(
+    parts: &Parts,
+    script: &Script,
+    conditions: usize,
+    next: &mut NextText,
+    desk: &mut Desk,
+)
+    requires conditions { conditions ≡ length (names_of kind.Cond script.now.decls) }
     requires numbered { AreNumbered script.now parts.now.machine }
     requires named { parts.now.names ≡ names_of kind.Thread script.now.decls }
     requires memory { IsMemoryOf script.now.decls desk.old.told.texts desk.old.seen }
@@ -210,16 +234,33 @@ fn look_at_objects(parts: &Parts, script: &Script, next: &mut NextText, desk: &m
     ensures memory { IsMemoryOf script.now.decls desk.new.told.texts desk.new.seen }
 {
     let decls = &Declared::of(script.decls.items(), parts);
-    look_at_object_row(parts, decls, ObjectRow::Owner, next, desk);
-    look_at_object_row(parts, decls, ObjectRow::MutexWaiters, next, desk);
-    look_at_object_row(parts, decls, ObjectRow::ConditionWaiters, next, desk);
-    look_at_object_row(parts, decls, ObjectRow::SemaphoreWaiters, next, desk);
-    look_at_object_row(parts, decls, ObjectRow::Value, next, desk);
-    look_at_object_row(parts, decls, ObjectRow::Messages, next, desk);
+    let mutexes = parts.mutex_count();
+    let semaphores = parts.semaphore_count();
+    let queues = parts.queue_count();
+    look_at_object_row(parts, decls, ObjectRow::Owner, mutexes, next, desk);
+    look_at_object_row(parts, decls, ObjectRow::MutexWaiters, mutexes, next, desk);
+    look_at_object_row(
+        parts,
+        decls,
+        ObjectRow::ConditionWaiters,
+        conditions,
+        next,
+        desk,
+    );
+    look_at_object_row(
+        parts,
+        decls,
+        ObjectRow::SemaphoreWaiters,
+        semaphores,
+        next,
+        desk,
+    );
+    look_at_object_row(parts, decls, ObjectRow::Value, semaphores, next, desk);
+    look_at_object_row(parts, decls, ObjectRow::Messages, queues, next, desk);
     look_at_queue_waiters(parts, decls, next, desk);
-    look_at_object_row(parts, decls, ObjectRow::Registration, next, desk);
-    know_timers(parts);
-    look_at_object_row(parts, decls, ObjectRow::Arming, next, desk);
+    look_at_object_row(parts, decls, ObjectRow::Registration, queues, next, desk);
+    let timers = parts.timer_count();
+    look_at_object_row(parts, decls, ObjectRow::Arming, timers, next, desk);
 }
 
 /// A look at the facts of the state. What was told of each last is replaced by what is told now, and the desk has the lines of those that
@@ -235,6 +276,7 @@ pub fn look_at_facts(parts: &Parts, script: &Script, next: &mut NextText, desk: 
     ensures subjects { desk.new.subjects ≡ desk.old.subjects }
     ensures ready { IsReady script.now next.new.room desk.new }
 {
+    let conditions = condition_count(parts, script, desk);
     desk.begin(parts.instant().get());
     let items = script.decls.items();
     know_names(items);
@@ -243,6 +285,6 @@ pub fn look_at_facts(parts: &Parts, script: &Script, next: &mut NextText, desk: 
     know_few(parts);
     look_at_lists(parts, decls, next, desk);
     look_at_threads(parts, decls, next, desk);
-    look_at_objects(parts, script, next, desk);
+    look_at_objects(parts, script, conditions, next, desk);
     look_at_signals(parts, decls, next, desk);
 }

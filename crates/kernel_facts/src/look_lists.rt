@@ -1,15 +1,15 @@
 //! A look at the lists of runnable threads.
-ghost use Rattle.std.specs.Prelude.{ℕ, ◌≡◌, ◌≤◌, ◌<◌, ◌+◌, ◌-◌, ◌/◌, ◌%◌, ◌∷◌, [], false, slice_index_or, true};
+ghost use Rattle.std.specs.Prelude.{ℕ, ◌≡◌, ◌≤◌, ◌<◌, ◌+◌, ◌-◌, ◌/◌, ◌%◌, ◌∷◌, [], false, length, true};
 ghost use Rattle.rules_lists.specs.Lists.{list_of};
 ghost use Rattle.rules_facts.specs.Fact.{on_list};
-ghost use Rattle.kernel_facts.specs.Ahead.{IsRun, IsToldAhead, past};
+ghost use Rattle.kernel_facts.specs.Ahead.{IsStretch, IsToldAt, past};
 ghost use Rattle.kernel_facts.specs.Desk.{WentOn};
 ghost use Rattle.kernel_facts.specs.FactSeen.{IsMemoryOf};
 ghost use Rattle.kernel_facts.specs.Kept.{lists_kept};
 ghost use Rattle.kernel_facts.specs.Lines.{fact_text};
-ghost use Rattle.kernel_facts.specs.Blocks.{AreEmptyElse, lists_from};
+ghost use Rattle.kernel_facts.specs.Blocks.{AreEmptyElse, list_at, lists_from};
 
-use crate::ahead::Run;
+use crate::ahead::Stretch;
 use crate::declared::Declared;
 use crate::desk::Desk;
 use crate::fact_seen::is_list;
@@ -28,20 +28,21 @@ struct Taken {
     groups: [bool; 16],
 }
 
-// Whether the list of a priority is what was seen last of the fact behind the run, or empty as it was.
-fn is_list_ahead(parts: &Parts, p: Prio, is_taken: bool, run: &Run, desk: &Desk) -> bool
-    requires run { IsRun run.now desk.now }
+// Whether the list of a priority is what was seen last of the fact so many places ahead, or empty as it was.
+#[inline(always)]
+fn is_list_ahead(parts: &Parts, p: Prio, is_taken: bool, ahead: usize, desk: &Desk) -> bool
     requires empty { is_taken ≡ false → list_of p parts.now.machine.lists ≡ [] }
-    ensures next { result ≡ true → run.now.same < run.now.places }
-    ensures told { result ≡ true → IsToldAhead run.now desk.now (on_list p (list_of p parts.now.machine.lists)) }
+    requires seen { desk.now.at + ahead < length desk.now.seen.facts }
+    requires told { desk.now.at + ahead < length desk.now.told.texts }
+    ensures { result ≡ true → IsToldAt (desk.now.at + ahead) desk.now (on_list p (list_of p parts.now.machine.lists)) }
 {
-    if !run.has_next() {
+    if is_list(parts, p, desk.seen_ahead(ahead)) {
+        return true;
+    }
+    if is_taken {
         return false;
     }
-    if !is_taken {
-        return desk.is_empty_ahead(run.same);
-    }
-    is_list(parts, p, desk.seen_ahead(run.same))
+    desk.is_empty_ahead(ahead)
 }
 
 // The text of the list of a priority comes, where a thread stands on it.
@@ -60,121 +61,97 @@ fn tell_list(parts: &Parts, decls: &Declared<'_>, p: Prio, next: &mut NextText, 
     desk.keep(next, failed, &see_list(parts, p));
 }
 
-// A look at the fact behind the run, which is the list of a priority.
+// How many lists from a place on, of so many, are as they were told last. Theirs are the facts behind the stretch.
 #[inline(always)]
-fn look_at_list(
+fn lists_ahead(
     parts: &Parts,
-    decls: &Declared<'_>,
-    p: Prio,
-    is_taken: bool,
-    run: &mut Run,
-    next: &mut NextText,
-    desk: &mut Desk,
-)
-    requires run { IsRun run.old desk.old }
-    requires empty { is_taken ≡ false → list_of p parts.now.machine.lists ≡ [] }
-    requires memory { IsMemoryOf decls.now desk.old.told.texts desk.old.seen }
-    ensures run { IsRun run.new desk.new }
-    ensures kept { WentOn next.old next.new (past run.old desk.old) (past run.new desk.new) (fact_text decls.now (on_list p (list_of p parts.now.machine.lists)) ∷ []) }
-    ensures memory { IsMemoryOf decls.now desk.new.told.texts desk.new.seen }
-{
-    if is_list_ahead(parts, p, is_taken, run, desk) {
-        run.go_on();
-        return;
-    }
-    desk.go_on(run.same);
-    tell_list(parts, decls, p, next, desk);
-    *run = Run::begin(desk);
-}
-
-// How many lists from a place on, of so many, are empty as they were. Theirs are the facts behind the run.
-fn empty_ahead(taken: &Taken, from: u8, most: u8, run: &Run, desk: &Desk) -> u8
+    from: u8,
+    most: u8,
+    taken: &Taken,
+    stretch: &Stretch,
+    desk: &Desk,
+) -> u8
     requires within { from + most ≤ 255 }
-    requires run { IsRun run.now desk.now }
+    requires taken { AreEmptyElse (λ (p : ℕ). 255 - p) taken.now.lists parts.now.machine.lists }
+    requires stretch { IsStretch stretch.now desk.now }
     ensures few { result ≤ most }
-    ensures places { run.now.same + result ≤ run.now.places }
-    ensures free { (k : ℕ) → k < result → slice_index_or taken.now.lists (from + k) false ≡ false }
-    ensures empty { (k : ℕ) → k < result → slice_index_or desk.now.told.texts (desk.now.at + (run.now.same + k)) [] ≡ [] }
+    ensures places { stretch.now.same + result ≤ stretch.now.places }
+    ensures told { (k : ℕ) → k < result → IsToldAt (desk.now.at + (stretch.now.same + k)) desk.now (list_at parts.now.machine.lists (from + k)) }
 {
-    let most = run.left().min(usize::from(most)) as u8;
+    let most = stretch.left().min(usize::from(most)) as u8;
     for k in 0..most {
-        if taken.lists[usize::from(from + k)] {
-            return k;
-        }
-        if !desk.is_empty_ahead(run.same + usize::from(k)) {
+        let place = from + k;
+        let is_taken = taken.lists[usize::from(place)];
+        let ahead = stretch.same + usize::from(k);
+        if !is_list_ahead(parts, prio_of(255 - place), is_taken, ahead, desk) {
             return k;
         }
     }
     most
 }
 
-// Goes over lists from a place on that are empty as they were, and looks at the one behind them. It answers how many these are, of so
+// Goes over lists from a place on that are as they were told last, and looks at the one behind them. It answers how many these are, of so
 // many.
+#[inline(always)]
 fn look_at_next_lists(
     parts: &Parts,
     decls: &Declared<'_>,
     from: u8,
     most: u8,
     taken: &Taken,
-    run: &mut Run,
+    stretch: &mut Stretch,
     next: &mut NextText,
     desk: &mut Desk,
 ) -> u8
     requires some { 0 < most }
     requires within { from + most ≤ 255 }
     requires taken { AreEmptyElse (λ (p : ℕ). 255 - p) taken.now.lists parts.now.machine.lists }
-    requires run { IsRun run.old desk.old }
+    requires stretch { IsStretch stretch.old desk.old }
     requires memory { IsMemoryOf decls.now desk.old.told.texts desk.old.seen }
     ensures some { 0 < result }
     ensures few { result ≤ most }
-    ensures run { IsRun run.new desk.new }
-    ensures kept { WentOn next.old next.new (past run.old desk.old) (past run.new desk.new) (lists_from decls.now parts.now.machine.lists from result) }
+    ensures stretch { IsStretch stretch.new desk.new }
+    ensures kept { WentOn next.old next.new (past stretch.old desk.old) (past stretch.new desk.new) (lists_from decls.now parts.now.machine.lists from result) }
     ensures memory { IsMemoryOf decls.now desk.new.told.texts desk.new.seen }
 {
-    let empty = empty_ahead(taken, from, most, run, desk);
-    run.skip(usize::from(empty));
-    if empty == most {
+    let same = lists_ahead(parts, from, most, taken, stretch, desk);
+    stretch.skip(usize::from(same));
+    if same == most {
         return most;
     }
-    let place = from + empty;
-    let is_taken = taken.lists[usize::from(place)];
-    look_at_list(
-        parts,
-        decls,
-        prio_of(255 - place),
-        is_taken,
-        run,
-        next,
-        desk,
-    );
-    empty + 1
+    desk.go_on(stretch.same);
+    let place = from + same;
+    tell_list(parts, decls, prio_of(255 - place), next, desk);
+    *stretch = Stretch::begin(desk);
+    same + 1
 }
 
 // Looks at so many lists behind some that were looked at, that of the greatest priority first.
-#[inline(never)]
+#[inline(always)]
 fn look_at_each_list(
     parts: &Parts,
     decls: &Declared<'_>,
     from: u8,
     count: u8,
     taken: &Taken,
+    stretch: &mut Stretch,
     next: &mut NextText,
     desk: &mut Desk,
 )
     requires within { from + count ≤ 255 }
     requires taken { AreEmptyElse (λ (p : ℕ). 255 - p) taken.now.lists parts.now.machine.lists }
+    requires stretch { IsStretch stretch.old desk.old }
     requires memory { IsMemoryOf decls.now desk.old.told.texts desk.old.seen }
-    ensures kept { WentOn next.old next.new desk.old desk.new (lists_from decls.now parts.now.machine.lists from count) }
+    ensures stretch { IsStretch stretch.new desk.new }
+    ensures kept { WentOn next.old next.new (past stretch.old desk.old) (past stretch.new desk.new) (lists_from decls.now parts.now.machine.lists from count) }
     ensures memory { IsMemoryOf decls.now desk.new.told.texts desk.new.seen }
 {
-    let mut run = Run::begin(desk);
     let mut below = 0;
     while below < count {
         let place = from + below;
         let left = count - below;
-        below += look_at_next_lists(parts, decls, place, left, taken, &mut run, next, desk);
+        below += look_at_next_lists(parts, decls, place, left, taken, stretch, next, desk);
     }
-    desk.go_on(run.same);
 }
 
 // The place of the list of a priority among the lists, that of the greatest first.
@@ -213,6 +190,7 @@ fn look_at_block(
     decls: &Declared<'_>,
     from: u8,
     taken: &Taken,
+    stretch: &mut Stretch,
     next: &mut NextText,
     desk: &mut Desk,
 )
@@ -220,18 +198,27 @@ fn look_at_block(
     requires block { from % 16 ≡ 0 }
     requires lists { AreEmptyElse (λ (p : ℕ). 255 - p) taken.now.lists parts.now.machine.lists }
     requires blocks { AreEmptyElse (λ (p : ℕ). (255 - p) / 16) taken.now.groups parts.now.machine.lists }
+    requires stretch { IsStretch stretch.old desk.old }
     requires memory { IsMemoryOf decls.now desk.old.told.texts desk.old.seen }
-    ensures kept { WentOn next.old next.new desk.old desk.new (lists_from decls.now parts.now.machine.lists from 16) }
+    ensures stretch { IsStretch stretch.new desk.new }
+    ensures kept { WentOn next.old next.new (past stretch.old desk.old) (past stretch.new desk.new) (lists_from decls.now parts.now.machine.lists from 16) }
     ensures memory { IsMemoryOf decls.now desk.new.told.texts desk.new.seen }
 {
-    if !taken.groups[usize::from(from / 16)] {
-        desk.go_over_block();
+    if taken.groups[usize::from(from / 16)] {
+        look_at_each_list(parts, decls, from, 16, taken, stretch, next, desk);
         return;
     }
-    look_at_each_list(parts, decls, from, 16, taken, next, desk);
+    if stretch.is_quiet_behind(desk) {
+        stretch.skip(16);
+        return;
+    }
+    desk.go_on(stretch.same);
+    desk.go_over_block();
+    *stretch = Stretch::begin(desk);
 }
 
 /// Looks at the lists, that of the greatest priority first.
+#[inline(never)]
 pub(crate) fn look_at_lists(
     parts: &Parts,
     decls: &Declared<'_>,
@@ -243,8 +230,10 @@ pub(crate) fn look_at_lists(
     ensures memory { IsMemoryOf decls.now desk.new.told.texts desk.new.seen }
 {
     let taken = taken_lists(parts);
+    let mut stretch = Stretch::begin(desk);
     for block in 0..15u8 {
-        look_at_block(parts, decls, 16 * block, &taken, next, desk);
+        look_at_block(parts, decls, 16 * block, &taken, &mut stretch, next, desk);
     }
-    look_at_each_list(parts, decls, 240, 15, &taken, next, desk);
+    look_at_each_list(parts, decls, 240, 15, &taken, &mut stretch, next, desk);
+    desk.go_on(stretch.same);
 }

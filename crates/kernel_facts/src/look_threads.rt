@@ -1,7 +1,6 @@
 //! A look at what is told of threads.
 ghost use Rattle.std.specs.Prelude.{ℕ, ◌≡◌, ◌≤◌, ◌+◌, ◌∷◌, ◌<◌, [], length, true};
-ghost use Rattle.rules_facts.specs.Threads.{pending_fact, thread_fact};
-ghost use Rattle.kernel_facts.specs.Ahead.{IsRun, IsToldAhead, IsToldAt, past, statuses_from};
+ghost use Rattle.kernel_facts.specs.Ahead.{IsStretch, IsToldAt, past, row_from};
 ghost use Rattle.kernel_facts.specs.Blocks.{is_inner, inner_rows_kept};
 ghost use Rattle.kernel_facts.specs.Desk.{WentOn};
 ghost use Rattle.kernel_facts.specs.FactSeen.{IsMemoryOf};
@@ -11,11 +10,11 @@ ghost use Rattle.kernel_facts.specs.Rows.{thread_fact_of};
 ghost use Rattle.kernel_facts.specs.Short.{HasShortText};
 ghost use Rattle.kernel_facts.specs.declared.rows.ThreadRow.{ThreadRow};
 
-use crate::ahead::Run;
+use crate::ahead::Stretch;
 use crate::declared::Declared;
 use crate::desk::Desk;
-use crate::fact_seen::{is_of_thread, is_pending, is_status, see_thread};
-use crate::nothing::{are_bare_inside, plans_nothing, thread_tells_nothing};
+use crate::fact_seen::{is_of_thread, see_thread};
+use crate::nothing::{are_bare_inside, thread_tells_nothing};
 use crate::printed::print_thread_fact;
 use crate::rows::ThreadRow;
 use kernel_state::Parts;
@@ -47,188 +46,83 @@ fn look_at_thread_fact(
     desk.keep(next, failed, &see_thread(parts, row, t));
 }
 
-// ---- their statuses
+// ---- a row
 
-// How many threads from a number on, of so many, have the statuses that were seen last. Theirs are the facts behind the run.
-fn statuses_ahead(parts: &Parts, from: u16, most: u16, run: &Run, desk: &Desk) -> u16
+// Whether what a row tells of a thread is what was seen last of the fact so many places ahead, or nothing as it was.
+#[inline(always)]
+fn is_told_ahead(parts: &Parts, row: ThreadRow, t: Tid, ahead: usize, desk: &Desk) -> bool
+    requires known { t < length parts.now.names }
+    requires seen { desk.now.at + ahead < length desk.now.seen.facts }
+    requires told { desk.now.at + ahead < length desk.now.told.texts }
+    ensures { result ≡ true → IsToldAt (desk.now.at + ahead) desk.now (thread_fact_of row parts.now.machine t) }
+{
+    if thread_tells_nothing(parts, row, t) {
+        return desk.is_empty_ahead(ahead);
+    }
+    is_of_thread(parts, row, t, desk.seen_ahead(ahead))
+}
+
+// Of how many threads from a number on, of so many, a row tells the same as last. Theirs are the facts behind the stretch.
+#[inline(always)]
+fn told_ahead(
+    parts: &Parts,
+    row: ThreadRow,
+    from: u16,
+    most: u16,
+    stretch: &Stretch,
+    desk: &Desk,
+) -> u16
     requires within { from + most ≤ length parts.now.names }
     requires few { from + most ≤ 256 }
-    requires run { IsRun run.now desk.now }
+    requires stretch { IsStretch stretch.now desk.now }
     ensures few { result ≤ most }
-    ensures places { run.now.same + result ≤ run.now.places }
-    ensures told { (k : ℕ) → k < result → IsToldAt (desk.now.at + (run.now.same + k)) desk.now (thread_fact parts.now.machine (from + k)) }
+    ensures places { stretch.now.same + result ≤ stretch.now.places }
+    ensures told { (k : ℕ) → k < result → IsToldAt (desk.now.at + (stretch.now.same + k)) desk.now (thread_fact_of row parts.now.machine (from + k)) }
 {
-    let most = run.left().min(usize::from(most)) as u16;
+    let most = stretch.left().min(usize::from(most)) as u16;
     for k in 0..most {
-        let last = desk.seen_ahead(run.same + usize::from(k));
-        if !is_status(parts, parts.tid(from + k), last) {
+        let ahead = stretch.same + usize::from(k);
+        if !is_told_ahead(parts, row, parts.tid(from + k), ahead, desk) {
             return k;
         }
     }
     most
 }
 
-// Goes over threads from a number on that have the statuses that were seen last, and looks at the status of the one behind them. It
-// answers how many these are, of so many.
-fn look_at_next_statuses(
+// Goes over threads from a number on of which a row tells the same as last, and looks at what it tells of the one behind them. It answers
+// how many these are, of so many.
+#[inline(always)]
+fn look_at_next_facts(
     parts: &Parts,
     decls: &Declared<'_>,
+    row: ThreadRow,
     from: u16,
     most: u16,
-    run: &mut Run,
+    stretch: &mut Stretch,
     next: &mut NextText,
     desk: &mut Desk,
 ) -> u16
     requires some { 0 < most }
     requires within { from + most ≤ length parts.now.names }
     requires few { from + most ≤ 256 }
-    requires run { IsRun run.old desk.old }
+    requires stretch { IsStretch stretch.old desk.old }
     requires memory { IsMemoryOf decls.now desk.old.told.texts desk.old.seen }
     ensures some { 0 < result }
     ensures few { result ≤ most }
-    ensures run { IsRun run.new desk.new }
-    ensures kept { WentOn next.old next.new (past run.old desk.old) (past run.new desk.new) (statuses_from decls.now parts.now.machine from result) }
-    ensures short { (k : ℕ) → k < result → HasShortText decls.now (thread_fact parts.now.machine (from + k)) }
+    ensures stretch { IsStretch stretch.new desk.new }
+    ensures kept { WentOn next.old next.new (past stretch.old desk.old) (past stretch.new desk.new) (row_from decls.now row parts.now.machine from result) }
+    ensures short { (k : ℕ) → k < result → HasShortText decls.now (thread_fact_of row parts.now.machine (from + k)) }
     ensures memory { IsMemoryOf decls.now desk.new.told.texts desk.new.seen }
 {
-    let same = statuses_ahead(parts, from, most, run, desk);
-    run.skip(usize::from(same));
+    let same = told_ahead(parts, row, from, most, stretch, desk);
+    stretch.skip(usize::from(same));
     if same == most {
         return most;
     }
-    desk.go_on(run.same);
-    look_at_thread_fact(
-        parts,
-        decls,
-        ThreadRow::Status,
-        parts.tid(from + same),
-        next,
-        desk,
-    );
-    *run = Run::begin(desk);
+    desk.go_on(stretch.same);
+    look_at_thread_fact(parts, decls, row, parts.tid(from + same), next, desk);
+    *stretch = Stretch::begin(desk);
     same + 1
-}
-
-// Looks at the statuses of the threads, by number.
-fn look_at_statuses(parts: &Parts, decls: &Declared<'_>, next: &mut NextText, desk: &mut Desk)
-    requires memory { IsMemoryOf decls.now desk.old.told.texts desk.old.seen }
-    ensures kept { WentOn next.old next.new desk.old desk.new (thread_row_kept decls.now ThreadRow.Status parts.now.machine) }
-    ensures memory { IsMemoryOf decls.now desk.new.told.texts desk.new.seen }
-    ensures short { (t : ℕ) → t < length parts.now.machine.threads → HasShortText decls.now (thread_fact parts.now.machine t) }
-{
-    let count = parts.count();
-    let mut run = Run::begin(desk);
-    let mut number = 0;
-    while number < count {
-        let left = count - number;
-        number += look_at_next_statuses(parts, decls, number, left, &mut run, next, desk);
-    }
-    desk.go_on(run.same);
-}
-
-// ---- what their servers have planned
-
-// Whether what the server of a thread has planned is what was seen last of the fact behind the run, or nothing as it was.
-fn is_pending_ahead(parts: &Parts, t: Tid, run: &Run, desk: &Desk) -> bool
-    requires known { t < length parts.now.names }
-    requires run { IsRun run.now desk.now }
-    ensures next { result ≡ true → run.now.same < run.now.places }
-    ensures told { result ≡ true → IsToldAhead run.now desk.now (pending_fact parts.now.machine t) }
-{
-    if !run.has_next() {
-        return false;
-    }
-    if plans_nothing(parts, t) {
-        return desk.is_empty_ahead(run.same);
-    }
-    is_pending(parts, t, desk.seen_ahead(run.same))
-}
-
-// A look at the fact behind the run, which is what the server of a thread has planned.
-#[inline(always)]
-fn look_at_pending(
-    parts: &Parts,
-    decls: &Declared<'_>,
-    t: Tid,
-    run: &mut Run,
-    next: &mut NextText,
-    desk: &mut Desk,
-)
-    requires known { t < length parts.now.names }
-    requires run { IsRun run.old desk.old }
-    requires memory { IsMemoryOf decls.now desk.old.told.texts desk.old.seen }
-    ensures run { IsRun run.new desk.new }
-    ensures kept { WentOn next.old next.new (past run.old desk.old) (past run.new desk.new) (fact_text decls.now (pending_fact parts.now.machine t) ∷ []) }
-    ensures short { HasShortText decls.now (pending_fact parts.now.machine t) }
-    ensures memory { IsMemoryOf decls.now desk.new.told.texts desk.new.seen }
-{
-    if is_pending_ahead(parts, t, run, desk) {
-        run.go_on();
-        return;
-    }
-    desk.go_on(run.same);
-    look_at_thread_fact(parts, decls, ThreadRow::Pending, t, next, desk);
-    *run = Run::begin(desk);
-}
-
-// Looks at what the servers of the threads have planned, by number.
-fn look_at_plans(parts: &Parts, decls: &Declared<'_>, next: &mut NextText, desk: &mut Desk)
-    requires memory { IsMemoryOf decls.now desk.old.told.texts desk.old.seen }
-    ensures kept { WentOn next.old next.new desk.old desk.new (thread_row_kept decls.now ThreadRow.Pending parts.now.machine) }
-    ensures memory { IsMemoryOf decls.now desk.new.told.texts desk.new.seen }
-    ensures short { (t : ℕ) → t < length parts.now.machine.threads → HasShortText decls.now (pending_fact parts.now.machine t) }
-{
-    let mut run = Run::begin(desk);
-    for number in 0..parts.count() {
-        look_at_pending(parts, decls, parts.tid(number), &mut run, next, desk);
-    }
-    desk.go_on(run.same);
-}
-
-// ---- what else they have about them
-
-// Whether what a row tells of a thread is what was seen last of the fact behind the run, or nothing as it was.
-fn is_told_ahead(parts: &Parts, row: ThreadRow, t: Tid, run: &Run, desk: &Desk) -> bool
-    requires known { t < length parts.now.names }
-    requires run { IsRun run.now desk.now }
-    ensures next { result ≡ true → run.now.same < run.now.places }
-    ensures told { result ≡ true → IsToldAhead run.now desk.now (thread_fact_of row parts.now.machine t) }
-{
-    if !run.has_next() {
-        return false;
-    }
-    if thread_tells_nothing(parts, row, t) {
-        return desk.is_empty_ahead(run.same);
-    }
-    is_of_thread(parts, row, t, desk.seen_ahead(run.same))
-}
-
-// A look at the fact behind the run, which is what a row tells of a thread.
-#[inline(always)]
-fn look_at_row_fact(
-    parts: &Parts,
-    decls: &Declared<'_>,
-    row: ThreadRow,
-    t: Tid,
-    run: &mut Run,
-    next: &mut NextText,
-    desk: &mut Desk,
-)
-    requires known { t < length parts.now.names }
-    requires run { IsRun run.old desk.old }
-    requires memory { IsMemoryOf decls.now desk.old.told.texts desk.old.seen }
-    ensures run { IsRun run.new desk.new }
-    ensures kept { WentOn next.old next.new (past run.old desk.old) (past run.new desk.new) (fact_text decls.now (thread_fact_of row parts.now.machine t) ∷ []) }
-    ensures short { HasShortText decls.now (thread_fact_of row parts.now.machine t) }
-    ensures memory { IsMemoryOf decls.now desk.new.told.texts desk.new.seen }
-{
-    if is_told_ahead(parts, row, t, run, desk) {
-        run.go_on();
-        return;
-    }
-    desk.go_on(run.same);
-    look_at_thread_fact(parts, decls, row, t, next, desk);
-    *run = Run::begin(desk);
 }
 
 // Looks at a row of threads, by number.
@@ -245,11 +139,38 @@ fn look_at_thread_row(
     ensures memory { IsMemoryOf decls.now desk.new.told.texts desk.new.seen }
     ensures short { (t : ℕ) → t < length parts.now.machine.threads → HasShortText decls.now (thread_fact_of row parts.now.machine t) }
 {
-    let mut run = Run::begin(desk);
-    for number in 0..parts.count() {
-        look_at_row_fact(parts, decls, row, parts.tid(number), &mut run, next, desk);
+    let count = parts.count();
+    let mut stretch = Stretch::begin(desk);
+    let mut number = 0;
+    while number < count {
+        let left = count - number;
+        number += look_at_next_facts(parts, decls, row, number, left, &mut stretch, next, desk);
     }
-    desk.go_on(run.same);
+    desk.go_on(stretch.same);
+}
+
+// ---- the rows
+
+// Looks at the statuses of the threads, by number.
+#[inline(never)]
+fn look_at_statuses(parts: &Parts, decls: &Declared<'_>, next: &mut NextText, desk: &mut Desk)
+    requires memory { IsMemoryOf decls.now desk.old.told.texts desk.old.seen }
+    ensures kept { WentOn next.old next.new desk.old desk.new (thread_row_kept decls.now ThreadRow.Status parts.now.machine) }
+    ensures memory { IsMemoryOf decls.now desk.new.told.texts desk.new.seen }
+    ensures short { (t : ℕ) → t < length parts.now.machine.threads → HasShortText decls.now (thread_fact_of ThreadRow.Status parts.now.machine t) }
+{
+    look_at_thread_row(parts, decls, ThreadRow::Status, next, desk);
+}
+
+// Looks at what the servers of the threads have planned, by number.
+#[inline(never)]
+fn look_at_plans(parts: &Parts, decls: &Declared<'_>, next: &mut NextText, desk: &mut Desk)
+    requires memory { IsMemoryOf decls.now desk.old.told.texts desk.old.seen }
+    ensures kept { WentOn next.old next.new desk.old desk.new (thread_row_kept decls.now ThreadRow.Pending parts.now.machine) }
+    ensures memory { IsMemoryOf decls.now desk.new.told.texts desk.new.seen }
+    ensures short { (t : ℕ) → t < length parts.now.machine.threads → HasShortText decls.now (thread_fact_of ThreadRow.Pending parts.now.machine t) }
+{
+    look_at_thread_row(parts, decls, ThreadRow::Pending, next, desk);
 }
 
 // Looks at what threads have about them but for what their servers have planned.

@@ -5,7 +5,7 @@ ghost use Rattle.rules_lists.specs.Lists.{list_of};
 ghost use Rattle.rules_facts.specs.Fact.{on_list};
 ghost use Rattle.rules_facts.specs.Objects.{in_service_order, owner_fact, timer_fact};
 ghost use Rattle.rules_facts.specs.Queues.{registration_fact};
-ghost use Rattle.rules_facts.specs.Threads.{inner_bodies, pending_fact, planned};
+ghost use Rattle.rules_facts.specs.Threads.{inner_bodies, planned};
 ghost use Rattle.kernel_facts.specs.Blocks.{is_inner};
 ghost use Rattle.kernel_facts.specs.InLine.{stands_in};
 ghost use Rattle.kernel_facts.specs.Kept.{waiters_text};
@@ -99,23 +99,19 @@ fn is_status(row: ThreadRow) -> bool
 }
 
 /// Whether a row tells nothing of a thread. Its status is told always.
+#[inline(always)]
 pub(crate) fn thread_tells_nothing(parts: &Parts, row: ThreadRow, t: Tid) -> bool
     requires { t < length parts.now.names }
     ensures { result ≡ true → TellsNothing (thread_fact_of row parts.now.machine t) }
 {
     let thread = parts.thread(t);
+    if is_bare(thread, row) {
+        return true;
+    }
     if thread.is_live() {
-        return is_bare(thread, row);
+        return false;
     }
     !is_status(row)
-}
-
-/// Whether the server of a thread has nothing planned, or it has none.
-pub(crate) fn plans_nothing(parts: &Parts, t: Tid) -> bool
-    requires { t < length parts.now.names }
-    ensures { result ≡ true → TellsNothing (pending_fact parts.now.machine t) }
-{
-    is_unplanned(parts.thread(t).server())
 }
 
 // Whether a thread that lives has nothing that an inner row tells.

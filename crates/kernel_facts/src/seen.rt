@@ -1,16 +1,19 @@
 //! What the fact of a thread's status tells, as a value.
 ghost use Rattle.std.specs.Prelude.{ℕ, ◌≡◌, ◌<◌, false, length, true};
+ghost use Rattle.kernel_facts.specs.declared.seen.SeenStatus.TheVariants as statuses;
 ghost use Rattle.kernel_facts.specs.declared.seen.SeenWait.TheVariants as waits;
 ghost use Rattle.words_trace.specs.declared.event.CallName.TheVariants as calls;
+ghost use Rattle.rules_machine.specs.Priorities.{assigned_of};
 ghost use Rattle.kernel_threads.specs.Plain.{wait_of, waiting_of};
 ghost use Rattle.rules_facts.specs.Fact.{blocked_thread};
 ghost use Rattle.rules_facts.specs.Threads.{awaited, block_of, priorities_of, thread_fact};
 ghost use Rattle.kernel_facts.specs.Seen.{due_of, seen_fact, what_of};
 
 use kernel_state::Parts;
-use kernel_threads::{Status, Wait, Waiting};
+use kernel_threads::{Status, Thread, Wait, Waiting};
 use rules_machine::call_name;
 use words_numbers::{Tick, Tid};
+use words_script::Policy;
 use words_trace::CallName;
 
 /// Whether a thread waits to start, may run, waits, or has ended.
@@ -138,13 +141,24 @@ fn is_same_call(a: CallName, b: CallName) -> bool
     a == b
 }
 
+// Whether that is the priority that its policy gives the thread.
+fn is_assigned(thread: &Thread, priority: u8) -> bool
+    ensures { result ≡ true → assigned_of thread.now ≡ priority }
+{
+    match thread.policy() {
+        Policy::Fifo(p) => p.get() == priority,
+        Policy::Rr(p) => p.get() == priority,
+        _ => thread.assigned().get() == priority,
+    }
+}
+
 // Whether the thread has the priorities that were seen.
 fn has_priorities(parts: &Parts, t: Tid, seen: &Seen) -> bool
     requires { t < length parts.now.names }
     ensures assigned { result ≡ true → (priorities_of parts.now.machine t).assigned ≡ seen.now.assigned }
     ensures exec { result ≡ true → (priorities_of parts.now.machine t).exec ≡ seen.now.exec }
 {
-    parts.exec(t).get() == seen.exec && parts.thread(t).assigned().get() == seen.assigned
+    parts.exec(t).get() == seen.exec && is_assigned(parts.thread(t), seen.assigned)
 }
 
 // Whether it is what was seen that a thread waits for.
@@ -185,15 +199,31 @@ fn has_status(seen: &Seen, status: SeenStatus) -> bool
     seen.status == status
 }
 
+// Whether a thread that was seen to be runnable is so still, at the same priorities.
+#[inline(always)]
+fn is_ready_as_seen(parts: &Parts, t: Tid, seen: &Seen) -> bool
+    requires known { t < length parts.now.names }
+    requires ready { seen.now.status ≡ statuses.Ready }
+    ensures { result ≡ true → seen_fact t seen.now ≡ thread_fact parts.now.machine t }
+{
+    if !parts.thread(t).is_runnable() {
+        return false;
+    }
+    has_priorities(parts, t, seen)
+}
+
 /// Whether that is what is told of the status of a thread.
 #[inline(always)]
 pub(crate) fn is_as_seen(parts: &Parts, t: Tid, seen: &Seen) -> bool
     requires { t < length parts.now.names }
     ensures { result ≡ true → seen_fact t seen.now ≡ thread_fact parts.now.machine t }
 {
+    if has_status(seen, SeenStatus::Ready) {
+        return is_ready_as_seen(parts, t, seen);
+    }
     match parts.thread(t).status() {
         Status::Dormant(_) => has_status(seen, SeenStatus::Dormant),
-        Status::Runnable => has_status(seen, SeenStatus::Ready) && has_priorities(parts, t, seen),
+        Status::Runnable => false,
         Status::Blocked(waiting) => {
             has_status(seen, SeenStatus::Blocked)
                 && is_waiting(&waiting, seen)

@@ -1,9 +1,10 @@
 //! A printer writes words, each by a write of its own.
-ghost use Rattle.std.specs.Prelude.{◌≡◌, ◌<◌, ◌≤◌, ◌+◌, ◌∷◌, ◌++◌, [], false, length, map};
+ghost use Rattle.std.specs.Prelude.{◌≡◌, ◌<◌, ◌≤◌, ◌+◌, ◌∷◌, ◌++◌, [], decimal, false, length, map};
 ghost use Rattle.script_lex.specs.Joined.{after_blanks, joined_words};
 ghost use Rattle.script_writer.specs.Line.{AreShort, IsShort, line_text, spelled, total_width, width};
 ghost use Rattle.script_printer.specs.Puts.{Puts};
 
+use itoa::Buffer;
 use parts_io::Sink;
 use script_writer::{Word, word_text};
 
@@ -54,14 +55,27 @@ impl<'a, K: Sink> Printer<'a, K> {
         self.put(bytes);
     }
 
-    // Prints a word without a blank.
+    // Prints a number.
+    fn put_number(&mut self, number: u64)
+        ensures text { Puts K.text K.faults self.old self.new (decimal number) }
+        ensures short { length (decimal number) ≤ 20 }
+    {
+        let mut buffer = Buffer::new();
+        self.put(buffer.format(number).as_bytes());
+    }
+
+    // Prints a word without a blank. The text of most words stands somewhere already.
     fn put_word(&mut self, word: &Word<'_>)
         requires { IsShort word.now }
         ensures text { Puts K.text K.faults self.old self.new (spelled word.now) }
         ensures short { length (spelled word.now) < width word.now }
     {
-        let text = word_text(word);
-        self.put(text.as_slice());
+        match word {
+            Word::Keyword(text) => self.put(text),
+            Word::Name(text) => self.put(text),
+            Word::Number(number) => self.put_number(*number),
+            _ => self.put(word_text(word).as_slice()),
+        }
     }
 
     /// Prints more words of a line, with a blank before each.

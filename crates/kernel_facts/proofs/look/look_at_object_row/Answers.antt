@@ -18,10 +18,10 @@ loop-number-preserved c =
 
 pub returns-clause-kept : goal.returns-clause-kept
 returns-clause-kept c =
-    let all : c.loop-number.number ≡ object_count c.args.row c.args.decls.now c.args.parts.now.machine = omega (arith, c.object_count-number-end.ensures) in
+    let all : c.loop-number.number ≡ object_count c.args.row c.args.decls.now c.args.parts.now.machine = omega (arith, c.requires.count) in
     rw all at c.loop-number.invariant.kept
 
 pub returns-clause-short : goal.returns-clause-short
 returns-clause-short c =
-    let all : c.loop-number.number ≡ object_count c.args.row c.args.decls.now c.args.parts.now.machine = omega (arith, c.object_count-number-end.ensures) in
+    let all : c.loop-number.number ≡ object_count c.args.row c.args.decls.now c.args.parts.now.machine = omega (arith, c.requires.count) in
     rw all at c.loop-number.invariant.short

@@ -1,6 +1,6 @@
 use Rattle.std.proofs.Common.{◌≤◌}
 use Rattle.std.specs.Prelude.{◌-◌}
-use Rattle.kernel_facts.specs.Ahead.{IsRun, past}
+use Rattle.kernel_facts.specs.Ahead.{IsStretch, past}
 use Rattle.kernel_facts.specs.Blocks.{lists_from}
 use Rattle.kernel_facts.specs.Desk.{WentOn}
 use Rattle.kernel_facts.specs.FactSeen.{IsMemoryOf}
@@ -12,7 +12,7 @@ decreases-loop-below l = l.count - l.below
 abbrev pub invariant-loop-below : goal.invariant-loop-below
 invariant-loop-below l = record {
   few : l.below ≤ l.count;
-  run : IsRun l.run l.desk;
-  kept : WentOn l.initial.next l.next l.initial.desk (past l.run l.desk) (lists_from l.decls l.parts.machine.lists l.from l.below);
+  stretch : IsStretch l.stretch l.desk;
+  kept : WentOn l.initial.next l.next (past l.initial.stretch l.initial.desk) (past l.stretch l.desk) (lists_from l.decls l.parts.machine.lists l.from l.below);
   memory : IsMemoryOf l.decls l.desk.told.texts l.desk.seen;
 }

@@ -1,4 +1,5 @@
 use Rattle.std.proofs.Common.{[], ◌*◌, ◌∷◌}
+use Rattle.kernel_facts.specs.Ahead.{IsStretch, past}
 use Rattle.kernel_facts.specs.Desk.{WentOn}
 use Rattle.kernel_facts.specs.FactSeen.{IsMemoryOf}
 use Rattle.kernel_facts.specs.Kept.{kept_below}
@@ -7,6 +8,7 @@ use Rattle.kernel_facts.proofs.look_lists.look_at_lists.Given as goal
 
 abbrev pub invariant-loop-block : goal.invariant-loop-block
 invariant-loop-block l = record {
-  kept : WentOn l.initial.next l.next l.initial.desk l.desk (kept_below (λ i. list_text l.decls 255 l.parts.machine.lists i ∷ []) (16 * l.block));
+  stretch : IsStretch l.stretch l.desk;
+  kept : WentOn l.initial.next l.next l.initial.desk (past l.stretch l.desk) (kept_below (λ i. list_text l.decls 255 l.parts.machine.lists i ∷ []) (16 * l.block));
   memory : IsMemoryOf l.decls l.desk.told.texts l.desk.seen;
 }

@@ -1,46 +1,39 @@
-use Rattle.std.proofs.Common.{◌≡◌, ◌∙◌, add-one, ap, arith, false, subst, sym, ℕ}
-use Rattle.std.specs.Prelude.{slice_index_or, ◌-◌}
+use Rattle.std.proofs.Common.{◌≡◌, ◌∙◌, ◌+◌, add-one, arith, subst, ℕ}
 use Rattle.kernel_facts.specs.Ahead.{past}
-use Rattle.kernel_facts.specs.Blocks.{nothings}
+use Rattle.kernel_facts.specs.Blocks.{list_at, lists_from}
 use Rattle.kernel_facts.specs.Desk.{WentOn}
-use Rattle.kernel_facts.proofs.EmptyLists.{lists_nothing}
 use Rattle.kernel_facts.proofs.Looking.{went_both}
-use Rattle.kernel_facts.proofs.SameRuns.{skip_empty}
+use Rattle.kernel_facts.proofs.Stretches.{ahead_other, past_memory, skip_facts}
 use Rattle.kernel_facts.proofs.look_lists.look_at_next_lists.Goals as goal
 
-pub look_at_list-requires-clause-empty : goal.look_at_list-requires-clause-empty
-look_at_list-requires-clause-empty c e =
-    let is = c.prio_of.ensures in
-    let sum = c.from-2.ensures in
-    let few = c.empty_ahead-empty.ensures.few in
-    let within = c.requires.within in
-    let here : 255 - c.prio_of.result ≡ c.from-2.result = omega (arith, is, sum, few, within) in
-    let place = c.prio_of.result in
-    let low = c.if-empty-most.false in
-    c.requires.taken place (omega (arith, is, few, within, low)) (omega (arith, is)) (ap (λ (i : ℕ). slice_index_or c.args.taken.now.lists i false) here ∙ e)
-
-pub returns-then-empty-most-clause-kept : goal.returns-then-empty-most-clause-kept
-returns-then-empty-most-clause-kept c =
+pub returns-then-same-most-clause-kept : goal.returns-then-same-most-clause-kept
+returns-then-same-most-clause-kept c =
+    let decls = c.args.decls.now in
+    let lists = c.args.parts.now.machine.lists in
     let n = c.from.result in
     let is = c.from.ensures in
-    let all : n ≡ c.args.most = is ∙ c.if-empty-most.true in
-    let found = c.empty_ahead-empty.ensures in
+    let all : n ≡ c.args.most = is ∙ c.if-same-most.true in
+    let found = c.lists_ahead-same.ensures in
     let room = found.places in
-    subst (WentOn c.args.next.now c.args.next.now (past c.args.run.now c.args.desk.now) (past c.skip.new.self c.args.desk.now))
-    (ap nothings all ∙ sym (lists_nothing c.args.decls.now c.args.taken.now.lists c.args.parts.now.machine.lists c.args.from c.args.most c.requires.taken c.requires.within
-    (λ k low. found.free k (omega (arith, low, all, is)))))
-    (skip_empty c.args.next.now c.args.desk.now c.args.run.now c.skip.new.self n c.requires.run (omega (arith, room, is)) c.skip.ensures (λ k low. found.empty k (omega (arith, low, is))))
+    subst (λ (k : ℕ). WentOn c.args.next.now c.args.next.now (past c.args.stretch.now c.args.desk.now) (past c.skip.new.self c.args.desk.now) (lists_from decls lists c.args.from k)) all
+    (skip_facts c.args.next.now c.args.desk.now c.args.stretch.now c.skip.new.self (λ (k : ℕ). list_at lists (c.args.from + k)) n c.requires.stretch (omega (arith, room, is)) c.skip.ensures
+    (λ k low. found.told k (omega (arith, low, is))) decls c.requires.memory)
+
+pub tell_list-requires : goal.tell_list-requires
+tell_list-requires c = record { memory = past_memory c.args.decls.now c.args.desk.now c.go_on.new.self c.skip.new.self c.go_on.ensures c.requires.memory }
 
 pub returns-clause-kept : goal.returns-clause-kept
 returns-clause-kept c =
+    let decls = c.args.decls.now in
+    let lists = c.args.parts.now.machine.lists in
     let n = c.from.result in
     let is = c.from.ensures in
-    let found = c.empty_ahead-empty.ensures in
+    let found = c.lists_ahead-same.ensures in
     let room = found.places in
-    let few = found.few in
-    let within = c.requires.within in
     let skipped =
-    subst (WentOn c.args.next.now c.args.next.now (past c.args.run.now c.args.desk.now) (past c.skip.new.self c.args.desk.now))
-    (ap nothings is ∙ sym (lists_nothing c.args.decls.now c.args.taken.now.lists c.args.parts.now.machine.lists c.args.from c.empty_ahead-empty.result c.requires.taken (omega (arith, few, within)) found.free))
-    (skip_empty c.args.next.now c.args.desk.now c.args.run.now c.skip.new.self n c.requires.run (omega (arith, room, is)) c.skip.ensures (λ k low. found.empty k (omega (arith, low, is)))) in
-    rw add-one (went_both _ _ _ _ _ _ _ _ skipped (rw c.prio_of.ensures at c.look_at_list.ensures.kept))
+    subst (λ (k : ℕ). WentOn c.args.next.now c.args.next.now (past c.args.stretch.now c.args.desk.now) (past c.skip.new.self c.args.desk.now) (lists_from decls lists c.args.from k)) is
+    (skip_facts c.args.next.now c.args.desk.now c.args.stretch.now c.skip.new.self (λ (k : ℕ). list_at lists (c.args.from + k)) n c.requires.stretch (omega (arith, room, is)) c.skip.ensures
+    (λ k low. found.told k (omega (arith, low, is))) decls c.requires.memory) in
+    rw add-one
+    (went_both _ _ _ _ _ _ _ _ skipped
+    (ahead_other _ _ c.args.desk.now c.go_on.new.self _ c.skip.new.self c.begin.result _ c.go_on.ensures c.begin.ensures.none (rw c.prio_of.ensures at c.tell_list.ensures.kept)))
