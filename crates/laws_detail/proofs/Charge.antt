@@ -1,4 +1,4 @@
--- The charge of a tick that does not matter, of a head that is in the midst of its unit, changes no fact.
+-- The charge of a tick that does not matter changes no fact, where its head tells the same in the unit that it is in or takes.
 use Rattle.std.proofs.Common.{Bool, List, None, Option, Some, [], ap, arith, false, inl, inr, refl, suc, sym, true, zero, ℕ, ◌∷◌, ◌≡◌, ◌⊎◌, ◌+◌}
 use Rattle.std.specs.Prelude.{filter, map, not, option_map, ◌-◌, ◌==◌, ◌&&◌, ◌||◌, if◌then◌else◌}
 use Rattle.std.specs.List.{range_with_len}
@@ -24,6 +24,7 @@ use Rattle.rules_machine.specs.Ticks.{capacity_in, frames_charged, slice_is_used
 use Rattle.rules_machine.specs.Eventful.{tick_matters}
 use Rattle.rules_machine.proofs.Reading.{changed-length}
 use Rattle.rules_moves.proofs.Waiters.OfThreads.{changed_is}
+use Rattle.laws_machine.proofs.Lists.Kept.{Plans, in_unit_plans}
 use Rattle.laws_machine.proofs.Signals.Takers.{charge_of}
 use Rattle.rules_leaps.specs.Quiet.{after_quiet}
 use Rattle.laws_leaps.proofs.Quiet.Charges.{charged_exec}
@@ -75,7 +76,7 @@ last_of : (a b c : Bool) → (a || b || c) ≡ false → c ≡ false
 last_of a b c e = grind arith
 
 module _ {P : Type 0} where
-  abbrev seen_with : Thread P → ℕ → List BodyOf → List Replenish → Seen
+  abbrev pub seen_with : Thread P → ℕ → List BodyOf → List Replenish → Seen
   seen_with th assigned bodies planned = record {
     status = th.status;
     assigned = assigned;
@@ -95,7 +96,7 @@ module _ {P : Type 0} where
       ap (λ (a : ℕ). seen_with th a (inner_bodies (frames_charged th.frames)) (planned (option_map charged th.server))) (assigned_stays th.policy th.server spent)
       ∙ ap₂ (seen_with th (assigned_under th.policy th.server)) (bodies_stay th.frames) (planned_stays th.server)
 
-  waiting_kept : (n t : ℕ) (passes : Thread P → Bool) (f : Thread P → Thread P) (ths : List (Thread P)) → passes (f (thread_in ths t)) ≡ passes (thread_in ths t)
+  pub waiting_kept : (n t : ℕ) (passes : Thread P → Bool) (f : Thread P → Thread P) (ths : List (Thread P)) → passes (f (thread_in ths t)) ≡ passes (thread_in ths t)
       → numbers_from n passes (changed_at no_thread t f ths) ≡ numbers_from n passes ths
   waiting_kept n t passes f [] e = refl
   waiting_kept n zero passes f (th ∷ ths) e = ap (λ (b : Bool). kept_if b n (numbers_from (n + 1) passes ths)) e
@@ -104,15 +105,16 @@ module _ {P : Type 0} where
 -- ---- the machine
 
 module _ {P : Type 0} (bodies : Bodies P) (t : ℕ) (m : Machine P)
-    (midst : (in_unit bodies (thread_at m t)).thread ≡ thread_at m t)
+    (same : seen (in_unit bodies (thread_at m t)).thread ≡ seen (thread_at m t))
     (matters : tick_matters (has_high (thread_at m t).server) m.quantum (charge_of bodies (thread_at m t)) ≡ false) where
   abbrev charging : Thread P → Thread P
   charging th = charge_of bodies (thread_at m t)
 
   head_seen : seen (charge_of bodies (thread_at m t)) ≡ seen (thread_at m t)
   head_seen =
-      ap (λ (th : Thread P). seen (tick_charged th)) midst
-      ∙ charged_seen m.quantum (thread_at m t) (subst (λ (th : Thread P). tick_matters (has_high (thread_at m t).server) m.quantum (tick_charged th) ≡ false) midst matters)
+      let unit = (in_unit bodies (thread_at m t)).thread in
+      let server : unit.server ≡ (thread_at m t).server = ap (λ (p : Plans). p.server) (in_unit_plans bodies (thread_at m t)) in
+      charged_seen m.quantum unit (subst (λ (o : Option ServerState). tick_matters (has_high o) m.quantum (tick_charged unit) ≡ false) (sym server) matters) ∙ same
 
   each_seen : (u : ℕ) → seen (thread_at (after_quiet bodies t m) u) ≡ seen (thread_at m u)
   each_seen u = of_two (changed_is no_thread t u charging m.threads)

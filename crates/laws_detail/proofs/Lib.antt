@@ -1,6 +1,7 @@
 pub mod Alike
 pub mod Charge
 pub mod Ticks
+pub mod Plain
 pub mod Rest
 pub mod Looks
 pub mod Times

@@ -1,4 +1,4 @@
--- Within a leap the facts are those of the instant behind its start.
+-- Within a leap the facts are those of the instant behind its start, and of the start where the leap begins plainly.
 use Rattle.std.proofs.Common.{Bool, List, [], ap, arith, false, refl, suc, sym, true, zero, ℕ, ◌+◌, ◌++◌, ◌<◌, ◌≤◌, ◌≡◌, ◌∷◌}
 use Rattle.std.specs.Prelude.{flat_map, not, ◌-◌, ◌==◌, ◌&&◌, if◌then◌else◌, nat_lt}
 use Rattle.std.specs.List.{join_with_byte, range_with_len}
@@ -32,7 +32,8 @@ use Rattle.rules_facts.specs.Facts.{facts}
 use Rattle.rules_facts.specs.Shown.{shown_machine}
 use Rattle.rules_facts.specs.Spelled.{told}
 use Rattle.laws_facts.specs.Shows.{shown_of}
-use Rattle.laws_detail.specs.Rests.{FactsRest, RestsAt, leap_at}
+use Rattle.laws_detail.specs.Rests.{BeginsPlainly, FactsRest, NoneChangesAfter, RestsAt, StaysAt, leap_at}
+use Rattle.laws_detail.proofs.Plain.{charge_rests}
 use Rattle.laws_detail.proofs.Ticks.{charges_rest, shown_state}
 
 -- ---- of any machine
@@ -71,11 +72,20 @@ module _ {P : Type 0} (bodies : Bodies P) (m : Machine P) (none : (instant bodie
       ∙ charges_rest bodies script ready h j (λ i small. c.quiet i (omega arith))
       ∙ sym (shown_is script k 0 c (omega arith))
 
+  pub stays : (script : Script) → BeginsPlainly ready → IsQuiet bodies 1 m → StaysAt bodies script m
+  stays script plain q = (let c = calm_so_far 1 q in shown_is script 1 0 c (omega arith) ∙ charge_rests bodies script ready h plain (c.quiet 0 (omega arith)))
+
 pub quiet_rests : (bodies : Bodies Place) (script : Script) (m : Machine Place) → IsHandled m → (k : ℕ) → IsQuiet bodies k m → (i : ℕ) → 1 ≤ i → i ≤ k → RestsAt bodies script i m
 quiet_rests bodies script m handled =
     let h = handled_of bodies m handled in
     let same : instant bodies (turn_of m) ≡ turn_of m = idle_items bodies (item_bound m) (turn_of m) h.nothing in
     rests bodies m (ap (λ (s : Turn Place). s.direct) same) (subst (λ (s : Turn Place). Handled bodies s.machine) (sym same) h) script
+
+pub plain_stays : (bodies : Bodies Place) (script : Script) (m : Machine Place) → IsHandled m → BeginsPlainly m → IsQuiet bodies 1 m → StaysAt bodies script m
+plain_stays bodies script m handled =
+    let h = handled_of bodies m handled in
+    let same : instant bodies (turn_of m) ≡ turn_of m = idle_items bodies (item_bound m) (turn_of m) h.nothing in
+    λ plain. stays bodies m (ap (λ (s : Turn Place). s.direct) same) (subst (λ (s : Turn Place). Handled bodies s.machine) (sym same) h) script (subst (λ (s : Turn Place). BeginsPlainly s.machine) (sym same) plain)
 
 -- ---- no fact differs from itself
 
@@ -159,3 +169,13 @@ module _ (script : Script) (fits : IsWellFormed script) (most n : ℕ) (some : 1
 
 pub leap_rests : (script : Script) → IsWellFormed script → (most : ℕ) → (n : ℕ) → 1 ≤ most → FactsRest script most n
 leap_rests script fits most n some = record { same = same_facts script fits most n some; still = no_change script fits most n some; told = two_looks script fits most n some }
+
+pub none_changes : (script : Script) → IsWellFormed script → (n : ℕ) → NoneChangesAfter script n
+none_changes script fits n plain calm =
+    let bodies = bodies_of script in
+    let at = stays_ready bodies (bodies_fit script fits.priorities) script fits n in
+    let one : n + 1 ≡ suc n = omega arith in
+    let quiet : IsQuiet bodies 1 (machine script n) = λ i low high. (let it : 1 ≡ i = omega (arith, low, high) in ap (is_eventful bodies (machine script n)) (sym it) ∙ calm) in
+    ap (changed_at script) one
+    ∙ ap (λ (fs : List Fact). changed script.decls (facts script (shown_machine script n)) fs) (stays bodies (machine script n) at.still at.handled script plain quiet)
+    ∙ none_changed script.decls (facts script (shown_machine script n))

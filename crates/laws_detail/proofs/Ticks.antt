@@ -25,13 +25,14 @@ use Rattle.laws_leaps.proofs.Leaps.Calm.{Handled, steady}
 use Rattle.laws_leaps.proofs.Leaps.Ended.{ended_stays}
 use Rattle.rules_facts.specs.Facts.{facts}
 use Rattle.rules_facts.specs.Shown.{once_ended}
+use Rattle.laws_detail.proofs.Alike.{seen}
 use Rattle.laws_detail.proofs.Charge.{charge_tells_nothing}
 
 -- the machine that is shown, of one whose items are handled
 abbrev pub shown_state : {P : Type 0} → Machine P → Machine P
 shown_state m = once_ended m.killed m
 
-alive_is_shown : {P : Type 0} (m : Machine P) → m.killed ≡ None → shown_state m ≡ m
+pub alive_is_shown : {P : Type 0} (m : Machine P) → m.killed ≡ None → shown_state m ≡ m
 alive_is_shown m alive = ap (λ (o : Option ℕ). once_ended o m) alive
 
 module _ {P : Type 0} (bodies : Bodies P) (script : Script) where
@@ -59,7 +60,7 @@ module _ {P : Type 0} (bodies : Bodies P) (script : Script) where
       let on = begins_on bodies (suc k) t r b in
       let midst = in_midst t (plain_charges bodies k r) (begins_on bodies k t r b) (pass k (omega arith)) in
       ap (facts script) (one_is bodies t at on.alive on.first)
-      ∙ charge_tells_nothing bodies t at midst (matters_of bodies t at on.alive on.first (pass (suc k) (omega arith))) script
+      ∙ charge_tells_nothing bodies t at (ap seen midst) (matters_of bodies t at on.alive on.first (pass (suc k) (omega arith))) script
       ∙ plain_rest k t r b (λ i small. pass i (omega arith))
 
   idle_rest : (k : ℕ) (r : Machine P) → r.killed ≡ None → head r ≡ None → facts script (plain_charges bodies (suc k) r) ≡ facts script (plain_charges bodies 1 r)

@@ -1,11 +1,12 @@
 //! What `detail` tells, look by look. There is no code here: laws, and their proofs.
 //!
 //! Proved: `facts_rest_in_quiet_ticks`, `facts_rest_within_a_leap`: within a leap facts change at the instant behind its start alone, so
-//! that two looks tell all of them. `detail_goes_on`: what is told of a run goes on with what happens, and with the facts of the instants
-//! that are passed. `ticks_happen_in_time`: what begins a tick happens at its instant, and what ends it one tick later.
-//! `leaps_are_told`: what is told of a leap is what begins it, two looks, and what ends it. `facts_keep_their_subjects`: facts of
-//! machines with as many threads and objects have the same subjects. `flat_code_tells_the_same`: the facts of each instant over flat
-//! code are the script's. `queues_stay_as_deep`: each message queue of a run is as deep as it is declared.
+//! that two looks tell all of them. `facts_stay_in_a_plain_tick`, `none_changes_after_a_plain_tick`: nor do they there, where no server
+//! plans as the leap begins and its thread is not ending, so that one look is enough. `detail_goes_on`: what is told of a run goes on with
+//! what happens, and with the facts of the instants that are passed. `ticks_happen_in_time`: what begins a tick happens at its instant, and
+//! what ends it one tick later. `leaps_are_told`: what is told of a leap is what begins it, two looks, and what ends it.
+//! `facts_keep_their_subjects`: facts of machines with as many threads and objects have the same subjects. `flat_code_tells_the_same`: the
+//! facts of each instant over flat code are the script's. `queues_stay_as_deep`: each message queue of a run is as deep as it is declared.
 //!
 //! Each function stands for a law, which its clause states. None of them does anything when it is called.
 #![tactic(auto)]
@@ -26,7 +27,7 @@ ghost use Rattle.laws_detail.specs.Depths.{HasDepthsOf};
 ghost use Rattle.laws_detail.specs.Flat.{FlatTellsTheSame};
 ghost use Rattle.laws_detail.specs.Leaps.{LeapsAreTold};
 ghost use Rattle.laws_detail.specs.Looks.{IsTold, TickInTime};
-ghost use Rattle.laws_detail.specs.Rests.{FactsRest, RestsAt};
+ghost use Rattle.laws_detail.specs.Rests.{BeginsPlainly, FactsRest, NoneChangesAfter, RestsAt, StaysAt};
 ghost use Rattle.laws_detail.specs.Subjects.{HaveSameSizes, HaveSameSubjects};
 
 /// Of any machine whose items are handled: where none of the next instants is eventful, the facts of each of them are those of the first
@@ -40,6 +41,18 @@ pub fn facts_rest_in_quiet_ticks()
 /// instants.
 pub fn facts_rest_within_a_leap()
     ensures { (script : Script) → IsWellFormed script → (most : ℕ) → (n : ℕ) → 1 ≤ most → FactsRest script most n }
+{}
+
+/// Of any machine whose items are handled: where its tick begins plainly, and the next instant is not eventful, the facts one tick on are
+/// those of now.
+pub fn facts_stay_in_a_plain_tick()
+    ensures { (bodies : Bodies Place) → (script : Script) → (m : Machine Place) → IsHandled m → BeginsPlainly m → IsQuiet bodies 1 m → StaysAt bodies script m }
+{}
+
+/// So of a run: where no server plans as the tick from an instant begins, and its thread is not ending, and the next instant is not
+/// eventful, no fact changes there. So `detail` looks there only where one of the two is so.
+pub fn none_changes_after_a_plain_tick()
+    ensures { (script : Script) → IsWellFormed script → (n : ℕ) → NoneChangesAfter script n }
 {}
 
 /// What `detail` tells of a run goes on line by line: with what happens at the instant that is reached, and with the facts of each
