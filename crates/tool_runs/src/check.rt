@@ -9,14 +9,15 @@ ghost use Rattle.tool_check.specs.Comparison.{comparison};
 ghost use Rattle.tool_check.specs.Divided.{divided};
 ghost use Rattle.tool_answers.specs.Answer.{Told, SinkFaults, compared_answer, divided_answer, trace_answer};
 
+use crate::refused::refuse;
 use crate::runs::print_run;
 use parts_io::Sink;
 use parts_steps::Steps;
-use script_reader::{Script, ScriptEnd, read_script};
+use script_reader::{Script, read_script};
 use std::alloc::{AllocError, Global};
 use std::marker::Brand;
 use std::sync::ledger::Ledger;
-use tool_answers::{Status, put_text, refused_line};
+use tool_answers::{Status, put_text};
 use tool_check::{Difference, KnownRoom, Room, compare, divide};
 use words_numbers::Tick;
 
@@ -107,11 +108,7 @@ fn check_head<K: Sink, L: Ledger>(
 {
     match read_script(alloc, head) {
         Ok(script) => check_script(alloc, &script, horizon, have, sink, steps),
-        Err(ScriptEnd::Fault(line, kind)) => {
-            let message = refused_line(line, kind);
-            put_text(sink, message.as_slice(), Status::Refused)
-        }
-        Err(ScriptEnd::OutOfMemory) => Status::OutOfMemory,
+        Err(end) => refuse(&end, sink),
     }
 }
 

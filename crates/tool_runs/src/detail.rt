@@ -11,13 +11,14 @@ ghost use Rattle.kernel_state.specs.Kernel.{opened};
 ghost use Rattle.tool_answers.specs.Answer.{Told, SinkFaults, detail_answer};
 ghost use Rattle.tool_answers.specs.Few.{DoubleStepsAreFew};
 
+use crate::refused::refuse;
 use kernel_leaps::{FactTexts, Kernel};
 use parts_io::Sink;
 use parts_steps::Steps;
-use script_reader::{Script, ScriptEnd, read_script};
+use script_reader::{Script, read_script};
 use std::alloc::Global;
 use std::sync::ledger::Ledger;
-use tool_answers::{Status, put_text, refused_line};
+use tool_answers::Status;
 use words_numbers::Tick;
 
 // Runs a script from its first instant to the horizon, and writes its trace with the facts that change. From the open kernel and its texts
@@ -69,10 +70,6 @@ pub fn detail_text<K: Sink, L: Ledger>(
 {
     match read_script(alloc, text) {
         Ok(script) => tell_detail(alloc, &script, horizon, sink, steps),
-        Err(ScriptEnd::Fault(line, kind)) => {
-            let message = refused_line(line, kind);
-            put_text(sink, message.as_slice(), Status::Refused)
-        }
-        Err(ScriptEnd::OutOfMemory) => Status::OutOfMemory,
+        Err(end) => refuse(&end, sink),
     }
 }

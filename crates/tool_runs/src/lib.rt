@@ -7,6 +7,7 @@
 mod check;
 mod detail;
 mod long_runs;
+mod refused;
 mod run;
 mod runs;
 mod show;

@@ -9,13 +9,14 @@ ghost use Rattle.rules_machine.specs.WellFormed.{IsWellFormed};
 ghost use Rattle.tool_answers.specs.Answer.{Told, SinkFaults, run_answer};
 ghost use Rattle.tool_answers.specs.Few.{StepsAreFew};
 
+use crate::refused::refuse;
 use crate::runs::print_run;
 use parts_io::Sink;
 use parts_steps::Steps;
-use script_reader::{Script, ScriptEnd, read_script};
+use script_reader::{Script, read_script};
 use std::alloc::Global;
 use std::sync::ledger::Ledger;
-use tool_answers::{Status, put_text, refused_line};
+use tool_answers::Status;
 use words_numbers::Tick;
 
 // Runs a script and prints its trace.
@@ -61,10 +62,6 @@ pub fn run_text<K: Sink, L: Ledger>(
 {
     match read_script(alloc, text) {
         Ok(script) => tell_trace(alloc, &script, horizon, sink, steps),
-        Err(ScriptEnd::Fault(line, kind)) => {
-            let message = refused_line(line, kind);
-            put_text(sink, message.as_slice(), Status::Refused)
-        }
-        Err(ScriptEnd::OutOfMemory) => Status::OutOfMemory,
+        Err(end) => refuse(&end, sink),
     }
 }

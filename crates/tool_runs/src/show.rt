@@ -12,14 +12,15 @@ ghost use Rattle.kernel_state.specs.Kernel.{opened};
 ghost use Rattle.tool_answers.specs.Answer.{Told, SinkFaults, show_answer};
 ghost use Rattle.tool_answers.specs.Few.{StepsAreFew};
 
+use crate::refused::refuse;
 use crate::runs::soak_kernel;
 use kernel_leaps::Kernel;
 use parts_io::Sink;
 use parts_steps::Steps;
-use script_reader::{Script, ScriptEnd, read_script};
+use script_reader::{Script, read_script};
 use std::alloc::Global;
 use std::sync::ledger::Ledger;
-use tool_answers::{Status, put_text, refused_line};
+use tool_answers::Status;
 use words_numbers::Tick;
 
 // Runs a script from its first instant to the horizon, telling nothing, and writes what is shown of it there. From the open kernel on,
@@ -71,10 +72,6 @@ pub fn show_text<K: Sink, L: Ledger>(
 {
     match read_script(alloc, text) {
         Ok(script) => tell_shown(alloc, &script, horizon, sink, steps),
-        Err(ScriptEnd::Fault(line, kind)) => {
-            let message = refused_line(line, kind);
-            put_text(sink, message.as_slice(), Status::Refused)
-        }
-        Err(ScriptEnd::OutOfMemory) => Status::OutOfMemory,
+        Err(end) => refuse(&end, sink),
     }
 }
