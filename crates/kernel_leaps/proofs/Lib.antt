@@ -47,3 +47,4 @@ pub mod MidLeap
 pub mod MidUnit
 pub mod StepsLeft
 pub mod Midst
+pub mod Unlooked

@@ -1,5 +1,5 @@
 -- The facts that `detail` tells at an instant, from the texts of the facts before and now.
-use Rattle.std.proofs.Common.{◌≡◌, ◌+◌, ◌∙◌, ℕ, List, Option, [], ◌∷◌, ap, length, map, refl, sym}
+use Rattle.std.proofs.Common.{◌≡◌, ◌+◌, ◌∙◌, ℕ, List, Option, [], ◌∷◌, ap, length, map, refl, sym, true}
 use Rattle.words_script.specs.declared.decl.Decl.{Decl}
 use Rattle.words_script.specs.declared.decl.Script.{Script}
 use Rattle.script_lex.specs.Joined.{joined_words}
@@ -36,7 +36,7 @@ use Rattle.kernel_facts.proofs.Whole.{ended_state}
 use Rattle.laws_kernel.specs.Counts.{Counts}
 use Rattle.kernel_state.specs.Kernel.{opened}
 use Rattle.calls_table.specs.Calls.{objects_in}
-use Rattle.kernel_leaps.specs.Detail.{AreBefore, AreReady}
+use Rattle.kernel_leaps.specs.Detail.{AreBefore, AreReady, StayIfQuiet}
 use Rattle.kernel_leaps.specs.Fits.{Fits}
 use Rattle.kernel_leaps.specs.declared.fact_texts.FactTexts.{FactTexts}
 use Rattle.kernel_leaps.proofs.Opened.{script_fits}
@@ -118,8 +118,8 @@ module _ (script : Script) (ok : IsRunnable script) (fits : IsWellFormed script)
 
   -- what is told before a later one, where the facts stay up to it
   pub before_later : (j : ℕ) → facts script (machine_before script (n + j)) ≡ facts script (shown_machine script n) → (new : FactTexts) → new.desk.subjects.texts ≡ old.desk.subjects.texts
-      → new.desk.told.texts ≡ texts_of script.decls (facts script (shown_machine script n)) → AreReady script new → AreBefore script (n + j) new
-  before_later j stay new subjects told ready = record {
+      → new.desk.told.texts ≡ texts_of script.decls (facts script (shown_machine script n)) → AreReady script new → (new.are_steady ≡ true → StayIfQuiet script (n + j)) → AreBefore script (n + j) new
+  before_later j stay new subjects told ready steady = record {
     subjects =
         subjects ∙ before.subjects
         ∙ same_texts script.decls (facts script (machine_before script n)) (facts script (shown_machine script n)) same_now
@@ -128,4 +128,5 @@ module _ (script : Script) (ok : IsRunnable script) (fits : IsWellFormed script)
     same = ap (map (subject script.decls)) stay ∙ same_here script ok fits n signals before.signals;
     signals = before.signals;
     ready = ready;
+    steady = steady;
   }

@@ -26,6 +26,7 @@ are_first script k is new subjects told signals ready = record {
   same = refl;
   signals = sym (ap (λ (x : Kernel). length x.machine.actions) is) ∙ signals;
   ready = ready;
+  steady = λ e after. absurd (let first = after.is in omega (arith, first));
 }
 
 -- nothing is told yet

@@ -3,6 +3,7 @@ use Rattle.std.specs.Prelude.{Bool, List, None, Option, false, length, not, suc,
 use Rattle.words_script.specs.declared.decl.Script.{Script}
 use Rattle.rules_bodies.specs.Next.{Place}
 use Rattle.rules_machine.specs.Declarations.{actions_of}
+use Rattle.rules_machine.specs.DueItems.{next_item}
 use Rattle.rules_machine.specs.Eventful.{has_item, next_tick_matters}
 use Rattle.rules_machine.specs.Machine.{run}
 use Rattle.rules_machine.specs.Runs.{opening, ticks}
@@ -10,6 +11,7 @@ use Rattle.rules_flat_code.specs.FlatBodies.{code_of, flat_bodies}
 use Rattle.rules_leaps.specs.Leap.{in_leaps}
 use Rattle.rules_facts.specs.Detail.{machine_before}
 use Rattle.rules_facts.specs.Facts.{facts}
+use Rattle.rules_facts.specs.Shown.{shown_machine}
 use Rattle.laws_detail.specs.Looks.{told_until}
 use Rattle.script_printer.specs.Puts.{Put, outlet}
 use Rattle.kernel_facts.specs.Changed.{HaveSameSubjects}
@@ -42,6 +44,11 @@ pub record IsAfterQuietTick (script : Script) (n : ℕ) : Type 0 where
   pub is : n ≡ suc before
   pub quiet : next_tick_matters (flat_bodies (code_of script)) (ticks (flat_bodies (code_of script)) before (opening script)).machine ≡ false
 
+-- Where the tick that led to an instant of a run was a quiet one, and nothing is due there, its facts are those before it.
+abbrev pub StayIfQuiet : Script → ℕ → Type 0
+StayIfQuiet script n = IsAfterQuietTick script n → next_item (ticks (flat_bodies (code_of script)) n (opening script)).machine ≡ None
+    → facts script (shown_machine script n) ≡ facts script (machine_before script n)
+
 -- ---- the texts of the facts
 
 -- No text was without room, and the rooms are as large as the facts of the script's run need.
@@ -60,6 +67,8 @@ pub record AreBefore (script : Script) (n : ℕ) (t : FactTexts) : Type 0 where
   pub same : HaveSameSubjects script.decls (facts script (machine_before script n)) (facts script (opening {P = Place} script))
   pub signals : length (actions_of script) ≡ 32
   pub ready : AreReady script t
+  -- and where they are steady, they are those of the facts at it too, unless it is an eventful instant
+  pub steady : t.are_steady ≡ true → StayIfQuiet script n
 
 -- ---- how many steps are left
 

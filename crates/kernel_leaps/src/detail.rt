@@ -217,7 +217,7 @@ pub(crate) fn tell_leap<K: Sink, L: Ledger>(
     if p.is_killed() {
         return Some(reached.after(1, false));
     }
-    texts.look(p, script);
+    texts.look(p, script, calm);
     let (to, failed) = write_dispatch(p, sink);
     if failed {
         return None;

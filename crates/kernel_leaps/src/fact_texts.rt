@@ -1,7 +1,10 @@
 //! The texts of the facts of a run, as they are told instant by instant.
-ghost use Rattle.std.specs.Prelude.{◌≡◌, IfOk, false, length};
+ghost use Rattle.std.specs.Prelude.{◌≡◌, IfOk, ℕ, false, length, true};
 ghost use Rattle.words_script.specs.declared.name_kind.NameKind.TheVariants as kind;
 ghost use Rattle.script_writer.specs.Names.{names_of};
+ghost use Rattle.rules_machine.specs.declared.dispatch.LastDispatch.TheVariants as last;
+ghost use Rattle.rules_machine.specs.Servers.{has_run};
+ghost use Rattle.rules_machine.specs.Threads.{thread_at};
 ghost use Rattle.rules_facts.specs.Facts.{facts};
 ghost use Rattle.rules_facts.specs.Shown.{once_ended};
 ghost use Rattle.script_printer.specs.Puts.{Put, outlet};
@@ -11,9 +14,11 @@ ghost use Rattle.kernel_facts.specs.Numbered.{AreNumbered};
 ghost use Rattle.kernel_facts.specs.Rooms.{HasObjectsOf};
 ghost use Rattle.kernel_facts.specs.Subjects.{subjects_of};
 ghost use Rattle.rules_flat_code.specs.Runnable.{IsRunnable};
+ghost use Rattle.laws_detail.specs.Rests.{BeginsPlainly};
 ghost use Rattle.kernel_leaps.specs.Detail.{AreReady, HaveRoomsFor};
 ghost use Rattle.kernel_leaps.specs.Shown.{HasFewObjects};
 
+use crate::plain_ticks::begins_plainly;
 use kernel_facts::{Desk, keep_subjects, look_at_facts, rooms_of};
 use kernel_state::Parts;
 use parts_io::Sink;
@@ -32,6 +37,8 @@ pub struct FactTexts {
     desk: Desk,
     // one text, before it takes its place
     next: NextText,
+    // whether a quiet tick from the state that was looked at last leaves its facts as they are
+    are_steady: bool,
 }
 
 impl FactTexts {
@@ -50,6 +57,7 @@ impl FactTexts {
         Ok(FactTexts {
             desk: Desk::open(alloc, &rooms, lines)?,
             next: NextText::open(alloc, rooms.longest)?,
+            are_steady: false,
         })
     }
 
@@ -71,21 +79,32 @@ impl FactTexts {
         look_at_facts(parts, script, &mut self.next, &mut self.desk);
     }
 
-    /// Takes in what is told of a state, and the lines of the facts that tell something else now than was told before.
-    pub(crate) fn look(&mut self, parts: &Parts, script: &Script)
+    /// Takes in what is told of a state, and the lines of the facts that tell something else now than was told before. A calm instant is
+    /// not looked at where the one before was steady: they tell the same.
+    pub(crate) fn look(&mut self, parts: &Parts, script: &Script, calm: bool)
         requires numbered { AreNumbered script.now parts.now.machine }
         requires objects { HasObjectsOf script.now parts.now.machine }
         requires named { parts.now.names ≡ names_of kind.Thread script.now.decls }
         requires ready { AreReady script.now self.old }
+        requires latest { (u : ℕ) → has_run (thread_at parts.now.machine u).server ≡ true → parts.now.machine.last ≡ last.Ran u }
+        requires same { calm ≡ true → self.old.are_steady ≡ true
+            → self.old.desk.told.texts ≡ texts_of script.now.decls (facts script.now (once_ended parts.now.machine.killed parts.now.machine)) }
         ensures told { self.new.desk.told.texts ≡ texts_of script.now.decls (facts script.now (once_ended parts.now.machine.killed parts.now.machine)) }
         ensures lines { self.new.desk.lines.text ≡ changed_lines parts.now.machine.now self.old.desk.subjects.texts self.old.desk.told.texts self.new.desk.told.texts }
         ensures subjects { self.new.desk.subjects ≡ self.old.desk.subjects }
         ensures signals { length parts.now.machine.actions ≡ 32 }
         ensures ready { AreReady script.now self.new }
+        ensures once { self.new.are_steady ≡ true → calm ≡ false }
+        ensures steady { self.new.are_steady ≡ true → BeginsPlainly parts.now.machine }
     {
         // so it is known that there are 32
         let _signals = parts.signal_count();
-        look_at_facts(parts, script, &mut self.next, &mut self.desk);
+        if calm && self.are_steady {
+            self.desk.lines.clear();
+        } else {
+            look_at_facts(parts, script, &mut self.next, &mut self.desk);
+        }
+        self.are_steady = !calm && begins_plainly(parts);
     }
 
     /// Writes the lines of the facts that changed, and answers whether a write failed.

@@ -16,6 +16,7 @@ mod fact_texts;
 mod instant;
 mod kernel;
 mod leaps;
+mod plain_ticks;
 mod run;
 mod tick_ends;
 mod units;

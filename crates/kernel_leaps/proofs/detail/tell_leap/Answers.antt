@@ -31,6 +31,7 @@ use Rattle.kernel_leaps.proofs.Telling.{m, p, q}
 use Rattle.kernel_leaps.proofs.TellingPieces.{ends_written, is_handled, is_top, lives, ticked_is}
 use Rattle.kernel_leaps.proofs.TellingRooms.{objects_here}
 use Rattle.kernel_leaps.proofs.TellingSpan.{changes_stop, dispatch_stops, handled_now, items_end, items_stop, leap_goes, leap_stops, prepared_now, prepared_quiet, prepared_stands, runs, start_now, there}
+use Rattle.kernel_leaps.proofs.TellingTexts.{told_again}
 use Rattle.kernel_leaps.proofs.TellingTick.{ends}
 use Rattle.kernel_leaps.proofs.detail.tell_leap.Goals as goal
 
@@ -139,6 +140,27 @@ look-requires-clause-objects g c =
 
 pub look-requires-clause-ready : goal.look-requires-clause-ready
 look-requires-clause-ready g c = c.requires.before.ready
+
+pub look-requires-clause-latest : goal.look-requires-clause-latest
+look-requires-clause-latest g c u run =
+    let start = c.is_calm-calm.new.p in
+    let same = c.is_calm-calm.ensures.same in
+    let in_run = same ∙ c.requires.in_run in
+    let fit = subst (λ (x : Kernel). StaysFit x (objects_in x)) (sym same) c.requires.fits in
+    let quiet_start = ap (λ (x : Kernel). x.direct) in_run in
+    (instant_fits start c.write_items.new.p c.write_items.ensures.state (items_fit start quiet_start fit)).latest.each u run
+
+pub look-requires-clause-same : goal.look-requires-clause-same
+look-requires-clause-same g c calm steady =
+    let s = c.args.script.now in
+    let f = c.requires.well_formed in
+    let at = c.args.reached in
+    let start = c.is_calm-calm.new.p in
+    let in_run = c.is_calm-calm.ensures.same ∙ c.requires.in_run in
+    let handled = c.write_items.new.p in
+    let none : next_item (m s f at.done) ≡ None = ap (λ (x : Kernel). next_item x.machine) (sym c.requires.in_run) ∙ c.is_calm-calm.ensures.idle calm in
+    told_again s f at.done handled (is_handled s f at.done start in_run handled c.write_items.ensures.state) c.args.texts.now c.requires.before steady
+    (c.requires.after_quiet (c.is_calm-calm.ensures.after calm)) none
 
 pub write_dispatch-to-requires-clause-latest : goal.write_dispatch-to-requires-clause-latest
 write_dispatch-to-requires-clause-latest g c u run =
@@ -308,7 +330,7 @@ returns-in_default-clause-on g c =
     subst (λ (r : Reached). HasGoneOn text faults s at r c.leap.new.self c.look.new.self c.args.sink.now d) (sym c.after-in_default.ensures)
     (leap_goes s f at start in_run living handled state alive_now stands still prepared given text faults c.requires.some c.args.sink.now c.write_items.new.sink c.write_dispatch-to.new.sink c.write_items.result c.write_dispatch-to.result.1 c.if-write_items.false c.write_items.ensures.told c.write_dispatch-to.ensures.told c.requires.runnable c.if-failed.false c.write_changed.new.sink c.write_changed.result c.args.texts.now c.look.new.self c.write_changed.ensures c.look.ensures.signals c.look.ensures.told c.look.ensures.subjects c.look.ensures.lines c.requires.before c.look.ensures.ready c.is_calm-calm.result (λ e. c.requires.after_quiet (c.is_calm-calm.ensures.after e)) (λ e. ap (λ (x : Kernel). next_item x.machine) same ∙ c.is_calm-calm.ensures.idle e) c.if-write_changed.false j (omega (arith, idle)) (omega (arith, is_near, near_most, within, some_most, idle)) long single d fourth c.leap.new.self
     (ticked_is s f at.done start in_run handled state prepared given None top j c.leap.new.self leap) (ap (λ (x : Kernel). x.direct) leap ∙ prepared_quiet s f at start in_run living handled state alive_now stands still prepared given) stood
-    (not c.is_calm-calm.result) (λ e. single (not_so c.is_calm-calm.result e)) (λ e. after_idle s f at.done going (sym whom)))
+    (not c.is_calm-calm.result) (λ e. single (not_so c.is_calm-calm.result e)) (λ e. after_idle s f at.done going (sym whom)) c.look.ensures.once c.look.ensures.steady)
 
 -- ---- where a thread does
 
@@ -480,7 +502,7 @@ returns-clause-on g c =
     (leap_goes s f at start in_run living handled state alive_now stands still prepared given text faults c.requires.some c.args.sink.now c.write_items.new.sink c.write_dispatch-to.new.sink c.write_items.result c.write_dispatch-to.result.1 c.if-write_items.false c.write_items.ensures.told c.write_dispatch-to.ensures.told c.requires.runnable c.if-failed.false c.write_changed.new.sink c.write_changed.result c.args.texts.now c.look.new.self c.write_changed.ensures c.look.ensures.signals c.look.ensures.told c.look.ensures.subjects c.look.ensures.lines c.requires.before c.look.ensures.ready c.is_calm-calm.result (λ e. c.requires.after_quiet (c.is_calm-calm.ensures.after e)) (λ e. ap (λ (x : Kernel). next_item x.machine) same ∙ c.is_calm-calm.ensures.idle e) c.if-write_changed.false j (omega (arith, lasts)) (omega (arith, few, fewer, is_near, near_most, within, some_most)) long single c.write_ticks-failed.new.sink
     (subst (λ (b : Bool). Writes text faults c.write_changed.new.sink c.write_ticks-failed.new.sink b (ends s f at.done j)) c.if-failed-2.false fourth) c.write_ticks-failed.new.p
     (ticked_is s f at.done start in_run handled state prepared given (Some t) top j c.write_ticks-failed.new.p c.write_ticks-failed.ensures.state) c.write_ticks-failed.ensures.quiet c.write_ticks-failed.ensures.stood
-    is_quiet (λ e. single (both_so c.write_ticks-failed.result.0.is_quiet c.is_calm-calm.result (sym c.is_quiet_tick.ensures ∙ e)).1) tick)
+    is_quiet (λ e. single (both_so c.write_ticks-failed.result.0.is_quiet c.is_calm-calm.result (sym c.is_quiet_tick.ensures ∙ e)).1) tick c.look.ensures.once c.look.ensures.steady)
 
 -- ---- the steps
 
