@@ -64,6 +64,14 @@ module _ (ms : List Mutex) (k : ℕ) (lt : k < length ms) where
       let back : set (without k ms) k old ≡ ms = set_back ms k (freed old) old refl in
       ap (λ (l : List Mutex). asked_in claims l e t) (sym back) ∙ asks
 
+-- a thread that has more than it gets through a mutex is asked for what it has without it
+less : (e r x : ℕ) → e ≡ max r x → x < e → e ≡ r
+less e r x is lt = grind (arith, is, lt)
+
+pub freed_less : (claims : List Claim) (ms : List Mutex) (e : ℕ → ℕ) (k t : ℕ) → k < length ms → e t ≡ asked_in claims ms e t →
+    through_in claims e t k (mutex_in ms k) < e t → e t ≡ asked_in claims (without k ms) e t
+freed_less claims ms e k t lt right more = less (e t) (asked_in claims (without k ms) e t) (through_in claims e t k (mutex_in ms k)) (right ∙ asked_apart ms k lt claims e t) more
+
 largest : (e r x y now : ℕ) → e ≡ max r x → x ≤ y → now ≡ e → max r y ≡ max now y
 largest e r x y now is le same = grind (arith, is, le, same)
 

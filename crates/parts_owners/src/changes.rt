@@ -12,7 +12,7 @@ ghost use Rattle.parts_owners.specs.Moves.{Changes, IsPlaced, entered, left};
 use crate::claims::{
     MutexState, ThreadClaim, assign, become_owner, next, set_count, set_free, set_wait,
 };
-use crate::equations::{is_at_assigned, is_plainly_free, lends_nothing};
+use crate::equations::{is_at_assigned, is_plainly_free, lends_less, lends_nothing};
 use crate::rise::rise;
 use crate::walk::{Moved, turn_alone, walk};
 use parts_waiters::{WaitObj, Waits};
@@ -207,7 +207,7 @@ pub(crate) fn release_at_once(
     true
 }
 
-/// The mutex, which the thread owned, is free. A thread at its assigned priority stays there.
+/// The mutex, which the thread owned, is free. A thread stays where it is at its assigned priority, and where the mutex lent it less.
 pub(crate) fn release(
     claims: &[ThreadClaim],
     mutexes: &mut [MutexState],
@@ -224,10 +224,15 @@ pub(crate) fn release(
     ensures settled { Settled (links_of claims.now mutexes.new) exec.new }
     ensures changes { Changes (links_of claims.now mutexes.old) (links_of claims.now mutexes.new) w.old w.new result }
 {
-    set_free(mutexes, k);
     if is_at_assigned(claims, exec, t) {
+        set_free(mutexes, k);
         return None;
     }
+    if lends_less(claims, mutexes, exec, w, k, t) {
+        set_free(mutexes, k);
+        return None;
+    }
+    set_free(mutexes, k);
     walk(claims, mutexes, exec, w, t)
 }
 

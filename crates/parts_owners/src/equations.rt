@@ -144,6 +144,29 @@ pub(crate) fn lends_nothing(
     raised_through(claims, exec, w, &mutexes[k], k, t, before) == before
 }
 
+/// Whether a mutex gives its owner less than it has.
+#[inline(always)]
+pub(crate) fn lends_less(
+    claims: &[ThreadClaim],
+    mutexes: &[MutexState],
+    exec: &[Prio],
+    w: &Waits,
+    k: ObjId,
+    t: Tid,
+) -> bool
+    requires known { t < length claims.now }
+    requires mutex { k < length mutexes.now }
+    requires each { length exec.now ≡ length claims.now }
+    requires counted { length w.now ≡ length claims.now }
+    requires stand { StandsAt (prio_in exec.now) w.now }
+    requires waiters { WaitersStand claims.now w.now }
+    ensures { result ≡ true → through_in claims.now (prio_in exec.now) t k (mutex_in mutexes.now k) < prio_in exec.now t }
+{
+    let k = k.get() as usize;
+    let lent = raised_through(claims, exec, w, &mutexes[k], k, t, Prio::default());
+    lent < exec[t.get() as usize]
+}
+
 /// Whether the thread has its assigned priority.
 #[inline(always)]
 pub(crate) fn is_at_assigned(claims: &[ThreadClaim], exec: &[Prio], t: Tid) -> bool
