@@ -36,13 +36,10 @@ fn is_list_ahead(parts: &Parts, p: Prio, is_taken: bool, ahead: usize, desk: &De
     requires told { desk.now.at + ahead < length desk.now.told.texts }
     ensures { result ≡ true → IsToldAt (desk.now.at + ahead) desk.now (on_list p (list_of p parts.now.machine.lists)) }
 {
-    if is_list(parts, p, desk.seen_ahead(ahead)) {
-        return true;
+    if !is_taken {
+        return desk.is_empty_ahead(ahead);
     }
-    if is_taken {
-        return false;
-    }
-    desk.is_empty_ahead(ahead)
+    is_list(parts, p, desk.seen_ahead(ahead))
 }
 
 // The text of the list of a priority comes, where a thread stands on it.

@@ -1,7 +1,7 @@
-use Rattle.std.proofs.Common.{◌≡◌, ◌∙◌, ap, false, subst, sym, ℕ}
-use Rattle.std.specs.Prelude.{slice_index_or, ◌/◌}
+use Rattle.std.proofs.Common.{◌∙◌, ap, false, subst, sym, ℕ}
+use Rattle.std.specs.Prelude.{slice_index_or}
 use Rattle.kernel_facts.specs.Ahead.{past}
-use Rattle.kernel_facts.specs.Blocks.{lists_from, nothings}
+use Rattle.kernel_facts.specs.Blocks.{lists_from}
 use Rattle.kernel_facts.specs.Desk.{WentOn}
 use Rattle.kernel_facts.proofs.EmptyLists.{block_nothing}
 use Rattle.kernel_facts.proofs.Stretches.{ahead_other, past_memory, skip_quiet}

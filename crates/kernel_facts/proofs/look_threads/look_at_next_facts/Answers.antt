@@ -1,4 +1,4 @@
-use Rattle.std.proofs.Common.{◌≡◌, ◌∙◌, ◌+◌, ◌<◌, add-one, arith, below_more, subst, ℕ}
+use Rattle.std.proofs.Common.{◌≡◌, ◌∙◌, ◌+◌, add-one, arith, below_more, subst, ℕ}
 use Rattle.kernel_facts.specs.Ahead.{past, row_from}
 use Rattle.kernel_facts.specs.Desk.{WentOn}
 use Rattle.kernel_facts.specs.Rows.{thread_fact_of}

@@ -1,10 +1,7 @@
-use Rattle.std.proofs.Common.{◌≡◌, ◌∙◌, ap, subst, sym, true}
+use Rattle.std.proofs.Common.{◌≡◌, ◌∙◌, subst, sym, true}
 use Rattle.rules_bodies.specs.declared.cursor.Cursor.{Cursor}
 use Rattle.rules_machine.specs.State.{Thread}
 use Rattle.rules_machine.specs.Threads.{is_runnable}
-use Rattle.rules_facts.specs.Threads.{priorities_of}
-use Rattle.kernel_facts.specs.Seen.{fact_of}
-use Rattle.kernel_facts.specs.declared.seen.SeenStatus.{SeenStatus}
 use Rattle.kernel_facts.proofs.Living.{ready_seen, runnable_told}
 use Rattle.kernel_facts.proofs.seen.is_ready_as_seen.Goals as goal
 
