@@ -38,7 +38,9 @@ fn semaphore(words: &LineWords<'_>) -> Option<Kind>
 {
     match number_in(0, 32_767, 2, words) {
         None => None,
-        Some(value) => Some(Kind::Sem { value: value as u32 }),
+        Some(value) => Some(Kind::Sem {
+            value: value as u32,
+        }),
     }
 }
 
