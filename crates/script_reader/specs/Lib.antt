@@ -4,3 +4,4 @@ pub mod Bounds
 pub mod Declarations
 pub mod ByLetter
 pub mod Begun
+pub mod Readings

@@ -3,3 +3,4 @@ pub mod ThreeParts
 pub mod Rows
 pub mod KindOrder
 pub mod Alone
+mod Fronts

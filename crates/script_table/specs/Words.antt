@@ -76,6 +76,11 @@ answer_of word =
     else if bytes_eq word (res_text res.Timedout) then Some res.Timedout
     else None
 
+-- the first of some answers whose text it is
+abbrev pub answer_among : List Res → List ℕ → Option Res
+answer_among [] word = None
+answer_among (r ∷ rs) word = if bytes_eq word (res_text r) then Some r else answer_among rs word
+
 -- the value of a frame's register
 abbrev pub is_register : List ℕ → Bool
 is_register word = bytes_eq word (codes "reg")

@@ -133,18 +133,17 @@ static CALLS: [Pattern; 54] = [
     pattern!(Form::Call(CallForm::Thread(ThreadCall::SetschedStrict)), Nowhere => b"setsched" (of Thread) b"strict" P P N N N),
 ];
 
-#[tactic(auto, unfolding(crate::specs::Table::declaration_patterns))]
-fn declarations() -> &'static [Pattern]
-    ensures { map row_of result.now ≡ declaration_patterns }
-{
-    &DECLARATIONS[..23]
-}
-
 #[tactic(auto, unfolding(crate::specs::Table::declaration_patterns, crate::specs::Table::strict_declarations))]
 fn all_declarations() -> &'static [Pattern]
     ensures { map row_of result.now ≡ declaration_patterns ++ strict_declarations }
 {
     &DECLARATIONS
+}
+
+fn declarations() -> &'static [Pattern]
+    ensures { map row_of result.now ≡ declaration_patterns }
+{
+    &all_declarations()[..23]
 }
 
 #[tactic(auto, unfolding(crate::specs::Table::step_patterns))]
@@ -154,18 +153,17 @@ fn steps() -> &'static [Pattern]
     &STEPS
 }
 
-#[tactic(auto, unfolding(crate::specs::Table::call_patterns))]
-fn calls() -> &'static [Pattern]
-    ensures { map row_of result.now ≡ call_patterns }
-{
-    &CALLS[..53]
-}
-
 #[tactic(auto, unfolding(crate::specs::Table::call_patterns, crate::specs::Table::strict_calls))]
 fn all_calls() -> &'static [Pattern]
     ensures { map row_of result.now ≡ call_patterns ++ strict_calls }
 {
     &CALLS
+}
+
+fn calls() -> &'static [Pattern]
+    ensures { map row_of result.now ≡ call_patterns }
+{
+    &all_calls()[..53]
 }
 
 /// The patterns of a version of the language, in the order of the definition.

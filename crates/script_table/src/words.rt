@@ -3,7 +3,7 @@ ghost use Rattle.std.specs.Prelude.{◌≡◌, ◌≤◌, ◌<◌, ◌+◌, ◌^
 ghost use Rattle.std.specs.List.{list_all, prefix_len};
 ghost use Rattle.std.specs.Option.{option_map};
 ghost use Rattle.words_script.specs.Names.{is_digit};
-ghost use Rattle.script_table.specs.Words.{is_number, value_of, signal_number, signal_of, with_parts, parts_of, parts_ahead, set_of, answer_of, is_register};
+ghost use Rattle.script_table.specs.Words.{is_number, value_of, signal_number, signal_of, with_parts, parts_of, parts_ahead, set_of, answer_among, answer_of, is_register};
 
 use words_numbers::{GREATEST_NUMBER, Res, SigSet};
 
@@ -176,35 +176,39 @@ pub fn set_of(word: &[u8]) -> Option<SigSet>
     }
 }
 
+static ANSWERS: [Res; 11] = [
+    Res::Zero,
+    Res::Again,
+    Res::Busy,
+    Res::Deadlk,
+    Res::Intr,
+    Res::Inval,
+    Res::Msgsize,
+    Res::Overflow,
+    Res::Perm,
+    Res::Srch,
+    Res::Timedout,
+];
+
+// The first of these answers whose text the word is.
+fn answer_among(answers: &[Res], word: &[u8]) -> Option<Res>
+    ensures { result ≡ answer_among answers.now word.now }
+{
+    match answers {
+        [] => None,
+        [answer, rest @ ..] => if word == answer.text().as_bytes() {
+            Some(*answer)
+        } else {
+            answer_among(rest, word)
+        },
+    }
+}
+
 /// The answer of a call by its text; `None` exactly where the word is no such text.
 pub fn answer_of(word: &[u8]) -> Option<Res>
     ensures { result ≡ answer_of word.now }
 {
-    if word == b"0".as_slice() {
-        Some(Res::Zero)
-    } else if word == b"EAGAIN".as_slice() {
-        Some(Res::Again)
-    } else if word == b"EBUSY".as_slice() {
-        Some(Res::Busy)
-    } else if word == b"EDEADLK".as_slice() {
-        Some(Res::Deadlk)
-    } else if word == b"EINTR".as_slice() {
-        Some(Res::Intr)
-    } else if word == b"EINVAL".as_slice() {
-        Some(Res::Inval)
-    } else if word == b"EMSGSIZE".as_slice() {
-        Some(Res::Msgsize)
-    } else if word == b"EOVERFLOW".as_slice() {
-        Some(Res::Overflow)
-    } else if word == b"EPERM".as_slice() {
-        Some(Res::Perm)
-    } else if word == b"ESRCH".as_slice() {
-        Some(Res::Srch)
-    } else if word == b"ETIMEDOUT".as_slice() {
-        Some(Res::Timedout)
-    } else {
-        None
-    }
+    answer_among(&ANSWERS, word)
 }
 
 /// Whether the word is `reg`, the value of the frame's register.

@@ -17,6 +17,11 @@ timed_forms =
     form.Dispatch ∷ form.Idle ∷ form.Start ∷ form.Return ∷ form.Deliver ∷ form.Activate ∷ form.Exhaust ∷ form.Plan ∷ form.Refill
     ∷ form.Cancel ∷ form.Exit ∷ form.Killed ∷ form.End ∷ []
 
+-- the first of some forms whose word it is
+abbrev pub form_among : List Form → List ℕ → Option Form
+form_among [] word = None
+form_among (f ∷ fs) word = if bytes_eq word (form_word f) then Some f else form_among fs word
+
 -- the form whose word it is
 abbrev pub timed_form : List ℕ → Option Form
 timed_form word = find (λ f. bytes_eq word (form_word f)) timed_forms

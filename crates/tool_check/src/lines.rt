@@ -4,7 +4,7 @@ ghost use Rattle.std.specs.Option.{option_map};
 ghost use Rattle.arrayvec.specs.ArrayVec.{array_vec_len};
 ghost use Rattle.script_table.specs.Words.{signal_of};
 ghost use Rattle.tool_check.specs.Form.{numbers_in, parts};
-ghost use Rattle.tool_check.specs.Lines.{seen, begun, kept, named, numbered, with_word, with_words, timed_form, of_form, timed_reading, closing_reading, reading, Reading};
+ghost use Rattle.tool_check.specs.Lines.{seen, begun, kept, named, numbered, with_word, with_words, form_among, timed_form, of_form, timed_reading, closing_reading, reading, Reading};
 ghost use Rattle.tool_check.specs.Laws.{IsTraceLine};
 ghost use Rattle.tool_check.specs.Small.{IsSmallLine};
 
@@ -133,39 +133,41 @@ fn of_form<'a>(form: Form, time: u64, words: Words<'a>) -> Option<TraceLine<'a>>
     with_words(form.parts(), words, begun(form, time))
 }
 
+static TIMED_FORMS: [Form; 13] = [
+    Form::Dispatch,
+    Form::Idle,
+    Form::Start,
+    Form::Return,
+    Form::Deliver,
+    Form::Activate,
+    Form::Exhaust,
+    Form::Plan,
+    Form::Refill,
+    Form::Cancel,
+    Form::Exit,
+    Form::Killed,
+    Form::End,
+];
+
+// The first of these forms whose word it is.
+fn form_among(forms: &[Form], word: &[u8]) -> Option<Form>
+    ensures { result ≡ form_among forms.now word.now }
+{
+    match forms {
+        [] => None,
+        [form, rest @ ..] => if word == form.word().as_bytes() {
+            Some(*form)
+        } else {
+            form_among(rest, word)
+        },
+    }
+}
+
 // The form whose word it is, of those that begin with a time.
 fn timed_form(word: &[u8]) -> Option<Form>
     ensures { result ≡ timed_form word.now }
 {
-    if word == b"dispatch".as_slice() {
-        Some(Form::Dispatch)
-    } else if word == b"idle".as_slice() {
-        Some(Form::Idle)
-    } else if word == b"start".as_slice() {
-        Some(Form::Start)
-    } else if word == b"return".as_slice() {
-        Some(Form::Return)
-    } else if word == b"deliver".as_slice() {
-        Some(Form::Deliver)
-    } else if word == b"activate".as_slice() {
-        Some(Form::Activate)
-    } else if word == b"exhaust".as_slice() {
-        Some(Form::Exhaust)
-    } else if word == b"plan".as_slice() {
-        Some(Form::Plan)
-    } else if word == b"refill".as_slice() {
-        Some(Form::Refill)
-    } else if word == b"cancel".as_slice() {
-        Some(Form::Cancel)
-    } else if word == b"exit".as_slice() {
-        Some(Form::Exit)
-    } else if word == b"killed".as_slice() {
-        Some(Form::Killed)
-    } else if word == b"end".as_slice() {
-        Some(Form::End)
-    } else {
-        None
-    }
+    form_among(&TIMED_FORMS, word)
 }
 
 // Behind the time, where the line begins with one.

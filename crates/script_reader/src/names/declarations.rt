@@ -6,7 +6,7 @@ ghost use Rattle.script_table.specs.Faults.{least, least_kind};
 ghost use Rattle.script_table.specs.Patterns.{spot_of};
 ghost use Rattle.script_table.specs.LineFaults.{place_faults};
 ghost use Rattle.script_table.specs.Structure.{IsRising};
-ghost use Rattle.script_table.specs.Names.{nothing_declared, with_declaration, declared_at, declared, name_fault, name_faults, phase_two};
+ghost use Rattle.script_table.specs.Names.{nothing_declared, with_declaration, declared_at, declared, declared_from, name_fault, name_faults, phase_two};
 ghost use Rattle.script_reader.specs.Ends.{answered};
 ghost use Rattle.script_reader.specs.Declarations.{declares, is_named, naming_lines};
 
@@ -182,7 +182,26 @@ pub(crate) struct Naming<'s, 'a> {
     pub lines: Vec<&'s Statement<'a>>,
 }
 
-/// What these lines declare. Most lines name nothing, and their words are not read here.
+impl<'s, 'a> Naming<'s, 'a> {
+    // Takes in lines. Most name nothing, and their words are not read here.
+    fn add_all(&mut self, statements: &'s [Statement<'a>]) -> Result<(), ScriptEnd>
+        ensures { MatchResult result
+            (λ _. (self.new.declared ≡ declared_from self.old.declared statements.now)
+            × (map (λ s. s.now) self.new.lines.items ≡ map (λ s. s.now) self.old.lines.items ++ naming_lines statements.now))
+            (λ e. e ≡ ScriptEnd.OutOfMemory) }
+    {
+        for s in statements {
+            if !any_is_named(s.places()) {
+                continue;
+            }
+            self.declared.declare_line(s)?;
+            self.lines.push(s)?;
+        }
+        Ok(())
+    }
+}
+
+/// What these lines declare, and which of them name something.
 #[inline(never)]
 pub(crate) fn declare_all<'s, 'a>(
     alloc: Global,
@@ -192,19 +211,12 @@ pub(crate) fn declare_all<'s, 'a>(
         (λ n. (n.declared ≡ declared statements.now) × (map (λ s. s.now) n.lines.items ≡ naming_lines statements.now))
         (λ e. e ≡ ScriptEnd.OutOfMemory) }
 {
-    let mut all = Declared::new(alloc);
-    let mut lines = Vec::new(alloc);
-    for s in statements {
-        if !any_is_named(s.places()) {
-            continue;
-        }
-        all.declare_line(s)?;
-        lines.push(s)?;
-    }
-    Ok(Naming {
-        declared: all,
-        lines,
-    })
+    let mut naming: Naming<'s, 'a> = Naming {
+        declared: Declared::new(alloc),
+        lines: Vec::new(alloc),
+    };
+    naming.add_all(statements)?;
+    Ok(naming)
 }
 
 /// The least fault of phase 2 of lines that name something.

@@ -5,7 +5,7 @@ use Rattle.script_table.specs.Names.{Declared, declared_from}
 use Rattle.script_reader.specs.Declarations.{is_named}
 use Rattle.script_reader.proofs.Phases.{at_drop}
 use Rattle.script_reader.proofs.Unnamed.{declared_past, kept_past, kept_more}
-use Rattle.script_reader.proofs.names.declarations.declare_all.Goals as goal
+use Rattle.script_reader.proofs.names.declarations.Naming.add_all.Goals as goal
 
 pub loop-s-preserved-then-not-any_is_named : goal.loop-s-preserved-then-not-any_is_named
 loop-s-preserved-then-not-any_is_named c =
@@ -21,6 +21,6 @@ loop-s-preserved c =
     let here = at_drop _ _ _ c.loop-s-test.true c.s-item.is in
     let some : list_any is_named c.s-item.result.row.places ≡ true = ap (list_any is_named) c.places.ensures ∙ (sym c.any_is_named.ensures ∙ c.if-not-any_is_named.false) in
     record {
-      declared = ap (λ (d : Declared). declared_from d (drop (c.loop-s.s-index + 1) c.args.statements.now)) c.in_ok-declare_line.ensures ∙ (ap (declared_from c.loop-s.all) (sym here) ∙ c.loop-s.invariant.declared);
+      declared = ap (λ (d : Declared). declared_from d (drop (c.loop-s.s-index + 1) c.args.statements.now)) c.in_ok-declare_line.ensures ∙ (ap (declared_from c.loop-s.self.declared) (sym here) ∙ c.loop-s.invariant.declared);
       kept = rw (c.in_ok-push.ensures.items, map-append) (kept_more _ _ _ _ _ here some c.loop-s.invariant.kept);
     }
