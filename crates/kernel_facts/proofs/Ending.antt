@@ -5,7 +5,7 @@ use Rattle.std.proofs.Common.{◌≡◌, ◌<◌, ◌+◌, ◌-◌, ℕ, suc, Li
 use Rattle.rules_machine.specs.Delivery.{taken_by_sweep}
 use Rattle.rules_machine.specs.State.{Machine, SignalRecord}
 use Rattle.rules_facts.specs.Shown.{ending_record}
-use Rattle.kernel_facts.specs.Rows.{left_out, left_out_if}
+use Rattle.kernel_lines.specs.Rows.{left_out, left_out_if}
 
 killed_by : {P : Type 0} (killed : Option ℕ) (m : Machine P) → is_some killed ≡ true → left_out_if killed m ≡ option_map (λ (r : SignalRecord). r.serial) (ending_record m)
 killed_by None m e = cc

@@ -5,7 +5,7 @@ use Rattle.rules_bodies.specs.declared.cursor.Cursor.{Cursor}
 use Rattle.rules_server.specs.Server.{ServerState}
 use Rattle.rules_machine.specs.State.{Thread}
 use Rattle.rules_facts.specs.Threads.{planned}
-use Rattle.kernel_facts.specs.Modest.{IsModestThread}
+use Rattle.kernel_lines.specs.Modest.{IsModestThread}
 
 few_planned : (server : Option ServerState) → IfSome server (λ (s : ServerState). length s.pending ≤ 16) → length (planned server) ≤ 112
 few_planned None few = omega arith

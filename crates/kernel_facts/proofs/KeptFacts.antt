@@ -16,10 +16,10 @@ use Rattle.rules_facts.specs.Queues.{messages_fact, registration_fact, senders_a
 use Rattle.rules_facts.specs.Shown.{once_ended}
 use Rattle.rules_facts.specs.Signals.{signal_fact}
 use Rattle.rules_facts.specs.Threads.{cancelability_fact, cleanups_fact, frames_fact, mask_fact, pending_fact, thread_fact}
+use Rattle.kernel_lines.specs.Lines.{fact_text, facts_text}
+use Rattle.kernel_lines.specs.Rows.{left_out, list_text}
 use Rattle.kernel_facts.specs.Kept.{kept_below, lists_kept, objects_kept, signals_kept, texts_of, threads_kept}
-use Rattle.kernel_facts.specs.Lines.{fact_text, facts_text}
 use Rattle.kernel_facts.specs.Picked.{left_in}
-use Rattle.kernel_facts.specs.Rows.{left_out, list_text}
 use Rattle.kernel_facts.proofs.Ticks.{flat_map-append}
 use Rattle.kernel_facts.proofs.Whole.{ended_state}
 

@@ -23,12 +23,11 @@ use Rattle.rules_machine.specs.State.{Message}
 use Rattle.rules_server.specs.declared.Replenish.{Replenish}
 use Rattle.rules_facts.specs.Fact.{Awaited, Block, Cancelability, Fact, Pending, Priorities, arming_of, blocked_thread, cancelability, dormant_thread, ended_thread, inner_frames, masked, messages_of, nothing, on_list, one_signal_of, owner, pending_signals, pushed_cleanups, ready_thread, receivers_of, registration_of, replenishments, semaphore_value, senders_of, thing, waiters_of}
 use Rattle.rules_facts.specs.Spelled.{awaited_words, body_name, mask_words, message_words, pending_words, replenishment_words, subject, target_word, thread_name, told, until_words, words_if_any}
+use Rattle.kernel_lines.specs.Lines.{fact_text, told_text}
+use Rattle.kernel_lines.specs.Modest.{AreModest, IsModest, IsNumber, NamesAreShort, members_in, number_in}
+use Rattle.kernel_lines.specs.Short.{HasShortText, HaveShortTexts, longest_text}
 use Rattle.kernel_facts.specs.Kept.{texts_of}
-use Rattle.kernel_facts.specs.Lines.{fact_text, told_text}
-use Rattle.kernel_facts.specs.Modest.{AreModest, IsModest, IsNumber, NamesAreShort, members_in, number_in}
-use Rattle.kernel_facts.specs.Short.{HasShortText, HaveShortTexts}
 use Rattle.kernel_facts.specs.Changed.{subject_text}
-use Rattle.kernel_facts.specs.Rooms.{longest_text}
 use Rattle.kernel_facts.specs.Subjects.{subjects_of}
 
 -- ---- numbers of 64 bits

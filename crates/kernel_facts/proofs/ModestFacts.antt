@@ -27,7 +27,7 @@ use Rattle.rules_facts.specs.Queues.{is_received_before, messages_fact, registra
 use Rattle.rules_facts.specs.Shown.{ending_record, once_ended, without_taken}
 use Rattle.rules_facts.specs.Signals.{pending_of, signal_fact}
 use Rattle.rules_facts.specs.Threads.{cancelability_fact, cleanups_fact, frames_fact, inner_bodies, living, mask_fact, pending_fact, status_fact, thread_fact}
-use Rattle.kernel_facts.specs.Modest.{AreModest, IsModest, IsModestState, IsModestThread, IsNumber, members_in, number_in}
+use Rattle.kernel_lines.specs.Modest.{AreModest, IsModest, IsModestState, IsModestThread, IsNumber, members_in, number_in}
 
 -- ---- lists
 

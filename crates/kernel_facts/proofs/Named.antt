@@ -7,7 +7,7 @@ use Rattle.words_script.specs.declared.decl.Decl.{Decl}
 use Rattle.words_script.specs.declared.decl.Decl.TheVariants as decl
 use Rattle.words_script.specs.declared.name_kind.NameKind.{NameKind}
 use Rattle.script_writer.specs.Names.{names_of}
-use Rattle.kernel_facts.specs.Modest.{NamesAreShort}
+use Rattle.kernel_lines.specs.Modest.{NamesAreShort}
 
 abbrev IsShort : List ℕ → Type 0
 IsShort name = length name ≤ 32

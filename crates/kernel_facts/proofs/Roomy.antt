@@ -18,12 +18,12 @@ use Rattle.rules_facts.specs.Objects.{condition_waiters, mutex_waiters, owner_fa
 use Rattle.rules_facts.specs.Queues.{messages_fact, registration_fact, senders_and_receivers}
 use Rattle.rules_facts.specs.Signals.{signal_fact}
 use Rattle.rules_facts.specs.Threads.{cancelability_fact, cleanups_fact, frames_fact, mask_fact, pending_fact, thread_fact}
+use Rattle.kernel_lines.specs.Lines.{fact_text}
+use Rattle.kernel_lines.specs.Modest.{HasFewMembers, IsModestState, IsModestThread, NamesAreShort}
+use Rattle.kernel_lines.specs.Short.{HaveShortTexts}
 use Rattle.kernel_facts.specs.Kept.{HaveRoom, HaveSameRooms, texts_of}
-use Rattle.kernel_facts.specs.Lines.{fact_text}
 use Rattle.kernel_facts.specs.Changed.{subject_text}
 use Rattle.kernel_facts.specs.Subjects.{subjects_of}
-use Rattle.kernel_facts.specs.Modest.{HasFewMembers, IsModestState, IsModestThread, NamesAreShort}
-use Rattle.kernel_facts.specs.Short.{HaveShortTexts}
 use Rattle.kernel_facts.specs.Rooms.{AreRooms, HasObjectsOf, HasRooms, IsRoomy, fact_count, facts_told, members_told, no_text}
 use Rattle.kernel_facts.specs.declared.rooms.Rooms.{Rooms}
 use Rattle.kernel_facts.proofs.ModestFacts.{ended_modest, state_modest}

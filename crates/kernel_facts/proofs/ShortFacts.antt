@@ -17,15 +17,15 @@ use Rattle.rules_facts.specs.Objects.{condition_waiters, mutex_waiters, owner_fa
 use Rattle.rules_facts.specs.Queues.{is_received_before, messages_fact, registration_fact, senders_and_receivers}
 use Rattle.rules_facts.specs.Signals.{pending_of, signal_fact}
 use Rattle.rules_facts.specs.Threads.{cancelability_fact, cleanups_fact, frames_fact, mask_fact, pending_fact, thread_fact}
-use Rattle.kernel_facts.specs.Modest.{IsNumber}
+use Rattle.kernel_lines.specs.Modest.{IsNumber}
+use Rattle.kernel_lines.specs.Rows.{object_count, object_facts, thread_fact_of}
+use Rattle.kernel_lines.specs.Short.{HasShortText, HaveShortTexts}
+use Rattle.kernel_lines.specs.declared.rows.ObjectRow.{ObjectRow}
+use Rattle.kernel_lines.specs.declared.rows.ObjectRow.TheVariants as object
+use Rattle.kernel_lines.specs.declared.rows.ThreadRow.{ThreadRow}
+use Rattle.kernel_lines.specs.declared.rows.ThreadRow.TheVariants as thread
+use Rattle.kernel_lines.proofs.Lines.{blanks-append}
 use Rattle.kernel_facts.specs.Picked.{is_left_out, left_in}
-use Rattle.kernel_facts.specs.Rows.{object_count, object_facts, thread_fact_of}
-use Rattle.kernel_facts.specs.Short.{HasShortText, HaveShortTexts}
-use Rattle.kernel_facts.specs.declared.rows.ObjectRow.{ObjectRow}
-use Rattle.kernel_facts.specs.declared.rows.ObjectRow.TheVariants as object
-use Rattle.kernel_facts.specs.declared.rows.ThreadRow.{ThreadRow}
-use Rattle.kernel_facts.specs.declared.rows.ThreadRow.TheVariants as thread
-use Rattle.kernel_facts.proofs.Lines.{blanks-append}
 use Rattle.kernel_facts.proofs.Modest.{IsMessage, IsPending, list_short, messages_short, receivers_short, senders_short, signals_short}
 use Rattle.kernel_facts.proofs.ModestFacts.{all_below, all_both, all_filtered, all_of_rows, all_ordered, all_reverse}
 

@@ -8,7 +8,7 @@ use Rattle.rules_machine.specs.State.{Frame, Thread}
 use Rattle.rules_machine.specs.Threads.{is_live}
 use Rattle.rules_facts.specs.Fact.{Number, counted}
 use Rattle.rules_facts.specs.Numbers.{budget_numbers, frame_numbers, left_numbers, numbers_of, slice_numbers}
-use Rattle.kernel_facts.specs.Lines.{number_text}
+use Rattle.kernel_lines.specs.Lines.{number_text}
 
 pub flat_map-append : {X Y : Type 0} (f : X → List Y) (xs ys : List X) → flat_map f (xs ++ ys) ≡ flat_map f xs ++ flat_map f ys
 flat_map-append f [] ys = refl

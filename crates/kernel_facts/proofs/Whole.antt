@@ -22,9 +22,9 @@ use Rattle.rules_facts.specs.Shown.{ending_record, killed_line, once_ended, stat
 use Rattle.rules_facts.specs.Signals.{signal_fact}
 use Rattle.rules_facts.specs.Spelled.{fact_line, fact_words, is_empty, number_line, number_words}
 use Rattle.rules_facts.specs.Threads.{cancelability_fact, cleanups_fact, frames_fact, mask_fact, pending_fact, thread_fact}
-use Rattle.kernel_facts.specs.Lines.{fact_text, facts_text, number_text, texts_below}
+use Rattle.kernel_lines.specs.Lines.{fact_text, facts_text, number_text, texts_below}
+use Rattle.kernel_lines.specs.Rows.{left_out, left_out_if, list_text, numbers_text, objects_text, signals_text, threads_text}
 use Rattle.kernel_facts.specs.Picked.{is_left_out, left_in}
-use Rattle.kernel_facts.specs.Rows.{left_out, left_out_if, list_text, numbers_text, objects_text, signals_text, threads_text}
 use Rattle.kernel_facts.proofs.Ticks.{flat_map-append}
 
 pub two_texts : (a b : List ℕ) → a ++ b ≡ a ++ (b ++ [])

@@ -8,12 +8,12 @@ use Rattle.rules_machine.specs.State.{Machine}
 use Rattle.rules_facts.specs.Fact.{Fact, receivers_of, senders_of}
 use Rattle.rules_facts.specs.Objects.{in_service_order}
 use Rattle.rules_facts.specs.Signals.{signal_fact}
-use Rattle.kernel_facts.specs.Lines.{fact_text, facts_text}
-use Rattle.kernel_facts.specs.Rows.{list_text, object_count, object_facts, thread_fact_of}
-use Rattle.kernel_facts.specs.declared.rows.ThreadRow.{ThreadRow}
-use Rattle.kernel_facts.specs.declared.rows.ThreadRow.TheVariants as thread
-use Rattle.kernel_facts.specs.declared.rows.ObjectRow.{ObjectRow}
-use Rattle.kernel_facts.specs.declared.rows.ObjectRow.TheVariants as object
+use Rattle.kernel_lines.specs.Lines.{fact_text, facts_text}
+use Rattle.kernel_lines.specs.Rows.{list_text, object_count, object_facts, thread_fact_of}
+use Rattle.kernel_lines.specs.declared.rows.ThreadRow.{ThreadRow}
+use Rattle.kernel_lines.specs.declared.rows.ThreadRow.TheVariants as thread
+use Rattle.kernel_lines.specs.declared.rows.ObjectRow.{ObjectRow}
+use Rattle.kernel_lines.specs.declared.rows.ObjectRow.TheVariants as object
 
 -- the text of each fact, which is empty where the fact is
 abbrev pub texts_of : List Decl → List Fact → List (List ℕ)

@@ -11,6 +11,7 @@ use Rattle.parts_texts.specs.Texts.{Told}
 use Rattle.rules_machine.specs.Declarations.{mutexes_of, queues_of, semaphores_of, threads_of, timers_of}
 use Rattle.rules_machine.specs.State.{Machine}
 use Rattle.rules_machine.specs.Threads.{queue_at}
+use Rattle.kernel_lines.specs.Short.{longest_text}
 use Rattle.kernel_facts.specs.declared.rooms.Rooms.{Rooms}
 
 -- how many facts are told of a state: of each list and signal one, of each thread six, of each queue four
@@ -24,11 +25,6 @@ pub record IsRoomy (one count : ℕ) (t : Told) : Type 0 where
   pub empty : t.texts ≡ []
   pub number : count ≤ t.most
   pub bytes : count * one ≤ t.room
-
--- More bytes than the text of such a fact has: a member takes at most three words, of which the longest are a number of 21 bytes with
--- its blank, and a name of 33.
-abbrev pub longest_text : ℕ → ℕ
-longest_text most = 71 * most + 400
 
 -- ---- the rooms of a script's run
 

@@ -1,6 +1,8 @@
 -- The texts of the subjects of facts, one for each fact, row by row. The form is this project's own.
-use Rattle.std.specs.Prelude.{List, [], codes, decimal, length, map, ℕ, ◌-◌, ◌∷◌, ◌++◌}
+use Rattle.std.specs.Prelude.{List, [], codes, decimal, length, map, ℕ, ◌-◌, ◌<◌, ◌∷◌, ◌++◌, ◌≡◌}
+use Rattle.std.specs.List.{AllByRecursion}
 use Rattle.words_script.specs.declared.decl.Decl.{Decl}
+use Rattle.words_script.specs.declared.decl.Script.{Script}
 use Rattle.words_script.specs.declared.name_kind.NameKind.{NameKind}
 use Rattle.words_script.specs.declared.name_kind.NameKind.TheVariants as kind
 use Rattle.script_lex.specs.Joined.{joined_words}
@@ -10,6 +12,7 @@ use Rattle.rules_machine.specs.State.{Machine}
 use Rattle.rules_facts.specs.Fact.{Fact}
 use Rattle.kernel_facts.specs.Changed.{subject_text}
 use Rattle.kernel_facts.specs.Kept.{kept_below}
+use Rattle.kernel_facts.specs.Rooms.{facts_told}
 
 -- the text of the subject of each fact
 abbrev pub subjects_of : List Decl → List Fact → List (List ℕ)
@@ -61,3 +64,8 @@ object_subjects decls m =
 -- so many signals
 abbrev pub signal_subjects : ℕ → List (List ℕ)
 signal_subjects count = kept_below (λ (signal : ℕ). about (codes "signal") (signal_word signal) ∷ []) count
+
+-- there is a subject for each fact, with fewer bytes than the room for one
+pub record AreSubjects (script : Script) (one : ℕ) (subjects : List (List ℕ)) : Type 0 where
+  pub number : length subjects ≡ facts_told script
+  pub short : AllByRecursion (λ (text : List ℕ). length text < one) subjects

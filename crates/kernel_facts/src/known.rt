@@ -3,7 +3,7 @@ ghost use Rattle.std.specs.Prelude.{ℕ, ◌≡◌, ◌≤◌, ◌<◌, length};
 ghost use Rattle.std.specs.List.{AllByRecursion};
 ghost use Rattle.rules_machine.specs.State as machine;
 ghost use Rattle.rules_machine.specs.Threads.{queue_at, thread_at};
-ghost use Rattle.kernel_facts.specs.Modest.{HasFewMembers, IsModestThread, NamesAreShort};
+ghost use Rattle.kernel_lines.specs.Modest.{HasFewMembers, IsModestThread, NamesAreShort};
 
 use crate::rows::object_of;
 use kernel_state::Parts;
@@ -18,7 +18,7 @@ pub(crate) fn know_timers(parts: &Parts)
 }
 
 /// There are 255 lists and 32 signals.
-pub(crate) fn know_rows(parts: &Parts)
+pub fn know_rows(parts: &Parts)
     ensures lists { length parts.now.machine.lists ≡ 255 }
     ensures signals { length parts.now.machine.actions ≡ 32 }
 {
@@ -35,7 +35,7 @@ pub(crate) fn know_priorities(parts: &Parts, q: ObjId)
 }
 
 /// The names are short. It reads each once.
-pub(crate) fn know_names(decls: &[Decl])
+pub fn know_names(decls: &[Decl])
     ensures { NamesAreShort decls.now }
 {
     for decl in decls {
@@ -86,7 +86,7 @@ fn know_queues(parts: &Parts)
 
 /// No list of the state is longer than the kernel's parts have room for. It goes through the threads and queues, and reads nothing of
 /// them.
-pub(crate) fn know_few(parts: &Parts)
+pub fn know_few(parts: &Parts)
     requires { length parts.now.machine.queues ≤ 256 }
     ensures { HasFewMembers parts.now.machine }
 {

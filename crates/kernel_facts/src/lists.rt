@@ -3,11 +3,9 @@ ghost use Rattle.std.specs.Prelude.{◌≡◌};
 ghost use Rattle.rules_lists.specs.Lists.{list_of};
 ghost use Rattle.rules_facts.specs.Fact.{on_list};
 ghost use Rattle.script_printer.specs.Puts.{Puts};
-ghost use Rattle.kernel_facts.specs.Lines.{fact_text};
+ghost use Rattle.kernel_lines.specs.Lines.{fact_text};
 
-use crate::declared::Declared;
-use crate::line::{put_end, put_more};
-use crate::names::thread_name;
+use kernel_lines::{Declared, put_end, put_more, thread_name};
 use kernel_state::Parts;
 use parts_io::Sink;
 use script_printer::Printer;

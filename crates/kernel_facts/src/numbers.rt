@@ -3,10 +3,9 @@ ghost use Rattle.std.specs.Prelude.{◌≡◌, ◌<◌, List, flat_map, length};
 ghost use Rattle.rules_machine.specs.Threads.{thread_at};
 ghost use Rattle.rules_facts.specs.Numbers.{budget_numbers, frame_numbers, left_numbers, slice_numbers, thread_numbers_told};
 ghost use Rattle.script_printer.specs.Puts.{Puts};
-ghost use Rattle.kernel_facts.specs.Lines.{number_text};
+ghost use Rattle.kernel_lines.specs.Lines.{number_text};
 
-use crate::declared::Declared;
-use crate::names::thread_name;
+use kernel_lines::{Declared, thread_name};
 use kernel_state::Parts;
 use kernel_threads::{Frame, Thread};
 use parts_io::Sink;

@@ -2,11 +2,10 @@
 ghost use Rattle.std.specs.Prelude.{◌≡◌, ◌<◌, length};
 ghost use Rattle.rules_facts.specs.Objects.{owner_fact, semaphore_fact, timer_fact};
 ghost use Rattle.script_printer.specs.Puts.{Puts};
-ghost use Rattle.kernel_facts.specs.Lines.{fact_text};
-ghost use Rattle.kernel_facts.specs.Short.{HasShortText};
+ghost use Rattle.kernel_lines.specs.Lines.{fact_text};
+ghost use Rattle.kernel_lines.specs.Short.{HasShortText};
 
-use crate::declared::Declared;
-use crate::names::{object_name, thread_name};
+use kernel_lines::{Declared, object_name, thread_name};
 use kernel_state::Parts;
 use parts_io::Sink;
 use script_printer::Printer;

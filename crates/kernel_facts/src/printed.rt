@@ -4,30 +4,23 @@ ghost use Rattle.rules_lists.specs.Lists.{list_of};
 ghost use Rattle.rules_facts.specs.Fact.{on_list};
 ghost use Rattle.rules_facts.specs.Signals.{signal_fact};
 ghost use Rattle.script_printer.specs.Puts.{Put, outlet};
+ghost use Rattle.kernel_lines.specs.Lines.{fact_text, facts_text};
+ghost use Rattle.kernel_lines.specs.Rows.{object_count, object_facts, thread_fact_of};
+ghost use Rattle.kernel_lines.specs.Short.{HasShortText, HaveShortTexts};
 ghost use Rattle.kernel_facts.specs.Kept.{waiters_text};
-ghost use Rattle.kernel_facts.specs.Lines.{fact_text, facts_text};
 ghost use Rattle.kernel_facts.specs.Picked.{left_in};
-ghost use Rattle.kernel_facts.specs.Rows.{object_count, object_facts, thread_fact_of};
-ghost use Rattle.kernel_facts.specs.Short.{HasShortText, HaveShortTexts};
 
-use crate::declared::Declared;
 use crate::lists::put_list;
-use crate::rows::{
-    ObjectRow, ThreadRow, put_object_facts, put_receivers, put_senders, put_thread_fact,
-};
+use crate::rows::{put_object_facts, put_receivers, put_senders, put_thread_fact};
 use crate::signals::put_signal;
+use kernel_lines::{Declared, ObjectRow, ThreadRow};
 use kernel_state::Parts;
 use parts_io::Sink;
 use script_printer::Printer;
 use words_numbers::{ObjId, Prio, Tid};
 
 /// Prints a list to a sink, and answers whether a write failed.
-pub(crate) fn print_list<K: Sink>(
-    parts: &Parts,
-    decls: &Declared<'_>,
-    p: Prio,
-    sink: &mut K,
-) -> bool
+pub fn print_list<K: Sink>(parts: &Parts, decls: &Declared<'_>, p: Prio, sink: &mut K) -> bool
     ensures { Put (outlet K.text K.faults false sink.old) (outlet K.text K.faults result sink.new) (fact_text decls.now (on_list p (list_of p parts.now.machine.lists))) }
 {
     let mut out = Printer::new(sink);
@@ -36,7 +29,7 @@ pub(crate) fn print_list<K: Sink>(
 }
 
 /// Prints a fact of a thread to a sink, and answers whether a write failed.
-pub(crate) fn print_thread_fact<K: Sink>(
+pub fn print_thread_fact<K: Sink>(
     parts: &Parts,
     decls: &Declared<'_>,
     row: ThreadRow,
@@ -53,7 +46,7 @@ pub(crate) fn print_thread_fact<K: Sink>(
 }
 
 /// Prints the facts of an object to a sink, and answers whether a write failed.
-pub(crate) fn print_object_facts<K: Sink>(
+pub fn print_object_facts<K: Sink>(
     parts: &Parts,
     decls: &Declared<'_>,
     row: ObjectRow,
@@ -70,7 +63,7 @@ pub(crate) fn print_object_facts<K: Sink>(
 }
 
 /// Prints the pending records of a signal to a sink, and answers whether a write failed.
-pub(crate) fn print_signal<K: Sink>(
+pub fn print_signal<K: Sink>(
     parts: &Parts,
     decls: &Declared<'_>,
     signal: u8,
@@ -86,7 +79,7 @@ pub(crate) fn print_signal<K: Sink>(
 }
 
 /// Prints who waits to send to a queue, or who waits for a message of it, to a sink, and answers whether a write failed.
-pub(crate) fn print_waiters<K: Sink>(
+pub fn print_waiters<K: Sink>(
     parts: &Parts,
     decls: &Declared<'_>,
     q: ObjId,

@@ -7,20 +7,18 @@ ghost use Rattle.rules_facts.specs.Fact.{receivers_of, senders_of};
 ghost use Rattle.rules_facts.specs.Objects.{condition_waiters, in_service_order, mutex_waiters, semaphore_waiters};
 ghost use Rattle.rules_facts.specs.Queues.{senders_and_receivers};
 ghost use Rattle.script_printer.specs.Puts.{Puts};
-ghost use Rattle.kernel_facts.specs.Lines.{fact_text, facts_text};
+ghost use Rattle.kernel_lines.specs.Lines.{fact_text, facts_text};
+ghost use Rattle.kernel_lines.specs.Rows.{object_count, object_facts, object_row_text, objects_text, thread_fact_of, thread_row_text, threads_text};
+ghost use Rattle.kernel_lines.specs.Short.{HasShortText, HaveShortTexts};
 ghost use Rattle.kernel_facts.specs.Numbered.{AreNumbered};
-ghost use Rattle.kernel_facts.specs.Rows.{object_count, object_facts, object_row_text, objects_text, thread_fact_of, thread_row_text, threads_text};
-ghost use Rattle.kernel_facts.specs.Short.{HasShortText, HaveShortTexts};
 
-use crate::declared::Declared;
 use crate::known::know_timers;
-use crate::names::object_name;
 use crate::objects::{put_owner, put_semaphore, put_timer};
 use crate::queues::{put_messages, put_registration};
 use crate::threads::{
     put_cancelability, put_cleanups, put_frames, put_mask, put_pending, put_status,
 };
-use crate::waiters::{Line, put_line};
+use kernel_lines::{Declared, Line, ObjectRow, ThreadRow, object_name, put_line};
 use kernel_state::Parts;
 use parts_io::Sink;
 use script_printer::Printer;
@@ -28,31 +26,6 @@ use script_writer::Word::{Keyword, Name};
 use script_writer::name_count;
 use words_numbers::{ObjId, Tid};
 use words_script::{NameKind, Script};
-
-// What is told of each thread in one row.
-#[derive(Clone, Copy)]
-pub(crate) enum ThreadRow {
-    Status,
-    Frames,
-    Mask,
-    Cancelability,
-    Cleanups,
-    Pending,
-}
-
-// What is told of each object of a kind in one row.
-#[derive(Clone, Copy)]
-pub(crate) enum ObjectRow {
-    Owner,
-    MutexWaiters,
-    ConditionWaiters,
-    SemaphoreWaiters,
-    Value,
-    Messages,
-    QueueWaiters,
-    Registration,
-    Arming,
-}
 
 // ---- threads
 
@@ -239,7 +212,8 @@ pub(crate) fn put_object_facts<K: Sink>(
     }
 }
 
-pub(crate) fn object_of(number: usize) -> ObjId
+/// The object of a number.
+pub fn object_of(number: usize) -> ObjId
     requires { number < 256 }
     ensures { result ≡ number }
 {

@@ -3,13 +3,11 @@ ghost use Rattle.std.specs.Prelude.{◌≡◌, ◌≤◌, ◌<◌, length};
 ghost use Rattle.rules_facts.specs.Signals.{signal_fact};
 ghost use Rattle.rules_facts.specs.Spelled.{target_word};
 ghost use Rattle.script_printer.specs.Puts.{Puts};
-ghost use Rattle.kernel_facts.specs.Lines.{fact_text};
+ghost use Rattle.kernel_lines.specs.Lines.{fact_text};
+ghost use Rattle.kernel_lines.specs.Short.{HasShortText};
 ghost use Rattle.kernel_facts.specs.Picked.{is_left_out, is_told, left_in};
-ghost use Rattle.kernel_facts.specs.Short.{HasShortText};
 
-use crate::declared::Declared;
-use crate::line::{put_end, put_more};
-use crate::names::thread_name;
+use kernel_lines::{Declared, put_end, put_more, thread_name};
 use kernel_signals::SignalRecord;
 use kernel_state::Parts;
 use parts_io::Sink;

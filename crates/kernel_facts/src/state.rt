@@ -6,17 +6,17 @@ ghost use Rattle.parts_io.specs.Bytes.{WritesAll};
 ghost use Rattle.parts_io.specs.Causes.{HasCause};
 ghost use Rattle.rules_facts.specs.Shown.{killed_line, once_ended, state_line, state_text};
 ghost use Rattle.script_printer.specs.Puts.{Put, Puts, outlet};
-ghost use Rattle.kernel_facts.specs.Lines.{texts_below};
+ghost use Rattle.kernel_lines.specs.Lines.{texts_below};
+ghost use Rattle.kernel_lines.specs.Rows.{left_out, list_text, numbers_text, signals_text};
 ghost use Rattle.kernel_facts.specs.Numbered.{AreNumbered};
 ghost use Rattle.kernel_facts.specs.Picked.{left_in};
-ghost use Rattle.kernel_facts.specs.Rows.{left_out, list_text, numbers_text, signals_text};
 
-use crate::declared::Declared;
 use crate::known::know_rows;
 use crate::lists::put_list;
 use crate::numbers::put_numbers;
 use crate::rows::{put_objects, put_threads};
 use crate::signals::put_signal;
+use kernel_lines::Declared;
 use kernel_state::Parts;
 use parts_io::{Failed, Sink};
 use script_printer::Printer;
@@ -40,7 +40,8 @@ fn put_killed<K: Sink>(out: &mut Printer<'_, K>, killed: Option<u8>)
     }
 }
 
-pub(crate) fn prio_of(level: u8) -> Prio
+/// The priority of a level.
+pub fn prio_of(level: u8) -> Prio
     requires { 0 < level }
     ensures { result ≡ level }
 {
@@ -59,8 +60,8 @@ fn put_lists<K: Sink>(out: &mut Printer<'_, K>, parts: &Parts, decls: &Declared<
     }
 }
 
-// The serial of the record that ended the process, where one did.
-pub(crate) fn left_out(parts: &Parts) -> Option<u64>
+/// The serial of the record that ended the process; `None` where none did.
+pub fn left_out(parts: &Parts) -> Option<u64>
     ensures { result ≡ left_out parts.now.machine }
 {
     if !parts.is_killed() {

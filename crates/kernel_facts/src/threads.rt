@@ -12,12 +12,10 @@ ghost use Rattle.rules_facts.specs.Fact.{blocked_thread, cancelability, inner_fr
 ghost use Rattle.rules_facts.specs.Spelled.{awaited_words, until_words, words_if_any};
 ghost use Rattle.rules_facts.specs.Threads.{awaited, block_of, cancelability_fact, cleanups_fact, frames_fact, inner_bodies, mask_fact, pending_fact, priorities_of, thread_fact};
 ghost use Rattle.script_printer.specs.Puts.{Puts};
-ghost use Rattle.kernel_facts.specs.Lines.{fact_text};
-ghost use Rattle.kernel_facts.specs.Short.{HasShortText};
+ghost use Rattle.kernel_lines.specs.Lines.{fact_text};
+ghost use Rattle.kernel_lines.specs.Short.{HasShortText};
 
-use crate::declared::Declared;
-use crate::line::{put_end, put_more};
-use crate::names::{body_name, object_name, thread_name};
+use kernel_lines::{Declared, body_name, object_name, put_end, put_more, thread_name};
 use kernel_state::Parts;
 use kernel_threads::{Frame, Status, Wait, Waiting};
 use parts_io::Sink;
@@ -114,7 +112,8 @@ pub(crate) fn put_status<K: Sink>(
 
 // ---- what it has about it
 
-pub(crate) fn is_main(kind: FrameKind) -> bool
+/// Whether a frame is the main one of its thread.
+pub fn is_main(kind: FrameKind) -> bool
     ensures { result ≡ is_main kind }
 {
     match kind {

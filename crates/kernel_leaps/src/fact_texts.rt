@@ -19,7 +19,8 @@ ghost use Rattle.kernel_leaps.specs.Detail.{AreReady, HaveRoomsFor};
 ghost use Rattle.kernel_leaps.specs.Shown.{HasFewObjects};
 
 use crate::plain_ticks::begins_plainly;
-use kernel_facts::{Desk, keep_subjects, look_at_facts, rooms_of};
+use kernel_facts::{keep_subjects, rooms_of};
+use kernel_looks::{Desk, look_at_facts};
 use kernel_state::Parts;
 use parts_io::Sink;
 use parts_texts::NextText;

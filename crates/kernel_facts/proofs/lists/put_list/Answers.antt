@@ -4,8 +4,8 @@ use Rattle.rules_lists.specs.Lists.{list_of}
 use Rattle.rules_facts.specs.Spelled.{thread_name}
 use Rattle.script_writer.specs.Canon.{Words}
 use Rattle.script_printer.proofs.Puts.{puts_nothing}
-use Rattle.kernel_facts.proofs.Lines.{one_each, told_some, words_all, words_more}
-use Rattle.kernel_facts.proofs.Puts.{puts_end, puts_more}
+use Rattle.kernel_lines.proofs.Lines.{one_each, told_some, words_all, words_more}
+use Rattle.kernel_lines.proofs.Puts.{puts_end, puts_more}
 use Rattle.kernel_facts.proofs.lists.put_list.Goals as goal
 
 pub loop-t-init : goal.loop-t-init

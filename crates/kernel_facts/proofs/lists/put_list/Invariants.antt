@@ -4,7 +4,7 @@ use Rattle.rules_facts.specs.Spelled.{thread_name}
 use Rattle.script_writer.specs.Line.{spelled}
 use Rattle.script_writer.specs.Words.{is_nil}
 use Rattle.script_printer.specs.Puts.{Puts}
-use Rattle.kernel_facts.specs.Lines.{begun}
+use Rattle.kernel_lines.specs.Lines.{begun}
 use Rattle.kernel_facts.proofs.lists.put_list.Given as goal
 
 abbrev pub invariant-loop-t : goal.invariant-loop-t

@@ -3,8 +3,8 @@ use Rattle.rules_bodies.specs.declared.cursor.Cursor.{Cursor}
 use Rattle.rules_machine.specs.State.{Thread}
 use Rattle.rules_machine.specs.Threads.{is_live, thread_at}
 use Rattle.script_printer.proofs.Puts.{puts_both}
+use Rattle.kernel_lines.proofs.Puts.{puts_as}
 use Rattle.kernel_facts.proofs.Ticks.{live_text}
-use Rattle.kernel_facts.proofs.Puts.{puts_as}
 use Rattle.kernel_facts.proofs.numbers.put_numbers.Goals as goal
 
 pub returns : goal.returns

@@ -1,8 +1,8 @@
 use Rattle.std.proofs.Common.{◌≡◌, ap, arith, ◌∙◌}
 use Rattle.words_numbers.specs.Words.{res_text}
 use Rattle.script_printer.proofs.Puts.{puts_both}
+use Rattle.kernel_lines.proofs.Puts.{puts_as}
 use Rattle.kernel_facts.proofs.Ticks.{top_text}
-use Rattle.kernel_facts.proofs.Puts.{puts_as}
 use Rattle.kernel_facts.proofs.numbers.put_top.Goals as goal
 
 pub returns-in-len1-up : goal.returns-in-len1-up

@@ -1,8 +1,8 @@
 use Rattle.std.proofs.Common.{subst, sym}
 use Rattle.words_script.specs.declared.name_kind.NameKind.TheVariants as kind
-use Rattle.kernel_facts.specs.Rows.{object_facts}
-use Rattle.kernel_facts.specs.Short.{HaveShortTexts}
-use Rattle.kernel_facts.specs.declared.rows.ObjectRow.{ObjectRow}
+use Rattle.kernel_lines.specs.Rows.{object_facts}
+use Rattle.kernel_lines.specs.Short.{HaveShortTexts}
+use Rattle.kernel_lines.specs.declared.rows.ObjectRow.{ObjectRow}
 use Rattle.kernel_facts.proofs.Modest.{waiters_short}
 use Rattle.kernel_facts.proofs.ShortFacts.{both_short}
 use Rattle.kernel_facts.proofs.rows.put_object_facts.Goals as goal

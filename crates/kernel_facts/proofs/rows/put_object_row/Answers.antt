@@ -1,6 +1,6 @@
 use Rattle.std.proofs.Common.{◌≡◌, add-one, arith}
 use Rattle.script_printer.proofs.Puts.{puts_both}
-use Rattle.kernel_facts.specs.Rows.{object_count}
+use Rattle.kernel_lines.specs.Rows.{object_count}
 use Rattle.kernel_facts.proofs.rows.put_object_row.Goals as goal
 
 pub loop-number-preserved : goal.loop-number-preserved

@@ -1,7 +1,7 @@
 use Rattle.std.proofs.Common.{ℕ}
-use Rattle.kernel_facts.specs.Rows.{object_facts}
+use Rattle.kernel_lines.specs.Rows.{object_facts}
 use Rattle.script_printer.specs.Puts.{Puts}
-use Rattle.kernel_facts.specs.Lines.{facts_text, texts_below}
+use Rattle.kernel_lines.specs.Lines.{facts_text, texts_below}
 use Rattle.kernel_facts.proofs.rows.put_object_row.Given as goal
 
 abbrev pub invariant-loop-number : goal.invariant-loop-number

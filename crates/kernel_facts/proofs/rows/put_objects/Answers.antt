@@ -2,7 +2,7 @@ use Rattle.std.proofs.Common.{List, subst, ◌∙◌}
 use Rattle.words_script.specs.declared.decl.Decl.{Decl}
 use Rattle.script_printer.specs.Puts.{Puts}
 use Rattle.script_printer.proofs.Puts.{puts_both}
-use Rattle.kernel_facts.specs.Rows.{objects_text}
+use Rattle.kernel_lines.specs.Rows.{objects_text}
 use Rattle.kernel_facts.proofs.rows.put_objects.Goals as goal
 
 pub returns : goal.returns

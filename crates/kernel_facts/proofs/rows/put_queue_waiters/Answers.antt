@@ -1,4 +1,4 @@
-use Rattle.kernel_facts.proofs.Puts.{puts_two}
+use Rattle.kernel_lines.proofs.Puts.{puts_two}
 use Rattle.kernel_facts.proofs.rows.put_queue_waiters.Goals as goal
 
 pub returns : goal.returns

@@ -1,9 +1,9 @@
 use Rattle.std.proofs.Common.{subst, sym}
 use Rattle.script_printer.specs.Puts.{Puts}
-use Rattle.kernel_facts.specs.declared.rows.ThreadRow.{ThreadRow}
-use Rattle.kernel_facts.specs.Lines.{fact_text}
-use Rattle.kernel_facts.specs.Rows.{thread_fact_of}
-use Rattle.kernel_facts.specs.Short.{HasShortText}
+use Rattle.kernel_lines.specs.declared.rows.ThreadRow.{ThreadRow}
+use Rattle.kernel_lines.specs.Lines.{fact_text}
+use Rattle.kernel_lines.specs.Rows.{thread_fact_of}
+use Rattle.kernel_lines.specs.Short.{HasShortText}
 use Rattle.kernel_facts.proofs.Modest.{cancelability_short, cleanups_short, frames_short, masked_short}
 use Rattle.kernel_facts.proofs.rows.put_thread_fact.Goals as goal
 

@@ -3,12 +3,12 @@ use Rattle.words_numbers.specs.Words.{sig_code_text}
 use Rattle.script_writer.specs.Words.{signal_word}
 use Rattle.rules_facts.specs.Signals.{pending_of}
 use Rattle.rules_facts.specs.Spelled.{pending_words, target_word}
+use Rattle.kernel_lines.proofs.Lines.{told_some, words_all, words_more}
 use Rattle.kernel_facts.specs.Picked.{words_of}
-use Rattle.kernel_facts.proofs.Lines.{told_some, words_all, words_more}
 use Rattle.kernel_facts.proofs.Picked.{no_words, records_told, told_words}
 use Rattle.rules_machine.specs.State.{SignalRecord}
+use Rattle.kernel_lines.proofs.Puts.{puts_end, puts_more}
 use Rattle.kernel_facts.proofs.ShortFacts.{all_more, all_taken, signal_short}
-use Rattle.kernel_facts.proofs.Puts.{puts_end, puts_more}
 use Rattle.kernel_facts.proofs.signals.put_signal.Goals as goal
 use Rattle.kernel_facts.proofs.signals.put_signal.Goals.{then-is_told, else-is_told}
 

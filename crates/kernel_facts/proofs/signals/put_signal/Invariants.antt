@@ -4,7 +4,7 @@ use Rattle.rules_machine.specs.State.{SignalRecord}
 use Rattle.script_writer.specs.Line.{spelled}
 use Rattle.script_writer.specs.Words.{is_nil}
 use Rattle.script_printer.specs.Puts.{Puts}
-use Rattle.kernel_facts.specs.Lines.{begun}
+use Rattle.kernel_lines.specs.Lines.{begun}
 use Rattle.kernel_facts.specs.Picked.{words_of}
 use Rattle.kernel_facts.proofs.signals.put_signal.Given as goal
 

@@ -3,7 +3,7 @@ use Rattle.std.specs.List.{range_with_len}
 use Rattle.std.specs.Prelude.{filter_map, length, option_map}
 use Rattle.rules_machine.specs.Delivery.{taken_by_sweep}
 use Rattle.rules_machine.specs.State.{SignalRecord}
-use Rattle.kernel_facts.specs.Rows.{left_out}
+use Rattle.kernel_lines.specs.Rows.{left_out}
 use Rattle.kernel_facts.proofs.state.left_out.Given as goal
 
 abbrev pub invariant-loop-number : goal.invariant-loop-number

@@ -1,7 +1,7 @@
 use Rattle.std.proofs.Common.{flat_map, ℕ}
 use Rattle.rules_facts.specs.Numbers.{thread_numbers_told}
 use Rattle.script_printer.specs.Puts.{Puts}
-use Rattle.kernel_facts.specs.Lines.{number_text, texts_below}
+use Rattle.kernel_lines.specs.Lines.{number_text, texts_below}
 use Rattle.kernel_facts.proofs.state.put_all_numbers.Given as goal
 
 abbrev pub invariant-loop-number : goal.invariant-loop-number

@@ -1,6 +1,6 @@
-use Rattle.kernel_facts.specs.Rows.{list_text}
+use Rattle.kernel_lines.specs.Rows.{list_text}
 use Rattle.script_printer.specs.Puts.{Puts}
-use Rattle.kernel_facts.specs.Lines.{texts_below}
+use Rattle.kernel_lines.specs.Lines.{texts_below}
 use Rattle.kernel_facts.proofs.state.put_lists.Given as goal
 
 abbrev pub invariant-loop-below : goal.invariant-loop-below

@@ -2,7 +2,7 @@ use Rattle.std.proofs.Common.{◌≡◌, ℕ, Option, add-one, arith, length, su
 use Rattle.rules_facts.specs.Signals.{signal_fact}
 use Rattle.script_printer.specs.Puts.{Puts}
 use Rattle.script_printer.proofs.Puts.{puts_both}
-use Rattle.kernel_facts.specs.Lines.{fact_text, texts_below}
+use Rattle.kernel_lines.specs.Lines.{fact_text, texts_below}
 use Rattle.kernel_facts.specs.Picked.{left_in}
 use Rattle.kernel_facts.proofs.state.put_signals.Goals as goal
 

@@ -2,10 +2,10 @@ use Rattle.std.proofs.Common.{◌≡◌, List, length, subst, ◌∙◌}
 use Rattle.words_script.specs.declared.decl.Decl.{Decl}
 use Rattle.script_printer.specs.Puts.{Puts}
 use Rattle.script_printer.proofs.Puts.{puts_both}
-use Rattle.kernel_facts.specs.Lines.{texts_below}
+use Rattle.kernel_lines.specs.Lines.{texts_below}
+use Rattle.kernel_lines.specs.Rows.{left_out, list_text, numbers_text, signals_text, threads_text}
+use Rattle.kernel_lines.proofs.Puts.{puts_as}
 use Rattle.kernel_facts.specs.Picked.{left_in}
-use Rattle.kernel_facts.specs.Rows.{left_out, list_text, numbers_text, signals_text, threads_text}
-use Rattle.kernel_facts.proofs.Puts.{puts_as}
 use Rattle.kernel_facts.proofs.Whole.{state_told}
 use Rattle.kernel_facts.proofs.state.put_state.Goals as goal
 

@@ -1,5 +1,5 @@
 use Rattle.std.proofs.Common.{◌≡◌, add-one, arith}
-use Rattle.kernel_facts.specs.Rows.{object_count}
+use Rattle.kernel_lines.specs.Rows.{object_count}
 use Rattle.kernel_facts.proofs.Keeping.{kept_both, kept_none}
 use Rattle.kernel_facts.proofs.subjects.keep_object_row.Goals as goal
 

@@ -1,9 +1,9 @@
 use Rattle.std.proofs.Common.{List, length, subst, ◌∙◌}
 use Rattle.words_script.specs.declared.decl.Decl.{Decl}
 use Rattle.rules_facts.specs.Facts.{facts}
+use Rattle.kernel_lines.specs.Modest.{NamesAreShort}
 use Rattle.kernel_facts.specs.Kept.{KeptIn}
 use Rattle.kernel_facts.specs.Subjects.{subjects_of, thread_subjects}
-use Rattle.kernel_facts.specs.Modest.{NamesAreShort}
 use Rattle.kernel_facts.proofs.Keeping.{kept_both}
 use Rattle.kernel_facts.proofs.Roomy.{still_rooms, subjects_fit, subjects_number}
 use Rattle.kernel_facts.proofs.KeptSubjects.{subjects_kept}

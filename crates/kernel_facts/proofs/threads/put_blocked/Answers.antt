@@ -7,9 +7,9 @@ use Rattle.kernel_threads.specs.Plain.{wait_of, waiting_of}
 use Rattle.rules_facts.specs.Spelled.{awaited_words, until_words, words_if_any}
 use Rattle.rules_facts.specs.Threads.{awaited, block_of, priorities_of}
 use Rattle.script_printer.proofs.Puts.{puts_both}
-use Rattle.kernel_facts.proofs.Lines.{line_in_three}
+use Rattle.kernel_lines.proofs.Lines.{line_in_three}
+use Rattle.kernel_lines.proofs.Puts.{puts_as}
 use Rattle.kernel_facts.proofs.Modest.{blocked_short}
-use Rattle.kernel_facts.proofs.Puts.{puts_as}
 use Rattle.kernel_facts.proofs.threads.put_blocked.Goals as goal
 
 pub returns-clause-text : goal.returns-clause-text

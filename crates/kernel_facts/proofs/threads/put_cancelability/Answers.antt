@@ -5,7 +5,7 @@ use Rattle.rules_machine.specs.Threads.{is_live, thread_at}
 use Rattle.rules_facts.specs.Fact.{Cancelability, cancelability}
 use Rattle.rules_facts.specs.Threads.{cancelability_of}
 use Rattle.script_printer.specs.Puts.{Puts}
-use Rattle.kernel_facts.specs.Lines.{fact_text}
+use Rattle.kernel_lines.specs.Lines.{fact_text}
 use Rattle.kernel_facts.proofs.Living.{flags_same, living_is}
 use Rattle.kernel_facts.proofs.threads.put_cancelability.Goals as goal
 

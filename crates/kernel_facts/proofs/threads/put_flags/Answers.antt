@@ -2,8 +2,8 @@ use Rattle.std.proofs.Common.{◌≡◌, ◌++◌, ◌∷◌, [], codes, false}
 use Rattle.script_writer.specs.Canon.{flag_words}
 use Rattle.script_writer.specs.Words.{is_nil}
 use Rattle.script_printer.proofs.Puts.{puts_both}
-use Rattle.kernel_facts.proofs.Lines.{flags_line, some_first, some_second, some_third}
-use Rattle.kernel_facts.proofs.Puts.{puts_as}
+use Rattle.kernel_lines.proofs.Lines.{flags_line, some_first, some_second, some_third}
+use Rattle.kernel_lines.proofs.Puts.{puts_as}
 use Rattle.kernel_facts.proofs.threads.put_flags.Goals as goal
 use Rattle.kernel_facts.proofs.threads.put_flags.Goals.{else-not-is_requested-via-then-not-is_requested+then-not-is_disabled+else-not-is_ending, else-not-is_requested-via-then-not-is_requested+else-not-is_disabled, else-not-is_requested-via-else-not-is_requested}
 

@@ -5,8 +5,8 @@ use Rattle.words_script.specs.declared.name_kind.NameKind.TheVariants as kind
 use Rattle.script_writer.specs.Names.{name_of}
 use Rattle.script_writer.specs.Canon.{Words}
 use Rattle.script_printer.proofs.Puts.{puts_nothing}
-use Rattle.kernel_facts.proofs.Lines.{one_each, told_some, words_more}
-use Rattle.kernel_facts.proofs.Puts.{puts_end, puts_more}
+use Rattle.kernel_lines.proofs.Lines.{one_each, told_some, words_more}
+use Rattle.kernel_lines.proofs.Puts.{puts_end, puts_more}
 use Rattle.kernel_facts.proofs.threads.put_handlers.Goals as goal
 
 pub loop-u-init : goal.loop-u-init

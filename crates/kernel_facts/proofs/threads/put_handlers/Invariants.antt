@@ -4,7 +4,7 @@ use Rattle.script_writer.specs.Names.{name_of}
 use Rattle.script_writer.specs.Line.{spelled}
 use Rattle.script_writer.specs.Words.{is_nil}
 use Rattle.script_printer.specs.Puts.{Puts}
-use Rattle.kernel_facts.specs.Lines.{begun}
+use Rattle.kernel_lines.specs.Lines.{begun}
 use Rattle.kernel_facts.proofs.threads.put_handlers.Given as goal
 
 abbrev pub invariant-loop-u : goal.invariant-loop-u

@@ -4,9 +4,9 @@ use Rattle.std.proofs.lemmas.Option.{slice_get_read}
 use Rattle.rules_machine.specs.Threads.{is_main}
 use Rattle.rules_facts.specs.Spelled.{body_name}
 use Rattle.script_printer.proofs.Puts.{puts_nothing}
-use Rattle.kernel_facts.specs.Lines.{frame_words}
-use Rattle.kernel_facts.proofs.Lines.{frames_told, inner_words, main_words, told_some, words_more}
-use Rattle.kernel_facts.proofs.Puts.{puts_end, puts_more}
+use Rattle.kernel_lines.specs.Lines.{frame_words}
+use Rattle.kernel_lines.proofs.Lines.{frames_told, inner_words, main_words, told_some, words_more}
+use Rattle.kernel_lines.proofs.Puts.{puts_end, puts_more}
 use Rattle.kernel_facts.proofs.threads.put_inner_frames.Goals as goal
 use Rattle.kernel_facts.proofs.threads.put_inner_frames.Goals.{then-not-is_main, else-not-is_main}
 

@@ -2,7 +2,7 @@ use Rattle.std.proofs.Common.{◌≡◌, flat_map, map, not, take}
 use Rattle.script_writer.specs.Line.{spelled}
 use Rattle.script_writer.specs.Words.{is_nil}
 use Rattle.script_printer.specs.Puts.{Puts}
-use Rattle.kernel_facts.specs.Lines.{begun, frame_words}
+use Rattle.kernel_lines.specs.Lines.{begun, frame_words}
 use Rattle.kernel_facts.proofs.threads.put_inner_frames.Given as goal
 
 abbrev pub invariant-loop-frame : goal.invariant-loop-frame

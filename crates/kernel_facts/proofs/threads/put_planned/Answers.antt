@@ -3,10 +3,10 @@ use Rattle.std.proofs.Math.Seq.{take-length}
 use Rattle.std.proofs.lemmas.Option.{slice_get_read}
 use Rattle.rules_facts.specs.Spelled.{replenishment_words}
 use Rattle.script_printer.proofs.Puts.{puts_nothing}
-use Rattle.kernel_facts.proofs.Lines.{told_some, words_more}
+use Rattle.kernel_lines.proofs.Lines.{told_some, words_more}
+use Rattle.kernel_lines.proofs.Puts.{puts_end, puts_more}
 use Rattle.kernel_facts.proofs.Modest.{planned_short}
 use Rattle.kernel_facts.proofs.ShortFacts.{within_more}
-use Rattle.kernel_facts.proofs.Puts.{puts_end, puts_more}
 use Rattle.kernel_facts.proofs.threads.put_planned.Goals as goal
 
 pub loop-r-init : goal.loop-r-init

@@ -4,7 +4,7 @@ use Rattle.rules_facts.specs.Spelled.{replenishment_words}
 use Rattle.script_writer.specs.Line.{spelled}
 use Rattle.script_writer.specs.Words.{is_nil}
 use Rattle.script_printer.specs.Puts.{Puts}
-use Rattle.kernel_facts.specs.Lines.{begun}
+use Rattle.kernel_lines.specs.Lines.{begun}
 use Rattle.kernel_facts.proofs.threads.put_planned.Given as goal
 
 abbrev pub invariant-loop-r : goal.invariant-loop-r

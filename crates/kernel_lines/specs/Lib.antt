@@ -1,0 +1,5 @@
+pub mod Lines
+pub mod Rows
+pub mod InLine
+pub mod Modest
+pub mod Short

@@ -1,0 +1,11 @@
+pub mod Changing
+pub mod NothingTold
+pub mod Looking
+pub mod Ready
+pub mod FactsSeen
+pub mod QueueLines
+pub mod Runs
+pub mod BareRows
+pub mod Stretches
+pub mod EmptyLists
+pub mod PendingSignals

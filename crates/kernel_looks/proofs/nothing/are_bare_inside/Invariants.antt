@@ -1,0 +1,9 @@
+use Rattle.std.proofs.Common.{◌<◌, ◌≡◌, true, ℕ}
+use Rattle.kernel_lines.specs.Rows.{thread_fact_of}
+use Rattle.kernel_lines.specs.declared.rows.ThreadRow.{ThreadRow}
+use Rattle.kernel_looks.specs.Blocks.{is_inner}
+use Rattle.kernel_looks.specs.Nothing.{TellsNothing}
+use Rattle.kernel_looks.proofs.nothing.are_bare_inside.Given as goal
+
+abbrev pub invariant-loop-number : goal.invariant-loop-number
+invariant-loop-number l = (row : ThreadRow) → is_inner row ≡ true → (t : ℕ) → t < l.number → TellsNothing (thread_fact_of row l.parts.machine t)

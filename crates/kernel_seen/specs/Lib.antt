@@ -1,0 +1,4 @@
+pub mod KeptLines
+pub mod Seen
+pub mod FewSeen
+pub mod FactSeen
