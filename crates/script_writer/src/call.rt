@@ -6,9 +6,10 @@ mod signals;
 mod threads;
 mod timers;
 
-ghost use Rattle.std.specs.Prelude.{◌≡◌};
+ghost use Rattle.std.specs.Prelude.{◌≡◌, false};
 ghost use Rattle.script_writer.specs.Line.{line_text};
 ghost use Rattle.script_writer.specs.Canon.{call_words};
+ghost use Rattle.script_writer.specs.Subjects.{is_of_threads};
 
 use crate::line::LineText;
 use conditions::{timedwait, wait};
@@ -50,6 +51,16 @@ pub(crate) fn call_line(decls: &[Decl], call: &Call) -> LineText
         Call::Timedwait { cond, mutex, at } => timedwait(decls, *cond, *mutex, *at),
         Call::Signal(c) => on_object(decls, b"signal", NameKind::Cond, *c),
         Call::Broadcast(c) => on_object(decls, b"broadcast", NameKind::Cond, *c),
+        _ => object_call_line(decls, call),
+    }
+}
+
+// The line of a call on a semaphore, a queue or a timer, on time or on signals.
+fn object_call_line(decls: &[Decl], call: &Call) -> LineText
+    requires { is_of_threads call.now ≡ false }
+    ensures { result.items ≡ line_text (call_words decls.now call.now) }
+{
+    match call {
         Call::SemWait(s) => on_object(decls, b"sem_wait", NameKind::Sem, *s),
         Call::SemTimedwait { sem, at } => {
             on_object_until(decls, b"sem_timedwait", NameKind::Sem, *sem, *at)
@@ -87,5 +98,6 @@ pub(crate) fn call_line(decls: &[Decl], call: &Call) -> LineText
             on_object_until(decls, b"mq_timedreceive", NameKind::Queue, *queue, *at)
         }
         Call::MqNotify(q, sig, value) => mq_notify(decls, *q, *sig, *value),
+        _ => unreachable!(),
     }
 }
