@@ -5,3 +5,4 @@ pub mod Line
 pub mod Writes
 pub mod Upgraded
 pub mod Firsts
+pub mod Subjects

@@ -6,9 +6,10 @@ mod signals;
 mod threads;
 mod timers;
 
-ghost use Rattle.std.specs.Prelude.{◌≡◌};
+ghost use Rattle.std.specs.Prelude.{◌≡◌, false};
 ghost use Rattle.script_writer.specs.Line.{line_text};
 ghost use Rattle.script_writer.specs.Canon.{call_words};
+ghost use Rattle.script_writer.specs.Subjects.{is_of_threads, is_of_objects, is_of_time};
 
 use crate::line::LineText;
 use conditions::{timedwait, wait};
@@ -40,6 +41,16 @@ pub(crate) fn call_line(decls: &[Decl], call: &Call) -> LineText
         Call::Exit(value) => with_operand(b"exit", *value),
         Call::Setprio(t, prio) => setprio(decls, *t, *prio),
         Call::Setsched(t, policy) => setsched(decls, *t, *policy),
+        _ => object_call_line(decls, call),
+    }
+}
+
+// The line of a call that is on no thread.
+fn object_call_line(decls: &[Decl], call: &Call) -> LineText
+    requires { is_of_threads call.now ≡ false }
+    ensures { result.items ≡ line_text (call_words decls.now call.now) }
+{
+    match call {
         Call::Lock(m) => on_object(decls, b"lock", NameKind::Mutex, *m),
         Call::Timedlock { mutex, at } => {
             on_object_until(decls, b"timedlock", NameKind::Mutex, *mutex, *at)
@@ -57,6 +68,17 @@ pub(crate) fn call_line(decls: &[Decl], call: &Call) -> LineText
         Call::SemTrywait(s) => on_object(decls, b"sem_trywait", NameKind::Sem, *s),
         Call::SemGetvalue(s) => on_object(decls, b"sem_getvalue", NameKind::Sem, *s),
         Call::SemPost(s) => on_object(decls, b"sem_post", NameKind::Sem, *s),
+        _ => time_call_line(decls, call),
+    }
+}
+
+// The line of a call on time, or on signals and messages.
+fn time_call_line(decls: &[Decl], call: &Call) -> LineText
+    requires threads { is_of_threads call.now ≡ false }
+    requires objects { is_of_objects call.now ≡ false }
+    ensures { result.items ≡ line_text (call_words decls.now call.now) }
+{
+    match call {
         Call::Nanosleep(ticks) => with_number(b"nanosleep", *ticks),
         Call::ClockNanosleep { at } => with_moment(b"clock_nanosleep", *at),
         Call::Gettime => bare(b"gettime"),
@@ -66,6 +88,18 @@ pub(crate) fn call_line(decls: &[Decl], call: &Call) -> LineText
         Call::TimerSettimeAbs(k, at, interval) => settime_abs(decls, *k, *at, *interval),
         Call::TimerGettime(k) => on_object(decls, b"timer_gettime", NameKind::Timer, *k),
         Call::TimerGetoverrun(k) => on_object(decls, b"timer_getoverrun", NameKind::Timer, *k),
+        _ => signal_call_line(decls, call),
+    }
+}
+
+// The line of a call on signals, or on messages.
+fn signal_call_line(decls: &[Decl], call: &Call) -> LineText
+    requires threads { is_of_threads call.now ≡ false }
+    requires objects { is_of_objects call.now ≡ false }
+    requires time { is_of_time call.now ≡ false }
+    ensures { result.items ≡ line_text (call_words decls.now call.now) }
+{
+    match call {
         Call::Kill(sig) => kill(*sig),
         Call::Tkill(t, sig) => tkill(decls, *t, *sig),
         Call::Sigqueue(sig, value) => sigqueue(*sig, *value),
@@ -87,5 +121,6 @@ pub(crate) fn call_line(decls: &[Decl], call: &Call) -> LineText
             on_object_until(decls, b"mq_timedreceive", NameKind::Queue, *queue, *at)
         }
         Call::MqNotify(q, sig, value) => mq_notify(decls, *q, *sig, *value),
+        _ => unreachable!(),
     }
 }
