@@ -16,5 +16,7 @@ pub mod Runs
 pub mod LeftAlone
 pub mod SetTimes
 pub mod RealItems
+pub mod Relinking
+pub mod TimerChanges
 pub mod Passes
 pub mod WaitsElsewhere

@@ -1,5 +1,5 @@
 -- Where a thread that can run, or waits for an instant, stands among the waiters and in the wheel.
-use Rattle.std.proofs.Common.{◌≡◌, ◌<◌, ◌+◌, ◌∙◌, ℕ, List, true, false, None, Option, Some, length, refl}
+use Rattle.std.proofs.Common.{◌≡◌, ◌<◌, ◌+◌, ◌∙◌, ℕ, List, true, false, None, Option, Some, is_some, length, refl}
 use Rattle.rules_bodies.specs.declared.cursor.Cursor.{Cursor}
 use Rattle.rules_machine.specs.Priorities.{claims, exec_in}
 use Rattle.rules_machine.specs.State.{Status, Thread, Timer, Wait, Waiting, blocked, dormant, ended, for_condition, for_end, for_message, for_mutex, for_mutex_again, for_room, for_semaphore, for_signal, for_time, runnable}
@@ -9,7 +9,10 @@ use Rattle.parts_waiters.specs.Places.{place_in}
 use Rattle.parts_waiters.specs.Ties.{object_of, place_at, place_of}
 use Rattle.parts_owners.specs.Chains.{Links}
 use Rattle.parts_wheel.specs.Dues.{due_of}
+use Rattle.parts_bits.specs.Sets.{has}
+use Rattle.kernel_threads.specs.RealDues.{real_due_in}
 use Rattle.kernel_threads.specs.Sleeping.{is_for_time, waits_for_time}
+use Rattle.kernel_table.specs.RealItems.{AreKept}
 use Rattle.kernel_table.specs.Tied.{AreArmed, IsTied}
 use Rattle.kernel_table.specs.Times.{start_of, timeout_of}
 
@@ -53,6 +56,16 @@ runner_started threads timers dues t small runs armed = armed.starts t small ∙
 pub runner_untimed : (threads : List (Thread Cursor)) (timers : List Timer) (dues : List (Option ℕ)) (t : ℕ) → t < 256 → is_runnable (thread_in threads t).status ≡ true →
     AreArmed threads timers dues → due_of (512 + t) dues ≡ None
 runner_untimed threads timers dues t small runs armed = armed.timeouts t small ∙ runs_unlimited (thread_in threads t) runs
+
+runs_unread : (status : Status) → is_runnable status ≡ true → is_some (real_due_in status) ≡ false
+runs_unread (dormant at) h = off h
+runs_unread runnable h = refl
+runs_unread (blocked w) h = off h
+runs_unread ended h = off h
+
+pub runner_unkept : (threads : List (Thread Cursor)) (timers : List Timer) (waits expiries : List ℕ) (t : ℕ) → is_runnable (thread_in threads t).status ≡ true →
+    AreKept threads timers waits expiries → has t waits ≡ false
+runner_unkept threads timers waits expiries t runs kept = kept.of_threads t ∙ runs_unread (thread_in threads t).status runs
 
 -- ---- a thread that waits for nothing but an instant
 

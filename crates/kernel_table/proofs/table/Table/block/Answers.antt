@@ -11,6 +11,7 @@ use Rattle.kernel_table.proofs.Ties.{awaits_none}
 use Rattle.kernel_table.proofs.Armed.{armed_waiting}
 use Rattle.kernel_table.specs.RealItems.{waits_for_reading}
 use Rattle.kernel_table.proofs.RealItems.{kept_after}
+use Rattle.kernel_table.proofs.Relinking.{can_relink}
 use Rattle.kernel_table.proofs.table.Table.block.Goals as goal
 
 pub invariant_of-self : goal.invariant_of-self
@@ -43,3 +44,8 @@ returns c = record {
 
 pub time_wait-requires-clause-numbers : goal.time_wait-requires-clause-numbers
 time_wait-requires-clause-numbers c = c.self.invariant.armed.numbers
+
+pub stop_waiting-requires : goal.stop_waiting-requires
+stop_waiting-requires c =
+    let s = c.self.inside in
+    record { can = can_relink s.threads s.chain s.waits c.args.t (rw (← c.self.view_is) at c.requires.known) c.self.invariant.tied }

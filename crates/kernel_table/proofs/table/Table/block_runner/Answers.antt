@@ -6,7 +6,8 @@ use Rattle.kernel_table.specs.Times.{refill_of, start_of, timeout_of}
 use Rattle.kernel_table.proofs.Moved.{begun_tied}
 use Rattle.kernel_table.proofs.ToldMoves.{told}
 use Rattle.kernel_table.proofs.Armed.{armed_waiting}
-use Rattle.kernel_table.proofs.Runs.{runner_nowhere, runner_started, runner_untimed}
+use Rattle.kernel_table.proofs.Relinking.{can_relink, may_await}
+use Rattle.kernel_table.proofs.Runs.{runner_nowhere, runner_started, runner_unkept, runner_untimed}
 use Rattle.kernel_table.specs.RealItems.{waits_for_reading}
 use Rattle.kernel_table.proofs.RealItems.{kept_after}
 use Rattle.kernel_table.proofs.table.Table.block_runner.Goals as goal
@@ -55,3 +56,37 @@ returns c = record {
       (told s.timers s.threads (slice_set s.threads c.args.t c.block.new.self) s.chain b.new.chain s.waits b.new.waits b.result (length-set s.threads c.args.t c.block.new.self) c.self.invariant.tied
       (invariant_of-self c).tied b.ensures.moved));
 }
+
+pub stands_nowhere-requires-clause-can : goal.stands_nowhere-requires-clause-can
+stands_nowhere-requires-clause-can c =
+    let s = c.self.inside in
+    can_relink s.threads s.chain s.waits c.args.t (rw (← c.self.view_is) at c.requires.known) c.self.invariant.tied
+
+pub keep_runner-requires-clause-thread : goal.keep_runner-requires-clause-thread
+keep_runner-requires-clause-thread c = let known = rw (← c.self.view_is) at c.requires.known in omega (arith, known, c.self.invariant.tied.few)
+
+pub keep_runner-requires-clause-runs : goal.keep_runner-requires-clause-runs
+keep_runner-requires-clause-runs c =
+    let s = c.self.inside in
+    runner_unkept s.threads s.timers s.real_waits s.real_expiries c.args.t (rw (← c.self.view_is) at c.requires.runs) c.self.invariant.kept
+
+pub get_mut-requires : goal.get_mut-requires
+get_mut-requires c = rw (← c.self.view_is) at c.requires.known
+
+pub begin_waiting-moved-requires-clause-can : goal.begin_waiting-moved-requires-clause-can
+begin_waiting-moved-requires-clause-can c =
+    let s = c.self.inside in
+    can_relink s.threads s.chain s.waits c.args.t (rw (← c.self.view_is) at c.requires.known) c.self.invariant.tied
+
+pub begin_waiting-moved-requires-clause-nowhere : goal.begin_waiting-moved-requires-clause-nowhere
+begin_waiting-moved-requires-clause-nowhere c =
+    let s = c.self.inside in
+    runner_nowhere s.threads s.chain s.waits c.args.t (rw (← c.self.view_is) at c.requires.known) (rw (← c.self.view_is) at c.requires.runs) c.self.invariant.tied
+
+pub begin_waiting-moved-requires-clause-may : goal.begin_waiting-moved-requires-clause-may
+begin_waiting-moved-requires-clause-may c =
+    let s = c.self.inside in
+    may_await s.timers s.threads s.chain s.waits c.args.t _ c.self.invariant.tied (rw (← c.self.view_is) at c.requires.may)
+
+pub time_runner-requires-clause-thread : goal.time_runner-requires-clause-thread
+time_runner-requires-clause-thread c = let known = rw (← c.self.view_is) at c.requires.known in omega (arith, known, c.self.invariant.tied.few)

@@ -8,6 +8,7 @@ use Rattle.kernel_table.proofs.ToldMoves.{awaits_nothing, told_beside}
 use Rattle.kernel_table.proofs.Armed.{armed_after}
 use Rattle.kernel_table.specs.RealItems.{waits_for_reading}
 use Rattle.kernel_table.proofs.RealItems.{kept_after}
+use Rattle.kernel_table.proofs.Relinking.{can_relink}
 use Rattle.kernel_table.proofs.table.Table.end.Goals as goal
 
 pub invariant_of-self : goal.invariant_of-self
@@ -41,3 +42,8 @@ returns c = record {
 
 pub retime-requires-clause-numbers : goal.retime-requires-clause-numbers
 retime-requires-clause-numbers c = c.self.invariant.armed.numbers
+
+pub stop_waiting-moved-requires : goal.stop_waiting-moved-requires
+stop_waiting-moved-requires c =
+    let s = c.self.inside in
+    record { can = can_relink s.threads s.chain s.waits c.args.t (rw (← c.self.view_is) at c.requires) c.self.invariant.tied }

@@ -8,6 +8,7 @@ use Rattle.kernel_table.proofs.ToldMoves.{told}
 use Rattle.kernel_table.proofs.Armed.{armed_waiting}
 use Rattle.kernel_table.specs.RealItems.{waits_for_reading}
 use Rattle.kernel_table.proofs.RealItems.{kept_after}
+use Rattle.kernel_table.proofs.Relinking.{can_relink}
 use Rattle.kernel_table.proofs.table.Table.wake_in_full.Goals as goal
 
 pub invariant_of-self : goal.invariant_of-self
@@ -37,3 +38,8 @@ returns c = record {
 
 pub time_wait-requires-clause-numbers : goal.time_wait-requires-clause-numbers
 time_wait-requires-clause-numbers c = c.self.invariant.armed.numbers
+
+pub stop_waiting-moved-requires : goal.stop_waiting-moved-requires
+stop_waiting-moved-requires c =
+    let s = c.self.inside in
+    record { can = can_relink s.threads s.chain s.waits c.args.t (rw (← c.self.view_is) at c.requires) c.self.invariant.tied }
