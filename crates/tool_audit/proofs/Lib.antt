@@ -14,3 +14,5 @@ pub mod ClosingTimes
 pub mod Phases
 pub mod EachServer
 pub mod Behind
+mod PhaseThree
+mod PhaseOne

@@ -11,10 +11,10 @@ use Rattle.tool_audit.specs.Faults.{Fault, faults_at}
 use Rattle.tool_audit.specs.Head.{Said, names_of, name_faults, phase_two}
 
 -- the line at i stands first among those ahead
-ahead : (xs : List Said) (i : ℕ) (s : Said) → i < length xs → s ≡ get_or xs i s → drop i xs ≡ s ∷ drop (i + 1) xs
+pub ahead : (xs : List Said) (i : ℕ) (s : Said) → i < length xs → s ≡ get_or xs i s → drop i xs ≡ s ∷ drop (i + 1) xs
 ahead xs i s lt is = rw add-one (drop-cons xs i s lt ∙ ap (λ (x : Said). x ∷ drop (suc i) xs) (sym is))
 
-behind : (xs : List Said) (i : ℕ) (s : Said) → i < length xs → s ≡ get_or xs i s → take (i + 1) xs ≡ take i xs ++ s ∷ []
+pub behind : (xs : List Said) (i : ℕ) (s : Said) → i < length xs → s ≡ get_or xs i s → take (i + 1) xs ≡ take i xs ++ s ∷ []
 behind xs i s lt is = grind (arith, common_steps)
 
 two_step : (xs : List Said) (i : ℕ) (s : Said) (all : List Fault) → i < length xs → s ≡ get_or xs i s → phase_two (take i xs) (drop i xs) ≡ all →

@@ -34,19 +34,32 @@ pub(crate) fn statements<'a>(alloc: Global, text: &'a [u8]) -> Result<Vec<Statem
     Ok(statements)
 }
 
-// Phase 2: no name stands twice.
-pub(crate) fn check_names(alloc: Global, statements: &[Statement<'_>]) -> Result<(), AuditEnd>
+// Puts in the names of these lines, of which none may stand twice.
+fn put_names<'a>(
+    names: &mut IndexSet<&'a [u8]>,
+    statements: &[Statement<'a>],
+) -> Result<(), AuditEnd>
+    requires { names.old.keys ≡ [] }
     ensures { MatchResult result
         (λ _. phase_two [] statements.now ≡ [])
         (λ e. EndsBy e (phase_two [] statements.now)) }
 {
-    let mut names = IndexSet::new(alloc);
     for s in statements {
         if !names.insert(s.name())? {
             return Err(AuditEnd::Fault(s.line(), HeadFault::DuplicateName));
         }
     }
     Ok(())
+}
+
+// Phase 2: no name stands twice.
+pub(crate) fn check_names<'a>(alloc: Global, statements: &[Statement<'a>]) -> Result<(), AuditEnd>
+    ensures { MatchResult result
+        (λ _. phase_two [] statements.now ≡ [])
+        (λ e. EndsBy e (phase_two [] statements.now)) }
+{
+    let mut names: IndexSet<&'a [u8]> = IndexSet::new(alloc);
+    put_names(&mut names, statements)
 }
 
 fn are_in_ranges(s: &Limits) -> bool

@@ -15,14 +15,14 @@ mod hearing;
 mod judging;
 
 /// A plan without a refill, and the instant of its refill.
-#[derive(Clone, Copy, Debug, Default, PartialEq, Eq)]
+#[derive(Clone, Copy, Default)]
 pub struct Planned {
     pub amount: u64,
     pub from: u64,
 }
 
 /// The last activation with no plan behind it: when it was, and how many high ticks there were before.
-#[derive(Clone, Copy, Debug, Default, PartialEq, Eq)]
+#[derive(Clone, Copy)]
 pub struct Activation {
     pub time: u64,
     pub high: u64,

@@ -2,7 +2,7 @@
 use words_script::Name;
 
 /// The numbers of a server. In an audit that was opened the budget is at least 1 and at most the period, which is at most 10^18.
-#[derive(Clone, Copy, Debug, PartialEq, Eq)]
+#[derive(Clone, Copy)]
 pub struct Limits {
     /// The replenishment period, in ticks.
     pub period: u64,

@@ -1,7 +1,7 @@
 use Rattle.std.proofs.Common.{◌≡◌, take, drop, map, []}
 use Rattle.tool_audit.specs.Head.{phase_two, names_of}
 use Rattle.tool_audit.proofs.Phases.{read_at}
-use Rattle.tool_audit.proofs.reading.check_names.Given as goal
+use Rattle.tool_audit.proofs.reading.put_names.Given as goal
 
 abbrev pub invariant-loop-s : goal.invariant-loop-s
 invariant-loop-s l = record {

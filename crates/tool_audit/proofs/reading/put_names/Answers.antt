@@ -1,6 +1,6 @@
 use Rattle.std.proofs.Common.{rules}
 use Rattle.tool_audit.proofs.Phases.{name_is_new, name_is_old}
-use Rattle.tool_audit.proofs.reading.check_names.Goals as goal
+use Rattle.tool_audit.proofs.reading.put_names.Goals as goal
 
 pub returns-then-not-branch : goal.returns-then-not-branch
 returns-then-not-branch c =
