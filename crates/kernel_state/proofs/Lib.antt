@@ -24,3 +24,4 @@ pub mod InQueues
 pub mod LeftAlone
 pub mod LastRun
 pub mod Activations
+pub mod Risen

@@ -1,4 +1,4 @@
-use Rattle.std.specs.Prelude.{All, IsTrue}
+use Rattle.std.specs.Prelude.{All}
 use Rattle.std.proofs.Common.{◌≡◌, ◌∙◌, None, ap, subst, true}
 use Rattle.words_numbers.specs.Signals.{has_signal}
 use Rattle.rules_bodies.specs.declared.cursor.Cursor.{Cursor}

@@ -1,12 +1,20 @@
-use Rattle.std.proofs.Common.{refl, rules}
+use Rattle.std.proofs.Common.{List, ap, refl, ◌∙◌}
+use Rattle.rules_machine.specs.State.{Timer}
 use Rattle.rules_machine.specs.Timers.{overrun_once_more}
+use Rattle.kernel_table.specs.Table.{with_timer}
 use Rattle.kernel_table.proofs.RealItems.{still_kept_timer}
+use Rattle.kernel_table.proofs.TimerChanges.{still_armed_timer}
+use Rattle.kernel_table.proofs.ToldMoves.{table_with}
 use Rattle.kernel_table.proofs.table.Table.overrun_once_more.Goals as goal
 
 pub invariant_of-self : goal.invariant_of-self
-invariant_of-self c = record {
+invariant_of-self c = let s = c.self.inside in record {
   tied = c.self.invariant.tied;
-  armed = (search rules);
-  kept = (let s = c.self.inside in
-      rw c.overrun_once_more.ensures (still_kept_timer s.threads s.timers s.real_waits s.real_expiries c.args.k overrun_once_more (λ x. refl) c.self.invariant.kept));
+  armed = rw c.overrun_once_more.ensures (still_armed_timer s.threads s.timers s.wheel.dues c.args.k overrun_once_more (λ x. refl) c.self.invariant.armed);
+  kept = rw c.overrun_once_more.ensures (still_kept_timer s.threads s.timers s.real_waits s.real_expiries c.args.k overrun_once_more (λ x. refl) c.self.invariant.kept);
 }
+
+pub returns : goal.returns
+returns c =
+    let s = c.self.inside in
+    ap (λ (ts : List Timer). table_with ts s.threads s.chain) c.overrun_once_more.ensures ∙ ap (with_timer c.args.k overrun_once_more) c.self.view_is
