@@ -3,20 +3,30 @@ use parts_arrivals::Arrivals;
 use std::test::Fail;
 
 #[test]
-fn nodes_come(rt: HostRuntime) -> Result<(), Fail> {
-    let mut arrivals = Arrivals::open(rt.alloc(), 4)?;
-    assert_eq!(rt; (arrivals.highest(), arrivals.oldest()), (None, None));
+fn nodes_come(rt: HostRuntime) {
+    let mut arrivals = Arrivals::open(rt.alloc(), 4).expect(&rt, "memory");
     assert!(rt; arrivals.is_empty());
-
     let first = arrivals.enter(5);
     let second = arrivals.enter(31);
     let third = arrivals.enter(5);
-    assert_eq!(rt; (arrivals.len(), arrivals.highest()), (3, Some(31)));
-    let by_rank = (arrivals.first(5), arrivals.next(first));
-    assert_eq!(rt; by_rank, (Some(first), Some(third)));
-    let by_age = (arrivals.oldest(), arrivals.after(first));
-    assert_eq!(rt; by_age, (Some(first), Some(second)));
-    Ok(())
+    let told = [
+        arrivals.first(5),
+        arrivals.next(first),
+        arrivals.oldest(),
+        arrivals.after(first),
+    ];
+    assert_eq!(rt; told, [Some(first), Some(third), Some(first), Some(second)]);
+    assert_eq!(rt; arrivals.nth(2), Some((third, 5)));
+}
+
+#[test]
+fn ranks_of_the_nodes(rt: HostRuntime) {
+    let mut arrivals = Arrivals::open(rt.alloc(), 4).expect(&rt, "memory");
+    arrivals.enter(5);
+    arrivals.enter(31);
+    assert_eq!(rt; arrivals.ranks(), 1 << 5 | 1 << 31);
+    assert_eq!(rt; arrivals.highest(), Some(31));
+    assert_eq!(rt; arrivals.len(), 2);
 }
 
 #[test]
@@ -28,17 +38,5 @@ fn a_node_leaves(rt: HostRuntime) -> Result<(), Fail> {
     let left = (arrivals.highest(), arrivals.first(5), arrivals.first(31));
     assert_eq!(rt; left, (Some(5), Some(first), None));
     assert!(rt; !arrivals.is_full());
-    Ok(())
-}
-
-#[test]
-fn ranks_and_places(rt: HostRuntime) -> Result<(), Fail> {
-    let mut arrivals = Arrivals::open(rt.alloc(), 4)?;
-    assert_eq!(rt; arrivals.ranks(), 0);
-    let _first = arrivals.enter(5);
-    let second = arrivals.enter(31);
-    assert_eq!(rt; arrivals.ranks(), 1 << 5 | 1 << 31);
-    let places = (arrivals.nth(1), arrivals.nth(2));
-    assert_eq!(rt; places, (Some((second, 31)), None));
     Ok(())
 }

@@ -3,7 +3,6 @@ ghost use Rattle.std.specs.Prelude.{◌≡◌, ◌≤◌, ◌<◌};
 
 use crate::numbers::{prio, thread};
 use parts_ready::Ready;
-use std::test::Fail;
 
 fn to_tail(ready: &mut Ready, number: u16, priority: u8)
     requires thread { number < 256 }
@@ -41,38 +40,37 @@ fn prio_of(ready: &Ready, number: u16) -> Option<u8>
 }
 
 #[test]
-fn threads_of_one_priority(rt: HostRuntime) -> Result<(), Fail> {
-    let mut ready = Ready::open(rt.alloc(), 4)?;
+fn threads_of_one_priority(rt: HostRuntime) {
+    let mut ready = Ready::open(rt.alloc(), 4).expect(&rt, "memory");
     assert_eq!(rt; highest(&ready), None);
     to_tail(&mut ready, 0, 5);
     to_tail(&mut ready, 1, 5);
     to_head(&mut ready, 2, 5);
-    assert_eq!(rt; highest(&ready), Some(2));
-    let places = (fifth(&ready, 0), fifth(&ready, 2), fifth(&ready, 3));
-    assert_eq!(rt; places, (Some(2), Some(1), None));
-    Ok(())
+    let places = [
+        highest(&ready),
+        fifth(&ready, 0),
+        fifth(&ready, 2),
+        fifth(&ready, 3),
+    ];
+    assert_eq!(rt; places, [Some(2), Some(2), Some(1), None]);
 }
 
 #[test]
-fn threads_of_several_priorities(rt: HostRuntime) -> Result<(), Fail> {
-    let mut ready = Ready::open(rt.alloc(), 4)?;
-    to_tail(&mut ready, 0, 5);
-    to_tail(&mut ready, 1, 5);
-    to_head(&mut ready, 2, 5);
+fn threads_of_several_priorities(rt: HostRuntime) {
+    let mut ready = Ready::open(rt.alloc(), 4).expect(&rt, "memory");
+    to_tail(&mut ready, 0, 64);
+    to_head(&mut ready, 2, 65);
     to_tail(&mut ready, 3, 255);
     assert_eq!(rt; (highest(&ready), prio_of(&ready, 3)), (Some(3), Some(255)));
     to_head(&mut ready, 3, 1);
     assert_eq!(rt; highest(&ready), Some(2));
     ready.remove(thread(2));
     assert_eq!(rt; (highest(&ready), prio_of(&ready, 2)), (Some(0), None));
-    to_tail(&mut ready, 0, 64);
-    assert_eq!(rt; highest(&ready), Some(0));
-    Ok(())
 }
 
 #[test]
-fn as_many_threads_as_there_may_be(rt: HostRuntime) -> Result<(), Fail> {
-    let mut ready = Ready::open(rt.alloc(), 256)?;
+fn as_many_threads_as_there_may_be(rt: HostRuntime) {
+    let mut ready = Ready::open(rt.alloc(), 256).expect(&rt, "memory");
     to_tail(&mut ready, 255, 9);
     to_tail(&mut ready, 64, 9);
     to_tail(&mut ready, 0, 9);
@@ -85,5 +83,4 @@ fn as_many_threads_as_there_may_be(rt: HostRuntime) -> Result<(), Fail> {
         (highest(&ready), prio_of(&ready, 255)),
         (Some(255), Some(9))
     );
-    Ok(())
 }

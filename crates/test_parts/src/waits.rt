@@ -6,7 +6,6 @@ ghost use Rattle.parts_waiters.specs.declared.WaitObj.TheVariants.{Mutex};
 use crate::numbers::{object, prio, thread};
 use parts_waiters::{SignalSets, WaitObj, Waits};
 use std::alloc::{AllocError, Global};
-use std::test::Fail;
 use words_numbers::{SigSet, Tid};
 
 // The sets of two threads.
@@ -30,41 +29,60 @@ fn mutex() -> WaitObj
     WaitObj::Mutex(object(7))
 }
 
-#[test]
-fn waiters_stand_in_the_order_of_service(rt: HostRuntime) -> Result<(), Fail> {
-    let mut waits = Waits::open(rt.alloc(), 4)?;
-    assert_eq!(rt; waits.best(mutex()), None);
-
-    waits.enter(mutex(), thread(0), prio(10), 1);
-    waits.enter(mutex(), thread(1), prio(20), 2);
-    waits.enter(mutex(), thread(2), prio(20), 3);
-    waits.enter(WaitObj::Sem(object(7)), thread(3), prio(30), 4);
-    assert_eq!(rt; waits.best(mutex()), Some(thread(1)));
-    assert_eq!(rt; waits.next_waiter(thread(1)), Some(thread(2)));
-    assert_eq!(rt; waits.next_waiter(thread(2)), Some(thread(0)));
-    assert_eq!(rt; waits.next_waiter(thread(0)), None);
-
-    waits.reprio(thread(0), prio(20));
-    assert_eq!(rt; waits.best(mutex()), Some(thread(0)));
-    waits.leave(thread(0));
-    assert_eq!(rt; waits.best(mutex()), Some(thread(1)));
-    assert!(rt; waits.place_of(thread(0)).is_none());
-    assert!(rt; waits.place_of(thread(3)).is_some());
-    Ok(())
+// The number of the waiter for the mutex that is served first.
+fn best(waits: &Waits) -> Option<u16> {
+    Some(waits.best(mutex())?.get())
 }
 
 #[test]
-fn waiters_for_signals_by_their_sets(rt: HostRuntime) -> Result<(), Fail> {
-    let mut waits = Waits::open(rt.alloc(), 2)?;
+fn waiters_stand_in_the_order_of_service(rt: HostRuntime) {
+    let mut waits = Waits::open(rt.alloc(), 4).expect(&rt, "memory");
+    let (a, b, c) = (thread(0), thread(1), thread(2));
+    waits.enter(mutex(), a, prio(10), 1);
+    waits.enter(mutex(), b, prio(20), 2);
+    waits.enter(mutex(), c, prio(20), 3);
+    let order = [
+        waits.best(mutex()),
+        waits.next_waiter(b),
+        waits.next_waiter(c),
+        waits.next_waiter(a),
+    ];
+    assert_eq!(rt; order, [Some(b), Some(c), Some(a), None]);
+}
+
+#[test]
+fn a_waiter_rises_and_leaves(rt: HostRuntime) {
+    let mut waits = Waits::open(rt.alloc(), 3).expect(&rt, "memory");
+    assert_eq!(rt; best(&waits), None);
+    waits.enter(mutex(), thread(0), prio(10), 1);
+    waits.enter(mutex(), thread(1), prio(20), 2);
+    waits.enter(WaitObj::Sem(object(7)), thread(2), prio(30), 4);
+    assert_eq!(rt; best(&waits), Some(1));
+    waits.reprio(thread(0), prio(20));
+    assert_eq!(rt; best(&waits), Some(0));
+    waits.leave(thread(0));
+    assert_eq!(rt; best(&waits), Some(1));
+    let stand = [
+        waits.place_of(thread(0)).is_some(),
+        waits.place_of(thread(2)).is_some(),
+    ];
+    assert_eq!(rt; stand, [false, true]);
+}
+
+#[test]
+fn waiters_for_signals_by_their_sets(rt: HostRuntime) {
+    let mut waits = Waits::open(rt.alloc(), 2).expect(&rt, "memory");
     waits.enter(WaitObj::SigWait, thread(0), prio(10), 1);
     waits.enter(WaitObj::SigWait, thread(1), prio(20), 2);
     let sets = TwoSets {
         sets: [SigSet::new(3), SigSet::new(2)],
     };
-    assert_eq!(rt; waits.best_for_signal(&sets, 1), Some(thread(1)));
-    assert_eq!(rt; waits.best_for_signal(&sets, 0), Some(thread(0)));
-    assert_eq!(rt; waits.best_for_signal(&sets, 2), None);
-    Ok(())
+    let best = [
+        waits.best_for_signal(&sets, 1),
+        waits.best_for_signal(&sets, 0),
+        waits.best_for_signal(&sets, 2),
+    ];
+    assert_eq!(rt; best, [Some(thread(1)), Some(thread(0)), None]);
 }
 
 // Room for as many threads as there may be, none of which waits.
@@ -77,12 +95,15 @@ fn open_for_all(alloc: Global) -> Result<Waits, AllocError>
 }
 
 #[test]
-fn the_last_thread_waits_for_the_last_object(rt: HostRuntime) -> Result<(), Fail> {
-    let mut waits = open_for_all(rt.alloc())?;
-    waits.enter(WaitObj::Cond(object(255)), thread(255), prio(10), 1);
-    waits.enter(WaitObj::Sem(object(255)), thread(64), prio(10), 2);
-    assert_eq!(rt; waits.best(WaitObj::Cond(object(255))), Some(thread(255)));
-    assert_eq!(rt; waits.best(WaitObj::Sem(object(255))), Some(thread(64)));
-    assert_eq!(rt; waits.best(WaitObj::Sem(object(0))), None);
-    Ok(())
+fn the_last_thread_waits_for_the_last_object(rt: HostRuntime) {
+    let mut waits = open_for_all(rt.alloc()).expect(&rt, "memory");
+    let last = object(255);
+    waits.enter(WaitObj::Cond(last), thread(255), prio(10), 1);
+    waits.enter(WaitObj::Sem(last), thread(64), prio(10), 2);
+    let best = [
+        waits.best(WaitObj::Cond(last)),
+        waits.best(WaitObj::Sem(last)),
+        waits.best(WaitObj::Sem(object(0))),
+    ];
+    assert_eq!(rt; best, [Some(thread(255)), Some(thread(64)), None]);
 }
