@@ -1,18 +1,18 @@
 //! Small bodies and their units in order.
 ghost use Rattle.std.specs.Prelude.{◌≡◌, ◌≤◌, [], ◌∷◌, IfOk};
-ghost use Rattle.words_script.specs.Block.{Nothing};
+ghost use Rattle.words_script.specs.Block.{Nothing, Running};
 ghost use Rattle.words_script.specs.Tree.{step_count};
 ghost use Rattle.rules_bodies.specs.Flat.{nesting};
 ghost use Rattle.rules_bodies.specs.Stands.{IsBody, IsPlaced};
 
 use script_code::{CallPlace, Code, Cursor, Fetched};
-use std::alloc::Global;
+use std::alloc::{AllocError, Global};
 use std::test::Fail;
 use words_numbers::{ObjId, Prio, Res, Tid};
 use words_script::{Body, Call, Decl, Decls, Kind, Name, Policy, Script, Step};
 
 // The code of a script whose declarations are a thread, a handler and a cleanup handler with these bodies.
-fn code_of(alloc: Global, thread: Body, handler: Body, cleanup: Body) -> Result<Code, Fail>
+fn code_of(alloc: Global, thread: Body, handler: Body, cleanup: Body) -> Result<Code, AllocError>
     requires short { (step_count thread ≤ 65536) × (step_count handler ≤ 65536) × (step_count cleanup ≤ 65536) }
     requires nested { (nesting thread ≤ 15) × (nesting handler ≤ 15) × (nesting cleanup ≤ 15) }
     ensures threads { IfOk result (λ code. code.threads ≡ 0 ∷ []) }
@@ -20,30 +20,26 @@ fn code_of(alloc: Global, thread: Body, handler: Body, cleanup: Body) -> Result<
     ensures cleanups { IfOk result (λ code. code.cleanups ≡ 2 ∷ []) }
     ensures bodies { IfOk result (λ code. IsBody code 0 thread × IsBody code 1 handler × IsBody code 2 cleanup) }
 {
-    let policy = Policy::Fifo(Prio::try_new(5).ok_or("no priority")?);
-    let a = Name::try_new(b"a").ok_or("no name")?;
-    let h = Name::try_new(b"h").ok_or("no name")?;
-    let u = Name::try_new(b"u").ok_or("no name")?;
-    let items = vec![in alloc;
-        Decl::Named(
-            a,
-            Kind::Thread {
-                policy,
-                start: Some(0),
-                body: thread
-            }
-        ),
-        Decl::Named(h, Kind::Handler { body: handler }),
-        Decl::Named(u, Kind::Cleanup { body: cleanup }),
-    ]?;
-    let decls = Decls::new(items);
+    let policy = Policy::Fifo(Prio::try_new(5).unwrap());
+    let start = Some(0);
+    let body = thread;
+    let thread = Kind::Thread {
+        policy,
+        start,
+        body,
+    };
+    let decls = Decls::new(vec![in alloc;
+        Decl::Named(Name::try_new(b"a").unwrap(), thread),
+        Decl::Named(Name::try_new(b"h").unwrap(), Kind::Handler { body: handler }),
+        Decl::Named(Name::try_new(b"u").unwrap(), Kind::Cleanup { body: cleanup }),
+    ]?);
+    let (version, quantum) = (1, 10);
     let script = Script {
-        version: 1,
-        quantum: 10,
+        version,
+        quantum,
         decls,
     };
-    let code = Code::open(alloc, &script)?;
-    Ok(code)
+    Code::open(alloc, &script)
 }
 
 // What a unit is: its word, and the ticks that it runs or whether it runs a cleanup handler.
@@ -80,6 +76,9 @@ fn said_of_call(call: &Call) -> (&'static str, u64) {
     }
 }
 
+// What units are said to be, and then the register.
+type Said = (Vec<(&'static str, u64)>, u64);
+
 // The first units from a cursor on, so many, where each call leaves that answer and that value, and then the register.
 fn units(
     alloc: Global,
@@ -88,7 +87,7 @@ fn units(
     answer: Res,
     value: u64,
     count: u8,
-) -> Result<(Vec<(&'static str, u64)>, u64), Fail>
+) -> Result<Said, AllocError>
     requires { IsPlaced code.now from }
 {
     let mut cursor = from;
@@ -102,67 +101,114 @@ fn units(
     Ok((units, cursor.register))
 }
 
-fn nothing(alloc: Global) -> Result<Body, Fail>
-    ensures { IfOk result (λ body. body ≡ Nothing) }
+fn nothing(alloc: Global) -> Body
+    ensures { result ≡ Nothing }
 {
-    let steps = vec![in alloc]?;
-    Ok(Body::new(steps))
+    Body::new(Vec::new(alloc))
+}
+
+fn running(alloc: Global, ticks: u64) -> Result<Body, AllocError>
+    ensures { IfOk result (λ body. body ≡ Running ticks Nothing) }
+{
+    Ok(Body::new(vec![in alloc; Step::Run(ticks)]?))
+}
+
+// The first units of the body of a thread.
+fn units_of_thread(
+    alloc: Global,
+    thread: Body,
+    answer: Res,
+    count: u8,
+) -> Result<Said, AllocError>
+    requires { (step_count thread ≤ 65536) × (nesting thread ≤ 15) }
+{
+    let code = code_of(alloc, thread, nothing(alloc), nothing(alloc))?;
+    let start = code.start(code.thread_body(Tid::default()), 0);
+    units(alloc, &code, start, answer, 0, count)
+}
+
+// The first units of the body of a handler of a signal with the value 5.
+fn units_of_handler(alloc: Global, handler: Body, count: u8) -> Result<Said, AllocError>
+    requires { (step_count handler ≤ 65536) × (nesting handler ≤ 15) }
+{
+    let code = code_of(alloc, nothing(alloc), handler, nothing(alloc))?;
+    let start = code.start(code.handler_body(ObjId::default()), 5);
+    units(alloc, &code, start, Res::Zero, 0, count)
+}
+
+// The first units of the body of a cleanup handler, where each call leaves that value.
+fn units_of_cleanup(
+    alloc: Global,
+    cleanup: Body,
+    value: u64,
+    count: u8,
+) -> Result<Said, AllocError>
+    requires { (step_count cleanup ≤ 65536) × (nesting cleanup ≤ 15) }
+{
+    let code = code_of(alloc, nothing(alloc), nothing(alloc), cleanup)?;
+    let start = code.start(code.cleanup_body(ObjId::default()), 0);
+    units(alloc, &code, start, Res::Zero, value, count)
 }
 
 // set 7; loop 2; run 1; end; yield; if 0; run 2; end; unless 0; run 9; end
-#[test]
-fn the_body_of_a_thread(rt: HostRuntime) -> Result<(), Fail> {
-    let alloc = rt.alloc();
-    let thread = Body::new(vec![in alloc;
+fn looping_and_testing(alloc: Global) -> Result<Body, AllocError>
+    ensures { IfOk result (λ body. (step_count body ≤ 65536) × (nesting body ≤ 15)) }
+{
+    let (once, same, other) = (running(alloc, 1)?, running(alloc, 2)?, running(alloc, 9)?);
+    Ok(Body::new(vec![in alloc;
         Step::Set(7),
         Step::Loop {
             times: Some(2),
-            body: Body::new(vec![in alloc; Step::Run(1)]?)
+            body: once
         },
         Step::Make(Call::Yield),
         Step::Test {
             res: Res::Zero,
             equal: true,
-            body: Body::new(vec![in alloc; Step::Run(2)]?)
+            body: same
         },
         Step::Test {
             res: Res::Zero,
             equal: false,
-            body: Body::new(vec![in alloc; Step::Run(9)]?)
+            body: other
         },
-    ]?);
-    let code = code_of(alloc, thread, nothing(alloc)?, nothing(alloc)?)?;
-    let number = code.thread_body(Tid::default());
-    let (first, register) = units(alloc, &code, code.start(number, 0), Res::Zero, 0, 7)?;
-    assert_eq!(rt;
-        first.as_slice(),
-        [
-            ("run", 1),
-            ("jump", 0),
-            ("run", 1),
-            ("yield", 0),
-            ("run", 2),
-            ("finish", 0),
-            ("finish", 0)
-        ]
-        .as_slice()
-    );
-    assert_eq!(rt; register, 7);
+    ]?))
+}
 
-    // after a call that timed out the other test holds
-    let (other, _) = units(alloc, &code, code.start(number, 0), Res::Timedout, 0, 6)?;
-    assert_eq!(rt;
-        other.as_slice(),
-        [
-            ("run", 1),
-            ("jump", 0),
-            ("run", 1),
-            ("yield", 0),
-            ("run", 9),
-            ("finish", 0)
-        ]
-        .as_slice()
-    );
+static UNITS: [(&str, u64); 7] = [
+    ("run", 1),
+    ("jump", 0),
+    ("run", 1),
+    ("yield", 0),
+    ("run", 2),
+    ("finish", 0),
+    ("finish", 0),
+];
+
+#[test]
+fn the_body_of_a_thread(rt: HostRuntime) -> Result<(), Fail> {
+    let thread = looping_and_testing(rt.alloc())?;
+    let (units, register) = units_of_thread(rt.alloc(), thread, Res::Zero, 7)?;
+    assert_eq!(rt; units.as_slice(), UNITS.as_slice());
+    assert_eq!(rt; register, 7);
+    Ok(())
+}
+
+static OTHER_UNITS: [(&str, u64); 6] = [
+    ("run", 1),
+    ("jump", 0),
+    ("run", 1),
+    ("yield", 0),
+    ("run", 9),
+    ("finish", 0),
+];
+
+// After a call that timed out the other test holds.
+#[test]
+fn the_same_body_after_a_call_that_times_out(rt: HostRuntime) -> Result<(), Fail> {
+    let thread = looping_and_testing(rt.alloc())?;
+    let (units, _) = units_of_thread(rt.alloc(), thread, Res::Timedout, 6)?;
+    assert_eq!(rt; units.as_slice(), OTHER_UNITS.as_slice());
     Ok(())
 }
 
@@ -170,102 +216,106 @@ fn the_body_of_a_thread(rt: HostRuntime) -> Result<(), Fail> {
 #[test]
 fn the_body_of_a_handler(rt: HostRuntime) -> Result<(), Fail> {
     let alloc = rt.alloc();
-    let handler = Body::new(vec![in alloc;
-        Step::Loop {
-            times: None,
-            body: Body::new(vec![in alloc; Step::Add(20)]?)
-        },
-    ]?);
-    let code = code_of(alloc, nothing(alloc)?, handler, nothing(alloc)?)?;
-    let start = code.start(code.handler_body(ObjId::default()), 5);
-    let (first, register) = units(alloc, &code, start, Res::Zero, 0, 3)?;
+    let body = Body::new(vec![in alloc; Step::Add(20)]?);
+    let handler = Body::new(vec![in alloc; Step::Loop { times: None, body }]?);
+    let (units, register) = units_of_handler(alloc, handler, 3)?;
     assert_eq!(rt;
-        first.as_slice(),
+        units.as_slice(),
         [("jump", 0), ("jump", 0), ("jump", 0)].as_slice()
     );
     assert_eq!(rt; register, 65);
     Ok(())
 }
 
-// add 20; run 3, with the value of its signal, 5, where its operations are looked up once
+// The first unit of a handler's body, where its operations are looked up once, and the register behind it.
+fn first_looked_up(alloc: Global, handler: Body) -> Result<((&'static str, u64), u64), AllocError>
+    requires { (step_count handler ≤ 65536) × (nesting handler ≤ 15) }
+{
+    let code = code_of(alloc, nothing(alloc), handler, nothing(alloc))?;
+    let number = code.handler_body(ObjId::default());
+    let mut cursor = code.start(number, 5);
+    let unit = code.units(number).fetch(&mut cursor);
+    Ok((said(&code, &unit), cursor.register))
+}
+
+// add 20; run 3, with the value of its signal, 5
 #[test]
 fn the_units_of_a_body(rt: HostRuntime) -> Result<(), Fail> {
     let alloc = rt.alloc();
     let handler = Body::new(vec![in alloc; Step::Add(20), Step::Run(3)]?);
-    let code = code_of(alloc, nothing(alloc)?, handler, nothing(alloc)?)?;
-    let number = code.handler_body(ObjId::default());
-    let mut cursor = code.start(number, 5);
-    let unit = code.units(number).fetch(&mut cursor);
-    assert_eq!(rt; said(&code, &unit), ("run", 3));
-    assert_eq!(rt; cursor.register, 25);
+    assert_eq!(rt; first_looked_up(alloc, handler)?, (("run", 3), 25));
     Ok(())
 }
 
 // lock, unlock, post, sleep, and a call that is told by its place
-#[test]
-fn the_calls_that_are_told_by_themselves(rt: HostRuntime) -> Result<(), Fail> {
-    let alloc = rt.alloc();
-    let mutex = ObjId::try_new(3).ok_or("no mutex")?;
-    let semaphore = ObjId::try_new(2).ok_or("no semaphore")?;
-    let thread = Body::new(vec![in alloc;
+fn calling(alloc: Global) -> Result<Body, AllocError>
+    ensures { IfOk result (λ body. (step_count body ≤ 65536) × (nesting body ≤ 15)) }
+{
+    let mutex = ObjId::try_new(3).unwrap();
+    let semaphore = ObjId::try_new(2).unwrap();
+    Ok(Body::new(vec![in alloc;
         Step::Make(Call::Lock(mutex)),
         Step::Make(Call::Unlock(mutex)),
         Step::Make(Call::SemPost(semaphore)),
         Step::Make(Call::Nanosleep(7)),
         Step::Make(Call::Testcancel),
-    ]?);
-    let code = code_of(alloc, thread, nothing(alloc)?, nothing(alloc)?)?;
-    let start = code.start(code.thread_body(Tid::default()), 0);
-    let (calls, _) = units(alloc, &code, start, Res::Zero, 0, 6)?;
-    assert_eq!(rt;
-        calls.as_slice(),
-        [
-            ("lock", 3),
-            ("unlock", 3),
-            ("post", 2),
-            ("sleep", 7),
-            ("another call", 0),
-            ("finish", 0)
-        ]
-        .as_slice()
-    );
+    ]?))
+}
+
+static CALLS: [(&str, u64); 6] = [
+    ("lock", 3),
+    ("unlock", 3),
+    ("post", 2),
+    ("sleep", 7),
+    ("another call", 0),
+    ("finish", 0),
+];
+
+#[test]
+fn the_calls_that_are_told_by_themselves(rt: HostRuntime) -> Result<(), Fail> {
+    let thread = calling(rt.alloc())?;
+    let (units, _) = units_of_thread(rt.alloc(), thread, Res::Zero, 6)?;
+    assert_eq!(rt; units.as_slice(), CALLS.as_slice());
     Ok(())
 }
 
-// loop 1; end; push u; take; run 3; pop 1; loop 3; end, after a call whose value is above the limit of a register
-#[test]
-fn the_body_of_a_cleanup_handler(rt: HostRuntime) -> Result<(), Fail> {
-    let alloc = rt.alloc();
-    let cleanup = Body::new(vec![in alloc;
+// loop 1; end; push u; take; run 3; pop 1; loop 3; end
+fn guarding(alloc: Global) -> Result<Body, AllocError>
+    ensures { IfOk result (λ body. (step_count body ≤ 65536) × (nesting body ≤ 15)) }
+{
+    let guarded = Body::new(vec![in alloc; Step::Take, Step::Run(3)]?);
+    Ok(Body::new(vec![in alloc;
         Step::Loop {
             times: Some(1),
-            body: nothing(alloc)?
+            body: nothing(alloc)
         },
         Step::Guard {
             cleanup: ObjId::default(),
-            body: Body::new(vec![in alloc; Step::Take, Step::Run(3)]?),
+            body: guarded,
             run: true
         },
         Step::Loop {
             times: Some(3),
-            body: nothing(alloc)?
+            body: nothing(alloc)
         },
-    ]?);
-    let code = code_of(alloc, nothing(alloc)?, nothing(alloc)?, cleanup)?;
-    let start = code.start(code.cleanup_body(ObjId::default()), 0);
-    let (first, register) = units(alloc, &code, start, Res::Zero, 3_000_000_000_000_000_000, 6)?;
-    assert_eq!(rt;
-        first.as_slice(),
-        [
-            ("push", 0),
-            ("run", 3),
-            ("pop", 1),
-            ("jump", 0),
-            ("jump", 0),
-            ("finish", 0)
-        ]
-        .as_slice()
-    );
+    ]?))
+}
+
+static GUARDED: [(&str, u64); 6] = [
+    ("push", 0),
+    ("run", 3),
+    ("pop", 1),
+    ("jump", 0),
+    ("jump", 0),
+    ("finish", 0),
+];
+
+// The register after a call whose value is above its limit.
+#[test]
+fn the_body_of_a_cleanup_handler(rt: HostRuntime) -> Result<(), Fail> {
+    let cleanup = guarding(rt.alloc())?;
+    let (units, register) = units_of_cleanup(rt.alloc(), cleanup, 3_000_000_000_000_000_000, 6)?;
+    assert_eq!(rt; units.as_slice(), GUARDED.as_slice());
     assert_eq!(rt; register, 2_000_000_000_000_000_000);
     Ok(())
 }
