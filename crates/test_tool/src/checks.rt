@@ -1,6 +1,5 @@
 //! Traces beside those of scripts, through the one call.
-use crate::commands::run_from;
-use parts_io::{MemSink, MemSource, SureSource};
+use crate::commands::{rows_told, tells, written_before};
 use std::alloc::{AllocError, Global};
 use std::test::Fail;
 use tool_answers::Status;
@@ -105,22 +104,6 @@ static NOT_COMPARED: [(&str, Status, &str); 9] = [
     ),
 ];
 
-// Words that are no command.
-static NO_COMMANDS: [&[&str]; 4] = [
-    &["check"],
-    &["check", "1000000000000000001"],
-    &["check", "1x"],
-    &["check", "1", "2"],
-];
-
-// The status and the text of `check 10` on an input.
-fn check(alloc: Global, input: Vec<u8>) -> Result<(Status, MemSink), AllocError> {
-    let mut source = SureSource::new(input);
-    let mut sink = MemSink::open(alloc, 1000, Vec::new(alloc))?;
-    let status = run_from(alloc, &["check", "10"], &mut source, &mut sink)?;
-    Ok((status, sink))
-}
-
 // A script, the line `%%`, and a trace.
 fn divided(alloc: Global, script: &str, trace: &str) -> Result<Vec<u8>, AllocError> {
     let mut input = Vec::from_slice(alloc, script.as_bytes())?;
@@ -129,65 +112,49 @@ fn divided(alloc: Global, script: &str, trace: &str) -> Result<Vec<u8>, AllocErr
     Ok(input)
 }
 
+// How many traces are told of as they should, up to the first that is not.
+fn compared(alloc: Global, rows: &[(&str, Status, &str)]) -> Result<usize, AllocError> {
+    for k in 0..rows.len() {
+        let (trace, status, text) = rows[k];
+        let input = divided(alloc, SCRIPT, trace)?;
+        if !tells(alloc, &["check", "10"], input.as_slice(), status, text)? {
+            return Ok(k);
+        }
+    }
+    Ok(rows.len())
+}
+
 #[test]
 fn traces_are_compared(rt: HostRuntime) -> Result<(), Fail> {
-    let alloc = rt.alloc();
-    for &(trace, status, text) in &COMPARED {
-        let found = check(alloc, divided(alloc, SCRIPT, trace)?)?;
-        assert_eq!(rt; found.0, status);
-        assert_eq!(rt; found.1.text(), text.as_bytes());
-    }
+    assert_eq!(rt; compared(rt.alloc(), &COMPARED)?, COMPARED.len());
     Ok(())
 }
 
 #[test]
 fn inputs_that_are_not_compared(rt: HostRuntime) -> Result<(), Fail> {
-    let alloc = rt.alloc();
-    for &(input, status, text) in &NOT_COMPARED {
-        let found = check(alloc, Vec::from_slice(alloc, input.as_bytes())?)?;
-        assert_eq!(rt; found.0, status);
-        assert_eq!(rt; found.1.text(), text.as_bytes());
-    }
+    let told = rows_told(rt.alloc(), &["check", "10"], &NOT_COMPARED)?;
+    assert_eq!(rt; told, NOT_COMPARED.len());
     Ok(())
 }
 
-#[test]
-fn words_that_are_no_check(rt: HostRuntime) -> Result<(), Fail> {
-    let alloc = rt.alloc();
-    for list in &NO_COMMANDS {
-        let mut source = MemSource::new(Vec::new(alloc), vec![in alloc; 1u64; 1]?);
-        let mut sink = MemSink::open(alloc, 100, Vec::new(alloc))?;
-        assert_eq!(rt;
-            run_from(alloc, list, &mut source, &mut sink)?,
-            Status::Usage
-        );
-    }
-    Ok(())
-}
-
-// A comment of so many bytes, with its line end, and the script.
-fn padded(alloc: Global, bytes: usize) -> Result<Vec<u8>, AllocError> {
-    let mut head = vec![in alloc; b'#'; bytes]?;
-    head.extend_from_slice(b"\n")?;
-    head.extend_from_slice(SCRIPT.as_bytes())?;
-    Ok(head)
+// Whether the right trace behind a script of so many bytes more is told of so.
+fn is_padded_told(
+    alloc: Global,
+    more: usize,
+    status: Status,
+    text: &str,
+) -> Result<bool, AllocError> {
+    let mut input = vec![in alloc; b'#'; more]?;
+    input.extend_from_slice(b"\n")?;
+    input.extend_from_slice(divided(alloc, SCRIPT, TRACE)?.as_slice())?;
+    tells(alloc, &["check", "10"], input.as_slice(), status, text)
 }
 
 #[test]
 fn a_script_has_its_limit_in_front_of_a_trace(rt: HostRuntime) -> Result<(), Fail> {
-    let alloc = rt.alloc();
     let padding = SCRIPT_LIMIT - SCRIPT.len() - 1;
-    for (bytes, status, text) in [
-        (padding, Status::Done, b"same\n".as_slice()),
-        (padding + 1, Status::TooLong, b"too long\n".as_slice()),
-    ] {
-        let mut input = padded(alloc, bytes)?;
-        input.extend_from_slice(b"%%\n")?;
-        input.extend_from_slice(TRACE.as_bytes())?;
-        let found = check(alloc, input)?;
-        assert_eq!(rt; found.0, status);
-        assert_eq!(rt; found.1.text(), text);
-    }
+    assert!(rt; is_padded_told(rt.alloc(), padding, Status::Done, "same\n")?);
+    assert!(rt; is_padded_told(rt.alloc(), padding + 1, Status::TooLong, "too long\n")?);
     Ok(())
 }
 
@@ -202,12 +169,16 @@ fn with_line_ends(alloc: Global, size: usize) -> Result<Vec<u8>, AllocError> {
 
 #[test]
 fn a_trace_may_be_longer_than_a_script(rt: HostRuntime) -> Result<(), Fail> {
-    let alloc = rt.alloc();
-    let found = check(alloc, with_line_ends(alloc, LONG_TRACE)?)?;
-    assert_eq!(rt; found.0, Status::Differs);
-    assert_eq!(rt;
-        found.1.text(),
-        b"differs 7\nwant nothing\nhave text\n".as_slice()
+    let input = with_line_ends(rt.alloc(), LONG_TRACE)?;
+    let text = "differs 7\nwant nothing\nhave text\n";
+    assert!(rt;
+        tells(
+            rt.alloc(),
+            &["check", "10"],
+            input.as_slice(),
+            Status::Differs,
+            text
+        )?
     );
     Ok(())
 }
@@ -215,36 +186,18 @@ fn a_trace_may_be_longer_than_a_script(rt: HostRuntime) -> Result<(), Fail> {
 // A script whose trace is longer than what stands beside it: its run ends when the room for it is full.
 #[test]
 fn a_long_run_beside_a_short_trace(rt: HostRuntime) -> Result<(), Fail> {
-    let alloc = rt.alloc();
     let script = "thread a fifo 5 at 0\nforever\nyield\nend\nend\n";
-    let mut source = SureSource::new(divided(alloc, script, "0 start a\n0 dispatch a 5\n")?);
-    let mut sink = MemSink::open(alloc, 1000, Vec::new(alloc))?;
-    let status = run_from(
-        alloc,
-        &["check", "1000000000000000000"],
-        &mut source,
-        &mut sink,
-    )?;
-    assert_eq!(rt; status, Status::Differs);
-    assert_eq!(rt;
-        sink.text(),
-        b"differs 3\nwant 1 return a yield 0 0\nhave nothing\n".as_slice()
-    );
+    let input = divided(rt.alloc(), script, "0 start a\n0 dispatch a 5\n")?;
+    let words = &["check", "1000000000000000000"];
+    let text = "differs 3\nwant 1 return a yield 0 0\nhave nothing\n";
+    assert!(rt; tells(rt.alloc(), words, input.as_slice(), Status::Differs, text)?);
     Ok(())
 }
 
 #[test]
-fn a_failed_write_and_a_failed_read(rt: HostRuntime) -> Result<(), Fail> {
-    let alloc = rt.alloc();
-    let mut source = SureSource::new(divided(alloc, SCRIPT, "")?);
-    let mut sink = MemSink::open(alloc, 1000, vec![in alloc; 1u64; 1]?)?;
-    let status = run_from(alloc, &["check", "10"], &mut source, &mut sink)?;
-    assert_eq!(rt; status, Status::WriteFault);
-    assert_eq!(rt; sink.text(), b"".as_slice());
-    let mut source = MemSource::new(divided(alloc, SCRIPT, TRACE)?, vec![in alloc; 2u64; 1]?);
-    let mut sink = MemSink::open(alloc, 1000, Vec::new(alloc))?;
-    let status = run_from(alloc, &["check", "10"], &mut source, &mut sink)?;
-    assert_eq!(rt; status, Status::ReadFault);
-    assert_eq!(rt; sink.text(), b"".as_slice());
+fn a_failed_write(rt: HostRuntime) -> Result<(), Fail> {
+    let input = divided(rt.alloc(), SCRIPT, "")?;
+    let written = written_before(rt.alloc(), &["check", "10"], input.as_slice(), 1)?;
+    assert_eq!(rt; written, Some(0));
     Ok(())
 }

@@ -12,68 +12,26 @@ use tool_commands::run_tool;
 
 const ONE_THREAD: &str = "thread a fifo 5 at 0\nrun 3\nend\n";
 
-// A horizon, a script and its trace.
-static RUNS: [(&str, &str, &str); 6] = [
-    (
-        "10",
-        "thread a fifo 5 at 0\nrun 3\nend\n",
-        "0 start a\n0 dispatch a 5\n4 exit a\n4 idle\n10 end\nthread a ticks 4\n",
-    ),
-    (
-        "000",
-        "thread a fifo 5 at 0\nrun 3\nend\n",
-        "0 end\nthread a ticks 0\n",
-    ),
-    (
-        "12",
-        "thread a fifo 5 at 0\nrun 4\nend\nthread b fifo 5 at 0\nrun 1\nend\nthread c fifo 9 at 2\nrun 1\nend\n",
-        "0 start a\n0 start b\n0 dispatch a 5\n2 start c\n2 dispatch c 9\n4 exit c\n4 dispatch a 5\n7 exit a\n\
-            7 dispatch b 5\n9 exit b\n9 idle\n12 end\nthread a ticks 5\nthread b ticks 2\nthread c ticks 2\n",
-    ),
-    (
-        "8",
-        "thread a fifo 5 at 0\nyield\nend\nthread b fifo 5 at 0\nrun 1\nend\n",
-        "0 start a\n0 start b\n0 dispatch a 5\n1 return a yield 0 0\n1 dispatch b 5\n3 exit b\n3 dispatch a 5\n\
-            4 exit a\n4 idle\n8 end\nthread a ticks 2\nthread b ticks 2\n",
-    ),
-    (
-        "12",
-        "thread a fifo 5 at 0\nset 7\nloop 2\nrun 1\nend\nyield\nif 0\nrun 2\nend\nunless 0\nrun 9\nend\nend\n",
-        "0 start a\n0 dispatch a 5\n4 return a yield 0 0\n7 exit a\n7 idle\n12 end\nthread a ticks 7\n",
-    ),
-    (
-        "4",
-        "thread a fifo 5 at 0\nforever\nend\nend\n",
-        "0 start a\n0 dispatch a 5\n4 end\nthread a ticks 4\n",
-    ),
-];
+const ONE_TRACE: &str = "0 start a\n0 dispatch a 5\n4 exit a\n4 idle\n10 end\nthread a ticks 4\n";
 
 // A text and the line that refuses it.
-static REFUSED: [(&str, &str); 7] = [
-    ("", "refused 1 14 NoThread\n"),
-    ("thread a fifo 5 at 0", "refused 2 12 Unclosed\n"),
+static REFUSED: [(&str, Status, &str); 4] = [
+    ("", Status::Refused, "refused 1 14 NoThread\n"),
     (
-        "thread a fifo 5 at 0\nlock nope\nend\nthread b fifo 5 at 0\nrun 1\nend\nthread c fifo 5 at 0\nrun 1\n\
-            frob\nend\n",
-        "refused 9 2 UnknownWord\n",
-    ),
-    (
-        "thread a fifo 5 at 0\nloop 0\nend\nend\nthread a fifo 5 at 0\nend\n",
-        "refused 5 7 DuplicateName\n",
-    ),
-    (
-        "thread a fifo 5 at 0\nloop 0\nend\nend\n",
-        "refused 2 5 NumberRange\n",
+        "thread a fifo 5 at 0",
+        Status::Refused,
+        "refused 2 12 Unclosed\n",
     ),
     (
         "thread a fifo 5 at 1000000000000000001\nend\n",
+        Status::Refused,
         "refused 1 5 NumberRange\n",
     ),
-    ("end\n", "refused 1 11 StrayClose\n"),
+    ("end\n", Status::Refused, "refused 1 11 StrayClose\n"),
 ];
 
 // Words that are no command.
-static NO_COMMANDS: [&[&str]; 10] = [
+static NO_COMMANDS: [&[&str]; 33] = [
     &[],
     &["run"],
     &["run", ""],
@@ -84,6 +42,29 @@ static NO_COMMANDS: [&[&str]; 10] = [
     &["run", " 1"],
     &["run", "1", "2"],
     &["walk", "1"],
+    &["audit", "1"],
+    &["audit", ""],
+    &["audits"],
+    &["check"],
+    &["check", "1000000000000000001"],
+    &["check", "1x"],
+    &["check", "1", "2"],
+    &["gen"],
+    &["gen", "1x"],
+    &["gen", "1000000000000000001"],
+    &["gen", "1", "2"],
+    &["soak", "1"],
+    &["soak", "1", "1000000000000000001"],
+    &["soak", "1000000000000000001", "1"],
+    &["soak", "1", "2", "3"],
+    &["show"],
+    &["show", "-1"],
+    &["show", "1000000000000000001"],
+    &["show", "1", "2"],
+    &["upgrade", "2"],
+    &["upgrade", ""],
+    &["upgrades"],
+    &["rta", "100000001"],
 ];
 
 // Numbers that make a command.
@@ -128,63 +109,150 @@ pub(crate) fn run_from<S: Source, K: Sink>(
     Ok(run_counted::<_, _, Brand>(alloc, words.as_slice(), source, sink, Blank::new(1)))
 }
 
-#[test]
-fn runs_print_their_traces(rt: HostRuntime) -> Result<(), Fail> {
-    let alloc = rt.alloc();
-    for &(horizon, script, trace) in &RUNS {
-        let mut source = SureSource::new(Vec::from_slice(alloc, script.as_bytes())?);
-        let mut sink = MemSink::open(alloc, 1000, Vec::new(alloc))?;
-        let status = run_from(alloc, &["run", horizon], &mut source, &mut sink)?;
-        assert_eq!(rt; status, Status::Done);
-        assert_eq!(rt; sink.text(), trace.as_bytes());
+// The status and the text of a command on an input, where the write of this number fails.
+pub(crate) fn tell(
+    alloc: Global,
+    words: &[&str],
+    input: &[u8],
+    failing: u64,
+) -> Result<(Status, MemSink), AllocError> {
+    let mut source = SureSource::new(Vec::from_slice(alloc, input)?);
+    let mut sink = MemSink::open(alloc, 4000, vec![in alloc; failing; 1]?)?;
+    let status = run_from(alloc, words, &mut source, &mut sink)?;
+    Ok((status, sink))
+}
+
+// Whether a command ends with this status on an input, and tells this.
+pub(crate) fn tells(
+    alloc: Global,
+    words: &[&str],
+    input: &[u8],
+    status: Status,
+    text: &str,
+) -> Result<bool, AllocError> {
+    let (found, sink) = tell(alloc, words, input, 0)?;
+    Ok(found == status && sink.text() == text.as_bytes())
+}
+
+// How many of the rows, an input with the status and what is told, are as they say, up to the first that is not.
+pub(crate) fn rows_told(
+    alloc: Global,
+    words: &[&str],
+    rows: &[(&str, Status, &str)],
+) -> Result<usize, AllocError> {
+    for k in 0..rows.len() {
+        let (input, status, text) = rows[k];
+        if !tells(alloc, words, input.as_bytes(), status, text)? {
+            return Ok(k);
+        }
     }
-    Ok(())
+    Ok(rows.len())
+}
+
+// How many of the rows, a number, an input and what is told, are as they say for a command of that number, up to the first that is not.
+pub(crate) fn numbers_told(
+    alloc: Global,
+    command: &str,
+    rows: &[(&str, &str, &str)],
+) -> Result<usize, AllocError> {
+    for k in 0..rows.len() {
+        let (number, input, text) = rows[k];
+        if !tells(
+            alloc,
+            &[command, number],
+            input.as_bytes(),
+            Status::Done,
+            text,
+        )? {
+            return Ok(k);
+        }
+    }
+    Ok(rows.len())
+}
+
+// How many bytes are written before the write of this number, which fails.
+pub(crate) fn written_before(
+    alloc: Global,
+    words: &[&str],
+    input: &[u8],
+    failing: u64,
+) -> Result<Option<usize>, AllocError> {
+    let (status, sink) = tell(alloc, words, input, failing)?;
+    if status != Status::WriteFault {
+        return Ok(None);
+    }
+    Ok(Some(sink.text().len()))
+}
+
+// Whether what is written before the write of this number, which fails, is a beginning of the text.
+pub(crate) fn begins(
+    alloc: Global,
+    words: &[&str],
+    input: &str,
+    text: &str,
+    failing: u64,
+) -> Result<bool, AllocError> {
+    let (status, sink) = tell(alloc, words, input.as_bytes(), failing)?;
+    Ok(status == Status::WriteFault && text.as_bytes().starts_with(sink.text()))
+}
+
+// The status of a command where the read of this number fails; none where it has written something.
+fn unread(
+    alloc: Global,
+    words: &[&str],
+    input: &[u8],
+    failing: u64,
+) -> Result<Option<Status>, AllocError> {
+    let mut source = MemSource::new(Vec::from_slice(alloc, input)?, vec![in alloc; failing; 1]?);
+    let mut sink = MemSink::open(alloc, 100, Vec::new(alloc))?;
+    let status = run_from(alloc, words, &mut source, &mut sink)?;
+    if !sink.text().is_empty() {
+        return Ok(None);
+    }
+    Ok(Some(status))
+}
+
+// Whether the words are no command, and nothing is read.
+fn is_usage(alloc: Global, words: &[&str]) -> Result<bool, AllocError> {
+    let mut source = MemSource::new(Vec::new(alloc), vec![in alloc; 1u64; 1]?);
+    let mut sink = MemSink::open(alloc, 100, Vec::new(alloc))?;
+    let status = run_from(alloc, words, &mut source, &mut sink)?;
+    Ok(status == Status::Usage && sink.text() == b"usage: pse52 COMMAND NUMBERS\n".as_slice())
 }
 
 #[test]
 fn texts_are_refused(rt: HostRuntime) -> Result<(), Fail> {
-    let alloc = rt.alloc();
-    for &(text, line) in &REFUSED {
-        let mut source = SureSource::new(Vec::from_slice(alloc, text.as_bytes())?);
-        let mut sink = MemSink::open(alloc, 1000, Vec::new(alloc))?;
-        let status = run_from(alloc, &["run", "1"], &mut source, &mut sink)?;
-        assert_eq!(rt; status, Status::Refused);
-        assert_eq!(rt; sink.text(), line.as_bytes());
-    }
+    assert_eq!(rt;
+        rows_told(rt.alloc(), &["run", "1"], &REFUSED)?,
+        REFUSED.len()
+    );
     Ok(())
+}
+
+// Whether so many line ends are told of so.
+fn are_line_ends_told(
+    alloc: Global,
+    count: usize,
+    status: Status,
+    text: &str,
+) -> Result<bool, AllocError> {
+    let input = vec![in alloc; b'\n'; count]?;
+    tells(alloc, &["run", "1"], input.as_slice(), status, text)
 }
 
 #[test]
 fn line_ends_are_too_long_or_no_script(rt: HostRuntime) -> Result<(), Fail> {
     let alloc = rt.alloc();
-    let mut source = SureSource::new(vec![in alloc; b'\n'; 1_048_577]?);
-    let mut sink = MemSink::open(alloc, 100, Vec::new(alloc))?;
-    assert_eq!(rt;
-        run_from(alloc, &["run", "1"], &mut source, &mut sink)?,
-        Status::TooLong
-    );
-    assert_eq!(rt; sink.text(), b"too long\n".as_slice());
-    let mut source = SureSource::new(vec![in alloc; b'\n'; 1_048_576]?);
-    let mut sink = MemSink::open(alloc, 100, Vec::new(alloc))?;
-    assert_eq!(rt;
-        run_from(alloc, &["run", "1"], &mut source, &mut sink)?,
-        Status::Refused
-    );
-    assert_eq!(rt; sink.text(), b"refused 1048577 14 NoThread\n".as_slice());
+    assert!(rt; are_line_ends_told(alloc, 1_048_577, Status::TooLong, "too long\n")?);
+    let refused = "refused 1048577 14 NoThread\n";
+    assert!(rt; are_line_ends_told(alloc, 1_048_576, Status::Refused, refused)?);
     Ok(())
 }
 
 #[test]
 fn words_that_are_no_command(rt: HostRuntime) -> Result<(), Fail> {
-    let alloc = rt.alloc();
     for list in &NO_COMMANDS {
-        let mut source = MemSource::new(Vec::new(alloc), vec![in alloc; 1u64; 1]?);
-        let mut sink = MemSink::open(alloc, 100, Vec::new(alloc))?;
-        assert_eq!(rt;
-            run_from(alloc, list, &mut source, &mut sink)?,
-            Status::Usage
-        );
-        assert_eq!(rt; sink.text(), b"usage: pse52 COMMAND NUMBERS\n".as_slice());
+        assert!(rt; is_usage(rt.alloc(), list)?);
     }
     Ok(())
 }
@@ -192,70 +260,61 @@ fn words_that_are_no_command(rt: HostRuntime) -> Result<(), Fail> {
 // A command reads its text, and here finds no thread in it.
 #[test]
 fn numbers_that_make_a_command(rt: HostRuntime) -> Result<(), Fail> {
-    let alloc = rt.alloc();
+    let text = "refused 1 14 NoThread\n";
     for horizon in &HORIZONS {
-        let mut source = SureSource::new(Vec::new(alloc));
-        let mut sink = MemSink::open(alloc, 100, Vec::new(alloc))?;
-        let status = run_from(alloc, &["run", *horizon], &mut source, &mut sink)?;
-        assert_eq!(rt; status, Status::Refused);
-        assert_eq!(rt; sink.text(), b"refused 1 14 NoThread\n".as_slice());
+        assert!(rt; tells(rt.alloc(), &["run", *horizon], b"", Status::Refused, text)?);
     }
     Ok(())
 }
 
 #[test]
 fn each_write_fails_in_turn(rt: HostRuntime) -> Result<(), Fail> {
-    let alloc = rt.alloc();
     let written = [0, 10, 25, 34, 41, 48];
     for k in 0..6usize {
-        let mut source = SureSource::new(Vec::from_slice(alloc, ONE_THREAD.as_bytes())?);
-        let mut sink = MemSink::open(alloc, 1000, vec![in alloc; k as u64 + 1; 1]?)?;
-        let status = run_from(alloc, &["run", "10"], &mut source, &mut sink)?;
-        assert_eq!(rt; status, Status::WriteFault);
-        assert_eq!(rt; sink.text().len(), written[k]);
+        let found = written_before(
+            rt.alloc(),
+            &["run", "10"],
+            ONE_THREAD.as_bytes(),
+            k as u64 + 1,
+        )?;
+        assert_eq!(rt; found, Some(written[k]));
     }
     Ok(())
 }
 
 #[test]
 fn each_read_fails_in_turn(rt: HostRuntime) -> Result<(), Fail> {
-    let alloc = rt.alloc();
     for k in 1..3u64 {
-        let mut source = MemSource::new(
-            Vec::from_slice(alloc, ONE_THREAD.as_bytes())?,
-            vec![in alloc; k; 1]?,
-        );
-        let mut sink = MemSink::open(alloc, 1000, Vec::new(alloc))?;
-        let status = run_from(alloc, &["run", "10"], &mut source, &mut sink)?;
-        assert_eq!(rt; status, Status::ReadFault);
-        assert_eq!(rt; sink.text(), b"".as_slice());
+        let found = unread(rt.alloc(), &["run", "10"], ONE_THREAD.as_bytes(), k)?;
+        assert_eq!(rt; found, Some(Status::ReadFault));
     }
     Ok(())
 }
 
-// One run of the first script, or what this test itself had no memory for.
-fn one_run(alloc: Global) -> Result<(Status, MemSink), AllocError> {
-    let mut source = SureSource::new(Vec::from_slice(alloc, ONE_THREAD.as_bytes())?);
-    let mut sink = MemSink::open(alloc, 1000, Vec::new(alloc))?;
-    let status = run_from(alloc, &["run", "10"], &mut source, &mut sink)?;
-    Ok((status, sink))
+#[test]
+fn an_audit_and_a_check_whose_source_fails(rt: HostRuntime) -> Result<(), Fail> {
+    let input = b"%%\n0 end\n".as_slice();
+    let audit = unread(rt.alloc(), &["audit"], input, 1)?;
+    let check = unread(rt.alloc(), &["check", "10"], input, 2)?;
+    assert_eq!(rt;
+        [audit, check],
+        [Some(Status::ReadFault), Some(Status::ReadFault)]
+    );
+    Ok(())
 }
 
 // Where an allocation is refused, as `rt try --test --fail-alloc N` does, want of memory is answered and nothing is
 // written; any other answer is the whole run's.
 #[test]
 fn one_run_is_whole_or_lacks_memory(rt: HostRuntime) -> Result<(), Fail> {
-    let Ok((status, sink)) = one_run(rt.alloc()) else {
+    let Ok((status, sink)) = tell(rt.alloc(), &["run", "10"], ONE_THREAD.as_bytes(), 0) else {
         return Ok(());
     };
     if status == Status::OutOfMemory {
-        assert_eq!(rt; sink.text(), b"".as_slice());
+        assert!(rt; sink.text().is_empty());
         return Ok(());
     }
     assert_eq!(rt; status, Status::Done);
-    assert_eq!(rt;
-        sink.text(),
-        b"0 start a\n0 dispatch a 5\n4 exit a\n4 idle\n10 end\nthread a ticks 4\n".as_slice()
-    );
+    assert_eq!(rt; sink.text(), ONE_TRACE.as_bytes());
     Ok(())
 }

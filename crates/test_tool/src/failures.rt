@@ -1,6 +1,6 @@
 //! One run in which each write fails in turn, and each read.
-use crate::commands::run_from;
-use parts_io::{MemSink, MemSource, Source, StdSource, SureSource};
+use crate::commands::{run_from, tell};
+use parts_io::{MemSink, MemSource, Source, StdSource};
 use std::alloc::{AllocError, Global};
 use std::io;
 use std::io::{ErrorKind, Read};
@@ -53,28 +53,22 @@ static LINES: [&str; 35] = [
     "thread k ticks 5\n",
 ];
 
-// A run of the script into a sink whose write of this number fails.
-fn run_into(alloc: Global, failing: u64) -> Result<(Status, MemSink), AllocError> {
-    let mut source = SureSource::new(Vec::from_slice(alloc, SCRIPT.as_bytes())?);
-    let mut sink = MemSink::open(alloc, 4000, vec![in alloc; failing; 1]?)?;
-    let status = run_from(alloc, &["run", "19"], &mut source, &mut sink)?;
-    Ok((status, sink))
+// Whether a run whose write of this number fails has written this.
+fn is_cut_off(alloc: Global, failing: u64, due: &[u8]) -> Result<bool, AllocError> {
+    let (status, sink) = tell(alloc, &["run", "19"], SCRIPT.as_bytes(), failing)?;
+    Ok(status == Status::WriteFault && sink.text() == due)
 }
 
 // Where the write of a line fails, the lines before it are written; there is one write a line.
 #[test]
 fn each_line_fails_in_turn(rt: HostRuntime) -> Result<(), Fail> {
-    let alloc = rt.alloc();
-    let mut due: Vec<u8> = Vec::new(alloc);
+    let mut due: Vec<u8> = Vec::new(rt.alloc());
     for k in 0..35usize {
-        let (status, sink) = run_into(alloc, k as u64 + 1)?;
-        assert_eq!(rt; status, Status::WriteFault);
-        assert_eq!(rt; sink.text(), due.as_slice());
+        assert!(rt; is_cut_off(rt.alloc(), k as u64 + 1, due.as_slice())?);
         due.extend_from_slice(LINES[k].as_bytes())?;
     }
-    let (status, sink) = run_into(alloc, 36)?;
-    assert_eq!(rt; status, Status::Done);
-    assert_eq!(rt; sink.text(), due.as_slice());
+    let (status, sink) = tell(rt.alloc(), &["run", "19"], SCRIPT.as_bytes(), 36)?;
+    assert!(rt; status == Status::Done && sink.text() == due.as_slice());
     Ok(())
 }
 
@@ -92,28 +86,27 @@ fn long_script(alloc: Global) -> Result<Vec<u8>, AllocError> {
     Ok(bytes)
 }
 
-// A run of what the source gives.
-fn run_of<S: Source>(alloc: Global, source: &mut S) -> Result<(Status, MemSink), AllocError> {
+// The status of a run of what the source gives, and how many bytes it writes.
+fn run_of<S: Source>(alloc: Global, source: &mut S) -> Result<(Status, usize), AllocError> {
     let mut sink = MemSink::open(alloc, 4000, Vec::new(alloc))?;
     let status = run_from(alloc, &["run", "19"], source, &mut sink)?;
-    Ok((status, sink))
+    Ok((status, sink.text().len()))
+}
+
+// A run of a source in memory, whose read of this number fails.
+fn run_in_memory(alloc: Global, failing: u64) -> Result<(Status, usize), AllocError> {
+    let mut source = MemSource::new(long_script(alloc)?, vec![in alloc; failing; 1]?);
+    run_of(alloc, &mut source)
 }
 
 // A source in memory gives 3,000 bytes at once, and then their end.
 #[test]
 fn each_read_of_a_long_script_fails_in_turn(rt: HostRuntime) -> Result<(), Fail> {
-    let alloc = rt.alloc();
-    assert_eq!(rt; long_script(alloc)?.len(), 3000);
+    assert_eq!(rt; long_script(rt.alloc())?.len(), 3000);
     for k in 1..3u64 {
-        let mut source = MemSource::new(long_script(alloc)?, vec![in alloc; k; 1]?);
-        let (status, sink) = run_of(alloc, &mut source)?;
-        assert_eq!(rt; status, Status::ReadFault);
-        assert_eq!(rt; sink.text(), b"".as_slice());
+        assert_eq!(rt; run_in_memory(rt.alloc(), k)?, (Status::ReadFault, 0));
     }
-    let mut source = MemSource::new(long_script(alloc)?, vec![in alloc; 3u64; 1]?);
-    let (status, sink) = run_of(alloc, &mut source)?;
-    assert_eq!(rt; status, Status::Done);
-    assert_eq!(rt; sink.text().len(), 573);
+    assert_eq!(rt; run_in_memory(rt.alloc(), 3)?, (Status::Done, 573));
     Ok(())
 }
 
@@ -141,7 +134,7 @@ impl Read for FailingReader {
 }
 
 // A run of a source that gives the script in pieces, whose read of this number fails.
-fn run_in_pieces(alloc: Global, failing: u64) -> Result<(Status, MemSink), AllocError> {
+fn run_in_pieces(alloc: Global, failing: u64) -> Result<(Status, usize), AllocError> {
     let mut source = StdSource::new(FailingReader {
         bytes: long_script(alloc)?,
         at: 0,
@@ -154,14 +147,9 @@ fn run_in_pieces(alloc: Global, failing: u64) -> Result<(Status, MemSink), Alloc
 // 30 pieces of the script, and its end.
 #[test]
 fn each_read_of_a_piece_fails_in_turn(rt: HostRuntime) -> Result<(), Fail> {
-    let alloc = rt.alloc();
     for k in 1..32u64 {
-        let (status, sink) = run_in_pieces(alloc, k)?;
-        assert_eq!(rt; status, Status::ReadFault);
-        assert_eq!(rt; sink.text(), b"".as_slice());
+        assert_eq!(rt; run_in_pieces(rt.alloc(), k)?, (Status::ReadFault, 0));
     }
-    let (status, sink) = run_in_pieces(alloc, 32)?;
-    assert_eq!(rt; status, Status::Done);
-    assert_eq!(rt; sink.text().len(), 573);
+    assert_eq!(rt; run_in_pieces(rt.alloc(), 32)?, (Status::Done, 573));
     Ok(())
 }

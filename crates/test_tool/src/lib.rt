@@ -9,8 +9,6 @@ mod checks;
 #[cfg(test)]
 mod commands;
 #[cfg(test)]
-mod conditions;
-#[cfg(test)]
 mod details;
 #[cfg(test)]
 mod failures;
@@ -18,8 +16,6 @@ mod failures;
 mod generated;
 #[cfg(test)]
 mod lives;
-#[cfg(test)]
-mod machine;
 #[cfg(test)]
 mod order;
 #[cfg(test)]
@@ -30,5 +26,3 @@ mod responses;
 mod shows;
 #[cfg(test)]
 mod upgrades;
-#[cfg(test)]
-mod waiters;

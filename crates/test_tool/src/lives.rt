@@ -1,10 +1,10 @@
 //! Worked examples of joins, ends, requests and cleanup handlers. The traces come from the reference simulator in
 //! tools/reference, and follow from the rules line by line.
-use crate::waiters::print_as_they_should;
+use crate::commands::numbers_told;
 use std::test::Fail;
 
 // A horizon, a script and its trace.
-static RUNS: [(&str, &str, &str); 4] = [
+static RUNS: [(&str, &str, &str); 5] = [
     // answers of a join, and the value of an exit
     (
         "30",
@@ -62,10 +62,19 @@ static RUNS: [(&str, &str, &str); 4] = [
             20 exit e\n20 idle\n40 end\nthread a ticks 6\nthread b ticks 2\nthread d ticks 8\n\
             thread e ticks 4\n",
     ),
+    // a condition wait until a time that has passed
+    (
+        "10",
+        "mutex m none\ncond c\nthread a fifo 5 at 0\nlock m\nrun 3\ntimedwait c m 2\nunlock m\n\
+            end\nthread b fifo 4 at 0\nsignal c\nend\n",
+        "0 start a\n0 start b\n0 dispatch a 5\n1 return a lock 0 0\n\
+            5 return a timedwait ETIMEDOUT 0\n6 return a unlock 0 0\n7 exit a\n7 dispatch b 4\n\
+            8 return b signal 0 0\n9 exit b\n9 idle\n10 end\nthread a ticks 7\nthread b ticks 2\n",
+    ),
 ];
 
 #[test]
 fn lives_run_as_the_rules_say(rt: HostRuntime) -> Result<(), Fail> {
-    assert!(rt; print_as_they_should(rt.alloc(), &RUNS)?);
+    assert_eq!(rt; numbers_told(rt.alloc(), "run", &RUNS)?, RUNS.len());
     Ok(())
 }

@@ -1,6 +1,5 @@
 //! Worked texts of tasks through the one call.
-use crate::commands::run_from;
-use parts_io::{MemSink, SureSource};
+use crate::commands::{numbers_told, rows_told};
 use std::test::Fail;
 use tool_answers::Status;
 
@@ -36,59 +35,46 @@ static TOLD: [(&str, &str, &str); 7] = [
 ];
 
 // A text and the line that refuses it.
-static REFUSED: [(&str, &str); 6] = [
-    ("", "refused 1 18 NoTask\n"),
+static REFUSED: [(&str, Status, &str); 6] = [
+    ("", Status::Refused, "refused 1 18 NoTask\n"),
     (
         "task a 3 1 4 0\ntask b 3 1 4 0\n",
+        Status::Refused,
         "refused 2 17 SamePriority\n",
     ),
     (
         "task a 3 0 4 0\ntask a 3 1 4 0\n",
+        Status::Refused,
         "refused 2 7 DuplicateName\n",
     ),
     (
         "task a 256 1 4 0\ntask b 3 1 4\n",
+        Status::Refused,
         "refused 2 3 WordCount\n",
     ),
-    ("task a 3 1 0 0\n", "refused 1 5 NumberRange\n"),
-    ("thread a fifo 5 at 0\nend\n", "refused 1 2 UnknownWord\n"),
+    (
+        "task a 3 1 0 0\n",
+        Status::Refused,
+        "refused 1 5 NumberRange\n",
+    ),
+    (
+        "thread a fifo 5 at 0\nend\n",
+        Status::Refused,
+        "refused 1 2 UnknownWord\n",
+    ),
 ];
 
 #[test]
 fn responses_are_told(rt: HostRuntime) -> Result<(), Fail> {
-    let alloc = rt.alloc();
-    for &(bound, text, lines) in &TOLD {
-        let mut source = SureSource::new(Vec::from_slice(alloc, text.as_bytes())?);
-        let mut sink = MemSink::open(alloc, 1000, Vec::new(alloc))?;
-        let status = run_from(alloc, &["rta", bound], &mut source, &mut sink)?;
-        assert_eq!(rt; status, Status::Done);
-        assert_eq!(rt; sink.text(), lines.as_bytes());
-    }
+    assert_eq!(rt; numbers_told(rt.alloc(), "rta", &TOLD)?, TOLD.len());
     Ok(())
 }
 
 #[test]
 fn texts_of_tasks_are_refused(rt: HostRuntime) -> Result<(), Fail> {
-    let alloc = rt.alloc();
-    for &(text, line) in &REFUSED {
-        let mut source = SureSource::new(Vec::from_slice(alloc, text.as_bytes())?);
-        let mut sink = MemSink::open(alloc, 1000, Vec::new(alloc))?;
-        let status = run_from(alloc, &["rta", "5"], &mut source, &mut sink)?;
-        assert_eq!(rt; status, Status::Refused);
-        assert_eq!(rt; sink.text(), line.as_bytes());
-    }
-    Ok(())
-}
-
-// The bound of this command has a limit of its own.
-#[test]
-fn bound_above_its_limit_is_no_command(rt: HostRuntime) -> Result<(), Fail> {
-    let alloc = rt.alloc();
-    let mut source = SureSource::new(Vec::new(alloc));
-    let mut sink = MemSink::open(alloc, 100, Vec::new(alloc))?;
     assert_eq!(rt;
-        run_from(alloc, &["rta", "100000001"], &mut source, &mut sink)?,
-        Status::Usage
+        rows_told(rt.alloc(), &["rta", "5"], &REFUSED)?,
+        REFUSED.len()
     );
     Ok(())
 }
