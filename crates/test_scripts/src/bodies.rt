@@ -30,8 +30,14 @@ fn code_of(alloc: Global, thread: Body, handler: Body, cleanup: Body) -> Result<
     };
     let decls = Decls::new(vec![in alloc;
         Decl::Named(Name::try_new(b"a").unwrap(), thread),
-        Decl::Named(Name::try_new(b"h").unwrap(), Kind::Handler { body: handler }),
-        Decl::Named(Name::try_new(b"u").unwrap(), Kind::Cleanup { body: cleanup }),
+        Decl::Named(
+            Name::try_new(b"h").unwrap(),
+            Kind::Handler { body: handler }
+        ),
+        Decl::Named(
+            Name::try_new(b"u").unwrap(),
+            Kind::Cleanup { body: cleanup }
+        ),
     ]?);
     let (version, quantum) = (1, 10);
     let script = Script {
@@ -114,12 +120,7 @@ fn running(alloc: Global, ticks: u64) -> Result<Body, AllocError>
 }
 
 // The first units of the body of a thread.
-fn units_of_thread(
-    alloc: Global,
-    thread: Body,
-    answer: Res,
-    count: u8,
-) -> Result<Said, AllocError>
+fn units_of_thread(alloc: Global, thread: Body, answer: Res, count: u8) -> Result<Said, AllocError>
     requires { (step_count thread ≤ 65536) × (nesting thread ≤ 15) }
 {
     let code = code_of(alloc, thread, nothing(alloc), nothing(alloc))?;
@@ -137,12 +138,7 @@ fn units_of_handler(alloc: Global, handler: Body, count: u8) -> Result<Said, All
 }
 
 // The first units of the body of a cleanup handler, where each call leaves that value.
-fn units_of_cleanup(
-    alloc: Global,
-    cleanup: Body,
-    value: u64,
-    count: u8,
-) -> Result<Said, AllocError>
+fn units_of_cleanup(alloc: Global, cleanup: Body, value: u64, count: u8) -> Result<Said, AllocError>
     requires { (step_count cleanup ≤ 65536) × (nesting cleanup ≤ 15) }
 {
     let code = code_of(alloc, nothing(alloc), nothing(alloc), cleanup)?;
