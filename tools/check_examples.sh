@@ -1,16 +1,18 @@
 #!/usr/bin/env bash
 # Runs each example of examples/ and examples/real/, and each worked example of tests/worked/, to its horizon or by its command, and
-# compares what is printed with the text beside it. The program is built without a second proof: the gate has proved it before.
-# Before all that, and without a build, each trace and picture of examples/ is compared with what tools/reference makes of its script.
+# compares what is printed with the text beside it. Before that each trace and picture of examples/ is compared with what
+# tools/reference makes of its script.
+# Usage: tools/check_examples.sh [PROGRAM]. Where none is named, one is built for it without a proof, which takes minutes.
 set -u
 cd "$(dirname "$0")/.." || exit 1
+program=${1:-}
 
 if command -v python3 >/dev/null 2>&1; then
     python3 tools/make_examples.py --check || exit 1
 else
     echo "skipped: the examples against the reference, since python3 is not here"
 fi
-if ! command -v rt >/dev/null 2>&1; then
+if [ -z "$program" ] && ! command -v rt >/dev/null 2>&1; then
     echo "skipped: the examples in the program, since the toolchain's command rt is not here"
     exit 0
 fi
@@ -67,23 +69,46 @@ while read -r name _; do
     add_case "worked_$name" "tests/worked/$name.audit" "tests/worked/$name.verdict" audit
 done < <(grep -v '^#' tests/worked/AUDITS.txt)
 
-(cd crates/pse52 && rt try --cases "$cases") >"$out/printed" 2>"$out/log"
-status=$?
-if [ "$status" -ne 0 ]; then
+# Runs all cases in a program that is built for it. What a case printed stands under a line '== NAME', up to the next such line; no
+# line of a trace begins so.
+run_unproved() {
+    (cd crates/pse52 && rt try --cases "$cases") >"$out/printed" 2>"$out/log" || return
+    awk -v out="$out" '/^== / { file = out "/" $2 ".text"; printf "" >file; next } file { print >file }' "$out/printed"
+}
+
+# Runs all cases in the program that is named.
+run_named() {
+    local given words name differ=0
+    for given in "$cases"/*.args; do
+        name=$(basename "$given" .args)
+        mapfile -t words <"$given"
+        "$program" "${words[@]}" <"$cases/$name" >"$out/$name.text" 2>>"$out/log"
+        [ -e "$cases/$name.stdout" ] || continue
+        if ! cmp -s "$out/$name.text" "$cases/$name.stdout"; then
+            echo "$name: what is printed is not what stands beside it:" >>"$out/log"
+            diff "$cases/$name.stdout" "$out/$name.text" | head -n 10 >>"$out/log"
+            differ=1
+        fi
+    done
+    return "$differ"
+}
+
+if [ -n "$program" ]; then
+    run_named
+else
+    run_unproved
+fi || {
     tail -n 40 "$out/log"
     echo "examples: $count run, something differs"
     exit 1
-fi
-
-# What a case printed stands under a line '== NAME', up to the next such line; no line of a trace begins so.
-awk -v out="$out" '/^== / { file = out "/" $2 ".text"; printf "" >file; next } file { print >file }' "$out/printed"
+}
 
 failed=0
 for task in examples/*.task; do
     name=$(basename "$task" .task)
     printed=$out/example_$name.text
     if [ ! -e "$printed" ]; then
-        echo "example $name: rt try says nothing of it"
+        echo "example $name: nothing was printed"
         failed=$((failed + 1))
     elif cmp -s "$printed" "examples/$name.trace"; then
         :

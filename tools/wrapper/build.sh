@@ -79,7 +79,7 @@ prove() {
         return
     fi
     copy_crates "$room" "$name" || return 70
-    (cd "$room/crates/$name" && nice -n "$behind" rt lib --statements --jobs "$jobs")
+    (cd "$room/crates/$name" && nice -n "$behind" rt lib --jobs "$jobs")
     status=$?
     if [ "$status" -eq 0 ]; then
         rm -rf "$top/crates/$name/out/rlib" "$top/crates/$name/out/incremental"
