@@ -1,15 +1,19 @@
 #!/usr/bin/env bash
-# Proves and builds the program: the crates that it stands on, lowest first and side by side, as many at once as there are processors.
-# What an earlier run proved is kept, so a run that was interrupted goes on where it stopped. At the end crates/pse52/out has the program
-# and the record of the sources that it was proved of. Called by `bin/pse52 --prove`.
+# Proves and builds the program: `rt ci` over a copy of the crates that it stands on, without their edits. rt shares the crates among the
+# processors, reads each library that is proved without its proofs, and keeps what passed beside the toolchain: a run that was
+# interrupted goes on where it stopped, and one behind a gate proves nothing again. At the end crates/pse52/out has the program and the
+# record of the sources that it was proved of. Called by `bin/pse52 --prove`.
 set -u
-set -m  # each proof is a process group of its own, so that it ends whole
+set -m  # the run of rt is a process group of its own, so that it ends whole
 
 top=$(cd "$(dirname "$0")/../.." && pwd) || exit 1
 wrapper=$top/tools/wrapper
-program=$top/crates/pse52/out/pse52
-lock=$top/crates/pse52/out/proving
-work=$lock/work
+out=$top/crates/pse52/out
+program=$out/pse52
+log=$out/build.log
+lock=$out/proving
+room=
+proved_told=0
 . "$wrapper/cost.sh"
 
 say() {
@@ -36,168 +40,87 @@ take_lock() {
         sleep 1
     done
     echo $$ >"$lock/pid"
-    mkdir "$work"
 }
 
-# Ends the proofs that are under way.
-stop_proofs() {
+clean_up() {
+    [ -z "$room" ] || rm -rf "$room"
+    rm -rf "$lock"
+}
+
+interrupted() {
     local group
+    trap '' HUP INT PIPE TERM
     {
         for group in $(jobs -p); do
             kill -TERM -- "-$group"
         done
         wait
     } 2>/dev/null
-    rm -rf "$lock"
-}
-
-interrupted() {
-    trap '' HUP INT PIPE TERM
-    stop_proofs
     say "interrupted after $(elapsed); the next 'pse52 --prove' goes on where this one stopped"
     exit 70
 }
 
-# A crate that was not proved: where its output is kept, and the last lines of it.
+# Fills the room with what the program is proved and built of: the crates that crates.sh tells, and what rt runs the program on.
+fill_room() {
+    local name deps part
+    mkdir -p "$room/crates" "$room/.git" && cp "$top/HANDLES" "$room" || return
+    while read -r name deps; do
+        mkdir "$room/crates/$name" || return
+        for part in src specs proofs; do
+            [ ! -d "$top/crates/$name/$part" ] || cp -R "$top/crates/$name/$part" "$room/crates/$name" || return
+        done
+        echo "$name: $deps" >>"$room/crates.txt"
+    done
+    for part in args stdin stdout; do
+        [ ! -e "$top/crates/pse52/$part" ] || cp "$top/crates/pse52/$part" "$room/crates/pse52" || return
+    done
+}
+
+# Tells the crates that were proved since it told last.
+tell_proved() {
+    local name
+    while read -r name; do
+        proved_told=$((proved_told + 1))
+        say "crate $proved_told of $total, after $(elapsed): $name"
+    done < <(sed -n -e 's/^rt: \([a-z0-9_]*\) proved$/\1/p' -e 's/^rt: \([a-z0-9_]*\) is kept: .*/\1, as it was proved before/p' "$log" |
+        tail -n +$((proved_told + 1)))
+}
+
+# Proves all in the room, and tells how far it is.
+prove() {
+    (cd "$room" && exec rt ci) </dev/null >"$log" 2>&1 &
+    local run=$!
+    while kill -0 "$run" 2>/dev/null; do
+        sleep 1
+        tell_proved
+    done
+    wait "$run"
+}
+
+# A run that failed: which crate it was, where what it said is kept, and the last lines of it.
 not_proved() {
-    local log=$top/crates/$1/out/build.log
-    stop_proofs
-    say "the crate $1 was not proved or built; the last lines of $log:"
+    local name
+    name=$(sed -n 's/^rt: \([a-z0-9_]*\) NOT PROVED.*/\1/p' "$log" | head -n 1)
+    say "${name:+the crate $name was not proved; }the program was not built; the last lines of $log:"
     tail -n 15 "$log" >&2
     exit 70
-}
-
-# Proves one crate for those above it, in a copy of its own of what it stands on: rt keeps every other rt out of a crate and of all that
-# it stands on until it ends, so that in one checkout nothing would be proved side by side. The program's own crate comes last, when no
-# other is under way; its run has no words and no input.
-prove() {
-    local name=$1 jobs=$2 behind=$3 room=$work/$1.room status
-    if [ "$name" = pse52 ]; then
-        cd "$top/crates/pse52" || return 70
-        rt run --jobs "$jobs"
-        [ -x "$program" ]
-        return
-    fi
-    copy_crates "$room" "$name" || return 70
-    (cd "$room/crates/$name" && nice -n "$behind" rt lib --jobs "$jobs")
-    status=$?
-    if [ "$status" -eq 0 ]; then
-        rm -rf "$top/crates/$name/out/rlib" "$top/crates/$name/out/incremental"
-        rm -f "$room/crates/$name/out/build.log"
-        mv "$room/crates/$name/out"/* "$top/crates/$name/out"
-        status=$?
-    fi
-    rm -rf "$room"
-    return "$status"
-}
-
-# Makes a room with a crate and, by links, those that are proved, among which are all that it stands on.
-copy_crates() {
-    local room=$1 name=$2 proved deps
-    mkdir -p "$room/crates" && cp "$top/HANDLES" "$room" && cp -a "$top/crates/$name" "$room/crates" || return
-    while read -r proved deps; do
-        if [ "$proved" != "$name" ]; then
-            [ -e "$work/$proved.proved" ] || continue
-            cp -al "$top/crates/$proved" "$room/crates" 2>/dev/null || cp -a "$top/crates/$proved" "$room/crates" || return
-        fi
-        echo "$proved: $deps"
-    done <"$work/crates" >"$room/crates.txt"
-}
-
-# Starts the proof of a crate: its name, how many jobs it gets, and how far it stands back behind the others.
-start() {
-    mkdir -p "$top/crates/$1/out" || exit 70
-    number=$((number + 1))
-    running=$((running + 1))
-    say "crate $number of $total, after $(elapsed): $1"
-    {
-        prove "$1" "$2" "$3" </dev/null >"$top/crates/$1/out/build.log" 2>&1
-        echo $? >"$work/$1.ended"
-        mv "$work/$1.ended" "$work/$1.status"
-    } &
-    echo "$SECONDS" >"$work/$1.started"
-}
-
-# The crates, as they are told, with those first that have most above them in their longest chain, by what proving takes: some three
-# seconds for a kilobyte of code, and ten for what a crate of definitions and lemmas takes. What takes longest is never kept waiting.
-longest_first() {
-    local name deps
-    while read -r name deps; do
-        echo "$(($(du -sb "$top/crates/$name/src" | cut -f 1) + 3500)) $name $deps"
-    done | tac | awk '
-        {
-            height = $1 + above[$2]
-            for (i = 3; i <= NF; i++) if (above[$i] < height) above[$i] = height
-            $1 = height
-            print
-        }' | sort -rn | cut -d ' ' -f 2-
-}
-
-# Goes over the crates once: takes what has ended, and starts what may start, the processors shared among them. The one that has most
-# above it may have them all, and the others what it leaves. Sets `left` to how many are not proved yet, and `under_way` to those that are
-# being proved.
-turn() {
-    local name deps dep ready='' is_ready first='' jobs
-    left=0
-    under_way=
-    while read -r name deps; do
-        [ ! -e "$work/$name.proved" ] || continue
-        left=$((left + 1))
-        if [ -e "$work/$name.status" ]; then
-            [ "$(cat "$work/$name.status")" -eq 0 ] || not_proved "$name"
-            mv "$work/$name.status" "$work/$name.proved"
-            running=$((running - 1))
-            left=$((left - 1))
-        elif [ -e "$work/$name.started" ]; then
-            : "${first:=$name}"
-            under_way+=" $name"
-        else
-            : "${first:=$name}"
-            is_ready=yes
-            for dep in $deps; do
-                [ -e "$work/$dep.proved" ] || ! grep -q "^$dep\( \|\$\)" "$work/crates" || is_ready=
-            done
-            [ -z "$is_ready" ] || ready+=" $name"
-        fi
-    done <"$work/crates"
-    local sharing=$((running + $(wc -w <<<"$ready")))
-    for name in $ready; do
-        [ "$running" -lt "$processors" ] || break
-        jobs=$((sharing < processors ? processors / sharing : 1))
-        if [ "$name" = "$first" ]; then
-            start "$name" "$processors" 0
-        else
-            start "$name" "$jobs" 10
-        fi
-    done
 }
 
 if ! command -v rt >/dev/null 2>&1; then
     say "a proof needs the toolchain, and its command rt is not on the path (README.md, What it needs)"
     exit 70
 fi
-mkdir -p "$top/crates/pse52/out" || exit 70
+mkdir -p "$out" || exit 70
 take_lock
+trap clean_up EXIT
 trap interrupted HUP INT PIPE TERM
 sources=$(sh "$wrapper/sum.sh" sources) || exit 70
-sh "$wrapper/crates.sh" | longest_first >"$work/crates" || exit 70
-total=$(wc -l <"$work/crates")
-processors=$(getconf _NPROCESSORS_ONLN 2>/dev/null) || processors=2
-number=0
-running=0
-left=$total
+crates=$(sh "$wrapper/crates.sh") || exit 70
+total=$(wc -l <<<"$crates")
+room=$(mktemp -d "${TMPDIR:-/tmp}/pse52-proving.XXXXXX") || exit 70
+fill_room <<<"$crates" || { say "the sources could not be copied to $room"; exit 70; }
 say "proving $total crates and building the program: $first_proof, and less where some are kept"
-told=0
-while [ "$left" -gt 0 ]; do
-    turn
-    [ "$left" -eq 0 ] || sleep 1
-    if [ $((SECONDS - told)) -ge 60 ]; then
-        told=$SECONDS
-        say "after $(elapsed) $((total - left)) of $total are proved; under way:$under_way"
-    fi
-done
-wait
-trap - HUP INT PIPE TERM
-rm -rf "$lock"
+prove || not_proved
+cp "$room/crates/pse52/out/pse52" "$program.new" && mv -f "$program.new" "$program" || exit 70
 sh "$wrapper/record.sh" "$sources" || exit 70
 say "the program is proved and built, after $(elapsed): $program"

@@ -4,6 +4,7 @@ from __future__ import annotations
 import os
 import re
 import shutil
+import signal
 import subprocess
 import tempfile
 import time
@@ -14,6 +15,14 @@ from .scratch import SCRIPT, Checkout
 
 RUN = "release: run 7\n" + SCRIPT
 BUILT = "built: run 7\n" + SCRIPT
+
+
+def is_running(process: int) -> bool:
+    """Whether there is such a process, and not only what is left of it until its parent asks."""
+    try:
+        return Path(f"/proc/{process}/stat").read_text().rpartition(")")[2].split()[0] != "Z"
+    except OSError:
+        return False
 
 
 class Programs(unittest.TestCase):
@@ -189,10 +198,17 @@ class Proofs(unittest.TestCase):
 
     TOOLCHAIN = """#!/bin/sh
 case $1 in
-    run) mkdir -p out; printf '#!/bin/sh\\necho built: "$@"; cat\\n' >out/pse52; chmod +x out/pse52; exit 1 ;;
-    lib) [ ! -e "$FAILS" ] || exit 1; mkdir -p out/rlib; echo proved >out/rlib/low; echo "$(cat src/lib.rt ../../crates.txt)" >>"$CALLS" ;;
-    version) echo stand-in ;;
+    version) echo stand-in; exit ;;
 esac
+[ "$*" = ci ] || exit 1
+cat crates.txt crates/*/src/*.rt >>"$CALLS"
+[ ! -e "$FAILS" ] || { echo 'rt: low NOT PROVED'; echo '1 passed, 1 failed'; exit 1; }
+mkdir -p crates/pse52/out
+printf '#!/bin/sh\\necho built: "$@"; cat\\n' >crates/pse52/out/pse52
+chmod +x crates/pse52/out/pse52
+echo 'rt: low is kept: an earlier run proved the same'
+echo 'rt: pse52 proved'
+echo '2 passed, 0 failed'
 """
 
     def setUp(self) -> None:
@@ -209,16 +225,33 @@ esac
     def test_it_proves_what_the_program_stands_on_and_runs(self) -> None:
         ended = self.checkout.run("--prove", "run", "7", "s.task", **self.more)
         self.assertEqual((ended.status, ended.out), (0, BUILT))
-        self.assertEqual(self.calls.read_text(), "low\nlow: \n")
-        self.assertEqual((self.checkout.top / "crates/low/out/rlib/low").read_text(), "proved\n")
-        self.assertIn("crate 2 of 2", ended.err)
+        self.assertEqual(self.calls.read_text(), "low: \npse52: low\nlow\nmain\n")
+        self.assertIn("crate 1 of 2, after 0 min: low, as it was proved before", ended.err)
+        self.assertIn("crate 2 of 2, after 0 min: pse52\n", ended.err)
         self.assertEqual(self.checkout.run("run", "7", "s.task").out, BUILT)
+
+    def test_it_leaves_nothing_behind(self) -> None:
+        with tempfile.TemporaryDirectory() as rooms:
+            self.assertEqual(self.checkout.run("--prove", TMPDIR=rooms, **self.more).status, 0)
+            self.assertEqual(os.listdir(rooms), [])
+        self.assertFalse((self.checkout.top / "crates/pse52/out/proving").exists())
 
     def test_a_crate_that_is_not_proved(self) -> None:
         self.fails.touch()
         ended = self.checkout.run("--prove", **self.more)
         self.assertEqual((ended.status, ended.out), (70, ""))
         self.assertIn("the crate low was not proved", ended.err)
+        self.assertFalse((self.checkout.top / "crates/pse52/out/proving").exists())
+
+    def test_a_run_that_is_interrupted(self) -> None:
+        (self.tools / "rt").write_text("#!/bin/sh\nsleep 60 & echo $! >\"$CALLS\"\nwait\n")
+        with subprocess.Popen([str(self.checkout.top / "bin" / "pse52"), "--prove"], stderr=subprocess.PIPE, text=True,
+                              env=dict(os.environ, HOME=str(self.checkout.top), **self.more), start_new_session=True) as run:
+            while not self.calls.exists() or not self.calls.read_text():
+                time.sleep(0.05)
+            os.killpg(run.pid, signal.SIGTERM)
+            self.assertIn("interrupted after 0 min", run.communicate()[1])
+        self.assertFalse(is_running(int(self.calls.read_text())))
         self.assertFalse((self.checkout.top / "crates/pse52/out/proving").exists())
 
     def test_without_the_toolchain(self) -> None:
