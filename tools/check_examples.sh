@@ -1,6 +1,6 @@
 #!/usr/bin/env bash
 # Runs each example of examples/ and examples/real/, and each worked example of tests/worked/, to its horizon or by its command, and
-# compares what is printed with the text beside it. Before that each trace and picture of examples/ is compared with what
+# compares what is printed with the text beside it; and each text of tests/refused/, which is refused as the row says. Before that each trace and picture of examples/ is compared with what
 # tools/reference makes of its script.
 # Usage: tools/check_examples.sh [PROGRAM]. Where none is named, one is built for it without a proof, which takes minutes.
 set -u
@@ -68,6 +68,12 @@ done < <(grep -v '^#' tests/worked/INDEX.txt)
 while read -r name _; do
     add_case "worked_$name" "tests/worked/$name.audit" "tests/worked/$name.verdict" audit
 done < <(grep -v '^#' tests/worked/AUDITS.txt)
+
+while read -r line number kind text; do
+    printf '%b' "$text" >"$out/text"
+    echo "refused $line $number $kind" >"$out/refused"
+    add_case "refused_$count" "$out/text" "$out/refused" run 0
+done < <(grep -v '^#' tests/refused/FAULTS.txt)
 
 # Runs all cases in a program that is built for it. What a case printed stands under a line '== NAME', up to the next such line; no
 # line of a trace begins so.

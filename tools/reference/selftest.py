@@ -8,6 +8,7 @@ of its fault; NAME.show and NAME.detail, the whole text of that command;
 NAME.canonical, its canonical text; NAME.upgrade, that of the script of version 2. NAME.horizon is the number of the command.
 Examples whose horizon is too far for a machine that ticks are passed over. Where
 the horizon is at most 10,000 each state of the run is checked too.
+Each row of tests/refused/FAULTS.txt is a text that is refused, with the line and kind of its least fault.
 Each example of AUDITS.txt is an input of `audit`, NAME.audit, and its answer, NAME.verdict.
 The facts of some generated scripts are held against their traces (check_facts.py). Generated scripts of the stage `clock` from
 which the settings are taken out run as they do without the words of that stage.
@@ -29,7 +30,9 @@ from reader import read
 from script import canonical_text
 from simulate import Status, answer, command_of
 
-WORKED = pathlib.Path(__file__).resolve().parents[2] / "tests" / "worked"
+TESTS = pathlib.Path(__file__).resolve().parents[2] / "tests"
+WORKED = TESTS / "worked"
+REFUSED = TESTS / "refused" / "FAULTS.txt"
 FARTHEST = 1_000_000
 CHECKED = 10_000
 FACTS_OF = 40
@@ -78,6 +81,26 @@ def large_texts() -> list[tuple[str, bytes, Status, bytes]]:
         ("one step too many", one_more, Status.REFUSED, b"refused 65538 13 TooMany\n"),
         ("as many steps as may be", just_enough, Status.DONE,
          b"0 start a\n0 dispatch a 5\n1 return a yield 0 0\n1 end\nthread a ticks 1\n")]
+
+
+ESCAPES = {"n": b"\n", "t": b"\t", "\\": b"\\"}
+
+
+def text_of(escaped: str) -> bytes:
+    """The text that stands behind the columns of FAULTS.txt."""
+    parts = re.split(r"\\(x[0-9a-f]{2}|.)", escaped)
+    return b"".join(part.encode() if at % 2 == 0 else ESCAPES.get(part) or bytes.fromhex(part[1:]) for at, part in enumerate(parts))
+
+
+def faults_wrong() -> tuple[int, list[str]]:
+    """How many texts must be refused, and those that get another answer."""
+    rows = [line.split(" ", 3) for line in REFUSED.read_text().splitlines() if not line.startswith("#")]
+    wrong = []
+    for line, number, kind, *escaped in rows:
+        have = answer(text_of("".join(escaped)), 0)
+        agrees = have == (Status.REFUSED, f"refused {line} {number} {kind}\n".encode())
+        wrong += [] if agrees else [f"{line} {number} {kind} {''.join(escaped)}: the reference gives {have}"]
+    return len(rows), wrong
 
 
 LINES_OF_THE_CLOCK: tuple[tuple[str, str, str], ...] = (
@@ -176,6 +199,9 @@ def main() -> int:
         compared += 1
         wrong += [f"{words} is taken for a command"] if command_of(words) is not None else []
     compared += FACTS_OF + FACTS_OF // 2 + len(list(WORKED.glob("*.audit"))) + len(LINES_OF_THE_CLOCK) + UNSET_OF
+    refused, faults = faults_wrong()
+    compared += refused
+    wrong += faults
     wrong += audits_wrong()
     wrong += lines_wrong()
     wrong += words_wrong(UNSET_OF)
