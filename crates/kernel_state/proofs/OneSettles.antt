@@ -1,7 +1,7 @@
 -- A settling of one thread: one direct move where nobody is named, or one named thread where nothing moves directly.
 use Rattle.std.proofs.Common.{◌≡◌, ◌≢◌, ◌<◌, ◌≤◌, ◌-◌, ◌+◌, ◌∙◌, inl, inr, ℕ, Bool, true, false, List, [], ◌∷◌, None, Option, Some, ap, arith, length, refl, sym}
 use Rattle.std.specs.Prelude.{if◌then◌else◌, slice_index}
-use Rattle.std.proofs.lemmas.Bool.Decides.{eqb_tells}
+use Rattle.std.proofs.lemmas.Bool.Decides.{eqb_tells, leb_tells}
 use Rattle.rules_bodies.specs.declared.cursor.Cursor.{Cursor}
 use Rattle.rules_lists.specs.Lists.{prio_of, to_tail, without}
 use Rattle.rules_machine.specs.State.{Machine}
@@ -67,7 +67,7 @@ none_move k right =
     let whole : length k.machine.threads - 0 ≡ length k.machine.threads = omega arith in
     sym (ap (λ (x : Kernel). x.machine.lists) (placed_in_the_end k k 0 (record { same = refl; rest = rw whole refl }) right))
 
-one_item : (xs : List ℕ) (t : ℕ) → length xs ≡ 1 → t ≡ slice_index xs 0 → xs ≡ t ∷ []
+pub one_item : (xs : List ℕ) (t : ℕ) → length xs ≡ 1 → t ≡ slice_index xs 0 → xs ≡ t ∷ []
 one_item [] t one is = cc
 one_item (x ∷ []) t one is = ap (λ (n : ℕ). n ∷ []) (sym is)
 one_item (x ∷ y ∷ xs) t one is = absurd (omega (arith, one))
@@ -121,6 +121,44 @@ later_other t u low same = omega (arith, low, same)
 earlier_other : (t u : ℕ) → u < t → u ≢ t
 earlier_other t u small same = omega (arith, small, same)
 
+-- where it alone is named, no other leaves
+one_leaves : (k : Kernel) (t : ℕ) → IsNext k.machine 0 t → StandFrom k.machine (t + 1) → left_runnable k.machine ≡ left_one k.machine t k.machine.lists
+one_leaves k t next right =
+    let m = k.machine in let lists = m.lists in let left = left_one m t lists in let x = with_lists (λ ls. left) k in
+    let leaving = leaving_on k k x 0 t (record { same = refl; rest = refl; off = λ u below out. absurd (omega (arith, below)) }) next refl in
+    let after : StandFrom x.machine (t + 1) = (λ u low. as_before m u lists left (left_apart m t u lists (later_other t u low)) (right u low)) in
+    sym (ap (λ (z : Kernel). z.machine.lists) (left_in_the_end k x (t + 1) leaving after))
+
+risen_right : (m : Machine Cursor) (t u : ℕ) (lists : List (List ℕ)) → HavePriorities m → length lists ≡ 255 → can_run m t ≡ true → (u ≢ t → StandsRight (table_in m) lists u) →
+    StandsRight (table_in m) (to_tail t (exec m t) lists) u
+risen_right m t u lists fits every runs right =
+    let small = within m t lists fits runs every in
+    elim (eqb_tells u t) [
+      | inl same ↦ (let there = tail_there t (exec m t) lists (fits.positive t (runs_known m.threads t runs)) small in rw same.1 (record {
+        runs = λ p e. runs;
+        there = λ p e. same_some (exec m t) p (sym there ∙ e);
+      }))
+      | inr other ↦ as_before m u lists (to_tail t (exec m t) lists) (tail_apart t u (exec m t) lists small other.1) (right other.1)
+    ]
+
+others_right : (m : Machine Cursor) (t u : ℕ) → IsNext m 0 t → StandFrom m (t + 1) → u ≢ t → StandsRight (table_in m) m.lists u
+others_right m t u next right other = elim (leb_tells (t + 1) u) [
+  | inl later ↦ right u later.1
+  | inr earlier ↦ next.between u (omega arith) (omega (arith, earlier.1, other))
+]
+
+-- it can run again, and it alone moves directly
+pub one_rises : (k : Kernel) (t : ℕ) → HavePriorities k.machine → IsNext k.machine 0 t → StandFrom k.machine (t + 1) → length k.machine.lists ≡ 255 → k.direct ≡ t ∷ [] → can_run k.machine t ≡ true →
+    settled_now k ≡ with_lists (to_tail t (exec k.machine t)) (record k { direct = [] })
+one_rises k t fits next right every direct runs =
+    let m = k.machine in let lists = m.lists in let put = to_tail t (exec m t) lists in
+    let stays : left_runnable m ≡ lists = one_leaves k t next right ∙ ap (λ (b : Bool). if b then lists else without t lists) runs in
+    let last : placed_all m (thread_numbers m) put ≡ put =
+    none_move (with_lists (to_tail t (exec m t)) k) (λ u low. risen_right m t u lists fits every runs (others_right m t u next right)) in
+    lists_of k lists put stays
+    (ap (λ (ts : List ℕ). placed_all m (thread_numbers m) (moved_all m ts lists)) direct
+    ∙ ap (λ (b : Bool). placed_all m (thread_numbers m) (if b then put else lists)) runs ∙ last)
+
 pub one_settles : (k : Kernel) (t : ℕ) → HavePriorities k.machine → IsNext k.machine 0 t → StandFrom k.machine (t + 1) → length k.machine.lists ≡ 255 → k.direct ≡ [] →
     settled_now k ≡ with_lists (λ lists. placed k.machine t (left_one k.machine t lists)) k
 one_settles k t fits next right every none =
@@ -128,9 +166,8 @@ one_settles k t fits next right every none =
     let left = left_one m t lists in let put = placed m t left in
     let x = with_lists (λ ls. left) k in let y = with_lists (λ ls. put) k in
     let long : length left ≡ 255 = left_length m t lists ∙ every in
-    let leaving = leaving_on k k x 0 t (record { same = refl; rest = refl; off = λ u below out. absurd (omega (arith, below)) }) next refl in
     let after : StandFrom x.machine (t + 1) = (λ u low. as_before m u lists left (left_apart m t u lists (later_other t u low)) (right u low)) in
-    let all_left : left_runnable m ≡ left = sym (ap (λ (z : Kernel). z.machine.lists) (left_in_the_end k x (t + 1) leaving after)) in
+    let all_left : left_runnable m ≡ left = one_leaves k t next right in
     let whole : length m.threads - 0 ≡ length m.threads = omega arith in
     let again : IsNext x.machine 0 t = record {
       low = next.low;

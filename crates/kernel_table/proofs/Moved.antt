@@ -3,6 +3,7 @@ use Rattle.std.proofs.Common.{◌≡◌, ◌<◌, ◌∙◌, ℕ, zero, suc, Lis
 use Rattle.std.specs.Prelude.{◌==◌, IfSome, option_and_then, option_map, slice_set}
 use Rattle.std.proofs.lemmas.List.{length-set}
 use Rattle.rules_bodies.specs.declared.cursor.Cursor.{Cursor}
+use Rattle.rules_machine.specs.Conditions.{released_mutex}
 use Rattle.rules_machine.specs.Lists.{changed_at}
 use Rattle.rules_machine.specs.Priorities.{Claim, assigned_of, claim_of, claims, exec_in, mutex_waited}
 use Rattle.rules_machine.specs.State.{Thread, Waiting}
@@ -34,25 +35,25 @@ claims_changed (th ∷ threads) (suc t) f g same = ap (λ (cs : List Claim). cla
 abbrev pub bare : Option Place → Option Place
 bare p = option_map unpriced p
 
-bare_at : (p q serial : ℕ) (o : Option WaitObj) → bare (place_at p serial o) ≡ bare (place_at q serial o)
-bare_at p q serial None = refl
-bare_at p q serial (Some o) = refl
+bare_at : (p q serial : ℕ) (r : Option ℕ) (o : Option WaitObj) → bare (place_at p serial r o) ≡ bare (place_at q serial r o)
+bare_at p q serial r None = refl
+bare_at p q serial r (Some o) = refl
 
 pub bare_of : (p q : ℕ) (w : Option Waiting) → bare (place_of p w) ≡ bare (place_of q w)
 bare_of p q None = refl
-bare_of p q (Some w) = bare_at p q w.serial (object_of w.wait)
+bare_of p q (Some w) = bare_at p q w.serial (released_mutex w.wait) (object_of w.wait)
 
-priced_at : (x : Option Place) (e serial : ℕ) (o : Option WaitObj) → bare x ≡ bare (place_at 0 serial o) → IfSome x (λ (p : Place). p.priority ≡ e) → x ≡ place_at e serial o
-priced_at None e serial None same at = refl
-priced_at None e serial (Some o) same at = absurd cc
-priced_at (Some p) e serial None same at = absurd cc
-priced_at (Some p) e serial (Some o) same at = grind (arith, same, at)
+priced_at : (x : Option Place) (e serial : ℕ) (r : Option ℕ) (o : Option WaitObj) → bare x ≡ bare (place_at 0 serial r o) → IfSome x (λ (p : Place). p.priority ≡ e) → x ≡ place_at e serial r o
+priced_at None e serial r None same at = refl
+priced_at None e serial r (Some o) same at = absurd cc
+priced_at (Some p) e serial r None same at = absurd cc
+priced_at (Some p) e serial r (Some o) same at = grind (arith, same, at)
 
 -- a place with what it stands for and its priority is known
 priced : (x : Option Place) (e : ℕ) (w : Option Waiting) → bare x ≡ bare (place_of 0 w) → IfSome x (λ (p : Place). p.priority ≡ e) → x ≡ place_of e w
 priced None e None same at = refl
 priced (Some p) e None same at = absurd cc
-priced x e (Some w) same at = priced_at x e w.serial (object_of w.wait) same at
+priced x e (Some w) same at = priced_at x e w.serial (released_mutex w.wait) (object_of w.wait) same at
 
 -- what the threads wait for, as places
 pub record WaitSo (threads : List (Thread Cursor)) (places : List (Option Place)) : Type 0 where
@@ -184,7 +185,7 @@ begun_tied threads chain mid new_chain places between after t w new known is fir
     let p = beginning mid t w in
     subst (λ (th : Thread Cursor). IsTied (slice_set threads t th) new_chain after) (sym is)
     (moved_tied threads chain new_chain places (slice_set places t p) after t f g both refl
-    (wait_set threads chain places t f p known (bare_at (exec_of mid t) 0 w.serial (object_of w.wait)) tied)
+    (wait_set threads chain places t f p known (bare_at (exec_of mid t) 0 w.serial (released_mutex w.wait) (object_of w.wait)) tied)
     (record { same = same_both (slice_set places t p) (begun mid t w between) after (set_both places between t p priced_first.same) priced_second.same; stand = priced_second.stand }) tied)
 
 -- ---- mutexes

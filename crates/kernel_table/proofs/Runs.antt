@@ -1,6 +1,7 @@
 -- Where a thread that can run, or waits for an instant, stands among the waiters and in the wheel.
 use Rattle.std.proofs.Common.{◌≡◌, ◌<◌, ◌+◌, ◌∙◌, ℕ, List, true, false, None, Option, Some, is_some, length, refl}
 use Rattle.rules_bodies.specs.declared.cursor.Cursor.{Cursor}
+use Rattle.rules_machine.specs.Conditions.{released_mutex}
 use Rattle.rules_machine.specs.Priorities.{claims, exec_in}
 use Rattle.rules_machine.specs.State.{Status, Thread, Timer, Wait, Waiting, blocked, dormant, ended, for_condition, for_end, for_message, for_mutex, for_mutex_again, for_room, for_semaphore, for_signal, for_time, runnable}
 use Rattle.rules_machine.specs.Threads.{is_runnable, thread_in, waiting_in}
@@ -69,7 +70,7 @@ runner_unkept threads timers waits expiries t runs kept = kept.of_threads t ∙ 
 
 -- ---- a thread that waits for nothing but an instant
 
-time_nowhere : (w : Wait) (p serial : ℕ) → is_for_time w ≡ true → place_at p serial (object_of w) ≡ None
+time_nowhere : (w : Wait) (p serial : ℕ) → is_for_time w ≡ true → place_at p serial (released_mutex w) (object_of w) ≡ None
 time_nowhere (for_mutex k) p serial h = off h
 time_nowhere (for_mutex_again k how) p serial h = off h
 time_nowhere (for_condition c k) p serial h = off h

@@ -3,6 +3,7 @@ use Rattle.std.proofs.Common.{◌≡◌, ◌≢◌, ◌<◌, ◌∙◌, ℕ, zer
 use Rattle.std.specs.Prelude.{◌==◌, IfSome, option_and_then, option_map, if◌then◌else◌}
 use Rattle.std.proofs.lemmas.List.{length-map}
 use Rattle.rules_bodies.specs.declared.cursor.Cursor.{Cursor}
+use Rattle.rules_machine.specs.Conditions.{released_mutex}
 use Rattle.rules_machine.specs.Lists.{changed_at, is}
 use Rattle.rules_machine.specs.Priorities.{Claim, claim_of, claims, exec_in}
 use Rattle.rules_machine.specs.State.{Thread, Timer, Waiting}
@@ -23,21 +24,21 @@ use Rattle.kernel_table.proofs.Ties.{exec_kept}
 
 -- ---- threads that stand nowhere
 
-unplaced : (e serial : ℕ) (o : Option WaitObj) → o ≡ None → place_at e serial o ≡ None
-unplaced e serial None none = refl
-unplaced e serial (Some o) none = absurd cc
+unplaced : (e serial : ℕ) (r : Option ℕ) (o : Option WaitObj) → o ≡ None → place_at e serial r o ≡ None
+unplaced e serial r None none = refl
+unplaced e serial r (Some o) none = absurd cc
 
-no_object : (e serial : ℕ) (o : Option WaitObj) → place_at e serial o ≡ None → o ≡ None
-no_object e serial None none = refl
-no_object e serial (Some o) none = absurd cc
+no_object : (e serial : ℕ) (r : Option ℕ) (o : Option WaitObj) → place_at e serial r o ≡ None → o ≡ None
+no_object e serial r None none = refl
+no_object e serial r (Some o) none = absurd cc
 
 has_no_place : (e : ℕ) (w : Option Waiting) → option_and_then (λ (x : Waiting). object_of x.wait) w ≡ None → place_of e w ≡ None
 has_no_place e None none = refl
-has_no_place e (Some w) none = unplaced e w.serial (object_of w.wait) none
+has_no_place e (Some w) none = unplaced e w.serial (released_mutex w.wait) (object_of w.wait) none
 
 awaits_no_object : (e : ℕ) (w : Option Waiting) → place_of e w ≡ None → option_and_then (λ (x : Waiting). object_of x.wait) w ≡ None
 awaits_no_object e None none = refl
-awaits_no_object e (Some w) none = no_object e w.serial (object_of w.wait) none
+awaits_no_object e (Some w) none = no_object e w.serial (released_mutex w.wait) (object_of w.wait) none
 
 -- the threads and the mutexes of a chain, and the timers
 abbrev pub table_with : List Timer → List (Thread Cursor) → Links → Table

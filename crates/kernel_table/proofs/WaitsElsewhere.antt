@@ -1,75 +1,43 @@
--- Who waits for a condition with another mutex, looked for among the waiters of the condition.
-use Rattle.std.proofs.Common.{◌≡◌, ◌≤◌, ◌<◌, ◌∙◌, ℕ, zero, suc, Bool, true, false, List, [], ◌∷◌, Option, None, Some, ap, arith, length, refl, sym}
-use Rattle.std.specs.Prelude.{map, not, option_map, slice_index_or, ◌==◌, ◌&&◌, ◌||◌}
+-- Who waits for a condition with another mutex, told by the places of its waiters.
+use Rattle.std.proofs.Common.{◌≡◌, ◌<◌, ◌∙◌, ℕ, zero, suc, Bool, true, false, List, [], ◌∷◌, Option, None, Some, ap, arith, length, refl, sym}
+use Rattle.std.specs.Prelude.{not, ◌==◌, ◌&&◌, ◌||◌}
 use Rattle.std.specs.List.{list_any}
 use Rattle.std.specs.Option.{option_map_or}
 use Rattle.rules_bodies.specs.declared.cursor.Cursor.{Cursor}
-use Rattle.rules_machine.specs.Conditions.{waits_with_other_mutex}
+use Rattle.rules_machine.specs.Conditions.{released_mutex, waits_with_other_mutex}
 use Rattle.rules_machine.specs.Priorities.{claims, exec_in}
 use Rattle.rules_machine.specs.State.{Thread, Wait, Waiting, for_condition, for_end, for_message, for_mutex, for_mutex_again, for_room, for_semaphore, for_signal, for_time}
 use Rattle.rules_machine.specs.Threads.{thread_in, waiting_in}
 use Rattle.rules_machine.specs.Waiters.{waits_so}
 use Rattle.parts_waiters.specs.declared.Place.{Place}
 use Rattle.parts_waiters.specs.declared.WaitObj.TheVariants.{Cond}
-use Rattle.parts_waiters.specs.Bound.{WaitsElsewhere}
-use Rattle.parts_waiters.specs.Places.{waits_at}
+use Rattle.parts_waiters.specs.Bound.{WaitsElsewhere, waits_with_other}
+use Rattle.parts_waiters.specs.Places.{place_in, waits_at}
 use Rattle.parts_waiters.specs.Ties.{object_of, place_at, place_of}
 use Rattle.parts_owners.specs.Chains.{Links}
-use Rattle.kernel_threads.specs.Plain.{wait_of}
-use Rattle.kernel_threads.specs.declared.status.Wait as plain
 use Rattle.kernel_table.specs.Tied.{IsTied}
 
--- ---- one thread
+-- ---- all threads
 
 module _ (passes : Wait → Bool) where
-  length_told : (threads : List (Thread Cursor)) → length (map (waits_so passes) threads) ≡ length threads
-  length_told [] = refl
-  length_told (th ∷ threads) = ap suc (length_told threads)
-
-  pub is_known : (threads : List (Thread Cursor)) (t : ℕ) → t < length (map (waits_so passes) threads) → t < length threads
-  is_known threads t known = let many = length_told threads in omega (arith, known, many)
-
-  pub are_told : (threads : List (Thread Cursor)) (chain : Links) (places : List (Option Place)) → IsTied threads chain places → length places ≤ length (map (waits_so passes) threads)
-  are_told threads chain places tied = let many = length_told threads in let lengths = tied.waiting.lengths in omega (arith, many, lengths)
-
-  told : (threads : List (Thread Cursor)) (t : ℕ) → t < length threads → waits_so passes (thread_in threads t) ≡ slice_index_or (map (waits_so passes) threads) t false
-  told [] t known = absurd (omega (arith, known))
-  told (th ∷ threads) zero known = refl
-  told (th ∷ threads) (suc t) known = told threads t (omega (arith, known))
-
-  none_of : (o : Option Waiting) (x : Option plain.Wait) → x ≡ None → option_map wait_of x ≡ option_map (λ (w : Waiting). w.wait) o → false ≡ option_map_or (λ (w : Waiting). passes w.wait) o false
-  none_of None x none is = refl
-  none_of (Some w) x none is = absurd (let e : None ≡ Some w.wait = rw none at is in cc)
-
-  some_of : (o : Option Waiting) (v : plain.Wait) → option_map wait_of (Some v) ≡ option_map (λ (w : Waiting). w.wait) o → passes (wait_of v) ≡ option_map_or (λ (w : Waiting). passes w.wait) o false
-  some_of None v is = absurd cc
-  some_of (Some w) v is = let e : wait_of v ≡ w.wait = cc in ap passes e
-
-  pub none_waits : (threads : List (Thread Cursor)) (t : ℕ) (x : Option plain.Wait) → t < length threads → x ≡ None →
-      option_map wait_of x ≡ option_map (λ (w : Waiting). w.wait) (waiting_in (thread_in threads t).status) → false ≡ slice_index_or (map (waits_so passes) threads) t false
-  none_waits threads t x known none is = none_of (waiting_in (thread_in threads t).status) x none is ∙ told threads t known
-
-  pub some_waits : (threads : List (Thread Cursor)) (t : ℕ) (v : plain.Wait) → t < length threads →
-      option_map wait_of (Some v) ≡ option_map (λ (w : Waiting). w.wait) (waiting_in (thread_in threads t).status) → passes (wait_of v) ≡ slice_index_or (map (waits_so passes) threads) t false
-  some_waits threads t v known is = some_of (waiting_in (thread_in threads t).status) v is ∙ told threads t known
-
-  -- ---- all of them
+  abbrev passing : List (Thread Cursor) → ℕ → Bool
+  passing threads t = waits_so passes (thread_in threads t)
 
   or_more : (b c : Bool) → c ≡ true → (b || c) ≡ true
   or_more true c h = refl
   or_more false c h = h
 
-  any_at : (threads : List (Thread Cursor)) (t : ℕ) → slice_index_or (map (waits_so passes) threads) t false ≡ true → list_any (waits_so passes) threads ≡ true
-  any_at [] t h = absurd cc
-  any_at (th ∷ threads) zero h = rw h refl
-  any_at (th ∷ threads) (suc t) h = or_more (waits_so passes th) (list_any (waits_so passes) threads) (any_at threads t h)
+  any_at : (threads : List (Thread Cursor)) (t : ℕ) → t < length threads → passing threads t ≡ true → list_any (waits_so passes) threads ≡ true
+  any_at [] t lt h = absurd (omega (arith, lt))
+  any_at (th ∷ threads) zero lt h = rw h refl
+  any_at (th ∷ threads) (suc t) lt h = or_more (waits_so passes th) (list_any (waits_so passes) threads) (any_at threads t (omega (arith, lt)) h)
 
-  any_gives : (threads : List (Thread Cursor)) → list_any (waits_so passes) threads ≡ true → (t : ℕ) × (t < length threads) × (slice_index_or (map (waits_so passes) threads) t false ≡ true)
+  any_gives : (threads : List (Thread Cursor)) → list_any (waits_so passes) threads ≡ true → (t : ℕ) × (t < length threads) × (passing threads t ≡ true)
   any_gives [] h = absurd cc
   any_gives (th ∷ threads) h = by_first (waits_so passes th) refl (λ (later : list_any (waits_so passes) threads ≡ true). any_gives threads later)
     where
       Gives : List (Thread Cursor) → Type 0
-      Gives ths = (t : ℕ) × (t < length ths) × (slice_index_or (map (waits_so passes) ths) t false ≡ true)
+      Gives ths = (t : ℕ) × (t < length ths) × (passing ths t ≡ true)
 
       by_first : (b : Bool) → waits_so passes th ≡ b → (list_any (waits_so passes) threads ≡ true → Gives threads) → Gives (th ∷ threads)
       by_first true e more = (zero, omega arith, e)
@@ -83,11 +51,21 @@ first_of : (a b : Bool) → (a && b) ≡ true → a ≡ true
 first_of true b h = refl
 first_of false b h = absurd cc
 
+second_of : (a b : Bool) → (a && b) ≡ true → b ≡ true
+second_of true b h = h
+second_of false b h = absurd cc
+
+both_of : (a b : Bool) → a ≡ true → b ≡ true → (a && b) ≡ true
+both_of a b h g = rw h g
+
 module _ (c k : ℕ) where
-  by_wait : (n s : ℕ) (wait : Wait) → waits_with_other_mutex c k wait ≡ true → waits_at (Cond c) (place_at n s (object_of wait)) ≡ true
+  abbrev Elsewhere : Option Place → Type 0
+  Elsewhere o = (waits_at (Cond c) o ≡ true) × (waits_with_other k o ≡ true)
+
+  by_wait : (n s : ℕ) (wait : Wait) → waits_with_other_mutex c k wait ≡ true → Elsewhere (place_at n s (released_mutex wait) (object_of wait))
   by_wait n s (for_mutex j) h = absurd cc
   by_wait n s (for_mutex_again j how) h = absurd cc
-  by_wait n s (for_condition d j) h = first_of (d == c) (not (j == k)) h
+  by_wait n s (for_condition d j) h = (first_of (d == c) (not (j == k)) h, second_of (d == c) (not (j == k)) h)
   by_wait n s (for_end u) h = absurd cc
   by_wait n s (for_semaphore j) h = absurd cc
   by_wait n s for_time h = absurd cc
@@ -95,23 +73,52 @@ module _ (c k : ℕ) where
   by_wait n s (for_message q) h = absurd cc
   by_wait n s (for_signal signals) h = absurd cc
 
-  by_waiting : (n : ℕ) (o : Option Waiting) → option_map_or (λ (w : Waiting). waits_with_other_mutex c k w.wait) o false ≡ true → waits_at (Cond c) (place_of n o) ≡ true
+  by_waiting : (n : ℕ) (o : Option Waiting) → option_map_or (λ (w : Waiting). waits_with_other_mutex c k w.wait) o false ≡ true → Elsewhere (place_of n o)
   by_waiting n None h = absurd cc
   by_waiting n (Some w) h = by_wait n w.serial w.wait h
 
-  abbrev elsewhere : List (Thread Cursor) → List Bool
-  elsewhere threads = map (waits_so (waits_with_other_mutex c k)) threads
+  by_place : (n s : ℕ) (wait : Wait) → Elsewhere (place_at n s (released_mutex wait) (object_of wait)) → waits_with_other_mutex c k wait ≡ true
+  by_place n s (for_mutex j) h = absurd (let e = h.0 in cc)
+  by_place n s (for_mutex_again j how) h = absurd (let e = h.0 in cc)
+  by_place n s (for_condition d j) h = both_of (d == c) (not (j == k)) h.0 h.1
+  by_place n s (for_end u) h = absurd (let e = h.0 in cc)
+  by_place n s (for_semaphore j) h = absurd (let e = h.0 in cc)
+  by_place n s for_time h = absurd (let e = h.0 in cc)
+  by_place n s (for_room q message) h = absurd (let e = h.0 in cc)
+  by_place n s (for_message q) h = absurd (let e = h.0 in cc)
+  by_place n s (for_signal signals) h = absurd (let e = h.0 in cc)
 
-  pub bound_elsewhere : (threads : List (Thread Cursor)) (chain : Links) (places : List (Option Place)) (r : Bool) → IsTied threads chain places →
-      (r ≡ true → (t : ℕ) × WaitsElsewhere places (elsewhere threads) c t) → (r ≡ false → (t : ℕ) → WaitsElsewhere places (elsewhere threads) c t → ⊥) →
-      r ≡ list_any (waits_so (waits_with_other_mutex c k)) threads
-  bound_elsewhere threads chain places true tied found none = let one = found refl in sym (any_at (waits_with_other_mutex c k) threads one.0 one.1.other)
-  bound_elsewhere threads chain places false tied found none = by_any (list_any (waits_so (waits_with_other_mutex c k)) threads) refl
-    where
-      by_any : (b : Bool) → list_any (waits_so (waits_with_other_mutex c k)) threads ≡ b → false ≡ b
-      by_any false e = refl
-      by_any true e =
-          let one = any_gives (waits_with_other_mutex c k) threads e in
-          let waits = told (waits_with_other_mutex c k) threads one.0 one.1 ∙ one.2 in
-          let stands = ap (waits_at (Cond c)) (tied.waiting.each one.0 one.1) ∙ by_waiting (exec_in (claims threads) chain.mutexes one.0) (waiting_in (thread_in threads one.0).status) waits in
-          absurd (none refl one.0 (record { waits = stands; other = one.2 }))
+  by_standing : (n : ℕ) (o : Option Waiting) → Elsewhere (place_of n o) → option_map_or (λ (w : Waiting). waits_with_other_mutex c k w.wait) o false ≡ true
+  by_standing n None h = absurd (let e = h.0 in cc)
+  by_standing n (Some w) h = by_place n w.serial w.wait h
+
+  known : (places : List (Option Place)) (t : ℕ) → waits_at (Cond c) (place_in places t) ≡ true → t < length places
+  known [] t h = absurd cc
+  known (p ∷ places) zero h = omega arith
+  known (p ∷ places) (suc t) h = let lt = known places t h in omega (arith, lt)
+
+  module _ (threads : List (Thread Cursor)) (chain : Links) (places : List (Option Place)) (tied : IsTied threads chain places) where
+    abbrev priority : ℕ → ℕ
+    priority t = exec_in (claims threads) chain.mutexes t
+
+    found_there : (t : ℕ) → WaitsElsewhere places c k t → list_any (waits_so (waits_with_other_mutex c k)) threads ≡ true
+    found_there t one =
+        let inside = known places t one.waits in
+        let long = tied.waiting.lengths in
+        let lt : t < length threads = omega (arith, inside, long) in
+        let at = tied.waiting.each t lt in
+        let there : Elsewhere (place_of (priority t) (waiting_in (thread_in threads t).status)) = (sym (ap (waits_at (Cond c)) at) ∙ one.waits, sym (ap (waits_with_other k) at) ∙ one.other) in
+        any_at (waits_with_other_mutex c k) threads t lt (by_standing (priority t) (waiting_in (thread_in threads t).status) there)
+
+    pub bound_elsewhere : (r : Bool) → (r ≡ true → (t : ℕ) × WaitsElsewhere places c k t) → (r ≡ false → (t : ℕ) → WaitsElsewhere places c k t → ⊥) →
+        r ≡ list_any (waits_so (waits_with_other_mutex c k)) threads
+    bound_elsewhere true found none = let one = found refl in sym (found_there one.0 one.1)
+    bound_elsewhere false found none = by_any (list_any (waits_so (waits_with_other_mutex c k)) threads) refl
+      where
+        by_any : (b : Bool) → list_any (waits_so (waits_with_other_mutex c k)) threads ≡ b → false ≡ b
+        by_any false e = refl
+        by_any true e =
+            let one = any_gives (waits_with_other_mutex c k) threads e in
+            let at = tied.waiting.each one.0 one.1 in
+            let there = by_waiting (priority one.0) (waiting_in (thread_in threads one.0).status) one.2 in
+            absurd (none refl one.0 (record { waits = ap (waits_at (Cond c)) at ∙ there.0; other = ap (waits_with_other k) at ∙ there.1 }))

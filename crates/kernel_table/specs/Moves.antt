@@ -1,5 +1,6 @@
 -- What the chain does to the places of waiters as a claim or an owner changes.
 use Rattle.std.specs.Prelude.{◌≡◌, ◌<◌, ℕ, IsSome, List, None, Option, Some, false, length, slice_set}
+use Rattle.rules_machine.specs.Conditions.{released_mutex}
 use Rattle.rules_machine.specs.State.{Waiting}
 use Rattle.parts_waiters.specs.Ties.{object_of, place_at}
 use Rattle.parts_waiters.specs.declared.Place.{Place}
@@ -27,7 +28,7 @@ pub record Relinks (links : Links) (places : List (Option Place)) (old new : Lin
 
 -- the place of a thread that begins to wait at its execution priority
 abbrev pub beginning : Links → ℕ → Waiting → Option Place
-beginning chain t w = place_at (exec_of chain t) w.serial (object_of w.wait)
+beginning chain t w = place_at (exec_of chain t) w.serial (released_mutex w.wait) (object_of w.wait)
 
 abbrev pub begun : Links → ℕ → Waiting → List (Option Place) → List (Option Place)
 begun chain t w places = slice_set places t (beginning chain t w)

@@ -2,6 +2,7 @@
 ghost use Rattle.std.specs.Prelude.{◌≡◌, ◌<◌, IfSome, IsSome, None, Some, false, length, slice_set};
 ghost use Rattle.rules_machine.specs.Priorities.{assigned_of, mutex_waited};
 ghost use Rattle.rules_machine.specs.Threads.{thread_in};
+ghost use Rattle.parts_waiters.specs.declared.WaitObj.TheVariants.{Cond};
 ghost use Rattle.parts_waiters.specs.Places.{place_in};
 ghost use Rattle.kernel_threads.specs.Plain.{wait_of, waiting_of};
 ghost use Rattle.parts_owners.specs.Chains.{assigned_at, assigned_to, awaited_in, exec_of, waiting_for, with_claim};
@@ -129,7 +130,7 @@ pub(crate) fn begin_waiting(
     match w.wait {
         Wait::Mutex(k) => await_mutex(chain, waits, t, k, w.serial),
         Wait::MutexAgain(k, _) => await_mutex(chain, waits, t, k, w.serial),
-        Wait::Condition(c, _) => stand_at(chain, waits, t, WaitObj::Cond(c), w.serial),
+        Wait::Condition(c, k) => stand_with(chain, waits, t, c, k, w.serial),
         Wait::Semaphore(k) => stand_at(chain, waits, t, WaitObj::Sem(k), w.serial),
         Wait::Room(q, _) => stand_at(chain, waits, t, WaitObj::Sender(q), w.serial),
         Wait::Message(q) => stand_at(chain, waits, t, WaitObj::Receiver(q), w.serial),
@@ -160,9 +161,28 @@ fn stand_at(chain: &Chain, waits: &mut Waits, t: Tid, object: WaitObj, serial: u
     requires nowhere { place_in waits.old t ≡ None }
     requires other { mutex_named object ≡ None }
     ensures chain { chain.now ≡ with_claim t (waiting_for None) chain.now }
-    ensures waits { ArePriced chain.now (slice_set waits.old t (Some (record { object = object; priority = exec_of chain.now t; serial = serial }))) waits.new }
+    ensures waits { ArePriced chain.now (slice_set waits.old t (Some (record { object = object; priority = exec_of chain.now t; serial = serial; released = None }))) waits.new }
     ensures nobody { result ≡ None }
 {
     waits.enter(object, t, chain.exec(t), serial);
+    None
+}
+
+// It stands among the waiters of a condition, with that mutex, and no priority changes.
+fn stand_with(
+    chain: &Chain,
+    waits: &mut Waits,
+    t: Tid,
+    c: ObjId,
+    k: ObjId,
+    serial: u64,
+) -> Option<Moved>
+    requires can { CanRelink chain.now waits.old t }
+    requires nowhere { place_in waits.old t ≡ None }
+    ensures chain { chain.now ≡ with_claim t (waiting_for None) chain.now }
+    ensures waits { ArePriced chain.now (slice_set waits.old t (Some (record { object = Cond c; priority = exec_of chain.now t; serial = serial; released = Some k }))) waits.new }
+    ensures nobody { result ≡ None }
+{
+    waits.enter_condition(c, k, t, chain.exec(t), serial);
     None
 }

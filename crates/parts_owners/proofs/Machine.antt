@@ -6,6 +6,7 @@ use Rattle.std.proofs.lemmas.List.{get_or_past, length-map}
 use Rattle.rules_machine.specs.State.{Machine, Mutex, Thread, Wait, Waiting, for_condition, for_end, for_message, for_mutex, for_mutex_again, for_room, for_semaphore, for_signal, for_time}
 use Rattle.rules_machine.specs.Threads.{thread_at, thread_in, waiting_of}
 use Rattle.rules_machine.specs.Priorities.{Claim, claim_of, claims, exec, mutex_awaited_by, mutex_waited}
+use Rattle.rules_machine.specs.Conditions.{released_mutex}
 use Rattle.rules_machine.specs.Mutexes.{closes_cycle, leads_within, owner_of_awaited}
 use Rattle.rules_machine.specs.GoodState.{MutexesAreRight}
 use Rattle.parts_waiters.specs.declared.Place.{Place}
@@ -56,7 +57,7 @@ good_no_cycle m good = record {
 
 -- ---- the places of the machine's waits are right for its links
 
-named_waited : (priority serial : ℕ) (w : Wait) → mutex_waited w ≡ mutex_placed (place_at priority serial (object_of w))
+named_waited : (priority serial : ℕ) (w : Wait) → mutex_waited w ≡ mutex_placed (place_at priority serial (released_mutex w) (object_of w))
 named_waited priority serial (for_mutex k) = refl
 named_waited priority serial (for_mutex_again k how) = refl
 named_waited priority serial (for_condition c k) = refl
@@ -71,13 +72,13 @@ awaited_placed : (priority : ℕ) (w : Option Waiting) → option_and_then (λ (
 awaited_placed priority None = refl
 awaited_placed priority (Some w) = named_waited priority w.serial w.wait
 
-priced_at : (priority serial : ℕ) (o : Option WaitObj) → IfSome (place_at priority serial o) (λ (p : Place). p.priority ≡ priority)
-priced_at priority serial None = tt
-priced_at priority serial (Some o) = refl
+priced_at : (priority serial : ℕ) (released : Option ℕ) (o : Option WaitObj) → IfSome (place_at priority serial released o) (λ (p : Place). p.priority ≡ priority)
+priced_at priority serial released None = tt
+priced_at priority serial released (Some o) = refl
 
 priced : (priority : ℕ) (w : Option Waiting) → IfSome (place_of priority w) (λ (p : Place). p.priority ≡ priority)
 priced priority None = tt
-priced priority (Some w) = priced_at priority w.serial (object_of w.wait)
+priced priority (Some w) = priced_at priority w.serial (released_mutex w.wait) (object_of w.wait)
 
 awaited_past : (cs : List Claim) (t : ℕ) → length cs ≤ t → awaited_in cs t ≡ None
 awaited_past cs t past = ap (λ (c : Claim). c.awaited) (get_or_past cs t no_claim past)

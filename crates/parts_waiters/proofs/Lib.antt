@@ -1,3 +1,4 @@
+pub mod Alike
 mod Best
 mod Elsewhere
 pub mod Firsts

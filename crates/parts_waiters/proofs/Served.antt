@@ -3,6 +3,7 @@ use Rattle.std.proofs.Common.{Bool, List, None, Option, Some, [], ap, arith, fal
 use Rattle.std.specs.Prelude.{filter, filter_map, map, option_map, slice_index_or}
 use Rattle.std.specs.Option.{option_map_or}
 use Rattle.words_numbers.specs.Signals.{has_signal}
+use Rattle.rules_machine.specs.Conditions.{released_mutex}
 use Rattle.rules_machine.specs.Lists.{first_by, first_of, kept_if, numbers_from}
 use Rattle.rules_machine.specs.State.{Machine, SignalRecord, Thread, Wait, Waiting, for_condition, for_end, for_message, for_mutex, for_mutex_again, for_room, for_semaphore, for_signal, for_time}
 use Rattle.rules_machine.specs.Mutexes.{waits_for_mutex}
@@ -82,9 +83,9 @@ first_chosen f m passes places ties nobody told =
     (λ i lt. let at : 0 + i ≡ i = omega arith in rw at (ties.each i lt)) (λ i lt. let at : 0 + i ≡ i = omega arith in rw at refl) in
     rw (all, first_by_seen (waiters m passes)) (thread_of_seen (best_waiter m passes))
 
-at_object : (obj : WaitObj) (t priority : ℕ) (w : Waiting) (o : Option WaitObj) → standing_at t obj (place_at priority w.serial o) ≡ waiting_candidate t priority w (is_object obj o)
-at_object obj t priority w None = refl
-at_object obj t priority w (Some o) = refl
+at_object : (obj : WaitObj) (t priority : ℕ) (w : Waiting) (released : Option ℕ) (o : Option WaitObj) → standing_at t obj (place_at priority w.serial released o) ≡ waiting_candidate t priority w (is_object obj o)
+at_object obj t priority w released None = refl
+at_object obj t priority w released (Some o) = refl
 
 -- where the places are those of the machine's waits, `best` finds its best waiter
 pub best_is : {P : Type 0} (m : Machine P) (obj : WaitObj) (passes : Wait → Bool) (places : List (Option Place)) →
@@ -93,7 +94,7 @@ pub best_is : {P : Type 0} (m : Machine P) (obj : WaitObj) (passes : Wait → Bo
 best_is m obj passes places same ties =
     ap (λ cs. option_map (λ (c : Candidate). c.thread) (first_by comes_before cs)) (standing_chosen obj 0 places)
     ∙ first_chosen (λ t p. standing_at t obj p) m passes places ties (λ t. refl)
-    (λ t w is. at_object obj t (exec m t) w (object_of w.wait) ∙ ap (waiting_candidate t (exec m t) w) (sym (same w.wait)))
+    (λ t w is. at_object obj t (exec m t) w (released_mutex w.wait) (object_of w.wait) ∙ ap (waiting_candidate t (exec m t) w) (sym (same w.wait)))
 
 -- those that wait for a mutex
 pub waits_for_mutex_is : (k : ℕ) (w : Wait) → waits_for_mutex k w ≡ is_object (Mutex k) (object_of w)
@@ -114,7 +115,7 @@ none_kept true = refl
 none_kept false = refl
 
 awaits_told : (r : SignalRecord) (sets : List ℕ) (t priority serial : ℕ) (w : Wait) → ((set : ℕ) → w ≡ for_signal set → slice_index_or sets t 0 ≡ set) → (x : Waiting) → x.serial ≡ serial →
-    awaiting_at r.signal sets t (place_at priority serial (object_of w)) ≡ waiting_candidate t priority x (accepts r w)
+    awaiting_at r.signal sets t (place_at priority serial (released_mutex w) (object_of w)) ≡ waiting_candidate t priority x (accepts r w)
 awaits_told r sets t priority serial (for_mutex j) set x is = none_kept (has_signal (slice_index_or sets t 0) r.signal)
 awaits_told r sets t priority serial (for_mutex_again j how) set x is = none_kept (has_signal (slice_index_or sets t 0) r.signal)
 awaits_told r sets t priority serial (for_condition c j) set x is = none_kept (has_signal (slice_index_or sets t 0) r.signal)

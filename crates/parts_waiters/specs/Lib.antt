@@ -3,3 +3,4 @@ pub mod Places
 pub mod Service
 pub mod Ties
 pub mod Bound
+pub mod View

@@ -3,6 +3,7 @@ use Rattle.std.specs.Prelude.{Bool, List, None, Option, Some, false, length, opt
 use Rattle.rules_bodies.specs.declared.cursor.Cursor.{Cursor}
 use Rattle.rules_machine.specs.State.{Machine, SignalRecord, Wait, Waiting, for_condition, for_end, for_message, for_mutex, for_mutex_again, for_room, for_semaphore, for_signal, for_time}
 use Rattle.rules_machine.specs.Threads.{waiting_of}
+use Rattle.rules_machine.specs.Conditions.{released_mutex}
 use Rattle.rules_machine.specs.Priorities.{exec}
 use Rattle.rules_machine.specs.Signals.{acceptor}
 use Rattle.rules_machine.specs.Waiters.{Waiter, best_waiter}
@@ -27,13 +28,13 @@ abbrev pub is_object : WaitObj → Option WaitObj → Bool
 is_object obj None = false
 is_object obj (Some o) = same_object o obj
 
-abbrev pub place_at : ℕ → ℕ → Option WaitObj → Option Place
-place_at priority serial None = None
-place_at priority serial (Some obj) = Some (record { object = obj; priority = priority; serial = serial })
+abbrev pub place_at : ℕ → ℕ → Option ℕ → Option WaitObj → Option Place
+place_at priority serial released None = None
+place_at priority serial released (Some obj) = Some (record { object = obj; priority = priority; serial = serial; released = released })
 
 abbrev pub place_of : ℕ → Option Waiting → Option Place
 place_of priority None = None
-place_of priority (Some w) = place_at priority w.serial (object_of w.wait)
+place_of priority (Some w) = place_at priority w.serial (released_mutex w.wait) (object_of w.wait)
 
 -- each thread waits as in the machine, at its execution priority
 pub record AreWaits {P : Type 0} (m : Machine P) (places : List (Option Place)) : Type 0 where

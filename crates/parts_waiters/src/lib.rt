@@ -11,6 +11,7 @@
 #![tactic(auto)]
 
 ghost use Rattle.std.specs.Prelude.{◌≡◌, ◌<◌, ◌≤◌, ℕ, None, Some, IfOk, IsSome, false, length, replicate, slice_set, option_map, true};
+ghost use Rattle.parts_waiters.specs.declared.WaitObj.TheVariants.{Cond};
 ghost use Rattle.parts_waiters.specs.Places.{place_in, repriced, best_of, best_for, next_of};
 ghost use Rattle.parts_waiters.specs.Bound.{WaitsElsewhere};
 ghost use Rattle.parts_waiters.specs.Held.{id_of, number_of};
@@ -20,8 +21,7 @@ mod bound;
 mod order;
 mod signal_sets;
 
-pub use bound::ConditionWaits;
-use bound::has_one_elsewhere;
+use bound::{fits, has_one_elsewhere, is_first_elsewhere};
 use order::{Candidate, first_awaiting, stand};
 use parts_filled::filled;
 use parts_links::Links;
@@ -44,12 +44,13 @@ pub enum WaitObj {
     SigWait,
 }
 
-/// Where a thread waits: for what, at which priority, since which serial.
+/// Where a thread waits: for what, at which priority, since which serial; and with which mutex, where it waits for a condition.
 #[derive(Clone, Copy)]
 pub struct Place {
     pub object: WaitObj,
     pub priority: Prio,
     pub serial: u64,
+    pub released: Option<ObjId>,
 }
 
 /// The places of the threads that wait.
@@ -58,18 +59,20 @@ pub struct Waits {
     places: Vec<Option<Place>>,
     // a list for each object, in the order of service
     links: Links,
+    // true only where all that wait for one condition wait with one mutex; the kernel lets no others wait, so it stays true
+    alike: bool,
 }
 
 impl Model for Waits {
     ghost use Rattle.std.specs.Prelude.{List, Option};
     ghost use Rattle.parts_waiters.specs.declared.Place.{Place};
-    ghost use Rattle.parts_waiters.specs.Held.{AreHeld};
+    ghost use Rattle.parts_waiters.specs.View.{IsInside};
 
     ghost Value = { List (Option Place) };
 
     ghost view = { λ w. w.places.items };
 
-    ghost invariant = { λ w. AreHeld w.places.items w.links };
+    ghost invariant = { IsInside };
 }
 
 impl WaitObj {
@@ -105,19 +108,39 @@ impl Waits {
     {
         let places = nowhere(alloc, threads)?;
         let links = Links::open(alloc, 256, 1281)?;
-        Ok(Waits { places, links })
+        Ok(Waits {
+            places,
+            links,
+            alike: true,
+        })
     }
 
     /// The thread begins to wait.
     pub fn enter(&mut self, obj: WaitObj, t: Tid, p: Prio, serial: u64)
         requires known { t < length self.old }
         requires nowhere { place_in self.old t ≡ None }
-        ensures { self.new ≡ slice_set self.old t (Some (record { object = obj; priority = p; serial = serial })) }
+        ensures { self.new ≡ slice_set self.old t (Some (record { object = obj; priority = p; serial = serial; released = None })) }
     {
         let place = Place {
             object: obj,
             priority: p,
             serial,
+            released: None,
+        };
+        self.put(t, place);
+    }
+
+    /// The thread begins to wait for a condition, with that mutex.
+    pub fn enter_condition(&mut self, c: ObjId, k: ObjId, t: Tid, p: Prio, serial: u64)
+        requires known { t < length self.old }
+        requires nowhere { place_in self.old t ≡ None }
+        ensures { self.new ≡ slice_set self.old t (Some (record { object = Cond c; priority = p; serial = serial; released = Some k })) }
+    {
+        let place = Place {
+            object: WaitObj::Cond(c),
+            priority: p,
+            serial,
+            released: Some(k),
         };
         self.put(t, place);
     }
@@ -130,8 +153,10 @@ impl Waits {
     {
         let list = place.object.number();
         let waiter = Candidate::of(t.get() as u32, &place);
+        let alike = self.alike && fits(&self.links, &self.places, list, &place);
         stand(&mut self.links, &self.places, list, waiter);
         self.places[t.get() as usize] = Some(place);
+        self.alike = alike;
     }
 
     /// The thread waits no more.
@@ -156,6 +181,7 @@ impl Waits {
             object: place.object,
             priority: p,
             serial: place.serial,
+            released: place.released,
         };
         self.put(t, place);
     }
@@ -165,7 +191,10 @@ impl Waits {
         requires { t < length self.now }
         ensures { result ≡ option_map (λ p. p.object) (place_in self.now t) }
     {
-        self.places[t.get() as usize].map(|place| place.object)
+        match &self.places[t.get() as usize] {
+            None => None,
+            Some(place) => Some(place.object),
+        }
     }
 
     /// The thread that is served first of those that wait for the object. None exactly where nobody does.
@@ -205,14 +234,17 @@ impl Waits {
         }
     }
 
-    /// Whether a thread waits for the condition with another mutex, where that is told of each thread. Only the waiters of the condition
-    /// are asked, up to the first of them that does.
-    pub fn is_bound_elsewhere<W: ConditionWaits>(&self, waits: &W, c: ObjId, k: ObjId) -> bool
-        requires { length self.now ≤ length (W.elsewhere waits.now c k) }
-        ensures found { result ≡ true → (t : ℕ) × WaitsElsewhere self.now (W.elsewhere waits.now c k) c t }
-        ensures none { result ≡ false → (t : ℕ) → WaitsElsewhere self.now (W.elsewhere waits.now c k) c t → ⊥ }
+    /// Whether a thread waits for the condition with another mutex. Mostly the first that waits for it tells.
+    pub fn is_bound_elsewhere(&self, c: ObjId, k: ObjId) -> bool
+        ensures found { result ≡ true → (t : ℕ) × WaitsElsewhere self.now c k t }
+        ensures none { result ≡ false → (t : ℕ) → WaitsElsewhere self.now c k t → ⊥ }
     {
-        has_one_elsewhere(&self.links, waits, WaitObj::Cond(c).number(), c, k)
+        let list = WaitObj::Cond(c).number();
+        if self.alike {
+            is_first_elsewhere(&self.links, &self.places, list, k)
+        } else {
+            has_one_elsewhere(&self.links, &self.places, list, k)
+        }
     }
 
     /// `best` and `best_for_signal` answer by the rules of the machine whose waits these are, over flat code.

@@ -11,10 +11,10 @@ pub returns-in-Some : goal.returns-in-Some
 returns-in-Some g c =
     let w = c.self.inside in let n = c.in-Some.node in let sig = c.args.sig in let sets = g.S.SignalSets.sets c.args.sets.now in
     let first = sym (subst (λ k. Some n ≡ first_holding sig sets (list_at w.links.lists k)) c.number.ensures.number c.in-Some.ensures.first) in
-    rw (← c.self.view_is) (thread_given c.try_new.result n c.try_new.ensures c.in-Some.ensures.known ∙ sym (awaits_here sig sets w.places.items w.links c.self.invariant n first))
+    rw (← c.self.view_is) (thread_given c.try_new.result n c.try_new.ensures c.in-Some.ensures.known ∙ sym (awaits_here sig sets w.places.items w.links c.self.invariant.held n first))
 
 pub returns-in-None : goal.returns-in-None
 returns-in-None g c =
     let w = c.self.inside in let sig = c.args.sig in let sets = g.S.SignalSets.sets c.args.sets.now in
     let first = sym (subst (λ k. None ≡ first_holding sig sets (list_at w.links.lists k)) c.number.ensures.number c.in-None.ensures.first) in
-    rw (← c.self.view_is) (sym (awaits_none sig sets w.places.items w.links c.self.invariant first))
+    rw (← c.self.view_is) (sym (awaits_none sig sets w.places.items w.links c.self.invariant.held first))

@@ -11,22 +11,22 @@ pub next-requires : goal.next-requires
 next-requires c =
     let w = c.self.inside in
     let asked = subst (λ (ps : List (Option Place)). IsSome (place_in ps c.args.t)) (sym c.self.view_is) c.requires.waits in
-    let on = on_list w.places.items w.links c.args.t c.self.invariant asked in
-    rw (c.get.ensures.value) (omega (arith, on.0, c.self.invariant.few, c.self.invariant.nodes), on.1)
+    let on = on_list w.places.items w.links c.args.t c.self.invariant.held asked in
+    rw (c.get.ensures.value) (omega (arith, on.0, c.self.invariant.held.few, c.self.invariant.held.nodes), on.1)
 
 pub returns-in-Some : goal.returns-in-Some
 returns-in-Some c =
     let w = c.self.inside in let n = c.in-Some.node in let t = c.args.t in
-    let small : n < 256 = omega (arith, c.in-Some.ensures.stands.0, c.self.invariant.nodes) in
+    let small : n < 256 = omega (arith, c.in-Some.ensures.stands.0, c.self.invariant.held.nodes) in
     let asked = subst (λ (ps : List (Option Place)). IsSome (place_in ps t)) (sym c.self.view_is) c.requires.waits in
     let p = has_place (place_in w.places.items t) asked in
-    let follows = sym (follows_here w.places.items w.links c.self.invariant c.stand_once.ensures t p.0 p.1) ∙ ap (λ m. follower_on m w.links.lists) (sym c.get.ensures.value) ∙ sym c.in-Some.ensures.follower in
-    rw (← c.self.view_is) (thread_given c.try_new.result n c.try_new.ensures small ∙ sym (next_here w.places.items w.links c.self.invariant c.stand_once.ensures t p.0 p.1 n follows))
+    let follows = sym (follows_here w.places.items w.links c.self.invariant.held c.stand_once.ensures t p.0 p.1) ∙ ap (λ m. follower_on m w.links.lists) (sym c.get.ensures.value) ∙ sym c.in-Some.ensures.follower in
+    rw (← c.self.view_is) (thread_given c.try_new.result n c.try_new.ensures small ∙ sym (next_here w.places.items w.links c.self.invariant.held c.stand_once.ensures t p.0 p.1 n follows))
 
 pub returns-in-None : goal.returns-in-None
 returns-in-None c =
     let w = c.self.inside in let t = c.args.t in
     let asked = subst (λ (ps : List (Option Place)). IsSome (place_in ps t)) (sym c.self.view_is) c.requires.waits in
     let p = has_place (place_in w.places.items t) asked in
-    let follows = sym (follows_here w.places.items w.links c.self.invariant c.stand_once.ensures t p.0 p.1) ∙ ap (λ m. follower_on m w.links.lists) (sym c.get.ensures.value) ∙ sym c.in-None.ensures.follower in
-    rw (← c.self.view_is) (sym (next_none w.places.items w.links c.self.invariant c.stand_once.ensures t p.0 p.1 follows))
+    let follows = sym (follows_here w.places.items w.links c.self.invariant.held c.stand_once.ensures t p.0 p.1) ∙ ap (λ m. follower_on m w.links.lists) (sym c.get.ensures.value) ∙ sym c.in-None.ensures.follower in
+    rw (← c.self.view_is) (sym (next_none w.places.items w.links c.self.invariant.held c.stand_once.ensures t p.0 p.1 follows))
