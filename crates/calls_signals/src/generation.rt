@@ -28,6 +28,7 @@ fn generate_unaccepted(p: &mut Parts, r: &SignalRecord)
 
 /// The signal of a record is generated, where there is room for one more: a thread that waits for it accepts it, or it is ignored, or it
 /// becomes pending.
+#[inline(always)]
 #[tactic(auto, using(crate::proofs::Generated::as_accepted, crate::proofs::Generated::told_accepted, crate::proofs::Generated::nothing_told, crate::proofs::Sent::nobody_accepts))]
 pub fn generate<K: Sink>(p: &mut Parts, r: &SignalRecord, out: &mut Tracer<'_, K>)
     requires signal { r.now.signal < 32 }

@@ -116,6 +116,7 @@ impl Parts {
     }
 
     /// The record becomes pending.
+    #[inline(always)]
     pub fn pend(&mut self, r: SignalRecord)
         requires signal { r.signal < 32 }
         requires room { HasRoomToPend self.old.machine }

@@ -41,6 +41,7 @@ impl Parts {
     }
 
     /// After an expiry now: the timer is due again after its interval, or disarmed where it has none.
+    #[inline(always)]
     pub fn arm_timer_again(&mut self, k: ObjId)
         requires known { k < length self.old.machine.timers }
         requires early { self.old.machine.now ≤ 10 ^ 18 }

@@ -1,5 +1,5 @@
 //! The interval timers, and when they are due.
-ghost use Rattle.std.specs.Prelude.{◌≡◌, ◌<◌, ◌≤◌, ◌^◌, length};
+ghost use Rattle.std.specs.Prelude.{◌≡◌, ◌<◌, ◌≤◌, ◌+◌, ◌^◌, length, slice_set};
 ghost use Rattle.rules_machine.specs.Signals.{with_overrun_told};
 ghost use Rattle.rules_machine.specs.Timers.{armed, armed_again, overrun_once_more};
 ghost use Rattle.kernel_timers.specs.Timers.{timer_in};
@@ -12,6 +12,16 @@ use crate::table::Table;
 use kernel_timers::{Timer, Timers};
 use parts_wheel::Wheel;
 use words_numbers::{Item, ObjId, Tick};
+
+// The timer expires next then; with `None` it is disarmed.
+#[inline(always)]
+fn set_expiry(wheel: &mut Wheel, k: ObjId, due: Option<Tick>)
+    requires timer { k < 256 }
+    requires numbers { length wheel.old.dues ≡ 1024 }
+    ensures { wheel.new.dues ≡ slice_set wheel.old.dues (768 + k) due }
+{
+    wheel.set_due(Item::Timer(k).number(), due);
+}
 
 // The expiry of the timer is armed as it is due now.
 pub(crate) fn reset(timers: &Timers, wheel: &mut Wheel, k: ObjId)
@@ -52,14 +62,15 @@ impl Table {
     }
 
     /// After an expiry now, at most at 10^18: the timer is due again after its interval, or disarmed where it has none.
+    #[inline(always)]
     pub fn arm_timer_again(&mut self, k: ObjId, now: Tick)
         requires known { k < length self.old.timers }
         requires early { now ≤ 10 ^ 18 }
         ensures { self.new ≡ with_timer k (armed_again now) self.old }
     {
-        self.timers.arm_again(k, now);
-        reset(&self.timers, &mut self.wheel, k);
         drop_expiry(&mut self.real_expiries, k);
+        let due = self.timers.arm_again(k, now);
+        set_expiry(&mut self.wheel, k, due);
     }
 
     /// The timer expired while its signal was pending. The count stops at 2,147,483,647.

@@ -1,7 +1,7 @@
 //! One interval timer.
 ghost use Rattle.std.specs.Prelude.{◌≡◌, ◌≤◌, ◌*◌, ◌^◌, None, Some, false};
 ghost use Rattle.rules_machine.specs.Signals.{with_overrun_told};
-ghost use Rattle.rules_machine.specs.Timers.{armed, armed_again, overrun_once_more, ticks_to};
+ghost use Rattle.rules_machine.specs.Timers.{armed, armed_again, next_expiry, overrun_once_more, ticks_to};
 
 use std::marker::Model;
 use words_numbers::Tick;
@@ -65,17 +65,27 @@ impl Timer {
         self.interval = interval;
     }
 
-    // It is due again after its interval, or disarmed where it has none.
-    pub(crate) fn arm_again(&mut self, now: Tick)
+    // When it expires next after an expiry now.
+    fn next_expiry(&self, now: Tick) -> Option<Tick>
         requires { now ≤ 10 ^ 18 }
-        ensures { self.new ≡ armed_again now self.old }
+        ensures { result ≡ next_expiry now self.now.interval }
     {
-        self.due = if self.interval == 0 {
+        if self.interval == 0 {
             None
         } else {
-            now.after(self.interval)
-        };
+            Some(now.plus(self.interval))
+        }
+    }
+
+    // It is due again after its interval, or disarmed where it has none. The answer is when.
+    pub(crate) fn arm_again(&mut self, now: Tick) -> Option<Tick>
+        requires { now ≤ 10 ^ 18 }
+        ensures value { result ≡ self.new.due }
+        ensures timer { self.new ≡ armed_again now self.old }
+    {
+        self.due = self.next_expiry(now);
         self.is_reading = false;
+        self.due
     }
 
     // When it expires next is moved.

@@ -70,13 +70,14 @@ impl Timers {
         self.items[k.get() as usize].set_due(due);
     }
 
-    /// After an expiry now, at most at 10^18: the timer is due again after its interval, or disarmed where it has none.
-    pub fn arm_again(&mut self, k: ObjId, now: Tick)
+    /// After an expiry now, at most at 10^18: the timer is due again after its interval, or disarmed where it has none. The answer is when.
+    pub fn arm_again(&mut self, k: ObjId, now: Tick) -> Option<Tick>
         requires known { k < length self.old }
         requires now { now ≤ 10 ^ 18 }
-        ensures { self.new ≡ with_timer k (armed_again now) self.old }
+        ensures value { result ≡ (timer_in self.new k).due }
+        ensures timers { self.new ≡ with_timer k (armed_again now) self.old }
     {
-        self.items[k.get() as usize].arm_again(now);
+        self.items[k.get() as usize].arm_again(now)
     }
 
     /// The timer expired while its signal was pending. The count stops at 2,147,483,647.
